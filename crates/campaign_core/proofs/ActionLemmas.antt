@@ -1,7 +1,5 @@
 -- What commands on actions come to, by the views of these actions, over sound records.
-use Rattle.std.proofs.Common.{◌≡◌, ℕ, Bool, true, false, cond, ◌&&◌, ◌||◌, List, [], ◌∷◌, ◌++◌, refl, sym, ◌∙◌, ap, subst, Option, Some, None, Ok}
-use Rattle.std.specs.Prelude.{IfSome, is_none, is_some, map, nat_eq, not}
-use Rattle.campaign_core.proofs.Common.{option_map, option_or, unwrap_or, eq-eqb, cancel_standing_said, outcome_given, item_numbered, Bytes, Cancel, Command, action_after, change_rollout, counted, is_same_action, outcome_if_new, own_group, rollout_after, rollouts_after_outcome, act_on, step_action, Records, Reported, is_again, reported_by, ActionRecord, RolloutRecord, group_number_of, has_started, is_for, check, first_refusal, on_action, target_of, Outcome, Effects, Refusal, ClosedAction, NotFound, WrongState, OwnDecides, own_effects, own_view_of, OwnView, AreSound, BothOrNone, ChangesAction, Decides, IsActionView, IsCancelView, MakesCancel, action_for, action_with, cancel_refusal, change_by, change_numbered, ended_by, moved_by, only_if, outcome_forced, rollout_with, rollouts_with, ActionChange, ActionView, CancelView}
+use Rattle.campaign_core.proofs.Common.{◌≡◌, ℕ, Bool, true, false, cond, ◌&&◌, ◌||◌, List, [], ◌∷◌, ◌++◌, refl, sym, ◌∙◌, ap, subst, Option, Some, None, Ok, IfSome, is_none, is_some, map, nat_eq, not, option_map, option_or, unwrap_or, eq-eqb, cancel_standing_said, outcome_given, item_numbered, Bytes, Cancel, Command, action_after, change_rollout, counted, is_same_action, outcome_if_new, own_group, rollout_after, rollouts_after_outcome, act_on, step_action, Records, Reported, is_again, reported_by, ActionRecord, RolloutRecord, group_number_of, has_started, is_for, check, first_refusal, on_action, target_of, Outcome, Effects, Refusal, ClosedAction, NotFound, WrongState, OwnDecides, own_effects, own_view_of, OwnView, AreSound, BothOrNone, ChangesAction, Decides, IsActionView, IsCancelView, MakesCancel, action_for, action_with, cancel_refusal, change_by, change_numbered, ended_by, moved_by, only_if, outcome_forced, rollout_with, rollouts_with, ActionChange, ActionView, CancelView}
 use Rattle.rollout_machine.proofs.Actions.{append_none}
 use Rattle.rollout_machine.specs.Targets.{Target}
 use Rattle.campaign_core.specs.declared.rollout_checks.RolloutChange.TheVariants as change

@@ -1,6 +1,5 @@
 -- A verdict over records is that at a command list.
-use Rattle.std.proofs.Common.{sym, subst, Result, Ok, Err}
-use Rattle.campaign_core.proofs.Common.{records_step, CommandList, Command, Records, records, IsValid, Refusal}
+use Rattle.campaign_core.proofs.Common.{sym, subst, Result, Ok, Err, records_step, CommandList, Command, Records, records, IsValid, Refusal}
 use Rattle.campaign_core.specs.Checks.{LeadsTo, Decides, Follows, Suffice}
 use Rattle.campaign_core.specs.declared.checks.Change.{Change}
 use Rattle.campaign_core.specs.declared.checks.View.{View}

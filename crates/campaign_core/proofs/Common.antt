@@ -1,4 +1,5 @@
 -- The names of other modules that the proofs here cite, passed on from one place. Declares nothing.
+pub use Rattle.std.proofs.Common.{◌≡◌, ℕ, zero, suc, ◌+◌, ◌-◌, ◌<◌, ◌≤◌, Bool, true, false, cond, not, ◌&&◌, ◌||◌, List, [], ◌∷◌, ◌++◌, map, length, take, drop, is_some, is_none, IfSome, IfOk, nat_eq, nat_lt, nat_le, slice_get, Some, None, Ok, Err, Option, Result, sym, refl, ap, ◌∙◌, subst, inl, inr, arith}
 pub use Rattle.std.proofs.lemmas.Bool.{and_parts, cases_Bool, cases_lt, cases_order, eq-eqb, eqb-true, false≢true, le-ltb, lt-ltb, ltb-true, ne_eqb, or_parts}
 pub use Rattle.std.proofs.lemmas.Option.{slice_get_read}
 pub use Rattle.std.proofs.lemmas.Result.{err_from_is_err_and}
@@ -45,3 +46,4 @@ pub use Rattle.campaign_core.specs.declared.rollout_checks.actions.ActionChange.
 pub use Rattle.campaign_core.specs.declared.rollout_checks.actions.ActionView.{ActionView}
 pub use Rattle.campaign_core.specs.declared.rollout_checks.actions.CancelView.{CancelView}
 pub use Rattle.campaign_core.specs.declared.rollout_checks.of_devices.DeviceAction.{DeviceAction}
+pub use Rattle.std.proofs.Math.Bool.{and-not_self}

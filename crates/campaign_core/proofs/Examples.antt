@@ -1,6 +1,5 @@
 -- The rows of the verdicts at their borders, by computing.
-use Rattle.std.proofs.Common.{◌≡◌, ℕ, Bool, true, false, Some, None, [], refl}
-use Rattle.campaign_core.proofs.Common.{Unauthorized, NotFound, Locked, Exists, Quota, WrongDigest}
+use Rattle.campaign_core.proofs.Common.{◌≡◌, ℕ, Bool, true, false, Some, None, [], refl, Unauthorized, NotFound, Locked, Exists, Quota, WrongDigest}
 use Rattle.campaign_core.specs.Checks.{module_refusal, artifact_refusal, attributes_refusal, set_refusal}
 use Rattle.campaign_core.specs.declared.checks.artifacts.ArtifactView.{ArtifactView}
 

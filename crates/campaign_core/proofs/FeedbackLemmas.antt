@@ -1,7 +1,5 @@
 -- What feedback comes to, by their views, over sound records.
-use Rattle.std.proofs.Common.{◌≡◌, ℕ, Bool, true, false, cond, ◌&&◌, List, [], ◌∷◌, refl, sym, ◌∙◌, ap, subst, Option, Some, None}
-use Rattle.std.specs.Prelude.{is_none, is_some, nat_le, not}
-use Rattle.campaign_core.proofs.Common.{option_or, unwrap_or, cancel_standing_said, outcome_given, outcome_of_cancel, outcome_of_deployment, item_numbered, CancelFeedback, CancelWord, CanceledCancel, ClosedCancel, Command, Credential, DeploymentWord, Feedback, DeviceFeedback, NotedCancel, RejectedCancel, act_on, step_action, Records, OfCancel, OfDeployment, Reported, Said, is_again, reported, reported_by, says_again, says_old, standing_of, Standing, Again, Fresh, Old, ActionRecord, check, first_refusal, is_device_action, is_known, notes_of, on_action, same_outcome, says_note, Outcome, Refusal, ClosedAction, NotFound, OldNumber, Quota, Unauthorized, WrongState, AreSound, IsFeedbackView, IsDeviceAction, MayChangeAction, canceling_after, change_by, change_if_fresh, device_action, gives_other, is_fresh, is_old, only_if, report_refusal, says_fresh, ActionChange, DeviceAction}
+use Rattle.campaign_core.proofs.Common.{◌≡◌, ℕ, Bool, true, false, cond, ◌&&◌, List, [], ◌∷◌, refl, sym, ◌∙◌, ap, subst, Option, Some, None, is_none, is_some, nat_le, not, option_or, unwrap_or, cancel_standing_said, outcome_given, outcome_of_cancel, outcome_of_deployment, item_numbered, CancelFeedback, CancelWord, CanceledCancel, ClosedCancel, Command, Credential, DeploymentWord, Feedback, DeviceFeedback, NotedCancel, RejectedCancel, act_on, step_action, Records, OfCancel, OfDeployment, Reported, Said, is_again, reported, reported_by, says_again, says_old, standing_of, Standing, Again, Fresh, Old, ActionRecord, check, first_refusal, is_device_action, is_known, notes_of, on_action, same_outcome, says_note, Outcome, Refusal, ClosedAction, NotFound, OldNumber, Quota, Unauthorized, WrongState, AreSound, IsFeedbackView, IsDeviceAction, MayChangeAction, canceling_after, change_by, change_if_fresh, device_action, gives_other, is_fresh, is_old, only_if, report_refusal, says_fresh, ActionChange, DeviceAction}
 use Rattle.rollout_machine.specs.Verdicts as row
 use Rattle.rollout_model.specs.Limits.{note_limit}
 use Rattle.campaign_core.specs.declared.rollout_checks.of_devices.FeedbackView.{FeedbackView}

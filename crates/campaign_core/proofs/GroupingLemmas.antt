@@ -1,6 +1,5 @@
 -- A grouping with definitions is cut as these are split.
-use Rattle.std.proofs.Common.{◌≡◌, ◌≤◌, ℕ, true, List, [], ◌∷◌, length, ap, ◌∙◌, arith}
-use Rattle.campaign_core.proofs.Common.{and_parts, eqb-true, Grouping, GroupDefinition, cut_by, percentages, each_from, split, split_bounds_of}
+use Rattle.campaign_core.proofs.Common.{◌≡◌, ◌≤◌, ℕ, true, List, [], ◌∷◌, length, ap, ◌∙◌, arith, and_parts, eqb-true, Grouping, GroupDefinition, cut_by, percentages, each_from, split, split_bounds_of}
 use Rattle.std.proofs.lemmas.List.{length-map}
 use Rattle.rollout_model.specs.Groupings.{define_each}
 

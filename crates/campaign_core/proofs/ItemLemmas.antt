@@ -1,7 +1,5 @@
 -- Where a test picks the item of a number, what it picks is what is changed.
-use Rattle.std.proofs.Common.{◌≡◌, ℕ, zero, suc, Bool, true, false, cond, List, [], ◌∷◌, refl, subst, ap, inl, inr, Option, Some, None}
-use Rattle.std.specs.Prelude.{map, slice_get}
-use Rattle.campaign_core.proofs.Common.{cases_Bool, item_numbered, BothOrNone, change_numbered, only_if}
+use Rattle.campaign_core.proofs.Common.{◌≡◌, ℕ, zero, suc, Bool, true, false, cond, List, [], ◌∷◌, refl, subst, ap, inl, inr, Option, Some, None, map, slice_get, cases_Bool, item_numbered, BothOrNone, change_numbered, only_if}
 
 -- the test holds of item k alone
 pub record Picks {X : Type 0} (p : X → Bool) (k : ℕ) (xs : List X) : Type 0 where

@@ -1,8 +1,6 @@
 -- The own group decides: the last started group, where it is another one, has no success that is still to be followed.
-use Rattle.std.proofs.Common.{◌≡◌, ◌<◌, ◌≤◌, ℕ, zero, suc, ◌+◌, Bool, true, false, ◌&&◌, ◌||◌, not, cond, List, Option, None, refl, sym, ap, subst, ◌∙◌, arith, inl, inr}
+use Rattle.campaign_core.proofs.Common.{◌≡◌, ◌<◌, ◌≤◌, ℕ, zero, suc, ◌+◌, Bool, true, false, ◌&&◌, ◌||◌, not, cond, List, Option, None, refl, sym, ap, subst, ◌∙◌, arith, inl, inr, nat_eq, nat_lt, cases_lt, cases_order, eq-eqb, eqb-true, le-ltb, lt-ltb, ltb-true, ne_eqb, Invariant, invariant_of, IsPlace, its_group, ActionPlace, CommandList, ◌▸◌, IsLast, IsView, error_begins, feedback_pauses, good_after, last_with, next_if, starts_next, is_group_started, is_paused, is_rollout_started, each_from, group_view, last_started, view_of, action_in, group_in, rollout_in, Rollout, error_at, size_in, success_at, group_is_started, group_numbered, number_of_group, Outcome, Good, Bad, Gone, ActionRecord, GroupRecord, Effects, GroupView, RolloutView, HasPlace, has_place, FollowsOutcome, IsOwnView, OwnDecides, OwnGroupDecides, effects_by, effects_of, following, own_effects, own_view_of, waits, OwnView, and-not_self}
 use Rattle.std.proofs.Math.Bool.{and-false}
-use Rattle.std.specs.Prelude.{nat_eq, nat_lt}
-use Rattle.campaign_core.proofs.Common.{cases_lt, cases_order, eq-eqb, eqb-true, le-ltb, lt-ltb, ltb-true, ne_eqb, Invariant, invariant_of, IsPlace, its_group, ActionPlace, CommandList, ◌▸◌, IsLast, IsView, error_begins, feedback_pauses, good_after, last_with, next_if, starts_next, is_group_started, is_paused, is_rollout_started, each_from, group_view, last_started, view_of, action_in, group_in, rollout_in, Rollout, error_at, size_in, success_at, group_is_started, group_numbered, number_of_group, Outcome, Good, Bad, Gone, ActionRecord, GroupRecord, Effects, GroupView, RolloutView, HasPlace, has_place, FollowsOutcome, IsOwnView, OwnDecides, OwnGroupDecides, effects_by, effects_of, following, own_effects, own_view_of, waits, OwnView}
 use Rattle.rollout_machine.proofs.EffectLaws.{feedback_follows, settled}
 use Rattle.rollout_machine.proofs.Ties.{IsFollowed, find_group, find_holding, last_is, views}
 use Rattle.rollout_machine.specs.Counts.{reaches, success_holds, tally}
@@ -28,11 +26,7 @@ pauses_so true i = refl
 pauses_so false i = refl
 
 no_error : (bad size percent : ℕ) → error_begins bad (bad + 0) size percent ≡ false
-no_error bad size percent = let e : bad + 0 ≡ bad = omega arith in rw e (never (reaches bad size percent))
-  where
-    never : (b : Bool) → (b && not b) ≡ false
-    never true = refl
-    never false = refl
+no_error bad size percent = let e : bad + 0 ≡ bad = omega arith in rw e (and-not_self (reaches bad size percent))
 
 -- no start where there was none to come
 none_comes : (lt paused pauses reached : Bool) → (lt ≡ true → (not paused && reached) ≡ false) → (lt && (not (paused || pauses) && reached)) ≡ false

@@ -1,6 +1,5 @@
 -- An action of a number is of a member of its rollout.
-use Rattle.std.proofs.Common.{◌≡◌, ℕ, sym, ap, ◌∙◌, Some}
-use Rattle.campaign_core.proofs.Common.{has_place, invariant_of, IsPlace, ActionPlace, item_numbered, CommandList, action_in, rollout_in, ActionRecord, RolloutRecord, IsValid}
+use Rattle.campaign_core.proofs.Common.{◌≡◌, ℕ, sym, ap, ◌∙◌, Some, has_place, invariant_of, IsPlace, ActionPlace, item_numbered, CommandList, action_in, rollout_in, ActionRecord, RolloutRecord, IsValid}
 use Rattle.rollout_machine.proofs.Whole.{rollout_numbered}
 use Rattle.rollout_machine.specs.Records.{records}
 

@@ -1,7 +1,6 @@
 -- The rows of the verdicts on rollouts at their borders, by computing.
-use Rattle.std.proofs.Common.{◌≡◌, ℕ, Bool, true, false, [], ◌∷◌, Option, Some, None, refl}
+use Rattle.campaign_core.proofs.Common.{◌≡◌, ℕ, Bool, true, false, [], ◌∷◌, Option, Some, None, refl, Failed, Noted, Proceeding, Rejected, RejectedCancel, CanceledCancel, NotedCancel, Resumed, PausedRollout, RunningRollout, is_at_pause, is_running, Outcome, Good, Bad, Gone, Standing, Again, Fresh, Old, GroupView, BadFilter, ClosedAction, Exists, NotFound, OldNumber, Quota, TooFewTargets, Unauthorized, WrongState, cancel_feedback_refusal, cancel_refusal, canceling_after, change_if_fresh, device_refusal, feedback_refusal, outcome_forced, plan_refusal, word_refusal, ActionView, CancelView, DeviceAction}
 use Rattle.rollout_model.specs.Groupings.{defined, evenly}
-use Rattle.campaign_core.proofs.Common.{Failed, Noted, Proceeding, Rejected, RejectedCancel, CanceledCancel, NotedCancel, Resumed, PausedRollout, RunningRollout, is_at_pause, is_running, Outcome, Good, Bad, Gone, Standing, Again, Fresh, Old, GroupView, BadFilter, ClosedAction, Exists, NotFound, OldNumber, Quota, TooFewTargets, Unauthorized, WrongState, cancel_feedback_refusal, cancel_refusal, canceling_after, change_if_fresh, device_refusal, feedback_refusal, outcome_forced, plan_refusal, word_refusal, ActionView, CancelView, DeviceAction}
 use Rattle.campaign_core.specs.declared.rollout_checks.plans.PlanView.{PlanView}
 
 -- ---- creating in three groups

@@ -1,7 +1,5 @@
 -- The verdicts on commands on rollouts by their views, and the steps of sound records.
-use Rattle.std.proofs.Common.{◌≡◌, ℕ, Bool, true, false, cond, ◌||◌, List, [], ◌∷◌, ◌++◌, refl, sym, ◌∙◌, ap, subst, Option, Some, None, Ok}
-use Rattle.std.specs.Prelude.{nat_eq, nat_lt, not, is_none, map}
-use Rattle.campaign_core.proofs.Common.{option_map, eq-eqb, eqb-true, item_numbered, Resume, Start, TriggerNext, next_if, starts_next, begin_rollout, change_rollout, group_view, last_started, new_actions, resumed, start_group, step_records, triggered, view_from_group, view_of, Records, GroupRecord, RolloutRecord, RolloutWord, group_numbered, rollout_word, first_refusal, has_next, is_at_pause, is_running, rollout_row, word_is, Effects, RolloutView, Refusal, NotFound, WrongState, AreSound, ChangesRollout, Decides, IsResumeView, IsStandingView, IsTriggerView, StartsRollout, change_numbered, moved_by, resumed_by, word_refusal}
+use Rattle.campaign_core.proofs.Common.{◌≡◌, ℕ, Bool, true, false, cond, ◌||◌, List, [], ◌∷◌, ◌++◌, refl, sym, ◌∙◌, ap, subst, Option, Some, None, Ok, nat_eq, nat_lt, not, is_none, map, option_map, eq-eqb, eqb-true, item_numbered, Resume, Start, TriggerNext, next_if, starts_next, begin_rollout, change_rollout, group_view, last_started, new_actions, resumed, start_group, step_records, triggered, view_from_group, view_of, Records, GroupRecord, RolloutRecord, RolloutWord, group_numbered, rollout_word, first_refusal, has_next, is_at_pause, is_running, rollout_row, word_is, Effects, RolloutView, Refusal, NotFound, WrongState, AreSound, ChangesRollout, Decides, IsResumeView, IsStandingView, IsTriggerView, StartsRollout, change_numbered, moved_by, resumed_by, word_refusal}
 use Rattle.campaign_core.specs.declared.rollout_checks.RolloutChange.TheVariants as change
 use Rattle.campaign_core.specs.declared.rollout_checks.RolloutCommandView.TheVariants as seen
 use Rattle.campaign_core.specs.declared.rollout_checks.progress.ResumeView.{ResumeView}

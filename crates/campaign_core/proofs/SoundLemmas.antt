@@ -1,7 +1,5 @@
 -- The records of accepted commands are sound, so a verdict over sound records is that at a command list.
-use Rattle.std.proofs.Common.{◌≡◌, ℕ, true, false, ◌&&◌, sym, ◌∙◌, ap, subst, Some, Result, Ok, Err}
-use Rattle.std.specs.Prelude.{is_none, nat_eq}
-use Rattle.campaign_core.proofs.Common.{and_parts, eqb-true, records_step, ActionPlace, cancel_stands, CommandList, Command, is_same_action, Records, action_in, records, ActionRecord, IsValid, Outcome, Refusal, HasPlace, has_place, AreSound, Decides, Follows, LeadsTo}
+use Rattle.campaign_core.proofs.Common.{◌≡◌, ℕ, true, false, ◌&&◌, sym, ◌∙◌, ap, subst, Some, Result, Ok, Err, is_none, nat_eq, and_parts, eqb-true, records_step, ActionPlace, cancel_stands, CommandList, Command, is_same_action, Records, action_in, records, ActionRecord, IsValid, Outcome, Refusal, HasPlace, has_place, AreSound, Decides, Follows, LeadsTo}
 use Rattle.rollout_machine.proofs.Distinct.{one_number}
 use Rattle.campaign_core.proofs.OwnGroups.{own_group_decides}
 use Rattle.rollout_machine.proofs.GroupCounts.{groups_are_counted}

@@ -1,8 +1,6 @@
 -- The words of statuses are those of the records of a command list.
-use Rattle.std.proofs.Common.{◌≡◌, ℕ, zero, suc, Bool, true, false, ◌&&◌, cond, List, [], ◌∷◌, Option, Some, None, refl, ap, sym, ◌∙◌}
+use Rattle.campaign_core.proofs.Common.{◌≡◌, ℕ, zero, suc, Bool, true, false, ◌&&◌, cond, List, [], ◌∷◌, Option, Some, None, refl, ap, sym, ◌∙◌, is_none, false≢true, or_parts, CommandList, each_from, Approval, group_in, approval_of, action_in, records, GroupRecord, ActionRecord, is_rollout_started, is_paused, Rollout, RolloutWord, GroupWord, ActionWord, all_final, word_from, has_started, TargetWord, Unknown, Pending, InSync, InError, word_by_last, started_actions_of, has_started_is, Outcome, Good, Bad, Gone}
 use Rattle.std.specs.List.{list_all, list_any}
-use Rattle.std.specs.Prelude.{is_none}
-use Rattle.campaign_core.proofs.Common.{false≢true, or_parts, CommandList, each_from, Approval, group_in, approval_of, action_in, records, GroupRecord, ActionRecord, is_rollout_started, is_paused, Rollout, RolloutWord, GroupWord, ActionWord, all_final, word_from, has_started, TargetWord, Unknown, Pending, InSync, InError, word_by_last, started_actions_of, has_started_is, Outcome, Good, Bad, Gone}
 use Rattle.campaign_core.specs.StatusWords.{is_final, group_word_from, action_word_from, status_of_group, FollowsRollout, FollowsGroup, FollowsAction, last_word, last_outcome, target_word_from, FollowsTarget}
 use Rattle.campaign_core.specs.declared.status_words.RolloutStatus.{RolloutStatus}
 use Rattle.campaign_core.specs.declared.status_words.GroupStatus.{GroupStatus}

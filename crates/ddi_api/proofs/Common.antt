@@ -1,4 +1,5 @@
 -- The names of other modules that the proofs here cite, passed on from one place. Declares nothing.
+pub use Rattle.std.proofs.Common.{◌≡◌, ℕ, Bool, true, false, cond, ◌⊎◌, List, [], ◌∷◌, ◌++◌, map, take, Some, None, string_bytes, codes, decimal, Option, bytes_eq, sym, refl, ap, ◌∙◌, append_assoc, append-nil, arith, rules}
 pub use Rattle.std.proofs.lemmas.Result.{IfOk-weaker}
 pub use Rattle.json.specs.Print.{print, quoted}
 pub use Rattle.serde_json.proofs.Views.{Entry}

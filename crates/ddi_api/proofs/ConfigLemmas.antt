@@ -1,6 +1,5 @@
 -- The attributes of an object, in a loop.
-use Rattle.std.proofs.Common.{◌≡◌, ◌++◌, List, [], ◌∷◌, Option, Some, None, string_bytes, refl, sym, ◌∙◌, ◌⊎◌}
-use Rattle.ddi_api.proofs.Common.{view, members_view, Entry, Refusal, traverse, attribute_of, attributes_in}
+use Rattle.ddi_api.proofs.Common.{◌≡◌, ◌++◌, List, [], ◌∷◌, Option, Some, None, string_bytes, refl, sym, ◌∙◌, ◌⊎◌, view, members_view, Entry, Refusal, traverse, attribute_of, attributes_in}
 use Rattle.rollout_model.specs.declared.refusal.Refusal.TheVariants.{BadRequest, NoMemory}
 use Rattle.rollout_model.specs.declared.target.Attribute.{Attribute}
 use Rattle.mgmt_objects.proofs.TraverseLemmas.{traverse-push, traverse_stops_by}

@@ -1,12 +1,11 @@
 -- What the contracts rest on beside their callees.
-use Rattle.std.proofs.Common.{◌≡◌, ℕ, List, Bool, true, false, cond, Some, None, bytes_eq, refl}
+use Rattle.ddi_api.proofs.Common.{◌≡◌, ℕ, List, Bool, true, false, cond, Some, None, bytes_eq, refl, route_in, Refusal, Refused, device_table, method_of}
 use Rattle.std.specs.Str.{IsUtf8, is_utf8}
 use Rattle.std.proofs.lemmas.Str.{is_utf8-from_IsUtf8, IsUtf8-from_is_utf8}
 use Rattle.matchit.proofs.OnLiterals.{matchit_on_literals}
 use Rattle.rollout_model.specs.Rules.{is_spelled, is_word_letter}
 use Rattle.rollout_model.proofs.RuleLemmas.{spelled_is_utf8}
 use Rattle.request_target.specs.Rows.{are_routes}
-use Rattle.ddi_api.proofs.Common.{route_in, Refusal, Refused, device_table, method_of}
 use Rattle.http_wire.specs.Messages.{WireMessage}
 use Rattle.http_wire.specs.Targets.{path_of}
 use Rattle.http_wire.specs.Replies.{refusal_text}

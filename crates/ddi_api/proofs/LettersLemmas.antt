@@ -1,7 +1,6 @@
 -- The texts that devices are shown, letter by letter.
-use Rattle.std.proofs.Common.{◌≡◌, ℕ, List, [], ◌∷◌, ◌++◌, Bool, true, false, Option, Some, None, codes, decimal, map, refl, append_assoc}
+use Rattle.ddi_api.proofs.Common.{◌≡◌, ℕ, List, [], ◌∷◌, ◌++◌, Bool, true, false, Option, Some, None, codes, decimal, map, refl, append_assoc, quoted, items_of, Artifact, Chunk, Deployment, action_path, artifact_data, cancel_data, chunk_data, config_data, deployment_data, download_path, link_data, offer_kind, poll_data, artifact_letters, behind_commas, cancel_letters, chunk_letters, deployment_letters, poll_letters, separated}
 use Rattle.std.specs.List.{concat}
-use Rattle.ddi_api.proofs.Common.{quoted, items_of, Artifact, Chunk, Deployment, action_path, artifact_data, cancel_data, chunk_data, config_data, deployment_data, download_path, link_data, offer_kind, poll_data, artifact_letters, behind_commas, cancel_letters, chunk_letters, deployment_letters, poll_letters, separated}
 use Rattle.serde_json.specs.Data.{Data, object, member, no_members, string}
 use Rattle.serde_json.specs.Written.{compact_text, items_text}
 use Rattle.serde_json.proofs.OnLiterals.{serde_json_on_literals}

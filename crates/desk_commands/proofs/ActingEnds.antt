@@ -1,6 +1,5 @@
 -- A command on an action, to its end: what is written makes the ledger of the records after it.
-use Rattle.std.proofs.Common.{◌≡◌, ℕ, ◌+◌, Bool, true, false, cond, ◌||◌, not, List, [], ◌∷◌, ◌++◌, map, filter, length, Option, Some, None, option_map, refl, sym, ap, ◌∙◌, subst, arith, nat_eq, inl, inr}
-use Rattle.desk_commands.proofs.Common.{and_parts, cases_Bool, eq-eqb, eqb-true, false≢true, not-true, length-append, length-map, map-append, HistoryEntry, Reported, entries_in, item_numbered, same_bytes, CommandList, ◌▸◌, IsWellFormed, Bytes, Command, is_outcome, Offer, offer, is_none, counted, start_group, step_records, Records, records, IsValid, check, is_note, Outcome, Good, Bad, Gone, ActionRecord, GroupRecord, RolloutRecord, numbered_map, records_step, same_refl, same_true, effects_by, following, waits, ChangesAction, action_with, change_by, ended_by, moved_by, rollout_with, OwnView, ActionChange, StaysOpen, Ends, Tally, tally_of, borne_at, numbers_from, numbers_of, Ledger, ledger_of, set_numbered, with_groups, with_offer, with_rollouts, next_offer, actor, offers_before_start, with_actor, Acts, Follows, TellsAction, stays_offered, FollowsSo, StartsGroupOf, with_outcome, with_rollout, StartsGroup, started, with_group, StartsNoGroup, starts_of, MayReoffer, action_view_seen, CountsNumbers, TellsReports, entries_by, numbers_by, tally_by, with_reports, Told, SeenAction, Following}
+use Rattle.desk_commands.proofs.Common.{◌≡◌, ℕ, ◌+◌, Bool, true, false, cond, ◌||◌, not, List, [], ◌∷◌, ◌++◌, map, filter, length, Option, Some, None, option_map, refl, sym, ap, ◌∙◌, subst, arith, nat_eq, inl, inr, and_parts, cases_Bool, eq-eqb, eqb-true, false≢true, not-true, length-append, length-map, map-append, HistoryEntry, Reported, entries_in, item_numbered, same_bytes, CommandList, ◌▸◌, IsWellFormed, Bytes, Command, is_outcome, Offer, offer, is_none, counted, start_group, step_records, Records, records, IsValid, check, is_note, Outcome, Good, Bad, Gone, ActionRecord, GroupRecord, RolloutRecord, numbered_map, records_step, same_refl, same_true, effects_by, following, waits, ChangesAction, action_with, change_by, ended_by, moved_by, rollout_with, OwnView, ActionChange, StaysOpen, Ends, Tally, tally_of, borne_at, numbers_from, numbers_of, Ledger, ledger_of, set_numbered, with_groups, with_offer, with_rollouts, next_offer, actor, offers_before_start, with_actor, Acts, Follows, TellsAction, stays_offered, FollowsSo, StartsGroupOf, with_outcome, with_rollout, StartsGroup, started, with_group, StartsNoGroup, starts_of, MayReoffer, action_view_seen, CountsNumbers, TellsReports, entries_by, numbers_by, tally_by, with_reports, Told, SeenAction, Following}
 use Rattle.desk_commands.specs.ActionSteps.{with_changed}
 use Rattle.std.proofs.lemmas.List.Elements.{filter-append}
 use Rattle.campaign_core.specs.declared.own_group.Following.TheVariants as so

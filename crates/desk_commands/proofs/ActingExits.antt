@@ -1,10 +1,7 @@
 -- What a command on an action counts has room, and what it rests on is there.
-use Rattle.std.proofs.Common.{◌≡◌, ◌≤◌, ◌<◌, ◌^◌, ℕ, zero, suc, ◌+◌, Bool, true, false, cond, List, [], ◌∷◌, ◌++◌, length, set, map, filter, slice_get, Option, Some, None, option_map, Err, refl, sym, ap, ◌∙◌, subst, arith}
-use Rattle.std.specs.Prelude.{is_some}
-use Rattle.desk_commands.proofs.Common.{length-map, length-set, ok_or, zip, item_numbered, CommandList, Bytes, HistoryEntry, Reported, entries_in, is_note, notes_of, IsValid, Records, records, Outcome, Good, Bad, Gone, ActionRecord, GroupRecord, RolloutRecord, numbered_map, ActionChange, Ends, Tally, tally_of, borne_at, numbers_from, numbers_of, Ledger, ledger_of, set_numbered, stored_action, StoredAction, PlacedNumber, Acts, MayAct, TellsAction, stays_offered, FollowsSo, StartsGroupOf, outcomes_in, MayReoffer, CountsNumbers, entries_by, notes_by, SeenAction, Told, Has, limits_hold, Following, Ending, CanCount, CanEnd, CanEndBy, CanFollow, CanNumber, CanTell, HasNext, Leads, MayNumber, TakesSteps, NumbersActions}
+use Rattle.desk_commands.proofs.Common.{◌≡◌, ◌≤◌, ◌<◌, ◌^◌, ℕ, zero, suc, ◌+◌, Bool, true, false, cond, List, [], ◌∷◌, ◌++◌, length, Option, Some, None, option_map, Err, refl, sym, ap, ◌∙◌, subst, arith, is_some, length-map, length-set, ok_or, zip, item_numbered, CommandList, Bytes, Reported, entries_in, is_note, notes_of, IsValid, Records, records, Outcome, Good, Bad, Gone, ActionRecord, GroupRecord, RolloutRecord, numbered_map, ActionChange, Ends, Tally, tally_of, borne_at, numbers_from, numbers_of, Ledger, ledger_of, set_numbered, StoredAction, PlacedNumber, Acts, MayAct, TellsAction, FollowsSo, StartsGroupOf, outcomes_in, MayReoffer, CountsNumbers, entries_by, notes_by, SeenAction, Told, Has, limits_hold, Following, Ending, CanEnd, CanEndBy, CanFollow, CanTell, HasNext, Leads, TakesSteps, NumbersActions}
 use Rattle.std.proofs.lemmas.List.Sums.{count_by-le-length, length-filter}
 use Rattle.sqlite_rules.proofs.ListLemmas.{has_got}
-use Rattle.campaign_core.specs.declared.own_group.Following.TheVariants.{StartsNext}
 use Rattle.desk_commands.proofs.ItemSteps.{zip_map}
 
 -- ---- lists

@@ -1,7 +1,5 @@
 -- Commands on actions, by what was seen of the action and what the rule of the command made of it.
-use Rattle.std.proofs.Common.{◌≡◌, ℕ, Bool, true, false, cond, ◌&&◌, ◌||◌, not, List, [], ◌∷◌, Option, Some, None, option_map, Ok, refl, sym, ap, ◌∙◌, subst}
-use Rattle.std.specs.Prelude.{is_some}
-use Rattle.desk_commands.proofs.Common.{is_none, and_parts, item_numbered, same_bytes, CommandList, IsWellFormed, Bytes, Cancel, Command, Credential, step_records, Records, records, Reported, Standing, IsValid, check, first_refusal, target_of, Outcome, ActionRecord, same_true, Refusal, ClosedAction, WrongState, ChangesAction, Decides, IsFeedbackView, IsViewOf, LeadsTo, MakesCancel, MakesFeedback, MayChangeAction, cancel_refusal, change_by, change_if_fresh, is_fresh, outcome_forced, says_fresh, RolloutChange, RolloutCommandView, ActionChange, records_are_sound, numbers_of, ledger_of, actor, Acts, ActsBy, MayAct, WritesFeedback, action_change_of, does_act, CountsNumbers, TellsReports, IsSeen, MaySee, SeesFeedback, SeesTarget, action_view_seen, cancel_view_seen, only_of, only_started, feedback_view_seen, device_action_seen, seen_if, Told, SeenAction, SeenFeedback}
+use Rattle.desk_commands.proofs.Common.{◌≡◌, ℕ, Bool, true, false, cond, ◌&&◌, ◌||◌, not, List, [], ◌∷◌, Option, Some, None, option_map, Ok, refl, sym, ap, ◌∙◌, subst, is_some, is_none, and_parts, item_numbered, same_bytes, CommandList, IsWellFormed, Bytes, Cancel, Command, Credential, step_records, Records, records, Reported, Standing, IsValid, check, first_refusal, target_of, Outcome, ActionRecord, same_true, Refusal, ClosedAction, WrongState, ChangesAction, Decides, IsFeedbackView, IsViewOf, LeadsTo, MakesCancel, MakesFeedback, MayChangeAction, cancel_refusal, change_by, change_if_fresh, is_fresh, outcome_forced, says_fresh, RolloutChange, RolloutCommandView, ActionChange, records_are_sound, numbers_of, ledger_of, actor, Acts, ActsBy, MayAct, WritesFeedback, action_change_of, does_act, CountsNumbers, TellsReports, IsSeen, MaySee, SeesFeedback, SeesTarget, action_view_seen, cancel_view_seen, only_of, only_started, feedback_view_seen, device_action_seen, seen_if, Told, SeenAction, SeenFeedback}
 use Rattle.campaign_core.specs.declared.rollout_checks.RolloutChange.TheVariants as change
 use Rattle.campaign_core.specs.declared.rollout_checks.RolloutCommandView.TheVariants as view
 use Rattle.campaign_core.specs.declared.rollout_checks.actions.CancelView.{CancelView}

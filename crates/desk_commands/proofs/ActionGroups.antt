@@ -1,6 +1,5 @@
 -- An action of a list of accepted commands has its rollout and its group, of which something is said, and no group ends beyond 32 bits.
-use Rattle.std.proofs.Common.{◌≡◌, ◌≤◌, ◌<◌, ◌+◌, ◌^◌, ℕ, Option, Some, None, length, option_map, refl, sym, ap, ◌∙◌, subst, arith}
-use Rattle.desk_commands.proofs.Common.{zip, item_numbered, CommandList, IsValid, GroupRule, rule_at, Records, action_in, rollout_in, group_in, records, group_holding, number_of_group, ActionRecord, GroupRecord, RolloutRecord, Tally, tally_of, Ledger, ledger_of, stored_action, stored_rollout, group_and_next, GroupAndNext, StoredAction, has_place, of_group, of_rollout, recorded, invariant_of, limits_hold, Rollout, last_of, size_of, groups_of, rule_numbered, StoredRollout, IsOfList, rule_there, rules_there, IsActionOf, EndsBeyond}
+use Rattle.desk_commands.proofs.Common.{◌≡◌, ◌≤◌, ℕ, Option, Some, None, length, option_map, refl, sym, ap, ◌∙◌, subst, arith, zip, item_numbered, CommandList, IsValid, GroupRule, rule_at, rollout_in, group_in, records, group_holding, number_of_group, ActionRecord, GroupRecord, RolloutRecord, tally_of, Ledger, ledger_of, stored_action, stored_rollout, group_and_next, GroupAndNext, StoredAction, has_place, of_group, of_rollout, recorded, invariant_of, limits_hold, last_of, size_of, groups_of, rule_numbered, StoredRollout, rule_there, rules_there, IsActionOf, EndsBeyond}
 use Rattle.rollout_machine.proofs.Cuts.{group_of, in_its_group}
 use Rattle.rollout_machine.proofs.Ties.{find_holding}
 use Rattle.desk_commands.proofs.GroupNumbers.{held_stands, numbered_groups, same_groups}

@@ -1,16 +1,8 @@
 -- What the reads of an addition say, and what its writes come to.
-use Rattle.std.proofs.Common.{◌≡◌, ◌≤◌, ◌<◌, ℕ, zero, suc, ◌+◌, nat_le, nat_lt, Bool, true, false, ◌||◌, List, [], ◌∷◌, ◌++◌, length, Some, None, refl, sym, ap, ◌∙◌, arith, append_assoc, append-nil, get_or, drop, take, ◌-◌, subst}
-use Rattle.desk_commands.proofs.Common.{nat_tests, length-append, take_all, list_any, list_all, is_none, command_reply, item_numbered, ModuleLabel, SetLabel, AddModule, AddSet, Records, step_records, check, is_named_by_set, reply_of, Exists, NotFound, Quota, is_between, is_module_list, is_number, number_of, AddsModules, AddsWhole, LacksModule, and_modules}
+use Rattle.desk_commands.proofs.Common.{◌≡◌, ◌≤◌, ◌<◌, ℕ, zero, suc, ◌+◌, nat_le, nat_lt, Bool, true, false, ◌||◌, List, [], ◌∷◌, ◌++◌, length, Some, None, refl, sym, ap, ◌∙◌, arith, append_assoc, append-nil, get_or, drop, take, ◌-◌, subst, nat_tests, length-append, take_all, list_any, list_all, is_none, command_reply, item_numbered, ModuleLabel, SetLabel, AddModule, AddSet, Records, step_records, check, is_named_by_set, reply_of, Exists, NotFound, Quota, is_between, is_module_list, is_number, AddsModules, AddsWhole, LacksModule, and_modules}
 use Rattle.desk_records.specs.Modules.{is_same, with_module}
 use Rattle.desk_records.specs.Sets.{is_same_set, with_set, set_named, and_module, AddsSetModule}
 use Rattle.rollout_model.specs.declared.request.Reply.TheVariants as reply
-
--- a number in its range is itself
-pub some_number : (n k : ℕ) → number_of n ≡ Some k → k ≡ n
-some_number n k is = go (is_number n) refl where
-  go : (b : Bool) → is_number n ≡ b → k ≡ n
-  go true good = let same : Some n ≡ Some k = (rw good at is) in sym (cc)
-  go false bad = let none : None ≡ Some k = (rw bad at is) in absurd (cc)
 
 -- ---- modules
 

@@ -1,7 +1,5 @@
 -- What the reads of an artifact's addition say, and what its writes come to.
-use Rattle.std.proofs.Common.{◌≡◌, ◌≤◌, ◌<◌, ℕ, suc, ◌+◌, ◌-◌, ◌*◌, min, nat_eq, nat_le, nat_lt, Bool, true, false, not, cond, ◌||◌, List, [], ◌∷◌, ◌++◌, length, filter, take, drop, Option, Some, None, refl, sym, ap, ◌∙◌, arith, subst, append_assoc, append-nil}
-use Rattle.desk_commands.proofs.Common.{or-true, list_any, pointwise, is_none, nat_tests, length-append, length-take, length-drop, take-append-drop, command_reply, added_artifact, item_numbered, same_bytes, Bytes, Upload, AddArtifact, ArtifactRecord, Records, artifact_from, step_records, ArtifactAdded, check, first_refusal, is_named_by_set, verdict_row, wrong_digest, reply_of, Artifact, Refusal, NotFound, Locked, Exists, Quota, WrongDigest, AddsArtifact, AddsContents, is_full, same_pointwise}
-use Rattle.std.specs.Prelude.{slice_get}
+use Rattle.desk_commands.proofs.Common.{◌≡◌, ◌≤◌, ◌<◌, ℕ, suc, ◌+◌, ◌-◌, ◌*◌, min, nat_eq, nat_le, nat_lt, Bool, true, false, not, cond, ◌||◌, List, [], ◌∷◌, ◌++◌, length, filter, take, drop, Option, Some, None, refl, sym, ap, ◌∙◌, arith, subst, append_assoc, append-nil, slice_get, or-true, list_any, pointwise, is_none, nat_tests, length-append, length-take, length-drop, take-append-drop, command_reply, added_artifact, item_numbered, same_bytes, Bytes, Upload, AddArtifact, ArtifactRecord, Records, artifact_from, step_records, ArtifactAdded, check, first_refusal, is_named_by_set, verdict_row, wrong_digest, reply_of, Artifact, Refusal, NotFound, Locked, Exists, Quota, WrongDigest, AddsArtifact, AddsContents, is_full, same_pointwise}
 use Rattle.desk_records.specs.Artifacts.{is_same_artifact, artifact_filed, with_artifact, and_piece, AddsPiece}
 use Rattle.rollout_machine.specs.Digests.{digest_of}
 use Rattle.rollout_machine.specs.Objects.{artifact_shown, artifacts_shown}

@@ -1,7 +1,5 @@
 -- What the attributes that a device gives come to.
-use Rattle.std.proofs.Common.{◌≡◌, ◌≤◌, ◌<◌, ◌+◌, ℕ, suc, Bool, true, false, cond, ◌||◌, ◌&&◌, not, nat_eq, nat_lt, List, [], ◌∷◌, ◌++◌, length, get_or, take, Option, Some, None, option_map, refl, sym, ap, ◌∙◌, subst, arith}
-use Rattle.std.specs.Prelude.{is_some}
-use Rattle.desk_commands.proofs.Common.{list_any, list_all, pointwise, and_parts, false≢true, nat_tests, map-append, length-map, AddsAttribute, SetsAttribute, are_sorted, attributed, attributes_of, in_byte_order, is_sorted, keys_of, with_changed, same_bytes, bytes_below, contains_word, with_word, with_words, Bytes, Attribute, Credential, PutAttributes, Records, change_target, step_records, Target, with_attribute, with_attributes, check, is_known, target_of, AllAbove, IsSorted, above_more, not_above, sorted_with_all, with_there, same_pointwise, same_refl, same_sym, same_true, Unauthorized, Quota, GivesAttribute, GivesAttributes, attributed_with, has_attribute, keys_after, sorted_from}
+use Rattle.desk_commands.proofs.Common.{◌≡◌, ◌≤◌, ◌<◌, ◌+◌, ℕ, suc, Bool, true, false, cond, ◌||◌, ◌&&◌, not, nat_eq, nat_lt, List, [], ◌∷◌, ◌++◌, length, get_or, take, Option, Some, None, option_map, refl, sym, ap, ◌∙◌, subst, arith, is_some, list_any, list_all, pointwise, and_parts, false≢true, nat_tests, map-append, length-map, AddsAttribute, SetsAttribute, are_sorted, attributed, attributes_of, in_byte_order, is_sorted, keys_of, with_changed, same_bytes, bytes_below, contains_word, with_word, with_words, Bytes, Attribute, Credential, PutAttributes, Records, change_target, step_records, Target, with_attribute, with_attributes, check, is_known, target_of, AllAbove, IsSorted, above_more, not_above, sorted_with_all, with_there, same_pointwise, same_refl, same_sym, same_true, Unauthorized, Quota, GivesAttribute, GivesAttributes, attributed_with, has_attribute, keys_after, sorted_from, not-true, or_right, or_parts}
 use Rattle.rollout_machine.specs.Verdicts.{keys_of as keys_there}
 use Rattle.rollout_model.specs.Pairs.{is_same_attribute}
 use Rattle.desk_records.proofs.Attributes.{keys_with}
@@ -45,10 +43,6 @@ keys_given (a ∷ more) had = keys_given more (with_attribute a had) ∙ ap (wit
 among_with : (a e : Attribute) (bs : List Attribute) → same_bytes a.key e.key ≡ false → has_attribute a bs ≡ true → has_attribute a (with_attribute e bs) ≡ true
 among_with a e [] apart among = absurd (false≢true among)
 among_with a e (b ∷ bs) apart among = go (same_bytes e.key b.key) (bytes_below e.key b.key) (is_same_attribute b a) refl refl among (λ later. among_with a e bs apart later) where
-  or_right : (x y : Bool) → y ≡ true → (x || y) ≡ true
-  or_right true y is = refl
-  or_right false y is = is
-
   other : is_same_attribute b a ≡ true → same_bytes e.key b.key ≡ true → ⊥
   other it same =
       let key : b.key ≡ a.key = pointwise_is b.key a.key (and_parts _ _ it).0 in
@@ -65,10 +59,7 @@ among_with a e (b ∷ bs) apart among = go (same_bytes e.key b.key) (bytes_below
 -- it stays where its key isn't given
 stays : (a : Attribute) (given had : List Attribute) → contains_word a.key (keys_of given) ≡ false → has_attribute a had ≡ true → has_attribute a (with_attributes given had) ≡ true
 stays a [] had apart among = among
-stays a (e ∷ more) had apart among = let parts = neither (same_bytes a.key e.key) (contains_word a.key (keys_of more)) apart in stays a more (with_attribute e had) parts.1 (among_with a e had parts.0 among) where
-  neither : (x y : Bool) → (x || y) ≡ false → (x ≡ false) × (y ≡ false)
-  neither true y is = absurd (false≢true (sym is))
-  neither false y is = (refl, is)
+stays a (e ∷ more) had apart among = let parts = or_parts (same_bytes a.key e.key) (contains_word a.key (keys_of more)) apart in stays a more (with_attribute e had) parts.1 (among_with a e had parts.0 among)
 
 -- an attribute that is there, among keys in byte order, changes nothing
 with_same : (a : Attribute) (bs : List Attribute) → IsSorted (keys_of bs) → has_attribute a bs ≡ true → with_attribute a bs ≡ bs
@@ -130,17 +121,13 @@ module _ (id : Bytes) (had since : List Attribute) (a : Attribute) (r next : Rec
 
   pub keeps_one : (kept : Bool) → kept ≡ (not (contains_word a.key (keys_of since)) && has_attribute a had) → kept ≡ true → are_sorted r.targets ≡ true → GivesAttribute id had since a r next → next ≡ r
   keeps_one kept is stands sorted h = h.next_is ∙ ap (λ (ts : List Target). record r { targets = ts }) (go (target_of r id) refl h.is_there h.so_far) where
-    turned : (b : Bool) → not b ≡ true → b ≡ false
-    turned true it = absurd (false≢true it)
-    turned false it = refl
-
     parts : (not (contains_word a.key (keys_of since)) ≡ true) × (has_attribute a had ≡ true)
     parts = and_parts _ _ (sym is ∙ stands)
 
     go : (o : Option Target) → target_of r id ≡ o → is_some o ≡ true → attributes_of o ≡ with_attributes since had → change_target id (attributed a) r.targets ≡ r.targets
     go None none some so_far = absurd (false≢true some)
     go (Some t) it some so_far =
-        let among : has_attribute a t.attributes ≡ true = ap (has_attribute a) so_far ∙ stays a since had (turned _ parts.0) parts.1 in
+        let among : has_attribute a t.attributes ≡ true = ap (has_attribute a) so_far ∙ stays a since had (not-true _ parts.0) parts.1 in
         let same : attributed a t ≡ t = ap (λ (bs : List Attribute). record t { attributes = bs }) (with_same a t.attributes (keys_sorted id r.targets t (and_parts _ _ sorted).1 it) among) in
         unchanged id (attributed a) r.targets t (ids_sorted r.targets sorted) it same
 

@@ -1,15 +1,16 @@
 -- The names of other modules that the proofs here cite, passed on from one place. Declares nothing.
-pub use Rattle.std.proofs.Math.Bool.{or-false, or-true}
-pub use Rattle.std.proofs.lemmas.Bool.{and_parts, cases_Bool, eq-eqb, eqb-true, false≢true, ltb-true, not-true, or_parts}
+pub use Rattle.std.proofs.Common.{Bool, Err, IsErrAnd, List, MatchResult, None, Ok, Option, Result, Some, [], ap, append-nil, append_assoc, arith, cond, drop, false, filter, get_or, inl, inr, is_some, le_trans, length, map, min, nat_eq, nat_le, nat_lt, not, pos, refl, rules, set, slice_get, subst, suc, sym, take, true, true≢false, zero, ℕ, ◌&&◌, ◌*◌, ◌++◌, ◌+◌, ◌-◌, ◌<◌, ◌^◌, ◌||◌, ◌∙◌, ◌∷◌, ◌≡◌, ◌≢◌, ◌≤◌, ◌⊎◌}
+pub use Rattle.std.proofs.Math.Bool.{and-false, and_assoc, and_comm, or-false, or-true, or_assoc, or_comm}
+pub use Rattle.std.proofs.lemmas.Bool.{and_parts, cases_Bool, eq-eqb, eqb-true, false≢true, ltb-true, not-true, or_parts, or_right}
 pub use Rattle.std.proofs.lemmas.Bool.Decides.{nat_tests}
 pub use Rattle.std.proofs.lemmas.List.{length-append, length-drop, length-map, length-set, length-take, length-take-le, map-append, take-append-drop, take_all, take_more}
 pub use Rattle.std.specs.Cmp.Lexicographic.{pointwise}
-pub use Rattle.std.specs.List.{find, flat_map, last_or, list_all, list_any, zip}
+pub use Rattle.std.specs.List.{find, last_or, list_all, list_any, zip}
 pub use Rattle.std.specs.Option.{IsSomeAnd, is_none, ok_or, option_map, unwrap_or}
 pub use Rattle.sqlite.specs.State.{HasCleanDisk, State}
 pub use Rattle.sqlite.specs.Store.{Ghosts}
 pub use Rattle.sqlite_rules.specs.Lists.{Has}
-pub use Rattle.rollout_model.specs.Rules.{are_distinct_words, is_between, is_digest, is_module_list, is_number, is_tag_list, is_text, is_value, is_word, number_of}
+pub use Rattle.rollout_model.specs.Rules.{are_distinct_words, is_between, is_digest, is_module_list, is_number, is_tag_list, is_text, is_value, is_word}
 pub use Rattle.rollout_model.specs.declared.artifact.Artifact.{Artifact}
 pub use Rattle.rollout_model.specs.declared.refusal.Refusal.{Refusal}
 pub use Rattle.rollout_model.specs.declared.refusal.Refusal.TheVariants.{ClosedAction, Exists, Locked, NotFound, Quota, Unauthorized, WrongDigest, WrongState}
@@ -87,7 +88,7 @@ pub use Rattle.desk_store.specs.Readable.{BreaksColumn, IsReadable, second_shown
 pub use Rattle.desk_store.specs.declared.change.OpenChange.{OpenChange}
 pub use Rattle.desk_store.specs.declared.rollouts.GroupAndNext.{GroupAndNext}
 pub use Rattle.desk_reads.proofs.HistoryKept.{details_kept}
-pub use Rattle.desk_reads.proofs.RuleLemmas.{rule_there, rules_there, said_of}
+pub use Rattle.desk_reads.proofs.RuleLemmas.{rule_there, rules_there, said_of, same_number}
 pub use Rattle.desk_reads.specs.AtLists.{AreOfList, FailsAtListsIn, IsOfList}
 pub use Rattle.desk_reads.specs.Rollouts.{IsSeenOf}
 pub use Rattle.desk_reads.specs.Targets.{target_listed}
@@ -97,7 +98,7 @@ pub use Rattle.desk_commands.specs.Additions.{AddsArtifact, AddsContents, AddsMo
 pub use Rattle.desk_commands.specs.Attributes.{GivesAttribute, GivesAttributes, attributed_with, has_attribute, keys_after}
 pub use Rattle.desk_commands.specs.Creations.{CreatesRollout, IsChosen, IsWordOf, and_rollout, first_rules, ids_matching, in_part, shown_new}
 pub use Rattle.desk_commands.specs.Endings.{CountsOutcome, FollowsOutcome, FollowsSo, Pauses, StartsGroupOf, outcomes_in, with_outcome, with_rollout}
-pub use Rattle.desk_commands.specs.Failures.{CanCount, CanEnd, CanEndBy, CanFollow, CanNumber, CanStart, CanTell, ChangesRow, CountsIf, FailsWriting, HasItem, HasNext, IsActionOf, IsLastOf, IsSeenFrom, IsSeenIn, Leads, MayNumber, TakesRow, TakesRows, TakesSteps}
+pub use Rattle.desk_commands.specs.Failures.{CanEnd, CanEndBy, CanFollow, CanStart, CanTell, ChangesRow, CountsIf, FailsWriting, HasItem, HasNext, IsActionOf, IsLastOf, IsSeenFrom, IsSeenIn, Leads, TakesRow, TakesRows, TakesSteps}
 pub use Rattle.desk_commands.specs.GroupStarts.{StartsGroup, started, with_group}
 pub use Rattle.desk_commands.specs.GroupViews.{EndsBeyond, view_by}
 pub use Rattle.desk_commands.specs.Imports.{AddsTags, DropsTags, HasRoom, IsTooMany, LeavesRoom, PutsAll, PutsOver, PutsRow, PutsRows, Renames, Retags, ids_after, lacking, retagged, row_ids, tagged_with, untagged_from, with_row, without_words}
@@ -111,3 +112,5 @@ pub use Rattle.desk_commands.specs.Telling.{CountsNumbers, TellsReports, WritesN
 pub use Rattle.desk_commands.specs.declared.seen_actions.SeenAction.{SeenAction}
 pub use Rattle.desk_commands.specs.declared.seen_actions.SeenFeedback.{SeenFeedback}
 pub use Rattle.desk_commands.specs.declared.telling.Told.{Told}
+pub use Rattle.desk_records.proofs.Membership.{has_flat}
+pub use Rattle.desk_store.proofs.ActionCalls.{kept_to}

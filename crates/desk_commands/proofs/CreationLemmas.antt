@@ -1,6 +1,5 @@
 -- The creation of a rollout, from what is read to what is written.
-use Rattle.std.proofs.Common.{◌≡◌, ◌≤◌, ◌<◌, ℕ, zero, suc, ◌+◌, Bool, true, false, not, cond, nat_eq, nat_lt, List, [], ◌∷◌, ◌++◌, map, filter, get_or, take, drop, length, set, slice_get, Some, None, is_none, refl, sym, ap, subst, ◌∙◌, arith}
-use Rattle.desk_commands.proofs.Common.{list_all, IsSomeAnd, and_parts, nat_tests, length-append, length-map, length-take-le, map-append, take_all, added_rollout, command_reply, item_numbered, CommandList, Bytes, CreateRollout, RolloutPlan, GroupRule, rule_at, rules_of, first_offer, RolloutAdded, Records, action_in, rollouts_in, new_group, new_rollout, step_records, bounds_at, chosen, rollouts, RolloutWord, is_finished, rollout_word, Target, IsValid, check, reply_of, Bounds, ActionRecord, RolloutRecord, each_from_more, length_each, numbered_each, Tree, filter_of, IsPlanView, approval_at, plan_refusal, Ledger, ledger_of, AddsGroup, AddsMember, AddsRollout, AddsRule, cut_group, set_numbered, with_rollouts, with_rules, listed_target, are_sorted, same_ledger, target_listed, CreatesRollout, IsChosen, IsWordOf, and_rollout, first_rules, ids_matching, in_part, shown_new, invariant_of}
+use Rattle.desk_commands.proofs.Common.{◌≡◌, ◌≤◌, ◌<◌, ℕ, zero, suc, ◌+◌, Bool, true, false, not, cond, nat_eq, nat_lt, List, [], ◌∷◌, ◌++◌, map, filter, get_or, take, drop, length, set, slice_get, Some, None, is_none, refl, sym, ap, subst, ◌∙◌, arith, list_all, IsSomeAnd, and_parts, nat_tests, length-append, length-map, length-take-le, map-append, take_all, added_rollout, command_reply, item_numbered, CommandList, Bytes, CreateRollout, RolloutPlan, GroupRule, rule_at, rules_of, first_offer, RolloutAdded, Records, action_in, rollouts_in, new_group, new_rollout, step_records, bounds_at, chosen, rollouts, RolloutWord, is_finished, rollout_word, Target, IsValid, check, reply_of, Bounds, ActionRecord, RolloutRecord, each_from_more, length_each, numbered_each, Tree, filter_of, IsPlanView, approval_at, plan_refusal, Ledger, ledger_of, AddsGroup, AddsMember, AddsRollout, AddsRule, cut_group, set_numbered, with_rollouts, with_rules, listed_target, are_sorted, same_ledger, target_listed, CreatesRollout, IsChosen, IsWordOf, and_rollout, first_rules, ids_matching, in_part, shown_new, invariant_of, not-true}
 use Rattle.rollout_machine.specs.Records.{records}
 use Rattle.std.proofs.lemmas.Option.{slice_get-get_or, slice_get_within}
 use Rattle.rollout_machine.specs.Actions.{ActionPlace, action_places}
@@ -174,11 +173,7 @@ same_offers : (r : Records) (x : RolloutRecord) (t : Bytes) (k : ℕ) (as' : Lis
 same_offers r x t k [] none = refl
 same_offers r x t k (a ∷ more) none =
     let parts = and_parts (not (nat_eq a.rollout (length r.rollouts + 1))) _ none in
-    rw (behind r.rollouts x a.rollout (unequal _ parts.0), same_offers r x t (suc k) more parts.1) refl
-  where
-    unequal : (b : Bool) → not b ≡ true → b ≡ false
-    unequal true h = absurd cc
-    unequal false h = refl
+    rw (behind r.rollouts x a.rollout (not-true _ parts.0), same_offers r x t (suc k) more parts.1) refl
 
 at_lists : (h : CommandList) (n : ℕ) (ps : List ActionPlace) → ((i : ℕ) (p : ActionPlace) → slice_get ps i ≡ Some p → nat_eq p.rollout n ≡ false) → list_all (λ (a : ActionRecord). not (nat_eq a.rollout n)) (map (action_in h) ps) ≡ true
 at_lists h n [] none = refl

@@ -1,6 +1,5 @@
 -- What follows from the outcome of an action, write by write.
-use Rattle.std.proofs.Common.{◌≡◌, ◌+◌, Bool, true, false, cond, nat_eq, Some, refl, sym, ap, ◌∙◌, subst}
-use Rattle.desk_commands.proofs.Common.{item_numbered, is_outcome, counted, Outcome, Good, Bad, Gone, GroupRecord, Ledger, SetsGroup, SetsRollout, set_numbered, with_groups, CountsOutcome, FollowsOutcome, FollowsSo, Pauses, with_outcome, with_rollout, SeenAction, Ending}
+use Rattle.desk_commands.proofs.Common.{◌≡◌, ◌+◌, Bool, true, false, cond, nat_eq, Some, refl, sym, ap, ◌∙◌, subst, item_numbered, is_outcome, counted, Outcome, Good, Bad, Gone, GroupRecord, Ledger, SetsGroup, SetsRollout, set_numbered, with_groups, CountsOutcome, FollowsOutcome, FollowsSo, Pauses, with_outcome, with_rollout, SeenAction, Ending}
 use Rattle.desk_records.specs.LedgerSteps.{counted as set_counts}
 
 -- ---- the counts

@@ -1,16 +1,10 @@
 -- When a command is a failed store, by what was read before.
-use Rattle.std.proofs.Common.{◌≡◌, ◌≤◌, ℕ, Option, Some, Ok, Err, Result, sym, ap, ◌∙◌, subst, arith}
-use Rattle.std.specs.Prelude.{IsErrAnd}
-use Rattle.desk_commands.proofs.Common.{ok_or, HasCleanDisk, Sees, Wears, CommandList, IsValid, Records, records, HoldsLedger, Ledger, ledger_of, FindsIn, seen_in, FindsLedger, Fault, Ghosts, FailsGiven, HasCall, HasSight, Sight, IsReadable, OpenChange, IsOfList, CountsIf, FailsWriting, TakesSteps}
+use Rattle.desk_commands.proofs.Common.{◌≡◌, ◌≤◌, ℕ, Option, Some, Ok, Err, Result, sym, ap, ◌∙◌, subst, arith, IsErrAnd, ok_or, Sees, Wears, CommandList, IsValid, Records, records, HoldsLedger, Ledger, ledger_of, FindsIn, seen_in, FindsLedger, Fault, Ghosts, FailsGiven, HasCall, HasSight, Sight, IsReadable, OpenChange, IsOfList, CountsIf, FailsWriting, le_trans}
 use Rattle.desk_store.specs.Blaming.{FailedBefore}
 
 -- what is there isn't missing
 pub never_missing : {A E : Type 0} (o : Option A) (e f : E) (x : A) → Err f ≡ ok_or o e → o ≡ Some x → ⊥
 never_missing o e f x missing is = let both : Err f ≡ ok_or (Some x) e = missing ∙ ap (λ o. ok_or o e) is in cc
-
--- counts that don't fall
-pub grown : {a b c : ℕ} → a ≤ b → b ≤ c → a ≤ c
-grown low high = omega (arith, low, high)
 
 -- at the exit with this fault, what both words say
 abbrev pub Exits : {S : Type 0} → Ghosts S → (Ledger → Type 0) → OpenChange S → OpenChange S → Fault → Type 0
@@ -39,11 +33,11 @@ module _ {S B : Type 0} {g : Ghosts S} {Given : Ledger → Type 0} {old new : Op
 -- what reads and then writes behind it, where the ledger between can be read
 pub writes_behind : {S B : Type 0} {g : Ghosts S} {Given : Ledger → Type 0} {old mid new : OpenChange S} → old.store.now.calls.failures ≤ mid.store.now.calls.failures → mid.store.now.calls.failures ≤ new.store.now.calls.failures
     → ((sight : Sight) → HasSight g old sight → Given sight.ledger → (next : Ledger) × IsReadable next × Sees HoldsLedger (seen_in g mid) next) → (out : Result B Fault) → FailsWriting g (λ l. Unit {0}) mid new out → FailsWriting g Given old new out
-writes_behind low high means (Ok y) w = record { to = λ sight was. record { failures = grown was.before.failures (grown low high) } }
+writes_behind low high means (Ok y) w = record { to = λ sight was. record { failures = le_trans was.before.failures (le_trans low high) } }
 writes_behind low high means (Err fault) w = record {
   to = λ sight was given.
       let it = means sight was given in
-      w.to (record { ledger = it.0; readable = it.1; failed = sight.failed }) (record { sees = it.2; before = record { failures = grown was.before.failures low } }) tt;
+      w.to (record { ledger = it.0; readable = it.1; failed = sight.failed }) (record { sees = it.2; before = record { failures = le_trans was.before.failures low } }) tt;
 }
 
 -- ---- by what is given

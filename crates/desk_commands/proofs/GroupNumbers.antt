@@ -1,7 +1,5 @@
 -- The groups of a rollout stand at their numbers.
-use Rattle.std.proofs.Common.{◌≡◌, ℕ, zero, suc, ◌+◌, Bool, true, cond, List, [], ◌∷◌, map, set, Some, refl, sym, ap, ◌∙◌, arith, nat_eq, inl, inr}
-use Rattle.std.specs.Prelude.{slice_get}
-use Rattle.desk_commands.proofs.Common.{find, cases_Bool, eq-eqb, eqb-true, item_numbered, CommandList, records, group_holding, GroupRecord, RolloutRecord, set_numbered, numbered_from}
+use Rattle.desk_commands.proofs.Common.{◌≡◌, ℕ, zero, suc, ◌+◌, Bool, true, cond, List, [], ◌∷◌, map, set, Some, refl, sym, ap, ◌∙◌, arith, nat_eq, inl, inr, slice_get, find, cases_Bool, eq-eqb, eqb-true, item_numbered, CommandList, records, group_holding, GroupRecord, RolloutRecord, set_numbered, numbered_from}
 use Rattle.campaign_core.proofs.ItemLemmas.{picked}
 use Rattle.desk_commands.proofs.ItemSteps.{set_is_change}
 use Rattle.desk_commands.proofs.LedgerEnds.{groups_stand}

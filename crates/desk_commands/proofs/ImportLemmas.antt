@@ -1,7 +1,5 @@
 -- What the rows of an import come to.
-use Rattle.std.proofs.Common.{◌≡◌, true, List, [], ◌∷◌, Option, Some, None, option_map, refl, sym, ap, ◌∙◌}
-use Rattle.std.specs.Prelude.{is_some}
-use Rattle.desk_commands.proofs.Common.{stored_target, AddsTarget, are_sorted, renamed, with_changed, with_target, StoredTarget, contains_word, Bytes, TargetRow, Records, change_target, new_target, put_target, Target, target_of, tags_of, are_distinct_words, AddsTags, PutsRows, Renames, Retags, lacking, retagged, tagged_with}
+use Rattle.desk_commands.proofs.Common.{◌≡◌, true, List, [], ◌∷◌, Option, Some, None, option_map, refl, sym, ap, ◌∙◌, is_some, stored_target, AddsTarget, are_sorted, renamed, with_changed, with_target, StoredTarget, contains_word, Bytes, TargetRow, Records, change_target, new_target, put_target, Target, target_of, tags_of, are_distinct_words, AddsTags, PutsRows, Renames, Retags, lacking, retagged, tagged_with}
 use Rattle.desk_commands.proofs.TagLemmas.{all_new}
 use Rattle.desk_commands.proofs.TargetLemmas.{change_twice, find_changed, found, found_id, found_new, ids_sorted, put_new, put_there, unchanged, untagged_row}
 

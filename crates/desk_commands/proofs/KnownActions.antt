@@ -1,9 +1,7 @@
 -- An action that was seen in the tables of a list of accepted commands, and the views of it.
-use Rattle.std.proofs.Common.{◌≡◌, ◌+◌, ℕ, Bool, true, false, cond, ◌&&◌, List, Option, Some, None, option_map, refl, sym, ap, ◌∙◌, subst}
-use Rattle.std.specs.Prelude.{is_some}
-use Rattle.desk_commands.proofs.Common.{is_none, item_numbered, CommandList, Bytes, Credential, rule_at, view_from_group, Records, action_in, records, rollout_in, Reported, standing_of, Standing, group_holding, group_is_started, group_number_of, group_numbered, has_started, is_for, is_started_in, number_of_group, Target, IsValid, target_of, ActionRecord, GroupRecord, RolloutRecord, own_view_of, waits, BothOrNone, IsActionView, IsCancelView, IsFeedbackView, IsDeviceAction, action_for, device_action, only_if, Tally, tally_of, ledger_of, said_of, group_and_next, GroupAndNext, stored_action, stored_rollout, IsSeen, MaySee, SeesIn, SeesFeedback, SeesTarget, action_seen, action_view_seen, cancel_view_seen, only_of, only_started, feedback_view_seen, device_action_seen, seen_if, StandsAt, asked, with_number, SeenAction, SeenFeedback}
+use Rattle.desk_commands.proofs.Common.{◌≡◌, ◌+◌, ℕ, Bool, true, false, cond, ◌&&◌, List, Option, Some, None, option_map, refl, sym, ap, ◌∙◌, subst, is_some, is_none, item_numbered, CommandList, Bytes, Credential, rule_at, view_from_group, Records, action_in, records, rollout_in, Reported, standing_of, Standing, group_holding, group_is_started, group_number_of, group_numbered, has_started, is_for, is_started_in, number_of_group, Target, IsValid, target_of, ActionRecord, GroupRecord, RolloutRecord, own_view_of, waits, BothOrNone, IsActionView, IsCancelView, IsFeedbackView, IsDeviceAction, action_for, device_action, only_if, Tally, tally_of, ledger_of, said_of, group_and_next, GroupAndNext, stored_action, stored_rollout, IsSeen, MaySee, SeesIn, SeesFeedback, SeesTarget, action_seen, action_view_seen, cancel_view_seen, only_of, only_started, feedback_view_seen, device_action_seen, seen_if, StandsAt, asked, with_number, SeenAction, SeenFeedback}
 use Rattle.campaign_core.proofs.PlacedActions.{is_members}
-use Rattle.desk_store.proofs.GroupPlaces.{group_and_next_is}
+use Rattle.desk_store.proofs.GroupPlaces.{group_and_next_at}
 use Rattle.desk_commands.proofs.GroupNumbers.{Numbered, held_stands, numbered_groups, same_groups}
 use Rattle.desk_commands.proofs.ItemSteps.{zip_map}
 use Rattle.desk_commands.proofs.LedgerEnds.{groups_stand}
@@ -45,7 +43,7 @@ pub both_read : (h : CommandList) → IsValid h → (k : ℕ) (a : ActionRecord)
 both_read h valid k a x at there =
     let it = is_members h valid k a x at there in
     let Read : ActionRecord → RolloutRecord → Type 0 = λ b y. group_and_next b.position y.groups ≡ record { group = item_numbered y.groups (group_number_of y b); next = item_numbered y.groups (group_number_of y b + 1) } in
-    let here : Read (action_in h it.place) (rollout_in h it.place.rollout it.placed.rollout) = group_and_next_is it.placed.rollout it.place.rollout h it.placed.sound it.place.position it.placed.low it.placed.high in
+    let here : Read (action_in h it.place) (rollout_in h it.place.rollout it.placed.rollout) = group_and_next_at it.placed.rollout it.place.rollout h it.placed.sound it.place.position it.placed.low it.placed.high in
     subst (λ b. Read b x) (sym it.is) (subst (λ y. Read (action_in h it.place) y) it.same here)
 
 module _ (h : CommandList) (valid : IsValid h) where

@@ -1,7 +1,5 @@
 -- The ledger at the end of a command on rollouts is that of the records after it.
-use Rattle.std.proofs.Common.{◌≡◌, ◌≤◌, ℕ, zero, suc, ◌+◌, true, false, List, [], ◌∷◌, map, length, set, Option, Some, None, option_map, refl, sym, ap, ◌∙◌, subst, arith}
-use Rattle.std.specs.Prelude.{nat_eq, slice_get}
-use Rattle.desk_commands.proofs.Common.{eq-eqb, nat_tests, length-map, item_numbered, CommandList, ◌▸◌, IsWellFormed, Bytes, Command, GroupRule, rules_of, offer, each_from, Records, group_in, rollout_in, change_rollout, step_records, Rollout, rollout_at, group_numbered, IsValid, check, Bounds, GroupRecord, RolloutRecord, numbered_map, records_step, change_numbered, records_are_sound, GroupStarts, group_offers, put_offers, offers_before_start, tally_of, numbers_of, Ledger, ledger_of, set_numbered, with_groups, with_rollouts, StartsGroup, started, with_group, StartsNoGroup, Waits, starts_of, no_record}
+use Rattle.desk_commands.proofs.Common.{◌≡◌, ◌≤◌, ℕ, zero, suc, ◌+◌, true, false, List, [], ◌∷◌, map, length, set, Option, Some, None, option_map, refl, sym, ap, ◌∙◌, subst, arith, nat_eq, slice_get, eq-eqb, nat_tests, length-map, item_numbered, CommandList, ◌▸◌, IsWellFormed, Bytes, Command, GroupRule, rules_of, offer, each_from, Records, group_in, rollout_in, change_rollout, step_records, Rollout, rollout_at, group_numbered, IsValid, check, Bounds, GroupRecord, RolloutRecord, numbered_map, records_step, change_numbered, records_are_sound, GroupStarts, group_offers, put_offers, offers_before_start, tally_of, numbers_of, Ledger, ledger_of, set_numbered, with_groups, with_rollouts, StartsGroup, started, with_group, StartsNoGroup, Waits, starts_of, no_record}
 use Rattle.rollout_machine.specs.Records.{records}
 use Rattle.rollout_machine.proofs.Whole.{rollout_numbered}
 use Rattle.campaign_core.proofs.RolloutLemmas.{rollouts_changed}

@@ -30,3 +30,4 @@ pub mod ActionGroups
 pub mod RolloutExits
 pub mod ActingExits
 pub mod PutExits
+mod Answering

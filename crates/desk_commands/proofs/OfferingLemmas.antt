@@ -1,7 +1,5 @@
 -- What a target is offered, looked up among its actions.
-use Rattle.std.proofs.Common.{◌≡◌, ℕ, zero, suc, Bool, true, false, cond, ◌&&◌, List, [], ◌∷◌, length, set, Option, Some, None, refl, sym, ap, ◌∙◌}
-use Rattle.std.specs.Prelude.{slice_get}
-use Rattle.desk_commands.proofs.Common.{list_any, is_none, item_numbered, same_bytes, CommandList, ◌▸◌, Bytes, Command, Offer, first_offer, offer, has_started, is_for, is_started_in, Reported, Records, IsValid, ActionRecord, RolloutRecord, acted, actor_of, Ledger, SetsOffer, set_numbered, with_offer, any_starts, next_offer, next_offer_from, starts_at, parts_of, Reoffers}
+use Rattle.desk_commands.proofs.Common.{◌≡◌, ℕ, zero, suc, Bool, true, false, cond, ◌&&◌, List, [], ◌∷◌, length, set, Option, Some, None, refl, sym, ap, ◌∙◌, slice_get, list_any, is_none, item_numbered, same_bytes, CommandList, ◌▸◌, Bytes, Command, Offer, first_offer, offer, has_started, is_for, is_started_in, Reported, Records, IsValid, ActionRecord, RolloutRecord, acted, actor_of, Ledger, SetsOffer, set_numbered, with_offer, any_starts, next_offer, next_offer_from, starts_at, parts_of, Reoffers, and_assoc, and_comm}
 use Rattle.offer_laws.proofs.AnyGroup.{started_by_any_then}
 
 -- ---- as the machine says
@@ -15,16 +13,12 @@ module _ (h : CommandList) (c : Command) (valid : IsValid (h ▸ c)) (t : Bytes)
       go None is = refl
       go (Some x) is = sym (started_by_any_then h c k a x valid at is) ∙ ap (λ o. is_started_in o a) is
 
-  turned : (a b c : Bool) → (a && (b && c)) ≡ (b && (a && c))
-  turned true true c = refl
-  turned true false c = refl
-  turned false true c = refl
-  turned false false c = refl
-
   next_from : (n : ℕ) (as' : List ActionRecord) → ((j : ℕ) (a : ActionRecord) → slice_get as' j ≡ Some a → any_starts (acted h c).rollouts a ≡ has_started (acted h c) a) → next_offer_from (acted h c).rollouts t n as' ≡ first_offer (acted h c) t n as'
   next_from n [] all = refl
   next_from n (a ∷ more) all =
-      let whether = turned (same_bytes (actor_of (acted h c).rollouts a) t) (is_none a.outcome) (any_starts (acted h c).rollouts a) ∙ ap (λ b. is_none a.outcome && (is_for (acted h c) t a && b)) (all 0 a refl) in
+      let its = same_bytes (actor_of (acted h c).rollouts a) t in
+      let starts = any_starts (acted h c).rollouts a in
+      let whether = sym (and_assoc its (is_none a.outcome) starts) ∙ ap (λ b. b && starts) (and_comm its (is_none a.outcome)) ∙ and_assoc (is_none a.outcome) its starts ∙ ap (λ b. is_none a.outcome && (is_for (acted h c) t a && b)) (all 0 a refl) in
       λ i. cond (whether i) (Some (record { action = n; canceling = a.canceling })) (next_from (suc n) more (λ j b at. all (suc j) b at) i)
 
   -- any started group that holds the place tells as much as the first group that does

@@ -1,7 +1,5 @@
 -- How a rollout goes on.
-use Rattle.std.proofs.Common.{◌≡◌, ◌≤◌, ◌<◌, ◌⊎◌, inl, inr, ℕ, zero, suc, ◌+◌, Bool, true, false, cond, ◌&&◌, ◌||◌, List, [], ◌∷◌, ◌++◌, map, length, get_or, set, Option, Some, None, refl, sym, ap, ◌∙◌, subst, arith}
-use Rattle.desk_commands.proofs.Common.{or-false, or-true, list_any, eq-eqb, eqb-true, false≢true, ltb-true, nat_tests, take_more, command_reply, item_numbered, CommandList, IsWellFormed, Bytes, RolloutPlan, GroupRule, rule_at, offer, each_from, Records, group_in, records, change_rollout, group_view, last_started, resumed, start_group, step_records, triggered, view_from_group, view_of, Done, Rollout, RolloutWord, group_numbered, rollout_word, check, GroupRecord, RolloutRecord, is_number, NotFound, length_each, BothOrNone, IsResumeView, IsTriggerView, offers_before_start, Ledger, ledger_of, set_numbered, turned, with_groups, with_rollouts, told_plan, IsSeenOf, SeenRollout, StartsGroup, started, GoesOn, IsSeenAt, StartsIf, gone_by, pause_left, starts_by, view_by, at_place}
-use Rattle.std.specs.Prelude.{nat_eq, nat_lt, not, slice_get, take}
+use Rattle.desk_commands.proofs.Common.{◌≡◌, ◌≤◌, ◌<◌, ◌⊎◌, inl, inr, ℕ, zero, suc, ◌+◌, Bool, true, false, cond, ◌&&◌, ◌||◌, List, [], ◌∷◌, ◌++◌, map, length, get_or, set, Option, Some, None, refl, sym, ap, ◌∙◌, subst, arith, nat_eq, nat_lt, not, slice_get, take, or-false, or-true, list_any, eq-eqb, eqb-true, false≢true, ltb-true, nat_tests, take_more, command_reply, item_numbered, CommandList, IsWellFormed, Bytes, RolloutPlan, GroupRule, rule_at, offer, each_from, Records, group_in, records, change_rollout, group_view, last_started, resumed, start_group, step_records, triggered, view_from_group, view_of, Done, Rollout, RolloutWord, group_numbered, rollout_word, check, GroupRecord, RolloutRecord, is_number, NotFound, length_each, BothOrNone, IsResumeView, IsTriggerView, offers_before_start, Ledger, ledger_of, set_numbered, turned, with_groups, with_rollouts, told_plan, IsSeenOf, SeenRollout, StartsGroup, started, GoesOn, IsSeenAt, StartsIf, gone_by, pause_left, starts_by, view_by, at_place, and_parts}
 use Rattle.rollout_machine.specs.Effects.{next_if}
 use Rattle.rollout_machine.specs.declared.view.GroupView.{GroupView}
 use Rattle.rollout_machine.specs.declared.view.RolloutView.{RolloutView}
@@ -117,13 +115,9 @@ next_is : (b : Bool) (l i : ℕ) → next_if b l ≡ Some i → (b ≡ true) × 
 next_is true l i is = (refl, cc)
 next_is false l i is = absurd (cc)
 
-first_part : (a b : Bool) → (a && b) ≡ true → a ≡ true
-first_part true b is = refl
-first_part false b is = absurd (false≢true is)
-
 -- a group that starts is the one after the last, and there is one
 next_group : (going : Going) (v : RolloutView) (i : ℕ) → starts_by going v ≡ Some i → (i ≡ v.last.number + 1) × (v.last.number < v.groups)
-next_group Resumed v i is = let it = next_is _ v.last.number i is in (it.1, ltb-true _ _ (first_part (nat_lt v.last.number v.groups) _ it.0))
+next_group Resumed v i is = let it = next_is _ v.last.number i is in (it.1, ltb-true _ _ (and_parts (nat_lt v.last.number v.groups) _ it.0).0)
 next_group Triggered v i is = let it = next_is _ v.last.number i is in (it.1, ltb-true _ _ it.0)
 
 -- ---- the step

@@ -1,9 +1,8 @@
 -- The ledger behind a row of a put, and between its name and its tags, can be read.
-use Rattle.std.proofs.Common.{◌≡◌, ◌≤◌, ◌<◌, ◌^◌, ◌+◌, ◌&&◌, ℕ, zero, suc, pos, Bool, true, false, cond, inl, inr, List, [], ◌∷◌, map, take, get_or, length, Option, Some, None, Result, Err, refl, sym, ap, ◌∙◌, subst, arith, true≢false}
-use Rattle.desk_commands.proofs.Common.{length-map, flat_map, list_all, and_parts, HasCleanDisk, HoldsLedger, Ledger, ledger_of, IsHeld, Sees, Wears, Fault, Refusal, CommandList, ◌▸◌, IsValid, Records, records, records_step, step_records, put_targets, change_target, Bytes, Attribute, TargetRow, PutTargets, Target, check, same_bytes, renamed, with_changed, attribute_rows, tag_rows, target_row, Has, is_digest, is_tag_list, is_text, is_value, is_word, limits_hold, broken_attribute_column, broken_listed_column, broken_target_column, BreaksColumn, IsReadable, second_shown, third_shown, seen_in, OpenChange, Ghosts, FailsWriting, TakesRow, TakesRows}
+use Rattle.desk_commands.proofs.Common.{◌≡◌, ◌≤◌, ◌<◌, ◌^◌, ◌&&◌, ℕ, zero, suc, pos, Bool, true, false, cond, inl, inr, List, [], ◌∷◌, take, get_or, length, Option, Some, None, Result, Err, refl, sym, ap, ◌∙◌, subst, arith, true≢false, length-map, list_all, and_parts, HasCleanDisk, HoldsLedger, ledger_of, IsHeld, Sees, Wears, Fault, Refusal, CommandList, ◌▸◌, IsValid, Records, records, records_step, step_records, put_targets, change_target, Bytes, Attribute, TargetRow, PutTargets, Target, check, same_bytes, renamed, with_changed, attribute_rows, tag_rows, target_row, Has, is_digest, is_tag_list, is_text, is_value, is_word, limits_hold, broken_attribute_column, broken_listed_column, broken_target_column, BreaksColumn, IsReadable, second_shown, third_shown, seen_in, OpenChange, Ghosts, FailsWriting, TakesRow, TakesRows, le_trans, has_flat, kept_to}
 use Rattle.sqlite_value.specs.Order.{Row}
 use Rattle.sqlite_value.specs.declared.value.Value.TheVariants.{Int, Text}
-use Rattle.sqlite_rules.proofs.ListLemmas.{has_either, test_has}
+use Rattle.sqlite_rules.proofs.ListLemmas.{test_has}
 use Rattle.sql_calls.proofs.Counts.{length_held}
 use Rattle.rollout_model.specs.Pairs.{is_attribute}
 use Rattle.rollout_model.specs.Rows.{is_target_row}
@@ -13,17 +12,10 @@ use Rattle.desk_records.specs.declared.module_row.Column.{Column}
 use Rattle.desk_records.proofs.HeldTables.{wanted_of}
 use Rattle.desk_records.proofs.Membership.{has_mapped}
 use Rattle.desk_reads.proofs.TargetRules.{KeepsTarget, targets_keep}
-use Rattle.desk_commands.proofs.FailureLemmas.{Exits, grown}
+use Rattle.desk_commands.proofs.FailureLemmas.{Exits}
 use Rattle.desk_commands.proofs.PutLemmas.{PutsSoFar, few_left, within_quota}
 
 -- ---- other targets
-
-has_flat : {X Y : Type 0} (f : X → List Y) (xs : List X) (y : Y) → Has (flat_map f xs) y → (x : X) × Has xs x × Has (f x) y
-has_flat f [] y among = absurd among
-has_flat f (x ∷ xs) y among = elim (has_either (f x) (flat_map f xs) y among) [
-  | inl here ↦ (x, inl refl, here)
-  | inr later ↦ (let it = has_flat f xs y later in (it.0, inr it.1, it.2))
-]
 
 unbroken : (column : Option Column) → column ≡ None → BreaksRule column → ⊥
 unbroken column none broken = let told : None ≡ Some broken.first = sym none ∙ broken.is in absurd cc
@@ -76,11 +68,6 @@ module _ (r : Records) (w : IsReadable (ledger_of r)) (ts : List Target) (keep :
 
 -- ---- between two rows
 
-all_taken : {X : Type 0} (p : X → Bool) (n : ℕ) (xs : List X) → list_all p xs ≡ true → list_all p (take n xs) ≡ true
-all_taken p zero xs all = refl
-all_taken p (suc n) [] all = refl
-all_taken p (suc n) (x ∷ xs) all = let parts = and_parts (p x) (list_all p xs) all in rw (parts.0, all_taken p n xs parts.1) refl
-
 module _ (h : CommandList) (valid : IsValid h) (rows : List TargetRow) (good : list_all is_target_row rows ≡ true) (few : length (step_records (records h) (PutTargets rows)).targets ≤ 10000) where
   accepted : check (records h) (PutTargets rows) ≡ None
   accepted = within_quota (records h) rows few
@@ -132,14 +119,14 @@ rows_end {g = g} {old = old} {mid = mid} rows row k below at left so_far grows w
     let of = given.of_list in
     let h = of.list in
     let so = so_far.puts h of.valid (subst (Sees HoldsLedger (seen_in g old)) of.is was.sees) in
-    let good = all_taken is_target_row k rows given.rows_keep in
+    let good = kept_to is_target_row k rows given.rows_keep in
     record {
       call = λ store clean.
           let quiet : HasCleanDisk (seen_in g mid) = omega (arith, clean, wears) in
           let few = few_left left (step_records (records h) (PutTargets (take k rows))) (so.1 quiet) in
           (w.to
           (record { ledger = ledger_of (step_records (records h) (PutTargets (take k rows))); readable = put_readable h of.valid (take k rows) good few (subst IsReadable of.is sight.readable); failed = sight.failed })
-          (record { sees = so.0; before = record { failures = grown was.before.failures grows } })
+          (record { sees = so.0; before = record { failures = le_trans was.before.failures grows } })
           (record {
             of_list = record { list = h ▸ PutTargets (take k rows); valid = put_valid h of.valid (take k rows) good few; is = ap ledger_of (put_is h of.valid (take k rows) good few) };
             row_keeps = good_at is_target_row rows k row below at given.rows_keep;

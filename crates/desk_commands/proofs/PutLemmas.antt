@@ -1,7 +1,5 @@
 -- Rows of targets that are put one after the other, as far as the desk takes them.
-use Rattle.std.proofs.Common.{◌≡◌, ◌≤◌, ◌<◌, ◌+◌, ◌-◌, ℕ, suc, Bool, true, false, cond, ◌||◌, nat_lt, List, [], ◌∷◌, ◌++◌, length, get_or, take, drop, Option, Some, None, option_map, Ok, Err, refl, sym, ap, ◌∙◌, subst, arith}
-use Rattle.std.specs.Prelude.{is_some}
-use Rattle.desk_commands.proofs.Common.{nat_tests, map-append, take_more, take_all, take-append-drop, length-map, State, HasCleanDisk, Finds, Makes, Sees, Wears, HoldsLedger, ledger_of, stored_target, are_sorted, ids_of, StoredTarget, same_bytes, bytes_below, contains_word, with_word, with_words, CommandList, Bytes, TargetRow, PutTargets, Records, records, new_target, put_target, put_targets, step_records, Target, IsValid, check, target_of, same_sym, same_true, Refusal, Quota, HasRoom, IsTooMany, LeavesRoom, PutsAll, PutsRow, ids_after, row_ids, with_row, with_there, limits_hold}
+use Rattle.desk_commands.proofs.Common.{◌≡◌, ◌≤◌, ◌<◌, ◌+◌, ◌-◌, ℕ, suc, Bool, true, false, cond, ◌||◌, nat_lt, List, [], ◌∷◌, ◌++◌, length, get_or, take, drop, Option, Some, None, option_map, Ok, Err, refl, sym, ap, ◌∙◌, subst, arith, is_some, nat_tests, map-append, take_more, take_all, take-append-drop, length-map, State, HasCleanDisk, Finds, Makes, Sees, Wears, HoldsLedger, ledger_of, stored_target, are_sorted, ids_of, StoredTarget, same_bytes, bytes_below, contains_word, with_word, with_words, CommandList, Bytes, TargetRow, PutTargets, Records, records, new_target, put_target, put_targets, step_records, Target, IsValid, check, target_of, same_sym, same_true, Refusal, Quota, HasRoom, IsTooMany, LeavesRoom, PutsAll, PutsRow, ids_after, row_ids, with_row, with_there, limits_hold}
 use Rattle.desk_commands.proofs.ByteOrderLemmas.{count_with}
 use Rattle.desk_commands.proofs.TargetLemmas.{found, ids_sorted}
 

@@ -1,6 +1,5 @@
 -- How a report stands among what its action has heard, by the last number.
-use Rattle.std.proofs.Common.{◌≡◌, ℕ, suc, Bool, true, false, cond, List, [], ◌∷◌, length, Option, Some, None, option_map, refl, sym, ap, ◌∙◌, subst, nat_eq, nat_lt, ◌&&◌, ◌≤◌, arith}
-use Rattle.desk_commands.proofs.Common.{is_none, last_or, list_all, false≢true, nat_tests, item_numbered, Records, records, HistoryEntry, Reported, against, entries_in, same_entry, Standing, ActionRecord, numbered_map, history_of, last_number, numbers_numbered, numbers_of, Ledger, ledger_of, parts_of, PlacedNumber, StandsAgainst, StandsAmong, StandsAt, number_asked, SeenAction, details_kept, IsLastOf}
+use Rattle.desk_commands.proofs.Common.{◌≡◌, ℕ, suc, Bool, true, false, cond, List, [], ◌∷◌, length, Option, Some, None, option_map, refl, sym, ap, ◌∙◌, subst, nat_eq, nat_lt, ◌&&◌, ◌≤◌, arith, is_none, last_or, list_all, false≢true, nat_tests, item_numbered, Records, records, HistoryEntry, Reported, against, entries_in, same_entry, Standing, ActionRecord, numbered_map, history_of, last_number, numbers_numbered, numbers_of, Ledger, ledger_of, parts_of, PlacedNumber, StandsAgainst, StandsAmong, StandsAt, number_asked, SeenAction, details_kept, IsLastOf}
 use Rattle.rollout_machine.specs.declared.standing.Standing.TheVariants.{Fresh, Again, Old}
 use Rattle.desk_records.specs.declared.number_row.LastNumber.{LastNumber}
 use Rattle.desk_records.proofs.NumberLists.{BearsLast, bears_last}

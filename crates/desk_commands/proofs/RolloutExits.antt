@@ -1,6 +1,5 @@
 -- What a step on a rollout that is seen rests on is there.
-use Rattle.std.proofs.Common.{◌≡◌, ◌≤◌, ◌<◌, ◌≢◌, ℕ, ◌+◌, Bool, List, Option, Some, None, length, slice_get, refl, sym, ap, ◌∙◌, subst, arith}
-use Rattle.desk_commands.proofs.Common.{zip, ok_or, length-map, item_numbered, CommandList, IsValid, GroupRule, rule_at, rules_of, Records, records, Bytes, last_started, GroupRecord, RolloutRecord, Ledger, ledger_of, tally_of, IsSeenOf, SeenRollout, GoesOn, StartsIf, ReadsMembers, of_rollout, invariant_of, limits_hold, at_place, members_of, rule_numbered, rule_there, rules_there, CanStart, HasItem, IsSeenFrom, IsSeenIn, EndsBeyond}
+use Rattle.desk_commands.proofs.Common.{◌≡◌, ◌≤◌, ◌≢◌, ℕ, ◌+◌, Bool, List, Option, Some, None, length, slice_get, refl, sym, ap, ◌∙◌, subst, arith, zip, item_numbered, CommandList, IsValid, GroupRule, rule_at, records, Bytes, last_started, GroupRecord, RolloutRecord, Ledger, ledger_of, SeenRollout, GoesOn, StartsIf, ReadsMembers, of_rollout, invariant_of, limits_hold, at_place, members_of, rule_numbered, rule_there, rules_there, CanStart, HasItem, IsSeenFrom, IsSeenIn, EndsBeyond}
 use Rattle.rollout_machine.proofs.Ties.{last_is}
 use Rattle.desk_commands.proofs.ActionGroups.{group_ends}
 use Rattle.desk_commands.proofs.ProgressLemmas.{groups_count}

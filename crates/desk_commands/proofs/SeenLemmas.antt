@@ -1,6 +1,5 @@
 -- An action as it is seen, and the views that the rules of commands rest on.
-use Rattle.std.proofs.Common.{◌≡◌, ℕ, Option, Some, None, option_map, Ok, refl, sym, ap, ◌∙◌, subst}
-use Rattle.desk_commands.proofs.Common.{zip, ok_or, item_numbered, GroupRule, ActionRecord, GroupRecord, RolloutRecord, OwnView, Tally, Ledger, stored_action, stored_rollout, group_and_next, GroupAndNext, StoredAction, IsSeen, SeesIn, own_seen, SeenAction, groups_of, rule_numbered, StoredRollout}
+use Rattle.desk_commands.proofs.Common.{◌≡◌, ℕ, Option, Some, None, option_map, Ok, refl, sym, ap, ◌∙◌, subst, zip, ok_or, item_numbered, GroupRule, ActionRecord, GroupRecord, RolloutRecord, OwnView, Tally, Ledger, stored_action, stored_rollout, group_and_next, GroupAndNext, StoredAction, IsSeen, SeesIn, own_seen, SeenAction, groups_of, rule_numbered, StoredRollout}
 
 -- ---- an action with its group and its rollout
 

@@ -1,7 +1,5 @@
 -- What is said of a rollout as a whole.
-use Rattle.std.proofs.Common.{◌≡◌, ℕ, true, Option, Some, None, Result, Ok, Err, refl, sym, ap, ◌∙◌}
-use Rattle.std.specs.Prelude.{MatchResult}
-use Rattle.desk_commands.proofs.Common.{option_map, command_reply, item_numbered, CommandList, IsWellFormed, Bytes, Command, offer, Records, records, change_rollout, step_records, Done, RolloutWord, rollout_word, IsValid, check, RolloutRecord, is_number, Refusal, NotFound, AreSound, BothOrNone, Decides, IsStandingView, IsViewOf, RolloutChange, RolloutCommandView, offers_before_start, ledger_of, turned, IsSeenOf, SeenRollout, IsSeenAt, WritesSaid, approval_after, paused_after, said_by, AreOfList}
+use Rattle.desk_commands.proofs.Common.{◌≡◌, ℕ, true, Option, Some, None, Result, Ok, Err, refl, sym, ap, ◌∙◌, MatchResult, option_map, command_reply, item_numbered, CommandList, IsWellFormed, Bytes, Command, offer, Records, records, change_rollout, step_records, Done, RolloutWord, rollout_word, IsValid, check, RolloutRecord, is_number, Refusal, NotFound, AreSound, BothOrNone, Decides, IsStandingView, IsViewOf, RolloutChange, RolloutCommandView, offers_before_start, ledger_of, turned, IsSeenOf, SeenRollout, IsSeenAt, WritesSaid, approval_after, paused_after, said_by, AreOfList}
 use Rattle.campaign_core.proofs.ItemLemmas.{IsFound, found}
 use Rattle.desk_commands.specs.declared.standing.Said.{Said}
 use Rattle.desk_commands.specs.declared.standing.Said.TheVariants.{Approved, Denied, Paused}

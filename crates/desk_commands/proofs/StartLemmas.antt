@@ -1,6 +1,5 @@
 -- The start of a rollout, from what is read to what is written.
-use Rattle.std.proofs.Common.{◌≡◌, ◌≤◌, ◌<◌, ◌||◌, ℕ, zero, suc, ◌+◌, Bool, true, false, not, cond, nat_eq, List, [], ◌∷◌, ◌++◌, map, get_or, take, drop, length, slice_get, Option, Some, None, refl, sym, ap, subst, ◌∙◌, arith, append-nil, append_assoc}
-use Rattle.desk_commands.proofs.Common.{or-false, or-true, zip, unwrap_or, nat_tests, length-append, length-map, map-append, take_all, item_numbered, CommandList, Bytes, Start, each_from, Approval, Denied, Given, Waiting, Records, group_in, records, rollout_in, begin_rollout, change_rollout, new_action, new_actions, start_group, step_records, Rollout, is_finished, word_from, IsValid, check, is_ready, ActionRecord, GroupRecord, RolloutRecord, each_from_more, length_each, is_number, NotFound, WrongState, records_are_sound, actor_of, tally_of, numbers_of, Ledger, ledger_of, AddsAction, SetsRollout, scheduled, set_numbered, turned, with_actions, with_groups, with_numbers, with_rollouts, SeenRollout, StartsGroup, started, AddsActions, ReadsMembers, StartsWhole, and_actions, new_for, never_started, members_of}
+use Rattle.desk_commands.proofs.Common.{◌≡◌, ◌≤◌, ◌<◌, ◌||◌, ℕ, zero, suc, ◌+◌, Bool, true, false, not, cond, nat_eq, List, [], ◌∷◌, ◌++◌, map, get_or, take, drop, length, slice_get, Option, Some, None, refl, sym, ap, subst, ◌∙◌, arith, append-nil, append_assoc, or-false, or-true, zip, unwrap_or, nat_tests, length-append, length-map, map-append, take_all, item_numbered, CommandList, Bytes, Start, each_from, Approval, Denied, Given, Waiting, Records, group_in, records, rollout_in, begin_rollout, change_rollout, new_action, new_actions, start_group, step_records, Rollout, is_finished, word_from, IsValid, check, is_ready, ActionRecord, GroupRecord, RolloutRecord, each_from_more, length_each, is_number, NotFound, WrongState, records_are_sound, actor_of, tally_of, numbers_of, Ledger, ledger_of, AddsAction, SetsRollout, scheduled, set_numbered, turned, with_actions, with_groups, with_numbers, with_rollouts, SeenRollout, StartsGroup, started, AddsActions, ReadsMembers, StartsWhole, and_actions, new_for, never_started, members_of}
 use Rattle.std.proofs.lemmas.Option.{slice_get_read}
 use Rattle.rollout_machine.specs.Actions.{places_from}
 use Rattle.desk_commands.proofs.ItemSteps.{set_twice}

@@ -1,7 +1,5 @@
 -- What the writes of a target's tags come to.
-use Rattle.std.proofs.Common.{◌≡◌, ◌≤◌, ◌<◌, ◌-◌, Bool, true, false, cond, ◌||◌, ◌&&◌, not, nat_eq, List, [], ◌∷◌, length, get_or, take, drop, Option, Some, None, option_map, refl, sym, ap, ◌∙◌, subst, arith}
-use Rattle.std.specs.Prelude.{is_some}
-use Rattle.desk_commands.proofs.Common.{list_any, pointwise, and_parts, false≢true, take_all, AddsTag, are_sorted, tagged, untagged, with_changed, same_bytes, contains_word, with_word, with_words, without_word, sorted_words, Bytes, Records, Target, target_of, tags_of, IsSorted, sorted_with_all, has_sorted, has_with, has_without, same_pointwise, same_refl, same_sym, same_true, are_distinct_words, is_tag_list, AddsTags, DropsTags, Retags, lacking, retagged, tagged_with, untagged_from, without_words}
+use Rattle.desk_commands.proofs.Common.{◌≡◌, ◌≤◌, ◌<◌, ◌-◌, Bool, true, false, cond, ◌||◌, ◌&&◌, not, nat_eq, List, [], ◌∷◌, length, get_or, take, drop, Option, Some, None, option_map, refl, sym, ap, ◌∙◌, subst, arith, is_some, list_any, pointwise, and_parts, false≢true, take_all, AddsTag, are_sorted, tagged, untagged, with_changed, same_bytes, contains_word, with_word, with_words, without_word, sorted_words, Bytes, Records, Target, target_of, tags_of, IsSorted, sorted_with_all, has_sorted, has_with, has_without, same_pointwise, same_refl, same_sym, same_true, are_distinct_words, is_tag_list, AddsTags, DropsTags, Retags, lacking, retagged, tagged_with, untagged_from, without_words, not-true, or_assoc, or_comm, or_right, and-false}
 use Rattle.rollout_machine.proofs.Orders.{sorted_all, sorted_without}
 use Rattle.desk_commands.proofs.ByteOrderLemmas.{same_words}
 use Rattle.desk_commands.proofs.TargetLemmas.{changed_as, change_twice, find_changed, ids_sorted, no_change, tags_sorted}
@@ -10,12 +8,7 @@ use Rattle.desk_commands.proofs.TargetLemmas.{changed_as, change_twice, find_cha
 
 pub has_all : (x : Bytes) (us vs : List Bytes) → contains_word x (with_words us vs) ≡ (contains_word x us || contains_word x vs)
 has_all x [] vs = refl
-has_all x (u ∷ us) vs = has_all x us (with_word u vs) ∙ ap (λ c. contains_word x us || c) (has_with x u vs) ∙ turned (contains_word x us) (same_bytes x u) (contains_word x vs) where
-  turned : (a b c : Bool) → (a || (b || c)) ≡ ((b || a) || c)
-  turned true true c = refl
-  turned true false c = refl
-  turned false true c = refl
-  turned false false c = refl
+has_all x (u ∷ us) vs = has_all x us (with_word u vs) ∙ ap (λ c. contains_word x us || c) (has_with x u vs) ∙ sym (or_assoc (contains_word x us) (same_bytes x u) (contains_word x vs)) ∙ ap (λ c. c || contains_word x vs) (or_comm (contains_word x us) (same_bytes x u))
 
 lacks_all : (x : Bytes) (us vs : List Bytes) → contains_word x (without_words us vs) ≡ (not (contains_word x us) && contains_word x vs)
 lacks_all x [] vs = refl
@@ -36,11 +29,7 @@ has_lacking x (u ∷ us) vs = go (contains_word u vs) (same_bytes x u) refl refl
       → contains_word x (cond (not b) (u ∷ lacking us vs) (lacking us vs)) ≡ ((s || contains_word x us) && not (contains_word x vs))
   go true true is same rest =
       let no : not (contains_word x vs) ≡ false = ap not (there true same is) in
-      rest ∙ ap (λ c. contains_word x us && c) no ∙ none (contains_word x us) ∙ sym no
-    where
-      none : (a : Bool) → (a && false) ≡ false
-      none true = refl
-      none false = refl
+      rest ∙ ap (λ c. contains_word x us && c) no ∙ and-false (contains_word x us) ∙ sym no
   go true false is apart rest = rest
   go false true is same rest = ap (λ s. s || contains_word x (lacking us vs)) same ∙ sym (ap not (there false same is))
   go false false is apart rest = ap (λ s. s || contains_word x (lacking us vs)) apart ∙ rest
@@ -78,15 +67,11 @@ pub any_word : (w : Bytes) (ws : List Bytes) → list_any (λ v. pointwise nat_e
 any_word w [] = refl
 any_word w (v ∷ ws) = λ i. (same_pointwise v w ∙ same_sym v w) i || any_word w ws i
 
-not_true : (b : Bool) → not b ≡ true → b ≡ false
-not_true true h = absurd (false≢true h)
-not_true false h = refl
-
 pub tags_distinct : (ws tags : List Bytes) → is_tag_list ws ≡ true → ws ≡ tags → are_distinct_words tags ≡ true
 tags_distinct ws tags good is = ap are_distinct_words (sym is) ∙ (and_parts _ _ (and_parts _ _ good).1).1
 
 first_apart : (w : Bytes) (ws : List Bytes) → are_distinct_words (w ∷ ws) ≡ true → contains_word w ws ≡ false
-first_apart w ws distinct = sym (any_word w ws) ∙ not_true _ (and_parts _ _ distinct).0
+first_apart w ws distinct = sym (any_word w ws) ∙ not-true _ (and_parts _ _ distinct).0
 
 -- ---- the tags that are dropped
 
@@ -117,13 +102,9 @@ pub has_first : (id w : Bytes) (tags had : List Bytes) → contains_word w had �
 has_first id w tags had is r next h = record {
   is_there = h.is_there;
   are_distinct = (and_parts _ _ h.are_distinct).1;
-  are_new = λ v among other. h.are_new v (later (same_bytes v w) (contains_word v tags) among) other;
+  are_new = λ v among other. h.are_new v (or_right (same_bytes v w) (contains_word v tags) among) other;
   next_is = h.next_is ∙ ap (λ c. with_changed r id (tagged_with (cond (not c) (w ∷ lacking tags had) (lacking tags had)))) is;
 }
-  where
-    later : (s c : Bool) → c ≡ true → (s || c) ≡ true
-    later true c is = refl
-    later false c is = is
 
 there_after : (o : Option Target) (w : Bytes) → is_some o ≡ true → (is_some (option_map (tagged w) o) ≡ true) × (tags_of (option_map (tagged w) o) ≡ with_word w (tags_of o))
 there_after None w is = absurd (false≢true is)
@@ -144,17 +125,13 @@ adds_first id w tags had is r next h =
             ap (λ o. contains_word v (tags_of o)) now
             ∙ ap (contains_word v) after.1
             ∙ has_with v w (tags_of (target_of r id))
-            ∙ (λ i. apart v among i || h.are_new v (later (same_bytes v w) (contains_word v tags) among) other i);
+            ∙ (λ i. apart v among i || h.are_new v (or_right (same_bytes v w) (contains_word v tags) among) other i);
         next_is = h.next_is
             ∙ ap (λ c. with_changed r id (tagged_with (cond (not c) (w ∷ lacking tags had) (lacking tags had)))) is
             ∙ sym (ap (λ (ts : List Target). record r { targets = ts }) (change_twice id (tagged w) (λ t. refl) (tagged_with (lacking tags had)) r.targets));
       },
     )
   where
-    later : (s c : Bool) → c ≡ true → (s || c) ≡ true
-    later true c is = refl
-    later false c is = is
-
     apart : (v : Bytes) → contains_word v tags ≡ true → same_bytes v w ≡ false
     apart v among = go (same_bytes v w) refl where
       go : (s : Bool) → same_bytes v w ≡ s → s ≡ false
@@ -184,17 +161,13 @@ retags_parts id words had distinct r next sorted read h = go (target_of r id) re
               ap (λ u. contains_word w (tags_of u)) now
               ∙ lacks_all w (lacking had words) t.tags
               ∙ ap (λ c. not (contains_word w (lacking had words)) && c) (ap (contains_word w) (sym had_is) ∙ new)
-              ∙ none (not (contains_word w (lacking had words)));
+              ∙ and-false (not (contains_word w (lacking had words)));
           next_is = h.1
               ∙ ap (λ (ts : List Target). record r { targets = ts })
               (sym (change_twice id dropped (λ u. refl) (tagged_with (lacking words had)) r.targets
               ∙ changed_as id (λ u. tagged_with (lacking words had) (dropped u)) (retagged words) r.targets t (ids_sorted r.targets sorted) is (ap (λ (us : List Bytes). record t { tags = us }) tags)));
         },
       )
-    where
-      none : (a : Bool) → (a && false) ≡ false
-      none true = refl
-      none false = refl
 
 -- ---- the tags in a slice
 

@@ -1,6 +1,5 @@
 -- Giving a target a tag, and taking it.
-use Rattle.std.proofs.Common.{◌≡◌, ◌≤◌, ◌<◌, Bool, true, false, List, length, Option, Some, None, option_map, is_none, is_some, not, nat_le, refl, sym, ap, ◌∙◌, arith}
-use Rattle.desk_commands.proofs.Common.{false≢true, nat_tests, stored_target, StoredTarget, are_sorted, tagged, AddsTag, contains_word, Bytes, Tag, Untag, Records, step_records, Target, check, tags_of, target_of, NotFound, Quota, with_there}
+use Rattle.desk_commands.proofs.Common.{◌≡◌, ◌≤◌, ◌<◌, Bool, true, false, List, length, Option, Some, None, option_map, is_none, is_some, not, nat_le, refl, sym, ap, ◌∙◌, arith, false≢true, nat_tests, stored_target, StoredTarget, are_sorted, tagged, AddsTag, contains_word, Bytes, Tag, Untag, Records, step_records, Target, check, tags_of, target_of, NotFound, Quota, with_there}
 use Rattle.desk_commands.proofs.TargetLemmas.{ids_sorted, tags_sorted, unchanged}
 
 -- a target isn't there where nothing is kept of it

@@ -1,6 +1,5 @@
 -- Targets as single writes change them.
-use Rattle.std.proofs.Common.{◌≡◌, Bool, true, false, cond, List, [], ◌∷◌, Option, Some, None, option_map, refl, sym, ap, ◌∙◌, subst}
-use Rattle.desk_commands.proofs.Common.{find, list_all, and_parts, ids_of, is_sorted, are_sorted, same_bytes, bytes_below, Bytes, TargetRow, change_target, new_target, put_target, Target, AllAbove, IsSorted, above_more, below_apart, same_refl, same_sym, same_true, sorted_from}
+use Rattle.desk_commands.proofs.Common.{◌≡◌, Bool, true, false, cond, List, [], ◌∷◌, Option, Some, None, option_map, refl, sym, ap, ◌∙◌, subst, find, list_all, and_parts, ids_of, is_sorted, are_sorted, same_bytes, bytes_below, Bytes, TargetRow, change_target, new_target, put_target, Target, AllAbove, IsSorted, above_more, below_apart, same_refl, same_sym, same_true, sorted_from}
 
 -- the target of an id
 abbrev pub found : Bytes → List Target → Option Target

@@ -1,8 +1,6 @@
 -- What is told of an action and what becomes of it, write by write.
-use Rattle.desk_commands.proofs.Common.{Then, item_numbered, Bytes, Reported, Outcome, ActionRecord, action_with, RolloutChange, ActionChange, StaysOpen, Ends, borne_at, Ledger, AddsEntry, AddsNumber, SetsAction, and_entry, set_numbered, with_actions, with_numbers, PlacedNumber, StoredAction, Acts, ActsBy, Follows, MayAct, TellsAction, action_change_of, canceling_by, outcome_by, stays_offered, MayReoffer, Reoffers, TellsReports, WritesNumber, WritesTold, entries_by, notes_by, numbers_by, tally_by, with_reports, SeenAction, Told}
+use Rattle.desk_commands.proofs.Common.{◌≡◌, ℕ, ◌+◌, Bool, true, false, List, [], ◌∷◌, ◌++◌, Option, Some, None, refl, sym, ap, ◌∙◌, subst, is_some, Then, item_numbered, Bytes, Reported, Outcome, ActionRecord, action_with, RolloutChange, ActionChange, StaysOpen, Ends, borne_at, Ledger, AddsEntry, AddsNumber, SetsAction, and_entry, set_numbered, with_actions, with_numbers, PlacedNumber, StoredAction, Acts, ActsBy, Follows, MayAct, TellsAction, action_change_of, canceling_by, outcome_by, stays_offered, MayReoffer, Reoffers, TellsReports, WritesNumber, WritesTold, entries_by, notes_by, numbers_by, tally_by, with_reports, SeenAction, Told}
 use Rattle.desk_records.specs.LedgerSteps.{acted}
-use Rattle.std.proofs.Common.{◌≡◌, ℕ, ◌+◌, Bool, true, false, List, [], ◌∷◌, ◌++◌, Option, Some, None, refl, sym, ap, ◌∙◌, subst}
-use Rattle.std.specs.Prelude.{is_some}
 use Rattle.desk_commands.proofs.ItemSteps.{append_none, set_same, set_twice, zip_at, zip_set}
 
 -- ---- the history and its numbers

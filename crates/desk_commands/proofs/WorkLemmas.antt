@@ -1,6 +1,5 @@
 -- What a feedback takes: a new report is told, and of another one no more is read than the entry that bears its number.
-use Rattle.std.proofs.Common.{◌≡◌, ◌≤◌, ℕ, ◌+◌, Bool, true, false, cond, Option, Some, None, refl, ap, arith}
-use Rattle.desk_commands.proofs.Common.{Standing, says_fresh, more_reads, reads_for, if_numbered}
+use Rattle.desk_commands.proofs.Common.{◌≡◌, ◌≤◌, ℕ, ◌+◌, Bool, true, false, cond, Option, Some, None, refl, ap, arith, Standing, says_fresh, more_reads, reads_for, if_numbered}
 use Rattle.sql_calls.specs.declared.calls.Work.{Work}
 use Rattle.desk_store.specs.Counting.{Adds}
 

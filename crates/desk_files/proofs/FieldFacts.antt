@@ -1,6 +1,5 @@
 -- Records of four fields, and fields that are no text.
-use Rattle.std.proofs.Common.{◌≡◌, ◌<◌, ◌≤◌, ◌==◌, ℕ, List, [], ◌∷◌, length, Bool, true, false, cond, Option, Some, None, refl, arith, nat_le, count_by, Bor, get_or, map, take, ◌+◌, ◌++◌, sym, ◌∙◌}
-use Rattle.desk_files.proofs.Common.{list_all, slice_split, map-append, take_more, list_all-map, list_all_at, nat_tests, is_spelled, is_text, is_text_letter, is_token, is_word, tag_list_of, text_of, token_of, word_of, both, spelled_is_utf8, tags_of}
+use Rattle.desk_files.proofs.Common.{◌≡◌, ◌<◌, ◌≤◌, ◌==◌, ℕ, List, [], ◌∷◌, length, Bool, true, false, cond, Option, Some, None, refl, arith, nat_le, count_by, Bor, get_or, map, take, ◌+◌, ◌++◌, sym, ◌∙◌, list_all, slice_split, map-append, take_more, list_all-map, list_all_at, nat_tests, is_spelled, is_text, is_text_letter, is_token, is_word, tag_list_of, text_of, token_of, word_of, both, spelled_is_utf8, tags_of}
 use Rattle.std.proofs.lemmas.List.Splits.{length-slice_split}
 use Rattle.std.specs.Str.{IsUtf8, is_utf8}
 use Rattle.std.proofs.lemmas.Str.{IsUtf8-from_is_utf8}

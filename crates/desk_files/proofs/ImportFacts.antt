@@ -1,6 +1,5 @@
 -- What the records so far say of the whole import.
-use Rattle.std.proofs.Common.{◌≡◌, ◌<◌, ◌≤◌, ◌+◌, ℕ, zero, suc, List, [], ◌∷◌, ◌++◌, length, take, Bool, true, false, Some, None, is_none, unwrap_or, Ok, Err, Bor, refl, sym, ◌∙◌, ap, arith, add-zero, length-append, append_assoc, below_more, codes, nat_eq}
-use Rattle.desk_files.proofs.Common.{ends_with, find, range_with_len, false≢true, true≢false, append-nil, Reader, are_distinct_words, TargetRow, each_row, faulty_line, ids_of, import_of, is_header, records_of, rows_of, targets_of, HasIds, Pushes, row_behind, Gives, GivesNext, Record, ImportedRows}
+use Rattle.desk_files.proofs.Common.{◌≡◌, ◌<◌, ◌≤◌, ◌+◌, ℕ, zero, suc, List, [], ◌∷◌, ◌++◌, length, take, Bool, true, false, Some, None, is_none, unwrap_or, Ok, Err, Bor, refl, sym, ◌∙◌, ap, arith, add-zero, length-append, append_assoc, below_more, codes, nat_eq, ends_with, find, range_with_len, false≢true, true≢false, append-nil, Reader, are_distinct_words, TargetRow, each_row, faulty_line, ids_of, import_of, is_header, records_of, rows_of, targets_of, HasIds, Pushes, row_behind, Gives, GivesNext, Record, ImportedRows}
 use Rattle.desk_files.proofs.StepFacts.{rows_fault, rows_more}
 
 -- the header and the records that were taken, before those that the reader still gives

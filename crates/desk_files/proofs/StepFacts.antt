@@ -1,6 +1,5 @@
 -- How the rows and their ids go on by one record.
-use Rattle.std.proofs.Common.{◌≡◌, ◌&&◌, ◌||◌, ℕ, List, [], ◌∷◌, ◌++◌, Bool, true, false, not, cond, nat_eq, nat_cmp, Option, Some, None, option_map, option_and_then, BTreeSet, refl, sym, ◌∙◌, ap}
-use Rattle.desk_files.proofs.Common.{list_any, false≢true, true≢false, map-append, list_any-append, are_distinct_words, TargetRow, distinct_rows, each_row, ids_of, HasIds, Pushes, TakesRow, has_id, if_new, row_behind, Record, row_of, ImportedRows}
+use Rattle.desk_files.proofs.Common.{◌≡◌, ◌&&◌, ◌||◌, ℕ, List, [], ◌∷◌, ◌++◌, Bool, true, false, not, cond, nat_eq, nat_cmp, Option, Some, None, option_map, option_and_then, BTreeSet, refl, sym, ◌∙◌, ap, list_any, false≢true, true≢false, map-append, list_any-append, are_distinct_words, TargetRow, distinct_rows, each_row, ids_of, HasIds, Pushes, TakesRow, has_id, if_new, row_behind, Record, row_of, ImportedRows}
 use Rattle.std.specs.Option.{MatchOption}
 use Rattle.std.specs.BTreeMap.{is_at}
 use Rattle.std.specs.BTreeSet.{contains}

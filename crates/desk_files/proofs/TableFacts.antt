@@ -1,8 +1,6 @@
 -- No field of a table of actions needs quotes.
-use Rattle.std.proofs.Common.{◌≡◌, ◌<◌, ◌^◌, ◌+◌, ◌%◌, ℕ, List, [], ◌∷◌, ◌++◌, true, false, All, codes, map, refl, sym, ◌∙◌, ap, arith, append_assoc}
+use Rattle.desk_files.proofs.Common.{◌≡◌, ◌<◌, ◌^◌, ◌+◌, ◌%◌, ℕ, List, [], ◌∷◌, ◌++◌, true, false, All, codes, map, refl, sym, ◌∙◌, ap, arith, append_assoc, length, flat_map, list_all, nat_tests, append-nil, list_any-append, both, is_between, is_word, is_word_letter}
 use Rattle.std.specs.Fmt.{decimal}
-use Rattle.desk_files.proofs.Common.{flat_map, list_all, nat_tests, append-nil, list_any-append, both, is_between, is_word, is_word_letter}
-use Rattle.std.specs.Prelude.{length}
 use Rattle.std.proofs.lemmas.Fmt.{decimal_by_steps}
 use Rattle.std.proofs.lemmas.List.Elements.{All-head, All-tail}
 use Rattle.std.proofs.lemmas.List.Splits.{join_with_byte-slice_split}

@@ -1,6 +1,5 @@
 -- What was read is taken over.
-use Rattle.std.proofs.Common.{◌≡◌, inr, Ok, Err, Result, IfErr, IsTrue, sym, subst, arith}
-use Rattle.desk_opening.proofs.Common.{Database, State, HasCleanDisk, StandsSomewhere, HoldIn, IsAtRest, Rests, Wears, Records, desk_table, HoldsRecords, HoldsAt, HoldsReadable, newest, Version, from_newest, newest_is_readable, OpenFault, NotDesk, NewerVersion, Memory, Store, Migrates, Adopts, HasDeskTables, HasNoRow, HasRow, IsDeskRow, IsFailure, IsSettled, Keeps, Tells}
+use Rattle.desk_opening.proofs.Common.{◌≡◌, inr, Ok, Err, Result, IfErr, IsTrue, sym, subst, arith, Database, State, HasCleanDisk, StandsSomewhere, HoldIn, IsAtRest, Rests, Wears, Records, desk_table, HoldsRecords, HoldsAt, HoldsReadable, newest, Version, from_newest, newest_is_readable, OpenFault, NotDesk, NewerVersion, Memory, Store, Migrates, Adopts, HasDeskTables, HasNoRow, HasRow, IsDeskRow, IsFailure, IsSettled, Keeps, Tells}
 use Rattle.desk_opening.proofs.HeldLemmas.{same_version}
 use Rattle.desk_opening.proofs.OpeningLemmas.{leaves_still}
 use Rattle.desk_opening.proofs.Steps.{rests_as}

@@ -1,6 +1,5 @@
 -- Files that hold nothing are opened to empty trees.
-use Rattle.std.proofs.Common.{◌≡◌, ◌≤◌, ◌<◌, ◌-◌, ◌*◌, ℕ, List, [], ◌∷◌, ◌++◌, codes, min, true, false, length, take, slice_index, Option, Some, unwrap_or, inl, inr, refl, sym, ap, subst, ◌∙◌, zero-add, arith, get_or-take}
-use Rattle.desk_opening.proofs.Common.{AllZip, length-take, ∥∥₁_elim, Schema, Trees, Image, AreFoundIn, IsNothing, IsTableRow, IsIndexRow, IsViewRow, AreListed, stored_size, used_size, LeavesFree, desk_names, UsesNoName}
+use Rattle.desk_opening.proofs.Common.{◌≡◌, ◌≤◌, ◌<◌, ◌-◌, ◌*◌, ℕ, List, [], ◌∷◌, ◌++◌, codes, min, true, false, length, take, slice_index, Option, Some, unwrap_or, inl, inr, refl, sym, ap, subst, ◌∙◌, zero-add, arith, get_or-take, AllZip, length-take, ∥∥₁_elim, Schema, Trees, Image, AreFoundIn, IsNothing, IsTableRow, IsIndexRow, IsViewRow, AreListed, stored_size, used_size, LeavesFree, desk_names, UsesNoName}
 use Rattle.sqlite_trees.specs.Objects.{catalog_tree}
 use Rattle.sqlite_wal.specs.Format.{part}
 use Rattle.sqlite_wal.specs.Recovery.{Pages, pages_after}

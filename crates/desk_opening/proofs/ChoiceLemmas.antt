@@ -1,6 +1,5 @@
 -- Which of the two ways an open takes.
-use Rattle.std.proofs.Common.{Bool, codes, inl, inr, Ok, Err, Result, IfOk, IfErr, arith}
-use Rattle.desk_opening.proofs.Common.{both_ways, Database, State, HasCleanDisk, is_used, LeavesFree, Rests, still_holds, Records, Desk, desk_names, HoldsPlace, HoldsReadable, has_desk, HoldsStage, Free, Makes, told, OpenFault, NotDesk, NewerVersion, Memory, Store, Adopts, HasDesk, HasRow, LacksDesk, IsFailure, Tells, FindsTo, OpensDesk, OpensTo, IsKnownOpen}
+use Rattle.desk_opening.proofs.Common.{Bool, codes, inl, inr, Ok, Err, Result, IfOk, IfErr, arith, both_ways, Database, State, HasCleanDisk, is_used, LeavesFree, Rests, still_holds, Records, Desk, desk_names, HoldsPlace, HoldsReadable, has_desk, HoldsStage, Free, Makes, told, OpenFault, NotDesk, NewerVersion, Memory, Store, Adopts, HasDesk, HasRow, LacksDesk, IsFailure, Tells, FindsTo, OpensDesk, OpensTo, IsKnownOpen}
 use Rattle.desk_opening.proofs.VersionLemmas.{used_at}
 
 -- a database that holds records uses the name `desk`

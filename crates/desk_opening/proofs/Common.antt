@@ -1,7 +1,8 @@
 -- The names of other modules that the proofs here cite, passed on from one place. Declares nothing.
+pub use Rattle.std.proofs.Common.{◌≡◌, ℕ, zero, suc, ◌+◌, ◌-◌, ◌*◌, ◌%◌, ◌^◌, ◌<◌, ◌≤◌, min, Bool, true, false, cond, not, ◌||◌, ◌≢◌, ◌⊎◌, List, [], ◌∷◌, ◌++◌, map, length, get_or, take, drop, set, ℤ, pos, ◌<ℤ◌, IfOk, IfErr, if◌then◌else◌, IsErr, IsTrue, ◌==◌, slice_get, slice_index, slice_index_or, Some, None, Ok, Err, codes, filter, Option, Result, MatchOption, option_map, find, unwrap_or, sym, refl, ap, ◌∙◌, subst, ap₂, inl, inr, zero-add, arith, get_or-take}
 pub use Rattle.std.proofs.Math.Logic.{∥∥₁_elim, ∥∥₁_map}
 pub use Rattle.std.proofs.lemmas.Bool.{and_parts, both_ways, cases_Bool, cases_eq, eqb-true, or_parts, true≢false}
-pub use Rattle.std.proofs.lemmas.List.{drop_all, drop_more, length-map, length-take, take-append-drop, take_all, take_more}
+pub use Rattle.std.proofs.lemmas.List.{drop_all, drop_more, length-map, length-take, nil_from_length, take-append-drop, take_all, take_more}
 pub use Rattle.std.specs.List.{AllByRecursion, AllZip, list_any, position_from}
 pub use Rattle.sqlite.proofs.Callers.{statement_of}
 pub use Rattle.sqlite.specs.Command.TheVariants.{Begin, CreateTable, Insert, Select, Update}
@@ -52,7 +53,7 @@ pub use Rattle.sql_front.specs.Free.{LeavesFree}
 pub use Rattle.sql_front.specs.Stands.{Stands}
 pub use Rattle.desk_records.proofs.EachPlace.{each_place}
 pub use Rattle.desk_records.proofs.Meaning.{desk_query, desk_terms, get_desk_is, put_desk_is, set_version_is, set_version_query, version_values}
-pub use Rattle.desk_records.proofs.MeaningWords.{at_key, is_equal, means_of}
+pub use Rattle.desk_records.proofs.MeaningWords.{asked_at, at_key, changed_at, is_equal, means_of, put_at}
 pub use Rattle.desk_records.proofs.Places.{among, is_among, is_named, place_named, place_or_other, same_elsewhere, same_places}
 pub use Rattle.desk_records.proofs.Readable.{at_newest, from_newest, has_desk, is_known, newest_is_readable, of_all, one_numbered}
 pub use Rattle.desk_records.specs.Holds.{AreRowsOf, Content, HoldsLedger, HoldsRecords, IsHeld, Ledger, Offered, Ordered, Spot, Unordered, content_at, content_of, desk_row, ledger_of}
@@ -74,3 +75,6 @@ pub use Rattle.desk_opening.specs.declared.desk_table.DeskTable.{DeskTable}
 pub use Rattle.desk_opening.specs.declared.opening.OpenFault.{OpenFault}
 pub use Rattle.desk_opening.specs.declared.opening.OpenFault.TheVariants.{Memory, NewerVersion, NotDesk, Store}
 pub use Rattle.desk_opening.specs.declared.running.TheConstants.{BEGIN, COMMIT}
+pub use Rattle.std.proofs.Math.Bool.{and-true}
+pub use Rattle.sql_calls.proofs.Actions.{all_both}
+pub use Rattle.sql_front.proofs.Found.{same_some}

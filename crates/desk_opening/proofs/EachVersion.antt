@@ -1,6 +1,5 @@
 -- What is known of each version by its cases.
-use Rattle.std.proofs.Common.{◌≡◌, ℕ, ◌+◌, List, [], ◌∷◌, ◌++◌, map, true, None, refl, ap, subst}
-use Rattle.desk_opening.proofs.Common.{AllByRecursion, take-append-drop, Row, Records, RolloutRecord, Content, Ordered, Unordered, Offered, content_at, ledger_of, rule_row, rules_from, Place, Offers, places, IsTellable, IsUnnumbered, later_than, places_at, table_count_of, Version, One, Two, Three, among, is_among, of_all, bare_ledger, no_rules}
+use Rattle.desk_opening.proofs.Common.{◌≡◌, ℕ, ◌+◌, List, [], ◌∷◌, map, true, None, refl, ap, subst, AllByRecursion, take-append-drop, Row, Records, RolloutRecord, Content, Ordered, Unordered, Offered, content_at, ledger_of, rule_row, rules_from, Place, Offers, places, IsTellable, IsUnnumbered, later_than, places_at, table_count_of, Version, One, Two, Three, among, is_among, of_all, bare_ledger, no_rules, all_both}
 use Rattle.rollout_machine.specs.declared.records.ActionRecord.{ActionRecord}
 use Rattle.desk_records.specs.Parts.{parts_from}
 use Rattle.desk_records.specs.FeedbackNumbers.{number_row, number_rows, numbers_of}
@@ -50,9 +49,5 @@ later_held Three r told = tt
 
 -- ---- of all
 
-all_joined : {X : Type 0} (P : X → Type 0) (xs ys : List X) → AllByRecursion P xs → AllByRecursion P ys → AllByRecursion P (xs ++ ys)
-all_joined P [] ys h k = k
-all_joined P (x ∷ xs) ys h k = (h.0, all_joined P xs ys h.1 k)
-
 pub at_all : (v : Version) (P : Place → Type 0) → AllByRecursion P (places_at v) → AllByRecursion P (later_than v) → AllByRecursion P places
-at_all v P its later = subst (AllByRecursion P) (take-append-drop (table_count_of v) places) (all_joined P (places_at v) (later_than v) its later)
+at_all v P its later = subst (AllByRecursion P) (take-append-drop (table_count_of v) places) (all_both P (places_at v) (later_than v) its later)

@@ -1,6 +1,5 @@
 -- Reads and writes of a change that fills the tables of the newest version.
-use Rattle.std.proofs.Common.{◌≡◌, ◌<◌, ◌≤◌, ◌⊎◌, inl, inr, ◌++◌, ℕ, zero, suc, ◌+◌, List, [], ◌∷◌, length, map, codes, pos, slice_get, set, Option, Some, None, option_map, Ok, Err, Result, IsErr, IfOk, MatchOption, Bool, if◌then◌else◌, refl, sym, ap, subst, ◌∙◌, arith}
-use Rattle.desk_opening.proofs.Common.{Int, Row, Insert, Select, Values, Database, IsDatabase, State, Stands, Fault, RunsText, TakesFirst, Known, Knows, inserts, simple, GroupRule, even_rules, RolloutRecord, HoldsLedger, Ledger, ledger_of, rule_row, told_rollout, Rollouts, Rules, name_of, rule_table, table_at, GET_ROLLOUT, LAST_ROLLOUT, PUT_RULE, Version, One, Two, Three, at_key, FillsLater, FillsRollout, FindsLedger, IsOfNumber, MakesLedger, Stays, WritesCopies, WritesRules, WritesUpTo, no_rules, rules_up_to, HoldsStage, Standing}
+use Rattle.desk_opening.proofs.Common.{◌≡◌, ◌<◌, ◌≤◌, ◌⊎◌, inl, inr, ◌++◌, ℕ, zero, suc, ◌+◌, List, [], ◌∷◌, length, map, codes, pos, slice_get, set, Option, Some, None, option_map, Ok, Err, Result, IsErr, IfOk, MatchOption, Bool, if◌then◌else◌, refl, sym, ap, subst, ◌∙◌, arith, Int, Row, Insert, Select, Values, Database, IsDatabase, State, Stands, Fault, RunsText, TakesFirst, Known, Knows, inserts, simple, GroupRule, even_rules, RolloutRecord, HoldsLedger, Ledger, ledger_of, rule_row, told_rollout, Rollouts, Rules, name_of, rule_table, table_at, GET_ROLLOUT, LAST_ROLLOUT, PUT_RULE, Version, One, Two, Three, at_key, FillsLater, FillsRollout, FindsLedger, IsOfNumber, MakesLedger, Stays, WritesCopies, WritesRules, WritesUpTo, no_rules, rules_up_to, HoldsStage, Standing, same_some, asked_at, put_at}
 use Rattle.sql_calls.proofs.Composing.{found_then_makes, makes_as, makes_nothing, makes_then}
 use Rattle.sql_calls.proofs.Finding.{ShowsFirst, first_finds, run_makes}
 use Rattle.rollout_model.specs.Rules.{is_group_count, is_percentage}
@@ -22,23 +21,23 @@ use Rattle.desk_opening.proofs.Steps.{leaves_of, read_fails, read_step, step, st
 -- ---- what the tables understand, whatever rows they have
 
 abbrev knows_last : (db : Database) → HoldsStage db Standing → Known db.schema LAST_ROLLOUT.now
-knows_last db h = let spot = h.1.spot Rollouts in record { command = Select (record { lets = []; body = last_rollout_query spot.tree }) (codes "number" ∷ []); means = last_rollout_is db.schema spot.at spot.tree (h.1.stands Rollouts) }
+knows_last db h = let spot = h.1.spot Rollouts in record { command = Select (record { lets = []; body = last_rollout_query spot.tree }) (codes "number" ∷ []); means = (asked_at last_rollout_is).at db.schema spot.at spot.tree (h.1.stands Rollouts) }
 
 abbrev knows_get : (db : Database) → HoldsStage db Standing → Known db.schema GET_ROLLOUT.now
-knows_get db h = let spot = h.1.spot Rollouts in record { command = Select (record { lets = []; body = simple spot.tree (at_key 0 0 ∷ []) rollout_columns }) rollout_names; means = get_rollout_is db.schema spot.at spot.tree (h.1.stands Rollouts) }
+knows_get db h = let spot = h.1.spot Rollouts in record { command = Select (record { lets = []; body = simple spot.tree (at_key 0 0 ∷ []) rollout_columns }) rollout_names; means = (asked_at get_rollout_is).at db.schema spot.at spot.tree (h.1.stands Rollouts) }
 
 abbrev knows_put : (db : Database) → HoldsStage db Standing → Known db.schema PUT_RULE.now
-knows_put db h = let spot = h.1.spot Rules in record { command = Insert spot.at (Values rule_terms 6); means = put_rule_is db.schema spot.at spot.tree (h.1.stands Rules) }
+knows_put db h = let spot = h.1.spot Rules in record { command = Insert spot.at (Values rule_terms 6); means = (put_at put_rule_is).at db.schema spot.at spot.tree (h.1.stands Rules) }
 
 -- .. where they hold a ledger
 abbrev ending : Knows HoldsLedger LAST_ROLLOUT.now
-ending db l h = let spot = h.spot Rollouts in record { command = Select (record { lets = []; body = last_rollout_query spot.tree }) (codes "number" ∷ []); means = last_rollout_is db.schema spot.at spot.tree (h.stands Rollouts) }
+ending db l h = let spot = h.spot Rollouts in record { command = Select (record { lets = []; body = last_rollout_query spot.tree }) (codes "number" ∷ []); means = (asked_at last_rollout_is).at db.schema spot.at spot.tree (h.stands Rollouts) }
 
 abbrev getting : Knows HoldsLedger GET_ROLLOUT.now
-getting db l h = let spot = h.spot Rollouts in record { command = Select (record { lets = []; body = simple spot.tree (at_key 0 0 ∷ []) rollout_columns }) rollout_names; means = get_rollout_is db.schema spot.at spot.tree (h.stands Rollouts) }
+getting db l h = let spot = h.spot Rollouts in record { command = Select (record { lets = []; body = simple spot.tree (at_key 0 0 ∷ []) rollout_columns }) rollout_names; means = (asked_at get_rollout_is).at db.schema spot.at spot.tree (h.stands Rollouts) }
 
 abbrev putting : Knows HoldsLedger PUT_RULE.now
-putting db l h = let spot = h.spot Rules in record { command = Insert spot.at (Values rule_terms 6); means = put_rule_is db.schema spot.at spot.tree (h.stands Rules) }
+putting db l h = let spot = h.spot Rules in record { command = Insert spot.at (Values rule_terms 6); means = (put_at put_rule_is).at db.schema spot.at spot.tree (h.stands Rules) }
 
 -- ---- what a statement leaves
 
@@ -109,9 +108,6 @@ last_found old new row h out is = first_finds HoldsLedger (λ (l : Ledger). l) L
     answers (Err e) is = tt
     answers (Ok n) is = λ db l holds shown. one_last row n (length l.records.rollouts) is (lasts_rollout db l holds (codes "number" ∷ []) row shown)
 
-some_same : {X : Type 0} (x y : X) → Some x ≡ Some y → x ≡ y
-some_same x y h = cc
-
 told_number : (fits : ℕ → Bool) (n m : ℕ) → coded_in (λ k. if fits k then Some k else None) (Int (pos n)) ≡ Some m → m ≡ n
 told_number fits n m h = let both : Int (pos n) ≡ Int (pos m) = ranged_is fits (Int (pos n)) m h in cc
 
@@ -180,7 +176,7 @@ module _ (number : ℕ) (found : StoredRollout) where
 
   copies_of : (l next : Ledger) → IsOfNumber number l found → FillsRollout number l next → WritesCopies number found.plan.groups copy l next
   copies_of l next is fills =
-      let same : is.rollout ≡ fills.rollout = some_same is.rollout fills.rollout (sym is.is_there ∙ fills.is_there) in
+      let same : is.rollout ≡ fills.rollout = same_some is.rollout fills.rollout (sym is.is_there ∙ fills.is_there) in
       let its : even_rules is.rollout.plan ≡ copies number copy found.plan.groups = rw (is.groups, is.success, is.error) refl in
       record { none = fills.none; next_is = fills.next_is ∙ ap (λ rules. with_rules l (set_numbered l.rules number rules)) (ap (λ (x : RolloutRecord). even_rules x.plan) (sym same) ∙ its) }
 

@@ -1,13 +1,9 @@
 -- A database that holds the records of a desk, or uses no name of one, is refused for a failure alone.
-use Rattle.std.proofs.Common.{◌≡◌, ◌<ℤ◌, inl, inr, ℤ, false, [], ◌∷◌, codes, pos, Some, Err, slice_get, refl, sym, ap, subst, ◌∙◌, arith}
-use Rattle.desk_opening.proofs.Common.{AllByRecursion, true≢false, both_ways, Int, Text, Row, column, Table, Database, has_rowid, Has, is_used, LeavesFree, StandsSomewhere, Records, Desk, table_at, desk_table, desk_names, desk_row, HoldsAt, HoldsPlace, newest, number_of, places_at, Version, has_desk, is_known, one_numbered, flag, OpenFault, NotDesk, NewerVersion, Memory, Store, FindsTo, HasDeskTables, HasNoRow, HasRow, IsDeskRow, IsFailure, IsNewerRow, IsOtherRow, LacksDesk}
+use Rattle.desk_opening.proofs.Common.{◌≡◌, ◌<ℤ◌, inl, inr, ℤ, false, [], ◌∷◌, codes, pos, Some, Err, slice_get, refl, sym, ap, subst, ◌∙◌, arith, AllByRecursion, true≢false, both_ways, Int, Text, Row, column, Table, Database, has_rowid, Has, is_used, LeavesFree, StandsSomewhere, Records, Desk, table_at, desk_table, desk_names, desk_row, HoldsAt, HoldsPlace, newest, number_of, places_at, Version, has_desk, is_known, one_numbered, flag, OpenFault, NotDesk, NewerVersion, Memory, Store, FindsTo, HasDeskTables, HasNoRow, HasRow, IsDeskRow, IsFailure, IsNewerRow, IsOtherRow, LacksDesk, same_some}
 use Rattle.std.proofs.lemmas.Int.{ints}
 use Rattle.sqlite_value.specs.Order.{value_cmp}
 use Rattle.desk_opening.proofs.VersionLemmas.{used_at}
 use Rattle.desk_opening.proofs.Tables.{all_kept}
-
-same_some : {X : Type 0} (x y : X) → Some x ≡ Some y → x ≡ y
-same_some x y h = cc
 
 module _ (db : Database) (r : Records) (v : Version) (holds : HoldsAt v db r) where
   desk_held : HoldsPlace v db r (holds.spot Desk) Desk

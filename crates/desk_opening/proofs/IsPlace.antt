@@ -1,6 +1,5 @@
 -- What the text of a table has to be.
-use Rattle.std.proofs.Common.{◌≡◌, refl, ℕ, false, Option, List, [], ◌++◌, codes, Ok, Err, Result}
-use Rattle.desk_opening.proofs.Common.{Order, text_of, same_name, table_defined_by, first, IsBareTable, HaveNullDefaults, Place, table_at, name_of, create_text_of}
+use Rattle.desk_opening.proofs.Common.{◌≡◌, refl, ℕ, false, Option, List, [], ◌++◌, codes, Ok, Err, Result, Order, text_of, same_name, table_defined_by, first, IsBareTable, HaveNullDefaults, Place, table_at, name_of, create_text_of}
 use Rattle.sqlite_schema.specs.declared.schema.Column.{Column}
 use Rattle.sqlite_syntax.specs.declared.statement.Parsed.{Parsed}
 use Rattle.sqlite_resolve.specs.declared.error.CompileError.{CompileError}

@@ -1,6 +1,5 @@
 -- A new desk, from BEGIN to COMMIT.
-use Rattle.std.proofs.Common.{◌≡◌, ◌⊎◌, inl, ℕ, ◌+◌, Bool, List, [], ◌∷◌, ◌++◌, ◌<◌, ◌≤◌, length, map, take, drop, get_or, pos, Ok, Err, Result, IsErr, if◌then◌else◌, None, refl, sym, subst, arith}
-use Rattle.desk_opening.proofs.Common.{AllByRecursion, Int, Trees, Database, IsAscending, CreateTable, Insert, Values, State, HasCleanDisk, Writes, Fault, RunsText, HoldIn, Wears, Rests, Known, begin_is, commit_is, drop_all, length-map, take_all, HoldsRecords, ledger_of, PUT_DESK, put_desk_is, desk_terms, Place, places, BEGIN, COMMIT, AreApart, Before, Changes, HoldsPartly, HoldsStage, Free, Nothing, Partly, Stage, Whole, LeavesNoDesk, LeavesDesk, first_records, MakesTables, Makes, DeskTable, place_of, create_text_of}
+use Rattle.desk_opening.proofs.Common.{◌≡◌, ◌⊎◌, inl, ℕ, ◌+◌, Bool, List, [], ◌∷◌, ◌++◌, ◌<◌, ◌≤◌, length, map, take, drop, get_or, pos, Ok, Err, Result, IsErr, if◌then◌else◌, None, refl, sym, subst, arith, AllByRecursion, Int, Trees, Database, IsAscending, CreateTable, Insert, Values, State, HasCleanDisk, Writes, Fault, RunsText, HoldIn, Wears, Rests, Known, begin_is, commit_is, drop_all, length-map, take_all, HoldsRecords, ledger_of, PUT_DESK, put_desk_is, desk_terms, Place, places, BEGIN, COMMIT, AreApart, Before, Changes, HoldsPartly, HoldsStage, Free, Nothing, Partly, Stage, Whole, LeavesNoDesk, LeavesDesk, first_records, MakesTables, Makes, DeskTable, place_of, create_text_of, put_at}
 use Rattle.sql_calls.proofs.Leavings.{IsSettled}
 use Rattle.sql_calls.proofs.FrameEnds as frame
 use Rattle.desk_opening.proofs.Steps.{changes_as, rests_as, step, step_fails}
@@ -13,7 +12,7 @@ abbrev knows_table : (t : Place) (before : Before) (made left : List Place) (db 
 knows_table t before made left db h = record { command = CreateTable; means = create_means t db.schema h.free.0 }
 
 abbrev knows_row : (db : Database) → HoldsPartly db Nothing places [] → Known db.schema PUT_DESK.now
-knows_row db h = record { command = Insert h.stand.0.at (Values desk_terms 5); means = put_desk_is db.schema h.stand.0.at h.stand.0.tree h.stand.0.stands }
+knows_row db h = record { command = Insert h.stand.0.at (Values desk_terms 5); means = (put_at put_desk_is).at db.schema h.stand.0.at h.stand.0.tree h.stand.0.stands }
 
 -- ---- the tables
 

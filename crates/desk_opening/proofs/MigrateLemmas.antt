@@ -1,6 +1,5 @@
 -- From the tables of a version to those of the newest, from BEGIN to COMMIT.
-use Rattle.std.proofs.Common.{inl, inr, [], Ok, Err, Result, IsErr, refl, arith}
-use Rattle.desk_opening.proofs.Common.{Trees, Update, Database, State, HasCleanDisk, Fault, RunsText, Known, HoldIn, Rests, Sees, Wears, begin_is, commit_is, Records, HoldsLedger, HoldsRecords, ledger_of, HoldsAt, HoldsReadable, Desk, IsTellable, later_than, newest, SET_VERSION, Version, set_version_is, set_version_query, at_newest, BEGIN, COMMIT, FillsLater, MakesLedger, Stays, bare_ledger, At, Changes, HoldsPartly, HoldsStage, MakesTables, Older, Partly, Standing, Whole, Migrates}
+use Rattle.desk_opening.proofs.Common.{inl, inr, [], Ok, Err, Result, IsErr, refl, arith, Trees, Update, Database, State, HasCleanDisk, Fault, RunsText, Known, HoldIn, Rests, Sees, Wears, begin_is, commit_is, Records, HoldsLedger, HoldsRecords, ledger_of, HoldsAt, HoldsReadable, Desk, IsTellable, later_than, newest, SET_VERSION, Version, set_version_is, set_version_query, at_newest, BEGIN, COMMIT, FillsLater, MakesLedger, Stays, bare_ledger, At, Changes, HoldsPartly, HoldsStage, MakesTables, Older, Partly, Standing, Whole, Migrates, changed_at}
 use Rattle.sql_calls.proofs.FrameEnds as frame
 use Rattle.sql_calls.proofs.Leavings.{IsSettled}
 use Rattle.desk_records.proofs.HeldTables.{are_tables, rows_of}
@@ -11,7 +10,7 @@ use Rattle.desk_opening.proofs.VersionSet.{desk_renewed, spot_in, stands_in}
 abbrev knows_version : (v : Version) (r : Records) (db : Database) → HoldsPartly db (Older v r) (later_than v) [] → Known db.schema SET_VERSION.now
 knows_version v r db h =
     let spot = spot_in v r db h Desk in
-    record { command = Update spot.at (record { lets = []; body = set_version_query spot.tree }); means = set_version_is db.schema spot.at spot.tree (stands_in v r db h Desk) }
+    record { command = Update spot.at (record { lets = []; body = set_version_query spot.tree }); means = (changed_at set_version_is).at db.schema spot.at spot.tree (stands_in v r db h Desk) }
 
 -- none of the later tables is there yet
 none_made : (v : Version) (r : Records) (db : Database) → HoldsAt v db r → HoldsPartly db (Older v r) [] (later_than v)

@@ -1,6 +1,5 @@
 -- The row of `desk` is read in a change that is given up.
-use Rattle.std.proofs.Common.{◌≡◌, ◌≢◌, inl, inr, [], codes, true, false, Option, Some, None, MatchOption, Ok, Err, Result, IsErr, refl, ap, subst, arith}
-use Rattle.desk_opening.proofs.Common.{both_ways, Trees, Schema, Begin, Select, is_used, Database, State, HasCleanDisk, StandsSomewhere, Fault, RunsText, TakesFirst, Wears, HoldIn, Rests, Spoiled, Knows, runs_plain, begin_is, rollback_is, begins, fails_to_begin, gives_up, Records, Place, Desk, Rules, Numbers, name_of, table_at, HoldsAt, HoldsPlace, HoldsReadable, Version, One, Two, Three, places_at, is_among, has_desk, GET_DESK, desk_query, get_desk_is, Keeps, HasDeskTables}
+use Rattle.desk_opening.proofs.Common.{◌≡◌, ◌≢◌, inl, inr, [], codes, true, false, Option, Some, None, MatchOption, Ok, Err, Result, IsErr, refl, ap, subst, arith, both_ways, Trees, Schema, Begin, Select, is_used, Database, State, HasCleanDisk, StandsSomewhere, Fault, RunsText, TakesFirst, Wears, HoldIn, Rests, Spoiled, Knows, runs_plain, begin_is, rollback_is, begins, fails_to_begin, gives_up, Records, Place, Desk, Rules, Numbers, name_of, table_at, HoldsAt, HoldsPlace, HoldsReadable, Version, One, Two, Three, places_at, is_among, has_desk, GET_DESK, desk_query, get_desk_is, Keeps, HasDeskTables, asked_at}
 use Rattle.sqlite.specs.Order.{Row}
 use Rattle.sql_calls.specs.Standing.{Opens}
 use Rattle.sql_calls.proofs.Framing.{first_frames}
@@ -39,7 +38,7 @@ module _ (Holds : Database → Records → Type 0) (knows : Knows Holds GET_DESK
 knows_at : (v : Version) → Knows (HoldsAt v) GET_DESK.now
 knows_at v db r holds =
     let spot = holds.spot Desk in
-    record { command = Select (record { lets = []; body = desk_query spot.tree }) _; means = get_desk_is db.schema spot.at spot.tree (has_desk v (λ t. HoldsPlace v db r (holds.spot t) t) holds.tables).0 }
+    record { command = Select (record { lets = []; body = desk_query spot.tree }) _; means = (asked_at get_desk_is).at db.schema spot.at spot.tree (has_desk v (λ t. HoldsPlace v db r (holds.spot t) t) holds.tables).0 }
 
 knows_any : Knows HoldsReadable GET_DESK.now
 knows_any db r (v, holds) = knows_at v db r holds

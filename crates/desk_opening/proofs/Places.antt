@@ -1,6 +1,5 @@
 -- What the texts of all tables make.
-use Rattle.std.proofs.Common.{◌≡◌, refl, sym, ap, ◌∙◌, arith, ◌||◌, ℕ, zero, suc, ◌+◌, ◌<◌, Bool, false, List, [], ◌∷◌, ◌++◌, length, map, take, drop, get_or}
-use Rattle.desk_opening.proofs.Common.{list_any, or_parts, drop_more, length-map, take_more, Schema, Table, CreateTable, statement_of, IsAscending, first, is_used, none_from_any, Means, Place, places, table_at, name_of, means_of, DeskTable, place_of, create_text_of}
+use Rattle.desk_opening.proofs.Common.{◌≡◌, refl, sym, ap, ◌∙◌, arith, ◌||◌, ℕ, zero, suc, ◌+◌, ◌<◌, Bool, false, List, [], ◌∷◌, ◌++◌, length, map, take, drop, get_or, list_any, or_parts, drop_more, length-map, take_more, Schema, Table, CreateTable, statement_of, IsAscending, first, is_used, none_from_any, Means, Place, places, table_at, name_of, means_of, DeskTable, place_of, create_text_of}
 use Rattle.std.proofs.Math.ListN.{get_or-map}
 use Rattle.sqlite.specs.Listing.{understood}
 use Rattle.sqlite_schema.specs.Names.{same_name}

@@ -1,6 +1,5 @@
 -- From files that were opened to what the connection stands for.
-use Rattle.std.proofs.Common.{◌≡◌, ◌⊎◌, inl, inr, ℕ, ◌+◌, Bool, cond, false, Some, ap, List, [], ◌∷◌, map, ◌∙◌, refl, Ok, Err, Result, IfOk, IfErr, sym, subst, arith}
-use Rattle.desk_opening.proofs.Common.{∥∥₁_elim, Trees, Schema, Table, Image, HoldsDatabase, AreFoundIn, IsNothing, IsBlankAs, IsCleanLeft, file_state, Held, Leftover, State, HasCleanDisk, Opens, IsLive, AllZip, position_from, Row, Text, IsSound, IsViewRow, same_name, is_used, Stands, Has, HoldIn, IsAtRest, Rests, still_holds, LeavesFree, Records, desk_names, HoldsPlace, HoldsReadable, name_of, later_than, places_at, HoldsStage, Free, told, OpenFault, OpensDesk, HasDesk, HasNoDesk, HasRow, IsFailure, IsNewerRow, FindsTo, IsSettled, Reopens, Refuses, RefusesStore, LeavesUnharmed, IsLeftOf, BeginsPlain, HoldsDesk, HoldsNone, HoldsNoDesk, HasNewer, IsOpenable, UsesNoName}
+use Rattle.desk_opening.proofs.Common.{◌≡◌, ◌⊎◌, inl, inr, ℕ, ◌+◌, Bool, cond, false, Some, ap, List, [], ◌∷◌, map, ◌∙◌, refl, Ok, Err, Result, IfOk, IfErr, sym, subst, arith, ∥∥₁_elim, Trees, Schema, Table, Image, HoldsDatabase, AreFoundIn, IsNothing, IsBlankAs, IsCleanLeft, file_state, Held, Leftover, State, HasCleanDisk, Opens, IsLive, AllZip, position_from, Row, Text, IsSound, IsViewRow, same_name, is_used, Stands, Has, HoldIn, IsAtRest, Rests, still_holds, LeavesFree, Records, desk_names, HoldsPlace, HoldsReadable, name_of, later_than, places_at, HoldsStage, Free, told, OpenFault, OpensDesk, HasDesk, HasNoDesk, HasRow, IsFailure, IsNewerRow, FindsTo, IsSettled, Reopens, Refuses, RefusesStore, LeavesUnharmed, IsLeftOf, BeginsPlain, HoldsDesk, HoldsNone, HoldsNoDesk, HasNewer, IsOpenable, UsesNoName}
 use Rattle.std.proofs.Math.Bool.{Bool-set}
 use mathlib.Core.HLevel.{Π_prop}
 use Rattle.sqlite_trees.specs.Props.{Trees-set, AllByRecursion-prop}

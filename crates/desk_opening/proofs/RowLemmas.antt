@@ -1,6 +1,5 @@
 -- What the query of the row of `desk` reads.
-use Rattle.std.proofs.Common.{◌≡◌, ◌≢◌, ◌<◌, ◌⊎◌, ◌&&◌, inl, inr, ℕ, zero, suc, length, pos, Bool, true, false, List, [], ◌∷◌, cond, map, filter, codes, Option, Some, None, Ok, Err, Result, refl, sym, subst, ◌∙◌, arith}
-use Rattle.desk_opening.proofs.Common.{Value, Null, Int, Real, Text, Blob, Row, column, has_rowid, Has, AllByRecursion, length-map, Term, col, lit, Begin, Database, State, HasCleanDisk, StandsSomewhere, RunsText, TakesFirst, begin_is, first_shown, none_shown, shows_as, runs_plain, passes, shown_of, simple_rows, desk_table, GET_DESK, is_equal, get_desk_is, OpenFault, NotDesk, NewerVersion, Memory, Store, Version, HasNoRow, HasRow, ReadsRow, Tells, IsDeskRow, IsNewerRow, IsOtherRow}
+use Rattle.desk_opening.proofs.Common.{◌≡◌, ◌≢◌, ◌<◌, ◌⊎◌, inl, inr, ℕ, zero, suc, length, pos, Bool, true, false, List, [], ◌∷◌, cond, map, filter, codes, Option, Some, None, Ok, Err, Result, refl, sym, subst, ◌∙◌, arith, Value, Null, Int, Real, Text, Blob, Row, column, has_rowid, Has, AllByRecursion, length-map, Term, col, lit, Begin, Database, State, HasCleanDisk, StandsSomewhere, RunsText, TakesFirst, begin_is, first_shown, none_shown, shows_as, runs_plain, passes, shown_of, simple_rows, desk_table, GET_DESK, is_equal, get_desk_is, OpenFault, NotDesk, NewerVersion, Memory, Store, Version, HasNoRow, HasRow, ReadsRow, Tells, IsDeskRow, IsNewerRow, IsOtherRow, and-true, nil_from_length, asked_at}
 use Rattle.sqlite_value.specs.Order.{value_cmp}
 use Rattle.sqlite_trees.proofs.ListLemmas.{all-permutation}
 use Rattle.std.proofs.lemmas.List.Sorted.{length_permutation}
@@ -10,18 +9,14 @@ pub judged : (b : Bool) → is_true (from_truth (Some b)) ≡ b
 judged true = refl
 judged false = refl
 
-pub and_true : (b : Bool) → (b && true) ≡ b
-and_true true = refl
-and_true false = refl
-
 -- WHERE id = 1
 passes_first : (v : Value) (row : Row) → (passes (is_equal (col 1 0) (lit (Int (pos 1))) ∷ []) [] (v ∷ row)) ≡ has_rowid (pos 1) (v ∷ row)
 unfolding binary value_cmp
 passes_first Null row = refl
-passes_first (Int n) row = and_true _ ∙ judged _
-passes_first (Real x) row = and_true _ ∙ judged _
-passes_first (Text t) row = and_true _ ∙ judged _
-passes_first (Blob b) row = and_true _ ∙ judged _
+passes_first (Int n) row = and-true _ ∙ judged _
+passes_first (Real x) row = and-true _ ∙ judged _
+passes_first (Text t) row = and-true _ ∙ judged _
+passes_first (Blob b) row = and-true _ ∙ judged _
 
 passes_number : (row : Row) → passes (is_equal (col 1 0) (lit (Int (pos 1))) ∷ []) [] row ≡ has_rowid (pos 1) row
 unfolding binary value_cmp
@@ -58,7 +53,7 @@ module _ (a b c : State) (first : RunsText a b (codes "BEGIN") [] (Ok tt)) (row 
     where
       go : StandsSomewhere b.now.schema (desk_table 0) → HasRow b.now (λ shown. row ≡ shown)
       go at =
-          let means = get_desk_is b.now.schema at.at at.tree at.stands in
+          let means = (asked_at get_desk_is).at b.now.schema at.at at.tree at.stands in
           let shown = first_shown GET_DESK.now _ [] b c means (λ _ _. tt) row (second.answers clean) in
           let answer = (shows_as GET_DESK.now _ [] b c means (row ∷ shown.0) shown.1).answer in
           let same = simple_rows at.tree (is_equal (col 1 0) (lit (Int (pos 1))) ∷ []) columns [] b.now.trees (row ∷ shown.0) (answer Null) in
@@ -76,10 +71,6 @@ none_left (r ∷ rows) none = go (is_first r) refl none (none_left rows)
     go true is h more = absurd (cc)
     go false is h more = (sym (passes_number r) ∙ is, more h)
 
-empty_by_length : {X : Type 0} (xs : List X) → length xs ≡ 0 → xs ≡ []
-empty_by_length [] h = refl
-empty_by_length (x ∷ xs) h = absurd (omega (arith, h))
-
 module _ (a b c : State) (first : RunsText a b (codes "BEGIN") [] (Ok tt)) (second : TakesFirst b c GET_DESK.now [] (Ok None)) (clean : HasCleanDisk c) where
   seen_now : b.now ≡ a.now
   seen_now = let done = first.runs (omega (arith, clean, second.survives.clean)) in (runs_plain (codes "BEGIN") Begin [] a b (begin_is a.now.schema) done.0 done.1).1.now_is
@@ -89,13 +80,13 @@ module _ (a b c : State) (first : RunsText a b (codes "BEGIN") [] (Ok tt)) (seco
     where
       go : StandsSomewhere b.now.schema (desk_table 0) → HasNoRow b.now
       go at =
-          let means = get_desk_is b.now.schema at.at at.tree at.stands in
+          let means = (asked_at get_desk_is).at b.now.schema at.at at.tree at.stands in
           let shown = none_shown GET_DESK.now _ [] b c means (second.answers clean) in
           let answer = (shows_as GET_DESK.now _ [] b c means [] shown).answer in
           let rows : List Row = filter is_first (b.now.trees at.tree) in
           let same = simple_rows at.tree (is_equal (col 1 0) (lit (Int (pos 1))) ∷ []) columns [] b.now.trees [] (answer Null) in
           let count : length rows ≡ 0 = sym (length-map rows (shown_of columns [])) ∙ sym (length_permutation _ [] same) in
-          record { table = at; none = none_left (b.now.trees at.tree) (empty_by_length rows count) }
+          record { table = at; none = none_left (b.now.trees at.tree) (nil_from_length rows count) }
 
 -- ---- what the answers tell of it
 

@@ -1,6 +1,5 @@
 -- What is said of groups, in lists alone.
-use Rattle.std.proofs.Common.{◌≡◌, ℕ, zero, suc, List, [], ◌∷◌, length, map, set, slice_get, Some, refl, ap, ap₂, sym}
-use Rattle.desk_opening.proofs.Common.{AllByRecursion, even_rules, rules_of, RolloutRecord, IsEven, no_rules, rules_up_to}
+use Rattle.desk_opening.proofs.Common.{◌≡◌, ℕ, zero, suc, List, [], ◌∷◌, length, map, set, slice_get, Some, refl, ap, ap₂, sym, AllByRecursion, even_rules, rules_of, RolloutRecord, IsEven, no_rules, rules_up_to}
 
 -- ---- one in place of another
 

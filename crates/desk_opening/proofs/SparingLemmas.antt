@@ -1,6 +1,5 @@
 -- What files keep that were not opened.
-use Rattle.std.proofs.Common.{◌≡◌, ◌≢◌, ◌==◌, ◌%◌, ◌≤◌, inl, inr, ℕ, Bool, true, false, List, [], ◌∷◌, if◌then◌else◌, cond, refl, sym, ap, ap₂, subst, ◌∙◌, IsTrue, arith}
-use Rattle.desk_opening.proofs.Common.{cases_eq, cases_Bool, ∥∥₁_map, ∥∥₁_elim, Image, Trees, is_summed, reserved, stored_size, StandsAs, store_error, outcomes, Leftover, HoldsDatabase, IsCleanLeft, FailsToOpenFiles, NamesSize, SaysSums, LeavesFiles, image_of, HoldIn, Records, HoldsReadable, OpenFault, NotDesk, NewerVersion, Memory, Store, IsFailure, HoldsPlain, HoldsNone, HoldsDesk, UsesNoName, EachAfter, IsForeign, Spares, LeavesUnharmed}
+use Rattle.desk_opening.proofs.Common.{◌≡◌, ◌≢◌, ◌==◌, ◌%◌, ◌≤◌, inl, inr, ℕ, Bool, true, false, List, [], ◌∷◌, if◌then◌else◌, cond, refl, sym, ap, ap₂, subst, ◌∙◌, IsTrue, arith, cases_eq, cases_Bool, ∥∥₁_map, ∥∥₁_elim, Image, Trees, is_summed, reserved, stored_size, StandsAs, store_error, outcomes, Leftover, HoldsDatabase, IsCleanLeft, FailsToOpenFiles, NamesSize, SaysSums, LeavesFiles, image_of, HoldIn, Records, HoldsReadable, OpenFault, NotDesk, NewerVersion, Memory, Store, IsFailure, HoldsPlain, HoldsNone, HoldsDesk, UsesNoName, EachAfter, IsForeign, Spares, LeavesUnharmed}
 use Rattle.sqlite_disk.specs.declared.Disk as disk
 use Rattle.sqlite_disk.specs.declared.Files.{Files}
 use Rattle.sqlite_disk.specs.declared.modelled.Modelled.{Modelled}

@@ -1,6 +1,5 @@
 -- One statement of a change in which tables are made, where only what the change sees is known to understand it.
-use Rattle.std.proofs.Common.{◌≡◌, ℕ, true, List, [], Option, Some, None, Ok, Err, sym, subst, ◌∙◌, arith}
-use Rattle.desk_opening.proofs.Common.{both_ways, Trees, Database, State, HasCleanDisk, IsUnchanged, Survives, Runs, Writes, CommitsBy, CommitsShowing, statement_of, Fault, RunsText, TakesFirst, TakesTo, Known, HoldIn, Rests, stays_inside, never_commits_inside, never_shows_inside, crash_kept, first_unchanged, none_shown, runs_plain, unchanged_by, Leaves, Stage, HoldsStage, Changes}
+use Rattle.desk_opening.proofs.Common.{◌≡◌, ℕ, true, List, [], Option, Some, None, Ok, Err, sym, subst, ◌∙◌, arith, both_ways, Trees, Database, State, HasCleanDisk, IsUnchanged, Survives, Runs, Writes, CommitsBy, CommitsShowing, statement_of, Fault, RunsText, TakesFirst, TakesTo, Known, HoldIn, Rests, stays_inside, never_commits_inside, never_shows_inside, crash_kept, first_unchanged, none_shown, runs_plain, unchanged_by, Leaves, Stage, HoldsStage, Changes}
 use Rattle.sqlite.specs.Order.{Row}
 use Rattle.sqlite.specs.Listing.{understood}
 

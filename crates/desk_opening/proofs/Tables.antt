@@ -1,6 +1,5 @@
 -- What each text of the making does.
-use Rattle.std.proofs.Common.{◌≡◌, ◌≢◌, inl, inr, ℕ, zero, suc, slice_index_or, ◌+◌, ◌<◌, ◌^◌, ◌==◌, Bool, true, false, List, [], ◌∷◌, ◌++◌, length, codes, pos, map, drop, Some, None, Ok, find, if◌then◌else◌, refl, sym, ap, subst, ◌∙◌, arith}
-use Rattle.desk_opening.proofs.Common.{AllZip, AllByRecursion, position_from, true≢false, and_parts, eqb-true, Value, Null, Int, Real, Text, Blob, Order, column, Schema, Table, Database, IsDatabase, CreateTable, Insert, Values, State, Writes, Has, same_name, next_tree, is_used, automatics, IsTableRow, IsIndexRow, IsDefined, all-slice_get, IsPermutation-same, table_defined_by, Stands, LeavesFree, HasNoForeignKey, ComparesBytes, Inserted, inserts, uncounted, given_rows, cast_int, cast_null, Place, Desk, Offers, places, table_at, name_of, desk_table, offer_table, newest, number_of, places_at, HoldsPlace, AreRowsOf, Content, HoldsRecords, Offered, Ordered, Spot, IsHeld, Unordered, content_at, content_of, desk_row, ledger_of, desk_terms, create_text_of, Before, HoldsBefore, HoldsPartly, IsEmptyTable, Nothing, Older, first_records, each_place, place_or_other, same_elsewhere, same_places}
+use Rattle.desk_opening.proofs.Common.{◌≡◌, ◌≢◌, inl, inr, ℕ, zero, suc, slice_index_or, ◌+◌, ◌<◌, ◌^◌, ◌==◌, Bool, true, false, List, [], ◌∷◌, ◌++◌, length, codes, pos, map, drop, Some, None, Ok, find, if◌then◌else◌, refl, sym, ap, subst, ◌∙◌, arith, AllZip, AllByRecursion, position_from, true≢false, and_parts, eqb-true, Value, Null, Int, Real, Text, Blob, Order, column, Schema, Table, Database, IsDatabase, CreateTable, Insert, Values, State, Writes, Has, same_name, next_tree, is_used, automatics, IsTableRow, IsIndexRow, IsDefined, all-slice_get, IsPermutation-same, table_defined_by, Stands, LeavesFree, HasNoForeignKey, ComparesBytes, Inserted, inserts, uncounted, given_rows, cast_int, cast_null, Place, Desk, Offers, places, table_at, name_of, desk_table, offer_table, newest, number_of, places_at, HoldsPlace, AreRowsOf, Content, HoldsRecords, Offered, Ordered, Spot, IsHeld, Unordered, content_at, content_of, desk_row, ledger_of, desk_terms, create_text_of, Before, HoldsBefore, HoldsPartly, IsEmptyTable, Nothing, Older, first_records, each_place, place_or_other, same_elsewhere, same_places}
 use Rattle.sqlite_value.specs.declared.keys.Collation.TheVariants.{Binary}
 use Rattle.sqlite_value.specs.Keys.{plain, first_key}
 use Rattle.sqlite.specs.Order.{Row}

@@ -1,6 +1,5 @@
 -- The tables of a version, as the code lists them.
-use Rattle.std.proofs.Common.{◌≡◌, ◌<◌, ◌≤◌, ℕ, zero, suc, Bool, true, false, not, IsTrue, sym, List, [], ◌∷◌, map, length, take, get_or, Some, refl, subst, arith}
-use Rattle.desk_opening.proofs.Common.{AllByRecursion, list_any, true≢false, take_all, Schema, table_named, none_from_any, is_used, LeavesFree, Place, name_of, DeskTable, place_of}
+use Rattle.desk_opening.proofs.Common.{◌≡◌, ◌<◌, ◌≤◌, ℕ, zero, suc, Bool, true, false, not, IsTrue, sym, List, [], ◌∷◌, map, length, take, get_or, Some, refl, subst, arith, AllByRecursion, list_any, true≢false, take_all, Schema, table_named, none_from_any, is_used, LeavesFree, Place, name_of, DeskTable, place_of}
 
 all_mapped : {X Y : Type 0} (P : Y → Type 0) (f : X → Y) (xs : List X) → AllByRecursion (λ x. P (f x)) xs → AllByRecursion P (map f xs)
 all_mapped P f [] all = tt

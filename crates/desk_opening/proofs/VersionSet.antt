@@ -1,11 +1,10 @@
 -- What the UPDATE of the version makes of the tables of an older version, beside later ones with no row.
-use Rattle.std.proofs.Common.{◌≡◌, ◌≢◌, inl, inr, ℕ, ◌+◌, pos, codes, List, [], ◌∷◌, map, find, slice_get, ◌==◌, Bool, Some, None, refl, sym, ap, subst, ◌∙◌, arith}
-use Rattle.desk_opening.proofs.Common.{AllByRecursion, Null, Int, Text, Row, Table, Database, Update, State, Writes, all-slice_get, Stands, HasNoForeignKey, ComparesBytes, cast_int, cast_null, passes, Records, AreRowsOf, HoldsLedger, IsHeld, Spot, content_at, content_of, desk_row, ledger_of, HoldsPlace, flag, Place, Desk, Offers, desk_table, name_of, offer_table, table_at, later_than, newest, number_of, places_at, Version, each_place, set_version_query, version_values, is_equal, is_named, place_named, place_or_other, same_elsewhere, bare_ledger, HoldsPartly, IsEmptyTable, Older, Term, lit, col}
+use Rattle.desk_opening.proofs.Common.{◌≡◌, ◌≢◌, inl, inr, ℕ, ◌+◌, pos, codes, List, [], ◌∷◌, map, find, slice_get, ◌==◌, Bool, Some, None, refl, sym, ap, subst, ◌∙◌, arith, AllByRecursion, Null, Int, Text, Row, Table, Database, Update, State, Writes, all-slice_get, Stands, HasNoForeignKey, ComparesBytes, cast_int, cast_null, passes, Records, AreRowsOf, HoldsLedger, IsHeld, Spot, content_at, content_of, desk_row, ledger_of, HoldsPlace, flag, Place, Desk, Offers, desk_table, name_of, offer_table, table_at, later_than, newest, number_of, places_at, Version, each_place, set_version_query, version_values, is_equal, is_named, place_named, place_or_other, same_elsewhere, bare_ledger, HoldsPartly, IsEmptyTable, Older, Term, lit, col, and-true}
+use Rattle.desk_opening.proofs.RowLemmas.{judged}
 use Rattle.sqlite_sql.specs.Ops.{binary}
 use Rattle.sql_calls.proofs.NumberedTables.{has_number, sets_at}
 use Rattle.sql_calls.proofs.Updates.{Updated, updates}
 use Rattle.desk_opening.proofs.EachVersion.{at_all, has_offers, later_held, older_held, nothing}
-use Rattle.desk_opening.proofs.RowLemmas.{and_true, judged}
 use Rattle.desk_opening.proofs.Tables.{no_rows}
 
 abbrev first_desk : List Term
@@ -17,7 +16,7 @@ numbered_row n it = Int (pos n) ∷ Null ∷ Text (codes "fwdesk") ∷ Int (pos 
 
 first_passes : (m : ℕ) (it : ℕ × Bool) → passes first_desk [] (numbered_row m it) ≡ has_number numbered_row (λ n x. refl) (1 + 0) (numbered_row m it)
 unfolding binary
-first_passes m it = and_true _ ∙ judged _
+first_passes m it = and-true _ ∙ judged _
 
 module _ (v : Version) (r : Records) where
   -- a table that stands and has what is told of the records

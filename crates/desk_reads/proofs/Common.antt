@@ -1,4 +1,5 @@
 -- The names of other modules that the proofs here cite, passed on from one place. Declares nothing.
+pub use Rattle.std.proofs.Common.{◌≡◌, ℕ, zero, suc, ◌+◌, ◌-◌, ◌<◌, ◌≤◌, Bool, true, false, cond, not, ◌&&◌, ◌||◌, ◌⊎◌, List, [], ◌∷◌, map, length, take, drop, is_none, nat_eq, nat_le, slice_get, Some, None, Ok, Err, filter, Option, Result, find, sym, refl, ap, ◌∙◌, subst, inl, inr, true≢false, add-one, arith}
 pub use Rattle.std.proofs.lemmas.Bool.{and_from, and_parts, le-leb, leb-false, leb-true, or_parts}
 pub use Rattle.std.specs.Cmp.Lexicographic.{pointwise}
 pub use Rattle.std.specs.List.{list_all, list_any}
@@ -6,7 +7,7 @@ pub use Rattle.std.specs.Option.{is_some, option_map, option_or, unwrap_or}
 pub use Rattle.sqlite_rules.proofs.ListLemmas.{has_either, has_filtered, test_has}
 pub use Rattle.sqlite_rules.specs.Lists.{Has}
 pub use Rattle.rollout_model.specs.Rows.{is_target_row}
-pub use Rattle.rollout_model.specs.Rules.{are_details, are_distinct_words, is_digest, is_number, is_tag_list, is_text, is_word}
+pub use Rattle.rollout_model.specs.Rules.{are_details, are_distinct_words, is_digest, is_number, is_tag_list, is_text, is_word, number_of}
 pub use Rattle.rollout_machine.proofs.Imports.{AllAbove, IsSorted, below_apart, not_above, sorted_with, with_there}
 pub use Rattle.rollout_machine.proofs.Lists.{each_there, length_each, numbered_each}
 pub use Rattle.rollout_machine.proofs.TargetTies.{same_by, same_pointwise, same_refl, same_sym, same_true}
@@ -32,3 +33,4 @@ pub use Rattle.desk_records.specs.Targets.{are_sorted, attributes_of, ids_of, in
 pub use Rattle.desk_store.proofs.LedgersOfRecords.{ledger_found}
 pub use Rattle.desk_reads.specs.AtLists.{AreOfList, FailsAtListsIn}
 pub use Rattle.desk_reads.specs.Rollouts.{IsSeenOf, last_in, last_place}
+pub use Rattle.std.proofs.Math.Bool.{or-false}

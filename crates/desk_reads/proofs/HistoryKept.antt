@@ -1,6 +1,5 @@
 -- The details in the histories of accepted commands keep their rule.
-use Rattle.std.proofs.Common.{◌≡◌, ℕ, Bool, true, false, cond, [], Option, Some, None, refl, ap, ◌∙◌}
-use Rattle.desk_reads.proofs.Common.{list_all, option_map, and_parts, item_numbered, CommandList, Make, ◌▸◌, Records, action_in, IsValid, AreOfList, IsWellFormed, is_credential, is_device_feedback, Command, DeviceFeedback, Feedback, CancelFeedback, are_details, is_number}
+use Rattle.desk_reads.proofs.Common.{◌≡◌, ℕ, Bool, true, false, cond, [], Option, Some, None, refl, ap, ◌∙◌, list_all, option_map, and_parts, item_numbered, CommandList, Make, ◌▸◌, Records, action_in, IsValid, AreOfList, IsWellFormed, is_credential, is_device_feedback, Command, DeviceFeedback, Feedback, CancelFeedback, are_details, is_number}
 use Rattle.rollout_machine.specs.Records.{records}
 use Rattle.std.proofs.lemmas.List.Folds.{list_all-append}
 use Rattle.rollout_machine.specs.Actions.{ActionPlace, action_place, action_places, history}

@@ -1,6 +1,5 @@
 -- Why a read at a list of accepted commands is no failed store by itself.
-use Rattle.std.proofs.Common.{Result, Ok, Err, subst}
-use Rattle.desk_reads.proofs.Common.{CommandList, IsValid, Records, records, HoldsLedger, FailsAtListsIn}
+use Rattle.desk_reads.proofs.Common.{Result, Ok, Err, subst, CommandList, IsValid, Records, records, HoldsLedger, FailsAtListsIn}
 use Rattle.std.specs.Result.{IsErr}
 use Rattle.sqlite.specs.Store.{Ghosts}
 use Rattle.sql_calls.specs.Standing.{Sees}

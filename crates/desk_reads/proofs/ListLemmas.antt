@@ -1,9 +1,7 @@
 -- What the records of a list of accepted commands have.
-use Rattle.std.proofs.Common.{◌≡◌, ◌≤◌, ◌<◌, ◌-◌, ℕ, zero, suc, ◌+◌, nat_eq, Bool, true, false, cond, ◌∷◌, length, Option, Some, None, Result, Ok, Err, refl, sym, ap, subst, ◌∙◌, arith, add-one}
-use Rattle.std.specs.Prelude.{slice_get}
+use Rattle.desk_reads.proofs.Common.{◌≡◌, ◌≤◌, ◌<◌, ◌-◌, ℕ, zero, suc, ◌+◌, nat_eq, Bool, true, false, cond, ◌∷◌, length, Option, Some, None, Result, Ok, Err, refl, sym, ap, subst, ◌∙◌, arith, add-one, slice_get, finds_as, item_numbered, CommandList, Records, group_in, rollout_in, rollouts_in, IsValid, RolloutRecord, each_there, length_each, HoldsLedger, ledger_of, parts_of, groups_of, numbered_from, AreOfList, last_in, last_place, Rollout, first_of, rollout_at, rollouts, size_in, size_of}
 use Rattle.sqlite.specs.State.{State}
 use Rattle.sql_calls.specs.Standing.{Finds}
-use Rattle.desk_reads.proofs.Common.{finds_as, item_numbered, CommandList, Records, group_in, rollout_in, rollouts_in, IsValid, RolloutRecord, each_there, length_each, HoldsLedger, ledger_of, parts_of, groups_of, numbered_from, AreOfList, last_in, last_place, Rollout, first_of, rollout_at, rollouts, size_in, size_of}
 use Rattle.rollout_machine.specs.Records.{records}
 use Rattle.rollout_machine.specs.Effects.{HasSoundPlan}
 use Rattle.rollout_machine.specs.Ranges.{each_from}

@@ -1,6 +1,5 @@
 -- The members of the rollouts of a list of accepted commands are ids.
-use Rattle.std.proofs.Common.{◌≡◌, ◌⊎◌, inl, inr, ℕ, suc, Bool, true, false, cond, List, [], ◌∷◌, map, filter, Option, Some, None, refl, sym, ap, subst, ◌∙◌}
-use Rattle.desk_reads.proofs.Common.{and_parts, same_bytes, bytes_below, with_word, with_words, CommandList, Make, ◌▸◌, rollouts_in, IsValid, RolloutRecord, Target, import_rows_of, target_ids, target_in, targets, has_either, has_filtered, test_has, Has, is_target_row, is_word, IsWellFormed, Bytes, Command, CreateRollout, PutTargets, TargetRow, Rollout, chosen, created, rollouts, has_mapped}
+use Rattle.desk_reads.proofs.Common.{◌≡◌, ◌⊎◌, inl, inr, ℕ, suc, Bool, true, false, cond, List, [], ◌∷◌, map, filter, Option, Some, None, refl, sym, ap, subst, ◌∙◌, and_parts, same_bytes, bytes_below, with_word, with_words, CommandList, Make, ◌▸◌, rollouts_in, IsValid, RolloutRecord, Target, import_rows_of, target_ids, target_in, targets, has_either, has_filtered, test_has, Has, is_target_row, is_word, IsWellFormed, Bytes, Command, CreateRollout, PutTargets, TargetRow, Rollout, chosen, created, rollouts, has_mapped}
 use Rattle.rollout_machine.specs.Records.{records}
 use Rattle.rollout_machine.specs.Filters.{matches}
 use Rattle.target_filter.specs.Grammar.{Tree}

@@ -1,7 +1,6 @@
 -- What is said of the groups of a rollout, as it is read.
-use Rattle.std.proofs.Common.{◌≡◌, ◌≤◌, ℕ, zero, suc, Some, refl, sym, ap, ◌∙◌, arith}
+use Rattle.desk_reads.proofs.Common.{◌≡◌, ◌≤◌, ℕ, zero, suc, Some, refl, sym, ap, ◌∙◌, arith, item_numbered, Records, RolloutRecord, each_there, numbered_each, ledger_of, rule_numbered, rules_numbered, RolloutPlan, number_of, is_number, Bool, true, false, None}
 use Rattle.std.proofs.lemmas.Option.{slice_get-map}
-use Rattle.desk_reads.proofs.Common.{item_numbered, Records, RolloutRecord, each_there, numbered_each, ledger_of, rule_numbered, rules_numbered, RolloutPlan}
 use Rattle.rollout_machine.specs.GroupRules.{GroupRule, rule_at, rules_of}
 
 -- those of a rollout that is there are its plan's
@@ -21,3 +20,10 @@ rule_there plan (suc k) least most = each_there (rule_at plan) 1 plan.groups.cou
 -- what is said of a group of a rollout that is there
 pub said_of : (r : Records) (number i : ℕ) (x : RolloutRecord) (rule : GroupRule) → item_numbered r.rollouts number ≡ Some x → Some rule ≡ rule_numbered (ledger_of r).rules number i → rule ≡ rule_at x.plan i
 said_of r number i x rule there found = rule_is x.plan i rule (ap (λ its. item_numbered its i) (sym (rules_there r number x there)) ∙ sym found)
+
+-- a number in its range is itself
+pub same_number : (n k : ℕ) → number_of n ≡ Some k → k ≡ n
+same_number n k is = go (is_number n) refl where
+  go : (b : Bool) → is_number n ≡ b → k ≡ n
+  go true good = let same : Some n ≡ Some k = (rw good at is) in sym (cc)
+  go false bad = let none : None ≡ Some k = (rw bad at is) in absurd (cc)

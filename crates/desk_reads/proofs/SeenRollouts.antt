@@ -1,6 +1,5 @@
 -- Rollouts as they are read.
-use Rattle.std.proofs.Common.{◌≡◌, ℕ, Option, Some, None, refl, sym, ap, ◌∙◌}
-use Rattle.desk_reads.proofs.Common.{option_map, item_numbered, Records, RolloutRecord, parts_of, groups_of, IsSeenOf, AreOfList}
+use Rattle.desk_reads.proofs.Common.{◌≡◌, ℕ, Option, Some, None, refl, sym, ap, ◌∙◌, option_map, item_numbered, Records, RolloutRecord, parts_of, groups_of, IsSeenOf, AreOfList}
 use Rattle.campaign_core.specs.RolloutChecks.{BothOrNone}
 use Rattle.desk_records.specs.RolloutRow.{stored_rollout}
 use Rattle.desk_records.specs.declared.rollout_row.StoredRollout.{StoredRollout}

@@ -1,6 +1,5 @@
 -- The targets of accepted commands keep their rules: of their tags, that they are few words and none stands twice.
-use Rattle.std.proofs.Common.{◌≡◌, ◌⊎◌, inl, inr, ◌≤◌, ◌<◌, suc, Bool, true, false, cond, ◌&&◌, ◌||◌, not, nat_eq, nat_le, List, [], ◌∷◌, length, map, find, is_none, Option, Some, None, refl, sym, ap, subst, ◌∙◌, arith, true≢false}
-use Rattle.desk_reads.proofs.Common.{and_parts, and_from, le-leb, leb-false, leb-true, contains_word, same_bytes, bytes_below, sorted_words, with_word, without_word, CommandList, Make, ◌▸◌, Target, attributes_in, import_rows_of, last_row_for, last_row_of, tags_by_row, tags_in, target_ids, target_in, with_attribute, with_attributes, IsSorted, AllAbove, below_apart, sorted_with, with_there, IsValid, tags_of, target_of, verdict, verdict_row, pointwise, list_all, list_any, is_some, option_or, unwrap_or, Has, same_by, same_pointwise, same_sym, same_true, NoneHolds, none_holds, IsWellFormed, is_credential, Attribute, Bytes, Command, PutAttributes, PutTargets, Tag, TargetRow, Untag, is_target_row, are_distinct_words, is_digest, is_tag_list, is_text, is_word, has_mapped}
+use Rattle.desk_reads.proofs.Common.{◌≡◌, ◌⊎◌, inl, inr, ◌≤◌, ◌<◌, suc, Bool, true, false, cond, ◌&&◌, ◌||◌, not, nat_eq, nat_le, List, [], ◌∷◌, length, map, find, is_none, Option, Some, None, refl, sym, ap, subst, ◌∙◌, arith, true≢false, and_parts, and_from, le-leb, leb-false, leb-true, contains_word, same_bytes, bytes_below, sorted_words, with_word, without_word, CommandList, Make, ◌▸◌, Target, attributes_in, import_rows_of, last_row_for, last_row_of, tags_by_row, tags_in, target_ids, target_in, with_attribute, with_attributes, IsSorted, AllAbove, below_apart, sorted_with, with_there, IsValid, tags_of, target_of, verdict, verdict_row, pointwise, list_all, list_any, is_some, option_or, unwrap_or, Has, same_by, same_pointwise, same_sym, same_true, NoneHolds, none_holds, IsWellFormed, is_credential, Attribute, Bytes, Command, PutAttributes, PutTargets, Tag, TargetRow, Untag, is_target_row, are_distinct_words, is_digest, is_tag_list, is_text, is_word, has_mapped}
 use Rattle.rollout_machine.proofs.Orders.{sorted_all, sorted_without}
 use Rattle.rollout_machine.proofs.TargetMeanings.{targets_are_named}
 use Rattle.rollout_machine.specs.Records.{records}

@@ -1,12 +1,11 @@
 -- What is read of actions and offers, where a ledger is held.
-use Rattle.std.proofs.Common.{◌≡◌, ◌≤◌, ℕ, ◌+◌, pos, List, [], ◌∷◌, map, filter, take, drop, length, slice_get, Bool, true, false, cond, Option, Some, None, option_map, refl, ap, ◌∙◌, nat_eq}
-use Rattle.desk_records.proofs.Common.{zip, take-map, drop-map, Value, Null, Int, Text, Row, Binary, Term, col, Select, Database, plain, agree, rows_from, ShowsFirst, on_content, keys_apart, reads_key, numbered_in_order, simple, by, passes, shown_of, item_numbered, same_bytes, Bytes, TargetOffer, offer_to, ActionRecord, Offer, Tally, action_row, actor_of, outcome_code, HoldsLedger, Ledger, IsLastRow, is_to, offer_row, actions_of, actions_for, listed_where, stored_action, flag, Actions, Offers, offer_table}
+use Rattle.desk_records.proofs.Common.{◌≡◌, ◌≤◌, ℕ, ◌+◌, pos, List, [], ◌∷◌, map, filter, take, drop, length, slice_get, Bool, true, false, cond, Option, Some, None, option_map, refl, ap, ◌∙◌, nat_eq, zip, take-map, drop-map, Value, Null, Int, Text, Row, Binary, Term, col, Select, Database, plain, agree, rows_from, ShowsFirst, on_content, keys_apart, reads_key, numbered_in_order, simple, by, passes, shown_of, item_numbered, same_bytes, Bytes, TargetOffer, offer_to, ActionRecord, Offer, Tally, action_row, actor_of, outcome_code, HoldsLedger, Ledger, IsLastRow, is_to, offer_row, actions_of, actions_for, listed_where, stored_action, flag, Actions, Offers, offer_table, and-true}
 use Rattle.sqlite.specs.Effect.{Reads as Shows}
 use Rattle.sqlite_value.specs.Keys.{first_key}
 use Rattle.desk_records.specs.declared.rollout_row.ListedAction.{ListedAction}
 use Rattle.desk_records.specs.declared.rollout_row.StoredAction.{StoredAction}
 use Rattle.desk_records.proofs.ActionMeaning.{last_action_query, action_columns, listed_columns, list_actions_query, list_target_actions_query, of_rollout, of_actor, of_controller, offer_columns}
-use Rattle.desk_records.proofs.Comparisons.{and_true, numbers_equal, words_equal}
+use Rattle.desk_records.proofs.Comparisons.{numbers_equal, words_equal}
 use Rattle.desk_records.proofs.MeaningWords.{at_key}
 use Rattle.desk_records.proofs.NumberedReads.{gets, lasts, passes_number}
 use Rattle.desk_records.proofs.TargetRecords.{first_row}
@@ -65,12 +64,12 @@ module _ (db : Database) (l : Ledger) (holds : HoldsLedger db l) (names : List (
   -- those of a rollout
   pub lists_actions : (rollout limit offset : ℕ) (rows : List Row) → Shows (Select (record { lets = []; body = list_actions_query tree }) names) db (Int (pos rollout) ∷ Int (pos limit) ∷ Int (pos offset) ∷ []) rows
       → rows ≡ map told_listed (take limit (drop offset (actions_of l.records.rollouts rollout 1 xs)))
-  lists_actions rollout limit offset = lists_where (Int (pos rollout)) of_rollout (λ it. nat_eq it.0.rollout rollout) limit offset (λ n y. and_true _ ∙ numbers_equal y.0.rollout rollout)
+  lists_actions rollout limit offset = lists_where (Int (pos rollout)) of_rollout (λ it. nat_eq it.0.rollout rollout) limit offset (λ n y. and-true _ ∙ numbers_equal y.0.rollout rollout)
 
   -- those of a target
   pub lists_target_actions : (id : Bytes) (limit offset : ℕ) (rows : List Row) → Shows (Select (record { lets = []; body = list_target_actions_query tree }) names) db (Text id ∷ Int (pos limit) ∷ Int (pos offset) ∷ []) rows
       → rows ≡ map told_listed (take limit (drop offset (actions_for l.records.rollouts id 1 xs)))
-  lists_target_actions id limit offset = lists_where (Text id) of_actor (λ it. same_bytes (actor_of l.records.rollouts it.0) id) limit offset (λ n y. and_true _ ∙ words_equal (actor_of l.records.rollouts y.0) id)
+  lists_target_actions id limit offset = lists_where (Text id) of_actor (λ it. same_bytes (actor_of l.records.rollouts it.0) id) limit offset (λ n y. and-true _ ∙ words_equal (actor_of l.records.rollouts y.0) id)
 
 -- ---- offers
 
@@ -84,7 +83,7 @@ offer_keyed given r h = h
 
 -- of all rows a statement may name, those of the id
 pub names_offer : (id : Bytes) (more : Row) (o : TargetOffer) → on_content (passes of_controller (Text id ∷ more)) (offer_row o) ≡ is_to id o
-names_offer id more o = and_true _ ∙ words_equal o.target id
+names_offer id more o = and-true _ ∙ words_equal o.target id
 
 pub its_offers : (p : Row → Bool) (id : Bytes) → ((o : TargetOffer) → p (offer_row o) ≡ is_to id o) → (listed : List TargetOffer) → filter p (map offer_row listed) ≡ map offer_row (filter (is_to id) listed)
 its_offers p id is [] = refl

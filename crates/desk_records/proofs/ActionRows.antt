@@ -1,6 +1,5 @@
 -- What LIST_ACTIONS shows where it is asked for all of a rollout, whatever rows the table of actions has.
-use Rattle.std.proofs.Common.{◌≡◌, ℕ, pos, negsuc, List, [], ◌∷◌, filter, filter_map, length, refl, ap, ◌∙◌}
-use Rattle.desk_records.proofs.Common.{Null, Int, Row, Select, Database, Query, Has, passes, has_at, Actions, HoldsTables, Tables}
+use Rattle.desk_records.proofs.Common.{◌≡◌, ℕ, pos, negsuc, List, [], ◌∷◌, filter, filter_map, length, refl, ap, ◌∙◌, Null, Int, Row, Select, Database, Query, Has, passes, has_at, Actions, HoldsTables, Tables}
 use Rattle.sqlite.specs.Effect.{Reads as Shows}
 use Rattle.desk_records.specs.CheckedRows.{counted_of}
 use Rattle.desk_records.specs.CountedActions.{AreCounted, passes_if_there}

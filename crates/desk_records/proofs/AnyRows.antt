@@ -1,6 +1,5 @@
 -- What a statement on one table shows, whatever rows the table has: those that pass, in its order.
-use Rattle.std.proofs.Common.{◌≡◌, inl, ◌≤◌, ◌<◌, ℕ, ◌+◌, ◌&&◌, pos, Bool, true, false, List, [], ◌∷◌, map, filter, length, get_or, true≢false, refl, sym, ap, subst, ◌∙◌, arith, IsPermutation}
-use Rattle.desk_records.proofs.Common.{AllZip, list_all, is_lt, nat_tests, ints, length-map, Contains-get_or, length_permutation, IsPermutation-sym, IsNonDecreasingBy-from_all_adjacent, Int, Row, column, value_cmp, value_cmp-Int, then-Equal, Binary, Query, IsAnswer, Output, output_cmp, page, Term, col, Trees, overlay, Has, has_contained, has_filtered, has_kept, fails_has, simple, by, passes, shown_of, shown_in, ordered_rows, IsOrdered, AreBroken, AreSaid, IsAmong, IsOnly, IsSaid}
+use Rattle.desk_records.proofs.Common.{◌≡◌, inl, ◌≤◌, ◌<◌, ℕ, ◌+◌, ◌&&◌, pos, Bool, true, false, List, [], ◌∷◌, map, filter, length, get_or, true≢false, refl, sym, ap, subst, ◌∙◌, arith, IsPermutation, AllZip, list_all, is_lt, nat_tests, ints, length-map, Contains-get_or, length_permutation, IsPermutation-sym, IsNonDecreasingBy-from_all_adjacent, Int, Row, column, value_cmp, value_cmp-Int, then-Equal, Binary, Query, IsAnswer, Output, output_cmp, page, Term, col, Trees, overlay, Has, has_contained, has_filtered, has_kept, fails_has, simple, by, passes, shown_of, shown_in, ordered_rows, IsOrdered, AreBroken, AreSaid, IsAmong, IsOnly, IsSaid}
 use Rattle.std.specs.List.Sorted.{IsNonDecreasingBy}
 use Rattle.sqlite_value.specs.declared.keys.Key.{Key}
 use Rattle.desk_records.proofs.Membership.{has_alone, has_mapped, has_permuted, map_has, mapped_at, mapped_pass, both_pass, permuted_pass, same_kept, zip_at, zip_left, zip_length, zip_right}

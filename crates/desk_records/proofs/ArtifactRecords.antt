@@ -1,6 +1,5 @@
 -- The statements on artifacts and their pieces, in records.
-use Rattle.std.proofs.Common.{◌≡◌, ◌≤◌, ◌++◌, ℕ, ◌+◌, pos, List, [], ◌∷◌, length, Option, None, option_map, refl, sym, ap, subst, ◌∙◌}
-use Rattle.desk_records.proofs.Common.{list_any, is_some, Int, Blob, Row, col, Select, Insert, Values, Database, State, Writes, rows_from, IsHeldBy, ShowsFirst, simple, inserts, Bytes, item_numbered, artifacts_shown, Records, IsLastRow, Artifacts, Pieces, artifact_table, piece_table, told_of, artifact_row, piece_row, pieces_from, is_same_artifact, file_of, shown_rows, piece_numbered, artifact_filed, with_artifact, and_piece, AddsPiece, HoldsRecords, ledger_of, Ordered, Unordered}
+use Rattle.desk_records.proofs.Common.{◌≡◌, ◌≤◌, ◌++◌, ℕ, ◌+◌, pos, List, [], ◌∷◌, length, Option, None, option_map, refl, sym, ap, subst, ◌∙◌, list_any, is_some, Int, Blob, Row, col, Select, Insert, Values, Database, State, Writes, rows_from, IsHeldBy, ShowsFirst, simple, inserts, Bytes, item_numbered, artifacts_shown, Records, IsLastRow, Artifacts, Pieces, artifact_table, piece_table, told_of, artifact_row, piece_row, pieces_from, is_same_artifact, file_of, shown_rows, piece_numbered, artifact_filed, with_artifact, and_piece, AddsPiece, HoldsRecords, ledger_of, Ordered, Unordered}
 use Rattle.sqlite.specs.Effect.{Reads as Shows}
 use Rattle.desk_records.proofs.HoldsAfter.{ChangesOnly, holds_after, records_differ}
 use Rattle.desk_records.proofs.MeaningWords.{at_key}

@@ -1,11 +1,10 @@
 -- The statements on artifacts and their pieces, in lists of them.
-use Rattle.std.proofs.Common.{◌≡◌, ◌≤◌, ◌++◌, ℕ, suc, ◌+◌, ◌-◌, ◌*◌, pos, negsuc, List, [], ◌∷◌, map, filter, length, Bool, true, false, cond, Option, option_map, refl, sym, ap, subst, ◌∙◌, arith, nat_eq}
-use Rattle.desk_records.proofs.Common.{list_any, is_some, option_to_list, Null, Int, Blob, Row, put_row, next_rowid, lit, col, Select, Schema, Database, rows_from, IsHeldBy, ShowsFirst, simple, passes, shown_of, Inserted, given_rows, put_next, cast_int, cast_null, has_number, numbered_in_order, piece_length, Bytes, same_bytes, item_numbered, artifact_shown, artifacts_shown, ArtifactRecord, IsLastRow, artifact_table, piece_table, told_of, artifact_row, piece_row, pieces_in, pieces_from, is_same_artifact, file_of, shown_rows, pieces_of_artifact, piece_numbered, artifact_filed, and_piece}
+use Rattle.desk_records.proofs.Common.{◌≡◌, ◌≤◌, ◌++◌, ℕ, suc, ◌+◌, ◌-◌, ◌*◌, pos, negsuc, List, [], ◌∷◌, map, filter, length, Bool, true, false, cond, Option, option_map, refl, sym, ap, subst, ◌∙◌, arith, nat_eq, list_any, is_some, option_to_list, Null, Int, Blob, Row, put_row, next_rowid, lit, col, Select, Schema, Database, rows_from, IsHeldBy, ShowsFirst, simple, passes, shown_of, Inserted, given_rows, put_next, cast_int, cast_null, has_number, numbered_in_order, piece_length, Bytes, same_bytes, item_numbered, artifact_shown, artifacts_shown, ArtifactRecord, IsLastRow, artifact_table, piece_table, told_of, artifact_row, piece_row, pieces_in, pieces_from, is_same_artifact, file_of, shown_rows, pieces_of_artifact, piece_numbered, artifact_filed, and_piece, and-true}
 use Rattle.sqlite_sql.specs.Ops.{binary}
 use Rattle.sqlite.specs.Effect.{Reads as Shows}
 use Rattle.desk_records.proofs.MeaningWords.{at_key}
 use Rattle.desk_records.proofs.ArtifactMeaning.{same_file, last_artifact_query, told_columns, shown_columns, artifacts_query, artifact_terms, at_piece, piece_terms}
-use Rattle.desk_records.proofs.Comparisons.{judged, words_equal, numbers_equal, and_true}
+use Rattle.desk_records.proofs.Comparisons.{judged, words_equal, numbers_equal}
 use Rattle.desk_records.proofs.NumberedReads.{finds, lasts, gets}
 use Rattle.desk_records.proofs.Parts.{same_rows, no_parts, part_added}
 use Rattle.desk_records.proofs.PieceLists.{count_whole, one_more}
@@ -15,7 +14,7 @@ use Rattle.desk_records.proofs.PlacedParts.{Names, gets_part, its_part}
 
 module _ (tree : ℕ) (db : Database) (artifacts : List ArtifactRecord) (has : db.trees tree ≡ rows_from artifact_row 1 artifacts) (names : List (List ℕ)) where
   passes_file : (m : ℕ) (filename : Bytes) (number : ℕ) (a : ArtifactRecord) → passes same_file (file_of m filename) (artifact_row number a) ≡ is_same_artifact m filename a
-  passes_file m filename number a = rw (numbers_equal a.module_number m, words_equal a.filename filename, and_true (same_bytes a.filename filename)) refl
+  passes_file m filename number a = rw (numbers_equal a.module_number m, words_equal a.filename filename, and-true (same_bytes a.filename filename)) refl
 
   pub finds_artifact : (m : ℕ) (filename : Bytes) (row : Option Row) → ShowsFirst (Select (record { lets = []; body = simple tree same_file (col 1 0 ∷ []) }) names) db (file_of m filename) row
       → is_some row ≡ list_any (is_same_artifact m filename) artifacts
@@ -26,7 +25,7 @@ module _ (tree : ℕ) (db : Database) (artifacts : List ArtifactRecord) (has : d
 
   passes_number : (number n : ℕ) (a : ArtifactRecord) → passes (at_key 0 0 ∷ []) (Int (pos number) ∷ []) (artifact_row n a) ≡ has_number artifact_row (λ n x. refl) number (artifact_row n a)
   unfolding binary
-  passes_number number n a = and_true _ ∙ judged _
+  passes_number number n a = and-true _ ∙ judged _
 
   pub gets_artifact : (number : ℕ) → 1 ≤ number → (row : Option Row) → ShowsFirst (Select (record { lets = []; body = simple tree (at_key 0 0 ∷ []) told_columns }) names) db (Int (pos number) ∷ []) row
       → row ≡ option_map told_of (item_numbered artifacts number)
@@ -44,7 +43,7 @@ module _ (tree : ℕ) (db : Database) (artifacts : List ArtifactRecord) (has : d
   of_module m n [] = refl
   of_module m n (a ∷ xs) =
       let next : n + 1 ≡ suc n = omega arith in
-      go (nat_eq a.module_number m) (and_true _ ∙ numbers_equal a.module_number m) (of_module m (n + 1) xs ∙ ap (λ k. shown_rows (artifacts_shown m k xs)) next)
+      go (nat_eq a.module_number m) (and-true _ ∙ numbers_equal a.module_number m) (of_module m (n + 1) xs ∙ ap (λ k. shown_rows (artifacts_shown m k xs)) next)
     where
       go : (b : Bool) → is_of m (artifact_row n a) ≡ b → map (listed m) (filter (is_of m) (rows_from artifact_row (n + 1) xs)) ≡ shown_rows (artifacts_shown m (suc n) xs)
           → map (listed m) (filter (is_of m) (artifact_row n a ∷ rows_from artifact_row (n + 1) xs)) ≡ shown_rows (cond b (artifact_shown n a ∷ artifacts_shown m (suc n) xs) (artifacts_shown m (suc n) xs))

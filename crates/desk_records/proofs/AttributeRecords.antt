@@ -1,12 +1,11 @@
 -- The statements on attributes of targets, in records.
-use Rattle.std.proofs.Common.{◌≡◌, ◌∷◌, ◌&&◌, ℕ, pos, negsuc, List, [], Bool, true, false, cond, map, filter, flat_map, Option, Some, None, refl, sym, ap, subst, ◌∙◌, codes}
-use Rattle.desk_records.proofs.Common.{and_parts, Null, Int, Text, Row, plain, agree, cast_all, lit, col, Select, Insert, Update, Values, Database, State, Writes, IsHeldBy, Rise, strict, inserts, on_content, keys_apart, are_whole, changes_key, adds_row, reads_risen, passes, shown_of, updates, same_bytes, Bytes, Attribute, Records, Target, target_of, Targets, TargetTags, TargetAttributes, target_attribute_table, target_row, tag_rows, attribute_rows, in_byte_order, ids_of, keys_of, is_sorted, attributes_of, attributed, with_changed, AddsAttribute, SetsAttribute, HoldsRecords, ledger_of, Unordered}
+use Rattle.desk_records.proofs.Common.{◌≡◌, ◌∷◌, ◌&&◌, ℕ, pos, negsuc, List, [], Bool, true, false, cond, map, filter, flat_map, Option, Some, None, refl, sym, ap, subst, ◌∙◌, codes, and_parts, Null, Int, Text, Row, plain, agree, cast_all, lit, col, Select, Insert, Update, Values, Database, State, Writes, IsHeldBy, Rise, strict, inserts, on_content, keys_apart, are_whole, changes_key, adds_row, reads_risen, passes, shown_of, updates, same_bytes, Bytes, Attribute, Records, Target, target_of, Targets, TargetTags, TargetAttributes, target_attribute_table, target_row, tag_rows, attribute_rows, in_byte_order, ids_of, keys_of, is_sorted, attributes_of, attributed, with_changed, AddsAttribute, SetsAttribute, HoldsRecords, ledger_of, Unordered, and-true}
 use Rattle.sqlite_value.specs.Keys.{first_key}
 use Rattle.sqlite.specs.Kind.TheVariants as kind
 use Rattle.sqlite.specs.Effect.{Reads as Shows}
 use Rattle.desk_records.proofs.HoldsAfter.{ChangesOnly, holds_after, records_differ}
 use Rattle.desk_records.proofs.TargetMeaning.{of_target, attributes_query, attribute_terms, of_attribute, new_value, set_attribute_query}
-use Rattle.desk_records.proofs.Comparisons.{words_equal, and_true}
+use Rattle.desk_records.proofs.Comparisons.{words_equal}
 use Rattle.desk_records.proofs.ByteOrder.{sorted_from}
 use Rattle.desk_records.proofs.Targets.{changed_map, changed_rows, changed_sorted, rows_of, its_rows}
 use Rattle.desk_records.proofs.Attributes.{in_order_with_attribute, attribute_row, attributes_rise, attributes_sorted, attribute_is_more, attribute_is_set}
@@ -82,7 +81,7 @@ unfolding first_key
 both_fixed params r h = h
 
 names_attribute : (id : Bytes) (a : Attribute) (i : Bytes) (b : Attribute) → on_content (passes of_attribute (attribute_row id a)) (attribute_row i b) ≡ (same_bytes i id && same_bytes b.key a.key)
-names_attribute id a i b = rw (words_equal i id, words_equal b.key a.key) (ap (λ k. same_bytes i id && k) (and_true (same_bytes b.key a.key)))
+names_attribute id a i b = rw (words_equal i id, words_equal b.key a.key) (ap (λ k. same_bytes i id && k) (and-true (same_bytes b.key a.key)))
 
 pub sets_attribute : (id : Bytes) (a : Attribute) (old new : State) (text : List ℕ) (count : ℕ) (now next : Records) (holds : HoldsRecords old.now now) → SetsAttribute id a now next
     → (done : Writes old new None (Update (holds.spot TargetAttributes).at (record { lets = []; body = set_attribute_query (holds.spot TargetAttributes).tree })) text (attribute_row id a) count) → HoldsRecords new.now next

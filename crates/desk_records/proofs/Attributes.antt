@@ -1,6 +1,5 @@
 -- The attributes of targets and their rows, in lists alone.
-use Rattle.std.proofs.Common.{◌≡◌, ◌++◌, Bool, true, false, cond, ◌&&◌, ◌||◌, List, [], ◌∷◌, map, Option, Some, None, refl, sym, ap, ap₂, ◌∙◌, subst, IsPermutation, flat_map, find}
-use Rattle.desk_records.proofs.Common.{list_all, AllByRecursion, is_gt, is_some, and_parts, or_parts, false≢true, map-append, IsPermutation-refl, IsPermutation-trans, IsPermutation-cons, IsPermutation-middle, IsPermutation-map, Text, Row, by_column, Rise, changed, same_bytes, bytes_below, contains_word, with_word, Bytes, Attribute, change_target, Target, with_attribute, IsSorted, above_more, not_above, same_sym, same_true, attribute_rows, in_byte_order, keys_of, ids_of, is_sorted, attributes_of, attributed}
+use Rattle.desk_records.proofs.Common.{◌≡◌, ◌++◌, Bool, true, false, cond, ◌&&◌, ◌||◌, List, [], ◌∷◌, map, Option, Some, None, refl, sym, ap, ap₂, ◌∙◌, subst, IsPermutation, flat_map, find, list_all, AllByRecursion, is_gt, is_some, and_parts, or_parts, false≢true, map-append, IsPermutation-refl, IsPermutation-trans, IsPermutation-cons, IsPermutation-middle, IsPermutation-map, Text, Row, by_column, Rise, changed, same_bytes, bytes_below, contains_word, with_word, Bytes, Attribute, change_target, Target, with_attribute, IsSorted, above_more, not_above, same_sym, same_true, attribute_rows, in_byte_order, keys_of, ids_of, is_sorted, attributes_of, attributed}
 use Rattle.desk_records.proofs.ByteOrder.{below_rises, sorted_from, in_order_with}
 use Rattle.desk_records.proofs.Targets.{has_id, id_found, none_after, unchanged, one_more}
 

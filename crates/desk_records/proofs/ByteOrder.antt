@@ -1,6 +1,5 @@
 -- Lists of words in byte order.
-use Rattle.std.proofs.Common.{◌≡◌, ℕ, Bool, true, false, cond, ◌||◌, ◌&&◌, List, [], ◌∷◌, refl, sym, ap, ◌∙◌, subst, nat_eq, nat_lt, nat_cmp, IsPermutation, Ordering}
-use Rattle.desk_records.proofs.Common.{list_all, is_gt, ordering_then, and_parts, or_parts, false≢true, IsPermutation-refl, IsPermutation-trans, IsPermutation-cons, IsPermutation-middle, Text, value_cmp, value_cmp-Text, same_bytes, bytes_below, contains_word, with_word, without_word, Bytes, AllAbove, IsSorted, sorted_with, in_byte_order}
+use Rattle.desk_records.proofs.Common.{◌≡◌, ℕ, Bool, true, false, cond, ◌||◌, ◌&&◌, List, [], ◌∷◌, refl, sym, ap, ◌∙◌, subst, nat_eq, nat_lt, nat_cmp, IsPermutation, Ordering, list_all, is_gt, ordering_then, and_parts, or_parts, false≢true, IsPermutation-refl, IsPermutation-trans, IsPermutation-cons, IsPermutation-middle, Text, value_cmp, value_cmp-Text, same_bytes, bytes_below, contains_word, with_word, without_word, Bytes, AllAbove, IsSorted, sorted_with, in_byte_order}
 use Rattle.std.specs.Cmp.Lexicographic.{slice_cmp}
 use Rattle.rollout_machine.proofs.Orders.{sorted_without}
 

@@ -1,4 +1,5 @@
 -- The names of other modules that the proofs here cite, passed on from one place. Declares nothing.
+pub use Rattle.std.proofs.Common.{◌≡◌, ℕ, zero, suc, ◌+◌, ◌-◌, ◌*◌, ◌/◌, ◌%◌, ◌^◌, ◌<◌, ◌≤◌, min, Bool, true, false, cond, not, ◌&&◌, ◌||◌, ◌≢◌, ◌⊎◌, List, [], ◌∷◌, ◌++◌, map, reverse, length, get_or, take, drop, set, ℤ, pos, negsuc, IfNone, if◌then◌else◌, nat_eq, nat_lt, nat_le, ◌==◌, slice_get, slice_index, Some, None, Ok, string_bytes, codes, All, filter, Option, IsPermutation, find, filter_map, nat_cmp, int_cmp, Ordering, Less, Equal, Greater, sym, refl, ap, ◌∙◌, subst, ap₂, inl, inr, append_assoc, append-nil, arith, length-append, rules}
 pub use Rattle.std.proofs.lemmas.Bool.{and_parts, cases_Bool, cases_eq, false≢true, le-leb, or_cases, or_parts, true≢false}
 pub use Rattle.std.proofs.lemmas.Bool.Decides.{nat_tests}
 pub use Rattle.std.proofs.lemmas.Grind.{common_steps, div_ceil_times, reverse_onto}
@@ -69,9 +70,9 @@ pub use Rattle.rollout_machine.specs.declared.records.RolloutRecord.{RolloutReco
 pub use Rattle.offer_laws.specs.GroupOffers.{OffersById, group_offers, lesser, member_of, offers_from, put_offer, put_offers}
 pub use Rattle.sql_calls.proofs.Finding.{ShowsFirst}
 pub use Rattle.sql_calls.proofs.Inserts.{Inserted, given_rows, inserts}
-pub use Rattle.sql_calls.proofs.KeyedOrder.{reads_risen}
+pub use Rattle.sql_calls.proofs.KeyedOrder.{is_there, reads_risen}
 pub use Rattle.sql_calls.proofs.KeyedRows.{IsBlind, changed, found_id, held_added, held_changed, held_seen, next_is, on_content}
-pub use Rattle.sql_calls.proofs.KeyedTables.{adds_row, are_whole, changes_key, drops, is_among, keys_apart, none_passes, one_written, only_one, reads_key, written}
+pub use Rattle.sql_calls.proofs.KeyedTables.{adds_row, are_whole, changes_key, drops, is_among, keys_apart, none_passes, one_written, only_one, reads_key, short, written}
 pub use Rattle.sql_calls.proofs.NumberedRows.{cast_int, cast_null, put_next}
 pub use Rattle.sql_calls.proofs.NumberedTables.{at_number, filter_numbered, has_number, last_number, last_of, last_query, number_query, numbered_in_order, row_of, sets_at}
 pub use Rattle.sql_calls.proofs.Selects.{IsOrdered, by, ordered_rows, passes, shown_in, shown_of, simple, simple_rows}
@@ -102,3 +103,6 @@ pub use Rattle.desk_records.specs.TargetRow.{has_value}
 pub use Rattle.desk_records.specs.Targets.{AddsAttribute, AddsTag, AddsTarget, SetsAttribute, are_sorted, attribute_rows, attributed, attributes_of, ids_of, in_byte_order, is_sorted, keys_of, renamed, tag_rows, tagged, target_row, untagged, with_changed, with_target}
 pub use Rattle.desk_records.specs.Versions.{newest, number_of, places_at}
 pub use Rattle.desk_records.specs.declared.number_row.PlacedNumber.{PlacedNumber}
+pub use Rattle.std.proofs.Math.Bool.{and-true, and_assoc, not-not}
+pub use Rattle.sql_front.proofs.Found.{same_some}
+pub use Rattle.sql_calls.proofs.Counts.{count_query}

@@ -1,7 +1,6 @@
 -- What is read of the desk's own row, where a ledger is held.
-use Rattle.std.proofs.Common.{◌≡◌, List, [], ◌∷◌, map, filter, ℕ, pos, codes, Bool, Option, Some, ap, subst, ◌∙◌, refl, IsPermutation}
-use Rattle.desk_records.proofs.Common.{Null, Int, Text, Row, Term, lit, col, Select, Database, ShowsFirst, passes, shown_of, simple_rows, HoldsLedger, Ledger, desk_row, newest, number_of, flag, Desk}
-use Rattle.desk_records.proofs.Comparisons.{and_true, numbers_equal}
+use Rattle.desk_records.proofs.Common.{◌≡◌, List, [], ◌∷◌, map, filter, ℕ, pos, codes, Bool, Option, Some, ap, subst, ◌∙◌, refl, IsPermutation, Null, Int, Text, Row, Term, lit, col, Select, Database, ShowsFirst, passes, shown_of, simple_rows, HoldsLedger, Ledger, desk_row, newest, number_of, flag, Desk, and-true}
+use Rattle.desk_records.proofs.Comparisons.{numbers_equal}
 use Rattle.desk_records.proofs.Meaning.{desk_query}
 use Rattle.desk_records.proofs.MeaningWords.{is_equal}
 use Rattle.desk_records.proofs.NumberedReads.{first_found}
@@ -17,7 +16,7 @@ abbrev columns : List Term
 columns = col 1 2 ∷ col 1 3 ∷ col 1 4 ∷ []
 
 one_desk : (approval : Bool) → filter (passes first []) (desk_row newest approval ∷ []) ≡ desk_row newest approval ∷ []
-one_desk approval = rw (and_true _ ∙ numbers_equal 1 1) refl
+one_desk approval = rw (and-true _ ∙ numbers_equal 1 1) refl
 
 module _ (db : Database) (l : Ledger) (holds : HoldsLedger db l) (names : List (List ℕ)) where
   -- the row is there

@@ -1,6 +1,5 @@
 -- Texts of details: each line ended by a line feed.
-use Rattle.std.proofs.Common.{◌≡◌, ◌≢◌, ◌≤◌, ◌<◌, ℕ, suc, Bool, true, false, not, nat_eq, nat_le, List, [], ◌∷◌, ◌++◌, length, get_or, Option, Some, None, IfNone, refl, sym, ap, ap₂, subst, ◌∙◌, arith, append-nil, append_assoc, length-append, if◌then◌else◌}
-use Rattle.desk_records.proofs.Common.{list_all, IsUtf8, is_utf8, and_parts, nat_tests, list_all-append, IsUtf8-append, IsUtf8-from_ascii, IsUtf8-from_is_utf8, IsUtf8-nil, Value, Text, Bytes, are_details, detail_of, details_of, is_detail, is_text_letter, lines_of}
+use Rattle.desk_records.proofs.Common.{◌≡◌, ◌≢◌, ◌≤◌, ◌<◌, ℕ, suc, Bool, true, false, not, nat_eq, nat_le, List, [], ◌∷◌, ◌++◌, length, get_or, Option, Some, None, IfNone, refl, sym, ap, ap₂, subst, ◌∙◌, arith, append-nil, append_assoc, length-append, if◌then◌else◌, list_all, IsUtf8, is_utf8, and_parts, nat_tests, list_all-append, IsUtf8-append, IsUtf8-from_ascii, IsUtf8-from_is_utf8, IsUtf8-nil, Value, Text, Bytes, are_details, detail_of, details_of, is_detail, is_text_letter, lines_of}
 use Rattle.std.proofs.lemmas.Str.Ascii.{IsAscii-cons, IsAscii-nil}
 use Rattle.desk_records.specs.EntryRow.{HasNoDetails}
 

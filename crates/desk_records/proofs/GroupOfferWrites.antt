@@ -1,6 +1,5 @@
 -- The statement that offers the actions of a group, in ledgers.
-use Rattle.std.proofs.Common.{◌≡◌, ℕ, suc, ◌+◌, pos, Bool, true, false, cond, ◌&&◌, nat_le, nat_eq, List, [], ◌∷◌, map, filter, length, None, Some, refl, sym, ap, subst, ◌∙◌, arith, Ok}
-use Rattle.desk_records.proofs.Common.{zip, Null, Int, Row, lit, Database, State, Writes, all_from, key_at, rows_from, numbered_in_order, passes, shown_of, PutsEach, each_keeps, uncollated, upserts_from, holds_position, TargetOffer, Records, Bounds, ActionRecord, group_offers, member_of, offers_from, put_offers, Tally, action_row, HoldsLedger, Ledger, OffersGroup, Actions, Offers, offer_table}
+use Rattle.desk_records.proofs.Common.{◌≡◌, ℕ, suc, ◌+◌, pos, Bool, true, false, cond, ◌&&◌, nat_le, nat_eq, List, [], ◌∷◌, map, filter, length, None, Some, refl, sym, ap, subst, ◌∙◌, arith, Ok, zip, Null, Int, Row, lit, Database, State, Writes, all_from, key_at, rows_from, numbered_in_order, passes, shown_of, PutsEach, each_keeps, uncollated, upserts_from, holds_position, TargetOffer, Records, Bounds, ActionRecord, group_offers, member_of, offers_from, put_offers, Tally, action_row, HoldsLedger, Ledger, OffersGroup, Actions, Offers, offer_table}
 use Rattle.sqlite.specs.Source.TheVariants.{Query as Queried}
 use Rattle.sql_front.proofs.Upsert.{key_found}
 use Rattle.sql_calls.proofs.KeyConflicts.{HasKeyIndex, key_index, key_only}

@@ -1,7 +1,6 @@
 -- What the text means that offers the actions of a group, wherever its two tables stand.
-use Rattle.std.proofs.Common.{◌≡◌, refl, List, [], ◌∷◌, ℕ, codes, Ok, pos, negsuc, false}
+use Rattle.desk_records.proofs.Common.{◌≡◌, refl, List, [], ◌∷◌, ℕ, codes, Ok, pos, negsuc, false, Binary, Schema, Command, InsertOr, Query, Term, lit, col, op2, Compare, Lt, key_at, Stands, Means, simple, by, action_table, offer_table}
 use Rattle.sqlite.specs.declared.types.Value.TheVariants.{Null, Int}
-use Rattle.desk_records.proofs.Common.{Binary, Schema, Command, InsertOr, Query, Term, lit, col, op2, Compare, Lt, key_at, Stands, Means, simple, by, action_table, offer_table}
 use Rattle.sqlite.specs.Source.TheVariants.{Query as Queried}
 use Rattle.sqlite_schema.specs.declared.command.Conflict.TheVariants.{Abort}
 use Rattle.sqlite_tied.specs.Compute.{everything}

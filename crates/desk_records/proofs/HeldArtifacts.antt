@@ -1,6 +1,5 @@
 -- What the tables of artifacts and pieces have where a ledger is held.
-use Rattle.std.proofs.Common.{◌≤◌, ℕ, ◌∷◌, Option, Some, None, option_map, refl, sym, subst}
-use Rattle.desk_records.proofs.Common.{AllZip, option_to_list, Null, Row, Database, Has, Bytes, ArePieces, lies_at, artifact_row, piece_numbered, piece_row, pieces_from, HoldsLedger, Ledger, Artifacts, Pieces, IsPiece, HoldsTables, Tables}
+use Rattle.desk_records.proofs.Common.{◌≤◌, ℕ, ◌∷◌, Option, Some, None, option_map, refl, sym, subst, AllZip, option_to_list, Null, Row, Database, Has, Bytes, ArePieces, lies_at, artifact_row, piece_numbered, piece_row, pieces_from, HoldsLedger, Ledger, Artifacts, Pieces, IsPiece, HoldsTables, Tables}
 use Rattle.desk_records.proofs.Artifacts.{its_piece}
 use Rattle.desk_records.proofs.HeldTables.{IsNumbered, held_rows, held_said, numbered}
 

@@ -1,6 +1,5 @@
 -- Where the rows of numbered records and of their parts are, and how many are of one record.
-use Rattle.std.proofs.Common.{◌≡◌, inl, inr, ◌<◌, ℕ, zero, suc, ◌+◌, pos, Bool, true, false, cond, List, [], ◌∷◌, ◌++◌, filter, length, slice_get, nat_eq, Some, refl, sym, ap, subst, ◌∙◌, arith}
-use Rattle.desk_records.proofs.Common.{nat_tests, Int, Row, Has, has_left, has_right, AreIn, IsHeldBy, rows_from, has_at, part_row, parts_from}
+use Rattle.desk_records.proofs.Common.{◌≡◌, inl, inr, ◌<◌, ℕ, zero, suc, ◌+◌, pos, Bool, true, false, cond, List, [], ◌∷◌, ◌++◌, filter, length, slice_get, nat_eq, Some, refl, sym, ap, subst, ◌∙◌, arith, nat_tests, Int, Row, Has, has_left, has_right, AreIn, IsHeldBy, rows_from, has_at, part_row, parts_from}
 use Rattle.desk_records.proofs.Membership.{permuted_pass}
 
 -- ---- places in a list

@@ -1,6 +1,5 @@
 -- What tables have where a ledger is held, whatever rowids nobody knows.
-use Rattle.std.proofs.Common.{◌≡◌, ◌⊎◌, inl, inr, ◌≤◌, ◌<◌, ℕ, suc, ◌+◌, pos, Bool, true, false, List, [], ◌∷◌, filter, length, slice_get, nat_lt, Some, refl, sym, ap, subst, ◌∙◌, arith}
-use Rattle.desk_records.proofs.Common.{AllZip, nat_tests, length-map, IsPermutation-sym, length_permutation, Value, Int, Null, Row, Database, Table, Has, has_either, has_filtered, has_kept, has_left, has_right, AreIn, IsHeldBy, rows_from, IsBlind, held_seen, on_content, HoldsLedger, IsHeld, Ledger, AreSaid, parts_from, Place, table_at, HoldsTables, Tables}
+use Rattle.desk_records.proofs.Common.{◌≡◌, ◌⊎◌, inl, inr, ◌≤◌, ◌<◌, ℕ, suc, ◌+◌, pos, Bool, true, false, List, [], ◌∷◌, filter, length, slice_get, nat_lt, Some, refl, sym, ap, subst, ◌∙◌, arith, AllZip, nat_tests, length-map, IsPermutation-sym, length_permutation, Value, Int, Null, Row, Database, Table, Has, has_either, has_filtered, has_kept, has_left, has_right, AreIn, IsHeldBy, rows_from, IsBlind, held_seen, on_content, HoldsLedger, IsHeld, Ledger, AreSaid, parts_from, Place, table_at, HoldsTables, Tables, same_some}
 use Rattle.desk_records.proofs.Membership.{has_permuted, zip_left, zip_length, zip_right}
 
 -- ---- the tables of a ledger
@@ -12,18 +11,15 @@ rows_of db l h p = db.trees (h.spot p).tree
 pub are_tables : (db : Database) (l : Ledger) (h : HoldsLedger db l) → HoldsTables db (rows_of db l h)
 are_tables db l h = record { sound = h.sound; spot = h.spot; stands = h.stands; rows = λ p. refl }
 
-some_same : {X : Type 0} (x y : X) → Some x ≡ Some y → x ≡ y
-some_same x y h = cc
-
 -- and they have the ledger's rows, since a table stands in one place
 pub held_rows : (db : Database) (l : Ledger) → HoldsLedger db l → (t : Tables) → HoldsTables db t → (p : Place) → IsHeld l p (t p)
 held_rows db l held t holds p = subst (IsHeld l p) (sym same) (held.rows p)
   where
     place : (holds.spot p).at ≡ (held.spot p).at
-    place = some_same _ _ (sym (holds.stands p).named ∙ (held.stands p).named)
+    place = same_some _ _ (sym (holds.stands p).named ∙ (held.stands p).named)
 
     table : table_at p (holds.spot p).tree ≡ table_at p (held.spot p).tree
-    table = some_same _ _ (sym (holds.stands p).got ∙ ap (slice_get db.schema.tables) place ∙ (held.stands p).got)
+    table = same_some _ _ (sym (holds.stands p).got ∙ ap (slice_get db.schema.tables) place ∙ (held.stands p).got)
 
     same : t p ≡ db.trees (held.spot p).tree
     same = holds.rows p ∙ ap (λ (x : Table). db.trees x.tree) table

@@ -1,6 +1,5 @@
 -- One table changes, and the others keep their rows.
-use Rattle.std.proofs.Common.{◌≡◌, ◌≢◌, inl, inr, ℕ, suc, true, List, [], ◌∷◌, Some, refl, sym, ap, subst, ◌∙◌, find, ◌==◌, map, cond}
-use Rattle.desk_records.proofs.Common.{AllByRecursion, cases_eq, Table, Database, IsDatabase, all-slice_get, Bytes, Records, ActionRecord, Stands, Place, Offers, places, offer_table, table_at, name_of, are_sorted, AreRowsOf, HoldsLedger, HoldsRecords, IsHeld, Ledger, Offered, content_of, ledger_of}
+use Rattle.desk_records.proofs.Common.{◌≡◌, ◌≢◌, inl, inr, ℕ, suc, true, List, [], ◌∷◌, Some, refl, sym, ap, subst, ◌∙◌, find, ◌==◌, map, cond, AllByRecursion, cases_eq, Table, Database, IsDatabase, all-slice_get, Bytes, Records, ActionRecord, Stands, Place, Offers, places, offer_table, table_at, name_of, are_sorted, AreRowsOf, HoldsLedger, HoldsRecords, IsHeld, Ledger, Offered, content_of, ledger_of}
 use Rattle.rollout_machine.specs.Offers.{first_offer, offer}
 use Rattle.sql_calls.specs.Apart.{HasNoForeignKey}
 use Rattle.sql_calls.specs.KeyIndexes.{ComparesBytes}

@@ -1,6 +1,5 @@
 -- Lists in which one changes, and rows that don't tell of the change.
-use Rattle.std.proofs.Common.{◌≡◌, ◌≢◌, ◌++◌, ◌<◌, ℕ, zero, suc, ◌+◌, List, [], ◌∷◌, length, set, slice_get, Option, Some, refl, sym, ap, ap₂, subst, ◌∙◌, arith, nat_eq, not, cond, Bool, true, false, ◌&&◌, append_assoc, IsPermutation}
-use Rattle.desk_records.proofs.Common.{list_all, zip, and_parts, nat_tests, IsPermutation-trans, IsPermutation-middle, IsPermutation-append_right, Row, rows_from, IsHeldBy, changed, item_numbered, ActionRecord, RolloutRecord, Tally, actor_of, action_row, part_row, parts_from}
+use Rattle.desk_records.proofs.Common.{◌≡◌, ◌≢◌, ◌++◌, ◌<◌, ℕ, zero, suc, ◌+◌, List, [], ◌∷◌, length, set, slice_get, Option, Some, refl, sym, ap, ap₂, subst, ◌∙◌, arith, nat_eq, not, cond, Bool, true, false, ◌&&◌, append_assoc, IsPermutation, list_all, zip, and_parts, nat_tests, IsPermutation-trans, IsPermutation-middle, IsPermutation-append_right, Row, rows_from, IsHeldBy, changed, item_numbered, ActionRecord, RolloutRecord, Tally, actor_of, action_row, part_row, parts_from}
 use Rattle.rollout_machine.specs.StateWords.{member_at}
 use Rattle.desk_records.proofs.Parts.{next_place}
 

@@ -1,6 +1,5 @@
 -- The statements on rollouts, actions and offers that write, in ledgers.
-use Rattle.std.proofs.Common.{◌≡◌, ◌≢◌, ◌∷◌, ◌++◌, ℕ, zero, suc, ◌+◌, pos, List, [], Bool, set, length, slice_get, Option, Some, None, refl, sym, ap, subst, ◌∙◌, arith}
-use Rattle.desk_records.proofs.Common.{zip, Int, Text, Row, Term, col, Insert, Update, Values, Database, State, Writes, Table, cast_all, put_row, rowid, rows_from, inserts, put_next, cast_int, cast_null, has_number, sets_at, simple, shown_of, updates, Updated, Bytes, RolloutPlan, Outcome, ActionRecord, RolloutRecord, GroupRule, Tally, action_row, entries_of, entry_row, outcome_code, number_row, number_rows, HoldsLedger, Ledger, Ordered, Unordered, AddsRollout, AddsAction, SetsRollout, SetsAction, acted, created, no_tally, scheduled, turned, with_actions, with_numbers, with_rollouts, with_rules, listed_parts, parts_from, approval_code, flag, group_row, groups_from, member_row, members_from, rollout_row, rule_row, rules_from, Place, Rollouts, Members, Groups, Actions, Feedbacks, Rules, Numbers, action_table, rollout_table, PlacedNumber}
+use Rattle.desk_records.proofs.Common.{◌≡◌, ◌≢◌, ◌∷◌, ◌++◌, ℕ, zero, suc, ◌+◌, pos, List, [], Bool, set, length, slice_get, Option, Some, None, refl, sym, ap, subst, ◌∙◌, arith, zip, Int, Text, Row, Term, col, Insert, Update, Values, Database, State, Writes, Table, cast_all, put_row, rowid, rows_from, inserts, put_next, cast_int, cast_null, has_number, sets_at, simple, shown_of, updates, Updated, Bytes, RolloutPlan, Outcome, ActionRecord, RolloutRecord, GroupRule, Tally, action_row, entries_of, entry_row, outcome_code, number_row, number_rows, HoldsLedger, Ledger, Ordered, Unordered, AddsRollout, AddsAction, SetsRollout, SetsAction, acted, created, no_tally, scheduled, turned, with_actions, with_numbers, with_rollouts, with_rules, listed_parts, parts_from, approval_code, flag, group_row, groups_from, member_row, members_from, rollout_row, rule_row, rules_from, Place, Rollouts, Members, Groups, Actions, Feedbacks, Rules, Numbers, action_table, rollout_table, PlacedNumber}
 use Rattle.std.proofs.lemmas.Option.{slice_get_within}
 use Rattle.rollout_model.specs.declared.approval.Approval.{Approval}
 use Rattle.desk_records.proofs.ActionMeaning.{action_terms, action_values, set_action_query}

@@ -1,34 +1,58 @@
 -- The words in which the meanings of texts are written.
-use Rattle.std.proofs.Common.{◌≡◌, refl, List, [], ℕ, Ok, None}
-use Rattle.desk_records.proofs.Common.{Binary, Schema, Term, col, op2, Compare, Eq, Le, Ge, Gt, Query, Table, Stands, Means}
+use Rattle.desk_records.proofs.Common.{◌≡◌, refl, List, [], ◌∷◌, ℕ, codes, Ok, None, Binary, Schema, Command, Select, Insert, Update, Delete, Term, col, op2, Compare, Eq, Le, Ge, Gt, Query, Stands, Means, simple, by, count_query}
 use Rattle.sqlite.specs.Listing.{understood}
 use Rattle.sqlite_resolve.specs.declared.compiled.Compiled.{Compiled}
 use Rattle.sqlite_resolve.specs.Compile.{compiled}
 use Rattle.sqlite_resolve.specs.Scope.{Name}
-use Rattle.sqlite_schema.specs.declared.command.Command.TheVariants.{Select, Insert, Update, Delete}
 use Rattle.sqlite.specs.Source.{Source}
 use Rattle.sql_front.proofs.Texts.{Queries, queries_known}
 use Rattle.sql_front.proofs.Write.{Adds, adds_known, unstamped}
+use Rattle.desk_records.specs.Schema.{Place, name_of, table_at}
 use Rattle.sql_front.proofs.Change.{Updates, Removes, updates_known, removes_known}
 
 pub means_of : (s : Schema) (sql : List ℕ) (c : Compiled) → compiled s sql ≡ Ok c → c.returning ≡ None → c.formats ≡ [] → Means s sql c.command
 unfolding understood
 means_of s sql c is none timeless = record { is = rw is; plain = rw is (none, timeless); unlisted = rw is }
 
--- ---- what a text means wherever its table stands, from what computes of it
+-- ---- what a text means wherever its table stands
 
-module _ {text : List ℕ} {name : Name} (table : Table) (s : Schema) (at : ℕ) where
-  pub asks : {body : Query} {columns : List Name} → Queries text name table body columns → Stands s name at table → Means s text (Select (record { lets = []; body = body }) columns)
-  asks reads stands = means_of s text _ (queries_known _ _ _ _ _ reads s at stands) refl refl
+pub record MeansAt (p : Place) (sql : List ℕ) (command : ℕ → ℕ → Command) : Type 0 where
+  pub at : (s : Schema) (at tree : ℕ) → Stands s (name_of p) at (table_at p tree) → Means s sql (command at tree)
 
-  pub puts : {source : Source} → Adds text name table source → Stands s name at (unstamped table) → Means s text (Insert at source)
-  puts adds stands = means_of s text _ (adds_known _ _ _ _ adds s at stands) refl refl
+-- .. from what computes of it: a query, a count of rows, a new row, a change of rows and the loss of rows
+module _ (p : Place) (sql : List ℕ) where
+  pub record Asks (query : ℕ → Query) (names : List Name) : Type 0 where
+    pub queries : (tree : ℕ) → Queries sql (name_of p) (table_at p tree) (query tree) names
+    pub shape : (tree : ℕ) → query tree ≡ by (simple tree (query 0).filter (query 0).project) (query 0).order (query 0).limit (query 0).offset
 
-  pub changes : {body : Query} → Updates text name table body → Stands s name at table → Means s text (Update at (record { lets = []; body = body }))
-  changes sets stands = means_of s text _ (updates_known _ _ _ _ sets s at stands) refl refl
+  pub record Counts : Type 0 where
+    pub queries : (tree : ℕ) → Queries sql (name_of p) (table_at p tree) (count_query tree) (codes "count(*)" ∷ [])
 
-  pub drops : {body : Query} → Removes text name table body → Stands s name at table → Means s text (Delete at (record { lets = []; body = body }))
-  drops removes stands = means_of s text _ (removes_known _ _ _ _ removes s at stands) refl refl
+  pub record Puts (source : Source) : Type 0 where
+    pub adds : (tree : ℕ) → Adds sql (name_of p) (table_at p tree) source
+    pub plain : (tree : ℕ) → table_at p tree ≡ unstamped (table_at p tree)
+
+  pub record Changes (query : ℕ → Query) : Type 0 where
+    pub updates : (tree : ℕ) → Updates sql (name_of p) (table_at p tree) (query tree)
+
+  pub record Drops (query : ℕ → Query) : Type 0 where
+    pub removes : (tree : ℕ) → Removes sql (name_of p) (table_at p tree) (query tree)
+
+module _ {p : Place} {sql : List ℕ} where
+  pub asked_at : {query : ℕ → Query} {names : List Name} → Asks p sql query names → MeansAt p sql (λ at tree. Select (record { lets = []; body = query tree }) names)
+  asked_at text = record { at = λ s at tree stands. means_of s sql _ (queries_known _ _ _ _ _ (text.queries tree) s at stands) refl refl }
+
+  pub counted_at : Counts p sql → MeansAt p sql (λ at tree. Select (record { lets = []; body = count_query tree }) (codes "count(*)" ∷ []))
+  counted_at text = record { at = λ s at tree stands. means_of s sql _ (queries_known _ _ _ _ _ (text.queries tree) s at stands) refl refl }
+
+  pub put_at : {source : Source} → Puts p sql source → MeansAt p sql (λ at tree. Insert at source)
+  put_at text = record { at = λ s at tree stands. means_of s sql _ (adds_known _ _ _ _ (text.adds tree) s at (rw (text.plain tree) at stands)) refl refl }
+
+  pub changed_at : {query : ℕ → Query} → Changes p sql query → MeansAt p sql (λ at tree. Update at (record { lets = []; body = query tree }))
+  changed_at text = record { at = λ s at tree stands. means_of s sql _ (updates_known _ _ _ _ (text.updates tree) s at stands) refl refl }
+
+  pub dropped_at : {query : ℕ → Query} → Drops p sql query → MeansAt p sql (λ at tree. Delete at (record { lets = []; body = query tree }))
+  dropped_at text = record { at = λ s at tree stands. means_of s sql _ (removes_known _ _ _ _ (text.removes tree) s at stands) refl refl }
 
 -- ---- terms
 

@@ -1,6 +1,5 @@
 -- Membership in lists that are mapped, zipped or put in another order, and how many pass a test.
-use Rattle.std.proofs.Common.{◌≡◌, ◌⊎◌, inl, inr, ◌≤◌, ℕ, zero, suc, ◌<◌, ◌&&◌, Option, Some, None, filter_map, List, [], ◌∷◌, map, filter, length, Bool, true, false, cond, refl, sym, ap, subst, ◌∙◌, arith, IsPermutation, get_or}
-use Rattle.desk_records.proofs.Common.{AllZip, cons_option, Contains-permutation, sum_by-IsPermutation, Has, has_contained, contains_had}
+use Rattle.desk_records.proofs.Common.{◌≡◌, ◌⊎◌, inl, inr, ◌≤◌, ℕ, zero, suc, ◌<◌, ◌&&◌, Option, Some, None, filter_map, List, [], ◌∷◌, map, filter, length, Bool, true, false, cond, refl, sym, ap, subst, ◌∙◌, arith, IsPermutation, get_or, AllZip, cons_option, Contains-permutation, sum_by-IsPermutation, Has, has_contained, contains_had, has_either, flat_map}
 use Rattle.std.proofs.lemmas.List.Sums.{length-filter}
 
 pub has_permuted : {X : Type 0} (xs ys : List X) (x : X) → IsPermutation xs ys → Has xs x → Has ys x
@@ -111,3 +110,11 @@ pub mapped_at : {X Y : Type 0} (f : X → Y) (xs : List X) (k : ℕ) (d : X) →
 mapped_at f [] k d = refl
 mapped_at f (x ∷ xs) zero d = refl
 mapped_at f (x ∷ xs) (suc k) d = mapped_at f xs k d
+
+-- what is in lists one after the other is in one of them
+pub has_flat : {X Y : Type 0} (f : X → List Y) (xs : List X) (y : Y) → Has (flat_map f xs) y → (x : X) × Has xs x × Has (f x) y
+has_flat f [] y among = absurd among
+has_flat f (x ∷ xs) y among = elim (has_either (f x) (flat_map f xs) y among) [
+  | inl here ↦ (x, inl refl, here)
+  | inr later ↦ (let it = has_flat f xs y later in (it.0, inr it.1, it.2))
+]

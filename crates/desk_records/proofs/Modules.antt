@@ -1,9 +1,8 @@
 -- The statements on modules, in records.
-use Rattle.std.proofs.Common.{◌≡◌, ◌≤◌, ℕ, ◌+◌, pos, List, [], ◌∷◌, ◌++◌, length, None, Option, option_map, refl, ◌∙◌, arith}
-use Rattle.desk_records.proofs.Common.{list_any, is_some, Int, Row, col, Select, Insert, Values, Database, State, Writes, rows_from, ShowsFirst, simple, passes, inserts, put_next, cast_int, cast_null, has_number, ModuleLabel, same_bytes, item_numbered, Records, words_of, with_module, is_same, IsLastRow, Modules, module_table, HoldsRecords, ledger_of, module_row}
+use Rattle.desk_records.proofs.Common.{◌≡◌, ◌≤◌, ℕ, ◌+◌, pos, List, [], ◌∷◌, ◌++◌, length, None, Option, option_map, refl, ◌∙◌, arith, list_any, is_some, Int, Row, col, Select, Insert, Values, Database, State, Writes, rows_from, ShowsFirst, simple, passes, inserts, put_next, cast_int, cast_null, has_number, ModuleLabel, same_bytes, item_numbered, Records, words_of, with_module, is_same, IsLastRow, Modules, module_table, HoldsRecords, ledger_of, module_row, and-true}
 use Rattle.sqlite_sql.specs.Ops.{binary}
 use Rattle.desk_records.proofs.HoldsAfter.{ChangesOnly, holds_after, records_differ}
-use Rattle.desk_records.proofs.Comparisons.{judged, words_equal, and_true}
+use Rattle.desk_records.proofs.Comparisons.{judged, words_equal}
 use Rattle.desk_records.proofs.NumberedReads.{finds, lasts, gets}
 use Rattle.desk_records.proofs.MeaningWords.{at_key}
 use Rattle.desk_records.proofs.Meaning.{same_label, label_columns, last_module_query, module_terms}
@@ -11,7 +10,7 @@ use Rattle.desk_records.proofs.Meaning.{same_label, label_columns, last_module_q
 -- ---- whether a module is there
 
 passes_label : (label : ModuleLabel) (number : ℕ) (m : ModuleLabel) → passes same_label (words_of label) (module_row number m) ≡ is_same label m
-passes_label label number m = rw (words_equal m.name label.name, words_equal m.kind label.kind, words_equal m.version label.version, and_true (same_bytes m.version label.version)) refl
+passes_label label number m = rw (words_equal m.name label.name, words_equal m.kind label.kind, words_equal m.version label.version, and-true (same_bytes m.version label.version)) refl
 
 pub finds_module : (label : ModuleLabel) (db : Database) (now : Records) (holds : HoldsRecords db now) (names : List (List ℕ)) (row : Option Row)
     → ShowsFirst (Select (record { lets = []; body = simple (holds.spot Modules).tree same_label (col 1 0 ∷ []) }) names) db (words_of label) row → is_some row ≡ list_any (is_same label) now.modules
@@ -27,7 +26,7 @@ lasts_module db now holds names row shown = lasts module_row (holds.spot Modules
 
 passes_number : (number n : ℕ) (label : ModuleLabel) → passes (at_key 0 0 ∷ []) (Int (pos number) ∷ []) (module_row n label) ≡ has_number module_row (λ n x. refl) number (module_row n label)
 unfolding binary
-passes_number number n label = and_true _ ∙ judged _
+passes_number number n label = and-true _ ∙ judged _
 
 pub gets_module : (number : ℕ) → 1 ≤ number → (db : Database) (now : Records) (holds : HoldsRecords db now) (names : List (List ℕ)) (row : Option Row)
     → ShowsFirst (Select (record { lets = []; body = simple (holds.spot Modules).tree (at_key 0 0 ∷ []) label_columns }) names) db (Int (pos number) ∷ []) row → row ≡ option_map words_of (item_numbered now.modules number)

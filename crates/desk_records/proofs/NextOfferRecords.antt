@@ -1,12 +1,11 @@
 -- What is read of the next offer, where a ledger is held.
-use Rattle.std.proofs.Common.{◌≡◌, ◌<◌, ℕ, zero, suc, ◌+◌, pos, List, [], ◌∷◌, map, filter, take, length, slice_get, Bool, true, false, cond, ◌&&◌, ◌||◌, Option, Some, None, option_map, refl, ap, ap₂, ◌∙◌, arith, nat_eq, nat_le}
+use Rattle.desk_records.proofs.Common.{◌≡◌, ◌<◌, ℕ, zero, suc, ◌+◌, pos, List, [], ◌∷◌, map, filter, take, length, slice_get, Bool, true, false, cond, ◌&&◌, ◌||◌, Option, Some, None, option_map, refl, ap, ap₂, ◌∙◌, arith, nat_eq, nat_le, list_any, zip, is_none, nat_tests, list_any-append, Null, Int, Text, Row, lit, eval_all, Select, Database, rows_from, ShowsFirst, on_content, item_numbered, Bytes, Outcome, ActionRecord, GroupRecord, RolloutRecord, Tally, action_row, actor_of, outcome_code, HoldsLedger, Ledger, parts_from, parts_of, flag, group_row, groups_from, Actions, Groups, and-true, and_assoc, sym}
 use Rattle.std.proofs.Math.Bool.{or-false}
-use Rattle.desk_records.proofs.Common.{list_any, zip, is_none, nat_tests, list_any-append, Null, Int, Text, Row, lit, eval_all, Select, Database, rows_from, ShowsFirst, on_content, item_numbered, Bytes, Outcome, ActionRecord, GroupRecord, RolloutRecord, Tally, action_row, actor_of, outcome_code, HoldsLedger, Ledger, parts_from, parts_of, flag, group_row, groups_from, Actions, Groups}
 use Rattle.sql_calls.proofs.NumberedWithin.{counts_any, held_any, is_beside, passes_within, seen, within_in_order}
 use Rattle.rollout_machine.specs.declared.outcome.Outcome.TheVariants.{Good, Bad, Gone}
 use Rattle.desk_records.specs.NextOffers.{any_starts, is_next, next_offer, next_offer_from, starts_at}
 use Rattle.desk_records.proofs.ActionRecords.{told_offer}
-use Rattle.desk_records.proofs.Comparisons.{and_true, numbers_equal, numbers_at_least, numbers_at_most, words_equal}
+use Rattle.desk_records.proofs.Comparisons.{numbers_equal, numbers_at_least, numbers_at_most, words_equal}
 use Rattle.desk_records.proofs.ActionMeaning.{next_action, next_columns, next_group, next_offer_query}
 use Rattle.desk_records.proofs.TargetRecords.{first_row}
 
@@ -69,12 +68,8 @@ module _ (db : Database) (l : Ledger) (holds : HoldsLedger db l) (names : List (
 
   beside_it : (n : ℕ) (it : ActionRecord × Tally) (m place : ℕ) (g : GroupRecord) → on_content (is_beside next_group params (row n it)) (group_row m place g) ≡ (nat_eq m it.0.rollout && starts_at it.0.position g)
   beside_it n it m place g =
-      rw (numbers_equal m it.0.rollout, numbers_at_most g.bounds.first it.0.position, numbers_at_least g.bounds.last it.0.position, numbers_equal (flag g.started) 1, is_started g.started, and_true g.started)
-      (ap (λ b. nat_eq m it.0.rollout && b) (grouped (nat_le g.bounds.first it.0.position) (nat_le it.0.position g.bounds.last) g.started))
-    where
-      grouped : (a b c : Bool) → (a && (b && c)) ≡ ((a && b) && c)
-      grouped true b c = refl
-      grouped false b c = refl
+      rw (numbers_equal m it.0.rollout, numbers_at_most g.bounds.first it.0.position, numbers_at_least g.bounds.last it.0.position, numbers_equal (flag g.started) 1, is_started g.started, and-true g.started)
+      (ap (λ b. nat_eq m it.0.rollout && b) (sym (and_assoc (nat_le g.bounds.first it.0.position) (nat_le it.0.position g.bounds.last) g.started)))
 
   any_beside : (n : ℕ) (it : ActionRecord × Tally) → list_any (is_beside next_group params (row n it)) (db.trees other) ≡ any_starts rollouts it.0
   any_beside n it =
@@ -89,7 +84,7 @@ module _ (db : Database) (l : Ledger) (holds : HoldsLedger db l) (names : List (
 
   passes_is : (n : ℕ) (it : ActionRecord × Tally) → passes (row n it) ≡ is_next rollouts id it.0
   passes_is n it =
-      rw (words_equal (actor_of rollouts it.0) id, numbers_equal (outcome_code it.0.outcome) 0, is_open it.0.outcome, counts_any next_group params (row n it) (db.trees other), any_beside n it, and_true (any_starts rollouts it.0)) refl
+      rw (words_equal (actor_of rollouts it.0) id, numbers_equal (outcome_code it.0.outcome) 0, is_open it.0.outcome, counts_any next_group params (row n it) (db.trees other), any_beside n it, and-true (any_starts rollouts it.0)) refl
 
   first_next : (n : ℕ) (as' : List ActionRecord) (ts : List Tally) → length ts ≡ length as' → slice_get (map show (filter passes (rows_from row n (zip as' ts)))) 0 ≡ option_map told_offer (next_offer_from rollouts id n as')
   first_next n [] ts same = refl

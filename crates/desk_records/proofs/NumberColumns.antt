@@ -1,11 +1,10 @@
 -- What columns with a number say of it.
-use Rattle.std.proofs.Common.{◌≡◌, ◌<◌, ◌≤◌, ◌^◌, ◌&&◌, [], ◌∷◌, ℕ, ℤ, pos, negsuc, Bool, true, false, cond, Option, Some, None, true≢false, refl, sym, ap, ap₂, ◌∙◌, arith, nat_eq, nat_lt, nat_le, is_eq, int_cmp, if◌then◌else◌}
-use Rattle.desk_records.proofs.Common.{option_and_then, and_parts, nat_tests, ints, Value, Null, Int, Real, Text, Blob, Row, column, value_cmp, value_cmp-Int, value_cmp-Null, has_rowid, rowid, is_true, Compare, Eq, Binary, passes, number_limit, is_number, has_at, is_number_of}
+use Rattle.desk_records.proofs.Common.{◌≡◌, ◌<◌, ◌≤◌, ◌^◌, ◌&&◌, [], ◌∷◌, ℕ, ℤ, pos, negsuc, Bool, true, false, cond, Option, Some, None, true≢false, refl, sym, ap, ap₂, ◌∙◌, arith, nat_eq, nat_lt, nat_le, is_eq, int_cmp, if◌then◌else◌, option_and_then, and_parts, nat_tests, ints, Value, Null, Int, Real, Text, Blob, Row, column, value_cmp, value_cmp-Int, value_cmp-Null, has_rowid, rowid, is_true, Compare, Eq, Binary, passes, number_limit, is_number, has_at, is_number_of, and-true}
 use Rattle.sqlite_sql.specs.Ops.{binary}
 use Rattle.rollout_model.specs.Rules.{number_of}
 use Rattle.desk_records.specs.ArtifactRow.{small_number}
 use Rattle.desk_records.specs.Codes.{coded_in, number_in}
-use Rattle.desk_records.proofs.Comparisons.{and_true, judged}
+use Rattle.desk_records.proofs.Comparisons.{judged}
 use Rattle.desk_records.proofs.MeaningWords.{at_key}
 
 -- ---- one number
@@ -74,17 +73,17 @@ numbers_equal (negsuc m) n = let never : is_eq (int_cmp (negsuc m) (pos n)) ≡ 
 
 -- of a column that is a whole number, whatever parameters follow
 pub passes_first : (row more : Row) (place n : ℕ) (v : ℤ) → column row place ≡ Int v → (passes (at_key place 0 ∷ []) (Int (pos n) ∷ more) row) ≡ has_at place n row
-passes_first row more place n v is = and_true _ ∙ rw is (numbers_equal v n)
+passes_first row more place n v is = and-true _ ∙ rw is (numbers_equal v n)
 
 -- of two such columns
 pub passes_two : (row : Row) (first second m n : ℕ) (v w : ℤ) → column row first ≡ Int v → column row second ≡ Int w
     → (passes (at_key first 0 ∷ at_key second 1 ∷ []) (Int (pos m) ∷ Int (pos n) ∷ []) row) ≡ (has_at first m row && has_at second n row)
-passes_two row first second m n v w is_v is_w = rw (is_v, is_w) (ap₂ ◌&&◌ (numbers_equal v m) (and_true _ ∙ numbers_equal w n))
+passes_two row first second m n v w is_v is_w = rw (is_v, is_w) (ap₂ ◌&&◌ (numbers_equal v m) (and-true _ ∙ numbers_equal w n))
 
 -- of the rowid, whatever it is
 pub passes_rowid : (row : Row) (n : ℕ) → passes (at_key 0 0 ∷ []) (Int (pos n) ∷ []) row ≡ has_rowid (pos n) row
 unfolding binary
-passes_rowid row n = and_true _ ∙ go (rowid row)
+passes_rowid row n = and-true _ ∙ go (rowid row)
   where
     go : (v : Value) → is_true (binary (Compare Eq Binary) v (Int (pos n))) ≡ is_eq (value_cmp v (Int (pos n)))
     go Null = sym (ap is_eq (value_cmp-Null (Int (pos n))))

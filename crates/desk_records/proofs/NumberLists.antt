@@ -1,6 +1,5 @@
 -- The numbers of a history, one more, and the last of them.
-use Rattle.std.proofs.Common.{◌≡◌, ◌++◌, ℕ, suc, ◌+◌, List, [], ◌∷◌, length, slice_get, Option, Some, None, refl, sym, ap, subst, ◌∙◌, arith, append_assoc, append-nil}
-use Rattle.desk_records.proofs.Common.{last_or, option_or, Reported, bearing, borne_at, numbers_from, PlacedNumber}
+use Rattle.desk_records.proofs.Common.{◌≡◌, ◌++◌, ℕ, suc, ◌+◌, List, [], ◌∷◌, length, slice_get, Option, Some, None, refl, sym, ap, subst, ◌∙◌, arith, append_assoc, append-nil, last_or, option_or, Reported, bearing, borne_at, numbers_from, PlacedNumber}
 use Rattle.desk_records.proofs.NumberRecords.{last_joined}
 
 -- one more entry

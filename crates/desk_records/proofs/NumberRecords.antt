@@ -1,6 +1,5 @@
 -- What is read of the numbers of an action, where a ledger is held.
-use Rattle.std.proofs.Common.{◌≡◌, ◌≤◌, ℕ, suc, ◌+◌, pos, negsuc, true, false, List, [], ◌∷◌, ◌++◌, map, take, length, reverse, slice_get, Option, Some, None, option_map, refl, sym, ap, ◌∙◌, arith}
-use Rattle.desk_records.proofs.Common.{last_or, option_or, reverse_onto, Null, Int, Row, Select, Database, lit, first_taken, rows_from, ShowsFirst, numbers_numbered, told_number, HoldsLedger, Ledger, Numbers, PlacedNumber}
+use Rattle.desk_records.proofs.Common.{◌≡◌, ◌≤◌, ℕ, suc, ◌+◌, pos, negsuc, true, false, List, [], ◌∷◌, ◌++◌, map, take, length, reverse, slice_get, Option, Some, None, option_map, refl, sym, ap, ◌∙◌, arith, last_or, option_or, reverse_onto, Null, Int, Row, Select, Database, lit, first_taken, rows_from, ShowsFirst, numbers_numbered, told_number, HoldsLedger, Ledger, Numbers, PlacedNumber}
 use Rattle.sqlite.specs.Effect.{Reads as Shows}
 use Rattle.desk_records.specs.FeedbackNumbers.{last_number}
 use Rattle.desk_records.specs.declared.number_row.LastNumber.{LastNumber}

@@ -1,19 +1,14 @@
 -- What the usual reads of a table show whose k-th row has number k: one that passes a test, the last number, one by its number.
-use Rattle.std.proofs.Common.{◌≡◌, ◌≤◌, ◌==◌, ◌||◌, ◌&&◌, ℕ, zero, suc, ◌+◌, pos, List, [], ◌∷◌, map, filter, take, drop, length, slice_get, Bool, true, false, not, Option, Some, None, option_map, refl, sym, ap, ap₂, subst, ◌∙◌, arith, IsPermutation}
-use Rattle.desk_records.proofs.Common.{list_any, is_some, option_to_list, nat_tests, length-map, take-map, drop-map, length_permutation, Null, Int, Row, column, value_cmp, rowid, Term, col, Trees, IsAnswer, overlay, Command, Select, Database, one_permutation, all_of, filter_all, none_counted, rows_from, ShowsFirst, simple, passes, shown_of, simple_rows, number_query, numbered_in_order, has_number, filter_numbered, at_number, row_of, last_query, last_number, last_of, item_numbered, is_eq, Binary, Compare, Eq, is_true, IsLastRow}
+use Rattle.desk_records.proofs.Common.{◌≡◌, ◌≤◌, ◌==◌, ◌||◌, ◌&&◌, ℕ, zero, suc, ◌+◌, pos, List, [], ◌∷◌, map, filter, take, drop, length, slice_get, Bool, true, not, Option, Some, None, option_map, refl, sym, ap, ap₂, subst, ◌∙◌, arith, IsPermutation, list_any, is_some, option_to_list, nat_tests, length-map, take-map, drop-map, length_permutation, Null, Int, Row, column, value_cmp, rowid, Term, col, Trees, IsAnswer, overlay, Command, Select, Database, one_permutation, all_of, filter_all, none_counted, rows_from, ShowsFirst, simple, passes, shown_of, simple_rows, number_query, numbered_in_order, has_number, filter_numbered, at_number, row_of, last_query, last_number, last_of, item_numbered, is_eq, Binary, Compare, Eq, is_true, IsLastRow, and-true, not-not}
 use Rattle.sqlite.specs.Effect.{Reads as Shows}
 use Rattle.sqlite_sql.specs.Ops.{binary}
-use Rattle.desk_records.proofs.Comparisons.{and_true, judged}
+use Rattle.desk_records.proofs.Comparisons.{judged}
 use Rattle.desk_records.proofs.MeaningWords.{at_key}
 
 -- ---- whether a row passes
 
-not_not : (b : Bool) → not (not b) ≡ b
-not_not true = refl
-not_not false = refl
-
 pub some_pass : {X : Type 0} (p : X → Bool) (xs : List X) → not (length (filter p xs) == 0) ≡ list_any p xs
-some_pass p xs = ap not (none_counted p xs) ∙ not_not (list_any p xs)
+some_pass p xs = ap not (none_counted p xs) ∙ not-not (list_any p xs)
 
 pub some_row : (row : Row) (tail : List Row) → not (length (row ∷ tail) == 0) ≡ true
 some_row row tail = grind (arith, nat_tests)
@@ -101,7 +96,7 @@ module _ {X : Type 0} (f : ℕ → X → Row) where
 pub passes_number : {X : Type 0} (f : ℕ → X → Row) (ids : (n : ℕ) (x : X) → rowid (f n x) ≡ Int (pos n)) (number n : ℕ) (x : X) → passes (at_key 0 0 ∷ []) (Int (pos number) ∷ []) (f n x) ≡ has_number f ids number (f n x)
 unfolding binary
 passes_number f ids number n x =
-    ap (λ v. is_true (binary (Compare Eq Binary) v (Int (pos number))) && true) (ids n x) ∙ and_true _ ∙ judged _ ∙ sym (ap (λ v. is_eq (value_cmp v (Int (pos number)))) (ids n x))
+    ap (λ v. is_true (binary (Compare Eq Binary) v (Int (pos number))) && true) (ids n x) ∙ and-true _ ∙ judged _ ∙ sym (ap (λ v. is_eq (value_cmp v (Int (pos number)))) (ids n x))
 
 -- the rows of a page, in the order of their numbers
 pub pages : {X : Type 0} (f : ℕ → X → Row) (ids : (n : ℕ) (x : X) → rowid (f n x) ≡ Int (pos n)) (told : X → Row) (shows : List Term) (limit offset : ℕ) → ((n : ℕ) (x : X) → shown_of shows (Int (pos limit) ∷ Int (pos offset) ∷ []) (f n x) ≡ told x)

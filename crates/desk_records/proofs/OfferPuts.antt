@@ -1,6 +1,5 @@
 -- Offers that go in one after the other, as rows: each where its target has none, or else in place of one of a greater action.
-use Rattle.std.proofs.Common.{◌≡◌, ◌⊎◌, inl, inr, ◌≤◌, ℕ, pos, Bool, true, false, cond, ◌&&◌, nat_lt, List, [], ◌∷◌, ◌++◌, map, filter, drop, length, Option, Some, None, refl, sym, ap, ap₂, ◌∙◌, subst, arith, IsPermutation}
-use Rattle.desk_records.proofs.Common.{is_eq, cases_Bool, length_permutation, Value, Int, Null, Text, Row, value_cmp, column, Trees, rowid, put_row, without_rowid, Table, Schema, Has, cast, cast_all, cast_row, next_rowid, edit_of, with_rowid, Applies, col, one_permutation, Integer, is_true, Compare, Eq, Lt, Binary, IsHeldBy, IsBlind, on_content, held_added, held_seen, held_changed, next_is, found_id, none_passes, is_among, only_one, one_written, written, cast_int, cast_null, passes, shown_of, simple_rows, PutsEach, same_bytes, Bytes, TargetOffer, offer_to, same_true, Offer, OffersById, lesser, put_offer, put_offers, flag, offer_table, HoldsOffers, offer_row}
+use Rattle.desk_records.proofs.Common.{◌≡◌, ◌⊎◌, inl, inr, ℕ, pos, Bool, true, false, cond, ◌&&◌, nat_lt, List, [], ◌∷◌, ◌++◌, map, filter, drop, Option, Some, None, refl, sym, ap, ap₂, ◌∙◌, subst, arith, IsPermutation, is_eq, cases_Bool, Value, Int, Null, Text, Row, value_cmp, column, Trees, rowid, put_row, without_rowid, Table, Schema, Has, cast, cast_all, cast_row, next_rowid, edit_of, with_rowid, Applies, col, Integer, is_true, Compare, Eq, Lt, Binary, IsHeldBy, IsBlind, on_content, held_added, held_seen, held_changed, next_is, found_id, none_passes, is_among, only_one, one_written, written, cast_int, cast_null, passes, shown_of, simple_rows, PutsEach, same_bytes, Bytes, TargetOffer, offer_to, same_true, Offer, OffersById, lesser, put_offer, put_offers, flag, offer_table, HoldsOffers, offer_row, and-true, short}
 use Rattle.sqlite_schema.specs.declared.program.Program.{Program}
 use Rattle.sqlite_schema.specs.declared.schema.Keys.TheVariants.{Enforced}
 use Rattle.sqlite_rules.specs.Keys.{conflicts, AreConflicts}
@@ -11,17 +10,11 @@ use Rattle.sql_calls.proofs.KeyConflicts.{IsKeyOnly}
 use Rattle.sql_calls.proofs.Upserts.{Puts, Resolved}
 use Rattle.desk_records.proofs.ActionMeaning.{of_controller}
 use Rattle.desk_records.proofs.ActionRecords.{its_offers, names_offer}
-use Rattle.desk_records.proofs.Comparisons.{and_true, judged, numbers_below}
+use Rattle.desk_records.proofs.Comparisons.{judged, numbers_below}
 use Rattle.desk_records.proofs.GroupOffersMeaning.{takes_lesser, taken_columns, taking_query}
 use Rattle.desk_records.proofs.OfferWrites.{its_more, its_set, offers_set, other_offer, rows_set}
 
 -- ---- lists of rows
-
-few : {X : Type 0} (xs ys : List X) → IsPermutation xs ys → length xs ≤ 1 → ys ≡ xs
-few [] [] same low = refl
-few [] (y ∷ ys) same low = absurd (omega (arith, length_permutation _ _ same))
-few (x ∷ []) ys same low = one_permutation x ys same
-few (x ∷ y ∷ xs) ys same low = absurd (omega (arith, low))
 
 map_none : (f : Row → Row) (rows : List Row) → map f rows ≡ [] → rows ≡ []
 map_none f [] e = refl
@@ -70,11 +63,11 @@ module _ (id : Bytes) where
       go : (o : Option Offer) → offers id ≡ o → Finds rows offers
       go None e =
           let none : filter (on_content p) (map offer_row h.listed) ≡ [] = its ∙ ap (λ o. map offer_row (offer_to id o)) e in
-          inl (map_none (drop 1) _ (few [] _ (subst (λ l. IsPermutation (map (on_content (drop 1)) l) (map (drop 1) (filter p rows))) none seen) (omega arith)), e)
+          inl (map_none (drop 1) _ (short [] _ (subst (λ l. IsPermutation (map (on_content (drop 1)) l) (map (drop 1) (filter p rows))) none seen) (omega arith)), e)
       go (Some y) e =
           let c : Row = offer_row (record { target = id; offer = y }) in
           let one : filter (on_content p) (map offer_row h.listed) ≡ c ∷ [] = its ∙ ap (λ o. map offer_row (offer_to id o)) e in
-          let it : (r : Row) × (filter p rows ≡ r ∷ []) × (drop 1 r ≡ c) = map_one (drop 1) _ c (few (c ∷ []) _ (subst (λ l. IsPermutation (map (on_content (drop 1)) l) (map (drop 1) (filter p rows))) one seen) (omega arith)) in
+          let it : (r : Row) × (filter p rows ≡ r ∷ []) × (drop 1 r ≡ c) = map_one (drop 1) _ c (short (c ∷ []) _ (subst (λ l. IsPermutation (map (on_content (drop 1)) l) (map (drop 1) (filter p rows))) one seen) (omega arith)) in
           inr (it.0, y, it.1, e, it.2)
 
 -- ---- the offer of an id
@@ -135,7 +128,7 @@ module _ (schema : Schema) (tree : ℕ) (key : IsKeyOnly schema (offer_table tre
   row_is = rw (cast_null, cast_int new.offer.action, cast_int (flag new.offer.canceling)) refl
 
   meets : (r : Row) → conflicts target schema.indexes table row r ≡ its r
-  meets r = key row r ∙ sym (and_true _)
+  meets r = key row r ∙ sym (and-true _)
 
   -- it goes in
   added : (next : Trees) → AreConflicts target schema.indexes table rows row [] → Applies schema Enforced db (edit_of db table [] Given 0 (row ∷ [])) next → HoldsOffers (next tree) (put_offer offers new)
@@ -178,7 +171,7 @@ module _ (schema : Schema) (tree : ℕ) (key : IsKeyOnly schema (offer_table tre
       let answer = simple_rows tree takes_lesser (col 1 0 ∷ col 1 0 ∷ taken_columns) given db is.0 (is.1.answer Null) in
       elim (cases_Bool (nat_lt new.offer.action y.action)) [
         | inl lt ↦
-            let rows_are : is.0 ≡ shows found ∷ [] = few (shows found ∷ []) is.0 (subst (λ l. IsPermutation (map shows l) is.0) (tested ∙ ap (λ b. cond b (found ∷ []) []) (lower ∙ lt)) answer) (omega arith) in
+            let rows_are : is.0 ≡ shows found ∷ [] = short (shows found ∷ []) is.0 (subst (λ l. IsPermutation (map shows l) is.0) (tested ∙ ap (λ b. cond b (found ∷ []) []) (lower ∙ lt)) answer) (omega arith) in
             let made = held_changed its (blind new.target) f rows wanted h.held found one in
             let shown_found : shows found ≡ Int (pos made.0) ∷ Int (pos made.0) ∷ values_for made.1 = ap shows made.2 in
             let all : next tree ≡ put_row (Int (pos made.0) ∷ f made.1) (without_rowid (pos made.0) rows) =
@@ -191,7 +184,7 @@ module _ (schema : Schema) (tree : ℕ) (key : IsKeyOnly schema (offer_table tre
               its = λ t. its_set new.target t new.offer h.listed ∙ ap (map (other_offer new.target new.offer)) (h.its t) ∙ offers_set new.target t new.offer y offers some ∙ ap (offer_to t) (put_is new offers (Some y) some less_is t);
             }
         | inr ge ↦
-            let rows_are : is.0 ≡ [] = few [] is.0 (subst (λ l. IsPermutation (map shows l) is.0) (tested ∙ ap (λ b. cond b (found ∷ []) []) (lower ∙ ge)) answer) (omega arith) in
+            let rows_are : is.0 ≡ [] = short [] is.0 (subst (λ l. IsPermutation (map shows l) is.0) (tested ∙ ap (λ b. cond b (found ∷ []) []) (lower ∙ ge)) answer) (omega arith) in
             let all : next tree ≡ rows = is.2.rows ∙ ap (written table rows f) rows_are in
             record { listed = h.listed; held = subst (λ l. IsHeldBy l wanted) (sym all) h.held; its = λ t. h.its t ∙ ap (offer_to t) (sym (kept_is new offers y some ge t)) }
       ]

@@ -1,6 +1,5 @@
 -- The statements on offers that write, in ledgers.
-use Rattle.std.proofs.Common.{◌≡◌, ℕ, pos, List, [], ◌∷◌, Bool, true, false, not, cond, map, filter, Option, Some, None, refl, sym, ap, ap₂, subst, ◌∙◌}
-use Rattle.desk_records.proofs.Common.{Null, Int, Text, Row, Update, Delete, Database, State, Writes, cast_all, IsHeldBy, on_content, changed, changes_key, drops, keys_apart, cast_int, passes, shown_of, deletes, updates, same_bytes, Bytes, TargetOffer, offer_to, same_sym, same_true, Offer, HoldsLedger, Ledger, SetsOffer, with_offer, HoldsOffers, is_to, offer_row, flag, Offers, offer_table}
+use Rattle.desk_records.proofs.Common.{◌≡◌, ℕ, pos, List, [], ◌∷◌, Bool, true, false, not, cond, map, filter, Option, Some, None, refl, sym, ap, ap₂, subst, ◌∙◌, Null, Int, Text, Row, Update, Delete, Database, State, Writes, cast_all, IsHeldBy, on_content, changed, changes_key, drops, keys_apart, cast_int, passes, shown_of, deletes, updates, same_bytes, Bytes, TargetOffer, offer_to, same_sym, same_true, Offer, HoldsLedger, Ledger, SetsOffer, with_offer, HoldsOffers, is_to, offer_row, flag, Offers, offer_table}
 use Rattle.desk_records.proofs.ActionMeaning.{drop_offer_query, of_controller, offer_values, set_offer_query}
 use Rattle.desk_records.proofs.ActionRecords.{names_offer, offer_keyed}
 use Rattle.desk_records.proofs.HoldsAfter.{Leaves, contents_differ, ledger_after}

@@ -1,9 +1,8 @@
 -- What is read of the parts of one numbered record, in the order of their places.
-use Rattle.std.proofs.Common.{◌≡◌, ◌<◌, ◌≤◌, ℕ, zero, suc, ◌+◌, ◌-◌, pos, List, [], ◌∷◌, ◌++◌, map, filter, drop, slice_get, Bool, true, false, cond, reverse, refl, sym, ap, subst, ◌∙◌, arith, Less, IsPermutation, nat_eq, nat_lt}
-use Rattle.desk_records.proofs.Common.{AllByRecursion, ints, nat_tests, reverse_onto, map-append, IsPermutation-reverse, IsPermutation-sym, IsPermutation-trans, Int, Row, value_cmp, value_cmp-Int, IsAscending, Binary, Term, col, Trees, Query, Output, output_cmp, page, IsAnswer, overlay, output_cmp_total, sorted_unique, map-map, rows_from, IsHeldBy, IsBlind, on_content, held_seen, simple, by, passes, shown_of, shown_in, ordered_rows, item_numbered, listed_parts, part_row, parts_from, parts_numbered, parts_of}
+use Rattle.desk_records.proofs.Common.{◌≡◌, ◌<◌, ◌≤◌, ℕ, zero, suc, ◌+◌, ◌-◌, pos, List, [], ◌∷◌, ◌++◌, map, filter, drop, slice_get, Bool, true, false, cond, reverse, refl, sym, ap, subst, ◌∙◌, arith, Less, IsPermutation, nat_eq, nat_lt, AllByRecursion, ints, nat_tests, reverse_onto, map-append, IsPermutation-reverse, IsPermutation-sym, IsPermutation-trans, Int, Row, value_cmp, value_cmp-Int, IsAscending, Binary, Term, col, Trees, Query, Output, output_cmp, page, IsAnswer, overlay, output_cmp_total, sorted_unique, map-map, rows_from, IsHeldBy, IsBlind, on_content, held_seen, simple, by, passes, shown_of, shown_in, ordered_rows, item_numbered, listed_parts, part_row, parts_from, parts_numbered, parts_of, and-true}
 use Rattle.std.proofs.Math.Seq.{drop-nil}
 use Rattle.sqlite_exec.proofs.ScanLemmas.{ascending-reverse}
-use Rattle.desk_records.proofs.Comparisons.{and_true, numbers_equal}
+use Rattle.desk_records.proofs.Comparisons.{numbers_equal}
 use Rattle.desk_records.proofs.MeaningWords.{at_key}
 use Rattle.desk_records.proofs.Parts.{its_parts}
 
@@ -133,8 +132,8 @@ module _ {Y : Type 0} (rest : Y → Row) (tree : ℕ) (shows : List Term) (limit
       → (db : Trees) (all : List (List Y)) → IsHeldBy (db tree) (listed_parts (part_row rest) all) → (rows : List Row) → IsAnswer (asked falling) (overlay db []) given rows
       → rows ≡ page (asked falling) given (turned falling (rows_from told 1 (parts_numbered all number)))
   reads_listed falling least fair told is db all held rows answer =
-      reads_parts rest (λ (its : List Y). its) tree of_number shows limit offset given falling number least (λ id x. refl) fair (λ n place y apart. and_true _ ∙ numbers_equal n number ∙ apart) db all held rows answer
-      ∙ ap (λ l. page (asked falling) given (turned falling l)) (all_placed rest told number of_number shows given (λ place y. and_true _ ∙ numbers_equal number number ∙ own) is 1 (parts_numbered all number))
+      reads_parts rest (λ (its : List Y). its) tree of_number shows limit offset given falling number least (λ id x. refl) fair (λ n place y apart. and-true _ ∙ numbers_equal n number ∙ apart) db all held rows answer
+      ∙ ap (λ l. page (asked falling) given (turned falling l)) (all_placed rest told number of_number shows given (λ place y. and-true _ ∙ numbers_equal number number ∙ own) is 1 (parts_numbered all number))
     where
       own : nat_eq number number ≡ true
       own = grind (arith, nat_tests)

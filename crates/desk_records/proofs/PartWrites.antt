@@ -1,11 +1,10 @@
 -- The statements on members, groups and histories that write, in ledgers.
-use Rattle.std.proofs.Common.{◌≡◌, ◌∷◌, ◌++◌, ◌&&◌, ℕ, zero, suc, ◌+◌, pos, List, [], Bool, true, length, set, slice_get, string_bytes, Option, Some, None, refl, sym, ap, subst, ◌∙◌, arith, nat_eq}
-use Rattle.desk_records.proofs.Common.{length-map, map-append, Int, Text, plain, Row, agree, Insert, Update, Values, Database, State, Writes, Integer, cast, cast_all, IsHeldBy, inserts, on_content, adds_row, changes_key, keys_apart, cast_int, cast_null, passes, shown_of, updates, GroupRule, Bytes, Reported, entries_in, Bounds, GroupRecord, RolloutRecord, entries_of, entry_row, PlacedNumber, number_row, number_rows, told_number, AreRowsOf, HoldsLedger, Ledger, Unordered, content_of, AddsMember, AddsGroup, AddsRule, AddsNumber, SetsGroup, AddsEntry, and_member, and_group, and_entry, counted, cut_group, with_actions, with_groups, with_numbers, with_rollouts, with_rules, listed_parts, part_row, flag, group_row, groups_from, member_row, members_from, rollout_row, rule_row, rules_from, told_group, told_rule, Place, Members, Groups, Feedbacks, Rules, Numbers, feedback_table, group_table, member_table, number_table, rule_table, are_sorted}
+use Rattle.desk_records.proofs.Common.{◌≡◌, ◌∷◌, ◌++◌, ◌&&◌, ℕ, zero, suc, ◌+◌, pos, List, [], Bool, true, length, set, slice_get, string_bytes, Option, Some, None, refl, sym, ap, subst, ◌∙◌, arith, nat_eq, length-map, map-append, Int, Text, plain, Row, agree, Insert, Update, Values, Database, State, Writes, Integer, cast, cast_all, IsHeldBy, inserts, on_content, adds_row, changes_key, keys_apart, cast_int, cast_null, passes, shown_of, updates, GroupRule, Bytes, Reported, entries_in, Bounds, GroupRecord, RolloutRecord, entries_of, entry_row, PlacedNumber, number_row, number_rows, told_number, AreRowsOf, HoldsLedger, Ledger, Unordered, content_of, AddsMember, AddsGroup, AddsRule, AddsNumber, SetsGroup, AddsEntry, and_member, and_group, and_entry, counted, cut_group, with_actions, with_groups, with_numbers, with_rollouts, with_rules, listed_parts, part_row, flag, group_row, groups_from, member_row, members_from, rollout_row, rule_row, rules_from, told_group, told_rule, Place, Members, Groups, Feedbacks, Rules, Numbers, feedback_table, group_table, member_table, number_table, rule_table, are_sorted, and-true}
 use Rattle.sqlite_value.specs.Keys.{first_key}
 use Rattle.sqlite.specs.Values.{or_null}
 use Rattle.desk_records.specs.declared.new_entry.NewEntry.{NewEntry}
 use Rattle.desk_records.proofs.ActionMeaning.{feedback_terms, number_terms}
-use Rattle.desk_records.proofs.Comparisons.{and_true, numbers_equal}
+use Rattle.desk_records.proofs.Comparisons.{numbers_equal}
 use Rattle.desk_records.proofs.HoldsAfter.{ChangesOnly, Leaves, ledger_after}
 use Rattle.desk_records.proofs.LedgerLists.{acts_stay, actions_of_others, actions_stay, actors_stay, part_held, part_set, parts_stay, rows_stay}
 use Rattle.desk_records.proofs.LedgerWrites.{actions_differ, histories_from, numbers_differ, rollouts_differ, rules_differ}
@@ -92,7 +91,7 @@ sets_group (suc k) (suc j) started ok bad gone old new text count l next holds c
     (subst (IsHeldBy (new.now.trees spot.tree)) is changed_rows))
   where
     named : (n m : ℕ) (z : GroupRecord) → on_content (passes of_group (counted_params (suc k) (suc j) started ok bad gone)) (group_row n m z) ≡ (nat_eq n (suc k) && nat_eq m (suc j))
-    named n m z = rw (numbers_equal n (suc k), numbers_equal m (suc j), and_true (nat_eq m (suc j))) refl
+    named n m z = rw (numbers_equal n (suc k), numbers_equal m (suc j), and-true (nat_eq m (suc j))) refl
 
 -- ---- what is said of groups
 

@@ -1,6 +1,5 @@
 -- The rows of the parts of numbered records, in lists alone.
-use Rattle.std.proofs.Common.{◌≡◌, ◌<◌, ◌++◌, ℕ, zero, suc, ◌+◌, List, [], ◌∷◌, filter, length, slice_get, Bool, true, false, Option, Some, None, option_map, refl, sym, ap, ap₂, subst, ◌∙◌, arith, IsPermutation, nat_eq, append_assoc, append-nil}
-use Rattle.desk_records.proofs.Common.{option_to_list, nat_tests, filter-append, IsPermutation-trans, IsPermutation-to_front, Int, Row, put_row, next_rowid, rows_from, IsHeldBy, held_added, parts_from}
+use Rattle.desk_records.proofs.Common.{◌≡◌, ◌<◌, ◌++◌, ℕ, zero, suc, ◌+◌, List, [], ◌∷◌, filter, length, slice_get, Bool, true, false, Option, Some, None, option_map, refl, sym, ap, ap₂, subst, ◌∙◌, arith, IsPermutation, nat_eq, append_assoc, append-nil, option_to_list, nat_tests, filter-append, IsPermutation-trans, IsPermutation-to_front, Int, Row, put_row, next_rowid, rows_from, IsHeldBy, held_added, parts_from}
 
 -- a changed last record whose row is the same
 pub same_rows : {X : Type 0} (f : ℕ → X → Row) (x y : X) → ((n : ℕ) → f n y ≡ f n x) → (n : ℕ) (before : List X) → rows_from f n (before ++ y ∷ []) ≡ rows_from f n (before ++ x ∷ [])

@@ -1,7 +1,5 @@
 -- Contents in pieces, and what one more piece makes of them.
-use Rattle.std.proofs.Common.{◌≡◌, ◌≤◌, ◌++◌, ℕ, zero, suc, ◌+◌, ◌*◌, List, [], ◌∷◌, map, take, drop, length, Option, Some, None, refl, sym, ap, ap₂, ◌∙◌, arith, length-append}
-use Rattle.desk_records.proofs.Common.{flat_map, range_with_len, option_map, div_ceil_times, length-drop, take_all, take-append-le, drop-append-le, map-map, map_same, Bytes, piece_length, pieces_in}
-use Rattle.std.specs.Prelude.{slice_get}
+use Rattle.desk_records.proofs.Common.{◌≡◌, ◌≤◌, ◌++◌, ℕ, zero, suc, ◌+◌, ◌*◌, List, [], ◌∷◌, map, take, drop, length, Option, Some, None, refl, sym, ap, ap₂, ◌∙◌, arith, length-append, slice_get, flat_map, range_with_len, option_map, div_ceil_times, length-drop, take_all, take-append-le, drop-append-le, map-map, map_same, Bytes, piece_length, pieces_in}
 use Rattle.std.proofs.Math.Nat.{sub-zero}
 use Rattle.std.proofs.Math.Seq.{drop-append_seam}
 use Rattle.std.proofs.lemmas.Option.{slice_get-map}

@@ -1,6 +1,5 @@
 -- What GET_PIECE shows, whatever rows the table of pieces has.
-use Rattle.std.proofs.Common.{◌≡◌, ℕ, pos, true, List, [], ◌∷◌, refl}
-use Rattle.desk_records.proofs.Common.{AllZip, and_parts, Null, Int, Row, column, Select, Database, Query, col, Has, passes, simple, Bytes, ArePieces, lies_at, has_at, Pieces, IsPiece, HoldsTables, Tables}
+use Rattle.desk_records.proofs.Common.{◌≡◌, ℕ, pos, true, List, [], ◌∷◌, refl, AllZip, and_parts, Null, Int, Row, column, Select, Database, Query, col, Has, passes, simple, Bytes, ArePieces, lies_at, has_at, Pieces, IsPiece, HoldsTables, Tables}
 use Rattle.sqlite.specs.Effect.{Reads as Shows}
 use Rattle.desk_records.specs.ArtifactRow.{StoredBytes}
 use Rattle.desk_records.proofs.AnyRows.{are_said}

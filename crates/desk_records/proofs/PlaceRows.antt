@@ -1,6 +1,5 @@
 -- What LIST_PLACES shows, whatever rows the table of members has.
-use Rattle.std.proofs.Common.{◌≡◌, ◌≤◌, ℕ, pos, true, false, List, [], ◌∷◌, length, filter, Option, Some, None, refl}
-use Rattle.desk_records.proofs.Common.{Null, Int, Row, column, Select, Database, Query, output_cmp, is_lt, Has, passes, shown_in, shown_of, is_number, AreRead, Members, HoldsTables, Tables}
+use Rattle.desk_records.proofs.Common.{◌≡◌, ◌≤◌, ℕ, pos, true, false, List, [], ◌∷◌, length, filter, Option, Some, None, refl, Null, Int, Row, column, Select, Database, Query, output_cmp, is_lt, Has, passes, shown_in, shown_of, is_number, AreRead, Members, HoldsTables, Tables}
 use Rattle.sqlite.specs.Effect.{Reads as Shows}
 use Rattle.desk_records.specs.MemberRow.{IsPlacedRow, keeps_member_rules}
 use Rattle.desk_records.specs.PlaceLists.{ListsPlaces, SaysMember, is_of}

@@ -1,8 +1,7 @@
 -- A part by the number of its record and by its place.
-use Rattle.std.proofs.Common.{◌≡◌, ◌≤◌, ◌&&◌, ℕ, zero, suc, ◌+◌, pos, List, [], ◌∷◌, map, filter, slice_get, Bool, true, false, Option, Some, None, option_map, refl, sym, ap, subst, ◌∙◌, arith, IsPermutation, nat_eq}
-use Rattle.desk_records.proofs.Common.{option_to_list, nat_tests, IsPermutation-trans, Null, Int, Row, Term, Select, Database, rows_from, IsHeldBy, ShowsFirst, IsBlind, on_content, held_seen, simple, passes, shown_of, simple_rows, item_numbered, part_row, parts_from}
+use Rattle.desk_records.proofs.Common.{◌≡◌, ◌≤◌, ◌&&◌, ℕ, zero, suc, ◌+◌, pos, List, [], ◌∷◌, map, filter, slice_get, Bool, true, false, Option, Some, None, option_map, refl, sym, ap, subst, ◌∙◌, arith, IsPermutation, nat_eq, option_to_list, nat_tests, IsPermutation-trans, Null, Int, Row, Term, Select, Database, rows_from, IsHeldBy, ShowsFirst, IsBlind, on_content, held_seen, simple, passes, shown_of, simple_rows, item_numbered, part_row, parts_from, and-true}
 use Rattle.sqlite.specs.Effect.{Reads as Shows}
-use Rattle.desk_records.proofs.Comparisons.{and_true, numbers_equal}
+use Rattle.desk_records.proofs.Comparisons.{numbers_equal}
 use Rattle.desk_records.proofs.MeaningWords.{at_key}
 use Rattle.desk_records.proofs.NumberedReads.{first_found}
 use Rattle.desk_records.proofs.Parts.{at_place, its_parts, none_after}
@@ -43,7 +42,7 @@ module _ {X Y : Type 0} (rest : Y → Row) (parts : X → List Y) (all : Option 
     found = item_numbered (all (item_numbered xs number)) place
 
     names_it : Names number place (on_content (passes at_part params))
-    names_it n k y = rw (numbers_equal n number, numbers_equal k place, and_true (nat_eq k place)) refl
+    names_it n k y = rw (numbers_equal n number, numbers_equal k place, and-true (nat_eq k place)) refl
 
     part_shown : 1 ≤ number → IsBlind (shown_of shows params) → (rows : List Row) → Shows (Select (record { lets = []; body = simple tree at_part shows }) names) db params rows
         → IsPermutation (map (on_content (shown_of shows params)) (option_to_list (option_map (part_row rest number place) found))) rows

@@ -1,6 +1,5 @@
 -- What is known of every place at once.
-use Rattle.std.proofs.Common.{◌≡◌, ◌≢◌, ◌⊎◌, inl, inr, ℕ, Bool, true, false, cond, List, [], ◌∷◌, map, Option, Some, find, bytes_eq, refl, sym, ap, subst, ◌∙◌}
-use Rattle.desk_records.proofs.Common.{AllByRecursion, list_any, or_cases, cases_Bool, true≢false, Place, places, name_of}
+use Rattle.desk_records.proofs.Common.{◌≡◌, ◌≢◌, ◌⊎◌, inl, inr, ℕ, Bool, true, false, cond, List, [], ◌∷◌, map, Option, Some, find, bytes_eq, refl, sym, ap, subst, ◌∙◌, AllByRecursion, list_any, or_cases, cases_Bool, true≢false, Place, places, name_of}
 use Rattle.std.proofs.lemmas.Slice.Eq.{bytes_eq-Decides}
 use Rattle.desk_records.proofs.EachPlace.{each_place}
 

@@ -1,9 +1,8 @@
 -- What is read of rollouts and groups, where a ledger is held.
-use Rattle.std.proofs.Common.{◌≡◌, ◌≤◌, ◌&&◌, ℕ, ◌+◌, pos, negsuc, List, [], ◌∷◌, map, filter, take, drop, find, length, slice_get, Bool, true, false, cond, Option, Some, option_map, refl, ap, ◌∙◌, arith, nat_eq, nat_le, nat_lt}
-use Rattle.desk_records.proofs.Common.{list_any, is_some, take-map, nat_tests, Null, Int, Text, Row, Term, lit, col, Select, Database, rows_from, ShowsFirst, on_content, simple, passes, shown_of, GroupRule, item_numbered, Bytes, holds_position, GroupRecord, RolloutRecord, IsLastRow, Rollouts, Groups, Members, Rules, parts_of, is_called, rollout_row, told_rollout, group_row, told_group, numbered_from, groups_of, member_row, members_of, rule_numbered, rules_numbered, that_reach, told_rule, HoldsLedger, Ledger}
+use Rattle.desk_records.proofs.Common.{◌≡◌, ◌≤◌, ◌&&◌, ℕ, ◌+◌, pos, negsuc, List, [], ◌∷◌, map, filter, take, drop, find, length, slice_get, Bool, true, false, cond, Option, Some, option_map, refl, ap, ◌∙◌, arith, nat_eq, nat_le, nat_lt, list_any, is_some, take-map, nat_tests, Null, Int, Text, Row, Term, lit, col, Select, Database, rows_from, ShowsFirst, on_content, simple, passes, shown_of, GroupRule, item_numbered, Bytes, holds_position, GroupRecord, RolloutRecord, IsLastRow, Rollouts, Groups, Members, Rules, parts_of, is_called, rollout_row, told_rollout, group_row, told_group, numbered_from, groups_of, member_row, members_of, rule_numbered, rules_numbered, that_reach, told_rule, HoldsLedger, Ledger, and-true}
 use Rattle.sqlite.specs.Effect.{Reads as Shows}
 use Rattle.rollout_machine.specs.StateWords.{group_numbered, group_holding}
-use Rattle.desk_records.proofs.Comparisons.{and_true, numbers_above, numbers_equal, numbers_at_least, numbers_at_most, words_equal}
+use Rattle.desk_records.proofs.Comparisons.{numbers_above, numbers_equal, numbers_at_least, numbers_at_most, words_equal}
 use Rattle.desk_records.proofs.MeaningWords.{at_key}
 use Rattle.desk_records.proofs.RolloutMeaning.{same_name, last_rollout_query, rollout_columns, list_rollouts_query, of_rollout, group_columns, list_groups_query, of_group, get_group_query, holding, holding_group_query, reaching, group_and_next_query, after_place, list_members_query, list_rules_query, member_columns, rule_columns}
 use Rattle.desk_records.proofs.NumberedReads.{finds, gets, lasts, pages, passes_number}
@@ -23,7 +22,7 @@ module _ (db : Database) (l : Ledger) (holds : HoldsLedger db l) (names : List (
 
   -- whether a name is taken
   pub finds_rollout : (name : Bytes) (row : Option Row) → ShowsFirst (Select (record { lets = []; body = simple tree same_name (col 1 0 ∷ []) }) names) db (Text name ∷ []) row → is_some row ≡ list_any (is_called name) xs
-  finds_rollout name = finds rollout_row tree db xs (holds.rows Rollouts) names same_name (col 1 0 ∷ []) (Text name ∷ []) (is_called name) (λ n x. and_true _ ∙ words_equal x.plan.name name)
+  finds_rollout name = finds rollout_row tree db xs (holds.rows Rollouts) names same_name (col 1 0 ∷ []) (Text name ∷ []) (is_called name) (λ n x. and-true _ ∙ words_equal x.plan.name name)
 
   -- the last number
   pub lasts_rollout : (row : Option Row) → ShowsFirst (Select (record { lets = []; body = last_rollout_query tree }) names) db [] row → IsLastRow (length xs) row
@@ -78,9 +77,9 @@ module _ (db : Database) (l : Ledger) (holds : HoldsLedger db l) (names : List (
   pub lists_groups : (number : ℕ) → 1 ≤ number → (rows : List Row) → Shows (Select (record { lets = []; body = list_groups_query at }) names) db (Int (pos number) ∷ []) rows → rows ≡ map shown_group (found number)
   lists_groups number least rows shows =
       let params = Int (pos number) ∷ [] in
-      reads_parts told_group (λ (x : RolloutRecord). x.groups) at of_rollout group_columns (lit (Int (negsuc 0))) (lit (Int (pos 0))) params false number least (λ id x. refl) (λ id x. refl) (λ n place g apart. and_true _ ∙ numbers_equal n number ∙ apart)
+      reads_parts told_group (λ (x : RolloutRecord). x.groups) at of_rollout group_columns (lit (Int (negsuc 0))) (lit (Int (pos 0))) params false number least (λ id x. refl) (λ id x. refl) (λ n place g apart. and-true _ ∙ numbers_equal n number ∙ apart)
       db.trees l.records.rollouts (holds.rows Groups) rows (shows.answer Null)
-      ∙ shown_groups number of_rollout params (λ g. true) (λ place g. and_true _ ∙ numbers_equal number number ∙ same number) 1 (parts_of (λ (x : RolloutRecord). x.groups) (item_numbered l.records.rollouts number))
+      ∙ shown_groups number of_rollout params (λ g. true) (λ place g. and-true _ ∙ numbers_equal number number ∙ same number) 1 (parts_of (λ (x : RolloutRecord). x.groups) (item_numbered l.records.rollouts number))
       ∙ ap (map shown_group) (all_kept _)
 
   -- the group of a number
@@ -95,7 +94,7 @@ module _ (db : Database) (l : Ledger) (holds : HoldsLedger db l) (names : List (
       ∙ first_kept (λ g. nat_eq g.number place) (found number)) row shown
     where
       is_group : (n k : ℕ) (g : GroupRecord) → on_content (passes of_group (Int (pos number) ∷ Int (pos place) ∷ [])) (group_row n k g) ≡ (nat_eq n number && nat_eq k place)
-      is_group n k g = rw (numbers_equal n number, numbers_equal k place, and_true (nat_eq k place)) refl
+      is_group n k g = rw (numbers_equal n number, numbers_equal k place, and-true (nat_eq k place)) refl
 
   -- the group that has a place
   pub holds_group : (number place : ℕ) → 1 ≤ number → (row : Option Row) → ShowsFirst (Select (record { lets = []; body = holding_group_query at }) names) db (Int (pos number) ∷ Int (pos place) ∷ []) row
@@ -109,7 +108,7 @@ module _ (db : Database) (l : Ledger) (holds : HoldsLedger db l) (names : List (
       ∙ first_kept (λ g. holds_position place g.bounds) (found number)) row shown
     where
       is_holding : (n k : ℕ) (g : GroupRecord) → on_content (passes holding (Int (pos number) ∷ Int (pos place) ∷ [])) (group_row n k g) ≡ (nat_eq n number && holds_position place g.bounds)
-      is_holding n k g = rw (numbers_equal n number, numbers_at_most g.bounds.first place, numbers_at_least g.bounds.last place, and_true (nat_le place g.bounds.last)) refl
+      is_holding n k g = rw (numbers_equal n number, numbers_at_most g.bounds.first place, numbers_at_least g.bounds.last place, and-true (nat_le place g.bounds.last)) refl
 
   -- the first two groups that reach a place
   pub gets_group_and_next : (number place : ℕ) → 1 ≤ number → (rows : List Row) → Shows (Select (record { lets = []; body = group_and_next_query at }) names) db (Int (pos number) ∷ Int (pos place) ∷ []) rows
@@ -122,7 +121,7 @@ module _ (db : Database) (l : Ledger) (holds : HoldsLedger db l) (names : List (
       ∙ take-map shown_group 2 (that_reach place (found number))
     where
       is_reaching : (n k : ℕ) (g : GroupRecord) → on_content (passes reaching (Int (pos number) ∷ Int (pos place) ∷ [])) (group_row n k g) ≡ (nat_eq n number && nat_le place g.bounds.last)
-      is_reaching n k g = rw (numbers_equal n number, numbers_at_least g.bounds.last place, and_true (nat_le place g.bounds.last)) refl
+      is_reaching n k g = rw (numbers_equal n number, numbers_at_least g.bounds.last place, and-true (nat_le place g.bounds.last)) refl
 
 -- ---- members
 
@@ -141,7 +140,7 @@ module _ (db : Database) (l : Ledger) (holds : HoldsLedger db l) (names : List (
       ∙ take-map told limit (drop offset all)
     where
       is_after : (n place : ℕ) (id : Bytes) → on_content (passes after_place (Int (pos number) ∷ Int (pos offset) ∷ Int (pos limit) ∷ [])) (member_row n place id) ≡ (nat_eq n number && nat_lt offset place)
-      is_after n place id = rw (numbers_equal n number, numbers_above place offset, and_true (nat_lt offset place)) refl
+      is_after n place id = rw (numbers_equal n number, numbers_above place offset, and-true (nat_lt offset place)) refl
 
 -- ---- what is said of groups
 

@@ -1,6 +1,5 @@
 -- What LAST_ROLLOUT shows, whatever rows the table of rollouts has.
-use Rattle.std.proofs.Common.{◌≡◌, ◌≤◌, inl, inr, ℕ, pos, true, false, List, [], ◌∷◌, map, filter, get_or, take, Option, Some, None, true≢false, refl, sym, ap, subst, ◌∙◌, arith, Ordering, Less, Equal, Greater, int_cmp, is_eq, IsPermutation}
-use Rattle.desk_records.proofs.Common.{is_lt, ordering_reverse, ints, nat_tests, IsPermutation-sym, ranks_by, sorted_far, Value, Null, Int, Row, column, value_cmp, value_cmp-Int, value_cmp_total, then-Equal, rowid, Select, Database, Query, Output, output_cmp, col, output_cmp_total, Has, contains_had, ShowsFirst, IsOrdered, ordered_rows, passes, shown_in, IsLast, IsLastRow, Rollouts, HoldsTables, Tables}
+use Rattle.desk_records.proofs.Common.{◌≡◌, ◌≤◌, inl, inr, ℕ, pos, true, false, List, [], ◌∷◌, map, filter, get_or, take, Option, Some, None, true≢false, refl, sym, ap, subst, ◌∙◌, arith, Ordering, Less, Equal, Greater, int_cmp, is_eq, IsPermutation, is_lt, ordering_reverse, ints, nat_tests, IsPermutation-sym, ranks_by, sorted_far, Value, Null, Int, Row, column, value_cmp, value_cmp-Int, value_cmp_total, then-Equal, rowid, Select, Database, Query, Output, output_cmp, col, output_cmp_total, Has, contains_had, ShowsFirst, IsOrdered, ordered_rows, passes, shown_in, IsLast, IsLastRow, Rollouts, HoldsTables, Tables}
 use Rattle.sqlite.specs.Effect.{Reads as Shows}
 use Rattle.desk_records.proofs.Membership.{has_mapped, has_permuted, map_has}
 use Rattle.desk_records.proofs.NumberColumns.{has_own_number}

@@ -1,6 +1,5 @@
 -- A column that is not read breaks its rule.
-use Rattle.std.proofs.Common.{◌≡◌, ◌≢◌, ◌⊎◌, inl, inr, ◌<◌, ℕ, Bool, false, List, refl, ap, ◌∙◌, length, arith, nat_lt}
-use Rattle.desk_records.proofs.Common.{IsUtf8, is_utf8, cases_Bool, and_parts, IsUtf8-from_is_utf8, nat_tests, get_or_past, Value, Null, Int, Real, Text, Blob, Row, column, is_text, is_value, has_text, fault_at, has_value, has_filter}
+use Rattle.desk_records.proofs.Common.{◌≡◌, ◌≢◌, ◌⊎◌, inl, inr, ◌<◌, ℕ, Bool, false, List, refl, ap, ◌∙◌, length, arith, nat_lt, IsUtf8, is_utf8, cases_Bool, and_parts, IsUtf8-from_is_utf8, nat_tests, get_or_past, Value, Null, Int, Real, Text, Blob, Row, column, is_text, is_value, has_text, fault_at, has_value, has_filter}
 use Rattle.sqlite.specs.declared.error.Error.{Error}
 use Rattle.sqlite.specs.declared.error.Error.TheVariants.{SqliteFailure}
 use Rattle.sqlite.specs.declared.error.ErrorCode.{ErrorCode}

@@ -1,6 +1,5 @@
 -- What GET_RULE shows, whatever rows the table of what is said of groups has.
-use Rattle.std.proofs.Common.{◌≡◌, ℕ, pos, [], ◌∷◌, refl}
-use Rattle.desk_records.proofs.Common.{Int, Row, Database, Has, passes, lies_at, Rules, HoldsTables, Tables}
+use Rattle.desk_records.proofs.Common.{◌≡◌, ℕ, pos, [], ◌∷◌, refl, Int, Row, Database, Has, passes, lies_at, Rules, HoldsTables, Tables}
 use Rattle.desk_records.proofs.RolloutMeaning.{of_group}
 use Rattle.desk_records.proofs.TableColumns.{passes_part}
 

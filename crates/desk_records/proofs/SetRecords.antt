@@ -1,6 +1,5 @@
 -- The statements on distribution sets, in records.
-use Rattle.std.proofs.Common.{◌≡◌, ◌≤◌, ◌++◌, ℕ, ◌+◌, pos, List, [], ◌∷◌, length, Option, None, option_map, refl, sym, ap, subst, ◌∙◌}
-use Rattle.desk_records.proofs.Common.{list_any, is_some, Int, Row, col, Select, Insert, Values, Database, State, Writes, rows_from, IsHeldBy, ShowsFirst, simple, inserts, Bytes, SetLabel, item_numbered, modules_of_set, Records, is_named_by_set, IsLastRow, Sets, SetModules, set_table, set_module_table, set_row, place_row, places_from, is_same_set, names_of, module_rows, with_set, and_module, AddsSetModule, HoldsRecords, ledger_of, Ordered, Unordered}
+use Rattle.desk_records.proofs.Common.{◌≡◌, ◌≤◌, ◌++◌, ℕ, ◌+◌, pos, List, [], ◌∷◌, length, Option, None, option_map, refl, sym, ap, subst, ◌∙◌, list_any, is_some, Int, Row, col, Select, Insert, Values, Database, State, Writes, rows_from, IsHeldBy, ShowsFirst, simple, inserts, Bytes, SetLabel, item_numbered, modules_of_set, Records, is_named_by_set, IsLastRow, Sets, SetModules, set_table, set_module_table, set_row, place_row, places_from, is_same_set, names_of, module_rows, with_set, and_module, AddsSetModule, HoldsRecords, ledger_of, Ordered, Unordered}
 use Rattle.sqlite.specs.Effect.{Reads as Shows}
 use Rattle.desk_records.proofs.HoldsAfter.{ChangesOnly, holds_after, records_differ}
 use Rattle.desk_records.proofs.MeaningWords.{at_key}

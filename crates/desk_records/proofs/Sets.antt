@@ -1,11 +1,10 @@
 -- The statements on distribution sets, in lists of them.
-use Rattle.std.proofs.Common.{◌≡◌, ◌≤◌, ◌<◌, ◌==◌, ◌||◌, ◌++◌, ℕ, zero, suc, ◌+◌, pos, List, [], ◌∷◌, map, filter, take, length, slice_get, Bool, true, not, Option, Some, None, option_map, refl, sym, ap, ap₂, subst, ◌∙◌, arith, IsPermutation, Less, nat_eq}
-use Rattle.desk_records.proofs.Common.{list_any, AllByRecursion, is_some, ints, nat_tests, length-map, list_any-append, IsPermutation-trans, length_permutation, Null, Int, Row, value_cmp, value_cmp-Int, IsAscending, put_row, next_rowid, output_cmp_total, col, Query, Output, output_cmp, Select, Schema, Database, sorted_unique, rows_from, IsHeldBy, ShowsFirst, simple, passes, shown_in, ordered_rows, Inserted, given_rows, put_next, cast_int, cast_null, has_number, on_content, held_seen, Bytes, SetLabel, same_bytes, item_numbered, modules_of_set, is_named_by_set, IsLastRow, set_table, set_module_table, set_row, place_row, places_from, is_same_set, names_of, module_rows, set_named, and_module}
+use Rattle.desk_records.proofs.Common.{◌≡◌, ◌≤◌, ◌<◌, ◌==◌, ◌||◌, ◌++◌, ℕ, zero, suc, ◌+◌, pos, List, [], ◌∷◌, map, filter, take, length, slice_get, Bool, true, not, Option, Some, None, option_map, refl, sym, ap, ap₂, subst, ◌∙◌, arith, IsPermutation, Less, nat_eq, list_any, AllByRecursion, is_some, ints, nat_tests, length-map, list_any-append, IsPermutation-trans, length_permutation, Null, Int, Row, value_cmp, value_cmp-Int, IsAscending, put_row, next_rowid, output_cmp_total, col, Query, Output, output_cmp, Select, Schema, Database, sorted_unique, rows_from, IsHeldBy, ShowsFirst, simple, passes, shown_in, ordered_rows, Inserted, given_rows, put_next, cast_int, cast_null, has_number, on_content, held_seen, Bytes, SetLabel, same_bytes, item_numbered, modules_of_set, is_named_by_set, IsLastRow, set_table, set_module_table, set_row, place_row, places_from, is_same_set, names_of, module_rows, set_named, and_module, and-true}
 use Rattle.sqlite_sql.specs.Ops.{binary}
 use Rattle.sqlite.specs.Effect.{Reads as Shows}
 use Rattle.desk_records.proofs.MeaningWords.{at_key}
 use Rattle.desk_records.proofs.SetMeaning.{same_names, last_set_query, name_columns, set_terms, set_modules_query, locked_query, set_module_terms}
-use Rattle.desk_records.proofs.Comparisons.{judged, words_equal, numbers_equal, and_true}
+use Rattle.desk_records.proofs.Comparisons.{judged, words_equal, numbers_equal}
 use Rattle.desk_records.proofs.NumberedReads.{finds, lasts, gets, some_pass, some_row}
 use Rattle.desk_records.proofs.Parts.{same_rows, all_pass, no_parts, its_parts, part_added}
 
@@ -13,7 +12,7 @@ use Rattle.desk_records.proofs.Parts.{same_rows, all_pass, no_parts, its_parts, 
 
 module _ (tree : ℕ) (db : Database) (sets : List SetLabel) (has : db.trees tree ≡ rows_from set_row 1 sets) (names : List (List ℕ)) where
   passes_names : (name version : Bytes) (number : ℕ) (set : SetLabel) → passes same_names (names_of name version) (set_row number set) ≡ is_same_set name version set
-  passes_names name version number set = rw (words_equal set.name name, words_equal set.version version, and_true (same_bytes set.version version)) refl
+  passes_names name version number set = rw (words_equal set.name name, words_equal set.version version, and-true (same_bytes set.version version)) refl
 
   pub finds_set : (name version : Bytes) (row : Option Row) → ShowsFirst (Select (record { lets = []; body = simple tree same_names (col 1 0 ∷ []) }) names) db (names_of name version) row
       → is_some row ≡ list_any (is_same_set name version) sets
@@ -24,7 +23,7 @@ module _ (tree : ℕ) (db : Database) (sets : List SetLabel) (has : db.trees tre
 
   passes_number : (number n : ℕ) (set : SetLabel) → passes (at_key 0 0 ∷ []) (Int (pos number) ∷ []) (set_row n set) ≡ has_number set_row (λ n x. refl) number (set_row n set)
   unfolding binary
-  passes_number number n set = and_true _ ∙ judged _
+  passes_number number n set = and-true _ ∙ judged _
 
   pub gets_set : (number : ℕ) → 1 ≤ number → (row : Option Row) → ShowsFirst (Select (record { lets = []; body = simple tree (at_key 0 0 ∷ []) name_columns }) names) db (Int (pos number) ∷ []) row
       → row ≡ option_map (λ (set : SetLabel). names_of set.name set.version) (item_numbered sets number)
@@ -55,7 +54,7 @@ abbrev is_of : ℕ → Row → Bool
 is_of number = on_content (passes (at_key 1 0 ∷ []) (Int (pos number) ∷ []))
 
 names_it : (number n place m : ℕ) → is_of number (place_row n place m) ≡ nat_eq n number
-names_it number n place m = and_true _ ∙ numbers_equal n number
+names_it number n place m = and-true _ ∙ numbers_equal n number
 
 its_places : (k : ℕ) (sets : List SetLabel) → filter (is_of (suc k)) (places_from 1 sets) ≡ rows_from (place_row (suc k)) 1 (modules_of_set (slice_get sets k))
 its_places k sets =
@@ -111,7 +110,7 @@ module _ (tree : ℕ) (db : Database) (sets : List SetLabel) (held : IsHeldBy (d
 
   any_place : (m n place : ℕ) (ms : List ℕ) → list_any (is_at m) (rows_from (place_row n) place ms) ≡ list_any (λ k. nat_eq k m) ms
   any_place m n place [] = refl
-  any_place m n place (k ∷ ms) = ap₂ ◌||◌ (and_true _ ∙ numbers_equal k m) (any_place m n (place + 1) ms)
+  any_place m n place (k ∷ ms) = ap₂ ◌||◌ (and-true _ ∙ numbers_equal k m) (any_place m n (place + 1) ms)
 
   any_set : (m n : ℕ) (sets : List SetLabel) → list_any (is_at m) (places_from n sets) ≡ is_named_by_set sets m
   any_set m n [] = refl

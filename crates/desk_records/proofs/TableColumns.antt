@@ -1,6 +1,5 @@
 -- The columns of the tables of a desk are of their kinds, in each sound database.
-use Rattle.std.proofs.Common.{◌≡◌, ◌||◌, ℕ, zero, suc, ◌+◌, ℤ, Bool, true, false, not, pos, List, [], ◌∷◌, drop, slice_get, Option, Some, true≢false, refl, sym, ap, subst, ◌∙◌, arith, if◌then◌else◌}
-use Rattle.desk_records.proofs.Common.{and_parts, Value, Null, Int, Real, Text, Blob, Row, column, is_null, is_of, suits, are_typed, are_present, Has, all_has, all-slice_get, Database, passes, lies_at, has_at, Place, table_at, table_by, HoldsTables, Tables}
+use Rattle.desk_records.proofs.Common.{◌≡◌, ℕ, zero, suc, ◌+◌, ℤ, true, false, pos, List, [], ◌∷◌, drop, slice_get, Option, Some, true≢false, refl, sym, ap, subst, ◌∙◌, arith, if◌then◌else◌, and_parts, Value, Null, Int, Real, Text, Blob, Row, column, is_null, is_of, suits, are_typed, are_present, Has, all_has, all-slice_get, Database, passes, lies_at, has_at, Place, table_at, table_by, HoldsTables, Tables, is_there}
 use Rattle.sqlite_schema.specs.declared.schema.Kind.TheVariants as kind
 use Rattle.sqlite_schema.specs.declared.schema.Column.{Column}
 use Rattle.sqlite_schema.specs.declared.schema.Constraint.TheVariants.{Datatype, NotNull}
@@ -34,12 +33,6 @@ present_from key at (x ∷ columns) row zero c there filled apart h =
     let here : at + 0 ≡ at = omega arith in
     ap (λ n. is_null (column row (n + 1))) here
     ∙ is_there (is_key key at) x.not_null _ (ap (is_key key) (sym here) ∙ apart) (ap (λ (y : Column). y.not_null) same ∙ filled) (and_parts _ _ h).0
-  where
-    is_there : (k n v : Bool) → k ≡ false → n ≡ true → (k || not n || not v) ≡ true → v ≡ false
-    is_there true n v e a b = absurd (true≢false e)
-    is_there false false v e a b = absurd (true≢false (sym a))
-    is_there false true true e a b = absurd (true≢false (sym b))
-    is_there false true false e a b = refl
 present_from key at (x ∷ columns) row (suc k) c there filled apart h =
     let on : at + suc k ≡ at + 1 + k = omega arith in
     ap (λ n. is_null (column row (n + 1))) on ∙ present_from key (at + 1) columns row k c there filled (ap (is_key key) (sym on) ∙ apart) (and_parts _ _ h).1

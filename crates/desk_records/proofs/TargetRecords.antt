@@ -1,13 +1,12 @@
 -- The statements on targets and their tags, in records.
-use Rattle.std.proofs.Common.{◌≡◌, ◌∷◌, ◌&&◌, ℕ, min, pos, negsuc, List, [], Bool, true, false, cond, not, map, filter, take, drop, flat_map, length, slice_get, Option, Some, None, option_map, refl, sym, ap, ap₂, subst, ◌∙◌, codes, IsPermutation}
-use Rattle.desk_records.proofs.Common.{list_all, and_parts, length-map, take-map, drop-map, IsPermutation-map, IsPermutation-trans, Null, Int, Text, Blob, Row, plain, agree, filter_all, all_of, map-map, cast_all, lit, col, Command, Select, Insert, Update, Delete, Values, Database, State, Writes, IsHeldBy, Rise, strict, ShowsFirst, inserts, on_content, changed, keys_apart, are_whole, reads_key, changes_key, drops, adds_row, reads_risen, simple, passes, shown_of, updates, deletes, same_bytes, with_word, without_word, Bytes, TargetRow, change_target, Records, Target, tags_of, target_of, Targets, TargetTags, TargetAttributes, target_table, target_tag_table, target_row, tag_rows, attribute_rows, in_byte_order, ids_of, keys_of, is_sorted, renamed, tagged, untagged, with_target, with_changed, AddsTarget, AddsTag, HoldsRecords, IsHeld, ledger_of, Unordered}
+use Rattle.desk_records.proofs.Common.{◌≡◌, ◌∷◌, ◌&&◌, ℕ, min, pos, negsuc, List, [], Bool, true, false, cond, not, map, filter, take, drop, flat_map, length, slice_get, Option, Some, None, option_map, refl, sym, ap, ap₂, subst, ◌∙◌, codes, IsPermutation, list_all, and_parts, length-map, take-map, drop-map, IsPermutation-map, IsPermutation-trans, Null, Int, Text, Blob, Row, plain, agree, filter_all, all_of, map-map, cast_all, lit, col, Command, Select, Insert, Update, Delete, Values, Database, State, Writes, IsHeldBy, Rise, strict, ShowsFirst, inserts, on_content, changed, keys_apart, are_whole, reads_key, changes_key, drops, adds_row, reads_risen, simple, passes, shown_of, updates, deletes, same_bytes, with_word, without_word, Bytes, TargetRow, change_target, Records, Target, tags_of, target_of, Targets, TargetTags, TargetAttributes, target_table, target_tag_table, target_row, tag_rows, attribute_rows, in_byte_order, ids_of, keys_of, is_sorted, renamed, tagged, untagged, with_target, with_changed, AddsTarget, AddsTag, HoldsRecords, IsHeld, ledger_of, Unordered, and-true}
 use Rattle.sqlite_value.specs.Keys.{first_key}
 use Rattle.sqlite.specs.Kind.TheVariants as kind
 use Rattle.sqlite.specs.Effect.{Reads as Shows}
 use Rattle.sql_calls.proofs.Counts.{count_query, count_rows, length_held}
 use Rattle.desk_records.proofs.HoldsAfter.{ChangesOnly, holds_after, records_differ}
 use Rattle.desk_records.proofs.TargetMeaning.{of_target, target_columns, target_terms, new_values, set_target_query, targets_query, tags_query, tag_terms, of_tag, drop_tag_query}
-use Rattle.desk_records.proofs.Comparisons.{words_equal, and_true}
+use Rattle.desk_records.proofs.Comparisons.{words_equal}
 use Rattle.desk_records.proofs.ByteOrder.{sorted_from, in_order_with, in_order_without}
 use Rattle.desk_records.proofs.Targets.{has_id, first_found, changed_map, changed_rows, changed_sorted, rows_of, its_rows, put_is_more, put_rows, put_sorted, targets_rise, tag_row, tags_rise, tags_sorted, tag_is_more, tag_is_less}
 
@@ -22,7 +21,7 @@ is_of id = on_content (passes of_target (Text id ∷ []))
 
 -- of all rows a statement may name, those whose first column is the id
 pub names_it : (id other : Bytes) (more params : Row) → on_content (passes of_target (Text id ∷ params)) (Text other ∷ more) ≡ same_bytes other id
-names_it id other more params = and_true _ ∙ words_equal other id
+names_it id other more params = and-true _ ∙ words_equal other id
 
 -- what the records say of all targets
 pub ids_sorted : (db : Database) (now : Records) → HoldsRecords db now → in_byte_order (ids_of now.targets) ≡ true
@@ -194,7 +193,7 @@ adds_tag id w old new text count now next holds change done =
     (changed_sorted id (tagged w) (λ t. refl) (tags_keep (with_word w) (in_order_with w)) now.targets holds.sorted))
 
 names_tag : (id w i v : Bytes) → not (passes of_tag (tag_row id w) (Null ∷ tag_row i v)) ≡ not (same_bytes i id && same_bytes v w)
-names_tag id w i v = ap not (rw (words_equal i id, words_equal v w) (ap (λ b. same_bytes i id && b) (and_true (same_bytes v w))))
+names_tag id w i v = ap not (rw (words_equal i id, words_equal v w) (ap (λ b. same_bytes i id && b) (and-true (same_bytes v w))))
 
 pub drops_tag : (id w : Bytes) (old new : State) (text : List ℕ) (count : ℕ) (now : Records) (holds : HoldsRecords old.now now)
     → (done : Writes old new None (Delete (holds.spot TargetTags).at (record { lets = []; body = drop_tag_query (holds.spot TargetTags).tree })) text (tag_row id w) count) → HoldsRecords new.now (with_changed now id (untagged w))

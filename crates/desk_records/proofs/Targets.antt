@@ -1,6 +1,5 @@
 -- Targets and their rows, in lists alone.
-use Rattle.std.proofs.Common.{◌≡◌, ◌++◌, Bool, true, false, cond, not, ◌&&◌, List, [], ◌∷◌, map, filter, slice_get, Option, Some, None, option_map, refl, sym, ap, ap₂, ◌∙◌, subst, IsPermutation, flat_map, find}
-use Rattle.desk_records.proofs.Common.{list_all, AllByRecursion, is_gt, is_some, and_parts, or_parts, false≢true, filter-append, IsPermutation-refl, IsPermutation-trans, IsPermutation-cons, IsPermutation-middle, IsPermutation-map, IsPermutation-append_left, IsPermutation-append_right, Text, Row, by_column, Rise, same_bytes, bytes_below, contains_word, with_word, without_word, Bytes, TargetRow, new_target, put_target, change_target, Target, tags_of, AllAbove, IsSorted, not_above, same_sym, same_true, target_row, tag_rows, in_byte_order, ids_of, is_sorted, are_sorted, tagged, untagged}
+use Rattle.desk_records.proofs.Common.{◌≡◌, ◌++◌, Bool, true, false, cond, not, ◌&&◌, List, [], ◌∷◌, map, filter, slice_get, Option, Some, None, option_map, refl, sym, ap, ap₂, ◌∙◌, subst, IsPermutation, flat_map, find, list_all, AllByRecursion, is_gt, is_some, and_parts, or_parts, false≢true, filter-append, IsPermutation-refl, IsPermutation-trans, IsPermutation-cons, IsPermutation-middle, IsPermutation-map, IsPermutation-append_left, IsPermutation-append_right, Text, Row, by_column, Rise, same_bytes, bytes_below, contains_word, with_word, without_word, Bytes, TargetRow, new_target, put_target, change_target, Target, tags_of, AllAbove, IsSorted, not_above, same_sym, same_true, target_row, tag_rows, in_byte_order, ids_of, is_sorted, are_sorted, tagged, untagged}
 use Rattle.desk_records.proofs.ByteOrder.{below_rises, in_order_with, with_is_more}
 
 -- ---- the target of an id

@@ -1,8 +1,6 @@
 -- What the artifacts of a list of accepted commands have: the size and the digest of their contents, and columns that keep their rules.
-use Rattle.std.proofs.Common.{◌≡◌, ◌≤◌, ◌++◌, ◌&&◌, ℕ, zero, suc, ◌*◌, ◌/◌, ◌%◌, ◌^◌, true, List, [], ◌∷◌, length, All, refl, ap, arith, nat_le, length-append}
-use Rattle.desk_records.proofs.Common.{list_all, and_parts, le-leb, nat_tests, All-append, All-cons, All-nil, artifact_size_limit, is_byte, is_digest, is_filename, is_number, AddArtifact, ArtifactRecord, added_artifacts, artifacts}
+use Rattle.desk_records.proofs.Common.{◌≡◌, ◌≤◌, ◌++◌, ◌&&◌, ℕ, zero, suc, ◌*◌, ◌/◌, ◌%◌, ◌^◌, true, List, [], ◌∷◌, length, All, refl, ap, arith, nat_le, length-append, slice_index, list_all, and_parts, le-leb, nat_tests, All-append, All-cons, All-nil, artifact_size_limit, is_byte, is_digest, is_filename, is_number, AddArtifact, ArtifactRecord, added_artifacts, artifacts}
 use Rattle.std.specs.Int.{bytes_high_first}
-use Rattle.std.specs.Prelude.{slice_index}
 use Rattle.sha2.specs.Sha256.{digest_bytes, sha256}
 use Rattle.rollout_machine.specs.CommandList.{CommandList, Make, ◌▸◌}
 use Rattle.rollout_machine.specs.CommandRules.{IsWellFormed, is_digest_or_none}

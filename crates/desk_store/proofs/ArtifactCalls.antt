@@ -1,33 +1,11 @@
 -- The calls on artifacts and their pieces.
-use Rattle.std.proofs.Common.{◌≡◌, ◌≤◌, ℕ, ◌+◌, pos, [], ◌∷◌, length, Bool, Option, Some, Ok, Err, Result, IfOk, option_map, Vec, vec_items, refl, sym, ap, subst, codes}
-use Rattle.desk_store.proofs.Common.{list_any, Global, is_some, Int, Text, Blob, Row, column, Insert, Values, col, Database, State, Fault, RunsText, AsksText, TakesFirst, Finds, Makes, KnowsWrite, ShowsFirst, simple, first_finds, run_makes, item_numbered, Bytes, ArtifactRecord, Records, Artifact, FIND_ARTIFACT, LAST_ARTIFACT, GET_ARTIFACT, LIST_ARTIFACTS, GET_PIECE, PUT_ARTIFACT, PUT_PIECE, StoredArtifact, Artifacts, Pieces, HoldsLedger, HoldsRecords, ledger_of, IsLastRow, told_of, piece_row, is_same_artifact, file_of, piece_numbered, artifact_filed, with_artifact, AddsPiece, IsStoredRow, IsArtifactRow, StoredBytes, stored, at_key, same_file, last_artifact_query, told_columns, told_names, artifacts_query, shown_names, artifact_terms, at_piece, piece_terms, find_artifact_is, last_artifact_is, get_artifact_is, list_artifacts_is, get_piece_is, put_artifact_is, put_piece_is, AreReadAs, IsReadAs}
+use Rattle.desk_store.proofs.Common.{◌≡◌, ◌≤◌, ℕ, ◌+◌, pos, [], ◌∷◌, length, Bool, Option, Some, Ok, Result, IfOk, option_map, Vec, vec_items, refl, sym, ap, subst, codes, list_any, Global, is_some, Int, Text, Blob, Row, column, State, Fault, RunsText, AsksText, TakesFirst, Finds, Makes, first_finds, run_makes, item_numbered, Bytes, ArtifactRecord, Records, Artifact, FIND_ARTIFACT, LAST_ARTIFACT, GET_ARTIFACT, LIST_ARTIFACTS, GET_PIECE, PUT_ARTIFACT, PUT_PIECE, StoredArtifact, HoldsLedger, HoldsRecords, ledger_of, IsLastRow, told_of, piece_row, is_same_artifact, file_of, piece_numbered, artifact_filed, with_artifact, AddsPiece, IsStoredRow, IsArtifactRow, StoredBytes, stored, told_names, shown_names, find_artifact_is, last_artifact_is, get_artifact_is, list_artifacts_is, get_piece_is, put_artifact_is, put_piece_is, AreReadAs, IsReadAs, put_at}
 use Rattle.rollout_machine.specs.Objects.{artifacts_shown}
 use Rattle.desk_records.proofs.ArtifactRecords.{finds_artifact, lasts_artifact, gets_artifact, lists_artifacts, gets_piece, adds_artifact, adds_piece}
 use Rattle.desk_store.proofs.ReadLemmas.{asks_all, takes_last, takes_one}
-use Rattle.desk_store.proofs.Known.{OneTable, in_ledgers, known, ledger_writes}
+use Rattle.desk_store.proofs.Known.{in_ledgers, known, tables_know}
 
 -- ---- what the texts mean where the records are held
-
-abbrev pub finding : OneTable FIND_ARTIFACT.now
-finding = record { place = Artifacts; query = λ tree. simple tree same_file (col 1 0 ∷ []); names = (codes "number" ∷ []); means = find_artifact_is; shape = λ tree. refl }
-
-abbrev pub ending : OneTable LAST_ARTIFACT.now
-ending = record { place = Artifacts; query = λ tree. last_artifact_query tree; names = (codes "number" ∷ []); means = last_artifact_is; shape = λ tree. refl }
-
-abbrev pub getting : OneTable GET_ARTIFACT.now
-getting = record { place = Artifacts; query = λ tree. simple tree (at_key 0 0 ∷ []) told_columns; names = told_names; means = get_artifact_is; shape = λ tree. refl }
-
-abbrev pub listing : OneTable LIST_ARTIFACTS.now
-listing = record { place = Artifacts; query = λ tree. artifacts_query tree; names = shown_names; means = list_artifacts_is; shape = λ tree. refl }
-
-abbrev pub taking : OneTable GET_PIECE.now
-taking = record { place = Pieces; query = λ tree. simple tree at_piece (col 1 3 ∷ []); names = (codes "bytes" ∷ []); means = get_piece_is; shape = λ tree. refl }
-
-abbrev pub putting : KnowsWrite HoldsLedger PUT_ARTIFACT.now
-putting = ledger_writes Artifacts PUT_ARTIFACT.now (λ at tree. Insert at (Values artifact_terms 6)) put_artifact_is (λ at tree. refl)
-
-abbrev pub placing : KnowsWrite HoldsLedger PUT_PIECE.now
-placing = ledger_writes Pieces PUT_PIECE.now (λ at tree. Insert at (Values piece_terms 4)) put_piece_is (λ at tree. refl)
 
 -- ---- whether a module has such an artifact
 
@@ -36,12 +14,12 @@ FindsSame m filename r found = found ≡ list_any (is_same_artifact m filename) 
 
 pub found : {E : Type 0} (m : ℕ) (filename : Bytes) (old new : State) (row : Option Row) → TakesFirst old new FIND_ARTIFACT.now (file_of m filename) (Ok row) → Finds HoldsLedger ledger_of {E = E} old new (Ok (is_some row)) (FindsSame m filename)
 found m filename old new row h =
-    first_finds HoldsLedger ledger_of FIND_ARTIFACT.now (file_of m filename) old new (FindsSame m filename) (in_ledgers (known finding)) (λ db r holds at given. tt) row h (Ok (is_some row)) (λ db now holds shown. finds_artifact db now holds (codes "number" ∷ []) m filename row shown)
+    first_finds HoldsLedger ledger_of FIND_ARTIFACT.now (file_of m filename) old new (FindsSame m filename) (in_ledgers (known find_artifact_is)) (λ db r holds at given. tt) row h (Ok (is_some row)) (λ db now holds shown. finds_artifact db now holds (codes "number" ∷ []) m filename row shown)
 
 -- ---- the last number
 
 pub last_read : (old new : State) (row : Option Row) → TakesFirst old new LAST_ARTIFACT.now [] (Ok row) → (out : Result ℕ Fault) → IfOk out (λ n. IsLastRow n row) → Finds HoldsLedger ledger_of old new out (λ r last. last ≡ length r.artifacts)
-last_read old new row = takes_last ledger_of LAST_ARTIFACT.now old new (known ending) (λ r. length r.artifacts) (λ db l holds at given. tt) row (λ db r holds. lasts_artifact db r holds (codes "number" ∷ []) row)
+last_read old new row = takes_last ledger_of LAST_ARTIFACT.now old new (known last_artifact_is) (λ r. length r.artifacts) (λ db l holds at given. tt) row (λ db r holds. lasts_artifact db r holds (codes "number" ∷ []) row)
 
 -- ---- an artifact by its number
 
@@ -64,7 +42,7 @@ one_told told a h =
 pub artifact_read : (number : ℕ) → 1 ≤ number → (old new : State) (row : Option Row) → TakesFirst old new GET_ARTIFACT.now (Int (pos number) ∷ []) (Ok row) → (out : Result (Option StoredArtifact) Fault)
     → IfOk out (λ found. IsReadAs IsStoredRow found row) → Finds HoldsLedger ledger_of old new out (Gets number)
 artifact_read number least old new row =
-    takes_one ledger_of IsStoredRow told_of GET_ARTIFACT.now (Int (pos number) ∷ []) old new (known getting) (λ r. item_numbered r.artifacts number) (λ found a. found ≡ option_map stored a) refl (λ told a h. ap Some (one_told told a h)) (λ db r holds at given. tt) row
+    takes_one ledger_of IsStoredRow told_of GET_ARTIFACT.now (Int (pos number) ∷ []) old new (known get_artifact_is) (λ r. item_numbered r.artifacts number) (λ found a. found ≡ option_map stored a) refl (λ told a h. ap Some (one_told told a h)) (λ db r holds at given. tt) row
     (λ db now holds. gets_artifact db now holds told_names number least row)
 
 -- ---- the artifacts of a module
@@ -91,7 +69,7 @@ one_shown a b h =
 pub artifacts_read : (m : ℕ) (old new : State) (rows : Vec Row Global) → AsksText old new LIST_ARTIFACTS.now (Int (pos m) ∷ []) (Ok rows) → (out : Result (Vec Artifact Global) Fault)
     → IfOk out (λ artifacts. AreReadAs IsArtifactRow rows.items artifacts.items) → Finds HoldsLedger ledger_of old new out (Lists m)
 artifacts_read m old new rows =
-    asks_all ledger_of vec_items IsArtifactRow shown_row one_shown LIST_ARTIFACTS.now (Int (pos m) ∷ []) old new (known listing) (λ r. artifacts_shown m 1 r.artifacts) rows (λ db now holds. lists_artifacts db now holds shown_names m rows.items)
+    asks_all ledger_of vec_items IsArtifactRow shown_row one_shown LIST_ARTIFACTS.now (Int (pos m) ∷ []) old new (known list_artifacts_is) (λ r. artifacts_shown m 1 r.artifacts) rows (λ db now holds. lists_artifacts db now holds shown_names m rows.items)
 
 -- ---- a piece
 
@@ -108,7 +86,7 @@ one_piece a b h = let same : Blob b ≡ Blob a.items = h in cc
 pub piece_read : (number sequence : ℕ) → 1 ≤ number → (old new : State) (row : Option Row) → TakesFirst old new GET_PIECE.now (Int (pos number) ∷ Int (pos sequence) ∷ []) (Ok row) → (out : Result (Option (Vec ℕ Global)) Fault)
     → IfOk out (λ found. IsReadAs IsPieceRow found row) → Finds HoldsLedger ledger_of old new out (Takes number sequence)
 piece_read number sequence least old new row =
-    takes_one ledger_of IsPieceRow (λ bytes. Blob bytes ∷ []) GET_PIECE.now (Int (pos number) ∷ Int (pos sequence) ∷ []) old new (known taking) (λ r. piece_numbered r.artifacts number sequence) (λ found bytes. option_map vec_items found ≡ bytes) refl
+    takes_one ledger_of IsPieceRow (λ bytes. Blob bytes ∷ []) GET_PIECE.now (Int (pos number) ∷ Int (pos sequence) ∷ []) old new (known get_piece_is) (λ r. piece_numbered r.artifacts number sequence) (λ found bytes. option_map vec_items found ≡ bytes) refl
     (λ a b h. ap Some (one_piece a b h)) (λ db r holds at given. tt) row (λ db now holds. gets_piece db now holds (codes "bytes" ∷ []) number sequence least row)
 
 -- ---- a new artifact, and a further piece of it
@@ -119,9 +97,9 @@ Puts number m filename size digest r next = (number ≡ length r.artifacts + 1) 
 pub artifact_written : (number m : ℕ) (filename : Bytes) (size : ℕ) (digest : Bytes) (old new : State) (out : Result (Unit {0}) Fault) → RunsText old new PUT_ARTIFACT.now (Int (pos number) ∷ told_of (artifact_filed m filename size digest)) out
     → Makes HoldsLedger ledger_of old new out (Puts number m filename size digest)
 artifact_written number m filename size digest old new out h =
-    run_makes HoldsLedger ledger_of PUT_ARTIFACT.now (Int (pos number) ∷ told_of (artifact_filed m filename size digest)) old new (Puts number m filename size digest) putting.knows out h
+    run_makes HoldsLedger ledger_of PUT_ARTIFACT.now (Int (pos number) ∷ told_of (artifact_filed m filename size digest)) old new (Puts number m filename size digest) (in_ledgers (tables_know (put_at put_artifact_is))) out h
     (λ now next change holds count w. (w, subst (HoldsRecords new.now) (sym change.1) (adds_artifact m filename size digest number old new _ count now holds change.0 w)))
 
 pub piece_written : (number sequence : ℕ) (bytes : Bytes) (old new : State) (out : Result (Unit {0}) Fault) → RunsText old new PUT_PIECE.now (piece_row number sequence bytes) out → Makes HoldsLedger ledger_of old new out (AddsPiece number sequence bytes)
-piece_written number sequence bytes old new out h = run_makes HoldsLedger ledger_of PUT_PIECE.now (piece_row number sequence bytes) old new (AddsPiece number sequence bytes) placing.knows out h
+piece_written number sequence bytes old new out h = run_makes HoldsLedger ledger_of PUT_PIECE.now (piece_row number sequence bytes) old new (AddsPiece number sequence bytes) (in_ledgers (tables_know (put_at put_piece_is))) out h
     (λ now next change holds count w. (w, adds_piece number sequence bytes old new _ count now next holds change w))

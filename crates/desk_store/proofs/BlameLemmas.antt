@@ -1,6 +1,5 @@
 -- What a failed store is blamed on, by what was read before.
-use Rattle.std.proofs.Common.{◌≤◌, inr, Ok, Err, Result, IfErr, arith}
-use Rattle.desk_store.proofs.Common.{Ghosts, Fault, Memory, Store, Tables, BlamesGiven, FindsTables, IfStore, IsUnreadable, OpenChange}
+use Rattle.desk_store.proofs.Common.{◌≤◌, inr, Ok, Err, Result, IfErr, arith, Ghosts, Fault, Memory, Store, Tables, BlamesGiven, FindsTables, IfStore, IsUnreadable, OpenChange}
 
 -- where no call failed: on what was found
 pub blamed : {S A B : Type 0} {g : Ghosts S} {Given : Tables → Type 0} {old new : OpenChange S} {x : A} {P : Tables → A → Type 0} → FindsTables g {E = Fault} old new (Ok x) P → old.store.now.calls.failures ≤ new.store.now.calls.failures

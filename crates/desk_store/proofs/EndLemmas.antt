@@ -1,6 +1,5 @@
 -- The ends of a change, where each failure is a failed store.
-use Rattle.std.proofs.Common.{◌≡◌, Bool, true, false, not, Ok, Err, Result, refl}
-use Rattle.desk_store.proofs.Common.{errors_in, State, Fault, Commits, GivesUp, HoldsLedger}
+use Rattle.desk_store.proofs.Common.{◌≡◌, Ok, Err, Result, refl, errors_in, State, Fault, Commits, GivesUp, HoldsLedger}
 use Rattle.desk_store.specs.Faults.{as_store}
 
 module _ (old new : State) where

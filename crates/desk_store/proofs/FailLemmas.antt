@@ -1,14 +1,12 @@
 -- Why a call over a ledger that can be read is no failed store by itself.
-use Rattle.std.proofs.Common.{◌≡◌, ◌≤◌, ◌^◌, ◌+◌, ◌-◌, ℕ, Bool, true, false, zero, suc, inl, inr, nat_lt, List, [], ◌∷◌, take, drop, filter, map, Option, Some, None, Ok, Err, Result, IfErr, Vec, refl, sym, ap, subst, ◌∙◌, arith}
-use Rattle.desk_store.proofs.Common.{Global, Null, Row, Query, Output, page, Database, Term, Ghosts, Has, has_filtered, Fault, Memory, Store, AsksFew, AsksText, TakesFirst, ShowsFirst, first_finds, ask_finds, few_finds, IsOrdered, by, ordered_rows, passes, shown_in, shown_of, simple, HoldsLedger, Ledger, HoldsTables, Tables, IfStore, HasBroken, seen_in, OpenChange}
+use Rattle.desk_store.proofs.Common.{Place, ◌≡◌, ◌≤◌, ◌^◌, ◌+◌, ◌-◌, ℕ, Bool, true, false, zero, suc, inl, inr, nat_lt, List, [], ◌∷◌, take, drop, filter, map, Option, Some, None, Ok, Err, Result, IfErr, Vec, refl, sym, ap, subst, ◌∙◌, arith, Global, Row, Query, Output, page, Database, Ghosts, Has, has_filtered, Fault, Memory, Store, AsksFew, AsksText, TakesFirst, ShowsFirst, first_finds, ask_finds, few_finds, IsOrdered, by, ordered_rows, passes, shown_in, shown_of, simple, HoldsLedger, Ledger, HoldsTables, Tables, IfStore, HasBroken, seen_in, OpenChange}
 use Rattle.sqlite.specs.Effect.{Reads as Shows}
 use Rattle.std.proofs.lemmas.Bool.Decides.{nat_tests}
 use Rattle.sql_calls.specs.Calls.{capped, failures_in, failures_of, fails}
 use Rattle.sql_calls.specs.Standing.{Sees}
 use Rattle.desk_store.specs.Blaming.{FailedBefore, HasFailed}
 use Rattle.std.proofs.lemmas.List.Sorted.{IsPermutation-sym}
-use Rattle.sqlite.specs.Program.{overlay}
-use Rattle.sqlite.specs.Query.{IsAnswer, as_count, limited}
+use Rattle.sqlite.specs.Query.{as_count, limited}
 use Rattle.sqlite.specs.Term.{eval}
 use Rattle.std.specs.Option.{unwrap_or}
 use Rattle.desk_records.proofs.HeldTables.{rows_of}
@@ -17,7 +15,8 @@ use Rattle.desk_store.specs.Changing.{FindsLedger}
 use Rattle.desk_store.specs.Failing.{CountsIn, FailsGiven, FailsIn, HasCall}
 use Rattle.desk_store.specs.Readable.{BreaksColumn, IsReadable}
 use Rattle.desk_store.specs.Rows.{IsBroken}
-use Rattle.desk_store.proofs.Known.{OneTable, in_ledgers, known}
+use Rattle.desk_store.proofs.Known.{answer_of, in_ledgers, known}
+use Rattle.desk_records.proofs.MeaningWords.{Asks}
 
 -- ---- one call
 
@@ -64,12 +63,12 @@ told_never Why (Err Store) is = λ l said readable given. said readable is
 abbrev pub tables_of : (db : Database) (l : Ledger) (holds : HoldsLedger db l) → HoldsTables db (rows_of db l holds)
 tables_of db l holds = record { sound = holds.sound; spot = holds.spot; stands = holds.stands; rows = λ p. refl }
 
-has_dropped : {X : Type 0} (n : ℕ) (xs : List X) (x : X) → Has (drop n xs) x → Has xs x
+pub has_dropped : {X : Type 0} (n : ℕ) (xs : List X) (x : X) → Has (drop n xs) x → Has xs x
 has_dropped zero xs x among = among
 has_dropped (suc n) [] x among = among
 has_dropped (suc n) (y ∷ xs) x among = inr (has_dropped n xs x among)
 
-has_taken : {X : Type 0} (n : ℕ) (xs : List X) (x : X) → Has (take n xs) x → Has xs x
+pub has_taken : {X : Type 0} (n : ℕ) (xs : List X) (x : X) → Has (take n xs) x → Has xs x
 has_taken zero xs x among = absurd among
 has_taken (suc n) [] x among = among
 has_taken (suc n) (y ∷ xs) x (inl same) = inl same
@@ -84,33 +83,30 @@ has_page q params xs x among =
     let before = unwrap_or (as_count (eval q.offset (params ∷ []))) 0 in
     has_dropped before xs x (has_limited (as_count (eval q.limit (params ∷ []))) (drop before xs) x among)
 
-module _ {sql : List ℕ} (text : OneTable sql) where
-  abbrev columns : List Term
-  columns = (text.query 0).project
-
+module _ {p : Place} {sql : List ℕ} {query : ℕ → Query} {names : List (List ℕ)} (text : Asks p sql query names) where
   -- each row that is shown is one of the table
-  from_table : (params : Row) (db : Database) (t : Tables) (holds : HoldsTables db t) (shown : List Row) → Shows (known text db t holds).command db params shown → (x : Row) → Has shown x
-      → (row : Row) × Has (t text.place) row × (x ≡ shown_of columns params row)
+  pub from_table : (params : Row) (db : Database) (t : Tables) (holds : HoldsTables db t) (shown : List Row) → Shows (known text db t holds).command db params shown → (x : Row) → Has shown x
+      → (row : Row) × Has (t p) row × (x ≡ shown_of (query 0).project params row)
   from_table params db t holds shown shows x among =
       let output = has_mapped (λ (o : Output). o.1) it.ordered x (has_page q params (map (λ (o : Output). o.1) it.ordered) x (subst (λ l. Has l x) it.is among)) in
       let source = has_mapped (shown_in q params) _ output.0 (has_permuted _ _ output.0 (IsPermutation-sym _ _ it.same) output.1) in
-      (source.0, subst (λ l. Has l source.0) (sym (holds.rows text.place)) (has_filtered (passes q.filter params) (db.trees tree) source.0 source.1).0, output.2 ∙ ap (λ (o : Output). o.1) source.2)
+      (source.0, subst (λ l. Has l source.0) (sym (holds.rows p)) (has_filtered (passes q.filter params) (db.trees tree) source.0 source.1).0, output.2 ∙ ap (λ (o : Output). o.1) source.2)
     where
       tree : ℕ
-      tree = (holds.spot text.place).tree
+      tree = (holds.spot p).tree
 
       q : Query
-      q = by (simple tree (text.query 0).filter columns) (text.query 0).order (text.query 0).limit (text.query 0).offset
+      q = by (simple tree (query 0).filter (query 0).project) (query 0).order (query 0).limit (query 0).offset
 
-      it : IsOrdered q params (filter (passes (text.query 0).filter params) (db.trees tree)) shown
-      it = ordered_rows tree (text.query 0).filter columns (text.query 0).order (text.query 0).limit (text.query 0).offset params db.trees shown (subst (λ b. IsAnswer b (overlay db.trees []) params shown) (text.shape tree) (shows.answer Null))
+      it : IsOrdered q params (filter (passes (query 0).filter params) (db.trees tree)) shown
+      it = ordered_rows tree (query 0).filter (query 0).project (query 0).order (query 0).limit (query 0).offset params db.trees shown (answer_of text holds shows)
 
   -- .. which can be read
-  module _ (is_broken : Row → Type 0) (rule : (params row : Row) → (BreaksColumn text.place row → ⊥) → is_broken (shown_of columns params row) → ⊥) (params : Row) where
+  module _ (is_broken : Row → Type 0) (rule : (params row : Row) → (BreaksColumn p row → ⊥) → is_broken (shown_of (query 0).project params row) → ⊥) (params : Row) where
     kept : (db : Database) (l : Ledger) (holds : HoldsLedger db l) (shown : List Row) → Shows (in_ledgers (known text) db l holds).command db params shown → IsReadable l → (x : Row) → Has shown x → is_broken x → ⊥
     kept db l holds shown shows readable x among broken =
         let its = from_table params db (rows_of db l holds) (tables_of db l holds) shown shows x among in
-        rule params its.0 (readable.keep text.place (db.trees (holds.spot text.place).tree) (holds.rows text.place) its.0 its.1) (subst is_broken its.2 broken)
+        rule params its.0 (readable.keep p (db.trees (holds.spot p).tree) (holds.rows p) its.0 its.1) (subst is_broken its.2 broken)
 
     module _ {S B : Type 0} {g : Ghosts S} {old new : OpenChange S} (grows : old.store.now.calls.failures ≤ new.store.now.calls.failures) where
       -- the first row

@@ -1,6 +1,5 @@
 -- The write of a group's offers.
-use Rattle.std.proofs.Common.{ℕ, Result, refl}
-use Rattle.desk_store.proofs.Common.{State, Fault, RunsText, Makes, KnowsWrite, run_makes, Bounds, PUT_GROUP_OFFERS, HoldsLedger, Ledger, Actions, Offers, group_params, offers_group, offers_keyed}
+use Rattle.desk_store.proofs.Common.{ℕ, Result, refl, State, Fault, RunsText, Makes, KnowsWrite, run_makes, Bounds, PUT_GROUP_OFFERS, HoldsLedger, Ledger, Actions, Offers, group_params, offers_group, offers_keyed}
 use Rattle.desk_records.specs.LedgerSteps.{OffersGroup}
 use Rattle.desk_records.proofs.GroupOffersMeaning.{put_group_offers_command, put_group_offers_is}
 

@@ -1,6 +1,5 @@
 -- The groups of a rollout that reach a member's place: the one that holds it, and all behind it.
-use Rattle.std.proofs.Common.{◌≡◌, ◌<◌, ◌≤◌, ℕ, zero, suc, ◌+◌, ◌-◌, List, [], ◌∷◌, drop, slice_get, refl, sym, ap, subst, ◌∙◌, arith}
-use Rattle.desk_store.proofs.Common.{le-leb, lt-leb, item_numbered, group_in, rollout_in, group_holding, number_of_group, GroupRecord, that_reach, group_and_next, GroupAndNext}
+use Rattle.desk_store.proofs.Common.{◌≡◌, ◌<◌, ◌≤◌, ℕ, zero, suc, ◌+◌, ◌-◌, List, [], ◌∷◌, drop, slice_get, refl, sym, ap, subst, ◌∙◌, arith, le-leb, lt-leb, item_numbered, group_in, rollout_in, group_holding, number_of_group, GroupRecord, that_reach, group_and_next, GroupAndNext}
 use Rattle.rollout_machine.proofs.Cuts.{group_of, in_its_group}
 use Rattle.rollout_machine.proofs.Ties.{find_holding}
 use Rattle.rollout_machine.specs.CommandList.{CommandList}
@@ -41,9 +40,9 @@ module _ (x : Rollout) (r : ℕ) (h : CommandList) (sound : HasSoundPlan x) wher
       rw (lt-leb _ _ past) (rest_reach d (suc a) n g j (omega (arith, within)) (omega (arith, at)) it)
 
   -- the two that are read are the group that holds the place, and the group of the next number
-  pub group_and_next_is : (j : ℕ) → 1 ≤ j → j ≤ size_of x
+  pub group_and_next_at : (j : ℕ) → 1 ≤ j → j ≤ size_of x
       → group_and_next j (rollout_in h r x).groups ≡ record { group = item_numbered (rollout_in h r x).groups (number_of_group (group_holding j (rollout_in h r x).groups)); next = item_numbered (rollout_in h r x).groups (number_of_group (group_holding j (rollout_in h r x).groups) + 1) }
-  group_and_next_is j low high =
+  group_and_next_at j low high =
       let g = group_of x j in
       let own = in_its_group x j sound low high in
       let found = find_holding x r h g j sound own in

@@ -1,6 +1,5 @@
 -- What rows of rollouts, groups, actions and offers tell of the ledger that they show.
-use Rattle.std.proofs.Common.{◌≡◌, ℕ, pos, List, [], ◌∷◌, map, Bool, true, false, Option, Some, None, option_map, refl, sym, ◌∙◌, ap, ap₂, if◌then◌else◌, nat_eq, nat_lt}
-use Rattle.desk_store.proofs.Common.{list_all, and_parts, option_and_then, Int, Text, Row, HistoryEntry, Said, OfDeployment, OfCancel, DeploymentWord, CancelWord, Proceeding, Scheduled, Resumed, Succeeded, Failed, Rejected, Noted, ClosedCancel, CanceledCancel, RejectedCancel, NotedCancel, Outcome, GroupRecord, is_number, is_feedback_number, is_group_count, is_percentage, Approval, Offer, ListedAction, StoredAction, StoredRollout, cancel_code, deployment_code, kind_code, lines_of, outcome_code, told_entry, word_code, IsEntryRow, cancel_from, cancel_in, deployment_from, deployment_in, keeps_details, said_in, or_null, coded_in, flag_of, approval_from, outcome_from, place_from, flag_in, approval_in, outcome_in, place_in, percentage_in, percentage_or_none_in, told_number, IsLastNumberRow, IsNumberRow, LastNumber, PlacedNumber, IsRolloutRow, IsGroupRow, IsActionRow, IsListedActionRow, IsOfferRow, approval_code, flag, told_rule, IsRuleRow, GroupRule, shown_group, shown_action, told_listed, told_offer, ranged_is, told_last, AreReadAs}
+use Rattle.desk_store.proofs.Common.{◌≡◌, ℕ, pos, List, [], ◌∷◌, map, Bool, true, false, Option, Some, None, option_map, refl, sym, ◌∙◌, ap, ap₂, if◌then◌else◌, nat_eq, nat_lt, list_all, and_parts, option_and_then, Int, Text, Row, HistoryEntry, Said, OfDeployment, OfCancel, DeploymentWord, CancelWord, Proceeding, Scheduled, Resumed, Succeeded, Failed, Rejected, Noted, ClosedCancel, CanceledCancel, RejectedCancel, NotedCancel, Outcome, GroupRecord, is_number, is_feedback_number, is_group_count, is_percentage, Approval, Offer, ListedAction, StoredAction, StoredRollout, cancel_code, deployment_code, kind_code, lines_of, outcome_code, told_entry, word_code, IsEntryRow, cancel_from, cancel_in, deployment_from, deployment_in, keeps_details, said_in, or_null, coded_in, flag_of, approval_from, outcome_from, place_from, flag_in, approval_in, outcome_in, place_in, percentage_in, percentage_or_none_in, told_number, IsLastNumberRow, IsNumberRow, LastNumber, PlacedNumber, IsRolloutRow, IsGroupRow, IsActionRow, IsListedActionRow, IsOfferRow, approval_code, flag, told_rule, IsRuleRow, GroupRule, shown_group, shown_action, told_listed, told_offer, ranged_is, told_last, AreReadAs}
 use Rattle.rollout_machine.specs.declared.outcome.Outcome.TheVariants.{Good, Bad, Gone}
 use Rattle.rollout_model.specs.declared.approval.Approval.TheVariants.{Waiting, Denied, Given}
 use Rattle.desk_records.proofs.DetailLines.{same_details}

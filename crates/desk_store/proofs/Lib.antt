@@ -25,3 +25,4 @@ pub mod BlameLemmas
 pub mod FailLemmas
 mod RowFails
 mod RawBlames
+mod Answering

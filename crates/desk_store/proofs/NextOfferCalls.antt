@@ -1,6 +1,5 @@
 -- The call on the next offer, whose text names two tables.
-use Rattle.std.proofs.Common.{◌≡◌, ℕ, List, [], ◌∷◌, length, Option, Some, Ok, Err, Result, IfOk, refl, ap, codes}
-use Rattle.desk_store.proofs.Common.{Text, Row, Command, Select, Database, Schema, State, Stands, Fault, TakesFirst, Finds, Knows, ShowsFirst, Means, first_finds, Bytes, Offer, NEXT_OFFER, HoldsLedger, Ledger, IsOfferRow, Place, Actions, Groups, name_of, table_at, HoldsTables, next_offer_query, next_offer_is, told_offer, IsReadAs}
+use Rattle.desk_store.proofs.Common.{◌≡◌, ℕ, List, [], ◌∷◌, length, Option, Some, Ok, Err, Result, IfOk, refl, ap, codes, Text, Row, Command, Select, Database, Schema, State, Stands, Fault, TakesFirst, Finds, Knows, ShowsFirst, Means, first_finds, Bytes, Offer, NEXT_OFFER, HoldsLedger, Ledger, IsOfferRow, Place, Actions, Groups, name_of, table_at, HoldsTables, next_offer_query, next_offer_is, told_offer, IsReadAs}
 use Rattle.desk_records.specs.NextOffers.{next_offer}
 use Rattle.desk_records.proofs.NextOfferRecords.{gets_next_offer}
 use Rattle.desk_store.proofs.Known.{in_ledgers}

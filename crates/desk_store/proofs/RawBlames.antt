@@ -1,48 +1,36 @@
 -- What a failed read of a table is blamed on.
-use Rattle.std.proofs.Common.{◌≡◌, ◌≤◌, ◌<◌, ◌⊎◌, ◌^◌, ◌||◌, inl, inr, ℕ, min, nat_lt, pos, negsuc, Bool, true, false, not, List, [], ◌∷◌, length, filter, map, nat_le, take, Option, Some, None, Ok, Err, Result, IfErr, Vec, refl, sym, ap, subst, ◌∙◌, arith, codes}
-use Rattle.desk_store.proofs.Common.{and_parts, nat_tests, has_filtered, count_query, number_in_good, number_in_is, Global, Value, Null, Int, Text, Key, Row, column, Select, Database, Output, Query, page, Schema, Ghosts, Term, col, lit, Has, Fault, Memory, Store, AsksFew, AsksText, TakesFirst, Knows, Means, ShowsFirst, first_finds, IsOrdered, by, ordered_rows, passes, shown_in, shown_of, simple, Stands, Actions, Artifacts, Feedbacks, Groups, Members, Numbers, Offers, Pieces, Place, Rollouts, Rules, name_of, table_at, HoldsTables, Tables, has_bytes, has_wide_count, is_wide, first_broken, number_in, BreaksSequenced, broken_number_column, broken_action_column, broken_offer_column, broken_rollout_column, broken_rule_column, Offer, Column, StoredAction, GET_ACTION, GET_OFFER, LIST_ACTIONS, LIST_ENTRIES, LIST_NUMBERS, LIST_OFFERS, GET_PIECE, LIST_ALL_ARTIFACTS, GET_ROLLOUT, GET_RULE, LAST_ROLLOUT, LIST_GROUPS, LIST_PLACES, action_columns, action_names, entry_columns, entry_names, get_action_is, get_offer_is, list_actions_is, list_actions_query, list_entries_is, list_entries_query, list_numbers_is, list_numbers_query, list_offers_is, listed_columns, listed_names, number_columns, number_names, of_action, of_controller, offer_columns, owned_columns, owned_names, count_shown, from_shown, all_artifacts_query, all_columns, all_names, at_piece, get_piece_is, list_all_artifacts_is, at_key, get_rollout_is, get_rule_is, last_rollout_query, group_columns, group_names, list_groups_is, list_groups_query, list_places_is, of_group, of_rollout, placed_columns, placed_names, places_query, rollout_columns, rollout_names, rule_columns, rule_names, Blames, BlamesGiven, FindsTables, seen_in, BreaksRule, HasBroken, HasNoNumber, IfStore, IsUnreadable, broken_entry, broken_number, broken_piece, broken_rollout, broken_rule, large_count, large_number, many_rows, OpenChange}
+use Rattle.desk_store.proofs.Common.{◌≡◌, ◌≤◌, ◌<◌, ◌⊎◌, ◌^◌, ◌||◌, inl, inr, ℕ, min, nat_lt, pos, negsuc, Bool, true, false, not, List, [], ◌∷◌, length, nat_le, Option, Some, None, Ok, Err, Result, IfErr, Vec, refl, sym, subst, arith, and_parts, nat_tests, number_in_good, number_in_is, Global, Value, Null, Int, Text, Row, column, Database, Query, Ghosts, lit, Has, Fault, Memory, Store, AsksFew, AsksText, TakesFirst, ShowsFirst, first_finds, by, passes, shown_of, Members, Place, Rollouts, HoldsTables, Tables, has_bytes, has_wide_count, is_wide, first_broken, number_in, BreaksSequenced, broken_number_column, broken_action_column, broken_offer_column, broken_rollout_column, broken_rule_column, Offer, Column, StoredAction, GET_ACTION, GET_OFFER, LIST_ACTIONS, LIST_ENTRIES, LIST_NUMBERS, LIST_OFFERS, GET_PIECE, LIST_ALL_ARTIFACTS, GET_ROLLOUT, GET_RULE, LAST_ROLLOUT, LIST_GROUPS, LIST_PLACES, get_action_is, get_offer_is, list_actions_is, list_entries_is, list_numbers_is, list_offers_is, count_shown, get_piece_is, list_all_artifacts_is, get_rollout_is, get_rule_is, list_groups_is, list_places_is, of_rollout, placed_columns, places_query, Blames, BlamesGiven, FindsTables, seen_in, BreaksRule, HasBroken, HasNoNumber, IfStore, IsUnreadable, broken_entry, broken_number, broken_piece, broken_rollout, broken_rule, large_count, large_number, many_rows, OpenChange, last_rollout_is}
 use Rattle.std.proofs.lemmas.List.Filters.{length-filter_both}
-use Rattle.std.proofs.lemmas.List.Sorted.{IsPermutation-sym}
 use Rattle.rollout_model.specs.Limits.{number_limit}
-use Rattle.desk_records.proofs.Membership.{has_mapped, has_permuted}
 use Rattle.sqlite.specs.Effect.{Reads as Shows}
 use Rattle.desk_records.specs.TableRows.{IsAction, IsOffer, action_shown, offer_shown}
 use Rattle.desk_records.specs.declared.module_row.Column.TheVariants as rule
-use Rattle.desk_records.proofs.ActionMeaning.{of_rollout as of_its_rollout}
 use Rattle.desk_store.specs.RawLists.{AreActions, AreOffers}
 use Rattle.desk_store.proofs.BlameLemmas.{blamed}
-use Rattle.desk_store.proofs.Known.{tables_know}
-use Rattle.desk_store.proofs.RawCalls.{all_read, count_shown as row_of_count, counted, ending_any, few_read}
+use Rattle.desk_records.proofs.MeaningWords.{Asks, Counts, counted_at}
+use Rattle.desk_store.proofs.FailLemmas.{from_table}
+use Rattle.desk_store.proofs.Known.{known, tables_know}
+use Rattle.desk_store.proofs.RawCalls.{all_read, count_shown as row_of_count, few_read}
 use Rattle.desk_store.proofs.RawLists.{all_of, small_or_wide}
 
 -- ---- any read of one table
 
-module _ (p : Place) (sql : List ℕ) (test columns : List Term) (order : List (Term × Key)) (limit offset : Term) (names : List (List ℕ))
-    (means : (s : Schema) (at tree : ℕ) → Stands s (name_of p) at (table_at p tree) → Means s sql (Select (record { lets = []; body = by (simple tree test columns) order limit offset }) names)) (params : Row)
-    (whole : (tree : ℕ) (xs : List Row) → page (by (simple tree test columns) order limit offset) params xs ≡ xs) where
-  abbrev read_by : Knows HoldsTables sql
-  read_by = tables_know p sql (λ at tree. Select (record { lets = []; body = by (simple tree test columns) order limit offset }) names) means
-
-  -- a row of the table is shown so
-  abbrev IsOf : Tables → Row → Type 0
-  IsOf t shown = (row : Row) × Has (t p) row × (passes test params row ≡ true) × (shown ≡ shown_of columns params row)
-
+module _ {p : Place} {sql : List ℕ} {query : ℕ → Query} {names : List (List ℕ)} (text : Asks p sql query names) (params : Row) where
+  -- each row that is shown is one of the table
   abbrev AreOf : Tables → Vec Row Global → Type 0
-  AreOf t rows = (shown : Row) → Has rows.items shown → IsOf t shown
+  AreOf t rows = (shown : Row) → Has rows.items shown → (row : Row) × Has (t p) row × (shown ≡ shown_of (query 0).project params row)
 
   module _ (rows : Vec Row Global) where
-    are_of : (db : Database) (t : Tables) (holds : HoldsTables db t) (found : Vec Row Global) → Shows (read_by db t holds).command db params rows.items → found ≡ rows → AreOf t found
-    are_of db t holds found shows is =
-        subst (AreOf t) (sym is)
-        (from_shown (holds.spot p).tree test columns order limit offset params db.trees (t p) (holds.rows p) (whole (holds.spot p).tree) (passes test params) (λ row among. refl) rows.items (shows.answer Null))
+    are_of : (db : Database) (t : Tables) (holds : HoldsTables db t) (found : Vec Row Global) → Shows (known text db t holds).command db params rows.items → found ≡ rows → AreOf t found
+    are_of db t holds found shows is = subst (AreOf t) (sym is) (from_table text params db t holds rows.items shows)
 
-    module _ {S B : Type 0} (g : Ghosts S) (Given : Tables → Type 0) (is_broken : Row → Type 0) (blames : (t : Tables) (row : Row) → Has (t p) row → is_broken (shown_of columns params row) → Given t → IsUnreadable t)
+    module _ {S B : Type 0} (g : Ghosts S) (Given : Tables → Type 0) (is_broken : Row → Type 0) (blames : (t : Tables) (row : Row) → Has (t p) row → is_broken (shown_of (query 0).project params row) → Given t → IsUnreadable t)
         (old new : OpenChange S) (grows : old.store.now.calls.failures ≤ new.store.now.calls.failures) (out : Result B Fault) (broken : IfErr out (λ fault. IfStore fault (HasBroken is_broken rows.items))) where
       told : FindsTables g {E = Fault} old new (Ok rows) AreOf → BlamesGiven g Given old new out
       told read = blamed read grows out (go out broken)
         where
           unreadable : HasBroken is_broken rows.items → (t : Tables) → AreOf t rows → Given t → IsUnreadable t
-          unreadable it t of given = let its = of it.row it.among in blames t its.0 its.1 (subst is_broken its.3 it.broken) given
+          unreadable it t of given = let its = of it.row it.among in blames t its.0 its.1 (subst is_broken its.2 it.broken) given
 
           go : (out : Result B Fault) → IfErr out (λ fault. IfStore fault (HasBroken is_broken rows.items)) → IfErr out (λ fault. IfStore fault ((t : Tables) → AreOf t rows → Given t → IsUnreadable t))
           go (Ok found) is = tt
@@ -50,10 +38,10 @@ module _ (p : Place) (sql : List ℕ) (test columns : List Term) (order : List (
           go (Err Store) is = unreadable is
 
       pub all_blamed : AsksText (seen_in g old) (seen_in g new) sql params (Ok rows) → BlamesGiven g Given old new out
-      all_blamed h = told (all_read sql params (seen_in g old) (seen_in g new) read_by AreOf (λ found. found ≡ rows) rows are_of h (Ok rows) refl)
+      all_blamed h = told (all_read sql params (seen_in g old) (seen_in g new) (known text) AreOf (λ found. found ≡ rows) rows are_of h (Ok rows) refl)
 
       pub few_blamed : (most : ℕ) → AsksFew (seen_in g old) (seen_in g new) sql params most (Ok rows) → BlamesGiven g Given old new out
-      few_blamed most h = told (few_read sql params (seen_in g old) (seen_in g new) read_by AreOf (λ found. found ≡ rows) rows are_of most h (Ok rows) refl)
+      few_blamed most h = told (few_read sql params (seen_in g old) (seen_in g new) (known text) AreOf (λ found. found ≡ rows) rows are_of most h (Ok rows) refl)
 
 -- ---- rows of tables that were judged
 
@@ -81,8 +69,8 @@ abbrev never : Row → Type 0
 never row = ⊥
 
 module _ {S B : Type 0} (g : Ghosts S) (old new : OpenChange S) (rows : Vec Row Global) (grows : old.store.now.calls.failures ≤ new.store.now.calls.failures) (out : Result B Fault) where
-  abbrev Asks : List ℕ → Row → Type 0
-  Asks sql params = AsksText (seen_in g old) (seen_in g new) sql params (Ok rows)
+  abbrev AsksAll : List ℕ → Row → Type 0
+  AsksAll sql params = AsksText (seen_in g old) (seen_in g new) sql params (Ok rows)
 
   abbrev AsksOne : List ℕ → Row → Type 0
   AsksOne sql params = AsksFew (seen_in g old) (seen_in g new) sql params 1 (Ok rows)
@@ -93,69 +81,47 @@ module _ {S B : Type 0} (g : Ghosts S) (old new : OpenChange S) (rows : Vec Row 
   -- ---- by a number
 
   pub rollout_blamed : (r : ℕ) → Broken (λ row. BreaksRule (broken_rollout_column row)) → AsksOne GET_ROLLOUT.now (Int (pos r) ∷ []) → Blames g old new out
-  rollout_blamed r broken =
-      few_blamed Rollouts GET_ROLLOUT.now (at_key 0 0 ∷ []) rollout_columns [] (lit (Int (negsuc 0))) (lit (Int (pos 0))) rollout_names get_rollout_is (Int (pos r) ∷ []) (λ tree xs. refl) rows
-      g nothing (λ row. BreaksRule (broken_rollout_column row)) (λ t row among is given. broken_rollout row among is) old new grows out broken 1
+  rollout_blamed r broken = few_blamed get_rollout_is (Int (pos r) ∷ []) rows g nothing (λ row. BreaksRule (broken_rollout_column row)) (λ t row among is given. broken_rollout row among is) old new grows out broken 1
 
   pub rule_blamed : (number group : ℕ) → Broken (λ row. BreaksRule (broken_rule_column row)) → AsksOne GET_RULE.now (Int (pos number) ∷ Int (pos group) ∷ []) → Blames g old new out
-  rule_blamed number group broken =
-      few_blamed Rules GET_RULE.now of_group rule_columns [] (lit (Int (negsuc 0))) (lit (Int (pos 0))) rule_names get_rule_is (Int (pos number) ∷ Int (pos group) ∷ []) (λ tree xs. refl) rows
-      g nothing (λ row. BreaksRule (broken_rule_column row)) (λ t row among is given. broken_rule row among is) old new grows out broken 1
+  rule_blamed number group broken = few_blamed get_rule_is (Int (pos number) ∷ Int (pos group) ∷ []) rows g nothing (λ row. BreaksRule (broken_rule_column row)) (λ t row among is given. broken_rule row among is) old new grows out broken 1
 
   pub action_blamed : (k : ℕ) → Broken (λ row. BreaksRule (broken_action_column row)) → AsksOne GET_ACTION.now (Int (pos k) ∷ []) → BlamesGiven g AreActions old new out
   action_blamed k broken =
-      few_blamed Actions GET_ACTION.now (at_key 0 0 ∷ []) action_columns [] (lit (Int (negsuc 0))) (lit (Int (pos 0))) action_names get_action_is (Int (pos k) ∷ []) (λ tree xs. refl) rows
-      g AreActions (λ row. BreaksRule (broken_action_column row)) (λ t row among is given. let it = given row among in large_count row among (wide_action row it.0 it.1 it.2 is.first is.is)) old new grows out broken 1
+      few_blamed get_action_is (Int (pos k) ∷ []) rows g AreActions (λ row. BreaksRule (broken_action_column row)) (λ t row among is given. let it = given row among in large_count row among (wide_action row it.0 it.1 it.2 is.first is.is)) old new grows out broken 1
 
   pub offer_blamed : (id : List ℕ) → Broken (λ row. BreaksRule (broken_offer_column row)) → AsksOne GET_OFFER.now (Text id ∷ []) → BlamesGiven g AreOffers old new out
   offer_blamed id broken =
-      few_blamed Offers GET_OFFER.now of_controller offer_columns [] (lit (Int (negsuc 0))) (lit (Int (pos 0))) (codes "action" ∷ codes "kind" ∷ []) get_offer_is (Text id ∷ []) (λ tree xs. refl) rows
-      g AreOffers (λ row. BreaksRule (broken_offer_column row)) (λ t row among is given. let it = given row among in absurd (no_offer row it.0 it.1 it.2 is.first is.is)) old new grows out broken 1
+      few_blamed get_offer_is (Text id ∷ []) rows g AreOffers (λ row. BreaksRule (broken_offer_column row)) (λ t row among is given. let it = given row among in absurd (no_offer row it.0 it.1 it.2 is.first is.is)) old new grows out broken 1
 
   -- ---- lists
 
-  pub actions_blamed : (n : ℕ) → Broken (λ row. has_wide_count row ≡ true) → Asks LIST_ACTIONS.now (all_of n) → Blames g old new out
-  actions_blamed n broken =
-      all_blamed Actions LIST_ACTIONS.now of_its_rollout listed_columns (list_actions_query 0).order (col 0 1) (col 0 2) listed_names list_actions_is (all_of n) (λ tree xs. refl) rows
-      g nothing (λ row. has_wide_count row ≡ true) (λ t row among is given. large_count row among is) old new grows out broken
+  pub actions_blamed : (n : ℕ) → Broken (λ row. has_wide_count row ≡ true) → AsksAll LIST_ACTIONS.now (all_of n) → Blames g old new out
+  actions_blamed n broken = all_blamed list_actions_is (all_of n) rows g nothing (λ row. has_wide_count row ≡ true) (λ t row among is given. large_count row among is) old new grows out broken
 
-  pub history_blamed : (n : ℕ) → Broken (λ row. (c : Column) × BreaksSequenced row c) → Asks LIST_ENTRIES.now (all_of n) → Blames g old new out
-  history_blamed n broken =
-      all_blamed Feedbacks LIST_ENTRIES.now of_action entry_columns (list_entries_query 0).order (col 0 1) (col 0 2) entry_names list_entries_is (all_of n) (λ tree xs. refl) rows
-      g nothing (λ row. (c : Column) × BreaksSequenced row c) (λ t row among is given. broken_entry row is.0 among is.1) old new grows out broken
+  pub history_blamed : (n : ℕ) → Broken (λ row. (c : Column) × BreaksSequenced row c) → AsksAll LIST_ENTRIES.now (all_of n) → Blames g old new out
+  history_blamed n broken = all_blamed list_entries_is (all_of n) rows g nothing (λ row. (c : Column) × BreaksSequenced row c) (λ t row among is given. broken_entry row is.0 among is.1) old new grows out broken
 
-  pub numbers_blamed : (n : ℕ) → Broken (λ row. BreaksRule (broken_number_column row)) → Asks LIST_NUMBERS.now (Int (pos n) ∷ []) → Blames g old new out
-  numbers_blamed n broken =
-      all_blamed Numbers LIST_NUMBERS.now of_action number_columns (list_numbers_query 0).order (lit (Int (negsuc 0))) (lit (Int (pos 0))) number_names list_numbers_is (Int (pos n) ∷ []) (λ tree xs. refl) rows
-      g nothing (λ row. BreaksRule (broken_number_column row)) (λ t row among is given. broken_number row among is) old new grows out broken
+  pub numbers_blamed : (n : ℕ) → Broken (λ row. BreaksRule (broken_number_column row)) → AsksAll LIST_NUMBERS.now (Int (pos n) ∷ []) → Blames g old new out
+  numbers_blamed n broken = all_blamed list_numbers_is (Int (pos n) ∷ []) rows g nothing (λ row. BreaksRule (broken_number_column row)) (λ t row among is given. broken_number row among is) old new grows out broken
 
-  pub pieces_blamed : (number place : ℕ) → Broken (λ row. has_bytes (column row 0) ≡ false) → Asks GET_PIECE.now (Int (pos number) ∷ Int (pos place) ∷ []) → Blames g old new out
-  pieces_blamed number place broken =
-      all_blamed Pieces GET_PIECE.now at_piece (col 1 3 ∷ []) [] (lit (Int (negsuc 0))) (lit (Int (pos 0))) (codes "bytes" ∷ []) get_piece_is (Int (pos number) ∷ Int (pos place) ∷ []) (λ tree xs. refl) rows
-      g nothing (λ row. has_bytes (column row 0) ≡ false) (λ t row among is given. broken_piece row among is) old new grows out broken
+  pub pieces_blamed : (number place : ℕ) → Broken (λ row. has_bytes (column row 0) ≡ false) → AsksAll GET_PIECE.now (Int (pos number) ∷ Int (pos place) ∷ []) → Blames g old new out
+  pieces_blamed number place broken = all_blamed get_piece_is (Int (pos number) ∷ Int (pos place) ∷ []) rows g nothing (λ row. has_bytes (column row 0) ≡ false) (λ t row among is given. broken_piece row among is) old new grows out broken
 
   -- nothing of these rows can't be read
-  pub groups_blamed : (r : ℕ) → Broken never → Asks LIST_GROUPS.now (Int (pos r) ∷ []) → Blames g old new out
-  groups_blamed r broken =
-      all_blamed Groups LIST_GROUPS.now of_rollout group_columns (list_groups_query 0).order (lit (Int (negsuc 0))) (lit (Int (pos 0))) group_names list_groups_is (Int (pos r) ∷ []) (λ tree xs. refl) rows
-      g nothing never (λ t row among is given. absurd is) old new grows out broken
+  pub groups_blamed : (r : ℕ) → Broken never → AsksAll LIST_GROUPS.now (Int (pos r) ∷ []) → Blames g old new out
+  groups_blamed r broken = all_blamed list_groups_is (Int (pos r) ∷ []) rows g nothing never (λ t row among is given. absurd is) old new grows out broken
 
-  pub places_blamed : (r : ℕ) → Broken never → Asks LIST_PLACES.now (Int (pos r) ∷ []) → Blames g old new out
-  places_blamed r broken =
-      all_blamed Members LIST_PLACES.now of_rollout placed_columns (places_query 0).order (lit (Int (negsuc 0))) (lit (Int (pos 0))) placed_names list_places_is (Int (pos r) ∷ []) (λ tree xs. refl) rows
-      g nothing never (λ t row among is given. absurd is) old new grows out broken
+  pub places_blamed : (r : ℕ) → Broken never → AsksAll LIST_PLACES.now (Int (pos r) ∷ []) → Blames g old new out
+  places_blamed r broken = all_blamed list_places_is (Int (pos r) ∷ []) rows g nothing never (λ t row among is given. absurd is) old new grows out broken
 
-  pub artifacts_blamed : Broken never → Asks LIST_ALL_ARTIFACTS.now [] → Blames g old new out
-  artifacts_blamed broken =
-      all_blamed Artifacts LIST_ALL_ARTIFACTS.now [] all_columns (all_artifacts_query 0).order (lit (Int (negsuc 0))) (lit (Int (pos 0))) all_names list_all_artifacts_is [] (λ tree xs. refl) rows
-      g nothing never (λ t row among is given. absurd is) old new grows out broken
+  pub artifacts_blamed : Broken never → AsksAll LIST_ALL_ARTIFACTS.now [] → Blames g old new out
+  artifacts_blamed broken = all_blamed list_all_artifacts_is [] rows g nothing never (λ t row among is given. absurd is) old new grows out broken
 
-  pub offers_blamed : Broken never → Asks LIST_OFFERS.now [] → Blames g old new out
-  offers_blamed broken =
-      all_blamed Offers LIST_OFFERS.now [] owned_columns [] (lit (Int (negsuc 0))) (lit (Int (pos 0))) owned_names list_offers_is [] (λ tree xs. refl) rows
-      g nothing never (λ t row among is given. absurd is) old new grows out broken
+  pub offers_blamed : Broken never → AsksAll LIST_OFFERS.now [] → Blames g old new out
+  offers_blamed broken = all_blamed list_offers_is [] rows g nothing never (λ t row among is given. absurd is) old new grows out broken
 
-  pub counted_blamed : (n : ℕ) → IfErr out (λ fault. fault ≡ Memory) → Asks LIST_ACTIONS.now (all_of n) → Blames g old new out
+  pub counted_blamed : (n : ℕ) → IfErr out (λ fault. fault ≡ Memory) → AsksAll LIST_ACTIONS.now (all_of n) → Blames g old new out
   counted_blamed n memory = actions_blamed n (only_memory out memory)
     where
       only_memory : (out : Result B Fault) → IfErr out (λ fault. fault ≡ Memory) → IfErr out (λ fault. IfStore fault (HasBroken (λ row. has_wide_count row ≡ true) rows.items))
@@ -183,35 +149,14 @@ no_number v unread = go (number_in v) refl
         let high : nat_le n number_limit ≡ true = (and_parts (nat_le 1 n) (nat_le n number_limit) (number_in_good v n is)).1 in
         absurd (unread n (grind (arith, nat_tests, high)) (number_in_is v n is))
 
--- the row of the last rollout is that of a rollout
-first_shown : (db : Database) (t : Tables) (holds : HoldsTables db t) (shown : Row) (tail : List Row) → Shows (ending_any db t holds).command db [] (shown ∷ tail) → (its : Row) × Has (t Rollouts) its × (shown ≡ column its 0 ∷ [])
-first_shown db t holds shown tail shows = go it.ordered refl it.is
-  where
-    q : Query
-    q = last_rollout_query (holds.spot Rollouts).tree
-
-    it : IsOrdered q [] (filter (passes [] []) (db.trees (holds.spot Rollouts).tree)) (shown ∷ tail)
-    it = ordered_rows (holds.spot Rollouts).tree [] (col 1 0 ∷ []) q.order q.limit q.offset [] db.trees (shown ∷ tail) (shows.answer Null)
-
-    go : (os : List Output) → it.ordered ≡ os → shown ∷ tail ≡ take 1 (map (λ (o : Output). o.1) os) → (its : Row) × Has (t Rollouts) its × (shown ≡ column its 0 ∷ [])
-    go [] ordered e = absurd cc
-    go (o ∷ rest) ordered e =
-        let first : shown ≡ o.1 = cc in
-        let source = has_mapped (shown_in q []) _ o (has_permuted _ _ o (IsPermutation-sym _ _ it.same) (subst (λ l. Has l o) (sym ordered) (inl refl))) in
-        let row = has_filtered (passes [] []) (db.trees (holds.spot Rollouts).tree) source.0 source.1 in
-        (source.0, subst (λ l. Has l source.0) (sym (holds.rows Rollouts)) row.0, first ∙ ap (λ (p : Output). p.1) source.2)
-
 module _ {S : Type 0} (g : Ghosts S) (old new : OpenChange S) (grows : old.store.now.calls.failures ≤ new.store.now.calls.failures) (out : Result ℕ Fault) where
   pub place_count_blamed : (r : ℕ) (rows : Vec Row Global) → IfErr out (λ fault. (fault ≡ Store) × (2 ^ 32 ≤ length rows.items)) → AsksText (seen_in g old) (seen_in g new) LIST_PLACES.now (Int (pos r) ∷ []) (Ok rows) → Blames g old new out
-  place_count_blamed r rows large h = blamed (all_read LIST_PLACES.now (Int (pos r) ∷ []) (seen_in g old) (seen_in g new) listing_any AreFewer (λ found. found ≡ rows) rows counts h (Ok rows) refl) grows out (go out large)
+  place_count_blamed r rows large h = blamed (all_read LIST_PLACES.now (Int (pos r) ∷ []) (seen_in g old) (seen_in g new) (known list_places_is) AreFewer (λ found. found ≡ rows) rows counts h (Ok rows) refl) grows out (go out large)
     where
-      listing_any : Knows HoldsTables LIST_PLACES.now
-      listing_any = tables_know Members LIST_PLACES.now (λ at tree. Select (record { lets = []; body = places_query tree }) placed_names) list_places_is
-
       AreFewer : Tables → Vec Row Global → Type 0
       AreFewer t rows = length rows.items ≤ length (t Members)
 
-      counts : (db : Database) (t : Tables) (holds : HoldsTables db t) (found : Vec Row Global) → Shows (listing_any db t holds).command db (Int (pos r) ∷ []) rows.items → found ≡ rows → AreFewer t found
+      counts : (db : Database) (t : Tables) (holds : HoldsTables db t) (found : Vec Row Global) → Shows ((known list_places_is) db t holds).command db (Int (pos r) ∷ []) rows.items → found ≡ rows → AreFewer t found
       counts db t holds found shows is = subst (AreFewer t) (sym is)
           (let of = count_shown (holds.spot Members).tree of_rollout placed_columns (places_query 0).order (lit (Int (negsuc 0))) (lit (Int (pos 0))) (Int (pos r) ∷ []) db.trees (t Members) (holds.rows Members) (λ xs. refl) (passes of_rollout (Int (pos r) ∷ [])) (λ row among. refl) rows.items (shows.answer Null) in
           omega (arith, of, length-filter_both (passes of_rollout (Int (pos r) ∷ [])) (λ row. not (passes of_rollout (Int (pos r) ∷ []) row)) (λ row. refl) (t Members)))
@@ -221,10 +166,10 @@ module _ {S : Type 0} (g : Ghosts S) (old new : OpenChange S) (grows : old.store
       go (Err Memory) is = tt
       go (Err Store) is = λ t fewer given. many_rows Members (omega (arith, is.1, fewer))
 
-  pub count_blamed : (p : Place) (sql : List ℕ) (means : (s : Schema) (at tree : ℕ) → Stands s (name_of p) at (table_at p tree) → Means s sql (Select (record { lets = []; body = count_query tree }) (codes "count(*)" ∷ []))) (row : Option Row)
+  pub count_blamed : {p : Place} {sql : List ℕ} (text : Counts p sql) (row : Option Row)
       → IfErr out (λ fault. IfStore fault ((row ≡ None) ⊎ HasNoNumber row)) → TakesFirst (seen_in g old) (seen_in g new) sql [] (Ok row) → Blames g old new out
-  count_blamed p sql means row broken h =
-      blamed (first_finds HoldsTables (λ (t : Tables). t) sql [] (seen_in g old) (seen_in g new) IsCounted (counted p sql means) (λ db t holds at given. tt) row h (Ok row) (λ db t holds shows. row_of_count p sql means db t holds row shows)) grows out (go out broken)
+  count_blamed {p} {sql} text row broken h =
+      blamed (first_finds HoldsTables (λ (t : Tables). t) sql [] (seen_in g old) (seen_in g new) IsCounted (tables_know (counted_at text)) (λ db t holds at given. tt) row h (Ok row) (λ db t holds shows. row_of_count text db t holds row shows)) grows out (go out broken)
     where
       IsCounted : Tables → Option Row → Type 0
       IsCounted t row = row ≡ Some (Int (pos (min (length (t p)) 9223372036854775807)) ∷ [])
@@ -240,15 +185,15 @@ module _ {S : Type 0} (g : Ghosts S) (old new : OpenChange S) (grows : old.store
 
   pub last_blamed : (row : Option Row) → IfErr out (λ fault. IfStore fault (HasNoNumber row)) → TakesFirst (seen_in g old) (seen_in g new) LAST_ROLLOUT.now [] (Ok row) → Blames g old new out
   last_blamed row broken h =
-      blamed (first_finds HoldsTables (λ (t : Tables). t) LAST_ROLLOUT.now [] (seen_in g old) (seen_in g new) IsOfRollout ending_any (λ db t holds at given. tt) row h (Ok row) (λ db t holds shows. rollout_of db t holds row shows)) grows out (go out row broken)
+      blamed (first_finds HoldsTables (λ (t : Tables). t) LAST_ROLLOUT.now [] (seen_in g old) (seen_in g new) IsOfRollout (known last_rollout_is) (λ db t holds at given. tt) row h (Ok row) (λ db t holds shows. rollout_of db t holds row shows)) grows out (go out row broken)
     where
       IsOfRollout : Tables → Option Row → Type 0
       IsOfRollout t None = Unit {0}
       IsOfRollout t (Some shown) = (its : Row) × Has (t Rollouts) its × (shown ≡ column its 0 ∷ [])
 
-      rollout_of : (db : Database) (t : Tables) (holds : HoldsTables db t) (row : Option Row) → ShowsFirst (ending_any db t holds).command db [] row → IsOfRollout t row
+      rollout_of : (db : Database) (t : Tables) (holds : HoldsTables db t) (row : Option Row) → ShowsFirst ((known last_rollout_is) db t holds).command db [] row → IsOfRollout t row
       rollout_of db t holds None shows = tt
-      rollout_of db t holds (Some shown) shows = first_shown db t holds shown shows.0 shows.1
+      rollout_of db t holds (Some shown) shows = from_table last_rollout_is [] db t holds (shown ∷ shows.0) shows.1 shown (inl refl)
 
       unreadable : (t : Tables) (row : Option Row) → HasNoNumber row → IsOfRollout t row → IsUnreadable t
       unreadable t None unread its = absurd unread

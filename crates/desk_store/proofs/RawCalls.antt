@@ -1,13 +1,13 @@
 -- The calls on tables with whatever rows they have.
-use Rattle.std.proofs.Common.{◌≡◌, ◌<◌, ◌^◌, ℕ, min, pos, true, List, [], ◌∷◌, filter, length, Option, Some, None, Ok, Err, Result, IfOk, option_map, Vec, vec_items, sym, ap, ◌∙◌, codes}
-use Rattle.desk_store.proofs.Common.{Global, Null, Int, Row, Select, Database, Schema, State, Fault, AsksFew, AsksText, TakesFirst, Knows, Means, Finds, count_query, count_rows, ShowsFirst, ask_finds, few_finds, first_finds, Stands, is_number, AreRead, IsLast, IsLastRow, Members, Place, Rollouts, name_of, table_at, HoldsTables, Tables, COUNT_MEMBERS, LAST_ROLLOUT, LIST_PLACES, count_members_is, last_rollout_is, last_rollout_query, list_places_is, placed_names, places_query, IsCount}
+use Rattle.desk_store.proofs.Common.{◌≡◌, ◌<◌, ◌^◌, ℕ, min, pos, true, List, [], ◌∷◌, filter, length, Option, Some, None, Ok, Err, Result, IfOk, option_map, Vec, vec_items, sym, ap, ◌∙◌, codes, Global, Null, Int, Row, Database, State, Fault, AsksFew, AsksText, TakesFirst, Knows, Finds, count_rows, ShowsFirst, ask_finds, few_finds, first_finds, is_number, AreRead, IsLast, IsLastRow, Members, Place, Rollouts, HoldsTables, Tables, LAST_ROLLOUT, LIST_PLACES, last_rollout_is, list_places_is, placed_names, IsCount}
 use Rattle.sqlite.specs.Effect.{Reads as Shows}
 use Rattle.desk_records.specs.MemberRow.{IsPlacedRow, keeps_member_rules}
 use Rattle.desk_records.specs.PlaceLists.{ListsPlaces, is_of}
 use Rattle.desk_records.specs.declared.member_row.PlacedMember.{PlacedMember}
 use Rattle.desk_records.proofs.PlaceRows.{counts_places, lists_places}
 use Rattle.desk_records.proofs.RolloutRows.{lasts_any}
-use Rattle.desk_store.proofs.Known.{tables_know}
+use Rattle.desk_records.proofs.MeaningWords.{Counts, counted_at}
+use Rattle.desk_store.proofs.Known.{tables_know, known}
 use Rattle.desk_store.proofs.TargetCalls.{same_count}
 
 -- what is found of tables
@@ -29,14 +29,11 @@ module _ {A : Type 0} (sql : List ℕ) (params : Row) (old new : State) (knows :
 
 -- ---- counts
 
-module _ (p : Place) (sql : List ℕ) (means : (s : Schema) (at tree : ℕ) → Stands s (name_of p) at (table_at p tree) → Means s sql (Select (record { lets = []; body = count_query tree }) (codes "count(*)" ∷ []))) where
-  abbrev pub counted : Knows HoldsTables sql
-  counted = tables_know p sql (λ at tree. Select (record { lets = []; body = count_query tree }) (codes "count(*)" ∷ [])) means
+module _ {p : Place} {sql : List ℕ} (text : Counts p sql) where
+  abbrev pub CountsRows : Tables → ℕ → Type 0
+  CountsRows t count = count ≡ length (t p)
 
-  abbrev pub Counts : Tables → ℕ → Type 0
-  Counts t count = count ≡ length (t p)
-
-  pub count_shown : (db : Database) (t : Tables) (holds : HoldsTables db t) (row : Option Row) → ShowsFirst (counted db t holds).command db [] row → row ≡ Some (Int (pos (min (length (t p)) 9223372036854775807)) ∷ [])
+  pub count_shown : (db : Database) (t : Tables) (holds : HoldsTables db t) (row : Option Row) → ShowsFirst (tables_know (counted_at text) db t holds).command db [] row → row ≡ Some (Int (pos (min (length (t p)) 9223372036854775807)) ∷ [])
   count_shown db t holds None shows = let none = count_rows (holds.spot p).tree [] db.trees [] (shows.answer Null) in absurd cc
   count_shown db t holds (Some row) shows =
       let all = count_rows (holds.spot p).tree [] db.trees (row ∷ shows.0) (shows.1.answer Null) in
@@ -44,49 +41,40 @@ module _ (p : Place) (sql : List ℕ) (means : (s : Schema) (at tree : ℕ) → 
       ap Some first ∙ ap (λ (l : List Row). Some (Int (pos (min (length l) 9223372036854775807)) ∷ [])) (sym (holds.rows p))
 
   answers : (row : Option Row) (out : Result ℕ Fault) → IfOk out (λ n. IsCount n row) → IfOk out (λ n. n < 2 ^ 32)
-      → IfOk out (λ n. (db : Database) (t : Tables) (holds : HoldsTables db t) → ShowsFirst (counted db t holds).command db [] row → Counts t n)
+      → IfOk out (λ n. (db : Database) (t : Tables) (holds : HoldsTables db t) → ShowsFirst (tables_know (counted_at text) db t holds).command db [] row → CountsRows t n)
   answers row (Ok n) is small = λ db t holds shows. same_count n (length (t p)) row is small (count_shown db t holds row shows)
   answers row (Err e) is small = tt
 
-  pub count_read : (old new : State) (row : Option Row) → TakesFirst old new sql [] (Ok row) → (out : Result ℕ Fault) → IfOk out (λ n. IsCount n row) → IfOk out (λ n. n < 2 ^ 32) → FindsOf old new out Counts
-  count_read old new row h out is small = first_finds HoldsTables (λ (t : Tables). t) sql [] old new Counts counted (λ db t holds at given. tt) row h out (answers row out is small)
+  pub count_read : (old new : State) (row : Option Row) → TakesFirst old new sql [] (Ok row) → (out : Result ℕ Fault) → IfOk out (λ n. IsCount n row) → IfOk out (λ n. n < 2 ^ 32) → FindsOf old new out CountsRows
+  count_read old new row h out is small = first_finds HoldsTables (λ (t : Tables). t) sql [] old new CountsRows (tables_know (counted_at text)) (λ db t holds at given. tt) row h out (answers row out is small)
 
 -- ---- members
-
-abbrev pub listing : Knows HoldsTables LIST_PLACES.now
-listing = tables_know Members LIST_PLACES.now (λ at tree. Select (record { lets = []; body = places_query tree }) placed_names) list_places_is
-
-abbrev pub counting : Knows HoldsTables COUNT_MEMBERS.now
-counting = counted Members COUNT_MEMBERS.now count_members_is
 
 abbrev pub Places : ℕ → Tables → Option (Vec PlacedMember Global) → Type 0
 Places r t found = ListsPlaces (t Members) r (option_map vec_items found)
 
 pub places_read : (r : ℕ) → is_number r ≡ true → (old new : State) (rows : Vec Row Global) → AsksText old new LIST_PLACES.now (Int (pos r) ∷ []) (Ok rows) → (out : Result (Option (Vec PlacedMember Global)) Fault)
     → IfOk out (λ found. AreRead IsPlacedRow keeps_member_rules rows.items (option_map vec_items found)) → FindsOf old new out (Places r)
-places_read r good old new rows = all_read LIST_PLACES.now (Int (pos r) ∷ []) old new listing (Places r) (λ found. AreRead IsPlacedRow keeps_member_rules rows.items (option_map vec_items found)) rows
+places_read r good old new rows = all_read LIST_PLACES.now (Int (pos r) ∷ []) old new (known list_places_is) (Places r) (λ found. AreRead IsPlacedRow keeps_member_rules rows.items (option_map vec_items found)) rows
     (λ db t holds found shows read. lists_places db t holds placed_names r good rows.items shows (option_map vec_items found) read)
 
 -- as many rows as are listed
 pub place_count_read : (r : ℕ) → is_number r ≡ true → (old new : State) (rows : Vec Row Global) → AsksText old new LIST_PLACES.now (Int (pos r) ∷ []) (Ok rows) → (out : Result ℕ Fault) → IfOk out (λ n. n ≡ length rows.items)
     → FindsOf old new out (λ t count. count ≡ length (filter (is_of r) (t Members)))
-place_count_read r good old new rows h out is = ask_finds HoldsTables (λ (t : Tables). t) LIST_PLACES.now (Int (pos r) ∷ []) old new (λ t count. count ≡ length (filter (is_of r) (t Members))) listing rows h out (answers out is)
+place_count_read r good old new rows h out is = ask_finds HoldsTables (λ (t : Tables). t) LIST_PLACES.now (Int (pos r) ∷ []) old new (λ t count. count ≡ length (filter (is_of r) (t Members))) (known list_places_is) rows h out (answers out is)
   where
-    answers : (out : Result ℕ Fault) → IfOk out (λ n. n ≡ length rows.items) → IfOk out (λ n. (db : Database) (t : Tables) (holds : HoldsTables db t) → Shows (listing db t holds).command db (Int (pos r) ∷ []) rows.items → n ≡ length (filter (is_of r) (t Members)))
+    answers : (out : Result ℕ Fault) → IfOk out (λ n. n ≡ length rows.items) → IfOk out (λ n. (db : Database) (t : Tables) (holds : HoldsTables db t) → Shows ((known list_places_is) db t holds).command db (Int (pos r) ∷ []) rows.items → n ≡ length (filter (is_of r) (t Members)))
     answers (Ok n) is = λ db t holds shows. is ∙ counts_places db t holds placed_names r good rows.items shows
     answers (Err e) is = tt
 
 -- ---- rollouts
 
-abbrev pub ending_any : Knows HoldsTables LAST_ROLLOUT.now
-ending_any = tables_know Rollouts LAST_ROLLOUT.now (λ at tree. Select (record { lets = []; body = last_rollout_query tree }) (codes "number" ∷ [])) last_rollout_is
-
 abbrev pub Lasts : Tables → ℕ → Type 0
 Lasts t last = IsLast (t Rollouts) last
 
 pub last_read : (old new : State) (row : Option Row) → TakesFirst old new LAST_ROLLOUT.now [] (Ok row) → (out : Result ℕ Fault) → IfOk out (λ n. IsLastRow n row) → FindsOf old new out Lasts
-last_read old new row h out is = first_finds HoldsTables (λ (t : Tables). t) LAST_ROLLOUT.now [] old new Lasts ending_any (λ db t holds at given. tt) row h out (answers out is)
+last_read old new row h out is = first_finds HoldsTables (λ (t : Tables). t) LAST_ROLLOUT.now [] old new Lasts (known last_rollout_is) (λ db t holds at given. tt) row h out (answers out is)
   where
-    answers : (out : Result ℕ Fault) → IfOk out (λ n. IsLastRow n row) → IfOk out (λ n. (db : Database) (t : Tables) (holds : HoldsTables db t) → ShowsFirst (ending_any db t holds).command db [] row → Lasts t n)
+    answers : (out : Result ℕ Fault) → IfOk out (λ n. IsLastRow n row) → IfOk out (λ n. (db : Database) (t : Tables) (holds : HoldsTables db t) → ShowsFirst ((known last_rollout_is) db t holds).command db [] row → Lasts t n)
     answers (Ok n) is = λ db t holds shows. lasts_any db t holds (codes "number" ∷ []) row shows n is
     answers (Err e) is = tt

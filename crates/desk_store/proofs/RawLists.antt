@@ -1,8 +1,7 @@
 -- The lists of tables with whatever rows they have.
-use Rattle.std.proofs.Common.{◌≡◌, ◌≤◌, ◌||◌, ◌^◌, ℕ, nat_lt, pos, negsuc, Bool, true, false, not, List, [], ◌∷◌, Option, Some, None, Ok, Result, IfOk, option_map, Vec, vec_items, refl, sym, ap, ◌∙◌}
+use Rattle.desk_store.proofs.Common.{◌≡◌, ◌≤◌, ◌||◌, ◌^◌, ℕ, nat_lt, pos, negsuc, Bool, true, false, not, List, [], ◌∷◌, Option, Some, None, Ok, Result, IfOk, option_map, Vec, vec_items, refl, sym, ap, ◌∙◌, is_none, is_some, option_or, Global, Value, Int, Row, column, Database, output_cmp, page, State, col, Has, Fault, AsksText, by, passes, shown_in, shown_of, simple, GroupRecord, is_number, Artifact, IsArtifactRow, has_size, small_number, IsCheckedArtifactRow, IsOwnedOfferRow, is_wide, keeps_action_rules, keeps_artifact_rules, keeps_offer_rules, first_broken, flag_in, number_in, outcome_in, AreRead, AreSaid, IsSequencedRow, IsNumberRow, broken_group_column, broken_listed_action_column, Actions, Artifacts, Feedbacks, Groups, Numbers, Offers, Place, HoldsTables, Tables, has_word, Column, LIST_ACTIONS, LIST_ENTRIES, LIST_NUMBERS, LIST_OFFERS, LIST_ALL_ARTIFACTS, LIST_ARTIFACTS, PlacedNumber, ListedAction, LIST_GROUPS, entry_columns, list_actions_is, list_entries_is, list_numbers_is, list_offers_is, listed_columns, of_action, owned_columns, are_said, broken, number_order, rise, all_columns, list_all_artifacts_is, list_artifacts_is, is_number_in, number_in_good, number_in_is, number_is, group_columns, list_groups_is, of_rollout, AreReadAs, Query}
 use Rattle.std.specs.List.Sorted.{IsNonDecreasingBy}
 use Rattle.std.specs.Ordering.{is_lt}
-use Rattle.desk_store.proofs.Common.{is_none, is_some, option_or, Global, Value, Null, Int, Key, Row, column, Select, Database, output_cmp, page, Schema, State, Term, col, lit, Has, Fault, AsksText, Knows, Means, by, passes, shown_in, shown_of, simple, Stands, GroupRecord, is_number, Artifact, IsArtifactRow, has_size, small_number, IsCheckedArtifactRow, IsOwnedOfferRow, is_wide, keeps_action_rules, keeps_artifact_rules, keeps_offer_rules, first_broken, flag_in, number_in, outcome_in, AreRead, AreSaid, IsSequencedRow, IsNumberRow, broken_group_column, broken_listed_action_column, Actions, Artifacts, Feedbacks, Groups, Numbers, Offers, Place, name_of, table_at, HoldsTables, Tables, has_word, Column, LIST_ACTIONS, LIST_ENTRIES, LIST_NUMBERS, LIST_OFFERS, LIST_ALL_ARTIFACTS, LIST_ARTIFACTS, PlacedNumber, ListedAction, LIST_GROUPS, entry_columns, entry_names, list_actions_is, list_actions_query, list_entries_is, list_entries_query, list_numbers_is, list_numbers_query, list_offers_is, listed_columns, listed_names, number_columns, number_names, of_action, owned_columns, owned_names, are_said, broken, number_order, rise, all_artifacts_query, all_columns, all_names, artifacts_query, list_all_artifacts_is, list_artifacts_is, shown_columns, shown_names, at_key, is_number_in, number_in_good, number_in_is, number_is, group_columns, group_names, list_groups_is, list_groups_query, of_rollout, AreReadAs}
 use Rattle.sqlite.specs.Effect.{Reads as Shows}
 use Rattle.desk_records.specs.Listings.{has_at}
 use Rattle.desk_records.specs.SetRow.{has_number}
@@ -13,57 +12,54 @@ use Rattle.desk_records.specs.declared.entry_row.SequencedEntry.{SequencedEntry}
 use Rattle.desk_records.proofs.ActionMeaning.{of_rollout as of_its_rollout}
 use Rattle.desk_records.proofs.TableColumns.{passes_integer}
 use Rattle.desk_store.specs.RawLists.{AreInOrder, AreListed, IsKeptActionRow, IsKeptGroupRow, ListsRows, SaysAction, SaysArtifact, SaysEntry, SaysGroup, SaysListed, SaysNumber, SaysOffer, any_row}
-use Rattle.desk_store.proofs.Known.{tables_know}
+use Rattle.desk_records.proofs.MeaningWords.{Asks}
+use Rattle.desk_store.proofs.Known.{answer_of, known}
 use Rattle.desk_store.proofs.RawCalls.{FindsOf, all_read}
 
 -- ---- any list of one table
 
-module _ (p : Place) (sql : List ℕ) (test columns : List Term) (order : List (Term × Key)) (limit offset : Term) (names : List (List ℕ))
-    (means : (s : Schema) (at tree : ℕ) → Stands s (name_of p) at (table_at p tree) → Means s sql (Select (record { lets = []; body = by (simple tree test columns) order limit offset }) names)) where
-  abbrev pub listed : Knows HoldsTables sql
-  listed = tables_know p sql (λ at tree. Select (record { lets = []; body = by (simple tree test columns) order limit offset }) names) means
-
-  module _ (params : Row) (whole : (tree : ℕ) (xs : List Row) → page (by (simple tree test columns) order limit offset) params xs ≡ xs)
-      (passing : Row → Bool) (judged : (db : Database) (t : Tables) → HoldsTables db t → (row : Row) → Has (t p) row → passes test params row ≡ passing row)
-      {A : Type 0} (is : Row → A → Type 0) (says : Row → A → Type 0) (means_so : (row : Row) → passing row ≡ true → (a : A) → is (shown_of columns params row) a → says row a) where
-    said : (db : Database) (t : Tables) (holds : HoldsTables db t) (shown : List Row) → Shows (listed db t holds).command db params shown → (found : List A) → AreReadAs is shown found → AreSaid (t p) passing says found
+module _ {p : Place} {sql : List ℕ} {query : ℕ → Query} {names : List (List ℕ)} (text : Asks p sql query names) (params : Row)
+    (whole : (tree : ℕ) (xs : List Row) → page (by (simple tree (query 0).filter (query 0).project) (query 0).order (query 0).limit (query 0).offset) params xs ≡ xs)
+    (passing : Row → Bool) (judged : (db : Database) (t : Tables) → HoldsTables db t → (row : Row) → Has (t p) row → passes (query 0).filter params row ≡ passing row) where
+  module _ {A : Type 0} (is : Row → A → Type 0) (says : Row → A → Type 0) (means_so : (row : Row) → passing row ≡ true → (a : A) → is (shown_of (query 0).project params row) a → says row a) where
+    said : (db : Database) (t : Tables) (holds : HoldsTables db t) (shown : List Row) → Shows (known text db t holds).command db params shown → (found : List A) → AreReadAs is shown found → AreSaid (t p) passing says found
     said db t holds shown shows found read =
-        are_said (holds.spot p).tree test columns order limit offset params db.trees (t p) (holds.rows p) (whole (holds.spot p).tree) passing (judged db t holds) shown (shows.answer Null) is says (λ row among. means_so row) found read
+        are_said (holds.spot p).tree (query 0).filter (query 0).project (query 0).order (query 0).limit (query 0).offset params db.trees (t p) (holds.rows p) (whole (holds.spot p).tree) passing (judged db t holds) shown (answer_of text holds shows) is says (λ row among. means_so row) found read
 
     -- where each row is read
     pub each_read : (old new : State) (rows : Vec Row Global) → AsksText old new sql params (Ok rows) → (out : Result (Vec A Global) Fault) → IfOk out (λ found. AreReadAs is rows.items found.items) → FindsOf old new out (λ t found. AreSaid (t p) passing says found.items)
-    each_read old new rows = all_read sql params old new listed (λ t found. AreSaid (t p) passing says found.items) (λ found. AreReadAs is rows.items found.items) rows (λ db t holds found shows read. said db t holds rows.items shows found.items read)
+    each_read old new rows = all_read sql params old new (known text) (λ t found. AreSaid (t p) passing says found.items) (λ found. AreReadAs is rows.items found.items) rows (λ db t holds found shows read. said db t holds rows.items shows found.items read)
 
     -- in the order of a number
-    module _ (key : A → ℕ) (rising : (tree : ℕ) (low high : Row) (a b : A) → says low a → says high b → (let q = by (simple tree test columns) order limit offset in is_lt (output_cmp q (shown_in q params high) (shown_in q params low)) ≡ false) → key a ≤ key b) where
-      in_order : (db : Database) (t : Tables) (holds : HoldsTables db t) (shown : List Row) → Shows (listed db t holds).command db params shown → (found : List A) → AreReadAs is shown found → IsNonDecreasingBy key found
+    module _ (key : A → ℕ) (rising : (tree : ℕ) (low high : Row) (a b : A) → says low a → says high b → (let q = by (simple tree (query 0).filter (query 0).project) (query 0).order (query 0).limit (query 0).offset in is_lt (output_cmp q (shown_in q params high) (shown_in q params low)) ≡ false) → key a ≤ key b) where
+      in_order : (db : Database) (t : Tables) (holds : HoldsTables db t) (shown : List Row) → Shows (known text db t holds).command db params shown → (found : List A) → AreReadAs is shown found → IsNonDecreasingBy key found
       in_order db t holds shown shows found read =
-          rise (holds.spot p).tree test columns order limit offset params db.trees (t p) (holds.rows p) (whole (holds.spot p).tree) passing (judged db t holds) shown (shows.answer Null) is says (λ row among. means_so row) found read key (rising (holds.spot p).tree)
+          rise (holds.spot p).tree (query 0).filter (query 0).project (query 0).order (query 0).limit (query 0).offset params db.trees (t p) (holds.rows p) (whole (holds.spot p).tree) passing (judged db t holds) shown (answer_of text holds shows) is says (λ row among. means_so row) found read key (rising (holds.spot p).tree)
 
       pub each_in_order : (old new : State) (rows : Vec Row Global) → AsksText old new sql params (Ok rows) → (out : Result (Vec A Global) Fault) → IfOk out (λ found. AreReadAs is rows.items found.items) → FindsOf old new out (λ t found. IsNonDecreasingBy key found.items)
-      each_in_order old new rows = all_read sql params old new listed (λ t found. IsNonDecreasingBy key found.items) (λ found. AreReadAs is rows.items found.items) rows (λ db t holds found shows read. in_order db t holds rows.items shows found.items read)
+      each_in_order old new rows = all_read sql params old new (known text) (λ t found. IsNonDecreasingBy key found.items) (λ found. AreReadAs is rows.items found.items) rows (λ db t holds found shows read. in_order db t holds rows.items shows found.items read)
 
       pub rows_in_order : (keeps : Row → Bool) (old new : State) (rows : Vec Row Global) → AsksText old new sql params (Ok rows) → (out : Result (Option (Vec A Global)) Fault) → IfOk out (λ found. AreRead is keeps rows.items (option_map vec_items found))
           → FindsOf old new out (λ t found. AreInOrder key (option_map vec_items found))
-      rows_in_order keeps old new rows = all_read sql params old new listed (λ t found. AreInOrder key (option_map vec_items found)) (λ found. AreRead is keeps rows.items (option_map vec_items found)) rows
+      rows_in_order keeps old new rows = all_read sql params old new (known text) (λ t found. AreInOrder key (option_map vec_items found)) (λ found. AreRead is keeps rows.items (option_map vec_items found)) rows
           (λ db t holds found shows read. go db t holds shows (option_map vec_items found) read)
         where
-          go : (db : Database) (t : Tables) (holds : HoldsTables db t) → Shows (listed db t holds).command db params rows.items → (found : Option (List A)) → AreRead is keeps rows.items found → AreInOrder key found
+          go : (db : Database) (t : Tables) (holds : HoldsTables db t) → Shows (known text db t holds).command db params rows.items → (found : Option (List A)) → AreRead is keeps rows.items found → AreInOrder key found
           go db t holds shows (Some found) read = in_order db t holds rows.items shows found read
           go db t holds shows None read = tt
 
     -- where they are read until one breaks a rule
-    module _ (keeps : Row → Bool) (kept_by : (row : Row) (a : A) → says row a → keeps (shown_of columns params row) ≡ true) where
+    module _ (keeps : Row → Bool) (kept_by : (row : Row) (a : A) → says row a → keeps (shown_of (query 0).project params row) ≡ true) where
       abbrev Lists : Tables → Option (Vec A Global) → Type 0
       Lists t found = ListsRows (t p) passing says (option_map vec_items found)
 
-      lists : (db : Database) (t : Tables) (holds : HoldsTables db t) (shown : List Row) → Shows (listed db t holds).command db params shown → (found : Option (List A)) → AreRead is keeps shown found → ListsRows (t p) passing says found
+      lists : (db : Database) (t : Tables) (holds : HoldsTables db t) (shown : List Row) → Shows (known text db t holds).command db params shown → (found : Option (List A)) → AreRead is keeps shown found → ListsRows (t p) passing says found
       lists db t holds shown shows (Some found) read = said db t holds shown shows found read
       lists db t holds shown shows None fails =
-          broken (holds.spot p).tree test columns order limit offset params db.trees (t p) (holds.rows p) (whole (holds.spot p).tree) passing (judged db t holds) shown (shows.answer Null) says keeps (λ row among. kept_by row) fails
+          broken (holds.spot p).tree (query 0).filter (query 0).project (query 0).order (query 0).limit (query 0).offset params db.trees (t p) (holds.rows p) (whole (holds.spot p).tree) passing (judged db t holds) shown (answer_of text holds shows) says keeps (λ row among. kept_by row) fails
 
       pub rows_read : (old new : State) (rows : Vec Row Global) → AsksText old new sql params (Ok rows) → (out : Result (Option (Vec A Global)) Fault) → IfOk out (λ found. AreRead is keeps rows.items (option_map vec_items found)) → FindsOf old new out Lists
-      rows_read old new rows = all_read sql params old new listed Lists (λ found. AreRead is keeps rows.items (option_map vec_items found)) rows (λ db t holds found shows read. lists db t holds rows.items shows (option_map vec_items found) read)
+      rows_read old new rows = all_read sql params old new (known text) Lists (λ found. AreRead is keeps rows.items (option_map vec_items found)) rows (λ db t holds found shows read. lists db t holds rows.items shows (option_map vec_items found) read)
 
 -- ---- artifacts
 
@@ -76,18 +72,15 @@ says_artifact row any a is = record { number_is = rw is.number (is_number_in a.n
 kept_artifact : (row : Row) (a : CheckedArtifact) → SaysArtifact row a → keeps_artifact_rules (shown_of all_columns [] row) ≡ true
 kept_artifact row a says = rw (says.kept, good_in (column row 0) a.number says.number_is) refl
 
-abbrev pub artifacts_known : Knows HoldsTables LIST_ALL_ARTIFACTS.now
-artifacts_known = listed Artifacts LIST_ALL_ARTIFACTS.now [] all_columns (all_artifacts_query 0).order (lit (Int (negsuc 0))) (lit (Int (pos 0))) all_names list_all_artifacts_is
-
 pub artifacts_read : (old new : State) (rows : Vec Row Global) → AsksText old new LIST_ALL_ARTIFACTS.now [] (Ok rows) → (out : Result (Option (Vec CheckedArtifact Global)) Fault) → IfOk out (λ found. AreRead IsCheckedArtifactRow keeps_artifact_rules rows.items (option_map vec_items found))
     → FindsOf old new out (λ t found. ListsRows (t Artifacts) any_row SaysArtifact (option_map vec_items found))
-artifacts_read = rows_read Artifacts LIST_ALL_ARTIFACTS.now [] all_columns (all_artifacts_query 0).order (lit (Int (negsuc 0))) (lit (Int (pos 0))) all_names list_all_artifacts_is [] (λ tree xs. refl) any_row (λ db t holds row among. refl) IsCheckedArtifactRow SaysArtifact says_artifact keeps_artifact_rules kept_artifact
+artifacts_read = rows_read list_all_artifacts_is [] (λ tree xs. refl) any_row (λ db t holds row among. refl) IsCheckedArtifactRow SaysArtifact says_artifact keeps_artifact_rules kept_artifact
 
 -- ---- the artifacts of a module
 
 pub module_artifacts_read : (m : ℕ) (old new : State) (rows : Vec Row Global) → AsksText old new LIST_ARTIFACTS.now (Int (pos m) ∷ []) (Ok rows) → (out : Result (Vec Artifact Global) Fault) → IfOk out (λ found. AreReadAs IsArtifactRow rows.items found.items)
     → FindsOf old new out (λ t found. AreListed t m found.items)
-module_artifacts_read m = each_read Artifacts LIST_ARTIFACTS.now (at_key 2 0 ∷ []) shown_columns (artifacts_query 0).order (lit (Int (negsuc 0))) (lit (Int (pos 0))) shown_names list_artifacts_is (Int (pos m) ∷ []) (λ tree xs. refl) (has_at 2 m)
+module_artifacts_read m = each_read list_artifacts_is (Int (pos m) ∷ []) (λ tree xs. refl) (has_at 2 m)
     (λ db t holds row among. passes_integer db t holds Artifacts row among 1 (record { c = _; there = refl; kind_is = refl; strict = refl; filled = refl; apart = refl }) m []) IsArtifactRow SaysListed
     (λ row of a is. record { number = is.number; filename = is.filename; size = is.size; digest = is.digest })
 
@@ -99,12 +92,9 @@ says_offer row any o is = record { id_is = is.id; word = is.word; shows = is.off
 kept_offer : (row : Row) (o : OwnedOffer) → SaysOffer row o → keeps_offer_rules (shown_of owned_columns [] row) ≡ true
 kept_offer row o says = rw (says.shows.action, says.shows.canceling, says.word) refl
 
-abbrev pub offers_known : Knows HoldsTables LIST_OFFERS.now
-offers_known = listed Offers LIST_OFFERS.now [] owned_columns [] (lit (Int (negsuc 0))) (lit (Int (pos 0))) owned_names list_offers_is
-
 pub offers_read : (old new : State) (rows : Vec Row Global) → AsksText old new LIST_OFFERS.now [] (Ok rows) → (out : Result (Option (Vec OwnedOffer Global)) Fault) → IfOk out (λ found. AreRead IsOwnedOfferRow keeps_offer_rules rows.items (option_map vec_items found))
     → FindsOf old new out (λ t found. ListsRows (t Offers) any_row SaysOffer (option_map vec_items found))
-offers_read = rows_read Offers LIST_OFFERS.now [] owned_columns [] (lit (Int (negsuc 0))) (lit (Int (pos 0))) owned_names list_offers_is [] (λ tree xs. refl) any_row (λ db t holds row among. refl) IsOwnedOfferRow SaysOffer says_offer keeps_offer_rules kept_offer
+offers_read = rows_read list_offers_is [] (λ tree xs. refl) any_row (λ db t holds row among. refl) IsOwnedOfferRow SaysOffer says_offer keeps_offer_rules kept_offer
 
 -- ---- groups
 
@@ -120,7 +110,7 @@ module _ (r : ℕ) (good : is_number r ≡ true) where
 
   pub groups_read : (old new : State) (rows : Vec Row Global) → AsksText old new LIST_GROUPS.now (Int (pos r) ∷ []) (Ok rows) → (out : Result (Option (Vec GroupRecord Global)) Fault) → IfOk out (λ found. AreRead IsKeptGroupRow (λ row. is_none (broken_group_column row)) rows.items (option_map vec_items found))
       → FindsOf old new out (λ t found. ListsRows (t Groups) (has_at 1 r) (SaysGroup r) (option_map vec_items found))
-  groups_read = rows_read Groups LIST_GROUPS.now of_rollout group_columns (list_groups_query 0).order (lit (Int (negsuc 0))) (lit (Int (pos 0))) group_names list_groups_is (Int (pos r) ∷ []) (λ tree xs. refl) (has_at 1 r) of_it IsKeptGroupRow (SaysGroup r) says_group (λ row. is_none (broken_group_column row)) kept_group
+  groups_read = rows_read list_groups_is (Int (pos r) ∷ []) (λ tree xs. refl) (has_at 1 r) of_it IsKeptGroupRow (SaysGroup r) says_group (λ row. is_none (broken_group_column row)) kept_group
 
 -- ---- actions and their histories
 
@@ -167,11 +157,11 @@ module _ (n : ℕ) where
 
   pub actions_read : (old new : State) (rows : Vec Row Global) → AsksText old new LIST_ACTIONS.now (all_of n) (Ok rows) → (out : Result (Option (Vec ListedAction Global)) Fault)
       → IfOk out (λ found. AreRead IsKeptActionRow keeps_action_rules rows.items (option_map vec_items found)) → FindsOf old new out (λ t found. ListsRows (t Actions) (has_at 2 n) SaysAction (option_map vec_items found))
-  actions_read = rows_read Actions LIST_ACTIONS.now of_its_rollout listed_columns (list_actions_query 0).order (col 0 1) (col 0 2) listed_names list_actions_is (all_of n) (λ tree xs. refl) (has_at 2 n) judges_action IsKeptActionRow SaysAction says_action keeps_action_rules kept_action
+  actions_read = rows_read list_actions_is (all_of n) (λ tree xs. refl) (has_at 2 n) judges_action IsKeptActionRow SaysAction says_action keeps_action_rules kept_action
 
   pub actions_in_order : (old new : State) (rows : Vec Row Global) → AsksText old new LIST_ACTIONS.now (all_of n) (Ok rows) → (out : Result (Option (Vec ListedAction Global)) Fault)
       → IfOk out (λ found. AreRead IsKeptActionRow keeps_action_rules rows.items (option_map vec_items found)) → FindsOf old new out (λ t found. AreInOrder (λ (a : ListedAction). a.number) (option_map vec_items found))
-  actions_in_order = rows_in_order Actions LIST_ACTIONS.now of_its_rollout listed_columns (list_actions_query 0).order (col 0 1) (col 0 2) listed_names list_actions_is (all_of n) (λ tree xs. refl) (has_at 2 n) judges_action IsKeptActionRow SaysAction says_action
+  actions_in_order = rows_in_order list_actions_is (all_of n) (λ tree xs. refl) (has_at 2 n) judges_action IsKeptActionRow SaysAction says_action
       (λ (a : ListedAction). a.number) (λ tree low high a b of_a of_b up. number_order tree of_its_rollout listed_columns (col 0 1) (col 0 2) (all_of n) 0 low high a.number b.number (number_in_is _ _ of_a.number_is) (number_in_is _ _ of_b.number_is) up) keeps_action_rules
 
   judges_entry : (db : Database) (t : Tables) → HoldsTables db t → (row : Row) → Has (t Feedbacks) row → passes of_action (all_of n) row ≡ has_at 1 n row
@@ -182,11 +172,11 @@ module _ (n : ℕ) where
 
   pub history_read : (old new : State) (rows : Vec Row Global) → AsksText old new LIST_ENTRIES.now (all_of n) (Ok rows) → (out : Result (Vec SequencedEntry Global) Fault) → IfOk out (λ found. AreReadAs IsSequencedRow rows.items found.items)
       → FindsOf old new out (λ t found. AreSaid (t Feedbacks) (has_at 1 n) SaysEntry found.items)
-  history_read = each_read Feedbacks LIST_ENTRIES.now of_action entry_columns (list_entries_query 0).order (col 0 1) (col 0 2) entry_names list_entries_is (all_of n) (λ tree xs. refl) (has_at 1 n) judges_entry IsSequencedRow SaysEntry says_entry
+  history_read = each_read list_entries_is (all_of n) (λ tree xs. refl) (has_at 1 n) judges_entry IsSequencedRow SaysEntry says_entry
 
   pub history_in_order : (old new : State) (rows : Vec Row Global) → AsksText old new LIST_ENTRIES.now (all_of n) (Ok rows) → (out : Result (Vec SequencedEntry Global) Fault) → IfOk out (λ found. AreReadAs IsSequencedRow rows.items found.items)
       → FindsOf old new out (λ t found. IsNonDecreasingBy (λ (e : SequencedEntry). e.sequence) found.items)
-  history_in_order = each_in_order Feedbacks LIST_ENTRIES.now of_action entry_columns (list_entries_query 0).order (col 0 1) (col 0 2) entry_names list_entries_is (all_of n) (λ tree xs. refl) (has_at 1 n) judges_entry IsSequencedRow SaysEntry says_entry
+  history_in_order = each_in_order list_entries_is (all_of n) (λ tree xs. refl) (has_at 1 n) judges_entry IsSequencedRow SaysEntry says_entry
       (λ (e : SequencedEntry). e.sequence) (λ tree low high a b of_a of_b up. number_order tree of_action entry_columns (col 0 1) (col 0 2) (all_of n) 2 low high a.sequence b.sequence of_a.sequence_is of_b.sequence_is up)
 
   -- ---- the numbers of an action
@@ -196,4 +186,4 @@ module _ (n : ℕ) where
 
   pub numbers_read : (old new : State) (rows : Vec Row Global) → AsksText old new LIST_NUMBERS.now (Int (pos n) ∷ []) (Ok rows) → (out : Result (Vec PlacedNumber Global) Fault) → IfOk out (λ found. AreReadAs IsNumberRow rows.items found.items)
       → FindsOf old new out (λ t found. AreSaid (t Numbers) (has_at 1 n) SaysNumber found.items)
-  numbers_read = each_read Numbers LIST_NUMBERS.now of_action number_columns (list_numbers_query 0).order (lit (Int (negsuc 0))) (lit (Int (pos 0))) number_names list_numbers_is (Int (pos n) ∷ []) (λ tree xs. refl) (has_at 1 n) judges_number IsNumberRow SaysNumber (λ row of it is. is)
+  numbers_read = each_read list_numbers_is (Int (pos n) ∷ []) (λ tree xs. refl) (has_at 1 n) judges_number IsNumberRow SaysNumber (λ row of it is. is)

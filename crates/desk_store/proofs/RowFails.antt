@@ -1,7 +1,6 @@
 -- Why the rows of numbers, of the desk and of the next offer are no failed store by themselves.
-use Rattle.std.proofs.Common.{◌≡◌, ◌⊎◌, ◌≤◌, ◌<◌, ◌^◌, ◌+◌, ℕ, suc, inl, inr, min, nat_lt, length, pos, Bool, true, false, cond, List, [], ◌∷◌, Option, Some, None, option_map, Ok, Err, Result, IfErr, refl, ap, subst, arith, codes}
+use Rattle.desk_store.proofs.Common.{◌≡◌, ◌⊎◌, ◌≤◌, ◌<◌, ◌^◌, ◌+◌, ℕ, suc, inl, inr, min, nat_lt, length, pos, Bool, true, false, cond, List, [], ◌∷◌, Option, Some, None, option_map, Ok, Err, Result, IfErr, refl, ap, subst, arith, codes, is_some, Value, Int, Text, Row, column, has_size, small_number, flag_in, first_broken, flag, Fault, Memory, Store, TakesFirst, first_finds, shown_of, Ghosts, HoldsLedger, Ledger, IfStore, HasNoNumber, BreaksRule, broken_offer_column, told_offer, is_number, seen_in, OpenChange, COUNT_TARGETS, GET_DESK, NEXT_OFFER, Targets, get_desk_is, count_targets_is, counted_at, Place, Query}
 use Rattle.std.proofs.lemmas.Bool.Decides.{nat_tests}
-use Rattle.desk_store.proofs.Common.{is_some, Value, Int, Text, Row, column, has_size, small_number, flag_in, first_broken, flag, Fault, Memory, Store, TakesFirst, first_finds, shown_of, Ghosts, HoldsLedger, Ledger, IfStore, HasNoNumber, BreaksRule, broken_offer_column, told_offer, is_number, seen_in, OpenChange, COUNT_TARGETS, GET_DESK, NEXT_OFFER, Targets}
 use Rattle.rollout_machine.specs.declared.records.RolloutRecord.{RolloutRecord}
 use Rattle.rollout_model.specs.Limits.{number_limit}
 use Rattle.rollout_model.specs.declared.rollout.Offer.{Offer}
@@ -19,11 +18,10 @@ use Rattle.desk_store.specs.Failing.{FailsIn, FailsSeeing, NumbersActions}
 use Rattle.desk_store.specs.Readable.{BreaksColumn, HasNoKey, IsReadable}
 use Rattle.desk_store.specs.Rows.{HasNoApproval, IsBroken}
 use Rattle.desk_store.proofs.FailLemmas.{fails_never, first_fails, tables_of, told_never}
-use Rattle.desk_store.proofs.Known.{OneTable, in_ledgers, known}
+use Rattle.desk_store.proofs.Known.{in_ledgers, known, tables_know}
+use Rattle.desk_records.proofs.MeaningWords.{Asks}
 use Rattle.desk_store.proofs.NextOfferCalls.{next}
 use Rattle.desk_store.proofs.RawCalls.{count_shown}
-use Rattle.desk_store.proofs.RolloutCalls.{getting_desk}
-use Rattle.desk_store.proofs.TargetCalls.{counting}
 
 -- a value that is no number of 32 bits
 no_size : (v : Value) → ((n : ℕ) → n < 2 ^ 32 → v ≡ Int (pos n) → ⊥) → has_size v ≡ false
@@ -41,7 +39,7 @@ pub no_key : (row : Row) → HasNoNumber (Some (column row 0 ∷ [])) → HasNoK
 no_key row unread = no_size (column row 0) (unread (omega arith))
 
 -- as the first row of its text
-pub last_fails : {sql : List ℕ} (text : OneTable sql) → ((params row : Row) → (BreaksColumn text.place row → ⊥) → HasNoNumber (Some (shown_of (text.query 0).project params row)) → ⊥) → {params : Row} {S : Type 0} {g : Ghosts S} {old new : OpenChange S}
+pub last_fails : {p : Place} {sql : List ℕ} {query : ℕ → Query} {names : List (List ℕ)} (text : Asks p sql query names) → ((params row : Row) → (BreaksColumn p row → ⊥) → HasNoNumber (Some (shown_of (query 0).project params row)) → ⊥) → {params : Row} {S : Type 0} {g : Ghosts S} {old new : OpenChange S}
     → old.store.now.calls.failures ≤ new.store.now.calls.failures → (row : Option Row) → TakesFirst (seen_in g old) (seen_in g new) sql params (Ok row) → (out : Result ℕ Fault) → IfErr out (λ fault. IfStore fault (HasNoNumber row)) → FailsIn g old new out
 last_fails text rule {params} grows row h out broken = first_fails text (λ r. HasNoNumber (Some r)) rule params grows row h out (as_broken row broken)
   where
@@ -100,14 +98,14 @@ never_next (Some o) (Some x) is good broken =
 module _ {S : Type 0} {g : Ghosts S} {old new : OpenChange S} (grows : old.store.now.calls.failures ≤ new.store.now.calls.failures) (row : Option Row) where
   pub count_fails : TakesFirst (seen_in g old) (seen_in g new) COUNT_TARGETS.now [] (Ok row) → (out : Result ℕ Fault) → IfErr out (λ fault. IfStore fault ((row ≡ None) ⊎ HasNoNumber row)) → FailsIn g old new out
   count_fails h out broken =
-      fails_never (first_finds HoldsLedger (λ (l : Ledger). l) COUNT_TARGETS.now [] (seen_in g old) (seen_in g new) (λ l u. IsReadable l → (row ≡ None) ⊎ HasNoNumber row → ⊥) (in_ledgers counting) (λ db l holds at given. tt) row h (Ok (tt {0}))
-      (λ db l holds shown readable. never_many (length (db.trees (holds.spot Targets).tree)) row (count_shown Targets COUNT_TARGETS.now count_targets_is db (rows_of db l holds) (tables_of db l holds) row shown) (readable.few (db.trees (holds.spot Targets).tree) (holds.rows Targets))))
+      fails_never (first_finds HoldsLedger (λ (l : Ledger). l) COUNT_TARGETS.now [] (seen_in g old) (seen_in g new) (λ l u. IsReadable l → (row ≡ None) ⊎ HasNoNumber row → ⊥) (in_ledgers (tables_know (counted_at count_targets_is))) (λ db l holds at given. tt) row h (Ok (tt {0}))
+      (λ db l holds shown readable. never_many (length (db.trees (holds.spot Targets).tree)) row (count_shown count_targets_is db (rows_of db l holds) (tables_of db l holds) row shown) (readable.few (db.trees (holds.spot Targets).tree) (holds.rows Targets))))
       grows out (told_never _ out broken)
 
   pub approval_fails : TakesFirst (seen_in g old) (seen_in g new) GET_DESK.now [] (Ok row) → (out : Result Bool Fault) → IfErr out (λ fault. (fault ≡ Store) × HasNoApproval row) → FailsIn g old new out
   approval_fails h out broken =
-      fails_never (first_finds HoldsLedger (λ (l : Ledger). l) GET_DESK.now [] (seen_in g old) (seen_in g new) (λ l u. IsReadable l → HasNoApproval row → ⊥) (in_ledgers (known getting_desk)) (λ db l holds at given. tt) row h (Ok (tt {0}))
-      (λ db l holds shown readable. never_untold l.records.approval row (gets_desk db l holds getting_desk.names row shown))) grows out (told_never _ out (as_store out broken))
+      fails_never (first_finds HoldsLedger (λ (l : Ledger). l) GET_DESK.now [] (seen_in g old) (seen_in g new) (λ l u. IsReadable l → HasNoApproval row → ⊥) (in_ledgers (known get_desk_is)) (λ db l holds at given. tt) row h (Ok (tt {0}))
+      (λ db l holds shown readable. never_untold l.records.approval row (gets_desk db l holds (codes "format" ∷ codes "version" ∷ codes "approval" ∷ []) row shown))) grows out (told_never _ out (as_store out broken))
     where
       as_store : (out : Result Bool Fault) → IfErr out (λ fault. (fault ≡ Store) × HasNoApproval row) → IfErr out (λ fault. IfStore fault (HasNoApproval row))
       as_store (Ok b) is = tt

@@ -1,38 +1,16 @@
 -- The calls on distribution sets.
-use Rattle.std.proofs.Common.{◌≡◌, ◌≤◌, ℕ, ◌+◌, pos, [], ◌∷◌, length, Bool, Option, Some, Ok, Err, Result, IfOk, option_map, Vec, vec_items, refl, sym, ap, subst, codes}
-use Rattle.desk_store.proofs.Common.{list_any, Global, is_some, Int, Text, Row, column, Insert, Values, col, Database, State, Fault, RunsText, AsksText, TakesFirst, Finds, Makes, KnowsWrite, ShowsFirst, simple, first_finds, run_makes, item_numbered, Bytes, SetLabel, Records, is_named_by_set, FIND_SET, LAST_SET, GET_SET, LIST_SET_MODULES, MODULE_LOCKED, PUT_SET, PUT_SET_MODULE, Sets, SetModules, HoldsLedger, HoldsRecords, ledger_of, IsLastRow, place_row, is_same_set, names_of, with_set, AddsSetModule, at_key, AreReadAs, IsReadAs}
+use Rattle.desk_store.proofs.Common.{◌≡◌, ◌≤◌, ℕ, ◌+◌, pos, [], ◌∷◌, length, Bool, Option, Some, Ok, Result, IfOk, option_map, Vec, vec_items, refl, sym, ap, subst, codes, list_any, Global, is_some, Int, Text, Row, column, State, Fault, RunsText, AsksText, TakesFirst, Finds, Makes, first_finds, run_makes, item_numbered, Bytes, SetLabel, Records, is_named_by_set, FIND_SET, LAST_SET, GET_SET, LIST_SET_MODULES, MODULE_LOCKED, PUT_SET, PUT_SET_MODULE, HoldsLedger, HoldsRecords, ledger_of, IsLastRow, place_row, is_same_set, names_of, with_set, AddsSetModule, AreReadAs, IsReadAs, put_set_is, put_set_module_is, put_at}
 use Rattle.rollout_machine.specs.Objects.{modules_of_set}
 use Rattle.rollout_model.specs.declared.number.ModuleKind.{ModuleKind}
 use Rattle.rollout_model.specs.declared.number.Number.{Number}
 use Rattle.desk_records.specs.declared.set_row.SetName.{SetName}
 use Rattle.desk_records.specs.SetRow.{IsSetNameRow, StoredNumber, called}
-use Rattle.desk_records.proofs.SetMeaning.{same_names, last_set_query, name_columns, set_terms, set_modules_query, locked_query, set_module_terms, find_set_is, last_set_is, get_set_is, list_set_modules_is, module_locked_is, put_set_is, put_set_module_is}
+use Rattle.desk_records.proofs.SetMeaning.{find_set_is, last_set_is, get_set_is, list_set_modules_is, module_locked_is, put_set_is, put_set_module_is}
 use Rattle.desk_records.proofs.SetRecords.{finds_set, lasts_set, gets_set, lists_set_modules, finds_lock, adds_set, adds_set_module}
 use Rattle.desk_store.proofs.ReadLemmas.{asks_all, takes_last, takes_one}
-use Rattle.desk_store.proofs.Known.{OneTable, in_ledgers, known, ledger_writes}
+use Rattle.desk_store.proofs.Known.{in_ledgers, known, tables_know}
 
 -- ---- what the texts mean where the records are held
-
-abbrev pub finding : OneTable FIND_SET.now
-finding = record { place = Sets; query = λ tree. simple tree same_names (col 1 0 ∷ []); names = (codes "number" ∷ []); means = find_set_is; shape = λ tree. refl }
-
-abbrev pub ending : OneTable LAST_SET.now
-ending = record { place = Sets; query = λ tree. last_set_query tree; names = (codes "number" ∷ []); means = last_set_is; shape = λ tree. refl }
-
-abbrev pub getting : OneTable GET_SET.now
-getting = record { place = Sets; query = λ tree. simple tree (at_key 0 0 ∷ []) name_columns; names = (codes "name" ∷ codes "version" ∷ []); means = get_set_is; shape = λ tree. refl }
-
-abbrev pub listing : OneTable LIST_SET_MODULES.now
-listing = record { place = SetModules; query = λ tree. set_modules_query tree; names = (codes "module" ∷ []); means = list_set_modules_is; shape = λ tree. refl }
-
-abbrev pub locking : OneTable MODULE_LOCKED.now
-locking = record { place = SetModules; query = λ tree. locked_query tree; names = (codes "dset" ∷ []); means = module_locked_is; shape = λ tree. refl }
-
-abbrev pub putting : KnowsWrite HoldsLedger PUT_SET.now
-putting = ledger_writes Sets PUT_SET.now (λ at tree. Insert at (Values set_terms 4)) put_set_is (λ at tree. refl)
-
-abbrev pub placing : KnowsWrite HoldsLedger PUT_SET_MODULE.now
-placing = ledger_writes SetModules PUT_SET_MODULE.now (λ at tree. Insert at (Values set_module_terms 4)) put_set_module_is (λ at tree. refl)
 
 -- ---- whether there is such a set
 
@@ -41,12 +19,12 @@ FindsSame name version r found = found ≡ list_any (is_same_set name version) r
 
 pub found : {E : Type 0} (name version : Bytes) (old new : State) (row : Option Row) → TakesFirst old new FIND_SET.now (names_of name version) (Ok row) → Finds HoldsLedger ledger_of {E = E} old new (Ok (is_some row)) (FindsSame name version)
 found name version old new row h =
-    first_finds HoldsLedger ledger_of FIND_SET.now (names_of name version) old new (FindsSame name version) (in_ledgers (known finding)) (λ db r holds at given. tt) row h (Ok (is_some row)) (λ db now holds shown. finds_set db now holds (codes "number" ∷ []) name version row shown)
+    first_finds HoldsLedger ledger_of FIND_SET.now (names_of name version) old new (FindsSame name version) (in_ledgers (known find_set_is)) (λ db r holds at given. tt) row h (Ok (is_some row)) (λ db now holds shown. finds_set db now holds (codes "number" ∷ []) name version row shown)
 
 -- ---- the last number
 
 pub last_read : (old new : State) (row : Option Row) → TakesFirst old new LAST_SET.now [] (Ok row) → (out : Result ℕ Fault) → IfOk out (λ n. IsLastRow n row) → Finds HoldsLedger ledger_of old new out (λ r last. last ≡ length r.sets)
-last_read old new row = takes_last ledger_of LAST_SET.now old new (known ending) (λ r. length r.sets) (λ db l holds at given. tt) row (λ db r holds. lasts_set db r holds (codes "number" ∷ []) row)
+last_read old new row = takes_last ledger_of LAST_SET.now old new (known last_set_is) (λ r. length r.sets) (λ db l holds at given. tt) row (λ db r holds. lasts_set db r holds (codes "number" ∷ []) row)
 
 -- ---- a set's name by its number
 
@@ -65,7 +43,7 @@ one_name name set h =
 pub set_read : (number : ℕ) → 1 ≤ number → (old new : State) (row : Option Row) → TakesFirst old new GET_SET.now (Int (pos number) ∷ []) (Ok row) → (out : Result (Option SetName) Fault) → IfOk out (λ found. IsReadAs IsSetNameRow found row)
     → Finds HoldsLedger ledger_of old new out (Gets number)
 set_read number least old new row =
-    takes_one ledger_of IsSetNameRow (λ (set : SetLabel). names_of set.name set.version) GET_SET.now (Int (pos number) ∷ []) old new (known getting) (λ r. item_numbered r.sets number) (λ found set. found ≡ option_map called set) refl (λ a b h. ap Some (one_name a b h))
+    takes_one ledger_of IsSetNameRow (λ (set : SetLabel). names_of set.name set.version) GET_SET.now (Int (pos number) ∷ []) old new (known get_set_is) (λ r. item_numbered r.sets number) (λ found set. found ≡ option_map called set) refl (λ a b h. ap Some (one_name a b h))
     (λ db r holds at given. tt) row (λ db now holds. gets_set db now holds (codes "name" ∷ codes "version" ∷ []) number least row)
 
 -- ---- a set's modules
@@ -82,7 +60,7 @@ one_number a b h = let same : Int (pos b) ≡ Int (pos a) = h in cc
 
 pub modules_read : (number : ℕ) → 1 ≤ number → (old new : State) (rows : Vec Row Global) → AsksText old new LIST_SET_MODULES.now (Int (pos number) ∷ []) (Ok rows) → (out : Result (Vec (Number ModuleKind) Global) Fault)
     → IfOk out (λ ms. AreReadAs IsNumberRow rows.items ms.items) → Finds HoldsLedger ledger_of old new out (Lists number)
-modules_read number least old new rows = asks_all ledger_of vec_items IsNumberRow (λ m. Int (pos m) ∷ []) one_number LIST_SET_MODULES.now (Int (pos number) ∷ []) old new (known listing) (λ r. modules_of_set (item_numbered r.sets number)) rows
+modules_read number least old new rows = asks_all ledger_of vec_items IsNumberRow (λ m. Int (pos m) ∷ []) one_number LIST_SET_MODULES.now (Int (pos number) ∷ []) old new (known list_set_modules_is) (λ r. modules_of_set (item_numbered r.sets number)) rows
     (λ db now holds. lists_set_modules db now holds (codes "module" ∷ []) number least rows.items)
 
 -- ---- whether a set names a module
@@ -92,7 +70,7 @@ Locks number r locked = locked ≡ is_named_by_set r.sets number
 
 pub locked : {E : Type 0} (number : ℕ) (old new : State) (row : Option Row) → TakesFirst old new MODULE_LOCKED.now (Int (pos number) ∷ []) (Ok row) → Finds HoldsLedger ledger_of {E = E} old new (Ok (is_some row)) (Locks number)
 locked number old new row h =
-    first_finds HoldsLedger ledger_of MODULE_LOCKED.now (Int (pos number) ∷ []) old new (Locks number) (in_ledgers (known locking)) (λ db r holds at given. tt) row h (Ok (is_some row)) (λ db now holds shown. finds_lock db now holds (codes "dset" ∷ []) number row shown)
+    first_finds HoldsLedger ledger_of MODULE_LOCKED.now (Int (pos number) ∷ []) old new (Locks number) (in_ledgers (known module_locked_is)) (λ db r holds at given. tt) row h (Ok (is_some row)) (λ db now holds shown. finds_lock db now holds (codes "dset" ∷ []) number row shown)
 
 -- ---- a new set, and a further module of it
 
@@ -100,9 +78,9 @@ abbrev pub Puts : ℕ → Bytes → Bytes → Records → Records → Type 0
 Puts number name version r next = (number ≡ length r.sets + 1) × (next ≡ with_set r name version)
 
 pub set_written : (number : ℕ) (name version : Bytes) (old new : State) (out : Result (Unit {0}) Fault) → RunsText old new PUT_SET.now (Int (pos number) ∷ names_of name version) out → Makes HoldsLedger ledger_of old new out (Puts number name version)
-set_written number name version old new out h = run_makes HoldsLedger ledger_of PUT_SET.now (Int (pos number) ∷ names_of name version) old new (Puts number name version) putting.knows out h
+set_written number name version old new out h = run_makes HoldsLedger ledger_of PUT_SET.now (Int (pos number) ∷ names_of name version) old new (Puts number name version) (in_ledgers (tables_know (put_at put_set_is))) out h
     (λ now next change holds count w. (w, subst (HoldsRecords new.now) (sym change.1) (adds_set name version number old new _ count now holds change.0 w)))
 
 pub set_module_written : (number place m : ℕ) (old new : State) (out : Result (Unit {0}) Fault) → RunsText old new PUT_SET_MODULE.now (place_row number place m) out → Makes HoldsLedger ledger_of old new out (AddsSetModule number place m)
-set_module_written number place m old new out h = run_makes HoldsLedger ledger_of PUT_SET_MODULE.now (place_row number place m) old new (AddsSetModule number place m) placing.knows out h
+set_module_written number place m old new out h = run_makes HoldsLedger ledger_of PUT_SET_MODULE.now (place_row number place m) old new (AddsSetModule number place m) (in_ledgers (tables_know (put_at put_set_module_is))) out h
     (λ now next change holds count w. (w, adds_set_module number place m old new _ count now next holds change w))

@@ -1,6 +1,5 @@
 -- The table of actions agrees where records of accepted commands are held.
-use Rattle.std.proofs.Common.{◌≡◌, ◌≤◌, ◌<◌, ◌^◌, ℕ, zero, suc, pos, true, false, List, [], ◌∷◌, map, slice_get, zip, unwrap_or, Option, Some, None, refl, sym, ap, subst, ◌∙◌, arith}
-use Rattle.desk_verify.proofs.Common.{is_some, option_or, Int, Null, Row, column, has_rowid, Database, Has, has_got, is_number, is_word, outcome_said, item_numbered, CommandList, Bytes, CancelWord, DeploymentWord, Proceeding, Scheduled, Resumed, Succeeded, Failed, Rejected, Noted, ClosedCancel, CanceledCancel, RejectedCancel, NotedCancel, FollowMembers, IsOfMember, records, IsValid, AreWithinLimits, Outcome, Good, Bad, Gone, ActionRecord, RolloutRecord, actions_follow_members, limits_hold, Tally, action_row, actor_of, entries_of, entry_row, kind_code, outcome_code, tally_of, word_code, flag_in, outcome_in, HoldsRecords, ledger_of, stored_action, member_row, members_from, rollout_row, told_rollout, Actions, Feedbacks, Members, Rollouts, IsAction, HoldsTables, Tables, StoredAction, item_row, part_among, place_within, held_rows, numbered, of_part, row_of, wanted_of, has_own_number, is_at, is_in_range, is_number_in, is_small, number_in_is, number_is, one_number, small_is, AgreesActions, AreInOrder, FitsEntries, GivesOutcome, HasActions, HasMember, IsRightAction, IsStarted, HistoryEntry, Said, OfDeployment, OfCancel, member_at, said_by, parts_from, member_ids}
+use Rattle.desk_verify.proofs.Common.{◌≡◌, ◌≤◌, ◌<◌, ◌^◌, ℕ, zero, suc, pos, true, List, [], ◌∷◌, map, slice_get, zip, unwrap_or, Option, Some, None, refl, sym, ap, subst, ◌∙◌, arith, is_some, option_or, Int, Null, Row, column, has_rowid, Database, Has, has_got, is_number, is_word, outcome_said, item_numbered, CommandList, Bytes, FollowMembers, IsOfMember, records, IsValid, AreWithinLimits, Outcome, ActionRecord, RolloutRecord, actions_follow_members, limits_hold, Tally, action_row, actor_of, entries_of, entry_row, tally_of, flag_in, HoldsRecords, ledger_of, stored_action, member_row, members_from, rollout_row, told_rollout, Actions, Feedbacks, Members, Rollouts, IsAction, HoldsTables, Tables, StoredAction, item_row, part_among, place_within, held_rows, numbered, of_part, row_of, wanted_of, has_own_number, is_at, is_in_range, is_number_in, is_small, number_in_is, number_is, one_number, small_is, AgreesActions, AreInOrder, FitsEntries, GivesOutcome, HasActions, HasMember, IsRightAction, IsStarted, HistoryEntry, member_at, said_by, parts_from, member_ids}
 use Rattle.rollout_machine.specs.Histories.{first_outcome}
 use Rattle.rollout_machine.proofs.Histories.{outcomes_fit_histories}
 use Rattle.desk_verify.proofs.GroupLaw.{few_places, one_rowid}

@@ -1,6 +1,5 @@
 -- What the reads of the tables of actions, members and rollouts come to.
-use Rattle.std.proofs.Common.{◌≡◌, ◌<◌, ℕ, true, false, true≢false, List, [], ◌∷◌, length, nat_eq, pos, Some, None, inl, refl, sym, ap, subst, ◌∙◌, arith}
-use Rattle.desk_verify.proofs.Common.{AllByRecursion, Int, Text, Row, column, Has, all_from, all_has, Bytes, has_at, Actions, IsAction, Tables, PlacedMember, ListedAction, StoredAction, StoredRollout, is_at, number_in_is, number_in_least, number_is, one_number, AreActionsInTurn, AreMembersInTurn, AreWhole, FitsHistory, ListsActions, PassesHistory, are_for, count_none, is_for, AgreesActions, AreInOrder, FitsEntries, HasActions, HasMember, IsRightAction, IsStarted, KeepsNumbers, PassesActions, Settles, AreAllChecked, HasRollout, IsChecked, JudgesOne, IsThere}
+use Rattle.desk_verify.proofs.Common.{◌≡◌, ◌<◌, ℕ, true, false, true≢false, List, [], ◌∷◌, length, nat_eq, pos, Some, None, inl, refl, sym, ap, subst, ◌∙◌, arith, AllByRecursion, Int, Text, Row, column, Has, all_from, all_has, Bytes, has_at, Actions, IsAction, Tables, PlacedMember, ListedAction, StoredAction, StoredRollout, is_at, number_in_is, number_in_least, number_is, one_number, AreActionsInTurn, AreMembersInTurn, AreWhole, FitsHistory, ListsActions, PassesHistory, are_for, count_none, is_for, AgreesActions, AreInOrder, FitsEntries, HasActions, HasMember, IsRightAction, IsStarted, KeepsNumbers, PassesActions, Settles, AreAllChecked, HasRollout, IsChecked, JudgesOne, IsThere}
 use Rattle.desk_verify.proofs.OneRow.{one_action, one_in}
 use Rattle.desk_verify.proofs.RolloutLemmas.{decided}
 use Rattle.desk_verify.proofs.TurnLemmas.{AreFollowing, AreTurns, following, is_own, own_is, turns}

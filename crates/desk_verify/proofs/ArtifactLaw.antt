@@ -1,6 +1,5 @@
 -- The table of artifacts agrees where records of accepted commands are held.
-use Rattle.std.proofs.Common.{◌≡◌, ℕ, suc, ◌+◌, true, List, length, slice_get, Option, Some, refl, sym, ap, subst, ◌∙◌, arith, add-one}
-use Rattle.desk_verify.proofs.Common.{option_to_list, Database, contains_had, is_digest, is_number, item_numbered, CommandList, ArtifactRecord, Records, records, IsValid, limits_hold, ArePieces, artifact_row, piece_numbered, pieces_in, pieces_of_artifact, HoldsRecords, ledger_of, Pieces, HoldsTables, Tables, IsNumbered, is_in_range, is_number_in, is_small, SaysArtifact, AgreesArtifacts, All-contains, stored, IsWhole, KeepsRules, all_keep, all_whole, digest_is_one}
+use Rattle.desk_verify.proofs.Common.{◌≡◌, ℕ, suc, ◌+◌, true, List, length, slice_get, Option, Some, refl, sym, ap, subst, ◌∙◌, arith, add-one, option_to_list, Database, contains_had, is_digest, is_number, item_numbered, CommandList, ArtifactRecord, Records, records, IsValid, limits_hold, ArePieces, artifact_row, piece_numbered, pieces_in, pieces_of_artifact, HoldsRecords, ledger_of, Pieces, HoldsTables, Tables, IsNumbered, is_in_range, is_number_in, is_small, SaysArtifact, AgreesArtifacts, All-contains, stored, IsWhole, KeepsRules, all_keep, all_whole, digest_is_one}
 use Rattle.std.proofs.lemmas.Option.{slice_get_past}
 use Rattle.desk_records.proofs.HeldArtifacts.{held_artifact, held_pieces}
 

@@ -1,6 +1,5 @@
 -- What the reads of the tables of artifacts and pieces come to.
-use Rattle.std.proofs.Common.{◌≡◌, ℕ, suc, ◌+◌, Bool, true, false, not, true≢false, List, [], ◌∷◌, map, length, nat_eq, Vec, vec_items, Some, None, refl, sym, ap, subst, ◌∙◌, arith}
-use Rattle.desk_verify.proofs.Common.{AllByRecursion, pointwise, Global, Decides-eqb, nat_tests, slice_eq-Decides, Blob, Row, column, all_from, all_has, digest_of, piece_count, Bytes, ArePieces, pieces_in, Artifacts, Pieces, Tables, number_in_is, one_number, count_pieces, ListsRows, SaysArtifact, any_row, Decides, HashesPieces, AgreesArtifacts}
+use Rattle.desk_verify.proofs.Common.{◌≡◌, ℕ, suc, ◌+◌, Bool, true, false, not, true≢false, List, [], ◌∷◌, map, length, nat_eq, Vec, vec_items, Some, None, refl, sym, ap, subst, ◌∙◌, arith, AllByRecursion, pointwise, Global, Decides-eqb, nat_tests, slice_eq-Decides, Blob, Row, column, all_from, all_has, digest_of, piece_count, Bytes, ArePieces, pieces_in, Artifacts, Pieces, Tables, number_in_is, one_number, count_pieces, ListsRows, SaysArtifact, any_row, Decides, HashesPieces, AgreesArtifacts, not-false}
 use Rattle.desk_verify.specs.Artifacts.{IsWhole}
 use Rattle.desk_records.specs.declared.checked_rows.CheckedArtifact.{CheckedArtifact}
 use Rattle.desk_verify.proofs.PieceChecks.{none_found, one_whole}
@@ -11,11 +10,7 @@ pub are_other : (xs ys : Bytes) (r : Bool) → r ≡ not (pointwise nat_eq xs ys
 are_other xs ys r is told same = true≢false (sym told ∙ is ∙ ap not ((slice_eq-Decides Decides-eqb xs ys (pointwise nat_eq xs ys) refl).1 same))
 
 pub are_same : (xs ys : Bytes) (r : Bool) → r ≡ not (pointwise nat_eq xs ys) → r ≡ false → xs ≡ ys
-are_same xs ys r is told = (slice_eq-Decides Decides-eqb xs ys (pointwise nat_eq xs ys) refl).0 (not_not (pointwise nat_eq xs ys) (sym is ∙ told))
-  where
-    not_not : (b : Bool) → not b ≡ false → b ≡ true
-    not_not true h = refl
-    not_not false h = absurd (true≢false h)
+are_same xs ys r is told = (slice_eq-Decides Decides-eqb xs ys (pointwise nat_eq xs ys) refl).0 (not-false (pointwise nat_eq xs ys) (sym is ∙ told))
 
 pub no_contents : (t : Tables) (a : CheckedArtifact) → HashesPieces t a.number a.artifact.size None → Decides (IsWhole t a) false
 no_contents t a none whole = none whole.contents whole.size whole.pieces

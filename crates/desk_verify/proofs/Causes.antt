@@ -1,16 +1,11 @@
 -- What a failed store is blamed on in the checks.
-use Rattle.std.proofs.Common.{◌≡◌, ◌≤◌, ◌<◌, ◌^◌, ◌⊎◌, ◌&&◌, inl, inr, ◌≢◌, ℕ, nat_eq, nat_le, nat_lt, pos, ◌+◌, slice_index_or, zero, suc, take, Bool, not, true, false, cond, List, [], ◌∷◌, length, filter, map, Option, Some, None, refl, Ok, Err, Result, sym, ap, subst, ◌∙◌, arith}
+use Rattle.desk_verify.proofs.Common.{◌≡◌, ◌≤◌, ◌<◌, ◌^◌, ◌⊎◌, ◌&&◌, inl, inr, ◌≢◌, ℕ, nat_eq, nat_le, nat_lt, pos, ◌+◌, slice_index_or, zero, suc, take, Bool, not, true, false, cond, List, [], ◌∷◌, length, filter, map, Option, Some, None, refl, Ok, Err, Result, sym, ap, subst, ◌∙◌, arith, and_parts, nat_tests, AllByRecursion, Int, Row, column, value_cmp, State, Finds, Wears, Fault, is_number, number_of, number_in, AreSaid, HasNumber, IsLast, AreMembers, OwnedOffer, PlacedMember, Members, Offers, Place, Rollouts, number_in_good, number_in_is, HoldsTables, Tables, BlamesGiven, Watches, FindsTables, seen_in, AreActions, AreOffers, SaysOffer, any_row, IsUnreadable, large_number, many_rows, rise, twin_members, count_on, AgreesActions, AgreeBefore, Passes, checked, Artifact, follow, AgreesMembers, IsUpTo, number_limit, and_from}
 use Rattle.std.proofs.lemmas.List.Filters.{length-filter_both}
-use Rattle.desk_verify.proofs.Common.{and_parts, nat_tests, AllByRecursion, Int, Row, column, value_cmp, State, Finds, Wears, Fault, is_number, number_of, number_in, AreSaid, HasNumber, IsLast, AreMembers, OwnedOffer, PlacedMember, Members, Offers, Place, Rollouts, number_in_good, number_in_is, HoldsTables, Tables, BlamesGiven, Watches, FindsTables, seen_in, AreActions, AreOffers, SaysOffer, any_row, IsUnreadable, large_number, many_rows, rise, twin_members, count_on, AgreesActions, AgreeBefore, Passes, checked, Artifact, follow, AgreesMembers, IsUpTo, number_limit}
 use Rattle.std.specs.Ordering.{is_eq}
 use Rattle.sqlite.specs.Store.{Ghosts}
 use Rattle.desk_store.specs.declared.change.OpenChange.{OpenChange}
 use Rattle.desk_verify.proofs.Follow.{differs}
 use Rattle.desk_verify.proofs.GroupLaw.{one_rowid}
-
--- counts that don't fall
-pub grown : {a b c : ℕ} → a ≤ b → b ≤ c → a ≤ c
-grown low high = omega (arith, low, high)
 
 pub even : (n : ℕ) → n ≤ n
 even n = omega arith
@@ -33,9 +28,6 @@ pub listed_many : (t : Tables) (p : Place) (test : Row → Bool) (count : ℕ) �
 listed_many t p test count is large = many_rows p (omega (arith, is, large, length-filter_both test (λ row. not (test row)) (λ row. refl) (t p)))
 
 -- ---- rollouts
-
-and_both : (a b : Bool) → a ≡ true → b ≡ true → (a && b) ≡ true
-and_both a b h k = rw (h, k) refl
 
 -- up to the last
 pub up_to : (t : Tables) (before last : ℕ) → IsLast (t Rollouts) last → before < last → IsUpTo (before + 1) t
@@ -64,7 +56,7 @@ past_limit t n none up = large_number up.there.row up.there.among (go (number_in
     apart : (m : ℕ) → is_number m ≡ true → n ≤ m → ⊥
     apart m good below =
         let high : nat_le m number_limit ≡ true = (and_parts (nat_le 1 m) (nat_le m number_limit) good).1 in
-        let is : is_number n ≡ true = and_both (nat_le 1 n) (nat_le n number_limit) (grind (arith, nat_tests, up.low)) (grind (arith, nat_tests, high, below)) in
+        let is : is_number n ≡ true = and_from (nat_le 1 n) (nat_le n number_limit) (grind (arith, nat_tests, up.low)) (grind (arith, nat_tests, high, below)) in
         let bad : is_number n ≡ false = not_number (is_number n) none in
         cc
 

@@ -1,5 +1,6 @@
 -- The names of other modules that the proofs here cite, passed on from one place. Declares nothing.
-pub use Rattle.std.proofs.lemmas.Bool.{and_from, and_parts, eqb-true, leb-true}
+pub use Rattle.std.proofs.Common.{Bool, Err, List, None, Ok, Option, Result, Some, Vec, [], add-one, ap, append-nil, append_assoc, ap₂, arith, cond, count_by, drop, false, filter, get_or, inl, inr, is_eq, is_none, le_trans, length, map, min, nat_eq, nat_le, nat_lt, not, pos, refl, rules, slice_get, slice_index_or, subst, suc, sym, take, true, true≢false, unwrap_or, vec_items, zero, zip, ℕ, ◌&&◌, ◌*◌, ◌++◌, ◌+◌, ◌-◌, ◌<◌, ◌^◌, ◌||◌, ◌∙◌, ◌∷◌, ◌≡◌, ◌≢◌, ◌≤◌, ◌⊎◌}
+pub use Rattle.std.proofs.lemmas.Bool.{and_from, and_parts, eqb-true, leb-true, not-false, not-true, or_left, or_right}
 pub use Rattle.std.proofs.lemmas.Bool.Decides.{Decides-eqb, nat_tests}
 pub use Rattle.std.proofs.lemmas.List.{length-append, length-drop, length-map, length-take}
 pub use Rattle.std.proofs.lemmas.List.Elements.{All-contains}
@@ -61,7 +62,7 @@ pub use Rattle.sql_calls.specs.declared.fault.Fault.{Fault}
 pub use Rattle.sql_calls.specs.declared.fault.Fault.TheVariants.{Store}
 pub use Rattle.desk_records.proofs.HeldCounts.{at_place, has_place, held_passing, item_row, own_parts, part_among, place_within}
 pub use Rattle.desk_records.proofs.HeldTables.{IsNumbered, IsPart, are_tables, held_rows, numbered, of_part, row_numbered, row_of, rows_of, wanted_of}
-pub use Rattle.desk_records.proofs.Membership.{all_pass, each_passes, has_mapped, map_has}
+pub use Rattle.desk_records.proofs.Membership.{all_pass, each_passes, has_flat, has_mapped, map_has}
 pub use Rattle.desk_records.proofs.NumberColumns.{has_own_number, is_at, is_in_range, is_number_in, is_small, number_in_good, number_in_is, number_in_least, number_is, one_number, small_is}
 pub use Rattle.desk_records.proofs.PieceLists.{count_pieces, count_whole, nth_piece, one_more, same_contents}
 pub use Rattle.desk_records.proofs.WholeArtifacts.{IsWhole, KeepsRules, all_keep, all_whole, digest_is_one}

@@ -1,6 +1,5 @@
 -- The rows of the rollouts from 1 on, counted, where a column has the rollout's number.
-use Rattle.std.proofs.Common.{◌≡◌, ◌≤◌, ◌||◌, ℕ, zero, suc, ◌+◌, Bool, true, false, cond, List, [], ◌∷◌, filter, length, refl, sym, ap, ◌∙◌, arith, nat_eq}
-use Rattle.desk_verify.proofs.Common.{nat_tests, Row, column, Has, has_at, all_pass, each_passes, number_is, one_number, AreJudged, within}
+use Rattle.desk_verify.proofs.Common.{◌≡◌, ◌≤◌, ◌||◌, ℕ, zero, suc, ◌+◌, Bool, true, false, cond, List, [], ◌∷◌, filter, length, refl, sym, ap, ◌∙◌, arith, nat_eq, nat_tests, Row, column, Has, has_at, all_pass, each_passes, number_is, one_number, AreJudged, within, or_left, or_right}
 
 pub either : (a b : Bool) → (a || b) ≡ true → a ≡ false → b ≡ true
 either true b h is = cc
@@ -20,16 +19,9 @@ module _ (place : ℕ) where
   is_within zero r row low high of = absurd (omega (arith, low, high))
   is_within (suc n) r row low high of = go (nat_eq r (suc n)) refl (λ other. is_within n r row low other of)
     where
-      true_left : (a b : Bool) → a ≡ true → (a || b) ≡ true
-      true_left a b h = rw h refl
-
-      true_right : (a b : Bool) → b ≡ true → (a || b) ≡ true
-      true_right true b h = refl
-      true_right false b h = h
-
       go : (b : Bool) → nat_eq r (suc n) ≡ b → (r ≤ n → within place n row ≡ true) → (within place n row || has_at place (suc n) row) ≡ true
-      go true is earlier = let same : r ≡ suc n = grind (arith, nat_tests, is) in true_right _ _ (ap (λ k. has_at place k row) (sym same) ∙ of)
-      go false is earlier = let other : r ≤ n = grind (arith, nat_tests, is, high) in true_left _ _ (earlier other)
+      go true is earlier = let same : r ≡ suc n = grind (arith, nat_tests, is) in or_right _ _ (ap (λ k. has_at place k row) (sym same) ∙ of)
+      go false is earlier = let other : r ≤ n = grind (arith, nat_tests, is, high) in or_left _ _ (earlier other)
 
   apart : (n : ℕ) (row : Row) → within place n row ≡ true → has_at place (suc n) row ≡ true → ⊥
   apart n row h of =

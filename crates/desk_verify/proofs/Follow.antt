@@ -1,7 +1,6 @@
 -- Places that rise by at most one.
-use Rattle.std.proofs.Common.{◌≡◌, ◌⊎◌, inl, inr, ◌≤◌, ◌<◌, ◌&&◌, ℕ, zero, suc, ◌+◌, Bool, true, false, List, [], ◌∷◌, ◌++◌, nat_le, nat_lt, refl, sym, ap, subst, ◌∙◌, arith, append_assoc, Some, pos}
+use Rattle.desk_verify.proofs.Common.{◌≡◌, ◌⊎◌, inl, inr, ◌≤◌, ◌<◌, ◌&&◌, ℕ, zero, suc, ◌+◌, Bool, true, false, List, [], ◌∷◌, ◌++◌, nat_le, nat_lt, refl, sym, ap, subst, ◌∙◌, arith, append_assoc, Some, pos, and_parts, nat_tests, Int, Row, column, Has, contains_had, has_either, AreBroken, AreMembers, SaysMember, is_of, Members, IsMember, Tables, PlacedMember, is_at, number_in_is, number_is, one_number, follow, AgreesMembers, HasPlace, IsInPlace, IsThere}
 use Rattle.std.specs.List.Sorted.{IsNonDecreasingBy}
-use Rattle.desk_verify.proofs.Common.{and_parts, nat_tests, Int, Row, column, Has, contains_had, has_either, AreBroken, AreMembers, SaysMember, is_of, Members, IsMember, Tables, PlacedMember, is_at, number_in_is, number_is, one_number, follow, AgreesMembers, HasPlace, IsInPlace, IsThere}
 use Rattle.std.proofs.lemmas.List.Sorted.{IsNonDecreasingBy-drop}
 
 -- a member at this place

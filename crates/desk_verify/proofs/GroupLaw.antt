@@ -1,6 +1,5 @@
 -- The table of groups agrees where records of accepted commands are held.
-use Rattle.std.proofs.Common.{◌≡◌, inl, inr, ◌≤◌, ◌<◌, ◌^◌, ◌&&◌, ℕ, zero, suc, ◌+◌, ◌-◌, pos, Bool, true, false, cond, List, [], ◌∷◌, filter, length, map, slice_get, zip, nat_eq, nat_lt, Option, Some, None, refl, sym, ap, subst, ◌∙◌, arith, is_eq}
-use Rattle.desk_verify.proofs.Common.{and_parts, nat_tests, option_map, Int, Null, Row, column, has_rowid, Database, Has, is_group_count, is_number, item_numbered, CommandList, Bytes, is_outcome, GroupRule, rule_at, rules_of, bounds_by, last_by, leaves_empty, IsCut, holds_position, Records, records, IsValid, AreWithinLimits, IsWithinLimits, Bounds, Outcome, Good, Bad, Gone, ActionRecord, GroupRecord, RolloutRecord, each_there, actions_follow_members, limits_hold, action_row, outcome_code, tally_of, flag_in, group_count_in, HoldsRecords, ledger_of, has_at, is_of, broken_group_column, flag, group_row, groups_from, members_from, rollout_row, rule_row, rules_from, told_rollout, Actions, Groups, Members, Rollouts, Rules, IsGroup, HoldsTables, Tables, at_place, has_place, held_passing, item_row, own_parts, part_among, place_within, held_rows, numbered, of_part, row_of, wanted_of, has_own_number, is_number_in, HasGroupCount, HasRule, AgreesGroups, HasGroup, IsCutBy, IsInRollout, IsRightGroup, ended_in, has_ended, members_in, rows_from, group_limit, HasCountedGroups, IsCountedGroup, count_actions, groups_are_counted, grouping_is_cut}
+use Rattle.desk_verify.proofs.Common.{◌≡◌, inl, inr, ◌≤◌, ◌<◌, ◌^◌, ◌&&◌, ℕ, zero, suc, ◌+◌, ◌-◌, pos, Bool, true, false, cond, List, [], ◌∷◌, filter, length, map, slice_get, zip, nat_eq, Option, Some, None, refl, sym, ap, subst, ◌∙◌, arith, is_eq, and_parts, nat_tests, option_map, Int, Null, Row, column, has_rowid, Database, Has, is_number, item_numbered, CommandList, Bytes, is_outcome, GroupRule, rule_at, rules_of, bounds_by, last_by, leaves_empty, IsCut, holds_position, Records, records, IsValid, AreWithinLimits, IsWithinLimits, Bounds, Outcome, Good, Bad, Gone, ActionRecord, GroupRecord, RolloutRecord, each_there, actions_follow_members, limits_hold, action_row, outcome_code, tally_of, group_count_in, HoldsRecords, ledger_of, has_at, is_of, group_row, groups_from, members_from, rollout_row, rule_row, rules_from, told_rollout, Actions, Groups, Members, Rollouts, Rules, IsGroup, HoldsTables, Tables, at_place, has_place, held_passing, item_row, own_parts, part_among, place_within, held_rows, numbered, of_part, row_of, wanted_of, has_own_number, is_number_in, HasGroupCount, HasRule, AgreesGroups, HasGroup, IsCutBy, IsInRollout, IsRightGroup, ended_in, has_ended, members_in, rows_from, HasCountedGroups, IsCountedGroup, count_actions, groups_are_counted, grouping_is_cut}
 use Rattle.std.proofs.lemmas.Option.{slice_get-map}
 use Rattle.std.proofs.lemmas.Int.{ints}
 use Rattle.sqlite_value.proofs.OrderLemmas.{value_cmp-Int}

@@ -1,6 +1,5 @@
 -- What the reads of the tables of groups, members and actions come to.
-use Rattle.std.proofs.Common.{◌≡◌, ◌≤◌, ◌<◌, ◌&&◌, ℕ, zero, suc, ◌+◌, Bool, true, false, not, List, count_by, length, Option, Some, None, true≢false, refl, sym, ap, subst, ◌∙◌, arith, nat_eq}
-use Rattle.desk_verify.proofs.Common.{list_all, and_from, and_parts, nat_tests, Row, column, Has, some_from, some_has, test_from, test_has, item_numbered, bounds_by, cut_by, leaves_empty, each_there, numbered_each, Bounds, Outcome, Good, Bad, Gone, GroupRecord, HasNumber, has_at, Actions, Groups, Rollouts, IsGroup, Tables, is_at, number_in_is, number_in_least, number_is, one_number, ListsRows, SaysGroup, HasGroupCount, Decides, are_bounds, are_right, counts_them, has_each, has_number, is_cut, is_right, same_bounds, HasEach, IsCutOnlyBy, IsGroupCount, AgreesGroups, HasGroup, IsCutBy, IsInRollout, IsRightGroup, ended_in, has_ended, members_in, AreAllChecked, IsChecked, length-filter}
+use Rattle.desk_verify.proofs.Common.{◌≡◌, ◌≤◌, ◌<◌, ◌&&◌, ℕ, zero, suc, ◌+◌, Bool, true, false, not, List, count_by, length, Option, Some, None, true≢false, refl, sym, ap, subst, ◌∙◌, arith, nat_eq, list_all, and_from, and_parts, nat_tests, Row, column, Has, some_from, some_has, test_from, test_has, item_numbered, bounds_by, cut_by, leaves_empty, each_there, numbered_each, Bounds, Outcome, Good, Bad, Gone, GroupRecord, HasNumber, has_at, Actions, Groups, Rollouts, IsGroup, Tables, is_at, number_in_is, number_in_least, number_is, one_number, ListsRows, SaysGroup, HasGroupCount, Decides, are_bounds, are_right, counts_them, has_each, has_number, is_cut, is_right, same_bounds, HasEach, IsCutOnlyBy, IsGroupCount, AgreesGroups, HasGroup, IsCutBy, IsInRollout, IsRightGroup, ended_in, has_ended, members_in, AreAllChecked, IsChecked, length-filter, not-true}
 use Rattle.rollout_machine.specs.Groupings.{Grouping}
 use Rattle.desk_records.specs.CountedActions.{AreCounted}
 use Rattle.desk_records.specs.declared.checked_rows.CountedAction.{CountedAction}
@@ -70,10 +69,6 @@ both_bounds a b h =
     let last : a.last ≡ b.last = grind (arith, nat_tests, parts.1) in
     λ i. record { first = first i; last = last i }
 
-not_true : (b : Bool) → not b ≡ true → b ≡ false
-not_true true h = absurd cc
-not_true false h = refl
-
 bounds_same : (a : Bounds) → same_bounds a a ≡ true
 bounds_same a = grind (arith, nat_tests)
 
@@ -141,7 +136,7 @@ module _ (t : Tables) (r n m : ℕ) (count : IsGroupCount t r n) (by : Grouping)
       parts = and_parts (not (leaves_empty by m)) (list_all (is_right (cut_by by m) actions) groups && has_each groups by.count) h
 
       full : leaves_empty by m ≡ false
-      full = not_true (leaves_empty by m) parts.0
+      full = not-true (leaves_empty by m) parts.0
 
       both : (list_all (is_right (cut_by by m) actions) groups ≡ true) × (has_each groups by.count ≡ true)
       both = and_parts (list_all (is_right (cut_by by m) actions) groups) (has_each groups by.count) parts.1

@@ -1,6 +1,5 @@
 -- What the history of an action that was read comes to.
-use Rattle.std.proofs.Common.{◌≡◌, inl, inr, ◌⊎◌, ◌≤◌, ℕ, Bool, true, false, true≢false, List, [], ◌∷◌, map, Option, Some, None, refl, sym, ap, ◌∙◌, arith}
-use Rattle.desk_verify.proofs.Common.{option_or, column, Has, outcome_said, is_outcome, Outcome, Good, Bad, Gone, AreSaid, has_at, Feedbacks, Numbers, IsEntry, Tables, SequencedEntry, ListedAction, is_at, number_is, one_number, SaysNumber, rise, FitsHistory, IsGiven, IsGivenFirst, PassesHistory, first_said, is_fit, sequences_rise, FitsEntries, GivesOutcome, KeepsNumbers, Decides, Settles, PlacedNumber}
+use Rattle.desk_verify.proofs.Common.{◌≡◌, inl, inr, ◌⊎◌, ◌≤◌, ℕ, Bool, true, false, true≢false, List, [], ◌∷◌, map, Option, Some, None, refl, sym, ap, ◌∙◌, arith, option_or, column, Has, outcome_said, is_outcome, Outcome, Good, Bad, Gone, AreSaid, has_at, Feedbacks, Numbers, IsEntry, Tables, SequencedEntry, ListedAction, is_at, number_is, one_number, SaysNumber, rise, FitsHistory, IsGiven, IsGivenFirst, PassesHistory, first_said, is_fit, sequences_rise, FitsEntries, GivesOutcome, KeepsNumbers, Decides, Settles, PlacedNumber}
 use Rattle.desk_verify.proofs.Rising.{above, only_one, rest_rises}
 
 abbrev sequence_of : SequencedEntry → ℕ

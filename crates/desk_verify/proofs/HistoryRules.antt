@@ -1,6 +1,5 @@
 -- The numbers of feedback in histories: each is in its range, and they are no more than the entries.
-use Rattle.std.proofs.Common.{◌≡◌, inl, inr, ◌≤◌, ◌<◌, ℕ, suc, ◌+◌, Bool, true, false, cond, List, [], ◌∷◌, ◌++◌, length, Option, Some, None, refl, sym, ap, subst, ◌∙◌, arith}
-use Rattle.desk_verify.proofs.Common.{and_parts, item_numbered, CommandList, Make, ◌▸◌, IsValid, list_all, Has, history, IsWellFormed, is_credential, is_device_feedback, is_feedback_number_or_none, CancelFeedback, Command, DeviceFeedback, Feedback, records, Reported, reported_by, ActionRecord, are_details, is_number, PlacedNumber}
+use Rattle.desk_verify.proofs.Common.{◌≡◌, inl, inr, ◌≤◌, ◌<◌, ℕ, suc, ◌+◌, Bool, true, false, cond, List, [], ◌∷◌, ◌++◌, length, Option, Some, None, refl, sym, ap, subst, ◌∙◌, arith, and_parts, item_numbered, CommandList, Make, ◌▸◌, IsValid, list_all, Has, history, IsWellFormed, is_credential, is_device_feedback, is_feedback_number_or_none, CancelFeedback, Command, DeviceFeedback, Feedback, records, Reported, reported_by, ActionRecord, are_details, is_number, PlacedNumber}
 use Rattle.std.proofs.lemmas.List.Folds.{list_all-append}
 use Rattle.rollout_machine.proofs.AtNumbers.{has_place}
 use Rattle.desk_records.specs.FeedbackNumbers.{borne_at, numbers_from}

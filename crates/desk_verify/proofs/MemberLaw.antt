@@ -1,6 +1,5 @@
 -- The table of members agrees where records of accepted commands are held.
-use Rattle.std.proofs.Common.{◌≡◌, ◌⊎◌, inl, inr, ◌≤◌, ◌<◌, ℕ, zero, suc, ◌+◌, pos, true, List, ◌∷◌, length, refl, sym, ap, subst, ◌∙◌, arith}
-use Rattle.desk_verify.proofs.Common.{Int, Null, Row, Database, Has, is_number, is_word, Bytes, CommandList, Records, records, IsValid, RolloutRecord, limits_hold, IsWithinLimits, HoldsLedger, HoldsRecords, Ledger, ledger_of, member_row, members_from, rollout_row, told_rollout, Members, Rollouts, IsMember, HoldsTables, Tables, IsPart, held_rows, numbered, of_part, row_numbered, row_of, wanted_of, has_own_number, is_in_range, is_number_in, is_small, AgreesMembers, HasPlace, IsThere, IsHeldBy, target_limit, AreIds, member_ids}
+use Rattle.desk_verify.proofs.Common.{◌≡◌, ◌⊎◌, inl, inr, ◌≤◌, ◌<◌, ℕ, zero, suc, ◌+◌, pos, true, List, ◌∷◌, length, refl, sym, ap, subst, ◌∙◌, arith, Int, Null, Row, Database, Has, is_number, is_word, Bytes, CommandList, Records, records, IsValid, RolloutRecord, limits_hold, IsWithinLimits, HoldsLedger, HoldsRecords, Ledger, ledger_of, member_row, members_from, rollout_row, told_rollout, Members, Rollouts, IsMember, HoldsTables, Tables, IsPart, held_rows, numbered, of_part, row_numbered, row_of, wanted_of, has_own_number, is_in_range, is_number_in, is_small, AgreesMembers, HasPlace, IsThere, IsHeldBy, target_limit, AreIds, member_ids}
 
 abbrev pub members_in : RolloutRecord → List Bytes
 members_in x = x.members

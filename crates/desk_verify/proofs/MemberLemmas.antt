@@ -1,6 +1,5 @@
 -- What the reads of the table of members come to.
-use Rattle.std.proofs.Common.{◌≡◌, ℕ, true, List, length, Some, ◌∙◌, nat_eq}
-use Rattle.desk_verify.proofs.Common.{column, ListsPlaces, Members, Tables, PlacedMember, is_at, number_in_is, number_in_least, Decides, follow, AreAllChecked, IsChecked, AgreesMembers, IsInPlace, IsThere}
+use Rattle.desk_verify.proofs.Common.{◌≡◌, ℕ, true, List, length, Some, ◌∙◌, nat_eq, column, ListsPlaces, Members, Tables, PlacedMember, is_at, number_in_is, number_in_least, Decides, follow, AreAllChecked, IsChecked, AgreesMembers, IsInPlace, IsThere}
 use Rattle.desk_verify.proofs.Follow.{in_place}
 use Rattle.desk_verify.proofs.RolloutLemmas.{decided}
 

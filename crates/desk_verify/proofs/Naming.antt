@@ -1,6 +1,5 @@
 -- The first table that doesn't agree is named.
-use Rattle.std.proofs.Common.{◌<◌, ◌≤◌, ℕ, zero, suc, take, drop, slice_index_or, refl, arith}
-use Rattle.desk_verify.proofs.Common.{AllByRecursion, Tables, Agrees, NamesFirst, Passes, checked, Artifact}
+use Rattle.desk_verify.proofs.Common.{◌<◌, ◌≤◌, ℕ, zero, suc, take, drop, slice_index_or, refl, arith, AllByRecursion, Tables, Agrees, NamesFirst, Passes, checked, Artifact}
 
 pub first_named : (t : Tables) (i : ℕ) → i < 5 → AllByRecursion (Passes t) (take i checked) → (Agrees t (slice_index_or checked i Artifact) → ⊥) → NamesFirst t (slice_index_or checked i Artifact)
 first_named t zero few pass differs = record { before = take 0 checked; after = drop 1 checked; order = refl; pass = pass; differs = differs }

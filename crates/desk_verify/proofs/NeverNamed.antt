@@ -1,6 +1,5 @@
 -- A desk that holds the records of accepted commands is never told of a table.
-use Rattle.std.proofs.Common.{◌∷◌, inl, Option, Some, None, Result, Ok, Err, refl, sym, subst, arith}
-use Rattle.desk_verify.proofs.Common.{AllByRecursion, State, Has, all_has, has_right, Fault, Finds, records, ledger_of, HoldsTables, Tables, are_tables, rows_of, Agrees, IsDamage, NamesFirst, checked}
+use Rattle.desk_verify.proofs.Common.{◌∷◌, inl, Option, Some, None, Result, Ok, Err, refl, sym, subst, arith, AllByRecursion, State, Has, all_has, has_right, Fault, Finds, records, ledger_of, HoldsTables, Tables, are_tables, rows_of, Agrees, IsDamage, NamesFirst, checked}
 use Rattle.desk_verify.specs.Promises.{NamesNone, RecordsAgree}
 use Rattle.desk_verify.specs.declared.damage.CheckedTable.{CheckedTable}
 use Rattle.desk_verify.proofs.ActionLaw.{actions_agree}

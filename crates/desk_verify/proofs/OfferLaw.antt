@@ -1,6 +1,5 @@
 -- The table of offers agrees where records of accepted commands are held.
-use Rattle.std.proofs.Common.{◌≡◌, inl, inr, ◌≤◌, ℕ, zero, suc, pos, Bool, true, false, ◌∷◌, map, slice_get, nat_lt, is_none, Option, Some, None, true≢false, refl, sym, ap, subst, ◌∙◌, arith}
-use Rattle.desk_verify.proofs.Common.{and_from, and_parts, nat_tests, Int, Null, Row, Database, Has, has_filtered, has_got, has_kept, some_from, some_has, is_word, Offer, item_numbered, CommandList, Bytes, holds_position, IsOfMember, records, IsValid, ActionRecord, RolloutRecord, actions_follow_members, same_refl, same_true, action_row, actor_of, tally_of, told_action, number_in, HoldsRecords, ledger_of, stored_action, Offers, IsAction, IsGroup, IsOffer, HoldsTables, Tables, StoredAction, held_rows, row_of, wanted_of, has_mapped, map_has, has_own_number, holds_started, is_started_at, AgreesOffers, HasNumberedAction, IsDue, IsInStartedGroup, IsOffered, IsRightOffer, TargetOffer, offer_to, offer, has_started, offered_one, HoldsOffers, is_to, offer_row}
+use Rattle.desk_verify.proofs.Common.{◌≡◌, inl, inr, ◌≤◌, ℕ, zero, suc, pos, Bool, true, false, ◌∷◌, map, slice_get, nat_lt, is_none, Option, Some, None, true≢false, refl, sym, ap, subst, ◌∙◌, arith, and_from, and_parts, nat_tests, Int, Null, Row, Database, Has, has_filtered, has_got, has_kept, some_from, some_has, is_word, Offer, item_numbered, CommandList, Bytes, holds_position, IsOfMember, records, IsValid, ActionRecord, RolloutRecord, actions_follow_members, same_refl, same_true, action_row, actor_of, tally_of, told_action, number_in, HoldsRecords, ledger_of, stored_action, Offers, IsAction, IsGroup, IsOffer, HoldsTables, Tables, StoredAction, held_rows, row_of, wanted_of, has_mapped, map_has, has_own_number, holds_started, is_started_at, AgreesOffers, HasNumberedAction, IsDue, IsInStartedGroup, IsOffered, IsRightOffer, TargetOffer, offer_to, offer, has_started, offered_one, HoldsOffers, is_to, offer_row}
 use Rattle.rollout_machine.proofs.AtNumbers.{has_place}
 use Rattle.rollout_machine.proofs.Meanings.{is_candidate, least_offer, none_from}
 use Rattle.offer_laws.proofs.AnyGroup.{started_by_any}

@@ -1,6 +1,5 @@
 -- What the reads of the tables of offers, actions and groups come to.
-use Rattle.std.proofs.Common.{◌≡◌, ℕ, Bool, true, false, List, is_none, is_some, length, Option, Some, None, true≢false, refl, sym, ap, subst, ◌∙◌, pos}
-use Rattle.desk_verify.proofs.Common.{AllByRecursion, and_from, and_parts, Row, column, has_rowid, Has, all_from, all_has, some_from, some_has, Offer, Bytes, holds_position, Outcome, GroupRecord, same_refl, FindsOne, has_at, has_text_at, Actions, Groups, Offers, IsAction, IsOffer, Tables, OwnedOffer, ListedAction, StoredAction, StoredRollout, is_at, number_in_is, number_in_least, number_is, one_number, ListsRows, SaysAction, SaysGroup, SaysNumbered, SaysOffer, SaysOfferOf, any_row, Decides, Fits, IsRight, IsRowOffered, IsOfferedIfDue, holds_started, is_due, is_started_at, AgreesOffers, HasNumberedAction, IsDue, IsInStartedGroup, IsOffered, IsRightOffer, HasRollout, IsChecked, JudgesAll, IsThere}
+use Rattle.desk_verify.proofs.Common.{◌≡◌, ℕ, Bool, true, false, List, is_none, is_some, length, Option, Some, None, true≢false, refl, sym, ap, subst, ◌∙◌, pos, AllByRecursion, and_from, and_parts, Row, column, has_rowid, Has, all_from, all_has, some_from, some_has, Offer, Bytes, holds_position, Outcome, GroupRecord, same_refl, FindsOne, has_at, has_text_at, Actions, Groups, Offers, IsAction, IsOffer, Tables, OwnedOffer, ListedAction, StoredAction, StoredRollout, is_at, number_in_is, number_in_least, number_is, one_number, ListsRows, SaysAction, SaysGroup, SaysNumbered, SaysOffer, SaysOfferOf, any_row, Decides, Fits, IsRight, IsRowOffered, IsOfferedIfDue, holds_started, is_due, is_started_at, AgreesOffers, HasNumberedAction, IsDue, IsInStartedGroup, IsOffered, IsRightOffer, HasRollout, IsChecked, JudgesAll, IsThere}
 use Rattle.desk_verify.proofs.Counting.{is_within}
 use Rattle.desk_verify.proofs.GroupLemmas.{one_group}
 use Rattle.desk_verify.proofs.OneRow.{one_action, one_in, one_text}

@@ -1,7 +1,6 @@
 -- A row says one thing.
-use Rattle.std.proofs.Common.{◌≡◌, Option, Some, sym, ◌∙◌}
+use Rattle.desk_verify.proofs.Common.{◌≡◌, Option, Some, sym, ◌∙◌, Text, Row, column, Bytes, IsActionRow, action_shown, StoredAction, one_number}
 use Rattle.sqlite_value.specs.declared.value.Value.{Value}
-use Rattle.desk_verify.proofs.Common.{Text, Row, column, Bytes, IsActionRow, action_shown, StoredAction, one_number}
 
 pub one_in : {X : Type 0} (read : Option X) (x y : X) → read ≡ Some x → read ≡ Some y → x ≡ y
 one_in read x y is other = let same : Some x ≡ Some y = sym is ∙ other in cc

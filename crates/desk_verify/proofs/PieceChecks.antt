@@ -1,6 +1,5 @@
 -- What is found at the places of an artifact, one after the other.
-use Rattle.std.proofs.Common.{◌≡◌, ◌≤◌, ◌<◌, ◌⊎◌, inl, inr, ◌++◌, ℕ, zero, suc, ◌+◌, ◌-◌, ◌*◌, List, [], ◌∷◌, length, map, slice_get, get_or, min, drop, Vec, vec_items, Some, None, refl, sym, ap, ap₂, subst, ◌∙◌, arith, length-append}
-use Rattle.desk_verify.proofs.Common.{Global, Blob, Row, Has, digest_of, piece_count, Bytes, ArePieces, pieces_in, Pieces, Tables, count_pieces, count_whole, nth_piece, one_more, same_contents, HashesPieces, IsHashed, HasPieces, length-drop, length-take, piece_length}
+use Rattle.desk_verify.proofs.Common.{◌≡◌, ◌≤◌, ◌<◌, ◌⊎◌, inl, inr, ◌++◌, ℕ, zero, suc, ◌+◌, ◌-◌, ◌*◌, List, [], ◌∷◌, length, map, slice_get, get_or, min, drop, Vec, vec_items, Some, None, refl, sym, ap, ap₂, subst, ◌∙◌, arith, length-append, Global, Blob, Row, Has, digest_of, piece_count, Bytes, ArePieces, pieces_in, Pieces, Tables, count_pieces, count_whole, nth_piece, one_more, same_contents, HashesPieces, IsHashed, HasPieces, length-drop, length-take, piece_length}
 use Rattle.std.proofs.lemmas.Grind.{div_ceil_times}
 use Rattle.std.proofs.lemmas.Option.{slice_get_cases, slice_get_within}
 use Rattle.sha2.specs.Hashers.{Holds256}

@@ -1,6 +1,5 @@
 -- The plans of accepted commands: each is well formed, and leaves no group of its members empty.
-use Rattle.std.proofs.Common.{◌≡◌, ◌≤◌, ◌<◌, ℕ, zero, suc, ◌+◌, ◌^◌, pos, true, false, List, [], ◌∷◌, length, nat_lt, slice_get, Some, None, refl, sym, ap, subst, ◌∙◌, arith}
-use Rattle.desk_verify.proofs.Common.{option_map, and_parts, eqb-true, leb-true, nat_tests, Int, define_each, is_grouping, is_percentage, item_numbered, CommandList, CreateRollout, RolloutPlan, GroupRule, rule_at, rules_of, GroupDefinition, leaves_empty, IsValid, RolloutRecord, length_each, each_created, made, percentage_in, told_rule, HaveRules, definitions_in, grouping_of, percentage_limit, is_plan, each_rule, IsRuleRow}
+use Rattle.desk_verify.proofs.Common.{◌≡◌, ◌≤◌, ◌<◌, ℕ, zero, suc, ◌+◌, true, false, List, [], ◌∷◌, length, slice_get, Some, None, refl, sym, ap, subst, ◌∙◌, arith, option_map, and_parts, eqb-true, define_each, is_grouping, item_numbered, CommandList, CreateRollout, RolloutPlan, GroupRule, rule_at, rules_of, GroupDefinition, leaves_empty, IsValid, RolloutRecord, length_each, each_created, made, told_rule, HaveRules, definitions_in, grouping_of, is_plan, each_rule, IsRuleRow}
 use Rattle.rollout_machine.specs.Rollouts.{Rollout, members_of, size_of}
 use Rattle.rollout_machine.specs.Ranges.{each_from}
 use Rattle.rollout_machine.specs.Records.{records}

@@ -1,6 +1,5 @@
 -- The tables of actions, histories, offers and numbers can be read where records of accepted commands are held that can be counted.
-use Rattle.std.proofs.Common.{◌≡◌, inl, inr, ◌≤◌, ◌<◌, ◌^◌, ℕ, zero, suc, pos, true, List, [], ◌∷◌, length, map, slice_get, unwrap_or, zip, Option, Some, None, refl, sym, ap, subst, ◌∙◌, arith}
-use Rattle.desk_verify.proofs.Common.{item_numbered, CommandList, IsValid, length-map, count_by-le-length, length-filter, list_all, is_some, option_or, has_got, has_kept, test_has, Has, Row, column, Int, actions_follow_members, offered_one, same_refl, limits_hold, is_feedback_number_or_none, Bytes, TargetOffer, offer_to, IsOfMember, offer, records, HistoryEntry, entries_in, member_at, AreWithinLimits, IsWithinLimits, ActionRecord, is_feedback_number, is_number, is_word, Offer, has_place, place_within, has_mapped, is_in_range, is_number_in, Tally, action_row, actor_of, entries_of, entry_row, history_of, tally_of, told_entry, has_size, feedback_number_in, first_broken, number_in, place_in, BreaksEntry, broken_word, keeps_details, HoldsOffers, is_to, offer_row, IsActionRow, broken_action_column, broken_listed_action_column, broken_offer_column, stored_action, Actions, Feedbacks, Numbers, Offers, action_shown, number_shown, offer_shown, Column, PlacedNumber, StoredAction, BreaksColumn, placed_shown, AreCounted, member_ids}
+use Rattle.desk_verify.proofs.Common.{◌≡◌, inl, inr, ◌≤◌, ◌<◌, ◌^◌, ℕ, suc, pos, true, List, [], ◌∷◌, length, map, slice_get, unwrap_or, zip, Option, Some, None, refl, sym, ap, subst, ◌∙◌, arith, CommandList, IsValid, length-map, count_by-le-length, length-filter, list_all, is_some, option_or, has_got, has_kept, test_has, Has, Row, column, Int, actions_follow_members, offered_one, same_refl, limits_hold, is_feedback_number_or_none, Bytes, TargetOffer, offer_to, IsOfMember, offer, records, HistoryEntry, entries_in, member_at, AreWithinLimits, IsWithinLimits, ActionRecord, is_feedback_number, is_number, is_word, Offer, has_place, place_within, has_mapped, is_in_range, is_number_in, Tally, action_row, actor_of, entries_of, entry_row, history_of, tally_of, told_entry, has_size, feedback_number_in, first_broken, number_in, place_in, BreaksEntry, broken_word, keeps_details, HoldsOffers, is_to, offer_row, IsActionRow, broken_action_column, broken_listed_action_column, broken_offer_column, stored_action, Actions, Feedbacks, Numbers, Offers, action_shown, number_shown, offer_shown, Column, PlacedNumber, StoredAction, BreaksColumn, placed_shown, AreCounted, member_ids}
 use Rattle.rollout_machine.specs.Verdicts.{is_note, notes_of}
 use Rattle.desk_records.specs.FeedbackNumbers.{number_row, numbers_of}
 use Rattle.desk_records.specs.NumberRow.{broken_last_number_column, broken_number_column}

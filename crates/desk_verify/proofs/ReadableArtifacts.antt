@@ -1,6 +1,5 @@
 -- The tables of modules, sets and artifacts can be read where records of accepted commands are held.
-use Rattle.std.proofs.Common.{◌≡◌, inl, inr, ◌<◌, ◌^◌, ◌&&◌, List, [], ◌∷◌, subst, ℕ, suc, pos, Bool, true, slice_get, Some, None, true≢false, refl, sym, ap, ◌∙◌, arith}
-use Rattle.desk_verify.proofs.Common.{and_parts, CommandList, IsValid, All-contains, list_all, contains_had, has_got, test_has, limits_hold, Bytes, ModuleLabel, SetLabel, ArtifactRecord, records, are_distinct_numbers, is_digest, is_module_list, is_number, is_text, place_within, is_in_range, is_small, IsWhole, KeepsRules, all_keep, all_whole, digest_is_one, broken_artifact_column, broken_stored_column, artifact_row, piece_row, pieces_in, desk_row, module_row, Artifacts, Desk, Modules, Pieces, SetModules, Sets, artifact_shown, listed_shown, BreaksColumn, label_shown, third_shown, Has, Row, Int}
+use Rattle.desk_verify.proofs.Common.{◌≡◌, inl, inr, ◌<◌, ◌^◌, ◌&&◌, List, [], ◌∷◌, subst, ℕ, suc, pos, Bool, true, slice_get, Some, None, true≢false, refl, sym, ap, ◌∙◌, arith, and_parts, CommandList, IsValid, All-contains, list_all, contains_had, has_got, test_has, limits_hold, Bytes, ModuleLabel, SetLabel, ArtifactRecord, records, are_distinct_numbers, is_digest, is_module_list, is_number, is_text, place_within, is_in_range, is_small, IsWhole, KeepsRules, all_keep, all_whole, digest_is_one, broken_artifact_column, broken_stored_column, artifact_row, piece_row, pieces_in, desk_row, module_row, Artifacts, Desk, Modules, Pieces, SetModules, Sets, artifact_shown, listed_shown, BreaksColumn, label_shown, third_shown, Has, Row, Int}
 use Rattle.desk_records.specs.ModuleRow.{broken_column}
 use Rattle.desk_records.specs.SetRow.{broken_set_column}
 use Rattle.desk_records.specs.Sets.{place_row, set_row}

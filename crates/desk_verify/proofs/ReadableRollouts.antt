@@ -1,6 +1,5 @@
 -- The tables of rollouts, groups and rules can be read where records of accepted commands are held.
-use Rattle.std.proofs.Common.{◌≡◌, inl, inr, ◌≤◌, ◌<◌, ◌&&◌, ℕ, suc, ◌+◌, ◌-◌, pos, true, List, ◌∷◌, length, map, slice_get, Some, None, refl, sym, ap, subst, arith}
-use Rattle.desk_verify.proofs.Common.{and_parts, numbered_each, CommandList, IsValid, RolloutRecord, has_got, Row, Int, groups_are_counted, grouping_is_cut, limits_hold, HasCountedGroups, IsCountedGroup, GroupRule, rule_at, rules_of, last_by, IsCut, records, IsWithinLimits, Bounds, GroupRecord, is_grouping, is_number, is_percentage, is_text, has_place, place_within, has_mapped, is_number_in, IsRolloutRow, broken_group_column, broken_rollout_column, stored_rollout, group_row, rollout_row, rule_row, told_rollout, told_rule, IsRuleRow, broken_rule_column, Groups, Rollouts, Rules, group_shown, rollout_shown, rule_shown, StoredRollout, BreaksColumn}
+use Rattle.desk_verify.proofs.Common.{◌≡◌, inl, inr, ◌≤◌, ◌<◌, ◌&&◌, ℕ, suc, ◌+◌, ◌-◌, pos, true, List, ◌∷◌, length, map, slice_get, Some, None, refl, sym, ap, subst, arith, and_parts, numbered_each, CommandList, IsValid, RolloutRecord, has_got, Row, Int, groups_are_counted, grouping_is_cut, limits_hold, HasCountedGroups, IsCountedGroup, GroupRule, rule_at, rules_of, last_by, IsCut, records, IsWithinLimits, Bounds, GroupRecord, is_grouping, is_number, is_percentage, is_text, has_place, place_within, has_mapped, is_number_in, IsRolloutRow, broken_group_column, broken_rollout_column, stored_rollout, group_row, rollout_row, rule_row, told_rollout, told_rule, IsRuleRow, broken_rule_column, Groups, Rollouts, Rules, group_shown, rollout_shown, rule_shown, StoredRollout, BreaksColumn}
 use Rattle.std.specs.Str.{is_utf8}
 use Rattle.desk_verify.proofs.CodeLemmas.{approval_is, flag_is, group_count_is, is_sized, kept_group, percentage_is}
 use Rattle.desk_verify.proofs.PlanLaw.{IsPlanned, plans_are, rule_told}

@@ -1,14 +1,6 @@
 -- What the rows of a table are made of where a ledger is held, and when a row breaks no column.
-use Rattle.std.proofs.Common.{◌≡◌, inl, inr, ℕ, suc, pos, Bool, true, false, List, [], ◌∷◌, map, slice_get, Option, Some, None, true≢false, refl, sym, ap, subst, ◌∙◌, arith}
-use Rattle.desk_verify.proofs.Common.{Records, ledger_of, IsHeld, flat_map, has_either, Has, Row, Int, IsHeldBy, rows_from, numbered, of_part, wanted_of, has_mapped, parts_from, Place, Column, BreaksColumn}
+use Rattle.desk_verify.proofs.Common.{◌≡◌, ℕ, suc, pos, Bool, true, false, List, ◌∷◌, map, slice_get, Option, Some, None, true≢false, sym, ap, subst, ◌∙◌, arith, Records, ledger_of, IsHeld, flat_map, Has, Row, Int, IsHeldBy, rows_from, numbered, of_part, wanted_of, has_mapped, parts_from, Place, Column, BreaksColumn, has_flat}
 use Rattle.desk_records.specs.RowFaults.{BreaksRule}
-
-has_flat : {X Y : Type 0} (f : X → List Y) (xs : List X) (y : Y) → Has (flat_map f xs) y → (x : X) × Has xs x × Has (f x) y
-has_flat f [] y among = absurd among
-has_flat f (x ∷ xs) y among = elim (has_either (f x) (flat_map f xs) y among) [
-  | inl here ↦ (x, inl refl, here)
-  | inr later ↦ (let it = has_flat f xs y later in (it.0, inr it.1, it.2))
-]
 
 -- ---- what is so of each row
 

@@ -1,6 +1,5 @@
 -- The tables of targets and members can be read where records of accepted commands are held.
-use Rattle.std.proofs.Common.{◌≡◌, inl, inr, ◌<◌, ◌^◌, ℕ, pos, List, [], ◌∷◌, length, None, refl, arith}
-use Rattle.desk_verify.proofs.Common.{and_parts, CommandList, IsValid, RolloutRecord, ledger_of, IsHeld, length-map, has_got, test_has, Has, Row, Int, Text, limits_hold, Attribute, Bytes, records, is_value, is_word, member_row, Members, TargetAttributes, TargetTags, Targets, BreaksColumn, second_shown, third_shown, member_ids}
+use Rattle.desk_verify.proofs.Common.{◌≡◌, inl, inr, ◌<◌, ◌^◌, ℕ, pos, List, [], ◌∷◌, length, None, refl, arith, and_parts, CommandList, IsValid, RolloutRecord, ledger_of, IsHeld, length-map, has_got, test_has, Has, Row, Int, Text, limits_hold, Attribute, Bytes, records, is_value, is_word, member_row, Members, TargetAttributes, TargetTags, Targets, BreaksColumn, second_shown, third_shown, member_ids}
 use Rattle.rollout_machine.specs.Targets.{Target}
 use Rattle.sql_calls.proofs.Counts.{length_held}
 use Rattle.rollout_model.specs.Pairs.{is_attribute}

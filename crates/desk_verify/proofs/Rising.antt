@@ -1,6 +1,5 @@
 -- Lists whose numbers rise.
-use Rattle.std.proofs.Common.{◌≡◌, ◌⊎◌, inl, inr, ◌<◌, ℕ, true, List, [], ◌∷◌, map, nat_lt, sym, ap, ◌∙◌, arith}
-use Rattle.desk_verify.proofs.Common.{and_parts, nat_tests, Has, rise}
+use Rattle.desk_verify.proofs.Common.{◌≡◌, ◌⊎◌, inl, inr, ◌<◌, ℕ, true, List, [], ◌∷◌, map, nat_lt, sym, ap, ◌∙◌, arith, and_parts, nat_tests, Has, rise}
 
 module _ {X : Type 0} (f : X → ℕ) where
   -- each is greater than the one that they rise from

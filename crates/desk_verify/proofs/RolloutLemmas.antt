@@ -1,6 +1,5 @@
 -- The loop over the rollouts, and what it comes to.
-use Rattle.std.proofs.Common.{◌≡◌, ◌≤◌, ℕ, suc, ◌+◌, Bool, true, false, length, true≢false, refl, sym, subst, ◌∙◌, arith, nat_eq}
-use Rattle.desk_verify.proofs.Common.{nat_tests, Row, Has, has_at, Place, Tables, StoredRollout, Settles, AreAllChecked, AreChecked, IsChecked, HasRollout, IsThere}
+use Rattle.desk_verify.proofs.Common.{◌≡◌, ◌≤◌, ℕ, suc, ◌+◌, Bool, true, false, length, true≢false, refl, sym, subst, ◌∙◌, arith, nat_eq, nat_tests, Row, Has, has_at, Place, Tables, StoredRollout, Settles, AreAllChecked, AreChecked, IsChecked, HasRollout, IsThere}
 use Rattle.desk_verify.proofs.Counting.{all_judged, is_within, judged_all, more_judged, none_judged}
 
 pub rollout_there : (t : Tables) (number : ℕ) (rollout : StoredRollout) → HasRollout t number rollout → IsThere t number

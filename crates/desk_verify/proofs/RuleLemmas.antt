@@ -1,7 +1,5 @@
 -- What is said of the groups of a rollout, and how it is cut by that.
-use Rattle.std.proofs.Common.{◌≡◌, ◌≤◌, ℕ, suc, ◌+◌, Bool, true, false, cond, List, [], ◌∷◌, ◌++◌, length, Some, None, refl, sym, ap, subst, ◌∙◌, arith}
-use Rattle.desk_verify.proofs.Common.{and_parts, leb-true, Row, column, has_rowid, Grouping, is_grouping, GroupRule, percentage_in, percentage_or_none_in, IsOnly, Rollouts, IsRollout, Tables, StoredRollout, SaysRule, HasGroupCount, HasRule, HaveRules, definitions_in, grouping_of, grouping_with, IsUnreadable, no_grouping, HasOnlyRule, HaveOnlyRules, IsCutOnlyBy, IsGroupCount, IsCutBy, HasRollout}
-use Rattle.std.specs.Prelude.{pos}
+use Rattle.desk_verify.proofs.Common.{◌≡◌, ◌≤◌, ℕ, suc, ◌+◌, Bool, true, false, cond, List, [], ◌∷◌, ◌++◌, length, Some, None, refl, sym, ap, subst, ◌∙◌, arith, pos, and_parts, leb-true, Row, column, has_rowid, Grouping, is_grouping, GroupRule, percentage_in, percentage_or_none_in, IsOnly, Rollouts, IsRollout, Tables, StoredRollout, SaysRule, HasGroupCount, HasRule, HaveRules, definitions_in, grouping_of, grouping_with, IsUnreadable, no_grouping, HasOnlyRule, HaveOnlyRules, IsCutOnlyBy, IsGroupCount, IsCutBy, HasRollout}
 use Rattle.rollout_model.specs.declared.group_definition.GroupDefinition.{GroupDefinition}
 use Rattle.desk_verify.proofs.OneRow.{one_in}
 

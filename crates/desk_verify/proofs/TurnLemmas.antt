@@ -1,6 +1,5 @@
 -- Members and actions, each in its turn.
-use Rattle.std.proofs.Common.{◌≡◌, ◌⊎◌, inl, inr, ◌<◌, ℕ, ◌+◌, true, List, [], ◌∷◌, length, map, nat_eq, refl, sym, ap, ◌∙◌, arith}
-use Rattle.desk_verify.proofs.Common.{pointwise, and_from, and_parts, Decides-eqb, nat_tests, slice_eq-Decides, Has, PlacedMember, ListedAction, rise, are_for, count_on, is_each_for, is_for, numbers_rise}
+use Rattle.desk_verify.proofs.Common.{◌≡◌, ◌⊎◌, inl, inr, ◌<◌, ℕ, ◌+◌, true, List, [], ◌∷◌, length, map, nat_eq, refl, sym, ap, ◌∙◌, arith, pointwise, and_from, and_parts, Decides-eqb, nat_tests, slice_eq-Decides, Has, PlacedMember, ListedAction, rise, are_for, count_on, is_each_for, is_for, numbers_rise}
 use Rattle.desk_verify.proofs.Rising.{above, rest_rises}
 
 -- ---- a member and its action

@@ -1,8 +1,6 @@
 -- From actions that were read to what is shown of them.
-use Rattle.std.proofs.Common.{◌≡◌, ◌<◌, ℕ, zero, suc, ◌+◌, nat_eq, Bool, true, false, not, cond, List, [], ◌∷◌, ◌++◌, map, get_or, length, take, drop, Option, Some, None, inl, inr, refl, sym, ap, ◌∙◌, add-one, arith}
-use Rattle.desk_views.proofs.Common.{cases_lt, nat_tests, length-map, length-take-le, map-append, take_all, take_more, zip, is_some, option_map, action_if, if_found, item_numbered, same_bytes, Bytes, action_shown, actions_of_rollout, actions_of_target, actions_where, group_of_action, page_of, Records, ActionShown, Refused, ShownAction, Page, group_holding, group_is_started, is_for, is_started_in, member_at, number_of_group, ActionRecord, GroupRecord, RolloutRecord, NotFound, Tally, tally_of, parts_of, actions_for, actions_of, listed_where, stored_action, ListedAction, StoredAction, listed_shown, shown_among, stored_in}
+use Rattle.desk_views.proofs.Common.{◌≡◌, ◌<◌, ℕ, zero, suc, ◌+◌, nat_eq, Bool, true, false, not, cond, List, [], ◌∷◌, ◌++◌, map, get_or, length, take, drop, Option, Some, None, inl, inr, refl, sym, ap, ◌∙◌, add-one, arith, slice_get, cases_lt, nat_tests, length-map, length-take-le, map-append, take_all, take_more, zip, is_some, option_map, action_if, if_found, item_numbered, same_bytes, Bytes, action_shown, actions_of_rollout, actions_of_target, actions_where, group_of_action, page_of, Records, ActionShown, Refused, ShownAction, Page, group_holding, group_is_started, is_for, is_started_in, member_at, number_of_group, ActionRecord, GroupRecord, RolloutRecord, NotFound, Tally, tally_of, parts_of, actions_for, actions_of, listed_where, stored_action, ListedAction, StoredAction, listed_shown, shown_among, stored_in}
 use Rattle.rollout_machine.specs.Replies.{Reply}
-use Rattle.std.specs.Prelude.{slice_get}
 use Rattle.campaign_core.specs.StatusWords.{action_word_from}
 use Rattle.desk_views.proofs.ArtifactViews.{turned}
 use Rattle.desk_views.proofs.GroupViews.{part_mapped}

@@ -1,7 +1,5 @@
 -- From typed reads of artifacts to what is shown.
-use Rattle.std.proofs.Common.{◌≡◌, ℕ, zero, suc, ◌+◌, nat_eq, Bool, true, false, not, cond, List, [], ◌∷◌, ◌++◌, map, length, take, drop, Option, Some, None, refl, sym, ap, ◌∙◌, append-nil, arith, add-one}
-use Rattle.desk_views.proofs.Common.{take-nil, nat_tests, flat_map, is_some, option_map, pieces_of_artifact, artifact_if, artifact_of_module, if_found, query_reply, item_numbered, Bytes, ModuleLabel, artifact_shown, page_of, ArtifactRecord, Records, Artifact, Refused, ArtifactsShown, ArtifactShown, ContentsShown, Page, ShowArtifact, listed, reply_of, NotFound, Reply, contents_found, flat_map-append, piece_bytes, pieces_of, stored, StoredArtifact}
-use Rattle.std.specs.Prelude.{slice_get}
+use Rattle.desk_views.proofs.Common.{◌≡◌, ℕ, zero, suc, ◌+◌, nat_eq, Bool, true, false, not, cond, List, [], ◌∷◌, ◌++◌, map, length, take, drop, Option, Some, None, refl, sym, ap, ◌∙◌, append-nil, arith, add-one, slice_get, take-nil, nat_tests, flat_map, is_some, option_map, pieces_of_artifact, artifact_if, artifact_of_module, if_found, query_reply, item_numbered, Bytes, ModuleLabel, artifact_shown, page_of, ArtifactRecord, Records, Artifact, Refused, ArtifactsShown, ArtifactShown, ContentsShown, Page, ShowArtifact, listed, reply_of, NotFound, Reply, contents_found, flat_map-append, piece_bytes, pieces_of, stored, StoredArtifact}
 use Rattle.artifact_pieces.proofs.PieceLemmas.{pieces_make_the_whole}
 use Rattle.rollout_machine.specs.Replies as shown
 use Rattle.rollout_model.specs.declared.page.PageOf.{PageOf}

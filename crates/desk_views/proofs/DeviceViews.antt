@@ -1,7 +1,5 @@
 -- From typed reads to what a device is shown.
-use Rattle.std.proofs.Common.{◌≡◌, inl, inr, IfOk, ℕ, zero, suc, ◌+◌, Bool, true, false, cond, ◌&&◌, nat_eq, List, [], ◌∷◌, ◌++◌, map, find, Option, Some, None, Result, Ok, Err, refl, sym, ap, subst, ◌∙◌, arith, append_assoc, append-nil}
-use Rattle.desk_views.proofs.Common.{map-append, list_any, zip, option_map, tally_of, stored_action, stored_rollout, StoredAction, artifact_named, for_device, if_found, is_offer_of, modules_offered, query_reply, item_numbered, same_bytes, Bytes, Credential, artifact_shown, artifacts_shown, chunks_of, chunks_of_module, modules_of_action, modules_of_rollout, modules_of_set, Offer, offer, ArtifactRecord, Records, ActionRecord, RolloutRecord, Artifact, ContentsShown, Refused, Download, is_known, chunk, same_true, NotFound, Unauthorized, contents_found, downloadable, named, or_not_found, IsOfName, Has}
-use Rattle.std.specs.Prelude.{slice_get}
+use Rattle.desk_views.proofs.Common.{◌≡◌, inl, inr, IfOk, ℕ, zero, suc, ◌+◌, Bool, true, false, cond, ◌&&◌, nat_eq, List, [], ◌∷◌, ◌++◌, map, find, Option, Some, None, Result, Ok, Err, refl, sym, ap, subst, ◌∙◌, arith, append_assoc, append-nil, slice_get, map-append, list_any, zip, option_map, tally_of, stored_action, stored_rollout, StoredAction, artifact_named, for_device, if_found, is_offer_of, modules_offered, query_reply, item_numbered, same_bytes, Bytes, Credential, artifact_shown, artifacts_shown, chunks_of, chunks_of_module, modules_of_action, modules_of_rollout, modules_of_set, Offer, offer, ArtifactRecord, Records, ActionRecord, RolloutRecord, Artifact, ContentsShown, Refused, Download, is_known, chunk, same_true, NotFound, Unauthorized, contents_found, downloadable, named, or_not_found, IsOfName, Has}
 use Rattle.desk_records.specs.Tables.{Tables}
 use Rattle.desk_records.specs.declared.rollout_row.StoredRollout.{StoredRollout}
 use Rattle.rollout_machine.specs.Replies as shown

@@ -1,6 +1,5 @@
 -- Why the actions of a list and their histories can be counted.
-use Rattle.std.proofs.Common.{◌≡◌, ◌≤◌, ◌^◌, ◌+◌, ℕ, pos, zero, suc, Bool, true, false, cond, nat_lt, List, [], ◌∷◌, ◌++◌, length, map, take, drop, slice_get, Option, Some, None, inl, inr, refl, sym, ap, subst, arith}
-use Rattle.desk_views.proofs.Common.{zip, is_some, length-drop, length-map, length-take, nat_tests, Has, HistoryEntry, Reported, limits_hold, Tally, action_row, history_of, tally_of, has_size, ledger_of, broken_action_column, listed_where, stored_action, ListedAction, has_word, IsReadable, item_numbered, Records, ActionRecord, RolloutRecord, AreOfList}
+use Rattle.desk_views.proofs.Common.{◌≡◌, ◌≤◌, ◌^◌, ◌+◌, ℕ, pos, zero, suc, Bool, true, false, cond, nat_lt, List, [], ◌∷◌, ◌++◌, length, map, take, drop, slice_get, Option, Some, None, inl, inr, refl, sym, ap, subst, arith, zip, is_some, length-drop, length-map, length-take, nat_tests, Has, HistoryEntry, Reported, limits_hold, Tally, action_row, history_of, tally_of, has_size, ledger_of, broken_action_column, listed_where, stored_action, ListedAction, has_word, IsReadable, item_numbered, Records, ActionRecord, RolloutRecord, AreOfList}
 use Rattle.sqlite_value.specs.declared.value.Value.TheVariants.{Int}
 use Rattle.sqlite_value.specs.Order.{Row, column}
 use Rattle.sql_calls.specs.Keyed.{rows_from}

@@ -1,6 +1,5 @@
 -- Why the groups of a rollout of a list can be shown.
-use Rattle.std.proofs.Common.{◌≡◌, ◌≤◌, ◌<◌, ◌^◌, ◌⊎◌, ◌+◌, ℕ, zero, suc, nat_eq, Bool, true, false, cond, List, [], ◌∷◌, length, take, drop, Option, Some, None, inl, inr, refl, sym, ap, subst, ◌∙◌, arith}
-use Rattle.desk_views.proofs.Common.{Has, group_in, Records, Rollout, size_in, size_of, limits_hold, ledger_of, groups_of, rule_numbered, rules_numbered, rule_there, rules_there, BothOrNone, item_numbered, GroupRule, rules_of, group_numbered, size_of_group, GroupRecord, RolloutRecord, parts_of, groups_are, made, AreOfList, IsSeenOf, SeenRollout, HasUnshown, IsGroupOf}
+use Rattle.desk_views.proofs.Common.{◌≡◌, ◌≤◌, ◌<◌, ◌^◌, ◌⊎◌, ◌+◌, ℕ, zero, suc, nat_eq, Bool, true, false, cond, List, [], ◌∷◌, length, take, drop, Option, Some, None, inl, inr, refl, sym, ap, subst, ◌∙◌, arith, Has, group_in, Records, Rollout, size_in, size_of, limits_hold, ledger_of, groups_of, rule_numbered, rules_numbered, rule_there, rules_there, BothOrNone, item_numbered, GroupRule, rules_of, group_numbered, size_of_group, GroupRecord, RolloutRecord, parts_of, groups_are, made, AreOfList, IsSeenOf, SeenRollout, HasUnshown, IsGroupOf, has_dropped, has_taken}
 use Rattle.rollout_machine.specs.Effects.{HasSoundPlan}
 use Rattle.rollout_machine.specs.Ranges.{each_from}
 use Rattle.rollout_machine.specs.WithinLimits.{IsWithinLimits}
@@ -20,17 +19,6 @@ numbered_has i (y ∷ gs) g is = go (nat_eq y.number i) is (numbered_has i gs g)
     go : (b : Bool) → Some g ≡ cond b (Some y) (group_numbered i gs) → (Some g ≡ group_numbered i gs → Has gs g) → (g ≡ y) ⊎ Has gs g
     go true is rest = inl (cc)
     go false is rest = inr (rest is)
-
-has_dropped : {X : Type 0} (n : ℕ) (xs : List X) (x : X) → Has (drop n xs) x → Has xs x
-has_dropped zero xs x among = among
-has_dropped (suc n) [] x among = among
-has_dropped (suc n) (y ∷ xs) x among = inr (has_dropped n xs x among)
-
-has_taken : {X : Type 0} (n : ℕ) (xs : List X) (x : X) → Has (take n xs) x → Has xs x
-has_taken zero xs x among = absurd among
-has_taken (suc n) [] x among = among
-has_taken (suc n) (y ∷ xs) x (inl same) = inl same
-has_taken (suc n) (y ∷ xs) x (inr among) = inr (has_taken n xs x among)
 
 -- ---- the groups of a rollout
 

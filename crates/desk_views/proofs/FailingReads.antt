@@ -1,6 +1,5 @@
 -- Why reads of modules, sets, artifacts and targets of a list of accepted commands are no failed stores by themselves.
-use Rattle.std.proofs.Common.{◌≡◌, ◌≤◌, ◌<◌, ◌+◌, ◌*◌, ◌^◌, ◌≢◌, ◌⊎◌, inl, inr, ℕ, suc, nat_eq, Bool, true, false, cond, List, [], ◌∷◌, map, length, take, drop, Option, Some, None, Result, Err, refl, sym, ap, ◌∙◌, arith}
-use Rattle.desk_views.proofs.Common.{false≢true, length-map, length-take, option_map, IsSome, listed_target, Target, artifact_if, artifact_of_module, artifact_shown, artifacts_shown, modules_of_set, item_numbered, ArtifactRecord, Records, Artifact, SetLabel, AreOfList, Fault, contents_found, IsErrAnd, div_ceil_times, err_from_is_err_and, artifact_size_limit, piece_length, is_contents, is_module_list, number_of, stored, piece_numbered, called, StoredArtifact, ListedTarget, SetName}
+use Rattle.desk_views.proofs.Common.{◌≡◌, ◌≤◌, ◌<◌, ◌+◌, ◌*◌, ◌^◌, ◌≢◌, ◌⊎◌, inl, inr, ℕ, suc, nat_eq, Bool, true, false, cond, List, [], ◌∷◌, map, length, take, drop, Option, Some, None, Result, Err, refl, sym, ap, ◌∙◌, arith, false≢true, length-map, length-take, option_map, IsSome, listed_target, Target, artifact_if, artifact_of_module, artifact_shown, artifacts_shown, modules_of_set, item_numbered, ArtifactRecord, Records, Artifact, SetLabel, AreOfList, Fault, contents_found, IsErrAnd, div_ceil_times, err_from_is_err_and, artifact_size_limit, piece_length, is_contents, is_module_list, number_of, stored, piece_numbered, called, StoredArtifact, ListedTarget, SetName}
 use Rattle.std.specs.Int.{div_ceil}
 use Rattle.std.specs.Iterator.{Yields}
 use Rattle.std.specs.Vec.Iter.{into_iter_items, into_iter_steps}

@@ -1,8 +1,7 @@
 -- Why a view of a list of accepted commands is no failed store by itself.
-use Rattle.std.proofs.Common.{◌≡◌, ◌≤◌, ◌<◌, ℕ, zero, suc, true, List, [], ◌∷◌, length, slice_get, Some, None, Result, Ok, Err, IfErr, refl, sym, ap, subst, arith}
+use Rattle.desk_views.proofs.Common.{◌≡◌, ◌≤◌, ◌<◌, ℕ, zero, suc, true, List, [], ◌∷◌, length, slice_get, Some, None, Result, Ok, Err, IfErr, refl, sym, ap, subst, arith, Memory, Store, number_limit, is_number, number_of, records, Records, HoldsLedger, Ledger, ledger_of, seen_in, FindsIn, IsReadable, IfStore, IsOfList, AreOfList, item_numbered, Fault, IsOfListWith}
 use Rattle.sqlite.specs.Store.{Ghosts}
 use Rattle.sql_calls.specs.Standing.{Sees, Wears}
-use Rattle.desk_views.proofs.Common.{Memory, Store, number_limit, is_number, number_of, records, Records, HoldsLedger, Ledger, ledger_of, seen_in, FindsIn, IsReadable, IfStore, IsOfList, AreOfList, item_numbered, Fault, IsOfListWith}
 use Rattle.desk_records.proofs.NumberColumns.{is_in_range}
 use Rattle.desk_store.specs.Failing.{FailsGiven, HasSight}
 use Rattle.desk_store.specs.declared.change.OpenChange.{OpenChange}
@@ -10,10 +9,6 @@ use Rattle.desk_store.specs.declared.change.OpenChange.{OpenChange}
 -- the ledger of such records
 pub listed : {r : Records} → AreOfList r → IsOfList (ledger_of r)
 listed of = record { list = of.list; valid = of.valid; is = ap ledger_of of.are }
-
--- counts that don't fall
-pub grown : {a b c : ℕ} → a ≤ b → b ≤ c → a ≤ c
-grown low high = omega (arith, low, high)
 
 -- where a fault is always told so
 pub told : {Why : Type 0} → (fault : Fault) → Why → IfStore fault Why

@@ -1,7 +1,5 @@
 -- A target has no more actions than there are rollouts.
-use Rattle.std.proofs.Common.{◌≡◌, inl, inr, ◌≤◌, ◌<◌, ◌+◌, ℕ, zero, suc, nat_eq, nat_le, Bool, true, false, cond, ◌&&◌, List, [], ◌∷◌, map, filter, length, take, Some, refl, sym, ap, subst, ◌∙◌, arith}
-use Rattle.std.specs.Prelude.{slice_get}
-use Rattle.desk_views.proofs.Common.{nat_tests, and_parts, cases_order, false≢true, length-take, zip, unwrap_or, same_true, same_refl, tally_of, actor_of, actions_for, ListedAction, item_numbered, same_bytes, bytes_below, Bytes, Records, records, ActionRecord, RolloutRecord, AreOfList, CommandList, member_at, IsValid, limits_hold}
+use Rattle.desk_views.proofs.Common.{◌≡◌, inl, inr, ◌≤◌, ◌<◌, ◌+◌, ℕ, zero, suc, nat_eq, nat_le, Bool, true, false, cond, ◌&&◌, List, [], ◌∷◌, map, filter, length, take, Some, refl, sym, ap, subst, ◌∙◌, arith, slice_get, nat_tests, and_parts, cases_order, false≢true, length-take, zip, unwrap_or, same_true, same_refl, tally_of, actor_of, actions_for, ListedAction, item_numbered, same_bytes, bytes_below, Bytes, Records, records, ActionRecord, RolloutRecord, AreOfList, CommandList, member_at, IsValid, limits_hold}
 use Rattle.rollout_machine.specs.MemberActions.{FollowMembers, IsOfMember}
 use Rattle.rollout_machine.specs.Orders.{ListsRise}
 use Rattle.rollout_machine.proofs.AtNumbers.{item_within}

@@ -1,11 +1,9 @@
 -- From groups that were read to what is shown of them.
-use Rattle.std.proofs.Common.{◌≡◌, ◌≤◌, ◌<◌, ◌^◌, ◌⊎◌, ◌-◌, get_or, Result, Err, IfErr, subst, ℕ, zero, suc, slice_get, arith, List, [], ◌∷◌, map, length, take, drop, Option, Some, None, refl, sym, ap, ◌∙◌}
-use Rattle.desk_views.proofs.Common.{drop-map, length-map, take-map, Fault, group_reply, if_found, item_numbered, group_shown, groups_shown, page_of, PageOf, Refused, ShownGroup, Page, GroupWord, group_numbered, size_of_group, GroupRecord, RolloutRecord, NotFound, GroupRule, rule_at, rules_of, rule_is, parts_of, IsSeenOf, SeenRollout, Memory, Store, IfStore, HasUnshown}
+use Rattle.desk_views.proofs.Common.{◌≡◌, ◌≤◌, ◌<◌, ◌^◌, ◌⊎◌, ◌-◌, get_or, Result, Err, IfErr, subst, ℕ, zero, suc, slice_get, arith, List, [], ◌∷◌, map, length, take, drop, Option, Some, None, refl, sym, ap, ◌∙◌, drop-map, length-map, take-map, Fault, group_reply, if_found, item_numbered, group_shown, groups_shown, page_of, PageOf, Refused, ShownGroup, Page, group_numbered, size_of_group, GroupRecord, RolloutRecord, NotFound, GroupRule, rule_at, rules_of, rule_is, parts_of, Memory, Store, IfStore, HasUnshown}
 use Rattle.rollout_machine.specs.Replies.{Reply}
 use Rattle.std.proofs.lemmas.List.Elements.{Contains-get_or}
 use Rattle.sqlite_rules.proofs.ListLemmas.{has_contained}
 use Rattle.rollout_model.specs.declared.rollout_plan.RolloutPlan.{RolloutPlan}
-use Rattle.campaign_core.specs.StatusWords.{group_word_from}
 
 pub groups_mapped : (x : RolloutRecord) (gs : List GroupRecord) → groups_shown x gs ≡ map (group_shown x) gs
 groups_mapped x [] = refl

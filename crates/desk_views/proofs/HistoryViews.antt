@@ -1,6 +1,5 @@
 -- From entries of histories that were read to what is shown of them.
-use Rattle.std.proofs.Common.{◌≡◌, ◌<◌, ℕ, zero, suc, ◌+◌, nat_eq, Bool, true, false, cond, List, [], ◌∷◌, ◌++◌, length, slice_get, take, drop, Option, Some, None, refl, sym, ap, ◌∙◌, arith}
-use Rattle.desk_views.proofs.Common.{option_map, nat_tests, action_if, if_found, item_numbered, Bytes, entry_shown, numbered, page_of, Records, HistoryShown, ShownEntry, Page, is_for, ActionRecord, history_of, parts_of, StoredAction, entry_by, number_at, reports_of, stored_in, HistoryEntry, Reported, entries_in, ledger_of}
+use Rattle.desk_views.proofs.Common.{◌≡◌, ◌<◌, ℕ, zero, suc, ◌+◌, nat_eq, Bool, true, false, cond, List, [], ◌∷◌, ◌++◌, length, slice_get, take, drop, Option, Some, None, refl, sym, ap, ◌∙◌, arith, option_map, nat_tests, action_if, if_found, item_numbered, Bytes, entry_shown, numbered, page_of, Records, HistoryShown, ShownEntry, Page, is_for, ActionRecord, history_of, parts_of, StoredAction, entry_by, number_at, reports_of, stored_in, HistoryEntry, Reported, entries_in, ledger_of, nil_from_length}
 use Rattle.desk_records.specs.FeedbackNumbers.{borne_at, numbers_from, numbers_numbered, numbers_of}
 use Rattle.desk_records.specs.declared.number_row.PlacedNumber.{PlacedNumber}
 use Rattle.rollout_machine.proofs.Actions.{numbered_map}
@@ -90,15 +89,10 @@ page_numbered r k page entries numbers content read borne shown =
     ∙ part_numbered (entry_by (numbers_from 1 history)) page (entries_in history) entries (read ∙ ap (λ es. take page.limit (drop page.offset es)) (entries_read (item_numbered r.actions k)))
     ∙ ap (λ es. take page.limit (drop page.offset es)) (all_shown history)
 
--- an empty one
-none_there : {X : Type 0} (xs : List X) → length xs ≡ 0 → xs ≡ []
-none_there [] none = refl
-none_there (x ∷ xs) none = absurd (omega (arith, none))
-
 pub none_numbered : (r : Records) (k : ℕ) (page : Page) (entries : List HistoryEntry) → entries ≡ take page.limit (drop page.offset (history_of (item_numbered r.actions k))) → length entries ≡ 0
     → [] ≡ take page.limit (drop page.offset (numbered entry_shown 1 (reports_of (item_numbered r.actions k))))
 none_numbered r k page entries read none =
-    let numbers = numbers_numbered (ledger_of r).numbers k in page_numbered r k page entries numbers [] read refl (sym (ap (numbered (entry_by numbers) (page.offset + 1)) (none_there entries none)))
+    let numbers = numbers_numbered (ledger_of r).numbers k in page_numbered r k page entries numbers [] read refl (sym (ap (numbered (entry_by numbers) (page.offset + 1)) (nil_from_length entries none)))
 
 history_page : (page : Page) (history : List Reported) (content : List ShownEntry) (total : ℕ) → content ≡ take page.limit (drop page.offset (numbered entry_shown 1 history)) → total ≡ length history
     → record { content = content; total = total } ≡ page_of page (numbered entry_shown 1 history)

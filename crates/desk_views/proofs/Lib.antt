@@ -20,3 +20,4 @@ pub mod WordViews
 pub mod TargetViews
 pub mod TargetPages
 pub mod DeviceViews
+mod Answering

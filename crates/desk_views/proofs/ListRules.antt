@@ -1,13 +1,11 @@
 -- What accepted commands keep: few modules and sets, the rule of the modules of each set, and that of the contents of each artifact.
-use Rattle.std.proofs.Common.{◌≡◌, ◌≤◌, ◌<◌, ◌+◌, ◌-◌, ◌*◌, ℕ, zero, suc, true, List, [], length, All, Option, Some, None, refl, sym, subst, ap, ◌∙◌, arith, nat_le}
-use Rattle.desk_views.proofs.Common.{and_parts, leb-false, leb-true, list_all, length-append, length-map, pieces_of_artifact, item_numbered, ArtifactRecord, Records, added_artifacts, added_modules, added_sets, artifacts, modules, sets, Command, SetLabel, AddArtifact, AddModule, AddSet, AreOfList, contents_found, div_ceil_times, piece_at, piece_bytes, piece_count, pieces_of, artifact_size_limit, piece_length, is_byte, is_contents, is_filename, is_module_list, is_number, is_text, CommandList, Make, ◌▸◌, IsValid, verdict, verdict_row, limits_hold}
+use Rattle.desk_views.proofs.Common.{◌≡◌, ◌≤◌, ◌<◌, ◌+◌, ◌-◌, ◌*◌, ℕ, zero, suc, true, List, [], length, All, Option, Some, None, refl, sym, subst, ap, ◌∙◌, arith, nat_le, and_parts, leb-true, list_all, length-map, pieces_of_artifact, item_numbered, ArtifactRecord, Records, added_artifacts, artifacts, modules, sets, Command, SetLabel, AddArtifact, AreOfList, contents_found, div_ceil_times, piece_at, piece_bytes, piece_count, pieces_of, artifact_size_limit, piece_length, is_byte, is_contents, is_filename, is_module_list, is_number, is_text, CommandList, Make, ◌▸◌, IsValid, limits_hold}
 use Rattle.rollout_machine.specs.Records.{records}
 use Rattle.std.proofs.lemmas.List.Elements.{All-append, All-cons, All-get_or, All-nil}
 use Rattle.std.proofs.lemmas.List.FromFn.{length-map-range_with_len}
 use Rattle.std.proofs.lemmas.Option.{slice_get-get_or, slice_get_within}
 use Rattle.std.proofs.Math.ListN.{get_or}
 use Rattle.rollout_machine.specs.CommandRules.{IsWellFormed, is_digest_or_none}
-use Rattle.rollout_machine.proofs.Valid.{NoneHolds, none_holds}
 use Rattle.sqlite_rules.proofs.ListLemmas.{has_got}
 use Rattle.desk_records.proofs.WholeArtifacts.{IsWhole, all_whole}
 use Rattle.desk_reads.proofs.LabelRules.{few_modules as modules_few, few_sets as sets_few, sets_keep}

@@ -1,7 +1,5 @@
 -- The members of a rollout of a list of accepted commands are targets.
-use Rattle.std.proofs.Common.{◌≡◌, ℕ, zero, suc, Bool, true, false, ◌||◌, cond, List, [], ◌∷◌, ◌++◌, map, filter, find, take, drop, Option, Some, None, refl, sym, ap, ◌∙◌}
-use Rattle.std.specs.Prelude.{slice_get}
-use Rattle.desk_views.proofs.Common.{list_all, is_some, unwrap_or, and_parts, false≢true, filter_of, Tree, target_if, targets_of, contains_word, item_numbered, same_bytes, with_words, Bytes, Command, CreateRollout, TargetRow, matches, target_shown, targets_shown, Records, Target, import_rows_of, target_ids, target_in, target_of, RolloutRecord, same_refl, same_sym, AreOfList, made, CommandList, Make, ◌▸◌, Rollout, chosen, created, rollouts}
+use Rattle.desk_views.proofs.Common.{◌≡◌, ℕ, zero, suc, Bool, true, false, ◌||◌, cond, List, [], ◌∷◌, ◌++◌, map, filter, find, take, drop, Option, Some, None, refl, sym, ap, ◌∙◌, slice_get, list_all, is_some, unwrap_or, and_parts, false≢true, filter_of, Tree, target_if, targets_of, contains_word, item_numbered, same_bytes, with_words, Bytes, Command, CreateRollout, TargetRow, matches, target_shown, targets_shown, Records, Target, import_rows_of, target_ids, target_in, target_of, RolloutRecord, same_refl, same_sym, AreOfList, made, CommandList, Make, ◌▸◌, Rollout, chosen, created, rollouts, kept_to, kept_from, or-true}
 use Rattle.rollout_machine.specs.Records.{records}
 use Rattle.std.proofs.lemmas.List.Folds.{list_all-append}
 use Rattle.rollout_machine.specs.Replies.{ShownTarget}
@@ -18,16 +16,6 @@ all_at p [] i x all at = absurd cc
 all_at p (y ∷ ys) zero x all at = let same : y ≡ x = cc in sym (ap p same) ∙ (and_parts _ _ all).0
 all_at p (y ∷ ys) (suc i) x all at = all_at p ys i x (and_parts _ _ all).1 at
 
-all_taken : {X : Type 0} (p : X → Bool) (n : ℕ) (xs : List X) → list_all p xs ≡ true → list_all p (take n xs) ≡ true
-all_taken p zero xs all = refl
-all_taken p (suc n) [] all = refl
-all_taken p (suc n) (x ∷ xs) all = let parts : (p x ≡ true) × (list_all p xs ≡ true) = and_parts (p x) (list_all p xs) all in rw (parts.0, all_taken p n xs parts.1) refl
-
-all_dropped : {X : Type 0} (p : X → Bool) (n : ℕ) (xs : List X) → list_all p xs ≡ true → list_all p (drop n xs) ≡ true
-all_dropped p zero xs all = all
-all_dropped p (suc n) [] all = refl
-all_dropped p (suc n) (x ∷ xs) all = all_dropped p n xs (and_parts _ _ all).1
-
 -- ---- whom a list has chosen
 
 abbrev AllIn : List Bytes → List Bytes → Type 0
@@ -40,10 +28,7 @@ stays_in m ids news is = go (contains_word m (with_words news ids)) refl where
   go false e = absurd (false≢true (sym (never_with m news ids e) ∙ is))
 
 later_in : (u m : Bytes) (ids : List Bytes) → contains_word m ids ≡ true → contains_word m (u ∷ ids) ≡ true
-later_in u m ids is = rw is (either (same_bytes m u)) where
-  either : (b : Bool) → (b || true) ≡ true
-  either true = refl
-  either false = refl
+later_in u m ids is = rw is (or-true (same_bytes m u))
 
 all_are_in : (ids : List Bytes) → AllIn ids ids
 all_are_in [] = refl
@@ -116,4 +101,4 @@ targets_there rs (m ∷ ms) all = let parts = and_parts _ _ all in go (target_of
   go (Some t) there rest = ap (λ (l : List ShownTarget). target_shown rs t ∷ l) rest
 
 pub part_there : (rs : Records) (n k : ℕ) (ms : List Bytes) → list_all (is_there rs) ms ≡ true → list_all (is_there rs) (take n (drop k ms)) ≡ true
-part_there rs n k ms all = all_taken (is_there rs) n (drop k ms) (all_dropped (is_there rs) k ms all)
+part_there rs n k ms all = kept_to (is_there rs) n (drop k ms) (kept_from (is_there rs) k ms all)

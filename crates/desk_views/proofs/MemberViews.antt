@@ -1,6 +1,5 @@
 -- From members that were read to the targets that are shown of a group.
-use Rattle.std.proofs.Common.{◌≡◌, ◌+◌, ◌-◌, ◌≤◌, ◌<◌, ℕ, min, List, [], ◌∷◌, ◌++◌, map, length, take, drop, Option, Some, None, inl, inr, sym, ap, ◌∙◌, append-nil, arith}
-use Rattle.desk_views.proofs.Common.{take-nil, cases_lt, drop-drop, drop-take, drop_all, length-drop, length-map, length-take, length-take-le, map-append, take-take, take_all, option_map, target_if, targets_of, item_numbered, Bytes, members_in, page_of, target_shown, targets_shown, Records, Page, group_numbered, size_of_group, Target, target_of, shown_target, GroupRecord, RolloutRecord, AreOfList, group_within, members_of}
+use Rattle.desk_views.proofs.Common.{◌≡◌, ◌+◌, ◌-◌, ◌≤◌, ◌<◌, ℕ, min, List, [], ◌∷◌, ◌++◌, map, length, take, drop, Option, Some, None, inl, inr, sym, ap, ◌∙◌, append-nil, arith, take-nil, cases_lt, drop-drop, drop-take, drop_all, length-drop, length-map, length-take, length-take-le, map-append, take-take, take_all, option_map, target_if, targets_of, item_numbered, Bytes, members_in, page_of, target_shown, targets_shown, Records, Page, group_numbered, size_of_group, Target, target_of, shown_target, GroupRecord, RolloutRecord, AreOfList, group_within, members_of}
 use Rattle.rollout_machine.specs.Replies.{ShownTarget}
 use Rattle.rollout_model.specs.declared.shown_target.ShownTarget.{ShownTarget as RustTarget}
 use Rattle.desk_views.proofs.GroupViews.{part_mapped}

@@ -1,6 +1,5 @@
 -- From typed reads of modules to what is shown.
-use Rattle.std.proofs.Common.{◌≡◌, ℕ, Bool, Vec, length, take, drop, Option, Some, None, refl, sym, ap, ◌∙◌}
-use Rattle.desk_views.proofs.Common.{Global, option_map, if_found, query_reply, item_numbered, ModuleLabel, module_shown, modules_shown, Records, Module, ModuleShown, ModulesShown, Page, ShowModule, ShowModules, is_named_by_set, reply_of, NotFound, Reply}
+use Rattle.desk_views.proofs.Common.{◌≡◌, ℕ, Bool, Vec, length, take, drop, Option, Some, None, refl, sym, ap, ◌∙◌, Global, option_map, if_found, query_reply, item_numbered, ModuleLabel, module_shown, modules_shown, Records, Module, ModuleShown, ModulesShown, Page, ShowModule, ShowModules, is_named_by_set, reply_of, NotFound, Reply}
 use Rattle.rollout_model.specs.declared.request.Reply.TheVariants as reply
 use Rattle.desk_views.proofs.PageLemmas.{entry_numbered, numbered_length}
 

@@ -1,18 +1,9 @@
 -- Entries of a list by their numbers, and the part of it that is on a page.
-use Rattle.std.proofs.Common.{◌≡◌, ℕ, zero, suc, ◌+◌, ◌-◌, min, Bool, true, false, List, [], ◌∷◌, ◌++◌, length, take, drop, Some, None, refl, sym, ap, ◌∙◌, arith, add-one, length-drop}
-use Rattle.desk_views.proofs.Common.{take-nil, option_map, item_numbered, numbered, is_number, number_of}
-use Rattle.std.specs.Prelude.{slice_get}
+use Rattle.desk_views.proofs.Common.{◌≡◌, ℕ, zero, suc, ◌+◌, ◌-◌, min, List, [], ◌∷◌, ◌++◌, length, take, drop, Some, refl, sym, ap, ◌∙◌, arith, add-one, length-drop, slice_get, take-nil, option_map, item_numbered, numbered}
 
 pub numbered_length : {X Y : Type 0} (f : ℕ → X → Y) (n : ℕ) (xs : List X) → length (numbered f n xs) ≡ length xs
 numbered_length f n [] = refl
 numbered_length f n (x ∷ xs) = ap suc (numbered_length f (suc n) xs)
-
--- a number in its range is itself
-pub same_number : (n k : ℕ) → number_of n ≡ Some k → k ≡ n
-same_number n k is = go (is_number n) refl where
-  go : (b : Bool) → is_number n ≡ b → k ≡ n
-  go true good = let same : Some n ≡ Some k = (rw good at is) in sym (cc)
-  go false bad = let none : None ≡ Some k = (rw bad at is) in absurd (cc)
 
 numbered_get : {X Y : Type 0} (f : ℕ → X → Y) (n : ℕ) (xs : List X) (i k : ℕ) → k ≡ n + i → slice_get (numbered f n xs) i ≡ option_map (f k) (slice_get xs i)
 numbered_get f n [] i k is = refl

@@ -1,6 +1,5 @@
 -- From typed reads of rollouts to what is seen of them.
-use Rattle.std.proofs.Common.{◌≡◌, ℕ, suc, List, [], ◌∷◌, Vec, length, take, drop, Option, Some, None, refl, sym, ap, ◌∙◌}
-use Rattle.desk_views.proofs.Common.{Global, option_map, if_found, query_reply, item_numbered, numbered, rollout_shown, rollouts_shown, Records, Refused, RolloutsShown, ShownRollout, Page, ShowRollouts, RolloutRecord, reply_of, NotFound, BothOrNone, IsSeenOf, SeenRollout}
+use Rattle.desk_views.proofs.Common.{◌≡◌, ℕ, suc, List, [], ◌∷◌, Vec, length, take, drop, Option, Some, None, refl, sym, ap, ◌∙◌, Global, option_map, if_found, query_reply, item_numbered, numbered, rollout_shown, rollouts_shown, Records, Refused, RolloutsShown, ShownRollout, Page, ShowRollouts, RolloutRecord, reply_of, NotFound, BothOrNone, IsSeenOf, SeenRollout}
 use Rattle.rollout_machine.specs.Replies.{Reply}
 use Rattle.rollout_model.specs.declared.request.Reply.TheVariants as reply
 use Rattle.desk_views.proofs.PageLemmas.{entry_numbered, numbered_length}

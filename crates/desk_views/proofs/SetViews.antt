@@ -1,6 +1,5 @@
 -- From typed reads of distribution sets to what is shown.
-use Rattle.std.proofs.Common.{◌≡◌, ℕ, List, Vec, length, take, drop, Option, Some, None, refl, sym, ap, ◌∙◌}
-use Rattle.desk_views.proofs.Common.{Global, option_map, query_reply, item_numbered, SetLabel, modules_of_set, numbered, set_shown, Records, DistributionSet, SetsShown, Page, ShowSet, ShowSets, reply_of, NotFound, Reply, SetName, called}
+use Rattle.desk_views.proofs.Common.{◌≡◌, ℕ, List, Vec, length, take, drop, Option, Some, None, refl, sym, ap, ◌∙◌, Global, option_map, query_reply, item_numbered, SetLabel, modules_of_set, numbered, set_shown, Records, DistributionSet, SetsShown, Page, ShowSet, ShowSets, reply_of, NotFound, Reply, SetName, called}
 use Rattle.rollout_model.specs.declared.request.Reply.TheVariants as reply
 use Rattle.desk_views.proofs.PageLemmas.{entry_numbered, numbered_length}
 

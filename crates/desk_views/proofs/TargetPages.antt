@@ -1,6 +1,5 @@
 -- From typed reads of targets to pages of them.
-use Rattle.std.proofs.Common.{◌≡◌, ℕ, suc, ◌+◌, ◌-◌, ◌&&◌, nat_le, nat_lt, ◌*◌, ◌/◌, ◌%◌, min, Bool, true, false, cond, List, [], ◌∷◌, ◌++◌, map, filter, length, take, drop, Some, None, refl, sym, ap, ◌∙◌, append-nil, append_assoc, arith, length-drop, Vec}
-use Rattle.desk_views.proofs.Common.{take-add, take-nil, leb-false, leb-true, drop-append-le, drop-map, drop_all, length-append, length-map, map-append, take-append-le, take-map, take_all, IsSomeAnd, Global, query_reply, targets_matching, Bytes, matches, seen, page_of, target_shown, targets_shown, Records, PageOf, TargetsShown, Page, ShowTargets, Target, listed, listed_targets, reply_of, shown_target, ShownTarget, Tree, filter_of, listed_target, matching_shown, worded, target_listed, part_seen, div_ceil_times, ListedTarget}
+use Rattle.desk_views.proofs.Common.{◌≡◌, ℕ, suc, ◌+◌, ◌-◌, ◌&&◌, nat_le, nat_lt, ◌*◌, ◌/◌, ◌%◌, min, Bool, true, false, cond, List, [], ◌∷◌, ◌++◌, map, filter, length, take, drop, Some, None, refl, sym, ap, ◌∙◌, append-nil, append_assoc, arith, length-drop, Vec, take-add, take-nil, leb-false, leb-true, drop-append-le, drop-map, drop_all, length-append, length-map, map-append, take-append-le, take-map, take_all, IsSomeAnd, Global, query_reply, targets_matching, Bytes, matches, seen, page_of, target_shown, targets_shown, Records, PageOf, TargetsShown, Page, ShowTargets, Target, listed, listed_targets, reply_of, shown_target, ShownTarget, Tree, filter_of, listed_target, matching_shown, worded, target_listed, part_seen, div_ceil_times, ListedTarget}
 use Rattle.std.proofs.lemmas.List.Elements.{filter-append}
 use Rattle.rollout_model.specs.declared.page.PageOf.{PageOf as RustPageOf}
 use Rattle.rollout_model.specs.declared.request.Reply.TheVariants as reply

@@ -1,6 +1,5 @@
 -- From typed reads of targets to what is shown.
-use Rattle.std.proofs.Common.{◌≡◌, ◌∷◌, Bool, true, false, cond, List, [], find, Option, Some, None, refl, sym, ap, ◌∙◌}
-use Rattle.desk_views.proofs.Common.{option_map, stored_target, if_found, query_reply, same_bytes, Bytes, target_shown, Records, TargetShown, ShowTarget, target_word, Target, tags_of, target_of, reply_of, shown_target, same_true, NotFound, Reply, ShownTarget, target_listed, worded}
+use Rattle.desk_views.proofs.Common.{◌≡◌, ◌∷◌, Bool, true, false, cond, List, [], find, Option, Some, None, refl, sym, ap, ◌∙◌, option_map, stored_target, if_found, query_reply, same_bytes, Bytes, target_shown, Records, TargetShown, ShowTarget, target_word, Target, tags_of, target_of, reply_of, shown_target, same_true, NotFound, Reply, ShownTarget, target_listed, worded}
 use Rattle.desk_records.specs.declared.target_row.StoredTarget.{StoredTarget}
 use Rattle.desk_records.specs.Targets.{attributes_of}
 use Rattle.desk_records.proofs.Targets.{has_id}

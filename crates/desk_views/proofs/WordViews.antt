@@ -1,6 +1,5 @@
 -- From typed reads of actions to the word of their target.
-use Rattle.std.proofs.Common.{◌≡◌, ℕ, suc, ◌+◌, ◌<◌, Bool, true, false, cond, ◌&&◌, ◌||◌, List, [], ◌∷◌, ◌++◌, map, filter, length, take, Option, Some, None, is_none, refl, sym, ap, ◌∙◌, arith}
-use Rattle.desk_views.proofs.Common.{false≢true, or_parts, length-take, take_all, list_any, zip, is_some, tally_of, actions_for, stored_action, ListedAction, item_numbered, Bytes, Offer, first_offer, offer, Records, ActionRecord, GroupRecord, RolloutRecord, group_holding, group_is_started, has_started, is_for, is_started_in, started_actions_of, target_word, word_by_last, InError, InSync, Pending, TargetWord, Unknown, is_begun, last_ending, groups_of, numbered_from}
+use Rattle.desk_views.proofs.Common.{◌≡◌, ℕ, suc, ◌+◌, ◌<◌, Bool, true, false, cond, ◌&&◌, ◌||◌, List, [], ◌∷◌, ◌++◌, map, filter, length, take, Option, Some, None, is_none, refl, sym, ap, ◌∙◌, arith, false≢true, or_parts, length-take, take_all, list_any, zip, is_some, tally_of, actions_for, stored_action, ListedAction, item_numbered, Bytes, Offer, first_offer, offer, Records, ActionRecord, GroupRecord, RolloutRecord, group_holding, group_is_started, has_started, is_for, is_started_in, started_actions_of, target_word, word_by_last, InError, InSync, Pending, TargetWord, Unknown, is_begun, last_ending, groups_of, numbered_from}
 use Rattle.campaign_core.specs.StatusWords.{last_word, target_word_from}
 use Rattle.rollout_machine.specs.Groups.{holds_position}
 use Rattle.rollout_machine.specs.declared.outcome.Outcome.{Outcome}

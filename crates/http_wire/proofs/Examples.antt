@@ -1,7 +1,5 @@
 -- Computed examples: they guard the definitions against slips.
-use Rattle.std.proofs.Common.{◌≡◌, ℕ, ◌+◌, true, false, List, [], ◌∷◌, ◌++◌, Some, None, refl}
-use Rattle.std.specs.Prelude.{codes, decimal, replicate, map, Ok, Err}
-use Rattle.http_wire.proofs.Common.{flat_map, body_length_limit, TooLarge, BadLength, BadCoding, line_ends, sole_value}
+use Rattle.http_wire.proofs.Common.{◌≡◌, ℕ, ◌+◌, true, false, List, [], ◌∷◌, ◌++◌, Some, None, refl, codes, decimal, replicate, map, Ok, Err, flat_map, body_length_limit, TooLarge, BadLength, BadCoding, line_ends, sole_value}
 use Rattle.std.specs.Fmt.{digits}
 use Rattle.httparse.specs.Grammar.{trim_ows}
 use Rattle.rollout_model.specs.declared.Refusal.TheVariants as refusals

@@ -1,8 +1,6 @@
 -- The strict heads are those of httparse's grammar in which each LF follows a CR, apart empty line comes
 -- first, the version is 1.1 and the target is in origin form.
-use Rattle.std.proofs.Common.{◌≡◌, ◌≢◌, ℕ, ◌+◌, ◌<◌, ◌≤◌, true, cond, eqb, List, [], ◌∷◌, ◌++◌, map, length, get_or, take, drop, refl, sym, ap, ◌∙◌, subst, arith, append_assoc, inl, inr}
-use Rattle.http_wire.proofs.Common.{flat_map, and_parts, and_from, eqb-true, cases_lt, not_from_false, ne_eqb, false≢true, append-nil, get_or_past, length-map, drop_all, field_limit, FieldLine, HeadParts, line_text, IsOriginForm, IsFieldLine, SpellsHead, name_and_value, line_ends, HasFewFields, lf_follows_cr, is_no_line_break, IsStrict, IsHeadAt}
-use Rattle.std.specs.Prelude.{IsAscii, All}
+use Rattle.http_wire.proofs.Common.{◌≡◌, ◌≢◌, ℕ, ◌+◌, ◌<◌, ◌≤◌, true, cond, eqb, List, [], ◌∷◌, ◌++◌, map, length, get_or, take, drop, refl, sym, ap, ◌∙◌, subst, arith, append_assoc, inl, inr, IsAscii, All, flat_map, and_parts, and_from, eqb-true, cases_lt, not_from_false, ne_eqb, false≢true, append-nil, get_or_past, length-map, drop_all, field_limit, FieldLine, HeadParts, line_text, IsOriginForm, IsFieldLine, SpellsHead, name_and_value, line_ends, HasFewFields, lf_follows_cr, is_no_line_break, IsStrict, IsHeadAt}
 use Rattle.std.proofs.lemmas.Bool.Decides.{nat_tests}
 use Rattle.std.proofs.lemmas.List.Elements.{All-head, All-tail, All-weaker, All-map}
 use Rattle.std.proofs.lemmas.Str.{IsUtf8-from_ascii}

@@ -1,7 +1,5 @@
 -- The number of line ends is the number of lines, the parts between the CR LF pairs, and that of the LF behind a CR.
-use Rattle.std.proofs.Common.{◌≡◌, ℕ, ◌+◌, ◌-◌, Bool, true, false, ◌&&◌, List, [], ◌∷◌, ◌++◌, drop, get_or, refl, sym, arith, ap, ◌∙◌}
-use Rattle.std.specs.Prelude.{length, if◌then◌else◌, ◌==◌, nat_lt}
-use Rattle.http_wire.proofs.Common.{flat_map, list_all, lt-ltb, drop-drop, get_or-drop, is_byte, places, line_ends, AreLines, HasLines, lf_follows_cr}
+use Rattle.http_wire.proofs.Common.{◌≡◌, ℕ, ◌+◌, ◌-◌, Bool, true, false, ◌&&◌, List, [], ◌∷◌, ◌++◌, drop, get_or, refl, sym, arith, ap, ◌∙◌, length, if◌then◌else◌, ◌==◌, nat_lt, flat_map, list_all, lt-ltb, drop-drop, get_or-drop, is_byte, places, line_ends, AreLines, HasLines, lf_follows_cr}
 use Rattle.httparse.specs.Ascii.{crlf_bytes}
 use Rattle.memchr.specs.Find.{places_from}
 

@@ -1,7 +1,5 @@
 -- At the front of the bytes stands one message, one fault or neither, and more bytes leave it there.
-use Rattle.std.proofs.Common.{◌≡◌, ℕ, ◌+◌, ◌<◌, ◌≤◌, ◌⊎◌, List, [], ◌∷◌, ◌++◌, length, map, take, drop, refl, sym, ap, ◌∙◌, subst, arith, append_assoc, inl, inr, Result, Ok, Err, Option, Some, None, append-nil}
-use Rattle.http_wire.proofs.Common.{length-append, take_at, drop_at, take-append-drop, length-take-le, digits_value, cond_both, ltb-false, head_length_limit, field_limit, body_length_limit, WireFault, TooLarge, BadHead, BadLength, HeadTooLarge, BadCoding, HasRegion, HasNoRegion, HasFewFields, line_ends, FieldLine, HeadParts, SpellsHead, NameAndValue, name_and_value, is_digits, length_of, length_by, unless_coded, fields_named, WireMessage, IsHeadWith, IsMessage, IsBadRegion, IsFault, IsUndecided, Begins, HasMessages, EndsAs, message_of, Answers, HandsOut, End, Input, Cut, Fault}
-use Rattle.std.specs.Prelude.{◌^◌, codes, nat_lt}
+use Rattle.http_wire.proofs.Common.{◌≡◌, ℕ, ◌+◌, ◌<◌, ◌≤◌, ◌⊎◌, List, [], ◌∷◌, ◌++◌, length, map, take, drop, refl, sym, ap, ◌∙◌, subst, arith, append_assoc, inl, inr, Result, Ok, Err, Option, Some, None, append-nil, ◌^◌, codes, nat_lt, length-append, take_at, drop_at, take-append-drop, length-take-le, digits_value, cond_both, ltb-false, head_length_limit, field_limit, body_length_limit, WireFault, TooLarge, BadHead, BadLength, HeadTooLarge, BadCoding, HasRegion, HasNoRegion, HasFewFields, line_ends, FieldLine, HeadParts, SpellsHead, NameAndValue, name_and_value, is_digits, length_of, length_by, unless_coded, fields_named, WireMessage, IsHeadWith, IsMessage, IsBadRegion, IsFault, IsUndecided, Begins, HasMessages, EndsAs, message_of, Answers, HandsOut, End, Input, Cut, Fault}
 use Rattle.httparse.proofs.GrammarLemmas.{request_unique}
 use Rattle.http_wire.specs.BodyLengths.{body_length}
 use Rattle.http_wire.specs.declared.message.Message.{Message}

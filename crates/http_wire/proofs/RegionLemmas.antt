@@ -1,6 +1,5 @@
 -- The head region by places, and that more bytes leave it as it is.
-use Rattle.std.proofs.Common.{◌≡◌, ℕ, zero, suc, ◌+◌, ◌-◌, ◌<◌, ◌≤◌, min, List, ◌++◌, length, take, drop, get_or, codes, refl, sym, ap, ◌∙◌, subst, arith, append_assoc, inl, inr, Some, None}
-use Rattle.http_wire.proofs.Common.{cases_order, cases_lt, get_or-take, get_or_append_left, length-take-le, length-append, take-append-drop, take_at, drop_at, FindsNeedle, OccursAt, head_length_limit, IsHeadEndAt, HasRegion, HasNoRegion}
+use Rattle.http_wire.proofs.Common.{◌≡◌, ℕ, zero, suc, ◌+◌, ◌-◌, ◌<◌, ◌≤◌, min, List, ◌++◌, length, take, drop, get_or, codes, refl, sym, ap, ◌∙◌, subst, arith, append_assoc, inl, inr, Some, None, cases_order, cases_lt, get_or-take, get_or_append_left, length-take-le, length-append, take-append-drop, take_at, drop_at, FindsNeedle, OccursAt, head_length_limit, IsHeadEndAt, HasRegion, HasNoRegion}
 
 -- four places of one list are those of another
 same_end : (a b : List ℕ) (k : ℕ) → ((i : ℕ) → i < k + 4 → get_or a i 0 ≡ get_or b i 0) → IsHeadEndAt a k → IsHeadEndAt b k

@@ -1,6 +1,5 @@
 -- Reasons, names and statuses of replies are short, and every refusal has a status code.
-use Rattle.std.proofs.Common.{ℕ, ◌≤◌, ◌<◌, Bool, true, false, List, [], Option, Some, None, length, arith}
-use Rattle.std.specs.Prelude.{◌==◌, if◌then◌else◌, unwrap_or, codes}
+use Rattle.http_wire.proofs.Common.{ℕ, ◌≤◌, ◌<◌, Bool, true, false, List, [], Option, Some, None, length, arith, ◌==◌, if◌then◌else◌, unwrap_or, codes}
 use Rattle.http.specs.StatusCode.{IsStatusCode, reason_phrase}
 use Rattle.rollout_model.specs.declared.Refusal.{Refusal}
 use Rattle.rollout_model.specs.declared.Refusal.TheVariants.{BadRequest, Unauthorized, NotFound, BadMethod, Exists, Locked, WrongState, ClosedAction, TooLarge, Quota, BadFilter, TooFewTargets, WrongDigest, BadImportLine, NoMemory, StoreFailed, Stopped, BadHead, BadLength, HeadTooLarge, BadCoding, OldNumber}

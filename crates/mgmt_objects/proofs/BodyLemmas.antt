@@ -1,8 +1,7 @@
 -- The value of a body, and the one item of an array.
-use Rattle.std.proofs.Common.{◌≡◌, ◌≢◌, ℕ, List, [], ◌∷◌, length, Bool, true, false, Option, Some, None, cond, refl, sym, ◌∙◌, map}
+use Rattle.mgmt_objects.proofs.Common.{◌≡◌, ◌≢◌, ℕ, List, [], ◌∷◌, length, Bool, true, false, Option, Some, None, cond, refl, sym, ◌∙◌, map, Data, as_array, Value, view, items_view, items_of}
 use Rattle.std.specs.Str.{IsUtf8, is_utf8}
 use Rattle.std.proofs.lemmas.Str.{is_utf8-from_IsUtf8, IsUtf8-from_is_utf8}
-use Rattle.mgmt_objects.proofs.Common.{Data, as_array, Value, view, items_view, items_of}
 use Rattle.serde_json.specs.Read.{read}
 use Rattle.std.proofs.lemmas.List.{length-map}
 use Rattle.mgmt_objects.specs.Bodies.{body_data, only_item, only}

@@ -1,8 +1,7 @@
 -- The texts of objects, letter by letter.
-use Rattle.std.proofs.Common.{◌≡◌, ℕ, List, [], ◌∷◌, Bool, true, false, codes, decimal, append_assoc}
+use Rattle.mgmt_objects.proofs.Common.{◌≡◌, ℕ, List, [], ◌∷◌, Bool, true, false, codes, decimal, append_assoc, object, member, no_members, string, boolean, whole}
 use Rattle.std.specs.List.{concat}
 use Rattle.json.specs.Print.{quoted}
-use Rattle.mgmt_objects.proofs.Common.{object, member, no_members, string, boolean, whole}
 use Rattle.serde_json.specs.Written.{compact_text}
 use Rattle.serde_json.proofs.OnLiterals.{serde_json_on_literals}
 use Rattle.rollout_model.specs.declared.module.Module.{Module}

@@ -1,6 +1,5 @@
 -- The ids of an array's objects.
-use Rattle.std.proofs.Common.{◌≡◌, ℕ, List, Some, map, ap, sym, option_and_then}
-use Rattle.mgmt_objects.proofs.Common.{Data, get, as_array, Value, view, items_view, traverse}
+use Rattle.mgmt_objects.proofs.Common.{◌≡◌, ℕ, List, Some, map, ap, sym, option_and_then, Data, get, as_array, Value, view, items_view, traverse}
 use Rattle.mgmt_objects.specs.SetBodies.{id_of, ids_member}
 use Rattle.mgmt_objects.proofs.TraverseLemmas.{list_of_items}
 

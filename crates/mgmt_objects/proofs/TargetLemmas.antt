@@ -1,7 +1,6 @@
 -- The members of attributes, in a loop.
-use Rattle.std.proofs.Common.{◌≡◌, ◌<◌, ◌+◌, ℕ, List, length, drop, get_or, ◌∷◌, ap, sym, ◌∙◌}
+use Rattle.mgmt_objects.proofs.Common.{◌≡◌, ◌<◌, ◌+◌, ℕ, List, length, drop, get_or, ◌∷◌, ap, sym, ◌∙◌, Members, put, string, with_attributes}
 use Rattle.std.proofs.lemmas.List.{at_drop_more}
-use Rattle.mgmt_objects.proofs.Common.{Members, put, string, with_attributes}
 use Rattle.rollout_model.specs.declared.target.Attribute.{Attribute}
 
 -- one more is put

@@ -1,9 +1,8 @@
 -- A reading of each item of a list, in a loop.
-use Rattle.std.proofs.Common.{◌≡◌, ◌<◌, ◌+◌, ◌++◌, ℕ, zero, suc, List, [], ◌∷◌, length, get_or, take, map, Option, Some, None, option_map, option_and_then, refl, arith, ap, sym, ◌∙◌, ◌⊎◌, inl, inr}
+use Rattle.mgmt_objects.proofs.Common.{◌≡◌, ◌<◌, ◌+◌, ◌++◌, ℕ, zero, suc, List, [], ◌∷◌, length, get_or, take, map, Option, Some, None, option_map, option_and_then, refl, arith, ap, sym, ◌∙◌, ◌⊎◌, inl, inr, Data, items_of, as_array, view, items_view, Value, array_of, list_of, traverse}
 use Rattle.rollout_model.specs.declared.refusal.Refusal.{Refusal}
 use Rattle.rollout_model.specs.declared.refusal.Refusal.TheVariants.{BadRequest, NoMemory}
 use Rattle.std.proofs.lemmas.List.{map_more}
-use Rattle.mgmt_objects.proofs.Common.{Data, items_of, as_array, view, items_view, Value, array_of, list_of, traverse}
 
 after_none : {A B : Type 0} (y : Option A) → option_and_then {T = A} {U = B} (λ _. None) y ≡ None
 after_none (Some y) = refl

@@ -1,4 +1,5 @@
 -- The names of other modules that the proofs here cite, passed on from one place. Declares nothing.
+pub use Rattle.std.proofs.Common.{◌≡◌, ℕ, zero, suc, ◌+◌, ◌<◌, ◌≤◌, Bool, true, false, cond, ◌&&◌, ◌||◌, ◌≢◌, ◌⊎◌, List, [], ◌∷◌, ◌++◌, map, length, is_none, nat_eq, nat_lt, slice_get, Some, None, Option, sym, refl, ap, ◌∙◌, subst, inl, inr, arith}
 pub use Rattle.std.proofs.lemmas.Bool.{and_parts, cases_Bool, cases_eq, eq-eqb, eqb-true, false≢true, le-ltb, lt-ltb, ltb-false, not-false, or_parts}
 pub use Rattle.std.specs.Option.{option_map, unwrap_or}
 pub use Rattle.rollout_machine.proofs.Cuts.{IsOwnGroup, group_of, held, in_bounds, one_group}
@@ -28,3 +29,4 @@ pub use Rattle.rollout_machine.specs.declared.records.ActionRecord.{ActionRecord
 pub use Rattle.rollout_machine.specs.declared.records.GroupRecord.{GroupRecord}
 pub use Rattle.rollout_machine.specs.declared.records.RolloutRecord.{RolloutRecord}
 pub use Rattle.offer_laws.specs.GroupOffers.{GroupOffersStay, GroupStarts, IsOnOther, OfferOfOthers, OffersAfterGroup, OffersAfterNoGroup, OffersAfterNone, OffersAfterStart, OffersById, OffersOfActor, OffersOfNoStart, OffersOfStart, OffersStep, StartedByAny, StartedByAnyThen, acted, actor, group_offers, lesser, member_of, offers_before_start, offers_from, put_offer, put_offers, with_actor, with_offer}
+pub use Rattle.std.proofs.Math.Bool.{and-false, or-false}

@@ -1,6 +1,5 @@
 -- A path meets one route at most.
-use Rattle.std.proofs.Common.{◌≡◌, ◌⊎◌, inl, inr, ℕ, List, [], ◌∷◌, drop, Bool, true, false, not, cond, ◌&&◌, ◌==◌, Option, Some, None, refl, sym, ◌∙◌, ap, arith}
-use Rattle.request_target.proofs.Common.{false≢true, eqb-true, nat_tests, RowsOf, first, apart, apart_from, all_apart, all_plain}
+use Rattle.request_target.proofs.Common.{◌≡◌, ◌⊎◌, inl, inr, ℕ, List, [], ◌∷◌, drop, Bool, true, false, not, cond, ◌&&◌, ◌==◌, Option, Some, None, refl, sym, ◌∙◌, ap, arith, false≢true, eqb-true, nat_tests, RowsOf, first, apart, apart_from, all_apart, all_plain}
 use Rattle.request_target.proofs.Meets.{segment_len, is_empty, begins, meets, met_row, all_bytes, In}
 use Rattle.request_target.proofs.Longest.{both}
 use Rattle.request_target.proofs.Found.{Found, first_found}

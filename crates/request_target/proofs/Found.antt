@@ -1,6 +1,5 @@
 -- What a walk finds is a row that the path meets.
-use Rattle.std.proofs.Common.{◌≡◌, ◌<◌, ◌≤◌, inl, inr, ℕ, zero, suc, ◌-◌, List, [], ◌∷◌, length, drop, Bool, true, false, cond, ◌&&◌, ◌==◌, ltb, Option, Some, None, refl, sym, ◌∙◌, ap, arith, subst, get_or}
-use Rattle.request_target.proofs.Common.{false≢true, eqb-true, ltb-true, lt-ltb, nat_tests, RowsOf, own, step, or_else, has_slash, with_suffix, param_step, first, is_plain, opens, all_plain}
+use Rattle.request_target.proofs.Common.{◌≡◌, ◌<◌, ◌≤◌, inl, inr, ℕ, zero, suc, ◌-◌, List, [], ◌∷◌, length, drop, Bool, true, false, cond, ◌&&◌, ◌==◌, ltb, Option, Some, None, refl, sym, ◌∙◌, ap, arith, subst, get_or, false≢true, eqb-true, ltb-true, lt-ltb, nat_tests, RowsOf, own, step, or_else, has_slash, with_suffix, param_step, first, is_plain, opens, all_plain}
 use Rattle.matchit.specs.Seek.{seek}
 use Rattle.request_target.proofs.Meets.{all_bytes, segment_len, meets, all_open, some_goes_on, In}
 use Rattle.std.proofs.Math.Seq.{drop-length}

@@ -1,6 +1,5 @@
 -- The suffix that a parameter leaves: a slash or nothing.
-use Rattle.std.proofs.Common.{◌≡◌, ℕ, suc, ◌-◌, ◌<◌, List, [], ◌∷◌, length, drop, Bool, true, false, cond, ◌&&◌, ◌||◌, ◌==◌, ltb, nat_eq, refl, sym, ◌∙◌, ap, arith}
-use Rattle.request_target.proofs.Common.{false≢true, eqb-true, nat_tests, RowsOf, segment, has_slash, cuts, better, longest_from}
+use Rattle.request_target.proofs.Common.{◌≡◌, ℕ, suc, ◌-◌, ◌<◌, List, [], ◌∷◌, length, drop, Bool, true, false, cond, ◌&&◌, ◌||◌, ◌==◌, ltb, nat_eq, refl, sym, ◌∙◌, ap, arith, false≢true, eqb-true, nat_tests, RowsOf, segment, has_slash, cuts, better, longest_from}
 use Rattle.std.specs.Cmp.Lexicographic.{pointwise}
 use Rattle.request_target.proofs.Meets.{segment_len, all_open, some_goes_on}
 

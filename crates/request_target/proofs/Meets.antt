@@ -1,6 +1,5 @@
 -- Which paths a pattern of matchit meets: a parameter stands for one segment that is not empty.
-use Rattle.std.specs.Prelude.{◌≡◌, ◌⊎◌, ℕ, suc, List, [], ◌∷◌, drop, Bool, true, false, cond, Option, Some, None, nat_lt, ◌==◌, ◌&&◌}
-use Rattle.request_target.proofs.Common.{RowsOf, opens}
+use Rattle.request_target.proofs.Common.{◌≡◌, ◌⊎◌, ℕ, suc, List, [], ◌∷◌, drop, Bool, true, false, cond, Option, Some, None, nat_lt, ◌==◌, ◌&&◌, RowsOf, opens}
 
 -- how many bytes stand before the first slash
 abbrev pub segment_len : List ℕ → ℕ

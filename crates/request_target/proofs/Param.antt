@@ -1,6 +1,5 @@
 -- The step over a parameter.
-use Rattle.std.proofs.Common.{◌≡◌, ℕ, zero, suc, ◌-◌, List, [], ◌∷◌, length, drop, Bool, true, false, cond, ◌&&◌, ltb, None, refl, arith}
-use Rattle.request_target.proofs.Common.{RowsOf, segment, has_slash, with_suffix}
+use Rattle.request_target.proofs.Common.{◌≡◌, ℕ, zero, suc, ◌-◌, List, [], ◌∷◌, length, drop, Bool, true, false, cond, ◌&&◌, ltb, None, refl, arith, RowsOf, segment, has_slash, with_suffix}
 use Rattle.matchit.specs.Seek.{param_step, seek}
 use Rattle.request_target.proofs.Meets.{segment_len, all_open, some_goes_on}
 use Rattle.request_target.proofs.Longest.{slash_if, longest_is, cuts_with_none, cuts_with_slash, segment_with_slash}

@@ -1,6 +1,5 @@
 -- Rows after a token.
-use Rattle.std.proofs.Common.{◌≡◌, ◌⊎◌, inl, inr, ℕ, List, [], ◌∷◌, Bool, true, false, cond, ◌==◌, Some, None, refl, arith}
-use Rattle.request_target.proofs.Common.{false≢true, eqb-true, nat_tests, RowsOf, own, step}
+use Rattle.request_target.proofs.Common.{◌≡◌, ◌⊎◌, inl, inr, ℕ, List, [], ◌∷◌, Bool, true, false, cond, ◌==◌, Some, None, refl, arith, false≢true, eqb-true, nat_tests, RowsOf, own, step}
 use Rattle.request_target.proofs.Meets.{In}
 
 same : (x : ℕ) → (x == x) ≡ true

@@ -1,7 +1,5 @@
 -- A path meets a route's tokens where the route's segments stand for its own.
-use Rattle.std.proofs.Common.{◌≡◌, ℕ, suc, List, [], ◌∷◌, ◌++◌, length, take, drop, Bool, true, false, not, cond, ◌&&◌, ◌==◌, nat_lt, nat_eq, refl, sym, ◌∙◌, ap, arith, append-nil}
-use Rattle.request_target.proofs.Common.{list_all, nat_tests, onto_first, segments, is_parameter, stands_for, fits, part_tokens, tokens, is_part}
-use Rattle.std.specs.Prelude.{bytes_eq}
+use Rattle.request_target.proofs.Common.{◌≡◌, ℕ, suc, List, [], ◌∷◌, ◌++◌, length, take, drop, Bool, true, false, not, cond, ◌&&◌, ◌==◌, nat_lt, nat_eq, refl, sym, ◌∙◌, ap, arith, append-nil, bytes_eq, list_all, nat_tests, onto_first, segments, is_parameter, stands_for, fits, part_tokens, tokens, is_part}
 use Rattle.request_target.proofs.Meets.{segment_len, meets}
 use Rattle.request_target.proofs.Longest.{both}
 

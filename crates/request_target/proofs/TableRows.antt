@@ -1,7 +1,5 @@
 -- The rows that were made of a table lead where the table does.
-use Rattle.std.proofs.Common.{◌≡◌, ℕ, List, [], ◌∷◌, Bool, true, false, cond, ◌&&◌, ◌==◌, Option, Some, None, option_map, Result, Ok, Err, refl, sym, ◌∙◌, ap}
-use Rattle.request_target.proofs.Common.{false≢true, list_all, RowsOf, comes_before, first, segments, fits, onto_first, route_in, all_plain, all_apart, apart, apart_from, tokens, is_part, added, rows_with, is_new, are_new, are_routes}
-use Rattle.std.specs.Prelude.{bytes_eq}
+use Rattle.request_target.proofs.Common.{◌≡◌, ℕ, List, [], ◌∷◌, Bool, true, false, cond, ◌&&◌, ◌==◌, Option, Some, None, option_map, Result, Ok, Err, refl, sym, ◌∙◌, ap, bytes_eq, false≢true, list_all, RowsOf, comes_before, first, segments, fits, onto_first, route_in, all_plain, all_apart, apart, apart_from, tokens, is_part, added, rows_with, is_new, are_new, are_routes}
 use Rattle.std.proofs.lemmas.Slice.Eq.{bytes_eq-Decides}
 use Rattle.matchit.specs.Route.{Scan, parse_route}
 use Rattle.matchit.specs.Router.{RouteOf, route_from}

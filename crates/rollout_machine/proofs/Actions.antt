@@ -1,7 +1,5 @@
 -- An action's record after one more command, from its record before it.
-use Rattle.std.proofs.Common.{◌≡◌, ℕ, zero, suc, Bool, true, false, cond, ◌&&◌, ◌||◌, not, List, [], ◌∷◌, ◌++◌, refl, sym, ◌∙◌, ap, Option, Some, None}
-use Rattle.rollout_machine.proofs.Common.{and-false, option_or, unwrap_or, option_map, ActionPlace, action_of, is_on_action, is_action_place, is_heard, outcome, outcome_given, cancel_stands, cancel_standing_said, is_canceling, history, reports, item_numbered, CommandList, Make, ◌▸◌, Command, Outcome, action_after, is_same_action, ActionRecord, action_in, Reported, entries_in, is_again, reported_by, eq-eqb, eqb-true, and_parts}
-use Rattle.std.specs.Prelude.{nat_eq, is_none, is_some, map, slice_get}
+use Rattle.rollout_machine.proofs.Common.{◌≡◌, ℕ, zero, suc, Bool, true, false, cond, ◌&&◌, ◌||◌, not, List, [], ◌∷◌, ◌++◌, refl, sym, ◌∙◌, ap, Option, Some, None, nat_eq, is_none, is_some, map, slice_get, and-false, option_or, unwrap_or, option_map, ActionPlace, action_of, is_on_action, is_action_place, is_heard, outcome, outcome_given, cancel_stands, cancel_standing_said, is_canceling, history, reports, item_numbered, CommandList, Make, ◌▸◌, Command, Outcome, action_after, is_same_action, ActionRecord, action_in, Reported, entries_in, is_again, reported_by, eq-eqb, eqb-true, and_parts}
 use Rattle.rollout_machine.proofs.Tallies.{or_none}
 
 abbrev pub action_from : ActionPlace → Bool → Option Outcome → List Reported → ActionRecord

@@ -1,9 +1,8 @@
 -- What answers are, by what is asked, and which refusals they can have.
-use Rattle.rollout_machine.proofs.Common.{query_reply, command_reply, CommandList, Make, ◌▸◌, Command, step_records, no_records, Records, Refused, Query, Do, Ask, Asks, IsValid, verdict, Refusal}
+use Rattle.rollout_machine.proofs.Common.{◌≡◌, Bool, Some, None, refl, ap, ◌∙◌, query_reply, command_reply, CommandList, Make, ◌▸◌, Command, step_records, no_records, Records, Refused, Query, Do, Ask, Asks, IsValid, verdict, Refusal}
 use Rattle.rollout_machine.specs.Answers.{answer}
 use Rattle.rollout_machine.specs.Records.{records}
 use Rattle.rollout_machine.specs.Requests.{Rejected}
-use Rattle.std.proofs.Common.{◌≡◌, Bool, Some, None, refl, ap, ◌∙◌}
 use Rattle.rollout_machine.proofs.Main.{records_step}
 
 -- ---- what is asked, one by one

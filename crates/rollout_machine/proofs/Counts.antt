@@ -1,7 +1,5 @@
 -- Counts over positions: equal where the tests agree, one more where they differ at one place.
-use Rattle.std.proofs.Common.{◌≡◌, ℕ, zero, suc, ◌+◌, ◌<◌, ◌≤◌, Bool, true, false, cond, refl, sym, arith}
-use Rattle.std.proofs.Common.{inl, inr}
-use Rattle.rollout_machine.proofs.Common.{cases_eq, count_from, some_up_to}
+use Rattle.rollout_machine.proofs.Common.{◌≡◌, ℕ, zero, suc, ◌+◌, ◌<◌, ◌≤◌, Bool, true, false, cond, refl, sym, arith, inl, inr, cases_eq, count_from, some_up_to}
 use mathlib.Core.Bool.{or-false}
 
 pub count_same : (p q : ℕ → Bool) (first n : ℕ) → ((j : ℕ) → first ≤ j → j < first + n → p j ≡ q j) → count_from p first n ≡ count_from q first n

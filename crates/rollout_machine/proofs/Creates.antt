@@ -1,7 +1,5 @@
 -- Approval, and the commands that make modules, artifacts, sets and rollouts.
-use Rattle.std.proofs.Common.{◌≡◌, ℕ, zero, suc, ◌+◌, ◌≤◌, Bool, true, false, cond, List, [], ◌∷◌, ◌++◌, refl, sym, ◌∙◌, ap, arith, Option, Some, None, length}
-use Rattle.std.specs.Prelude.{map, slice_get}
-use Rattle.rollout_machine.proofs.Common.{option_or, ne_eqb, eq-eqb, action_of, action_places, outcome, CommandList, ◌▸◌, RolloutPlan, Upload, SetLabel, Command, AddArtifact, AddSet, CreateRollout, Approve, Deny, Outcome, Good, Bad, Gone, tally, is_outcome, is_paused, is_rollout_started, step_records, new_rollout, new_group, RolloutRecord, Approval, Waiting, Denied, Given, rollout_in, rollouts_in, action_in, group_in, approval_of, approval_by, decided, decision_on, needs_approval, modules, artifacts, sets, bounds_in, Rollout, rollouts, rollout_at, members_of, word_from, is_finished, IsValid, verdict, verdict_row, is_waiting}
+use Rattle.rollout_machine.proofs.Common.{◌≡◌, ℕ, zero, suc, ◌+◌, ◌≤◌, Bool, true, false, cond, List, [], ◌∷◌, ◌++◌, refl, sym, ◌∙◌, ap, arith, Option, Some, None, length, map, slice_get, option_or, ne_eqb, eq-eqb, action_of, action_places, outcome, CommandList, ◌▸◌, RolloutPlan, Upload, SetLabel, Command, AddArtifact, AddSet, CreateRollout, Approve, Deny, Outcome, Good, Bad, Gone, tally, is_outcome, is_paused, is_rollout_started, step_records, new_rollout, new_group, RolloutRecord, Approval, Waiting, Denied, Given, rollout_in, rollouts_in, action_in, group_in, approval_of, approval_by, decided, decision_on, needs_approval, modules, artifacts, sets, bounds_in, Rollout, rollouts, rollout_at, members_of, word_from, is_finished, IsValid, verdict, verdict_row, is_waiting}
 use Rattle.rollout_machine.specs.Records.{records}
 use Rattle.rollout_machine.proofs.Counts.{count_none}
 use Rattle.rollout_machine.proofs.Tallies.{no_error_begins, none_is}

@@ -1,6 +1,5 @@
 -- Groups follow one another, none is empty, and each member is in one of them and in no two.
-use Rattle.std.proofs.Common.{◌≡◌, ℕ, zero, suc, ◌+◌, ◌-◌, ◌*◌, ◌/◌, ◌<◌, ◌≤◌, Bool, true, false, cond, nat_le, inl, inr, refl, sym, subst, arith}
-use Rattle.rollout_machine.proofs.Common.{le-div, and_parts, cases_order, le-leb, leb-false, leb-true, div-mul-le_self, div-lt_iff_lt-mul, HasSoundPlan, IsInGroup, IsCut, holds_position, last_position, Rollout, bounds_in, last_of, size_in, size_of}
+use Rattle.rollout_machine.proofs.Common.{◌≡◌, ℕ, zero, suc, ◌+◌, ◌-◌, ◌*◌, ◌/◌, ◌<◌, ◌≤◌, Bool, true, false, cond, nat_le, inl, inr, refl, sym, subst, arith, le-div, and_parts, cases_order, le-leb, leb-false, leb-true, div-mul-le_self, div-lt_iff_lt-mul, HasSoundPlan, IsInGroup, IsCut, holds_position, last_position, Rollout, bounds_in, last_of, size_in, size_of}
 
 -- The cut into even groups is one. Nothing else need know how it is computed.
 pub even_is_cut : (m n : ℕ) → 1 ≤ n → n ≤ m → IsCut (last_position m n) m n

@@ -1,7 +1,5 @@
 -- No two actions have one place: so the action of a number is the action of its place.
-use Rattle.std.proofs.Common.{◌≡◌, ℕ, zero, suc, ◌+◌, false, List, [], ◌∷◌, ◌++◌, refl, sym, ◌∙◌, ap, arith, inl, inr, ◌⊎◌, Option, Some, None, length}
-use Rattle.std.specs.Prelude.{slice_get}
-use Rattle.rollout_machine.proofs.Common.{option_map, unwrap_or, false≢true, ActionPlace, action_places, new_places, places_of, places_from, CommandList, Make, ◌▸◌, Command, Start, NumbersDiffer, is_rollout_started, is_paused, records, rollout_in, approval_of, Rollout, rollout_at, size_of, is_finished, IsValid, verdict, verdict_row, is_ready}
+use Rattle.rollout_machine.proofs.Common.{◌≡◌, ℕ, zero, suc, ◌+◌, false, List, [], ◌∷◌, ◌++◌, refl, sym, ◌∙◌, ap, arith, inl, inr, ◌⊎◌, Option, Some, None, length, slice_get, option_map, unwrap_or, false≢true, ActionPlace, action_places, new_places, places_of, places_from, CommandList, Make, ◌▸◌, Command, Start, NumbersDiffer, is_rollout_started, is_paused, records, rollout_in, approval_of, Rollout, rollout_at, size_of, is_finished, IsValid, verdict, verdict_row, is_ready}
 use Rattle.rollout_machine.proofs.Valid.{NoneHolds, none_holds}
 use Rattle.rollout_machine.proofs.Induction.{Invariant, invariant_of, word_at, ready_not_begun}
 

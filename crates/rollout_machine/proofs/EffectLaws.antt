@@ -1,7 +1,5 @@
 -- The effects that the view alone gives are those of the history.
-use Rattle.std.proofs.Common.{◌≡◌, ℕ, zero, suc, ◌+◌, ◌<◌, ◌≤◌, Bool, true, false, cond, ◌||◌, ◌&&◌, not, refl, sym, ◌∙◌, ap, arith, inl, inr, Some, None}
-use Rattle.rollout_machine.proofs.Common.{and-true, or-false, or-true, cases_eq, cases_lt, ne_eqb, eq-eqb, false≢true, lt-ltb, action_of, is_on_action, is_action_place, outcome, CommandList, Make, ◌▸◌, Command, Resume, TriggerNext, Outcome, Good, Bad, tally, reaches, success_holds, is_outcome, IsLast, HasSoundPlan, StartedOnly, GetsOutcome, IsView, feedback_pauses, good_after, next_if, starts_next, last_with, FollowsFeedback, FollowsResume, FollowsTrigger, is_group_started, next_started, is_paused, error_begins_at, is_trigger_of, some_up_to, Rollout, size_in, success_at, Effects}
-use Rattle.std.specs.Prelude.{nat_lt, nat_eq}
+use Rattle.rollout_machine.proofs.Common.{◌≡◌, ℕ, zero, suc, ◌+◌, ◌<◌, ◌≤◌, Bool, true, false, cond, ◌||◌, ◌&&◌, not, refl, sym, ◌∙◌, ap, arith, inl, inr, Some, None, nat_lt, nat_eq, and-true, or-false, or-true, cases_eq, cases_lt, ne_eqb, eq-eqb, false≢true, lt-ltb, action_of, is_on_action, is_action_place, outcome, CommandList, Make, ◌▸◌, Command, Resume, TriggerNext, Outcome, Good, Bad, tally, reaches, success_holds, is_outcome, IsLast, HasSoundPlan, StartedOnly, GetsOutcome, IsView, feedback_pauses, good_after, next_if, starts_next, last_with, FollowsFeedback, FollowsResume, FollowsTrigger, is_group_started, next_started, is_paused, error_begins_at, is_trigger_of, some_up_to, Rollout, size_in, success_at, Effects}
 use Rattle.rollout_machine.specs.declared.view.RolloutView.{RolloutView}
 use Rattle.rollout_machine.proofs.Starts.{starts_one_more, last_after}
 use Rattle.rollout_machine.proofs.Tallies.{untouched, no_success, tally_same, tally_gains, tally_elsewhere, quiet, paused_after_outcome, no_error_begins}

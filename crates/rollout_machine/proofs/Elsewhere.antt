@@ -1,13 +1,11 @@
 -- A command changes one rollout at most: the one that it is on.
-use Rattle.rollout_machine.proofs.Common.{ActionPlace, action_of, is_action_place, CommandList, Command, Approve, Deny, Start, Pause, Resume, TriggerNext, Cancel, Feedback, CancelFeedback, is_pause_of, is_resume_of, is_start_of, is_trigger_of, approval_of, decision_on, rollout_at, option_map, cases_eq, ne_eqb}
+use Rattle.rollout_machine.proofs.Common.{◌≡◌, ◌⊎◌, ℕ, false, ◌&&◌, Option, Some, None, inl, inr, refl, sym, ap, ◌∙◌, ◌≢◌, nat_eq, ActionPlace, action_of, is_action_place, CommandList, Command, Approve, Deny, Start, Pause, Resume, TriggerNext, Cancel, Feedback, CancelFeedback, is_pause_of, is_resume_of, is_start_of, is_trigger_of, approval_of, decision_on, rollout_at, option_map, cases_eq, ne_eqb}
 use Rattle.rollout_machine.specs.Promises.{OneGroupStarts, OthersStay, rollout_of}
 use Rattle.rollout_machine.proofs.Induction.{accepted}
 use Rattle.rollout_machine.proofs.Progressing.{none_starts, one_of_rollout}
 use Rattle.rollout_machine.proofs.Tallies.{untouched}
 use Rattle.rollout_machine.proofs.Ties.{IsCalm, calm_rollout, same_approval}
 use Rattle.rollout_machine.proofs.Whole.{IsAccepted}
-use Rattle.std.proofs.Common.{◌≡◌, ◌⊎◌, ℕ, false, ◌&&◌, Option, Some, None, inl, inr, refl, sym, ap, ◌∙◌}
-use Rattle.std.specs.Prelude.{◌≢◌, nat_eq}
 
 abbrev rollout_at_place : Option ActionPlace → Option ℕ
 rollout_at_place o = option_map (λ (p : ActionPlace). p.rollout) o

@@ -1,7 +1,5 @@
 -- Where the counts of a group add up to its size, each member has an outcome.
-use Rattle.rollout_machine.proofs.Common.{outcome, Good, Gone, Bad, Outcome, tally, is_outcome, IsInGroup, FinalIsAll, count_from, group_in, first_of, size_in, all_final, cases_eq, eq-eqb, eqb-true}
-use Rattle.std.proofs.Common.{◌≡◌, ℕ, zero, suc, ◌+◌, ◌≤◌, ◌<◌, Bool, true, false, cond, refl, sym, ◌∙◌, ap, arith, Option, Some, None, inl, inr}
-use Rattle.std.specs.Prelude.{is_some}
+use Rattle.rollout_machine.proofs.Common.{◌≡◌, ℕ, zero, suc, ◌+◌, ◌≤◌, ◌<◌, Bool, true, false, cond, refl, sym, ◌∙◌, ap, arith, Option, Some, None, inl, inr, is_some, outcome, Good, Gone, Bad, Outcome, tally, is_outcome, IsInGroup, FinalIsAll, count_from, group_in, first_of, size_in, all_final, cases_eq, eq-eqb, eqb-true}
 use Rattle.rollout_machine.proofs.Counts.{count_few}
 
 sum_of : (T : ℕ → Option Outcome) (a n : ℕ) → count_from (λ j. is_outcome Good (T j)) a n + count_from (λ j. is_outcome Bad (T j)) a n + count_from (λ j. is_outcome Gone (T j)) a n ≡ count_from (λ j. is_some (T j)) a n

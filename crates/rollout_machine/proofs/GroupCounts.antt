@@ -1,6 +1,5 @@
 -- The groups of a rollout are those of its plan, and their counts are those of its actions.
-use Rattle.std.proofs.Common.{◌≡◌, ℕ, ◌≤◌, refl, sym, subst, Some}
-use Rattle.rollout_machine.proofs.Common.{CommandList, Good, Bad, Gone, group_in, rollout_in, Rollout, rollout_at, IsValid}
+use Rattle.rollout_machine.proofs.Common.{◌≡◌, ℕ, ◌≤◌, refl, sym, subst, Some, CommandList, Good, Bad, Gone, group_in, rollout_in, Rollout, rollout_at, IsValid}
 use Rattle.rollout_machine.specs.GroupCounts.{GroupsAreCounted, HasCountedGroups, IsCountedGroup}
 use Rattle.rollout_machine.specs.Records.{records}
 use Rattle.rollout_machine.proofs.AtNumbers.{of_group, of_rollout}

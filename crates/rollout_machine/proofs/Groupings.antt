@@ -1,7 +1,5 @@
 -- A grouping that leaves no group empty is a cut, and each group has thresholds.
-use Rattle.std.proofs.Common.{◌≡◌, ◌≤◌, ℕ, zero, suc, true, false, List, [], ◌∷◌, ◌++◌, length, slice_get, Option, Some, None, refl, sym, ap, subst, ◌∙◌}
-use Rattle.rollout_machine.proofs.Common.{AllByRecursion, list_all, and_parts, eqb-true, false≢true, leb-true, ltb-false, length-map, is_plan, RolloutPlan, GroupDefinition, GroupingCovers, last_defined, percentages, some_empty, IsCut, LeavesNoneEmpty, first_empty, split_last}
-use Rattle.std.specs.Prelude.{is_some}
+use Rattle.rollout_machine.proofs.Common.{◌≡◌, ◌≤◌, ℕ, zero, suc, true, false, List, [], ◌∷◌, ◌++◌, length, slice_get, Option, Some, None, refl, sym, ap, subst, ◌∙◌, is_some, AllByRecursion, list_all, and_parts, eqb-true, false≢true, leb-true, ltb-false, length-map, is_plan, RolloutPlan, GroupDefinition, GroupingCovers, last_defined, percentages, some_empty, IsCut, LeavesNoneEmpty, first_empty, split_last}
 use Rattle.rollout_model.specs.Groupings.{define_each, definition_numbered, ends_whole, is_definition}
 use Rattle.rollout_model.specs.Limits.{percentage_limit}
 use Rattle.rollout_model.specs.PlanRules.{rule_by}

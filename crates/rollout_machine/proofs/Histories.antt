@@ -1,7 +1,5 @@
 -- The outcome of an action fits its history.
-use Rattle.std.proofs.Common.{◌≡◌, ℕ, Bool, true, false, cond, ◌&&◌, List, [], ◌∷◌, ◌++◌, refl, sym, ◌∙◌, ap, subst, inl, inr, Option, Some, None}
-use Rattle.std.specs.Prelude.{is_none}
-use Rattle.rollout_machine.proofs.Common.{option_or, history, is_heard, outcome, outcome_given, outcome_said, cancel_stands, CommandList, Make, ◌▸◌, Command, Cancel, CancelFeedback, Feedback, Outcome, Gone, HistoryEntry, Reported, entries_in, reported_by}
+use Rattle.rollout_machine.proofs.Common.{◌≡◌, ℕ, Bool, true, false, cond, ◌&&◌, List, [], ◌∷◌, ◌++◌, refl, sym, ◌∙◌, ap, subst, inl, inr, Option, Some, None, is_none, option_or, history, is_heard, outcome, outcome_given, outcome_said, cancel_stands, CommandList, Make, ◌▸◌, Command, Cancel, CancelFeedback, Feedback, Outcome, Gone, HistoryEntry, Reported, entries_in, reported_by}
 use Rattle.rollout_machine.specs.Histories.{first_outcome, FitsHistory, OutcomesFitHistories}
 use Rattle.rollout_machine.proofs.Actions.{append_none, entries_both}
 use Rattle.rollout_machine.proofs.AtNumbers.{has_place}

@@ -1,7 +1,6 @@
 -- The targets' records after an import.
-use Rattle.rollout_machine.proofs.Common.{action_places, sorted_words, bytes_below, same_bytes, with_words, contains_word, with_word, Make, ◌▸◌, CommandList, Bytes, Credential, TargetRow, Command, PutTargets, PutAttributes, put_target, step_records, new_target, put_targets, rollouts_in, action_in, needs_approval, modules, artifacts, sets, rollouts, attributes_in, tags_by_row, last_row_for, target_in, import_rows_of, with_attributes, Target, target_ids, last_row_of, tags_in, IsValid, verdict_row, verdict, list_any, option_or, unwrap_or, and_parts, or_parts, eqb-true, eq-eqb, ltb-true, lt-ltb, false≢true, not-false, cases_Bool, cases_order}
+use Rattle.rollout_machine.proofs.Common.{◌≡◌, ◌<◌, ℕ, Bool, true, false, cond, ◌||◌, ◌&&◌, List, [], ◌∷◌, refl, sym, ◌∙◌, ap, subst, Option, Some, None, inl, inr, ◌⊎◌, arith, action_places, sorted_words, bytes_below, same_bytes, with_words, contains_word, with_word, Make, ◌▸◌, CommandList, Bytes, Credential, TargetRow, Command, PutTargets, PutAttributes, put_target, step_records, new_target, put_targets, rollouts_in, action_in, needs_approval, modules, artifacts, sets, rollouts, attributes_in, tags_by_row, last_row_for, target_in, import_rows_of, with_attributes, Target, target_ids, last_row_of, tags_in, IsValid, verdict_row, verdict, list_any, option_or, unwrap_or, and_parts, or_parts, eqb-true, eq-eqb, ltb-true, lt-ltb, false≢true, not-false, cases_Bool, cases_order}
 use Rattle.rollout_machine.specs.Records.{records}
-use Rattle.std.proofs.Common.{◌≡◌, ◌<◌, ℕ, Bool, true, false, cond, ◌||◌, ◌&&◌, List, [], ◌∷◌, refl, sym, ◌∙◌, ap, subst, Option, Some, None, inl, inr, ◌⊎◌, arith}
 use Rattle.std.specs.Prelude.{map, nat_eq, nat_lt, ⊤}
 use Rattle.rollout_machine.proofs.EffectLaws.{calm_outcome}
 use Rattle.rollout_machine.proofs.Actions.{append_none, calm_actions, map_same}

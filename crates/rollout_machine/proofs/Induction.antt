@@ -1,7 +1,5 @@
 -- What holds of every history of accepted commands.
-use Rattle.std.proofs.Common.{◌≡◌, ℕ, zero, suc, ◌+◌, ◌<◌, ◌≤◌, Bool, true, false, cond, ◌||◌, ◌&&◌, not, List, [], ◌∷◌, ◌++◌, refl, sym, ◌∙◌, ap, subst, arith, inl, inr, ◌⊎◌, Option, Some, None, length}
-use Rattle.rollout_machine.proofs.Common.{and-false, or-true, unwrap_or, option_map, cases_Bool, ne_eqb, eq-eqb, and_parts, leb-true, eqb-true, false≢true, or_parts, not-false, ActionPlace, action_of, is_on_action, is_action_place, action_places, action_place, new_places, places_of, places_from, item_numbered, CommandList, Make, ◌▸◌, IsWellFormed, DeviceFeedback, DeploymentWord, CancelWord, Command, AddModule, AddArtifact, AddSet, PutTargets, Tag, Untag, PutAttributes, CreateRollout, Cancel, Feedback, CancelFeedback, Resume, TriggerNext, Pause, Start, Approve, Deny, Bytes, RolloutPlan, ModuleLabel, HasSoundPlan, StartedOnly, is_group_started, next_started, is_rollout_started, is_start_of, is_pause_of, is_resume_of, is_paused, error_begins_at, some_up_to, step_records, decided, decision_on, rollouts_in, rollout_in, approval_of, Approval, Waiting, Denied, Given, Rollout, rollouts, rollout_at, created, size_of, members_of, word_from, rollout_word, is_finished, RolloutWord, IsValid, verdict, verdict_row, is_running, is_at_pause, is_ready, word_is}
-use Rattle.std.specs.Prelude.{nat_lt, nat_eq, is_none, slice_get}
+use Rattle.rollout_machine.proofs.Common.{◌≡◌, ℕ, zero, suc, ◌+◌, ◌<◌, ◌≤◌, Bool, true, false, cond, ◌||◌, ◌&&◌, not, List, [], ◌∷◌, ◌++◌, refl, sym, ◌∙◌, ap, subst, arith, inl, inr, ◌⊎◌, Option, Some, None, length, nat_lt, nat_eq, is_none, slice_get, and-false, or-true, unwrap_or, option_map, cases_Bool, ne_eqb, eq-eqb, and_parts, leb-true, eqb-true, false≢true, or_parts, not-false, ActionPlace, action_of, is_on_action, is_action_place, action_places, action_place, new_places, places_of, places_from, item_numbered, CommandList, Make, ◌▸◌, IsWellFormed, DeviceFeedback, DeploymentWord, CancelWord, Command, AddModule, AddArtifact, AddSet, PutTargets, Tag, Untag, PutAttributes, CreateRollout, Cancel, Feedback, CancelFeedback, Resume, TriggerNext, Pause, Start, Approve, Deny, Bytes, RolloutPlan, ModuleLabel, HasSoundPlan, StartedOnly, is_group_started, next_started, is_rollout_started, is_start_of, is_pause_of, is_resume_of, is_paused, error_begins_at, some_up_to, step_records, decided, decision_on, rollouts_in, rollout_in, approval_of, Approval, Waiting, Denied, Given, Rollout, rollouts, rollout_at, created, size_of, members_of, word_from, rollout_word, is_finished, RolloutWord, IsValid, verdict, verdict_row, is_running, is_at_pause, is_ready, word_is}
 use Rattle.rollout_machine.specs.Records.{records}
 use Rattle.rollout_machine.proofs.Groupings.{grouping_is_cut, has_thresholds}
 use Rattle.rollout_machine.proofs.Starts.{starts_one_more}

@@ -1,7 +1,5 @@
 -- Lists made from the numbers of a range.
-use Rattle.std.proofs.Common.{◌≡◌, ℕ, zero, suc, ◌+◌, ◌<◌, ◌≤◌, [], ◌∷◌, ◌++◌, refl, ap, arith, add-one, length, Some}
-use Rattle.std.specs.Prelude.{slice_get}
-use Rattle.rollout_machine.proofs.Common.{item_numbered, each_from}
+use Rattle.rollout_machine.proofs.Common.{◌≡◌, ℕ, zero, suc, ◌+◌, ◌<◌, ◌≤◌, [], ◌∷◌, ◌++◌, refl, ap, arith, add-one, length, Some, slice_get, item_numbered, each_from}
 
 longer : {X : Type 0} (f : ℕ → X) (a n : ℕ) → each_from f a (suc n) ≡ each_from f a n ++ f (a + n) ∷ []
 longer f a zero = let e : a + 0 ≡ a = omega arith in rw e refl

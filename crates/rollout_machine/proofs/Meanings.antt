@@ -1,7 +1,5 @@
 -- What the computing definitions mean, in words about the commands of a history.
-use Rattle.rollout_machine.proofs.Common.{ActionPlace, action_places, places_from, places_of, new_places, action_place, action_of, is_heard, is_on_action, is_action_place, outcome_given, outcome, outcome_of_deployment, outcome_of_cancel, cancel_standing_said, cancel_stands, is_canceling, reports, is_again, same_bytes, item_numbered, CommandList, Make, ◌▸◌, followed_by, Bytes, TargetRow, Command, PutTargets, Start, Pause, TriggerNext, Cancel, Feedback, CancelFeedback, Succeeded, Failed, Noted, ClosedCancel, CanceledCancel, RejectedCancel, NotedCancel, DeploymentWord, CancelWord, Outcome, Good, Bad, Gone, Rejected, success_holds, error_holds, NoneGave, CancelingIsLast, NotNamed, LastRow, SpeaksOfCancel, Ends, NoneSpeaks, StartedIs, NeverNamed, Says, PauseBegins, OutcomeIsFirst, NumbersActions, FirstOutcome, size_at, NextIsStarted, LastIsCancel, started_sizes, started_by, Offer, offer, first_offer, is_paused, is_trigger_of, is_pause_of, next_started, is_group_started, pause_begins, error_begins_at, some_up_to, Records, ActionRecord, Rollout, rollout_at, size_of, is_for, has_started, import_rows_of, last_row_for, last_row_of, and_parts, not-true, eqb-true, eq-eqb, lt-ltb, false≢true, cases_lt, option_or, unwrap_or}
-use Rattle.std.proofs.Common.{◌≡◌, ◌⊎◌, inl, inr, ℕ, zero, suc, ◌+◌, ◌≤◌, ◌<◌, Bool, true, false, ◌||◌, ◌&&◌, not, cond, List, [], ◌∷◌, ◌++◌, refl, sym, ◌∙◌, ap, subst, Option, Some, None, arith}
-use Rattle.std.specs.Prelude.{slice_get, nat_eq, nat_lt, length, is_none, is_some}
+use Rattle.rollout_machine.proofs.Common.{◌≡◌, ◌⊎◌, inl, inr, ℕ, zero, suc, ◌+◌, ◌≤◌, ◌<◌, Bool, true, false, ◌||◌, ◌&&◌, not, cond, List, [], ◌∷◌, ◌++◌, refl, sym, ◌∙◌, ap, subst, Option, Some, None, arith, slice_get, nat_eq, nat_lt, length, is_none, is_some, ActionPlace, action_places, places_from, places_of, new_places, action_place, action_of, is_heard, is_on_action, is_action_place, outcome_given, outcome, outcome_of_deployment, outcome_of_cancel, cancel_standing_said, cancel_stands, is_canceling, reports, is_again, same_bytes, item_numbered, CommandList, Make, ◌▸◌, followed_by, Bytes, TargetRow, Command, PutTargets, Start, Pause, TriggerNext, Cancel, Feedback, CancelFeedback, Succeeded, Failed, Noted, ClosedCancel, CanceledCancel, RejectedCancel, NotedCancel, DeploymentWord, CancelWord, Outcome, Good, Bad, Gone, Rejected, success_holds, error_holds, NoneGave, CancelingIsLast, NotNamed, LastRow, SpeaksOfCancel, Ends, NoneSpeaks, StartedIs, NeverNamed, Says, PauseBegins, OutcomeIsFirst, NumbersActions, FirstOutcome, size_at, NextIsStarted, LastIsCancel, started_sizes, started_by, Offer, offer, first_offer, is_paused, is_trigger_of, is_pause_of, next_started, is_group_started, pause_begins, error_begins_at, some_up_to, Records, ActionRecord, Rollout, rollout_at, size_of, is_for, has_started, import_rows_of, last_row_for, last_row_of, and_parts, not-true, eqb-true, eq-eqb, lt-ltb, false≢true, cases_lt, option_or, unwrap_or}
 
 pub one_more : (h : CommandList) (cs : List Command) (c : Command) → followed_by h (cs ++ c ∷ []) ≡ followed_by h cs ▸ c
 one_more h [] c = refl

@@ -1,6 +1,5 @@
 -- The actions are those of the members of the started rollouts, in the members' order.
-use Rattle.std.proofs.Common.{◌≡◌, ℕ, ◌+◌, ◌≤◌, true, ◌||◌, [], refl, sym, ◌∙◌, ap, subst, arith, inl, inr, Some}
-use Rattle.rollout_machine.proofs.Common.{option_map, cases_Bool, eqb-true, ActionPlace, action_place, action_places, new_places, item_numbered, CommandList, Make, ◌▸◌, Bytes, Command, Start, started_sizes, is_rollout_started, is_start_of, ActionRecord, RolloutRecord, action_in, rollout_in, Rollout, created, rollout_at, rollouts, size_of, IsValid}
+use Rattle.rollout_machine.proofs.Common.{◌≡◌, ℕ, ◌+◌, ◌≤◌, true, ◌||◌, [], refl, sym, ◌∙◌, ap, subst, arith, inl, inr, Some, option_map, cases_Bool, eqb-true, ActionPlace, action_place, action_places, new_places, item_numbered, CommandList, Make, ◌▸◌, Bytes, Command, Start, started_sizes, is_rollout_started, is_start_of, ActionRecord, RolloutRecord, action_in, rollout_in, Rollout, created, rollout_at, rollouts, size_of, IsValid}
 use Rattle.rollout_machine.specs.MemberActions.{ActionsFollowMembers, HasAction, IsOfMember}
 use Rattle.rollout_machine.specs.Records.{records}
 use Rattle.rollout_machine.proofs.Actions.{numbered_map}

@@ -1,8 +1,6 @@
 -- How many notes a command adds to an action.
 use Rattle.rollout_machine.specs.Promises.{NotesGrow}
-use Rattle.rollout_machine.proofs.Common.{HistoryEntry, entries_in, reported_by, is_note, notes_of}
-use Rattle.std.proofs.Common.{◌≡◌, ◌+◌, Bool, true, false, cond, List, [], ◌∷◌, ◌++◌, length, refl, ◌∙◌, ap, arith}
-use Rattle.std.specs.Prelude.{filter, is_none}
+use Rattle.rollout_machine.proofs.Common.{◌≡◌, ◌+◌, Bool, true, false, cond, List, [], ◌∷◌, ◌++◌, length, refl, ◌∙◌, ap, arith, filter, is_none, HistoryEntry, entries_in, reported_by, is_note, notes_of}
 use Rattle.rollout_machine.proofs.Actions.{entries_both}
 
 notes_both : (es fs : List HistoryEntry) → length (filter is_note (es ++ fs)) ≡ length (filter is_note es) + length (filter is_note fs)

@@ -1,7 +1,5 @@
 -- The numbers of the feedback on an action rise.
-use Rattle.std.proofs.Common.{◌≡◌, ℕ, zero, suc, ◌<◌, Bool, true, false, cond, ◌&&◌, List, [], ◌∷◌, ◌++◌, refl, sym, ◌∙◌, ap, subst, arith, Option, Some, None}
-use Rattle.std.specs.Prelude.{is_none, nat_eq, nat_lt, slice_get}
-use Rattle.rollout_machine.proofs.Common.{option_or, ltb-true, action_place, history, is_heard, outcome, reports, CommandList, Make, ◌▸◌, CancelFeedback, Command, Feedback, Outcome, ActionRecord, action_in, records, Again, Fresh, HistoryEntry, Numbered, OfCancel, OfDeployment, Old, Reported, Standing, against, bearing, is_again, numbered_if, reported, reported_by, same_entry, says_again, says_old, standing_by, standing_of, IsValid, is_old, on_action, verdict, verdict_row}
+use Rattle.rollout_machine.proofs.Common.{◌≡◌, ℕ, zero, suc, ◌<◌, Bool, true, false, cond, ◌&&◌, List, [], ◌∷◌, ◌++◌, refl, sym, ◌∙◌, ap, subst, arith, Option, Some, None, is_none, nat_eq, nat_lt, slice_get, option_or, ltb-true, action_place, history, is_heard, outcome, reports, CommandList, Make, ◌▸◌, CancelFeedback, Command, Feedback, Outcome, ActionRecord, action_in, records, Again, Fresh, HistoryEntry, Numbered, OfCancel, OfDeployment, Old, Reported, Standing, against, bearing, is_again, numbered_if, reported, reported_by, same_entry, says_again, says_old, standing_by, standing_of, IsValid, is_old, on_action, verdict, verdict_row}
 use Rattle.rollout_machine.specs.Promises.{NumbersRise, NumbersRiseIn}
 use Rattle.rollout_machine.proofs.Actions.{append_none, open_reports}
 use Rattle.rollout_machine.proofs.AtNumbers.{has_place}

@@ -1,5 +1,5 @@
 -- The offers of targets that a command doesn't touch stay.
-use Rattle.rollout_machine.proofs.Common.{ActionPlace, action_place, action_places, action_of, is_on_action, is_action_place, is_canceling, new_places, outcome, cancel_stands, item_numbered, CommandList, ◌▸◌, Bytes, Command, Outcome, IsOfferable, IsLeastOffer, Offer, offer, is_group_started, records, Rollout, rollout_at, IsValid, and_parts, cases_Bool, cases_order, eqb-true}
+use Rattle.rollout_machine.proofs.Common.{◌≡◌, ◌⊎◌, ℕ, Bool, true, false, ◌&&◌, Option, Some, None, inl, inr, refl, sym, ap, ◌∙◌, slice_get, nat_eq, ActionPlace, action_place, action_places, action_of, is_on_action, is_action_place, is_canceling, new_places, outcome, cancel_stands, item_numbered, CommandList, ◌▸◌, Bytes, Command, Outcome, IsOfferable, IsLeastOffer, Offer, offer, is_group_started, records, Rollout, rollout_at, IsValid, and_parts, cases_Bool, cases_order, eqb-true}
 use Rattle.rollout_machine.specs.Promises.{IsUntouched, OffersStay}
 use Rattle.rollout_machine.proofs.Distinct.{new_at}
 use Rattle.rollout_machine.proofs.Induction.{invariant_of, stays_numbered, either_numbered, never_started}
@@ -8,8 +8,6 @@ use Rattle.rollout_machine.proofs.Recounts.{stays_there, new_rollout_there}
 use Rattle.rollout_machine.proofs.Starts.{kept_started}
 use Rattle.rollout_machine.proofs.Tallies.{untouched, closed_stays}
 use Rattle.rollout_machine.proofs.Valid.{IsPlace}
-use Rattle.std.proofs.Common.{◌≡◌, ◌⊎◌, ℕ, Bool, true, false, ◌&&◌, Option, Some, None, inl, inr, refl, sym, ap, ◌∙◌}
-use Rattle.std.specs.Prelude.{slice_get, nat_eq}
 
 -- the command is not on an action of an untouched target
 off : (h : CommandList) (c : Command) (t : Bytes) (k : ℕ) (p : ActionPlace) → IsUntouched h c t → (x : Rollout) → rollout_at h p.rollout ≡ Some x → item_numbered x.members p.position ≡ Some t → is_on_action h c p.rollout p.position ≡ false

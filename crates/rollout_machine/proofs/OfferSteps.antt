@@ -1,5 +1,5 @@
 -- What can be offered after a command, from what could be before it.
-use Rattle.rollout_machine.proofs.Common.{ActionPlace, action_places, new_places, outcome, item_numbered, CommandList, ◌▸◌, Bytes, Command, Outcome, IsOfferable, is_group_started, Rollout, rollout_at, IsValid, cases_Bool}
+use Rattle.rollout_machine.proofs.Common.{◌≡◌, ◌⊎◌, ℕ, false, Option, Some, None, inl, inr, refl, sym, ◌∙◌, slice_get, ActionPlace, action_places, new_places, outcome, item_numbered, CommandList, ◌▸◌, Bytes, Command, Outcome, IsOfferable, is_group_started, Rollout, rollout_at, IsValid, cases_Bool}
 use Rattle.rollout_machine.specs.Promises.{BecomesOfferable, OffersFollow, StaysOfferable}
 use Rattle.rollout_machine.proofs.Distinct.{new_at}
 use Rattle.rollout_machine.proofs.Induction.{accepted, either_numbered, invariant_of, never_started, stays_numbered}
@@ -8,8 +8,6 @@ use Rattle.rollout_machine.proofs.Starts.{kept_started}
 use Rattle.rollout_machine.proofs.Tallies.{closed_stays, still_open}
 use Rattle.rollout_machine.proofs.Valid.{IsPlace}
 use Rattle.rollout_machine.proofs.Whole.{IsAccepted}
-use Rattle.std.proofs.Common.{◌≡◌, ◌⊎◌, ℕ, false, Option, Some, None, inl, inr, refl, sym, ◌∙◌}
-use Rattle.std.specs.Prelude.{slice_get}
 
 open_before : (h : CommandList) (c : Command) (p : ActionPlace) → outcome (h ▸ c) p.rollout p.position ≡ None → outcome h p.rollout p.position ≡ None
 open_before h c p open' = go (outcome h p.rollout p.position) refl where

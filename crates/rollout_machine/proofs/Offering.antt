@@ -1,10 +1,8 @@
 -- What answers to devices name and give is offered.
-use Rattle.rollout_machine.proofs.Common.{ActionPlace, query_reply, if_found, for_device, download, targets_reply, targets_matching, is_offer_of, modules_offered, artifact_named, action_of_target, artifact_of_module, item_numbered, CommandList, Bytes, Credential, IsOfferable, IsLeastOffer, deployment_shown, modules_of_action, Offer, offer, records, Records, ArtifactRecord, Reply, Refused, PollShown, DeploymentShown, CancelShown, ContentsShown, Page, Query, Poll, ShowDeployment, ShowCancel, Download, ShowTargets, ShowTarget, ShowTargetActions, ShowAction, ShowHistory, ShowModules, ShowModule, ShowArtifacts, ShowArtifact, ShowContents, ShowSets, ShowSet, ShowRollouts, ShowRollout, ShowGroups, ShowGroup, ShowGroupTargets, ShowReport, ShowActionsTable, group_numbered, IsValid, is_known, target_of, NotFound, Unauthorized, Tree, filter_of, list_any, option_map, and_parts, eqb-true}
+use Rattle.rollout_machine.proofs.Common.{◌≡◌, ℕ, Bool, true, false, cond, not, ◌&&◌, [], Option, Some, None, refl, subst, ◌∙◌, nat_eq, ActionPlace, query_reply, if_found, for_device, download, targets_reply, targets_matching, is_offer_of, modules_offered, artifact_named, action_of_target, artifact_of_module, item_numbered, CommandList, Bytes, Credential, IsOfferable, IsLeastOffer, deployment_shown, modules_of_action, Offer, offer, records, Records, ArtifactRecord, Reply, Refused, PollShown, DeploymentShown, CancelShown, ContentsShown, Page, Query, Poll, ShowDeployment, ShowCancel, Download, ShowTargets, ShowTarget, ShowTargetActions, ShowAction, ShowHistory, ShowModules, ShowModule, ShowArtifacts, ShowArtifact, ShowContents, ShowSets, ShowSet, ShowRollouts, ShowRollout, ShowGroups, ShowGroup, ShowGroupTargets, ShowReport, ShowActionsTable, group_numbered, IsValid, is_known, target_of, NotFound, Unauthorized, Tree, filter_of, list_any, option_map, and_parts, eqb-true}
 use Rattle.rollout_machine.specs.Answers.{answer}
 use Rattle.rollout_machine.specs.Promises.{named_action, NamedIsOfferable, IsDownloadable, DownloadsAreOffered}
 use Rattle.rollout_machine.proofs.Offers.{offer_is_least}
-use Rattle.std.proofs.Common.{◌≡◌, ℕ, Bool, true, false, cond, not, ◌&&◌, [], Option, Some, None, refl, subst, ◌∙◌}
-use Rattle.std.specs.Prelude.{nat_eq}
 
 -- ---- replies that name no action
 

@@ -1,11 +1,8 @@
 -- What is offered is an open action of a started group.
-use Rattle.std.proofs.Common.{◌≡◌, ℕ, suc, ◌+◌, Bool, true, false, cond, ◌&&◌, List, [], ◌∷◌, refl, sym, ◌∙◌, ap, arith, Option, Some, None}
-use Rattle.std.specs.Prelude.{slice_get, is_none}
-use Rattle.rollout_machine.proofs.Common.{option_map, and_parts, ActionPlace, action_places, action_place, outcome, item_numbered, same_bytes, CommandList, Bytes, HasSoundPlan, IsOfferable, IsLeastOffer, OfferIsLeast, Offer, first_offer, offer, is_group_started, Records, ActionRecord, action_in, Rollout, is_for, has_started, member_at, IsValid, unwrap_or, false≢true, ltb-true}
+use Rattle.rollout_machine.proofs.Common.{◌≡◌, ℕ, suc, ◌+◌, Bool, true, false, cond, ◌&&◌, List, [], ◌∷◌, refl, sym, ◌∙◌, ap, arith, Option, Some, None, slice_get, is_none, zero, ◌≤◌, ◌<◌, length, option_map, and_parts, ActionPlace, action_places, action_place, outcome, item_numbered, same_bytes, CommandList, Bytes, HasSoundPlan, IsOfferable, IsLeastOffer, OfferIsLeast, Offer, first_offer, offer, is_group_started, Records, ActionRecord, action_in, Rollout, is_for, has_started, member_at, IsValid, unwrap_or, false≢true, ltb-true}
 use Rattle.rollout_machine.specs.Records.{records}
 use Rattle.rollout_machine.proofs.Actions.{get_map}
 use Rattle.rollout_machine.proofs.Valid.{IsPlace, its_group, has_started_is}
-use Rattle.std.proofs.Common.{zero, ◌+◌, ◌≤◌, ◌<◌, length}
 use Rattle.rollout_machine.proofs.Cuts.{group_of}
 use Rattle.rollout_machine.proofs.Whole.{rollout_numbered}
 use Rattle.rollout_machine.proofs.Valid.{found_action}

@@ -1,9 +1,8 @@
 -- A feedback on an action that has its outcome changes no record, and neither does an import that comes twice.
-use Rattle.rollout_machine.proofs.Common.{answer, query_reply, command_reply, Asked, Asks, Do, Ask, Refusal, ActionPlace, action_places, action_place, contains_word, with_words, same_bytes, same_words, with_word, CommandList, ◌▸◌, Make, Command, Feedback, Bytes, PutTargets, TargetRow, CancelFeedback, step_records, rollouts_in, action_in, needs_approval, modules, artifacts, sets, without_repeats, is_doubled, same_rows, same_row, IsTraceless, is_had, RepeatsLeaveNoTrace, is_repeat, rollouts, target_in, last_row_of, tags_in, target_ids, targets, attributes_in, Target, last_row_for, tags_by_row, IsValid, verdict, check, option_or, unwrap_or, false≢true, cases_Bool, and_parts}
+use Rattle.rollout_machine.proofs.Common.{List, [], ◌∷◌, ◌||◌, cond, Option, None, subst, inl, inr, ◌≡◌, Bool, true, false, ◌&&◌, refl, sym, ◌∙◌, ap, Some, answer, query_reply, command_reply, Asked, Asks, Do, Ask, Refusal, ActionPlace, action_places, action_place, contains_word, with_words, same_bytes, same_words, with_word, CommandList, ◌▸◌, Make, Command, Feedback, Bytes, PutTargets, TargetRow, CancelFeedback, step_records, rollouts_in, action_in, needs_approval, modules, artifacts, sets, without_repeats, is_doubled, same_rows, same_row, IsTraceless, is_had, RepeatsLeaveNoTrace, is_repeat, rollouts, target_in, last_row_of, tags_in, target_ids, targets, attributes_in, Target, last_row_for, tags_by_row, IsValid, verdict, check, option_or, unwrap_or, false≢true, cases_Bool, and_parts}
 use Rattle.rollout_machine.specs.Requests.{Rejected}
 use Rattle.rollout_machine.proofs.Answering.{rejected_answer, query_answer, refused_answer, accepted_step}
 use Rattle.rollout_machine.specs.Records.{records}
-use Rattle.std.proofs.Common.{List, [], ◌∷◌, ◌||◌, cond, Option, None, subst, inl, inr}
 use Rattle.std.specs.Prelude.{map, ⊤}
 use Rattle.rollout_machine.proofs.Imports.{IsSorted, sorted_ids, never_with, with_there}
 use Rattle.rollout_machine.proofs.TargetTies.{same_refl, same_true, has_with}
@@ -12,7 +11,6 @@ use Rattle.rollout_machine.proofs.Actions.{calm_actions}
 use Rattle.rollout_machine.proofs.Whole.{bare, calm_everywhere, had_changes_nothing}
 use Rattle.rollout_machine.proofs.Induction.{accepted}
 use Rattle.rollout_machine.proofs.Main.{records_step}
-use Rattle.std.proofs.Common.{◌≡◌, Bool, true, false, ◌&&◌, refl, sym, ◌∙◌, ap, Some}
 use Rattle.rollout_machine.proofs.Actions.{append_none, map_same}
 use Rattle.rollout_machine.proofs.Whole.{same_records}
 

@@ -1,7 +1,5 @@
 -- The lists of targets, tags and members rise in byte order.
-use Rattle.std.proofs.Common.{◌≡◌, ℕ, zero, suc, ◌<◌, Bool, true, false, cond, not, List, [], ◌∷◌, map, refl, sym, ◌∙◌, ap, subst, arith, Option, Some, None}
-use Rattle.std.specs.Prelude.{filter, slice_get}
-use Rattle.rollout_machine.proofs.Common.{option_map, Tree, filter_of, bytes_below, item_numbered, same_bytes, sorted_words, without_word, CommandList, Make, ◌▸◌, Bytes, PutTargets, Tag, TargetRow, Untag, matches, Rollout, chosen, rollout_at, Target, last_row_for, tags_by_row, tags_in, target_ids, target_in, targets, IsValid}
+use Rattle.rollout_machine.proofs.Common.{◌≡◌, ℕ, zero, suc, ◌<◌, Bool, true, false, cond, not, List, [], ◌∷◌, map, refl, sym, ◌∙◌, ap, subst, arith, Option, Some, None, filter, slice_get, option_map, Tree, filter_of, bytes_below, item_numbered, same_bytes, sorted_words, without_word, CommandList, Make, ◌▸◌, Bytes, PutTargets, Tag, TargetRow, Untag, matches, Rollout, chosen, rollout_at, Target, last_row_for, tags_by_row, tags_in, target_ids, target_in, targets, IsValid}
 use Rattle.rollout_machine.specs.Orders.{ListsRiseInOrder, RiseInBytes}
 use Rattle.rollout_machine.specs.Records.{records}
 use Rattle.rollout_machine.proofs.Actions.{numbered_map}

@@ -1,9 +1,6 @@
 -- The computing definition of a pause, and the words "some prefix began a pause, and no resume follows it".
-use Rattle.std.proofs.Common.{◌≡◌, Bool, true, false, ◌||◌, ◌&&◌, not, List, [], ◌∷◌, ◌++◌, refl, ◌∙◌, ap, subst, ℕ}
-use Rattle.rollout_machine.proofs.Common.{and_parts, not-true, eq-eqb, eqb-true, false≢true, cases_Bool, CommandList, Make, ◌▸◌, followed_by, Resume, Start, Command, NoResume, SomePause, PausedIs, StartIsIn, FirstStartedIs, is_rollout_started, is_start_of, is_paused, pause_begins, is_resume_of, Rollout}
-use Rattle.std.proofs.Common.{sym}
+use Rattle.rollout_machine.proofs.Common.{◌≡◌, Bool, true, false, ◌||◌, ◌&&◌, not, List, [], ◌∷◌, ◌++◌, refl, ◌∙◌, ap, subst, ℕ, sym, inl, inr, ◌⊎◌, and_parts, not-true, eq-eqb, eqb-true, false≢true, cases_Bool, CommandList, Make, ◌▸◌, followed_by, Resume, Start, Command, NoResume, SomePause, PausedIs, StartIsIn, FirstStartedIs, is_rollout_started, is_start_of, is_paused, pause_begins, is_resume_of, Rollout}
 use Rattle.rollout_machine.proofs.Meanings.{one_more, pause_begins_to, pause_begins_from, longer}
-use Rattle.std.proofs.Common.{inl, inr, ◌⊎◌}
 
 abbrev pub NoneResumes : ℕ → List Command → Type 0
 NoneResumes r [] = Unit {0}

@@ -1,12 +1,10 @@
 -- At most one group starts in a command, and none is left to start after it.
-use Rattle.rollout_machine.proofs.Common.{CommandList, Make, ◌▸◌, Command, success_holds, IsLast, is_group_started, is_paused, next_started, is_trigger_of, Rollout, rollout_at, false≢true, lt-ltb}
+use Rattle.rollout_machine.proofs.Common.{◌≡◌, ℕ, Some, zero, suc, ◌≤◌, ◌<◌, Bool, true, false, cond, ◌&&◌, ◌||◌, not, refl, sym, ◌∙◌, arith, inl, inr, ◌⊎◌, nat_lt, CommandList, Make, ◌▸◌, Command, success_holds, IsLast, is_group_started, is_paused, next_started, is_trigger_of, Rollout, rollout_at, false≢true, lt-ltb}
 use Rattle.rollout_machine.specs.Promises.{StartsGroup, NoGroupIsLeft}
 use Rattle.rollout_machine.proofs.EffectLaws.{no_further}
 use Rattle.rollout_machine.proofs.Starts.{starts_one_more, last_made}
 use Rattle.rollout_machine.proofs.Ties.{IsCalm, IsFollowed, calm_last, follow_on}
 use Rattle.rollout_machine.proofs.Whole.{IsAccepted}
-use Rattle.std.proofs.Common.{◌≡◌, ℕ, Some, zero, suc, ◌≤◌, ◌<◌, Bool, true, false, cond, ◌&&◌, ◌||◌, not, refl, sym, ◌∙◌, arith, inl, inr, ◌⊎◌}
-use Rattle.std.specs.Prelude.{nat_lt}
 
 -- a group is behind the last started one, or not
 behind : (x : Rollout) (r i l : ℕ) (h : CommandList) → IsLast x r h l → is_group_started x r i h ≡ false → 1 ≤ i → l < i

@@ -1,5 +1,5 @@
 -- The counts of groups are those of their actions.
-use Rattle.rollout_machine.proofs.Common.{ActionPlace, action_places, new_places, places_of, places_from, outcome, CommandList, Make, ◌▸◌, Command, Start, Outcome, Good, Bad, Gone, is_outcome, tally, IsCut, holds_position, is_rollout_started, is_start_of, is_paused, count_from, each_from, action_in, ActionRecord, group_in, rollout_in, rollouts_in, approval_of, GroupRecord, Rollout, rollout_at, rollouts, size_of, bounds_in, last_of, created, is_finished, IsValid, verdict, verdict_row, is_ready, Bounds, cases_eq, ne_eqb, eq-eqb, lt-leb, le-leb}
+use Rattle.rollout_machine.proofs.Common.{◌≡◌, ℕ, zero, suc, ◌+◌, ◌-◌, ◌≤◌, ◌<◌, Bool, true, false, cond, ◌&&◌, ◌||◌, List, [], ◌∷◌, ◌++◌, refl, sym, ◌∙◌, ap, subst, arith, inl, inr, Option, Some, None, map, nat_eq, nat_le, slice_get, ActionPlace, action_places, new_places, places_of, places_from, outcome, CommandList, Make, ◌▸◌, Command, Start, Outcome, Good, Bad, Gone, is_outcome, tally, IsCut, holds_position, is_rollout_started, is_start_of, is_paused, count_from, each_from, action_in, ActionRecord, group_in, rollout_in, rollouts_in, approval_of, GroupRecord, Rollout, rollout_at, rollouts, size_of, bounds_in, last_of, created, is_finished, IsValid, verdict, verdict_row, is_ready, Bounds, cases_eq, ne_eqb, eq-eqb, lt-leb, le-leb}
 use Rattle.rollout_machine.specs.Kinds.{count_actions, counted_group, counted_rollout, stored_group, stored_rollout}
 use Rattle.rollout_machine.specs.Promises.{StoredSayAll}
 use Rattle.rollout_machine.specs.Records.{records}
@@ -10,8 +10,6 @@ use Rattle.rollout_machine.proofs.Induction.{invariant_of, word_at, ready_not_be
 use Rattle.rollout_machine.proofs.Ties.{IsFollowed, groups_go}
 use Rattle.rollout_machine.proofs.Valid.{NoneHolds, none_holds}
 use Rattle.rollout_machine.proofs.Whole.{AllNumbered, from_numbers}
-use Rattle.std.proofs.Common.{◌≡◌, ℕ, zero, suc, ◌+◌, ◌-◌, ◌≤◌, ◌<◌, Bool, true, false, cond, ◌&&◌, ◌||◌, List, [], ◌∷◌, ◌++◌, refl, sym, ◌∙◌, ap, subst, arith, inl, inr, Option, Some, None}
-use Rattle.std.specs.Prelude.{map, nat_eq, nat_le, slice_get}
 
 abbrev count_where : (ActionPlace → Bool) → List ActionPlace → ℕ
 count_where P [] = 0

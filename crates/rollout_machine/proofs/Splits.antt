@@ -1,6 +1,5 @@
 -- A split that leaves no group empty is a cut.
-use Rattle.std.proofs.Common.{◌≡◌, ◌≤◌, ◌<◌, ℕ, zero, suc, ◌+◌, ◌-◌, ◌*◌, ◌/◌, Bool, true, false, cond, List, [], ◌∷◌, ◌++◌, nat_eq, length, slice_get, take, drop, Some, None, refl, sym, ap, subst, ◌∙◌, arith}
-use Rattle.rollout_machine.proofs.Common.{AllByRecursion, nat_tests, le-div, div-lt_iff_lt-mul, FirstEmptyTells, SplitCovers, first_empty_from, left_by, share, split_bounds_of, split_last, Bounds}
+use Rattle.rollout_machine.proofs.Common.{◌≡◌, ◌≤◌, ◌<◌, ℕ, zero, suc, ◌+◌, ◌-◌, ◌*◌, ◌/◌, Bool, true, false, cond, List, [], ◌∷◌, ◌++◌, nat_eq, length, slice_get, take, drop, Some, None, refl, sym, ap, subst, ◌∙◌, arith, AllByRecursion, nat_tests, le-div, div-lt_iff_lt-mul, FirstEmptyTells, SplitCovers, first_empty_from, left_by, share, split_bounds_of, split_last, Bounds}
 
 some_share : (rest p : ℕ) → 1 ≤ rest → 1 ≤ p → 1 ≤ share rest p
 some_share rest p a b = le-div 1 (rest * p + 99) 100 (omega arith) (omega (arith, product rest p a b))

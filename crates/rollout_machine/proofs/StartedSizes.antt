@@ -1,7 +1,5 @@
 -- No more actions than the members of all rollouts: each rollout is started once.
-use Rattle.std.proofs.Common.{◌≡◌, ℕ, zero, suc, ◌+◌, ◌*◌, ◌≤◌, Bool, true, false, cond, List, [], ◌∷◌, ◌++◌, length, refl, ap, subst, arith, Some, None}
-use Rattle.std.specs.Prelude.{slice_get}
-use Rattle.rollout_machine.proofs.Common.{eq-eqb, action_places, CommandList, Make, ◌▸◌, Command, Start, size_at, started_by, started_sizes, is_rollout_started, Rollout, created, rollout_at, rollouts, size_of, IsValid, verdict}
+use Rattle.rollout_machine.proofs.Common.{◌≡◌, ℕ, zero, suc, ◌+◌, ◌*◌, ◌≤◌, Bool, true, false, cond, List, [], ◌∷◌, ◌++◌, length, refl, ap, subst, arith, Some, None, slice_get, eq-eqb, action_places, CommandList, Make, ◌▸◌, Command, Start, size_at, started_by, started_sizes, is_rollout_started, Rollout, created, rollout_at, rollouts, size_of, IsValid, verdict}
 use Rattle.rollout_machine.proofs.Meanings.{length_places}
 use Rattle.rollout_machine.proofs.Recounts.{starts_fresh}
 

@@ -1,7 +1,5 @@
 -- Which groups are started after one more command: those that were, and at most the next one.
-use Rattle.std.proofs.Common.{◌≡◌, ℕ, zero, suc, ◌<◌, ◌≤◌, Bool, true, false, cond, ◌||◌, ◌&&◌, not, refl, ◌∙◌, arith, inl, inr, ◌⊎◌}
-use Rattle.std.specs.Prelude.{nat_lt}
-use Rattle.rollout_machine.proofs.Common.{cases_eq, cases_Bool, ltb-true, false≢true, CommandList, Make, ◌▸◌, Command, success_holds, IsLast, is_group_started, next_started, is_paused, is_trigger_of, is_start_of, is_rollout_started, Rollout}
+use Rattle.rollout_machine.proofs.Common.{◌≡◌, ℕ, zero, suc, ◌<◌, ◌≤◌, Bool, true, false, cond, ◌||◌, ◌&&◌, not, refl, ◌∙◌, arith, inl, inr, ◌⊎◌, nat_lt, cases_eq, cases_Bool, ltb-true, false≢true, CommandList, Make, ◌▸◌, Command, success_holds, IsLast, is_group_started, next_started, is_paused, is_trigger_of, is_start_of, is_rollout_started, Rollout}
 
 -- whether the command starts a group, where l is the last one before it
 abbrev pub starts_one_more : Rollout → ℕ → CommandList → Command → ℕ → Bool

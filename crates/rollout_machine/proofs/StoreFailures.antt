@@ -1,9 +1,7 @@
 -- No answer is a failed store: verdicts and queries have other refusals.
-use Rattle.rollout_machine.proofs.Common.{query_reply, command_reply, command_answer, if_found, for_device, download, targets_reply, targets_matching, is_offer_of, added_artifact, added_rollout, modules_offered, artifact_named, action_of_target, artifact_of_module, item_numbered, CommandList, ◌▸◌, Bytes, Credential, Command, AddModule, AddArtifact, AddSet, PutTargets, Tag, Untag, PutAttributes, CreateRollout, Approve, Deny, Start, Pause, Resume, TriggerNext, Cancel, Feedback, CancelFeedback, filter_of, Tree, deployment_shown, offer, records, Records, ArtifactRecord, RolloutRecord, Reply, Refused, PollShown, DeploymentShown, CancelShown, ContentsShown, Page, Query, Poll, ShowDeployment, ShowCancel, Download, ShowTargets, ShowTarget, ShowTargetActions, ShowAction, ShowHistory, ShowModules, ShowModule, ShowArtifacts, ShowArtifact, ShowContents, ShowSets, ShowSet, ShowRollouts, ShowRollout, ShowGroups, ShowGroup, ShowGroupTargets, ShowReport, ShowActionsTable, Request, Do, Ask, Asks, group_numbered, verdict, check, verdict_row, first_refusal, is_known, target_of, Refusal, StoreFailed, NotFound, Unauthorized, list_any, false≢true, and_parts}
+use Rattle.rollout_machine.proofs.Common.{◌≡◌, ◌≢◌, Bool, true, false, List, [], ◌∷◌, ℕ, Option, Some, None, refl, ap, sym, subst, length, ◌∙◌, cond, not, ◌&&◌, nat_eq, query_reply, command_reply, command_answer, if_found, for_device, download, targets_reply, targets_matching, is_offer_of, added_artifact, added_rollout, modules_offered, artifact_named, action_of_target, artifact_of_module, item_numbered, CommandList, ◌▸◌, Bytes, Credential, Command, AddModule, AddArtifact, AddSet, PutTargets, Tag, Untag, PutAttributes, CreateRollout, Approve, Deny, Start, Pause, Resume, TriggerNext, Cancel, Feedback, CancelFeedback, filter_of, Tree, deployment_shown, offer, records, Records, ArtifactRecord, RolloutRecord, Reply, Refused, PollShown, DeploymentShown, CancelShown, ContentsShown, Page, Query, Poll, ShowDeployment, ShowCancel, Download, ShowTargets, ShowTarget, ShowTargetActions, ShowAction, ShowHistory, ShowModules, ShowModule, ShowArtifacts, ShowArtifact, ShowContents, ShowSets, ShowSet, ShowRollouts, ShowRollout, ShowGroups, ShowGroup, ShowGroupTargets, ShowReport, ShowActionsTable, Request, Do, Ask, Asks, group_numbered, verdict, check, verdict_row, first_refusal, is_known, target_of, Refusal, StoreFailed, NotFound, Unauthorized, list_any, false≢true, and_parts}
 use Rattle.rollout_machine.specs.Answers.{answer}
 use Rattle.rollout_machine.specs.StoreFailures.{is_failed_store, is_store}
-use Rattle.std.proofs.Common.{◌≡◌, ◌≢◌, Bool, true, false, List, [], ◌∷◌, ℕ, Option, Some, None, refl, ap, sym, subst, length, ◌∙◌}
-use Rattle.std.specs.Prelude.{cond, not, ◌&&◌, nat_eq}
 
 is_store_true : (refusal : Refusal) → is_store refusal ≡ true → refusal ≡ StoreFailed
 is_store_true StoreFailed e = refl

@@ -1,7 +1,5 @@
 -- How one command changes the outcomes and the counts of a rollout's groups.
-use Rattle.std.proofs.Common.{◌≡◌, ℕ, zero, suc, ◌+◌, ◌*◌, ◌≤◌, Bool, true, false, cond, ◌||◌, ◌&&◌, not, refl, sym, ◌∙◌, ap, subst, arith, inl, inr, Option, Some, None}
-use Rattle.rollout_machine.proofs.Common.{and-false, option_or, cases_eq, cases_Bool, lt-leb, ne_eqb, false≢true, ActionPlace, action_of, is_heard, is_on_action, is_action_place, outcome, outcome_given, cancel_stands, CommandList, ◌▸◌, Command, Cancel, Feedback, CancelFeedback, Outcome, Good, Bad, Gone, tally, reaches, success_holds, is_outcome, IsInGroup, HasSoundPlan, StartedOnly, OutcomesStarted, GetsOutcome, is_group_started, is_paused, error_begins_at, is_pause_of, is_resume_of, is_trigger_of, is_start_of, some_up_to, Rollout, success_at, error_at, first_of, size_in}
-use Rattle.std.specs.Prelude.{nat_le, nat_eq}
+use Rattle.rollout_machine.proofs.Common.{◌≡◌, ℕ, zero, suc, ◌+◌, ◌*◌, ◌≤◌, Bool, true, false, cond, ◌||◌, ◌&&◌, not, refl, sym, ◌∙◌, ap, subst, arith, inl, inr, Option, Some, None, nat_le, nat_eq, and-false, option_or, cases_eq, cases_Bool, lt-leb, ne_eqb, false≢true, ActionPlace, action_of, is_heard, is_on_action, is_action_place, outcome, outcome_given, cancel_stands, CommandList, ◌▸◌, Command, Cancel, Feedback, CancelFeedback, Outcome, Good, Bad, Gone, tally, reaches, success_holds, is_outcome, IsInGroup, HasSoundPlan, StartedOnly, OutcomesStarted, GetsOutcome, is_group_started, is_paused, error_begins_at, is_pause_of, is_resume_of, is_trigger_of, is_start_of, some_up_to, Rollout, success_at, error_at, first_of, size_in}
 use Rattle.rollout_machine.proofs.Counts.{count_same, count_none, count_one, none_up_to, one_up_to}
 use Rattle.rollout_machine.proofs.Cuts.{one_group, size_positive}
 use Rattle.rollout_machine.proofs.Starts.{kept_started}

@@ -1,7 +1,5 @@
 -- Targets in words: who is there, by which row, and the values of their attributes.
-use Rattle.rollout_machine.proofs.Common.{same_bytes, with_word, with_words, contains_word, bytes_below, Make, CommandList, ◌▸◌, followed_by, Attribute, PutAttributes, Bytes, PutTargets, TargetRow, Command, NotNamed, ValueIsLast, RowIsLast, last_given, TargetsAreNamed, NeverNamed, last_value, value_of, LastRow, with_attributes, with_attribute, import_rows_of, last_row_of, target_ids, last_row_for, attributes_in, option_or, false≢true}
-use Rattle.std.proofs.Common.{◌≡◌, Bool, true, false, cond, ◌||◌, List, [], ◌∷◌, ◌++◌, refl, sym, ◌∙◌, ap, subst, Option, Some, None}
-use Rattle.std.specs.Prelude.{map, is_some}
+use Rattle.rollout_machine.proofs.Common.{◌≡◌, Bool, true, false, cond, ◌||◌, List, [], ◌∷◌, ◌++◌, refl, sym, ◌∙◌, ap, subst, Option, Some, None, map, is_some, same_bytes, with_word, with_words, contains_word, bytes_below, Make, CommandList, ◌▸◌, followed_by, Attribute, PutAttributes, Bytes, PutTargets, TargetRow, Command, NotNamed, ValueIsLast, RowIsLast, last_given, TargetsAreNamed, NeverNamed, last_value, value_of, LastRow, with_attributes, with_attribute, import_rows_of, last_row_of, target_ids, last_row_for, attributes_in, option_or, false≢true}
 use Rattle.rollout_machine.proofs.TargetTies.{same_by, same_sym, same_true, has_with}
 use Rattle.rollout_machine.proofs.Meanings.{row_is_last}
 

@@ -1,8 +1,5 @@
 -- The targets' records after a change of their tags or attributes.
-use Rattle.std.proofs.Common.{◌≡◌, ℕ, arith, ap₂, Bool, true, false, cond, ◌||◌, ◌&&◌, not, List, [], ◌∷◌, refl, sym, ◌∙◌, ap, Option, Some, None}
-use Rattle.std.specs.Prelude.{map, nat_eq}
-use Rattle.rollout_machine.proofs.Common.{unwrap_or, cases_Bool, eq-eqb, eqb-true, false≢true, and_parts, nat_tests, action_places, same_bytes, bytes_below, contains_word, with_word, without_word, sorted_words, CommandList, Make, ◌▸◌, Bytes, Credential, Attribute, TargetRow, Command, PutTargets, Tag, Untag, PutAttributes, TagsAreSaid, step_records, change_target, rollouts_in, action_in, needs_approval, modules, artifacts, sets, rollouts, Target, target_in, target_ids, tags_in, tags_by_row, has_tag, tag_in_row, last_row_for, attributes_in, with_attributes, IsValid, verdict}
-use Rattle.std.proofs.Common.{inl, inr}
+use Rattle.rollout_machine.proofs.Common.{◌≡◌, ℕ, arith, ap₂, Bool, true, false, cond, ◌||◌, ◌&&◌, not, List, [], ◌∷◌, refl, sym, ◌∙◌, ap, Option, Some, None, map, nat_eq, inl, inr, unwrap_or, cases_Bool, eq-eqb, eqb-true, false≢true, and_parts, nat_tests, action_places, same_bytes, bytes_below, contains_word, with_word, without_word, sorted_words, CommandList, Make, ◌▸◌, Bytes, Credential, Attribute, TargetRow, Command, PutTargets, Tag, Untag, PutAttributes, TagsAreSaid, step_records, change_target, rollouts_in, action_in, needs_approval, modules, artifacts, sets, rollouts, Target, target_in, target_ids, tags_in, tags_by_row, has_tag, tag_in_row, last_row_for, attributes_in, with_attributes, IsValid, verdict}
 use Rattle.std.specs.Cmp.Lexicographic.{pointwise}
 use Rattle.rollout_machine.specs.Records.{records}
 use Rattle.rollout_machine.proofs.EffectLaws.{calm_outcome}

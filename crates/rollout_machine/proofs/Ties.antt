@@ -1,8 +1,5 @@
 -- A rollout's record after one more command, from its record before it.
-use Rattle.std.proofs.Common.{◌≡◌, ℕ, zero, suc, ◌+◌, ◌-◌, ◌<◌, ◌≤◌, Bool, true, false, cond, ◌||◌, ◌&&◌, not, List, [], ◌∷◌, refl, sym, ◌∙◌, ap, subst, arith, inl, inr, Option, Some, None}
-use Rattle.rollout_machine.proofs.Common.{and-false, or-false, or-true, option_or, cases_eq, cases_Bool, cases_lt, cases_order, ne_eqb, eq-eqb, ltb-true, ActionPlace, action_of, outcome, CommandList, ◌▸◌, Command, Cancel, Feedback, CancelFeedback, Resume, TriggerNext, Pause, Start, Outcome, Good, Bad, Gone, tally, reaches, success_holds, is_outcome, IsInGroup, IsLast, HasSoundPlan, StartedOnly, OutcomesStarted, GetsOutcome, IsGroupView, IsView, feedback_pauses, good_after, next_if, starts_next, last_with, is_group_started, is_paused, is_pause_of, is_resume_of, is_trigger_of, is_start_of, is_rollout_started, each_from, is_item_number, start_group, counted, last_started, group_view, view_from_group, view_of, rollout_after, resumed, triggered, begin_rollout, Approval, Given, GroupRecord, RolloutRecord, group_in, rollout_in, approval_of, approval_by, decided, decision_on, needs_approval, Rollout, success_at, first_of, last_of, size_in, bounds_in, group_holding, group_numbered, Bounds, lt-leb, Effects}
-use Rattle.std.specs.Prelude.{nat_lt, nat_eq, map}
-use Rattle.std.specs.Prelude.{nat_le}
+use Rattle.rollout_machine.proofs.Common.{◌≡◌, ℕ, zero, suc, ◌+◌, ◌-◌, ◌<◌, ◌≤◌, Bool, true, false, cond, ◌||◌, ◌&&◌, not, List, [], ◌∷◌, refl, sym, ◌∙◌, ap, subst, arith, inl, inr, Option, Some, None, nat_lt, nat_eq, map, nat_le, and-false, or-false, or-true, option_or, cases_eq, cases_Bool, cases_lt, cases_order, ne_eqb, eq-eqb, ltb-true, ActionPlace, action_of, outcome, CommandList, ◌▸◌, Command, Cancel, Feedback, CancelFeedback, Resume, TriggerNext, Pause, Start, Outcome, Good, Bad, Gone, tally, reaches, success_holds, is_outcome, IsInGroup, IsLast, HasSoundPlan, StartedOnly, OutcomesStarted, GetsOutcome, IsGroupView, IsView, feedback_pauses, good_after, next_if, starts_next, last_with, is_group_started, is_paused, is_pause_of, is_resume_of, is_trigger_of, is_start_of, is_rollout_started, each_from, is_item_number, start_group, counted, last_started, group_view, view_from_group, view_of, rollout_after, resumed, triggered, begin_rollout, Approval, Given, GroupRecord, RolloutRecord, group_in, rollout_in, approval_of, approval_by, decided, decision_on, needs_approval, Rollout, success_at, first_of, last_of, size_in, bounds_in, group_holding, group_numbered, Bounds, lt-leb, Effects}
 use Rattle.rollout_machine.proofs.Cuts.{IsOwnGroup, held}
 use Rattle.rollout_machine.proofs.Starts.{starts_one_more, last_after}
 use Rattle.rollout_machine.proofs.Tallies.{no_success, tally_same, tally_gains, tally_elsewhere, quiet, no_error_begins, outcomes_after}

@@ -1,7 +1,5 @@
 -- What the verdict on a command gives: it is only on actions of started groups.
-use Rattle.std.proofs.Common.{◌≡◌, ℕ, ◌≤◌, Bool, true, false, ◌||◌, ◌&&◌, not, List, [], ◌∷◌, refl, sym, ◌∙◌, ap, subst, Option, Some, None}
-use Rattle.std.specs.Prelude.{nat_eq}
-use Rattle.rollout_machine.proofs.Common.{option_map, eqb-true, false≢true, and_parts, or_parts, not-false, ActionPlace, action_of, is_action_place, action_places, action_place, item_numbered, CommandList, DeviceFeedback, DeploymentWord, CancelWord, Command, Cancel, Feedback, CancelFeedback, IsInGroup, HasSoundPlan, StartedOnly, is_group_started, action_in, Refusal, Rollout, rollout_at, size_of, has_started, is_started_in, group_is_started, is_for, first_refusal, verdict_row, verdict, is_device_action, on_action}
+use Rattle.rollout_machine.proofs.Common.{◌≡◌, ℕ, ◌≤◌, Bool, true, false, ◌||◌, ◌&&◌, not, List, [], ◌∷◌, refl, sym, ◌∙◌, ap, subst, Option, Some, None, nat_eq, option_map, eqb-true, false≢true, and_parts, or_parts, not-false, ActionPlace, action_of, is_action_place, action_places, action_place, item_numbered, CommandList, DeviceFeedback, DeploymentWord, CancelWord, Command, Cancel, Feedback, CancelFeedback, IsInGroup, HasSoundPlan, StartedOnly, is_group_started, action_in, Refusal, Rollout, rollout_at, size_of, has_started, is_started_in, group_is_started, is_for, first_refusal, verdict_row, verdict, is_device_action, on_action}
 use Rattle.rollout_machine.specs.Records.{records}
 use Rattle.rollout_machine.proofs.Cuts.{IsOwnGroup, group_of, in_its_group, one_group}
 use Rattle.rollout_machine.proofs.Ties.{find_holding}

@@ -1,7 +1,5 @@
 -- The records after one more command are the step of the records before it.
-use Rattle.std.proofs.Common.{◌≡◌, ℕ, zero, suc, ◌+◌, ◌≤◌, Bool, true, false, cond, ◌&&◌, ◌||◌, List, [], ◌∷◌, ◌++◌, refl, sym, ◌∙◌, ap, subst, arith, inl, inr, Option, Some, None}
-use Rattle.rollout_machine.proofs.Common.{or-true, option_map, cases_eq, cases_lt, ne_eqb, eq-eqb, eqb-true, false≢true, and_parts, ActionPlace, action_of, is_heard, is_on_action, is_action_place, outcome, outcome_given, cancel_stands, is_canceling, action_places, action_place, new_places, places_of, places_from, history, item_numbered, CommandList, ◌▸◌, Command, DeviceFeedback, DeploymentWord, CancelWord, AddModule, Cancel, Feedback, CancelFeedback, Resume, TriggerNext, Pause, Start, Outcome, ModuleLabel, SetLabel, IsLast, StartedOnly, HasSoundPlan, is_group_started, is_pause_of, is_resume_of, is_trigger_of, is_start_of, change_rollout, rollout_after, resumed, triggered, begin_rollout, rollouts_after_outcome, outcome_if_new, own_group, act_on, step_action, step_records, new_action, new_actions, ArtifactRecord, RolloutRecord, ActionRecord, Records, rollout_in, rollouts_in, action_in, approval_of, decision_on, needs_approval, modules, artifacts, sets, is_again, Rollout, rollouts, rollout_at, size_of, number_of_group, Target, targets}
-use Rattle.std.specs.Prelude.{is_some, nat_eq, map, slice_get}
+use Rattle.rollout_machine.proofs.Common.{◌≡◌, ℕ, zero, suc, ◌+◌, ◌≤◌, Bool, true, false, cond, ◌&&◌, ◌||◌, List, [], ◌∷◌, ◌++◌, refl, sym, ◌∙◌, ap, subst, arith, inl, inr, Option, Some, None, is_some, nat_eq, map, slice_get, or-true, option_map, cases_eq, cases_lt, ne_eqb, eq-eqb, eqb-true, false≢true, and_parts, ActionPlace, action_of, is_heard, is_on_action, is_action_place, outcome, outcome_given, cancel_stands, is_canceling, action_places, action_place, new_places, places_of, places_from, history, item_numbered, CommandList, ◌▸◌, Command, DeviceFeedback, DeploymentWord, CancelWord, AddModule, Cancel, Feedback, CancelFeedback, Resume, TriggerNext, Pause, Start, Outcome, ModuleLabel, SetLabel, IsLast, StartedOnly, HasSoundPlan, is_group_started, is_pause_of, is_resume_of, is_trigger_of, is_start_of, change_rollout, rollout_after, resumed, triggered, begin_rollout, rollouts_after_outcome, outcome_if_new, own_group, act_on, step_action, step_records, new_action, new_actions, ArtifactRecord, RolloutRecord, ActionRecord, Records, rollout_in, rollouts_in, action_in, approval_of, decision_on, needs_approval, modules, artifacts, sets, is_again, Rollout, rollouts, rollout_at, size_of, number_of_group, Target, targets}
 use Rattle.rollout_machine.specs.Records.{records}
 use Rattle.rollout_machine.proofs.Cuts.{IsOwnGroup, group_of, in_its_group}
 use Rattle.rollout_machine.proofs.Tallies.{untouched, closed_stays, gives, quiet}

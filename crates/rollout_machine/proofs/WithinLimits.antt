@@ -1,7 +1,5 @@
 -- The numbers of a desk are within its limits.
-use Rattle.std.proofs.Common.{◌≡◌, ℕ, zero, suc, ◌+◌, ◌<◌, ◌≤◌, Bool, true, false, ◌||◌, List, [], ◌∷◌, map, length, refl, sym, ap, subst, arith, inl, inr, Option, Some, None}
-use Rattle.std.specs.Prelude.{filter, nat_le, slice_get}
-use Rattle.rollout_machine.proofs.Common.{and_parts, leb-false, leb-true, ltb-false, length-append, length-map, Tree, action_places, outcome, CommandList, Make, ◌▸◌, IsWellFormed, is_plan, AddArtifact, Bytes, Command, CreateRollout, PutTargets, RolloutPlan, Good, Bad, Gone, is_outcome, HasSoundPlan, matches, IsCut, filter_of, action_in, added_artifacts, artifacts, group_in, rollout_in, rollouts_in, Rollout, chosen, created, first_of, last_of, members_of, rollout_at, rollouts, size_in, size_of, Target, target_ids, target_in, targets, IsValid, verdict, verdict_row}
+use Rattle.rollout_machine.proofs.Common.{◌≡◌, ℕ, zero, suc, ◌+◌, ◌<◌, ◌≤◌, Bool, true, false, ◌||◌, List, [], ◌∷◌, map, length, refl, sym, ap, subst, arith, inl, inr, Option, Some, None, filter, nat_le, slice_get, and_parts, leb-false, leb-true, ltb-false, length-append, length-map, Tree, action_places, outcome, CommandList, Make, ◌▸◌, IsWellFormed, is_plan, AddArtifact, Bytes, Command, CreateRollout, PutTargets, RolloutPlan, Good, Bad, Gone, is_outcome, HasSoundPlan, matches, IsCut, filter_of, action_in, added_artifacts, artifacts, group_in, rollout_in, rollouts_in, Rollout, chosen, created, first_of, last_of, members_of, rollout_at, rollouts, size_in, size_of, Target, target_ids, target_in, targets, IsValid, verdict, verdict_row}
 use Rattle.std.proofs.lemmas.List.Sums.{count_by-le-length, length-filter}
 use Rattle.rollout_machine.specs.Records.{records}
 use Rattle.rollout_machine.specs.WithinLimits.{CountsNoMore, IsWithinLimits, LimitsHold}

@@ -1,6 +1,5 @@
 -- What foreign keys set off: their actions change tables that have some, and no others.
-use Rattle.std.proofs.Common.{◌≡◌, ◌≢◌, ℤ, ◌+◌, nat_lt, Err, MatchBool, inl, inr, ℕ, zero, suc, ◌==◌, ◌&&◌, Bool, true, false, cond, List, [], ◌∷◌, ◌++◌, Option, Some, None, Ok, refl, sym, ap, subst, ◌∙◌, flat_map, filter_map}
-use Rattle.sql_calls.proofs.Common.{AllByRecursion, list_any, Row, Trees, Table, Schema, Edit, edited, taken_by, Applies, Reference, ParentKey, Deed, Has, Work, pairs, loses, work_by, work_for, works, End, Goes, ActsOn, Acts, Leads, AreChildren, action_edit, refuses, max_depth, all_has, all_from, HasNoForeignKey}
+use Rattle.sql_calls.proofs.Common.{◌≡◌, ◌≢◌, ℤ, ◌+◌, nat_lt, Err, MatchBool, inl, inr, ℕ, zero, suc, ◌==◌, ◌&&◌, Bool, true, false, cond, List, [], ◌∷◌, ◌++◌, Option, Some, None, Ok, refl, sym, ap, subst, ◌∙◌, flat_map, filter_map, AllByRecursion, list_any, Row, Trees, Table, Schema, Edit, edited, taken_by, Applies, Reference, ParentKey, Deed, Has, Work, pairs, loses, work_by, work_for, works, End, Goes, ActsOn, Acts, Leads, AreChildren, action_edit, refuses, max_depth, all_has, all_from, HasNoForeignKey}
 use Rattle.sqlite_schema.specs.declared.schema.Keys.{Keys}
 use Rattle.sqlite_schema.specs.declared.schema.Constraint.TheVariants.{ForeignKey}
 use Rattle.sqlite_rules.specs.declared.error.Refusal.TheVariants.{Violates, TooDeep}
@@ -26,7 +25,7 @@ all_mapped {A} {B} f P (x ∷ xs) each = go (f x) refl (all_mapped f P xs (λ y 
     go None e more = rw e more
     go (Some b) e more = rw e (each x (inl refl) b e, more)
 
-all_both : {X : Type 0} (P : X → Type 0) (xs ys : List X) → AllByRecursion P xs → AllByRecursion P ys → AllByRecursion P (xs ++ ys)
+pub all_both : {X : Type 0} (P : X → Type 0) (xs ys : List X) → AllByRecursion P xs → AllByRecursion P ys → AllByRecursion P (xs ++ ys)
 all_both P [] ys h k = k
 all_both P (x ∷ xs) ys h k = (h.0, all_both P xs ys h.1 k)
 

@@ -1,5 +1,6 @@
 -- The names of other modules that the proofs here cite, passed on from one place. Declares nothing.
-pub use Rattle.std.proofs.lemmas.Bool.{both_ways, cases_Bool, eq-eqb, or_parts}
+pub use Rattle.std.proofs.Common.{◌≡◌, ℕ, zero, suc, ◌+◌, ◌-◌, ◌/◌, ◌^◌, ◌<◌, ◌≤◌, min, Bool, true, false, cond, not, ◌&&◌, ◌||◌, ◌≢◌, ◌⊎◌, List, [], ◌∷◌, ◌++◌, map, length, get_or, take, set, ℤ, pos, negsuc, ◌+ℤ◌, IfOk, IsTrue, nat_lt, nat_le, ◌==◌, slice_get, Some, None, Ok, Err, codes, MatchBool, fold, filter, Option, Result, Vec, option_map, IsPermutation, IsSorted, flat_map, filter_map, bytes_eq, Ordering, Less, Equal, Greater, unwrap_or, sym, refl, ap, ◌∙◌, subst, ap₂, inl, inr, true≢false, arith}
+pub use Rattle.std.proofs.lemmas.Bool.{and_parts, both_ways, cases_Bool, eq-eqb, or_parts}
 pub use Rattle.std.proofs.lemmas.Bool.Decides.{nat_tests}
 pub use Rattle.std.proofs.lemmas.Int.{ints}
 pub use Rattle.std.proofs.lemmas.List.{length-map}
@@ -63,3 +64,4 @@ pub use Rattle.sql_calls.specs.Keyed.{AreIn, AreWhole, HaveKeysApart, IsHeldBy, 
 pub use Rattle.sql_calls.specs.Means.{Known, Knows, KnowsWrite, Means, writes_rows}
 pub use Rattle.sql_calls.specs.Standing.{Begins, Commits, Finds, FrameTo, GivesUp, HoldIn, IsAtRest, IsInDoubt, IsInside, IsSeeing, IsSpoiled, Keeps, Makes, Opens, Rests, Sees, Shows, Spoiled}
 pub use Rattle.sql_calls.specs.declared.fault.Fault.{Fault}
+pub use Rattle.std.proofs.Math.Bool.{and-true, or-true}

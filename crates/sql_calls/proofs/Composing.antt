@@ -1,6 +1,5 @@
 -- Calls in a change one after the other.
-use Rattle.std.proofs.Common.{◌≡◌, Result, Ok, Err, IfOk, arith, subst, sym}
-use Rattle.sql_calls.proofs.Common.{Database, State, Finds, IsSeeing, Makes}
+use Rattle.sql_calls.proofs.Common.{◌≡◌, Result, Ok, Err, IfOk, arith, subst, sym, Database, State, Finds, IsSeeing, Makes}
 
 -- by what is between them
 abbrev pub Then : {R : Type 0} → (R → R → Type 0) → (R → R → Type 0) → R → R → Type 0

@@ -1,6 +1,5 @@
 -- What SELECT count(*) shows of a table.
-use Rattle.std.proofs.Common.{◌≡◌, ℕ, ◌+◌, suc, min, pos, List, [], ◌∷◌, map, filter, flat_map, length, Some, false, refl, sym, ap, subst, ◌∙◌, IsPermutation}
-use Rattle.sql_calls.proofs.Common.{list_all, AllZip, length-map, length_permutation, Value, Null, Int, Binary, Trees, Env, lit, col, eval, holds, Query, IsAnswer, Output, output, page, overlay, one_permutation, AreIn, IsHeldBy}
+use Rattle.sql_calls.proofs.Common.{◌≡◌, ℕ, ◌+◌, suc, min, pos, List, [], ◌∷◌, map, filter, flat_map, length, Some, false, refl, sym, ap, subst, ◌∙◌, IsPermutation, list_all, AllZip, length-map, length_permutation, Value, Null, Int, Binary, Trees, Env, lit, col, eval, holds, Query, IsAnswer, Output, output, page, overlay, one_permutation, AreIn, IsHeldBy}
 use Rattle.sqlite_value.specs.Order.{Row}
 use Rattle.sqlite_sql.specs.Group.{Aggregate, Grouping, Summarizes, IsSummary, value_over}
 use Rattle.sqlite_sql.specs.declared.aggregate.AggregateOp.TheVariants.{CountRows}

@@ -1,6 +1,5 @@
 -- What CREATE TABLE and CREATE INDEX do, for any schema.
-use Rattle.std.proofs.Common.{[], ◌≡◌, ℕ, List, false, None, Ok, sym, ap, subst, ◌∙◌}
-use Rattle.sql_calls.proofs.Common.{Row, Table, Schema, CreateTable, Index, Tally, lacks_sequence, Database, State, Writes}
+use Rattle.sql_calls.proofs.Common.{[], ◌≡◌, ℕ, List, false, None, Ok, sym, ap, subst, ◌∙◌, Row, Table, Schema, CreateTable, Index, Tally, lacks_sequence, Database, State, Writes}
 use Rattle.sqlite.specs.Change.{created, indexed, next_tree, KeepsRows}
 use Rattle.sqlite.specs.Compile.{table_defined_by}
 use Rattle.sql_calls.proofs.Inserts.{went, same_value}

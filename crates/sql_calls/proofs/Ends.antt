@@ -1,6 +1,5 @@
 -- What the texts mean that begin and end a change.
-use Rattle.std.proofs.Common.{refl, codes}
-use Rattle.sql_calls.proofs.Common.{Schema, Begin, Commit, Rollback, Means}
+use Rattle.sql_calls.proofs.Common.{refl, codes, Schema, Begin, Commit, Rollback, Means}
 use Rattle.sqlite.specs.Listing.{understood}
 use Rattle.sqlite_tied.specs.Compute.{everything}
 

@@ -1,6 +1,5 @@
 -- What one statement of a change answers, and what it makes of what the change sees.
-use Rattle.std.proofs.Common.{◌≡◌, ℕ, Bool, true, false, cond, nat_le, length, List, [], ◌∷◌, Vec, Option, Some, None, Result, Ok, Err, IfOk, sym, subst, ◌∙◌, arith}
-use Rattle.sql_calls.proofs.Common.{Global, Row, Command, Database, understood, State, IsUnchanged, Runs, Writes, EndsIn, statement_of, Fault, RunsText, AsksText, AsksFew, TakesFirst, TakesTo, few_of, Known, Knows, Finds, IsSeeing, Makes}
+use Rattle.sql_calls.proofs.Common.{◌≡◌, ℕ, Bool, true, false, cond, nat_le, length, List, [], ◌∷◌, Vec, Option, Some, None, Result, Ok, Err, IfOk, sym, subst, ◌∙◌, arith, Global, Row, Command, Database, understood, State, IsUnchanged, Runs, Writes, EndsIn, statement_of, Fault, RunsText, AsksText, AsksFew, TakesFirst, TakesTo, few_of, Known, Knows, Finds, IsSeeing, Makes}
 use Rattle.sqlite.specs.Effect.{Reads as Shows}
 use Rattle.sql_calls.specs.declared.fault.Fault.TheVariants.{Store}
 use Rattle.sql_calls.proofs.Framing.{took}

@@ -1,6 +1,5 @@
 -- How a change begins and ends, by what it sees and what giving it up leaves.
-use Rattle.std.proofs.Common.{◌≡◌, inl, inr, ℕ, List, [], true, false, Result, Ok, Err, IsTrue, refl, ap, sym, subst, ◌∙◌, arith}
-use Rattle.sql_calls.proofs.Common.{both_ways, Trees, Begin, Commit, Rollback, Database, State, HasCleanDisk, Survives, Fault, RunsText, Means, HoldIn, IsAtRest, IsInDoubt, Opens, Rests, Sees, Shows, Spoiled, Begins, Keeps, Commits, GivesUp}
+use Rattle.sql_calls.proofs.Common.{◌≡◌, inl, inr, ℕ, List, [], true, false, Result, Ok, Err, IsTrue, refl, ap, sym, subst, ◌∙◌, arith, both_ways, Trees, Begin, Commit, Rollback, Database, State, HasCleanDisk, Survives, Fault, RunsText, Means, HoldIn, IsAtRest, IsInDoubt, Opens, Rests, Sees, Shows, Spoiled, Begins, Keeps, Commits, GivesUp}
 use Rattle.sqlite.specs.State.{CommitsBy}
 use Rattle.sql_calls.proofs.Framing.{schema_of}
 use Rattle.sql_calls.proofs.Leavings.{refused, crash_kept, never_commits_idle, runs_plain, IsSettled}

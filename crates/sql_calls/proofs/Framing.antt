@@ -1,6 +1,5 @@
 -- What one statement leaves of the transaction.
-use Rattle.std.proofs.Common.{◌≡◌, inl, inr, ℕ, true, List, [], Vec, Option, Some, None, Result, Ok, Err, refl, sym, ap, subst, ◌∙◌, arith, slice_get}
-use Rattle.sql_calls.proofs.Common.{Global, both_ways, Row, Trees, Schema, Table, Command, Insert, InsertOr, Update, Delete, Tally, OnRows, AtPlace, Database, understood, State, HasCleanDisk, IsUnchanged, Survives, Runs, Writes, CommitsShowing, CommitsBy, mode_of, statement_of, Fault, RunsText, AsksText, AsksFew, TakesFirst, TakesTo, few_of, Means, Known, Knows, KnowsWrite, writes_rows, IsInside, IsSpoiled, Opens, Spoiled, FrameTo}
+use Rattle.sql_calls.proofs.Common.{◌≡◌, inl, inr, ℕ, true, List, [], Vec, Option, Some, None, Result, Ok, Err, refl, sym, ap, subst, ◌∙◌, arith, slice_get, Global, both_ways, Row, Trees, Schema, Table, Command, Insert, InsertOr, Update, Delete, Tally, OnRows, AtPlace, Database, understood, State, HasCleanDisk, IsUnchanged, Survives, Runs, Writes, CommitsShowing, CommitsBy, mode_of, statement_of, Fault, RunsText, AsksText, AsksFew, TakesFirst, TakesTo, few_of, Means, Known, Knows, KnowsWrite, writes_rows, IsInside, IsSpoiled, Opens, Spoiled, FrameTo}
 use Rattle.sqlite.specs.declared.run.Mode.{Mode}
 use Rattle.sql_calls.proofs.Inserts.{went, same_value}
 use Rattle.sql_calls.proofs.Leavings.{Leaves, refused, unanswered, stays_inside, never_shows_inside, never_commits_inside, crash_kept, unchanged_by, first_unchanged, first_fails, none_shown, runs_plain}

@@ -1,6 +1,5 @@
 -- What INSERT .. VALUES does, for any schema.
-use Rattle.std.proofs.Common.{[], ◌∷◌, ◌≡◌, ◌⊎◌, inl, inr, ℕ, ◌/◌, ◌==◌, ◌&&◌, Bool, true, cond, flat_map, filter_map, refl, List, length, slice_get, false, Option, Some, None, Ok, Err, Result, sym, ap, subst, ◌∙◌}
-use Rattle.sql_calls.proofs.Common.{Row, Trees, Term, Table, Schema, Enforced, Source, Values, Insert, edit_of, Reference, ParentKey, Deed, work_by, work_for, works, Chosen, Tally, Does, OnRows, Written, Task, Inserts, stamped, Database, IsSource, value_rows, State, mode_of, Writes, one_step}
+use Rattle.sql_calls.proofs.Common.{[], ◌∷◌, ◌≡◌, ◌⊎◌, inl, inr, ℕ, ◌/◌, ◌==◌, ◌&&◌, Bool, true, cond, flat_map, filter_map, refl, List, length, slice_get, false, Option, Some, None, Ok, Err, Result, sym, ap, subst, ◌∙◌, Row, Trees, Term, Table, Schema, Enforced, Source, Values, Insert, edit_of, Reference, ParentKey, Deed, work_by, work_for, works, Chosen, Tally, Does, OnRows, Written, Task, Inserts, stamped, Database, IsSource, value_rows, State, mode_of, Writes, one_step}
 use Rattle.sqlite_rules.specs.Action.{Writes as Edits}
 use Rattle.sql_calls.proofs.Actions.{Rewritten, applied}
 

@@ -1,6 +1,5 @@
 -- Which rows meet a new one under a key of one column, where a schema has further indexes.
-use Rattle.std.proofs.Common.{◌≡◌, ◌⊎◌, inl, inr, ℕ, Bool, true, false, ◌&&◌, ◌||◌, List, [], ◌∷◌, Some, refl, sym, ap, ◌∙◌, bytes_eq, slice_get}
-use Rattle.sql_calls.proofs.Common.{list_any, cases_Bool, eq-eqb, first_key, column, Binary, Schema, Table, Trees, Index, agree, equal, guards, IsSound, automatic, aims, conflicts, shares, Has, all-slice_get}
+use Rattle.sql_calls.proofs.Common.{◌≡◌, ◌⊎◌, inl, inr, ℕ, Bool, true, false, ◌&&◌, List, [], ◌∷◌, Some, refl, sym, ap, ◌∙◌, bytes_eq, slice_get, list_any, cases_Bool, eq-eqb, first_key, column, Binary, Schema, Table, Trees, Index, agree, equal, guards, IsSound, automatic, aims, conflicts, shares, Has, all-slice_get, and-true, or-true}
 use Rattle.std.proofs.lemmas.Slice.Eq.{bytes_eq-Decides}
 use Rattle.sqlite_value.specs.Order.{Row}
 use Rattle.sql_calls.specs.KeyIndexes.{ComparesBytes}
@@ -27,11 +26,7 @@ key_index schema db at table k c sound there unique =
 any_is : {X : Type 0} (f : X → Bool) (a : Bool) (xs : List X) → ((x : X) → Has xs x → (f x ≡ false) ⊎ (f x ≡ a)) → (i : X) → Has xs i → f i ≡ a → list_any f xs ≡ a
 any_is f a [] each i there is = absurd there
 any_is {X} f true (x ∷ xs) each i (inl same) is = let here : f x ≡ true = ap f (sym same) ∙ is in rw here refl
-any_is {X} f true (x ∷ xs) each i (inr there) is = rw (any_is f true xs (λ y h. each y (inr h)) i there is) (or_true (f x))
-  where
-    or_true : (b : Bool) → (b || true) ≡ true
-    or_true true = refl
-    or_true false = refl
+any_is {X} f true (x ∷ xs) each i (inr there) is = rw (any_is f true xs (λ y h. each y (inr h)) i there is) (or-true (f x))
 any_is {X} f false (x ∷ xs) each i there is = none (x ∷ xs) (λ y h. elim (each y h) [ inl no_way ↦ no_way | inr no_more ↦ no_more ])
   where
     none : (ys : List X) → ((y : X) → Has ys y → f y ≡ false) → list_any f ys ≡ false
@@ -46,16 +41,12 @@ module _ (schema : Schema) (table : Table) (c : ℕ) (other : bytes_eq (c ∷ []
   abbrev meets : Row → Row → Index → Bool
   meets new r = shares (Some (c ∷ [])) table new r
 
-  and_true : (b : Bool) → (b && true) ≡ b
-  and_true true = refl
-  and_true false = refl
-
   self : bytes_eq (c ∷ []) (c ∷ []) ≡ true
   self = rw (eq-eqb c c refl)
 
   -- by an index on the column
   whole : (new r : Row) (i : Index) → guards i table ≡ true → i.columns ≡ c ∷ [] → (first_key i.order).collation ≡ Binary → meets new r i ≡ equal Binary (column r c) (column new c)
-  whole new r i guarding on bytes = rw (guarding, on) (rw (self, bytes) (and_true _))
+  whole new r i guarding on bytes = rw (guarding, on) (rw (self, bytes) (and-true _))
 
   each : (new r : Row) (i : Index) → Has schema.indexes i → (meets new r i ≡ false) ⊎ (meets new r i ≡ equal Binary (column r c) (column new c))
   each new r i there = elim (cases_Bool (guards i table)) [

@@ -1,7 +1,6 @@
 -- What a SELECT in the order of one column shows of a keyed table.
 use mathlib.Core.Path.{fun_ext}
-use Rattle.std.proofs.Common.{◌≡◌, ℕ, zero, suc, ◌+◌, Bool, true, false, not, ◌&&◌, ◌||◌, List, [], ◌∷◌, ◌++◌, map, filter, slice_get, Option, Some, Ordering, Less, Equal, Greater, true≢false, refl, sym, ap, ◌∙◌, arith}
-use Rattle.sql_calls.proofs.Common.{AllByRecursion, is_eq, is_gt, ordering_reverse, Value, column, value_cmp, plain, then-Equal, value_cmp_total, Binary, Term, col, Query, IsAnswer, Output, output_cmp, page, overlay, Table, Trees, Schema, is_null, is_true, from_truth, agree, equal, are_present, agree_back, agree_chain, IsAscending, sort_by, insert_sorted, sort_by-map, map-map, IsHeldBy, HaveKeysApart, AreWhole, by_column, Rise}
+use Rattle.sql_calls.proofs.Common.{◌≡◌, ℕ, zero, suc, ◌+◌, Bool, true, false, not, ◌||◌, List, [], ◌∷◌, ◌++◌, map, filter, slice_get, Option, Some, Ordering, Less, Equal, Greater, true≢false, refl, sym, ap, ◌∙◌, arith, AllByRecursion, is_eq, is_gt, ordering_reverse, Value, column, value_cmp, plain, then-Equal, value_cmp_total, Binary, Term, col, Query, IsAnswer, Output, output_cmp, page, overlay, Table, Trees, Schema, is_null, is_true, from_truth, agree, equal, are_present, agree_back, agree_chain, IsAscending, sort_by, insert_sorted, sort_by-map, map-map, IsHeldBy, HaveKeysApart, AreWhole, by_column, Rise, and_parts}
 use Rattle.sqlite_value.specs.Order.{Row}
 use Rattle.sqlite_value.specs.Keys.{first_key}
 use Rattle.sqlite_sql.specs.Ops.{binary}
@@ -13,11 +12,7 @@ use Rattle.sql_calls.proofs.Selects.{simple, by, passes, shown_of, shown_in}
 
 -- ---- values that are there
 
-both : (a b : Bool) → (a && b) ≡ true → (a ≡ true) × (b ≡ true)
-both true b h = (refl, h)
-both false b h = absurd (true≢false (sym h))
-
-is_there : (k n v : Bool) → k ≡ false → n ≡ true → (k || not n || not v) ≡ true → v ≡ false
+pub is_there : (k n v : Bool) → k ≡ false → n ≡ true → (k || not n || not v) ≡ true → v ≡ false
 is_there true n v a b h = absurd (true≢false a)
 is_there false false v a b h = absurd (true≢false (sym b))
 is_there false true true a b h = absurd (true≢false (sym h))
@@ -30,10 +25,10 @@ present_from key at (x ∷ columns) row zero it there filled unkeyed h =
     let same : x ≡ it = cc in
     let here : at + 0 ≡ at = omega arith in
     ap (λ n. is_null (column row (n + 1))) here
-    ∙ is_there (is_key key at) x.not_null (is_null (column row (at + 1))) (ap (is_key key) (sym here) ∙ unkeyed) (ap (λ (y : Column). y.not_null) same ∙ filled) (both _ _ h).0
+    ∙ is_there (is_key key at) x.not_null (is_null (column row (at + 1))) (ap (is_key key) (sym here) ∙ unkeyed) (ap (λ (y : Column). y.not_null) same ∙ filled) (and_parts _ _ h).0
 present_from key at (x ∷ columns) row (suc c) it there filled unkeyed h =
     let on : at + suc c ≡ at + 1 + c = omega arith in
-    ap (λ n. is_null (column row (n + 1))) on ∙ present_from key (at + 1) columns row c it there filled (ap (is_key key) (sym on) ∙ unkeyed) (both _ _ h).1
+    ap (λ n. is_null (column row (n + 1))) on ∙ present_from key (at + 1) columns row c it there filled (ap (is_key key) (sym on) ∙ unkeyed) (and_parts _ _ h).1
 
 -- ---- values that the order does not tell apart
 
@@ -55,7 +50,7 @@ agree_more : (ps : List ℕ) (c : ℕ) (s r : Row) → agree plain ps s ps r ≡
 unfolding first_key
 agree_more [] c s r h same = rw same refl
 agree_more (p ∷ ps) c s r h same =
-    let parts = both (equal Binary (column s p) (column r p)) (agree plain ps s ps r) h in
+    let parts = and_parts (equal Binary (column s p) (column r p)) (agree plain ps s ps r) h in
     let first : equal Binary (column s p) (column r p) ≡ true = parts.0 in
     rw first (agree_more ps c s r parts.1 same)
 

@@ -1,18 +1,17 @@
 -- What the statements on one key do to a table whose rowids nobody knows.
-use Rattle.std.proofs.Common.{◌≡◌, ◌⊎◌, inl, inr, ◌≤◌, ◌<◌, ℕ, ℤ, ◌+◌, ◌+ℤ◌, pos, Bool, true, false, not, ◌||◌, ◌&&◌, cond, List, [], ◌∷◌, ◌++◌, map, filter, fold, refl, sym, ap, ap₂, ◌∙◌, subst, arith, Ordering, Less, Equal, Greater, true≢false, IsPermutation, IsSorted}
-use Rattle.sql_calls.proofs.Common.{AllByRecursion, list_any, is_eq, ordering_reverse, ints, or_parts, both_ways, nat_tests, IsPermutation-cons, IsPermutation-sym, IsPermutation-trans, IsPermutation-map, IsPermutation-to_front, list_any-IsPermutation, Value, Null, Int, value_cmp, value_cmp-Int, rowid, has_rowid, put_row, without_rowid, IsAscending, agree, clashes, differ, id_in, next_rowid, without_all, ids_of, filter_all, all_weaker, IsPermutation-filter, along_permutation, sort_by, sorted_is-sort_by, AreIn, IsHeldBy}
+use Rattle.sql_calls.proofs.Common.{◌≡◌, ◌⊎◌, inl, inr, ◌≤◌, ◌<◌, ℕ, ℤ, ◌+◌, ◌+ℤ◌, pos, Bool, true, false, not, ◌||◌, ◌&&◌, cond, List, [], ◌∷◌, ◌++◌, map, filter, fold, refl, sym, ap, ap₂, ◌∙◌, subst, arith, Ordering, Less, Equal, Greater, true≢false, IsPermutation, IsSorted, AllByRecursion, list_any, is_eq, ordering_reverse, ints, or_parts, both_ways, nat_tests, IsPermutation-cons, IsPermutation-sym, IsPermutation-trans, IsPermutation-map, IsPermutation-to_front, list_any-IsPermutation, Value, Null, Int, value_cmp, value_cmp-Int, rowid, has_rowid, put_row, without_rowid, IsAscending, agree, clashes, differ, id_in, next_rowid, without_all, ids_of, filter_all, all_weaker, IsPermutation-filter, along_permutation, sort_by, sorted_is-sort_by, AreIn, IsHeldBy}
 use Rattle.sqlite_value.specs.declared.keys.Order.{Order}
 use Rattle.sqlite_value.specs.Order.{Row}
 use Rattle.sqlite_sql.specs.Ops.{binary}
 use Rattle.std.specs.Cmp.{IsTotalOrder}
 
-ids_less : (m n : ℕ) → m < n → value_cmp (Int (pos m)) (Int (pos n)) ≡ Less
+pub ids_less : (m n : ℕ) → m < n → value_cmp (Int (pos m)) (Int (pos n)) ≡ Less
 ids_less m n h = value_cmp-Int (pos m) (pos n) ∙ grind (arith, ints, nat_tests)
 
-ids_same : (m : ℕ) → value_cmp (Int (pos m)) (Int (pos m)) ≡ Equal
+pub ids_same : (m : ℕ) → value_cmp (Int (pos m)) (Int (pos m)) ≡ Equal
 ids_same m = value_cmp-Int (pos m) (pos m) ∙ grind (arith, ints, nat_tests)
 
-ids_more : (m n : ℕ) → m < n → value_cmp (Int (pos n)) (Int (pos m)) ≡ Greater
+pub ids_more : (m n : ℕ) → m < n → value_cmp (Int (pos n)) (Int (pos m)) ≡ Greater
 ids_more m n h = value_cmp-Int (pos n) (pos m) ∙ grind (arith, ints, nat_tests)
 
 lower : (j k : ℕ) (rows xs : List Row) → k ≤ j → AreIn j rows xs → AreIn k rows xs

@@ -1,6 +1,5 @@
 -- What the usual statements do to a table that has a text or composite key, in contents: rows less their rowids, in any order.
-use Rattle.std.proofs.Common.{get_or, ◌≡◌, ◌⊎◌, inl, inr, ◌≤◌, ℕ, pos, Bool, true, false, not, cond, List, [], ◌∷◌, map, filter, length, slice_get, Some, refl, sym, ap, ◌∙◌, subst, arith, IsPermutation}
-use Rattle.sql_calls.proofs.Common.{is_eq, length-map, IsPermutation-trans, IsPermutation-map, length_permutation, Null, Int, Trees, rowid, put_row, without_rowid, Table, Schema, agree, clashes, are_present, Has, cast_all, next_rowid, ids_of, agree_back, agree_chain, Chosen, Given, Term, col, IsAnswer, output_cmp, page, Output, overlay, output_cmp_total, Database, one_permutation, sort_by, all-slice_get, map-map, plain, IsSound, all_from, has_got, IsHeldBy, HaveKeysApart, AreWhole, Key, id_in}
+use Rattle.sql_calls.proofs.Common.{get_or, ◌≡◌, ◌⊎◌, inl, inr, ◌≤◌, ℕ, pos, Bool, true, false, not, cond, List, [], ◌∷◌, map, filter, length, slice_get, Some, refl, sym, ap, ◌∙◌, subst, arith, IsPermutation, is_eq, length-map, IsPermutation-trans, IsPermutation-map, length_permutation, Null, Int, Trees, rowid, put_row, without_rowid, Table, Schema, agree, clashes, are_present, Has, cast_all, next_rowid, ids_of, agree_back, agree_chain, Chosen, Given, Term, col, IsAnswer, output_cmp, page, Output, overlay, output_cmp_total, Database, one_permutation, sort_by, all-slice_get, map-map, plain, IsSound, all_from, has_got, IsHeldBy, HaveKeysApart, AreWhole, Key, id_in}
 use Rattle.sqlite_value.specs.Order.{Row}
 use Rattle.sqlite_schema.specs.declared.schema.Constraint.TheVariants.{NotNull}
 use Rattle.sqlite_rules.specs.Edit.{edit_of, edited}
@@ -11,7 +10,7 @@ use Rattle.sql_calls.proofs.Selects.{simple, passes, shown_of, simple_rows, by, 
 use Rattle.sql_calls.proofs.Inserts.{Inserted, given_rows}
 use Rattle.sql_calls.proofs.Updates.{Updated, Deleted}
 
-short : {X : Type 0} (xs ys : List X) → IsPermutation xs ys → length xs ≤ 1 → ys ≡ xs
+pub short : {X : Type 0} (xs ys : List X) → IsPermutation xs ys → length xs ≤ 1 → ys ≡ xs
 short [] [] same low = refl
 short [] (y ∷ ys) same low = absurd (omega (arith, length_permutation _ _ same))
 short (x ∷ []) ys same low = one_permutation x ys same

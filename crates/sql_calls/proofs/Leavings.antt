@@ -1,6 +1,5 @@
 -- What a statement leaves, whatever the database holds.
-use Rattle.std.proofs.Common.{◌≡◌, ◌⊎◌, inl, inr, ℕ, Bool, true, false, List, [], ◌∷◌, Option, Some, None, Ok, Err, IsTrue, refl, sym, ap, subst, ◌∙◌, slice_get}
-use Rattle.sql_calls.proofs.Common.{cases_Bool, both_ways, Row, Trees, Command, Select, Rows, Begin, Commit, Rollback, Release, understood, Database, RefusesToRead, State, HasCleanDisk, IsUnchanged, IsRolledBack, Survives, Executes, IsNoStatement, RunsCommand, Runs, shows_rows, FailsToShow, ShowsRows, MayCommit, store_error, IsPlain, EndsIn, command_of, statement_of, runs_as, reads_as, begins_shown, Means}
+use Rattle.sql_calls.proofs.Common.{◌≡◌, ◌⊎◌, inl, inr, ℕ, Bool, true, false, List, [], ◌∷◌, Option, Some, None, Ok, Err, IsTrue, refl, sym, ap, subst, ◌∙◌, slice_get, cases_Bool, both_ways, Row, Trees, Command, Select, Rows, Begin, Commit, Rollback, Release, understood, Database, RefusesToRead, State, HasCleanDisk, IsUnchanged, IsRolledBack, Survives, Executes, IsNoStatement, RunsCommand, Runs, shows_rows, FailsToShow, ShowsRows, MayCommit, store_error, IsPlain, EndsIn, command_of, statement_of, runs_as, reads_as, begins_shown, Means}
 use Rattle.sqlite.specs.declared.error.Error.{Error}
 use Rattle.sqlite.specs.declared.error.Error.TheVariants.{QueryReturnedNoRows}
 use Rattle.sqlite_trees.specs.declared.error.StoreError.{StoreError}

@@ -1,20 +1,11 @@
 -- A table whose k-th row has number k, with any UNIQUE and any index.
-use Rattle.std.proofs.Common.{◌≡◌, ◌<◌, ℕ, zero, suc, ◌+◌, pos, List, [], ◌∷◌, ◌++◌, length, map, filter, take, set, slice_get, Bool, true, false, cond, Option, Some, option_map, refl, sym, ap, ap₂, subst, ◌∙◌, arith, Ordering, Less, Equal, Greater, IsPermutation}
-use Rattle.sql_calls.proofs.Common.{AllByRecursion, is_eq, is_gt, ints, nat_tests, Value, Null, Int, value_cmp, value_cmp-Int, rowid, has_rowid, put_row, without_rowid, IsAscending, Trees, Binary, Schema, Table, cast_all, Term, col, lit, Query, Output, output_cmp, page, IsAnswer, overlay, Database, one_permutation, output_cmp_total, sort_by, insert_sorted, all-append, all_of, filter_all, map-map, sorted_is-sort_by, sorted_unique, rows_from}
+use Rattle.sql_calls.proofs.Common.{◌≡◌, ◌<◌, ℕ, zero, suc, ◌+◌, pos, List, [], ◌∷◌, ◌++◌, length, map, filter, take, set, slice_get, Bool, true, false, cond, Option, Some, option_map, refl, sym, ap, ap₂, subst, ◌∙◌, arith, Ordering, Less, Greater, IsPermutation, AllByRecursion, is_eq, is_gt, Value, Null, Int, value_cmp, rowid, has_rowid, put_row, without_rowid, IsAscending, Trees, Binary, Schema, Table, cast_all, Term, col, lit, Query, Output, output_cmp, page, IsAnswer, overlay, Database, one_permutation, output_cmp_total, sort_by, insert_sorted, all-append, all_of, filter_all, map-map, sorted_is-sort_by, sorted_unique, rows_from}
+use Rattle.sql_calls.proofs.KeyedRows.{ids_less, ids_same, ids_more}
 use Rattle.std.specs.Option.{option_to_list}
 use Rattle.sqlite_value.specs.Order.{Row}
 use Rattle.sql_calls.proofs.Selects.{simple, by, passes, shown_of, shown_in, simple_rows, ordered_rows}
 use Rattle.sql_calls.proofs.Updates.{Updated}
 use Rattle.sql_calls.proofs.KeyedTables.{written, one_written}
-
-pub less : (m n : ℕ) → m < n → value_cmp (Int (pos m)) (Int (pos n)) ≡ Less
-less m n h = value_cmp-Int (pos m) (pos n) ∙ grind (arith, ints, nat_tests)
-
-same : (m : ℕ) → value_cmp (Int (pos m)) (Int (pos m)) ≡ Equal
-same m = value_cmp-Int (pos m) (pos m) ∙ grind (arith, ints, nat_tests)
-
-more : (m n : ℕ) → m < n → value_cmp (Int (pos n)) (Int (pos m)) ≡ Greater
-more m n h = value_cmp-Int (pos n) (pos m) ∙ grind (arith, ints, nat_tests)
 
 module _ {X : Type 0} (f : ℕ → X → Row) (ids : (n : ℕ) (x : X) → rowid (f n x) ≡ Int (pos n)) where
   abbrev pub has_number : ℕ → Row → Bool
@@ -25,41 +16,41 @@ module _ {X : Type 0} (f : ℕ → X → Row) (ids : (n : ℕ) (x : X) → rowid
 
   none_past : (n k : ℕ) (xs : List X) → k < n → filter (has_number k) (rows_from f n xs) ≡ []
   none_past n k [] h = refl
-  none_past n k (x ∷ xs) h = let apart : has_number k (f n x) ≡ false = ap (λ v. is_eq (value_cmp v (Int (pos k)))) (ids n x) ∙ ap is_eq (more k n h) in rw apart (none_past (n + 1) k xs (omega (arith, h)))
+  none_past n k (x ∷ xs) h = let apart : has_number k (f n x) ≡ false = ap (λ v. is_eq (value_cmp v (Int (pos k)))) (ids n x) ∙ ap is_eq (ids_more k n h) in rw apart (none_past (n + 1) k xs (omega (arith, h)))
 
   -- WHERE number = ?1
   pub at_number : (n k : ℕ) (xs : List X) → filter (has_number (n + k)) (rows_from f n xs) ≡ row_of (n + k) (slice_get xs k)
   at_number n k [] = refl
   at_number n zero (x ∷ xs) =
-      let here : has_number (n + zero) (f n x) ≡ true = ap (λ v. is_eq (value_cmp v (Int (pos (n + zero))))) (ids n x) ∙ ap (λ m. is_eq (value_cmp (Int (pos n)) (Int (pos m)))) at ∙ ap is_eq (same n) in
+      let here : has_number (n + zero) (f n x) ≡ true = ap (λ v. is_eq (value_cmp v (Int (pos (n + zero))))) (ids n x) ∙ ap (λ m. is_eq (value_cmp (Int (pos n)) (Int (pos m)))) at ∙ ap is_eq (ids_same n) in
       rw here (ap₂ ◌∷◌ (ap (λ m. f m x) (sym at)) (ap (λ m. filter (has_number m) (rows_from f (n + 1) xs)) at ∙ none_past (n + 1) n xs (omega arith)))
     where
       at : n + zero ≡ n
       at = omega arith
   at_number n (suc k) (x ∷ xs) =
       let next : n + suc k ≡ (n + 1) + k = omega arith in
-      let apart : has_number (n + suc k) (f n x) ≡ false = ap (λ v. is_eq (value_cmp v (Int (pos (n + suc k))))) (ids n x) ∙ ap is_eq (less n (n + suc k) (omega arith)) in
+      let apart : has_number (n + suc k) (f n x) ≡ false = ap (λ v. is_eq (value_cmp v (Int (pos (n + suc k))))) (ids n x) ∙ ap is_eq (ids_less n (n + suc k) (omega arith)) in
       rw apart (ap (λ m. filter (has_number m) (rows_from f (n + 1) xs)) next ∙ at_number (n + 1) k xs ∙ ap (λ m. row_of m (slice_get xs k)) (sym next))
 
   all_past : (n k : ℕ) (xs : List X) → k < n → without_rowid (pos k) (rows_from f n xs) ≡ rows_from f n xs
   all_past n k [] h = refl
-  all_past n k (x ∷ xs) h = let apart : has_rowid (pos k) (f n x) ≡ false = ap (λ v. is_eq (value_cmp v (Int (pos k)))) (ids n x) ∙ ap is_eq (more k n h) in rw apart (ap (λ l. f n x ∷ l) (all_past (n + 1) k xs (omega (arith, h))))
+  all_past n k (x ∷ xs) h = let apart : has_rowid (pos k) (f n x) ≡ false = ap (λ v. is_eq (value_cmp v (Int (pos k)))) (ids n x) ∙ ap is_eq (ids_more k n h) in rw apart (ap (λ l. f n x ∷ l) (all_past (n + 1) k xs (omega (arith, h))))
 
   put_before : (n : ℕ) (x : X) (xs : List X) → put_row (f n x) (rows_from f (n + 1) xs) ≡ f n x ∷ rows_from f (n + 1) xs
   put_before n x [] = refl
-  put_before n x (y ∷ ys) = rw (ids (n + 1) y, ids n x, more n (n + 1) (omega arith)) refl
+  put_before n x (y ∷ ys) = rw (ids (n + 1) y, ids n x, ids_more n (n + 1) (omega arith)) refl
 
   -- UPDATE .. WHERE number = ?1
   pub put_at : (n k : ℕ) (xs : List X) (y : X) → k < length xs → put_row (f (n + k) y) (without_rowid (pos (n + k)) (rows_from f n xs)) ≡ rows_from f n (set xs k y)
   put_at n k [] y h = absurd (omega (arith, h))
   put_at n zero (x ∷ xs) y h =
       let at : n + zero ≡ n = omega arith in
-      let here : has_rowid (pos n) (f n x) ≡ true = ap (λ v. is_eq (value_cmp v (Int (pos n)))) (ids n x) ∙ ap is_eq (same n) in
+      let here : has_rowid (pos n) (f n x) ≡ true = ap (λ v. is_eq (value_cmp v (Int (pos n)))) (ids n x) ∙ ap is_eq (ids_same n) in
       ap (λ m. put_row (f m y) (without_rowid (pos m) (rows_from f n (x ∷ xs)))) at ∙ rw (here, all_past (n + 1) n xs (omega arith)) (put_before n y xs)
   put_at n (suc k) (x ∷ xs) y h =
       let next : n + suc k ≡ (n + 1) + k = omega arith in
-      let apart : has_rowid (pos ((n + 1) + k)) (f n x) ≡ false = ap (λ v. is_eq (value_cmp v (Int (pos ((n + 1) + k))))) (ids n x) ∙ ap is_eq (less n ((n + 1) + k) (omega arith)) in
-      let past : value_cmp (rowid (f n x)) (rowid (f ((n + 1) + k) y)) ≡ Less = rw (ids n x, ids ((n + 1) + k) y) (less n ((n + 1) + k) (omega arith)) in
+      let apart : has_rowid (pos ((n + 1) + k)) (f n x) ≡ false = ap (λ v. is_eq (value_cmp v (Int (pos ((n + 1) + k))))) (ids n x) ∙ ap is_eq (ids_less n ((n + 1) + k) (omega arith)) in
+      let past : value_cmp (rowid (f n x)) (rowid (f ((n + 1) + k) y)) ≡ Less = rw (ids n x, ids ((n + 1) + k) y) (ids_less n ((n + 1) + k) (omega arith)) in
       ap (λ m. put_row (f m y) (without_rowid (pos m) (rows_from f n (x ∷ xs)))) next ∙ rw (apart, past) (ap (λ l. f n x ∷ l) (put_at (n + 1) k xs y (omega (arith, h))))
 
 -- ---- with the statements
@@ -104,7 +95,7 @@ module _ {X : Type 0} (f : ℕ → X → Row) (ids : (n : ℕ) (x : X) → rowid
   outs tree params n (x ∷ xs) = ap₂ ◌∷◌ (ap (λ (v : Value). (v ∷ [], v ∷ [])) (ids n x)) (outs tree params (n + 1) xs)
 
   above : (tree m n : ℕ) → m < n → output_cmp (last_query tree) (out m) (out n) ≡ Greater
-  above tree m n h = rw (more m n h) refl
+  above tree m n h = rw (ids_more m n h) refl
 
   module _ (tree : ℕ) where
     abbrev cmp : Output → Output → Ordering
@@ -189,7 +180,7 @@ module _ {X : Type 0} (f : ℕ → X → Row) (ids : (n : ℕ) (x : X) → rowid
     q = number_query tree test shows limit offset
 
     below : (m n : ℕ) (x y : X) → m < n → output_cmp q (shown_in q params (f m x)) (shown_in q params (f n y)) ≡ Less
-    below m n x y h = rw (ids m x, ids n y, less m n h) refl
+    below m n x y h = rw (ids m x, ids n y, ids_less m n h) refl
 
     -- SELECT .. WHERE .. ORDER BY number LIMIT .. OFFSET .., over whatever index
     pub numbered_in_order : (db : Trees) (xs : List X) → db tree ≡ rows_from f 1 xs → (rows : List Row) → IsAnswer q (overlay db []) params rows

@@ -1,9 +1,8 @@
 -- What a SELECT over a table whose k-th row has number k shows, where WHERE asks whether a second table has a row.
-use Rattle.std.proofs.Common.{◌≡◌, ◌<◌, ℕ, suc, ◌+◌, min, pos, List, [], ◌∷◌, ◌++◌, length, map, filter, flat_map, Bool, true, false, cond, ◌||◌, refl, sym, ap, ap₂, subst, ◌∙◌, arith, Less, IsPermutation}
-use Rattle.sql_calls.proofs.Common.{list_all, list_any, list_any-IsPermutation, Int, rowid, Trees, Term, Env, eval_all, holds, Query, Output, inner, counted, end, output, output_cmp, page, IsAnswer, overlay, is_true, output_cmp_total, sorted_unique, map-map, AreIn, IsHeldBy, rows_from}
+use Rattle.sql_calls.proofs.Common.{◌≡◌, ◌<◌, ℕ, suc, ◌+◌, min, pos, List, [], ◌∷◌, ◌++◌, length, map, filter, flat_map, Bool, true, false, cond, ◌||◌, refl, sym, ap, ap₂, subst, ◌∙◌, arith, Less, IsPermutation, list_all, list_any, list_any-IsPermutation, Int, rowid, Trees, Term, Env, eval_all, holds, Query, Output, inner, counted, end, output, output_cmp, page, IsAnswer, overlay, is_true, output_cmp_total, sorted_unique, map-map, AreIn, IsHeldBy, rows_from}
 use Rattle.sqlite_value.specs.Order.{Row}
-use Rattle.sql_calls.proofs.KeyedRows.{IsBlind, on_content}
-use Rattle.sql_calls.proofs.NumberedTables.{less, number_query, rises}
+use Rattle.sql_calls.proofs.KeyedRows.{IsBlind, on_content, ids_less}
+use Rattle.sql_calls.proofs.NumberedTables.{number_query, rises}
 use Rattle.sql_calls.proofs.Selects.{no_overlay}
 
 -- ---- a row of the second table
@@ -68,7 +67,7 @@ module _ {X : Type 0} (f : ℕ → X → Row) (ids : (n : ℕ) (x : X) → rowid
         go false h = h
 
     below : (m n : ℕ) (x y : X) → m < n → output_cmp within_query (show (f m x)) (show (f n y)) ≡ Less
-    below m n x y h = rw (ids m x, ids n y, less m n h) refl
+    below m n x y h = rw (ids m x, ids n y, ids_less m n h) refl
 
   pub within_in_order : (params : Row) (db : Trees) (xs : List X) → db tree ≡ rows_from f 1 xs → (rows : List Row) → IsAnswer within_query (overlay db []) params rows
       → rows ≡ page within_query params (map (λ r. eval_all shows (seen params (db other) r)) (filter (passes_within params (db other)) (rows_from f 1 xs)))

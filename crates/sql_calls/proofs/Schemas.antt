@@ -1,6 +1,5 @@
 -- Trees list one schema alone.
-use Rattle.std.proofs.Common.{◌≡◌, true, false, filter, slice_get, Some, ◌+◌, pos, List, [], ◌∷◌, Ok, refl, sym, ap, subst, ◌∙◌, arith}
-use Rattle.sql_calls.proofs.Common.{AllZip, Value, Null, Int, Real, Text, Blob, column, Trees, Schema, Table, Index, IsAscending, IsSound, IsTableRow, IsIndexRow, IsDefined, automatic, is_index_row}
+use Rattle.sql_calls.proofs.Common.{◌≡◌, true, false, filter, slice_get, Some, ◌+◌, pos, List, [], ◌∷◌, Ok, refl, sym, ap, subst, ◌∙◌, arith, AllZip, Value, Null, Int, Real, Text, Blob, column, Trees, Schema, Table, Index, IsAscending, IsSound, IsTableRow, IsIndexRow, IsDefined, automatic, is_index_row}
 use Rattle.sqlite_value.specs.Order.{Row}
 use Rattle.sqlite_schema.specs.Names.{same_name}
 use Rattle.sqlite_trees.specs.Objects.{catalog_tree}

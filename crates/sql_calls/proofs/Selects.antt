@@ -1,6 +1,5 @@
 -- What a query over one table answers, for any schema.
-use Rattle.std.proofs.Common.{[], ◌≡◌, ℕ, ◌-◌, ◌^◌, pos, negsuc, List, ◌∷◌, ◌++◌, map, slice_get, flat_map, filter, Bool, true, false, cond, None, refl, sym, ap, subst, ◌∙◌, nat_le, unwrap_or}
-use Rattle.sql_calls.proofs.Common.{list_all, IsPermutation-map, Row, Trees, Term, Env, lit, eval_all, holds, Query, inner, end, IsAnswer, output, output_cmp, page, Output, overlay, shown, Key}
+use Rattle.sql_calls.proofs.Common.{[], ◌≡◌, ℕ, ◌-◌, ◌^◌, pos, negsuc, List, ◌∷◌, ◌++◌, map, slice_get, flat_map, filter, Bool, true, false, cond, None, refl, sym, ap, subst, ◌∙◌, nat_le, unwrap_or, list_all, IsPermutation-map, Row, Trees, Term, Env, lit, eval_all, holds, Query, inner, end, IsAnswer, output, output_cmp, page, Output, overlay, shown, Key}
 use Rattle.std.specs.List.Sorted.{IsPermutation, IsSorted}
 use Rattle.sqlite.specs.declared.types.Value.TheVariants.{Int}
 

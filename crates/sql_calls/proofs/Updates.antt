@@ -1,6 +1,5 @@
 -- What UPDATE and DELETE do to a table that has no foreign key, for any schema, whatever foreign keys refer to the table.
-use Rattle.std.proofs.Common.{[], ◌≡◌, ℕ, List, slice_get, Option, Some, None, Ok, sym, ap, subst}
-use Rattle.sql_calls.proofs.Common.{Row, Trees, Table, Schema, Enforced, Program, Update, Delete, edit_of, ids_of, Given, Tally, Does, OnRows, Written, Task, Updates, Deletes, Database, Answers, State, mode_of, Writes, has_got, HasNoForeignKey}
+use Rattle.sql_calls.proofs.Common.{[], ◌≡◌, ℕ, List, slice_get, Option, Some, None, Ok, sym, ap, subst, Row, Trees, Table, Schema, Enforced, Program, Update, Delete, edit_of, ids_of, Given, Tally, Does, OnRows, Written, Task, Updates, Deletes, Database, Answers, State, mode_of, Writes, has_got, HasNoForeignKey}
 use Rattle.sqlite_rules.specs.Action.{Writes as Edits}
 use Rattle.sql_calls.proofs.Actions.{Rewritten, rewritten}
 use Rattle.sql_calls.proofs.Inserts.{went, same_value}

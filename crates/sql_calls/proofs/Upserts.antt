@@ -1,6 +1,5 @@
 -- What INSERT .. VALUES of one row with one clause ON CONFLICT does to a table that has no foreign key, for any schema.
-use Rattle.std.proofs.Common.{[], ◌≡◌, ◌≢◌, ◌⊎◌, inl, inr, ℕ, ℤ, List, ◌∷◌, ◌++◌, slice_get, Option, Some, None, Ok, sym, ap, subst, ◌∙◌}
-use Rattle.sql_calls.proofs.Common.{AllByRecursion, all_of, Row, Trees, Term, Table, Schema, Enforced, Program, Values, InsertOr, edit_of, Applies, ids_of, Chosen, Given, Tally, Does, OnRows, Written, Task, Updates, shown, rowid, AreConflicts, cast_row, with_rowid, Upsert, Abort, Database, Answers, State, mode_of, Writes, one_step, Has, all_has, all_from, has_got, HasNoForeignKey}
+use Rattle.sql_calls.proofs.Common.{[], ◌≡◌, ◌≢◌, ◌⊎◌, inl, inr, ℕ, ℤ, List, ◌∷◌, ◌++◌, slice_get, Option, Some, None, Ok, sym, ap, subst, ◌∙◌, AllByRecursion, all_of, Row, Trees, Term, Table, Schema, Enforced, Program, Values, InsertOr, edit_of, Applies, ids_of, Chosen, Given, Tally, Does, OnRows, Written, Task, Updates, shown, rowid, AreConflicts, cast_row, with_rowid, Upsert, Abort, Database, Answers, State, mode_of, Writes, one_step, Has, all_has, all_from, has_got, HasNoForeignKey}
 use Rattle.sqlite_rules.specs.Action.{Writes as Edits}
 use Rattle.sqlite.specs.Rows as rows
 use Rattle.sqlite_rules.specs.declared.error.Refusal.{Refusal}

@@ -1,6 +1,5 @@
 -- What INSERT of a query's rows with one clause ON CONFLICT does to a table that has no foreign key, for any schema: the rows are put one after the other.
-use Rattle.std.proofs.Common.{[], ◌≡◌, ◌≢◌, ℕ, ℤ, List, ◌∷◌, slice_get, Option, Some, None, Ok, sym, ap, subst, ◌∙◌}
-use Rattle.sql_calls.proofs.Common.{Row, Key, Term, IsAnswer, Trees, Table, Schema, Enforced, Program, Source, InsertOr, Chosen, Tally, Does, OnRows, Written, Task, shown, stamped, cast_row, with_rowid, Upsert, Abort, Database, IsSource, State, mode_of, Writes, Has, all_has, has_got, HasNoForeignKey}
+use Rattle.sql_calls.proofs.Common.{[], ◌≡◌, ◌≢◌, ℕ, ℤ, List, ◌∷◌, slice_get, Option, Some, None, Ok, sym, ap, subst, ◌∙◌, Row, Key, Term, IsAnswer, Trees, Table, Schema, Enforced, Program, Source, InsertOr, Chosen, Tally, Does, OnRows, Written, Task, shown, stamped, cast_row, with_rowid, Upsert, Abort, Database, IsSource, State, mode_of, Writes, Has, all_has, has_got, HasNoForeignKey}
 use Rattle.sqlite_value.specs.declared.keys.Collation.{Collation}
 use Rattle.sql_calls.proofs.Selects.{by, simple}
 use Rattle.sqlite.specs.Rows as rows

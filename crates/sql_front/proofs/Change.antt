@@ -1,6 +1,5 @@
 -- UPDATE and DELETE mean the same wherever the table stands in the schema.
-use Rattle.std.proofs.Common.{◌≡◌, refl, sym, subst, ◌∙◌, ℕ, true, false, ◌&&◌, Ok, List, [], ◌∷◌, ◌++◌, Option, Some, None, slice_get}
-use Rattle.sql_front.proofs.Common.{⊤, if◌then◌else◌, Query, inner, end, Term, col, Expr, Parsed, Inner, Draft, query_of, Schema, Table, accepts_program, accepts_after, is_count, row_classes, Unsupported, Compiled, ◌>>=◌, and_then, pure, fail, get, take_steps, fresh, max_budget, value_of, Name, Context, first, Stands}
+use Rattle.sql_front.proofs.Common.{◌≡◌, refl, sym, subst, ◌∙◌, ℕ, true, false, Ok, List, [], ◌∷◌, ◌++◌, Option, Some, None, slice_get, ⊤, if◌then◌else◌, Query, end, Term, col, Expr, Parsed, Inner, Draft, query_of, Schema, Table, accepts_program, Unsupported, Compiled, ◌>>=◌, and_then, pure, fail, get, take_steps, fresh, max_budget, value_of, Name, Context, first, Stands}
 use Rattle.sqlite_ast.specs.declared.Statement.TheVariants as written
 use Rattle.sqlite_schema.specs.declared.command.Command.TheVariants.{Update, Delete}
 use Rattle.sqlite_resolve.specs.Reach.{any_scans}

@@ -1,4 +1,5 @@
 -- The names of other modules that the proofs here cite, passed on from one place. Declares nothing.
+pub use Rattle.std.proofs.Common.{◌≡◌, ℕ, zero, suc, ◌+◌, ◌^◌, ◌<◌, ◌≤◌, Bool, true, false, cond, not, ◌&&◌, ◌||◌, ◌⊎◌, List, [], ◌∷◌, ◌++◌, length, nat_lt, nat_le, ◌==◌, slice_get, slice_index_or, Some, None, Ok, Err, codes, Option, Result, find, sym, refl, ap, ◌∙◌, subst, inl, inr, append_assoc, append-nil, arith}
 pub use Rattle.std.proofs.lemmas.Bool.{cases_Bool, eq-eqb, eqb-true, leb-false, lt-leb, ne_eqb}
 pub use Rattle.std.specs.Bool.{if◌then◌else◌, ⊤}
 pub use Rattle.std.specs.List.{AllByRecursion, position_from}
@@ -42,3 +43,4 @@ pub use Rattle.sqlite_syntax.specs.declared.statement.Parsed.{Parsed}
 pub use Rattle.sqlite_typing.specs.Types.{accepts_after, accepts_program, are_tests, integer, is_count, row_classes}
 pub use Rattle.sqlite_value.specs.declared.keys.Collation.{Collation}
 pub use Rattle.sql_front.specs.Stands.{HasNoForeignKey, Stands}
+pub use Rattle.std.proofs.Math.Bool.{and-true}

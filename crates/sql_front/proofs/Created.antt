@@ -1,6 +1,5 @@
 -- What a table that is made leaves of the tables before it, and how it stands itself.
-use Rattle.std.proofs.Common.{◌≡◌, refl, sym, ap, ◌∙◌, ℕ, zero, suc, ◌+◌, ◌^◌, ◌<◌, ◌==◌, Bool, true, false, cond, List, [], ◌∷◌, ◌++◌, length, Option, Some, None, slice_get, find, arith}
-use Rattle.sql_front.proofs.Common.{AllByRecursion, position_from, is_some, eq-eqb, lt-leb, Table, Index, Schema, same_name, table_named, index_named, view_named, next_tree, is_used, created, automatics, Name, table_below, Stands, HasNoForeignKey}
+use Rattle.sql_front.proofs.Common.{◌≡◌, refl, sym, ap, ◌∙◌, ℕ, zero, suc, ◌+◌, ◌^◌, ◌<◌, ◌==◌, Bool, true, false, cond, List, [], ◌∷◌, ◌++◌, length, Option, Some, None, slice_get, find, arith, AllByRecursion, position_from, is_some, eq-eqb, lt-leb, Table, Index, Schema, same_name, table_named, index_named, view_named, next_tree, is_used, created, automatics, Name, table_below, Stands, HasNoForeignKey}
 use Rattle.sqlite_rules.proofs.ListLemmas.{all_from}
 use Rattle.sql_front.proofs.Past.{position_past, slice_past, find_past, unused, above_all}
 

@@ -1,6 +1,5 @@
 -- A table that is found by its name and by its tree stands there.
-use Rattle.std.proofs.Common.{◌≡◌, refl, sym, ap, subst, ◌∙◌, ℕ, ◌^◌, ◌<◌, ◌==◌, Bool, true, false, cond, List, [], ◌∷◌, Some, slice_get, find}
-use Rattle.sql_front.proofs.Common.{eqb-true, lt-leb, leb-false, Table, Schema, table_named, HasNoForeignKey}
+use Rattle.sql_front.proofs.Common.{◌≡◌, refl, sym, ap, subst, ◌∙◌, ℕ, ◌^◌, ◌<◌, ◌==◌, Bool, true, false, cond, List, [], ◌∷◌, Some, slice_get, find, eqb-true, lt-leb, leb-false, Table, Schema, table_named, HasNoForeignKey}
 use Rattle.sql_front.specs.Found.{StandsSomewhere, HasFirst}
 
 find_meets : {X : Type 0} (test : X → Bool) (x : X) (xs : List X) → find test xs ≡ Some x → test x ≡ true
@@ -27,7 +26,7 @@ stands_by s table named first at name got found one other low keyless =
       };
     }
 
-same_some : {X : Type 0} (x y : X) → Some x ≡ Some y → x ≡ y
+pub same_some : {X : Type 0} (x y : X) → Some x ≡ Some y → x ≡ y
 same_some x y h = cc
 
 -- what stands is where its name is found, and is the first of its tree

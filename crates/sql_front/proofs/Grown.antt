@@ -1,6 +1,5 @@
 -- What CREATE TABLE makes of a database, where it also makes the list of AUTOINCREMENT's numbers and where it doesn't.
-use Rattle.std.proofs.Common.{◌≡◌, ◌⊎◌, inl, inr, refl, sym, ap, subst, ◌∙◌, ℕ, false, List, [], ◌∷◌, ◌++◌, append-nil, append_assoc, codes, None, Ok, Err, Result, ◌+◌, slice_index_or}
-use Rattle.sql_front.proofs.Common.{cases_Bool, Index, Table, Has, Schema, same_name, next_tree, is_used, created, automatics, KeepsRows, Name}
+use Rattle.sql_front.proofs.Common.{◌≡◌, ◌⊎◌, inl, inr, refl, sym, ap, subst, ◌∙◌, ℕ, false, List, [], ◌∷◌, ◌++◌, append-nil, append_assoc, codes, None, Ok, Err, Result, ◌+◌, slice_index_or, cases_Bool, Index, Table, Has, Schema, same_name, next_tree, is_used, created, automatics, KeepsRows, Name}
 use Rattle.sqlite.specs.Order.{Row}
 use Rattle.sqlite.specs.Tree.{Trees}
 use Rattle.sqlite.specs.Does.{Tally, lacks_sequence, sequence_text, MakesTable, MakesSequence}

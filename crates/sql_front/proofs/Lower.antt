@@ -1,6 +1,5 @@
 -- A plain expression is lowered alike under two contexts that find the same columns.
-use Rattle.std.proofs.Common.{◌≡◌, refl, sym, ◌∙◌, ℕ, zero, suc, false, Option, Some, None}
-use Rattle.sql_front.proofs.Common.{⊤, Term, lit, col, op1, op2, case, Collation, Expr, out-Expr, Select, Layer, Expr-F, Exists, operator, applied, node_at, is_identity, count_rows, function_named, star_by, counted, again, Name, Context, column, Lowering, ◌>>=◌, ◌>>◌, pure, last, spend, begin, finish, chosen, combine, passes}
+use Rattle.sql_front.proofs.Common.{◌≡◌, refl, sym, ◌∙◌, ℕ, zero, suc, false, Option, Some, None, ⊤, Term, lit, col, op1, op2, case, Collation, Expr, out-Expr, Select, Layer, Expr-F, Exists, operator, applied, node_at, is_identity, count_rows, function_named, star_by, counted, again, Name, Context, column, Lowering, ◌>>=◌, ◌>>◌, pure, last, spend, begin, finish, chosen, combine, passes}
 use Rattle.sqlite_sql.specs.declared.ops.BinaryOp.{BinaryOp}
 use Rattle.sqlite_sql.specs.declared.ops.BinaryOp.TheVariants as by
 use Rattle.sqlite_ast.specs.declared.Binary.{Binary}

@@ -1,6 +1,5 @@
 -- Over one table a SELECT finds the same columns, wherever the table stands in the schema.
-use Rattle.std.proofs.Common.{◌≡◌, inl, inr, refl, ℕ, zero, suc, ◌^◌, nat_lt, ◌==◌, Bool, true, false, not, ◌&&◌, ◌||◌, Ok, Err, List, [], ◌∷◌, Option, Some, None, slice_get}
-use Rattle.sql_front.proofs.Common.{cases_Bool, column_named, Output, Bound, Found, Level, Name, Context, alias_of, found_or, is_meant, is_hidden, is_rowid, Checked, ◌>>=◌, lift, and_then, Alias, Column, Rowid, NoSuchColumn, if◌then◌else◌, option_map, is_some, Expr, out-Expr, Expr-F, Layer, found_name, heading_at}
+use Rattle.sql_front.proofs.Common.{◌≡◌, inl, inr, refl, ℕ, zero, suc, ◌^◌, nat_lt, ◌==◌, Bool, true, false, not, ◌&&◌, ◌||◌, Ok, Err, List, [], ◌∷◌, Option, Some, None, slice_get, cases_Bool, column_named, Output, Bound, Found, Level, Name, Context, alias_of, found_or, is_meant, is_hidden, is_rowid, Checked, ◌>>=◌, lift, and_then, Alias, Column, Rowid, NoSuchColumn, if◌then◌else◌, option_map, is_some, Expr, out-Expr, Expr-F, Layer, found_name, heading_at, and-true}
 use Rattle.sqlite.specs.Schema.{Schema}
 use Rattle.sqlite.specs.Table.{Table}
 use Rattle.sqlite_resolve.specs.Scope.{column, find, in_level, only, hit, column_in, rowid_in, column_at, term_of}
@@ -51,11 +50,7 @@ module _ (s z : Schema) (at there : ℕ) (table : Table) (got : slice_get s.tabl
 
   pub seen_alike : {X : Type 0} (here away : Checked Found → X) (p q : Checked Found) → Alike here away p q → (wanted : Option Name) (text : Name) → here (seen_in s wanted text at p) ≡ away (seen_in z wanted text there q)
   seen_alike here away p q h None text = by_column here away p q h None text (not (is_hidden None text (one_bound name slot shared at))) (column_named table text) (λ k. refl) refl
-  seen_alike here away p q h (Some other) text = by_column here away p q h (Some other) text (is_meant (Some other) (one_bound name slot shared at)) (column_named table text) (λ k. both_ways (is_meant (Some other) (one_bound name slot shared at))) refl
-    where
-      both_ways : (b : Bool) → (b && true) ≡ b
-      both_ways true = refl
-      both_ways false = refl
+  seen_alike here away p q h (Some other) text = by_column here away p q h (Some other) text (is_meant (Some other) (one_bound name slot shared at)) (column_named table text) (λ k. and-true (is_meant (Some other) (one_bound name slot shared at))) refl
 
 -- a column of a table is the same term, whatever is around
 pub found_same : (a b : Context) (slot at there : ℕ) (table : Table) → slice_get a.schema.tables at ≡ Some table → slice_get b.schema.tables there ≡ Some table → (k : ℕ) → term_of a (Column slot at k) ≡ term_of b (Column slot there k)

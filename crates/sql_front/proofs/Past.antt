@@ -1,6 +1,5 @@
 -- How a table is found behind others.
-use Rattle.std.proofs.Common.{◌≡◌, inl, inr, refl, ap, ◌∙◌, ℕ, suc, ◌+◌, ◌<◌, ◌≤◌, ◌==◌, Bool, true, false, cond, ◌||◌, List, [], ◌∷◌, ◌++◌, length, Option, Some, None, slice_get, find, arith}
-use Rattle.sql_front.proofs.Common.{position_from, is_some, ne_eqb, Table, Schema, table_named, index_named, view_named, next_tree, is_used, table_below, Has, Name}
+use Rattle.sql_front.proofs.Common.{◌≡◌, inl, inr, refl, ap, ◌∙◌, ℕ, suc, ◌+◌, ◌<◌, ◌≤◌, ◌==◌, Bool, true, false, cond, ◌||◌, List, [], ◌∷◌, ◌++◌, length, Option, Some, None, slice_get, find, arith, position_from, is_some, ne_eqb, Table, Schema, table_named, index_named, view_named, next_tree, is_used, table_below, Has, Name}
 
 -- ---- the first of a longer list
 

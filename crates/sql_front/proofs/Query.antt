@@ -1,6 +1,5 @@
 -- What a SELECT over one table is compiled to, under any schema that has the table.
-use Rattle.std.proofs.Common.{◌≡◌, ℕ, ◌^◌, nat_le, ◌==◌, true, false, ◌&&◌, Ok, List, [], ◌∷◌, Option, Some, None, find}
-use Rattle.sql_front.proofs.Common.{Query, inner, end, Term, Expr, Parsed, query_of, Schema, Table, accepts_program, accepts_after, are_tests, integer, is_count, row_classes, Name, named, paging, Shown, first}
+use Rattle.sql_front.proofs.Common.{◌≡◌, ℕ, ◌^◌, nat_le, ◌==◌, true, false, ◌&&◌, Ok, List, [], ◌∷◌, Option, Some, None, find, Query, inner, end, Term, Expr, Parsed, query_of, Schema, Table, accepts_program, accepts_after, are_tests, integer, is_count, row_classes, Name, named, paging, Shown, first}
 use Rattle.sqlite_sql.specs.Query.{counted}
 use Rattle.sqlite_ast.specs.declared.Select as written_select
 use Rattle.sqlite_ast.specs.declared.Statement.TheVariants as written

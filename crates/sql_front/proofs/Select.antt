@@ -1,6 +1,5 @@
 -- A SELECT over one table is the same query wherever the table stands in the schema.
-use Rattle.std.proofs.Common.{◌≡◌, refl, ℕ, ◌+◌, ◌==◌, nat_lt, Bool, true, false, not, Ok, Err, List, [], ◌∷◌, ◌++◌, length, Option, Some, None, slice_get}
-use Rattle.sql_front.proofs.Common.{⊤, if◌then◌else◌, unwrap_or, is_some, Term, reads_below, TooBig, Unsupported, Expr, Shown-F, out-Shown, Source, out-Source, Core, out-Core, Select, ShownLayer, Inner, Schema, Table, table_named, Bound, Output, State, Checked, Lowering, ◌>>=◌, fail, pure, lift, last, fresh, max_budget, Name, Context, shown_again, lower, lower_to, counted, Exists, is_column, shown_at, outputs_from}
+use Rattle.sql_front.proofs.Common.{◌≡◌, refl, ℕ, ◌+◌, ◌==◌, nat_lt, Bool, true, false, not, Ok, Err, List, [], ◌∷◌, ◌++◌, length, Option, Some, None, slice_get, ⊤, if◌then◌else◌, unwrap_or, is_some, Term, reads_below, TooBig, Unsupported, Expr, Shown-F, out-Shown, Source, out-Source, Core, out-Core, Select, ShownLayer, Inner, Schema, Table, table_named, Bound, Output, State, Checked, Lowering, ◌>>=◌, fail, pure, lift, last, fresh, max_budget, Name, Context, shown_again, lower, lower_to, counted, Exists, is_column, shown_at, outputs_from}
 use Rattle.sqlite_value.specs.declared.keys.Key.{Key}
 use Rattle.sqlite_ast.specs.declared.Shown.{Shown}
 use Rattle.sqlite_ast.specs.declared.Origin.TheVariants as origin

@@ -1,6 +1,5 @@
 -- A text's meaning under any schema that has its table, from its meaning over that table alone.
-use Rattle.std.proofs.Common.{◌≡◌, refl, sym, subst, ◌∙◌, ℕ, true, false, ◌&&◌, Ok, List, [], ◌∷◌, Some, None}
-use Rattle.sql_front.proofs.Common.{Query, inner, end, Term, out-Select, out-Core, Source, out-Source, Parsed, Draft, query_of, Schema, Table, table_named, accepts_program, accepts_after, is_count, row_classes, Name, named, paging, Shown, Compiled, compiled, first, Stands}
+use Rattle.sql_front.proofs.Common.{◌≡◌, refl, sym, subst, ◌∙◌, ℕ, true, false, ◌&&◌, Ok, List, [], ◌∷◌, Some, None, Query, inner, end, Term, out-Select, out-Core, Source, out-Source, Parsed, Draft, query_of, Schema, Table, table_named, accepts_program, accepts_after, is_count, row_classes, Name, named, paging, Shown, Compiled, compiled, first, Stands}
 use Rattle.sqlite_ast.specs.declared.Select as written_select
 use Rattle.sqlite_ast.specs.declared.Origin.TheVariants as origin
 use Rattle.sqlite_ast.specs.declared.Statement.TheVariants as written

@@ -1,6 +1,5 @@
 -- The meaning of a SELECT over one table with EXISTS over a second, under any schema that has the two, from its meaning over these two alone.
-use Rattle.std.proofs.Common.{◌≡◌, refl, sym, subst, ◌∙◌, ℕ, true, false, ◌&&◌, Ok, List, [], ◌∷◌, Some}
-use Rattle.sql_front.proofs.Common.{Query, inner, end, Term, Parsed, query_of, Schema, Table, table_named, accepts_program, accepts_after, are_tests, integer, is_count, row_classes, Name, named, paging, Shown, compiled, first, Stands}
+use Rattle.sql_front.proofs.Common.{◌≡◌, refl, sym, subst, ◌∙◌, ℕ, true, false, ◌&&◌, Ok, List, [], ◌∷◌, Some, Query, inner, end, Term, Parsed, query_of, Schema, Table, table_named, accepts_program, accepts_after, are_tests, integer, is_count, row_classes, Name, named, paging, Shown, compiled, first, Stands}
 use Rattle.sqlite_sql.specs.Query.{counted}
 use Rattle.sqlite_ast.specs.declared.Select as written_select
 use Rattle.sql_front.proofs.Select.{IsOneTableBut, IsTestBut, same_named_but, over, same_over, tests_same_but}

@@ -1,6 +1,5 @@
 -- Where an expression sees a table and, one level out, another, it is lowered alike in each schema that has them, wherever they stand in it.
-use Rattle.std.proofs.Common.{◌≡◌, ◌⊎◌, inl, inr, refl, ℕ, zero, suc, ◌^◌, nat_lt, ◌==◌, Bool, true, false, not, ◌&&◌, ◌||◌, Ok, Err, [], ◌∷◌, Option, Some, None, slice_get}
-use Rattle.sql_front.proofs.Common.{cases_Bool, if◌then◌else◌, is_some, Schema, Table, same_name, column_named, Bound, Level, Found, Column, Rowid, NoSuchColumn, Checked, ◌>>=◌, lift, Name, Context, is_meant, is_hidden, is_rowid, found_or}
+use Rattle.sql_front.proofs.Common.{◌≡◌, ◌⊎◌, inl, inr, refl, ℕ, zero, suc, ◌^◌, nat_lt, ◌==◌, Bool, true, false, not, ◌&&◌, ◌||◌, Ok, Err, [], ◌∷◌, Option, Some, None, slice_get, cases_Bool, if◌then◌else◌, is_some, Schema, Table, same_name, column_named, Bound, Level, Found, Column, Rowid, NoSuchColumn, Checked, ◌>>=◌, lift, Name, Context, is_meant, is_hidden, is_rowid, found_or, and-true}
 use Rattle.sqlite_resolve.specs.Scope.{column, find, in_level, only, hit, column_in, rowid_in, column_at, term_of, is_among}
 use Rattle.sqlite_resolve.specs.Compare.{of_column}
 use Rattle.sqlite_resolve.specs.Given.{nested}
@@ -42,11 +41,11 @@ named_or_not (Some k) = inl (k, refl)
 is_meant_by : (name : Name) (slot at : ℕ) (wanted : Option Name) (text : Name) → (is_meant wanted (bound_in name slot at) && not (is_hidden wanted text (bound_in name slot at))) ≡ means_it name wanted
 unfolding is_among
 is_meant_by name slot at None text = refl
-is_meant_by name slot at (Some wanted) text = both_ways (same_name name wanted)
-  where
-    both_ways : (b : Bool) → (b && true) ≡ b
-    both_ways true = refl
-    both_ways false = refl
+is_meant_by name slot at (Some wanted) text = and-true (same_name name wanted)
+
+outside : (w : Option Name) → ◌≡◌ {A = Checked (Option Found)} (if (false || is_some w) then Ok None else Ok None) (Ok None)
+outside None = refl
+outside (Some other) = refl
 
 module _ (s : Schema) (at : ℕ) (table : Table) (got : slice_get s.tables at ≡ Some table) (name : Name) (slot depth : ℕ) (wanted : Option Name) (text : Name) where
   level_finds : (seen : Bool) → (is_meant wanted (bound_in name slot at) && not (is_hidden wanted text (bound_in name slot at))) ≡ seen
@@ -62,18 +61,10 @@ module _ (s : Schema) (at : ℕ) (table : Table) (got : slice_get s.tables at �
       | inr plain ↦ rw (got, none, meant, plain) (outside wanted)
     ]
   ]
-    where
-      outside : (w : Option Name) → ◌≡◌ {A = Checked (Option Found)} (if (false || is_some w) then Ok None else Ok None) (Ok None)
-      outside None = refl
-      outside (Some other) = refl
   level_finds false other = elim (cases_Bool (is_rowid text)) [
     | inl id ↦ rw (other, id) (outside wanted)
     | inr plain ↦ rw (other, plain) (outside wanted)
   ]
-    where
-      outside : (w : Option Name) → ◌≡◌ {A = Checked (Option Found)} (if (false || is_some w) then Ok None else Ok None) (Ok None)
-      outside None = refl
-      outside (Some other) = refl
 
   finds : in_level s wanted text depth (level_in name slot at) ≡ Ok (found_at slot at (hit_in table name wanted text))
   finds = level_finds (means_it name wanted) (is_meant_by name slot at wanted text)

@@ -1,6 +1,5 @@
 -- INSERT .. SELECT .. ON CONFLICT means the same wherever its two tables stand in the schema.
-use Rattle.std.proofs.Common.{◌≡◌, inl, inr, refl, sym, ap, subst, ◌∙◌, ℕ, ◌+◌, ◌==◌, true, false, ◌&&◌, Ok, List, [], ◌∷◌, ◌++◌, length, find, Some, None, slice_get, codes, Bool, cond, ◌||◌, arith}
-use Rattle.sql_front.proofs.Common.{eqb-true, eq-eqb, Collation, Query, inner, end, Term, Parsed, Draft, query_of, Schema, Table, Index, Has, table_named, accepts_program, accepts_after, is_count, row_classes, Compiled, Name, Context, named, paging, Shown, first, small, Stands}
+use Rattle.sql_front.proofs.Common.{◌≡◌, inl, inr, refl, sym, ap, subst, ◌∙◌, ℕ, ◌+◌, ◌==◌, true, false, ◌&&◌, Ok, List, [], ◌∷◌, ◌++◌, length, find, Some, None, slice_get, codes, Bool, cond, ◌||◌, arith, eqb-true, eq-eqb, Collation, Query, inner, end, Term, Parsed, Draft, query_of, Schema, Table, Index, Has, table_named, accepts_program, accepts_after, is_count, row_classes, Compiled, Name, Context, named, paging, Shown, first, small, Stands}
 use Rattle.sqlite_ast.specs.declared.Rows.TheVariants as rows
 use Rattle.sqlite_ast.specs.declared.Select as written_select
 use Rattle.sqlite_ast.specs.declared.Upsert as written_clause

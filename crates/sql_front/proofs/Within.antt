@@ -1,6 +1,5 @@
 -- EXISTS of a query over a second table is the same term wherever the two tables stand in the schema.
-use Rattle.std.proofs.Common.{◌≡◌, inl, inr, refl, ℕ, zero, suc, ◌+◌, ◌==◌, nat_lt, Bool, true, false, Ok, Err, List, [], ◌∷◌, ◌++◌, Option, Some, slice_get}
-use Rattle.sql_front.proofs.Common.{cases_Bool, ⊤, if◌then◌else◌, unwrap_or, is_some, Term, out-Expr, Expr-F, Shown-F, out-Shown, Core, out-Core, Select, out-Select, Layer, ShownLayer, Inner, Schema, Table, table_named, NoSuchColumn, Unsupported, Alias, Output, State, Exists, Name, Context, Checked, ◌>>=◌, and_then, pure, lift, last, lateral, fresh, shown_at, tests, joins, is_column, heading_at, lower_to, is_plain}
+use Rattle.sql_front.proofs.Common.{◌≡◌, inl, inr, refl, ℕ, zero, suc, ◌+◌, ◌==◌, nat_lt, Bool, true, false, Ok, Err, List, [], ◌∷◌, ◌++◌, Option, Some, slice_get, cases_Bool, ⊤, if◌then◌else◌, unwrap_or, is_some, Term, out-Expr, Expr-F, Shown-F, out-Shown, Core, out-Core, Select, out-Select, Layer, ShownLayer, Inner, Schema, Table, table_named, NoSuchColumn, Unsupported, Alias, Output, State, Exists, Name, Context, Checked, ◌>>=◌, and_then, pure, lift, last, lateral, fresh, shown_at, tests, joins, is_column, heading_at, lower_to, is_plain}
 use Rattle.sqlite_ast.specs.declared.Shown.{Shown}
 use Rattle.sqlite_draft.specs.declared.join.Step.{Step}
 use Rattle.sqlite_resolve.specs.Scope.{column, find, term_of}

@@ -1,10 +1,9 @@
 -- INSERT and CREATE TABLE under any schema that has the table, or does not use its name.
-use Rattle.std.proofs.Common.{◌≡◌, sym, subst, ℕ, ◌+◌, ◌==◌, true, false, not, ◌&&◌, Ok, List, [], length, None}
+use Rattle.sql_front.proofs.Common.{◌≡◌, sym, subst, ℕ, ◌+◌, ◌==◌, true, false, not, ◌&&◌, Ok, List, [], length, None, Parsed, Schema, Table, is_used, Name, Compiled, first, new_rows, small, is_reserved, Stands}
 use Rattle.sqlite_ast.specs.declared.Rows.{Rows}
 use Rattle.sqlite_ast.specs.declared.Conflict.TheVariants as conflict
 use Rattle.sqlite_ast.specs.declared.CreateTable as definition
 use Rattle.sqlite_ast.specs.declared.Statement.TheVariants as written
-use Rattle.sql_front.proofs.Common.{Parsed, Schema, Table, is_used, Name, Compiled, first, new_rows, small, is_reserved, Stands}
 use Rattle.sqlite_schema.specs.declared.command.Command.TheVariants.{Insert, CreateTable}
 use Rattle.sqlite_schema.specs.declared.command.Source.{Source}
 use Rattle.sqlite_resolve.specs.Define as define

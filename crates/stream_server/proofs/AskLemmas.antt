@@ -1,6 +1,5 @@
 -- A message that isn't read to a request.
-use Rattle.std.proofs.Common.{◌≡◌, ◌≢◌, ◌⊎◌, None, inl, inr, refl, sym, ap, ◌∙◌}
-use Rattle.stream_server.proofs.Common.{Refusal, NoMemory, StoreFailed, CommandList, Asked, Rejected, Refused, MayAnswer, DeskState, StandsFor, AppliesAt}
+use Rattle.stream_server.proofs.Common.{◌≡◌, ◌≢◌, ◌⊎◌, None, inl, inr, refl, sym, ap, ◌∙◌, Refusal, NoMemory, StoreFailed, CommandList, Asked, Rejected, Refused, MayAnswer, DeskState, StandsFor, AppliesAt}
 use Rattle.rollout_machine.specs.Answers.{answer}
 
 rejected_answer : (h : CommandList) (r : Refusal) → record { reply = Refused r; accepted = None } ≡ answer h (Rejected r)

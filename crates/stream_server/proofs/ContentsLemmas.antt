@@ -1,9 +1,8 @@
 -- A reply with contents, piece by piece, and the exchange that it is.
-use Rattle.std.proofs.Common.{◌≡◌, ◌≢◌, ◌≤◌, ◌⊎◌, ℕ, false, List, [], ◌∷◌, ◌++◌, length, take, drop, Vec, Option, Some, None, Ok, Err, inl, inr, refl, sym, ap, ◌∙◌, subst, arith, append_assoc, append-nil, take-append-drop, codes}
+use Rattle.stream_server.proofs.Common.{◌≡◌, ◌≢◌, ◌≤◌, ◌⊎◌, ℕ, false, List, [], ◌∷◌, ◌++◌, length, take, drop, Vec, Option, Some, None, Ok, Err, inl, inr, refl, sym, ap, ◌∙◌, subst, arith, append_assoc, append-nil, take-append-drop, codes, Appends, Appends-nil, Appends-trans, false≢true, HandsPieces, Sends, sent, WireMessage, Refusal, StoreFailed, MayAnswer, CommandList, Bytes, Refused, ContentsShown, DeskState, StandsFor, Interface, ServeFault, reading, Conduct, running, BeginsDownload, Comes, Serves}
 use Rattle.std.proofs.Math.Seq.{take-length}
 use Rattle.std.specs.declared.alloc.Global.{Global}
 use Rattle.std.specs.Fmt.{decimal}
-use Rattle.stream_server.proofs.Common.{Appends, Appends-nil, Appends-trans, false≢true, HandsPieces, Sends, sent, WireMessage, Refusal, StoreFailed, MayAnswer, CommandList, Bytes, Refused, ContentsShown, DeskState, StandsFor, Interface, ServeFault, reading, Conduct, running, BeginsDownload, Comes, Serves}
 use Rattle.contents_handler.specs.Downloads.{Begins}
 use Rattle.contents_handler.specs.declared.download.Download.{Download}
 use Rattle.contents_handler.specs.declared.answered.Answered.TheVariants.{Contents}

@@ -1,6 +1,5 @@
 -- The exits of the loop, for a desk of any conduct.
-use Rattle.std.proofs.Common.{◌≡◌, ◌≢◌, ℕ, ◌+◌, ◌-◌, ◌^◌, ◌<◌, ◌≤◌, min, Bool, true, false, List, [], ◌++◌, length, Option, Some, None, Result, Ok, Err, inl, refl, sym, ap, ◌∙◌, subst, append-nil, arith, length-append}
-use Rattle.stream_server.proofs.Common.{Appends, Consumes, IsAtEnd, Appends-nil, Consumes-nil, Consumes-trans, false≢true, End, Input, Cut, Fault, WireMessage, IsUndecided, IsFault, Begins, EndsAs, CommandList, Refused, DeskState, ServeFault, Served, end_text, Exchange, messages_of, texts_of, GoesOn, AnswersEnd, Exits, IsTold, Conduct, Answers, SendsPart}
+use Rattle.stream_server.proofs.Common.{◌≡◌, ◌≢◌, ℕ, ◌+◌, ◌-◌, ◌^◌, ◌<◌, ◌≤◌, min, Bool, true, false, List, [], ◌++◌, length, Option, Some, None, Result, Ok, Err, inl, refl, sym, ap, ◌∙◌, subst, append-nil, arith, length-append, Appends, Consumes, IsAtEnd, Appends-nil, Consumes-nil, Consumes-trans, false≢true, End, Input, Cut, Fault, WireMessage, IsUndecided, IsFault, Begins, EndsAs, CommandList, Refused, DeskState, ServeFault, Served, end_text, Exchange, messages_of, texts_of, GoesOn, AnswersEnd, Exits, IsTold, Conduct, Answers, SendsPart}
 use Rattle.std.proofs.lemmas.List.{length-map}
 use Rattle.http_wire.specs.declared.fault.WireFault.{WireFault}
 use Rattle.stream_server.specs.declared.served.ServeFault.TheVariants as serve_fault

@@ -1,6 +1,5 @@
 -- The headline from the parts.
-use Rattle.std.proofs.Common.{All, ◌≡◌, ◌≢◌, ℕ, ◌⊎◌, Bool, true, false, List, [], ◌∷◌, ◌++◌, Option, None, Result, Ok, Err, inl, inr, refl, sym, ap, ◌∙◌, subst, append_assoc, append-nil}
-use Rattle.stream_server.proofs.Common.{StoreFailed, Command, CommandList, followed_by, Make, Reply, Refused, one, DeskState, IsInDoubt, Interface, ServeFault, Served, Exchange, accepted_in, texts_of, IsRun, AnswersEnd, CutsDownload, Exits, HoldsFirstPart, Stops, Transcript, Headline, IsRefusedAsStopped, BeginsDownload, Conduct, Whole, Broken, CutsReply, running, stopped, ByStopped, Answers, Serves, ServesStream, WireMessage, Begins, End, Input, Appends, Consumes, Appends-trans, All-nil, All-cons, reply_text, end_text}
+use Rattle.stream_server.proofs.Common.{All, ◌≡◌, ◌≢◌, ℕ, ◌⊎◌, Bool, true, false, List, [], ◌∷◌, ◌++◌, Option, None, Result, Ok, Err, inl, inr, refl, sym, ap, ◌∙◌, subst, append_assoc, append-nil, StoreFailed, Command, CommandList, followed_by, Make, Reply, Refused, one, DeskState, IsInDoubt, Interface, ServeFault, Served, Exchange, accepted_in, texts_of, IsRun, AnswersEnd, CutsDownload, Exits, HoldsFirstPart, Stops, Transcript, Headline, IsRefusedAsStopped, BeginsDownload, Conduct, Whole, Broken, CutsReply, running, stopped, ByStopped, Answers, Serves, ServesStream, WireMessage, Begins, End, Input, Appends, Consumes, Appends-trans, All-nil, All-cons, reply_text, end_text}
 use Rattle.stream_server.specs.declared.served.ServeFault.TheVariants as serve_fault
 use Rattle.std.proofs.lemmas.List.{same_from_push}
 use Rattle.stream_server.proofs.RunLemmas.{accepted_append, texts_append, led}

@@ -1,7 +1,6 @@
 -- Connections, one after the other: each leaves a desk that keeps the lists that were kept, and accepts what was asked by the interface alone.
-use Rattle.std.proofs.Common.{◌≡◌, ◌++◌, ◌∷◌, ℕ, true, List, [], Option, Some, None, Result, Ok, inl, inr, ap, subst, sym}
+use Rattle.stream_server.proofs.Common.{◌≡◌, ◌++◌, ◌∷◌, ℕ, true, List, [], Option, Some, None, Result, Ok, inl, inr, ap, subst, sym, All-append, All-cons, All-head, All-nil, All-tail, WireMessage, Refusal, Answer, MayAnswer, command_answer, Command, CommandList, followed_by, Reply, Ask, Asked, Asks, Do, Rejected, one, DeskState, StandsFor, StaysStopped, Interface, Served, ServeFault, Headline, StoppedThroughout, reading, IsAsked, Keeps, KeepsOn, StopsAtStore, ByMachine, Exchange, IsRun, accepted_in}
 use Rattle.std.specs.List.{All}
-use Rattle.stream_server.proofs.Common.{All-append, All-cons, All-head, All-nil, All-tail, WireMessage, Refusal, Answer, MayAnswer, command_answer, Command, CommandList, followed_by, Reply, Ask, Asked, Asks, Do, Rejected, one, DeskState, StandsFor, StaysStopped, Interface, Served, ServeFault, Headline, StoppedThroughout, reading, IsAsked, Keeps, KeepsOn, StopsAtStore, ByMachine, Exchange, IsRun, accepted_in}
 use Rattle.rollout_machine.specs.Answers.{answer}
 use Rattle.rollout_machine.specs.Verdicts.{verdict}
 use Rattle.stream_server.specs.declared.listening.ListenFault.{ListenFault}

@@ -1,6 +1,5 @@
 -- One message, from what the desk answered and from how much of the reply was written.
-use Rattle.std.proofs.Common.{◌≡◌, ◌≢◌, ℕ, Bool, true, inl, List, [], ◌∷◌, Option, Some, None, refl, sym, append-nil}
-use Rattle.stream_server.proofs.Common.{Appends, WireMessage, Refusal, StoreFailed, Stopped, CommandList, Reply, Refused, DeskState, StandsFor, Applies, StaysStopped, Interface, ServeFault, reading, Conduct, running, stopped, AnswersOne, Answers, GivesReply, Serves, SendsPart}
+use Rattle.stream_server.proofs.Common.{◌≡◌, ◌≢◌, ℕ, Bool, true, inl, List, [], ◌∷◌, Option, Some, None, refl, sym, append-nil, Appends, WireMessage, Refusal, StoreFailed, Stopped, CommandList, Reply, Refused, DeskState, StandsFor, Applies, StaysStopped, Interface, ServeFault, reading, Conduct, running, stopped, AnswersOne, Answers, GivesReply, Serves, SendsPart}
 use Rattle.http_wire.specs.Replies.{refusal_text}
 use Rattle.stream_server.specs.declared.served.ServeFault.TheVariants as serve_fault
 use Rattle.stream_server.specs.Interfaces.{reply_text}

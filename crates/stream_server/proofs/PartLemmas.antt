@@ -1,6 +1,5 @@
 -- Parts of `serve`: one message, and parts one after the other.
-use Rattle.std.proofs.Common.{◌≡◌, ◌≢◌, ℕ, true, List, [], ◌∷◌, ◌++◌, Option, Some, None, refl, sym, ap, ◌∙◌, subst, append_assoc, append-nil}
-use Rattle.stream_server.proofs.Common.{Appends-trans, Appends-nil, WireMessage, Begins, StoreFailed, Command, CommandList, followed_by, Reply, Refused, one, DeskState, StaysStopped, Interface, ServeFault, reply_text, Exchange, messages_of, accepted_in, texts_of, IsRun, Conduct, running, stopped, AnswersOne, Whole, Broken, CutsReply, Comes, Answers, Serves, Takes}
+use Rattle.stream_server.proofs.Common.{◌≡◌, ◌≢◌, ℕ, true, List, [], ◌∷◌, ◌++◌, Option, Some, None, refl, sym, ap, ◌∙◌, subst, append_assoc, append-nil, Appends-trans, Appends-nil, WireMessage, Begins, StoreFailed, Command, CommandList, followed_by, Reply, Refused, one, DeskState, StaysStopped, Interface, ServeFault, reply_text, Exchange, messages_of, accepted_in, texts_of, IsRun, Conduct, running, stopped, AnswersOne, Whole, Broken, CutsReply, Comes, Answers, Serves, Takes}
 use Rattle.stream_server.proofs.RunLemmas.{messages_append, texts_append, run_append, goes_append, led}
 
 module _ (File : Type 0) (C : Conduct File) where

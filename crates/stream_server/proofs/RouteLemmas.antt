@@ -1,9 +1,7 @@
 -- The first word of a path says which interface's router can know it.
-use Rattle.std.proofs.Common.{◌≡◌, ℕ, List, [], ◌∷◌, Bool, true, false, not, ◌&&◌, nat_lt, length, cond, bytes_eq, codes, Option, Some, None, refl, sym, ap, ◌∙◌, subst}
-use Rattle.std.specs.Prelude.{slice_get}
+use Rattle.stream_server.proofs.Common.{◌≡◌, ℕ, List, [], ◌∷◌, Bool, true, false, not, ◌&&◌, nat_lt, length, cond, bytes_eq, codes, Option, Some, None, refl, sym, ap, ◌∙◌, subst, slice_get, false≢true, WireMessage, manage_route, reading_by}
 use Rattle.std.specs.List.{list_all}
 use Rattle.std.specs.Str.{is_utf8}
-use Rattle.stream_server.proofs.Common.{false≢true, WireMessage, manage_route, reading_by}
 use Rattle.std.proofs.lemmas.Slice.Eq.{bytes_eq-Decides}
 use Rattle.request_target.specs.Routes.{segments, is_parameter, stands_for, fits, route_in}
 use Rattle.request_target.proofs.Longest.{both}

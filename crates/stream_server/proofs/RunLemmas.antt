@@ -1,8 +1,7 @@
 -- Runs grow at their end: a part of a run that goes on, and then another from the list that it leads to.
-use Rattle.std.proofs.Common.{◌≡◌, List, [], ◌∷◌, ◌++◌, refl, sym, ap, ◌∙◌, subst}
+use Rattle.stream_server.proofs.Common.{◌≡◌, List, [], ◌∷◌, ◌++◌, refl, sym, ap, ◌∙◌, subst, Command, CommandList, ◌▸◌, followed_by, one, reply_text, Exchange, messages_of, accepted_in, texts_of, Answering, IsRun, GoesOn}
 use Rattle.std.proofs.lemmas.List.{map-append}
 use Rattle.std.proofs.lemmas.List.Concat.{flat_map-append}
-use Rattle.stream_server.proofs.Common.{Command, CommandList, ◌▸◌, followed_by, one, reply_text, Exchange, messages_of, accepted_in, texts_of, Answering, IsRun, GoesOn}
 
 pub followed_append : (h : CommandList) (cs ds : List Command) → followed_by h (cs ++ ds) ≡ followed_by (followed_by h cs) ds
 followed_append h [] ds = refl

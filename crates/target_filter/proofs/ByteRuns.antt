@@ -1,6 +1,5 @@
 -- Runs of bytes that pass a test.
-use Rattle.std.proofs.Common.{◌≡◌, ℕ, suc, ◌<◌, ◌≤◌, List, [], ◌∷◌, ◌++◌, length, take, drop, get_or, Bool, true, false, not, refl, sym, ◌∙◌, ap, append-nil, drop-cons}
-use Rattle.target_filter.proofs.Common.{list_all, take-append-drop, front, behind_front}
+use Rattle.target_filter.proofs.Common.{◌≡◌, ℕ, suc, ◌<◌, ◌≤◌, List, [], ◌∷◌, ◌++◌, length, take, drop, get_or, Bool, true, false, not, refl, sym, ◌∙◌, ap, append-nil, drop-cons, list_all, take-append-drop, front, behind_front}
 use Rattle.target_filter.proofs.ParsedTrees.{stops, fronts, pasts}
 
 stops_at : (p : ℕ → Bool) (text : List ℕ) (k : ℕ) → k < length text → p (get_or text k 0) ≡ false → stops p (drop k text) ≡ true

@@ -1,6 +1,5 @@
 -- The first place of a piece serves as well as any.
-use Rattle.std.proofs.Common.{◌≡◌, ◌⊎◌, inl, inr, ℕ, zero, suc, ◌+◌, ◌-◌, ◌≤◌, ◌<◌, List, [], ◌∷◌, ◌++◌, length, take, drop, get_or, Bool, true, false, cond, ◌&&◌, ◌||◌, ◌==◌, not, eqb, Option, Some, None, refl, sym, ◌∙◌, ap, subst, arith, append_assoc, append-nil, length-append}
-use Rattle.target_filter.proofs.Common.{list_all, starts_with, ends_with, option_map_or, false≢true, nat_tests, Decides-eqb, drop_at, drop-append-le, take-append-drop, length-take-le, drop-cons, starts_is, ends_is, slice_eq-Decides, pointwise, with_first_byte, pieces, IsJoinedAfterStar, IsJoined, Matches, star_takes, byte_then, is_empty, matches, after, greedy}
+use Rattle.target_filter.proofs.Common.{◌≡◌, ◌⊎◌, inl, inr, ℕ, zero, suc, ◌+◌, ◌-◌, ◌≤◌, ◌<◌, List, [], ◌∷◌, ◌++◌, length, take, drop, get_or, Bool, true, false, cond, ◌&&◌, ◌||◌, ◌==◌, not, eqb, Option, Some, None, refl, sym, ◌∙◌, ap, subst, arith, append_assoc, append-nil, length-append, list_all, starts_with, ends_with, option_map_or, false≢true, nat_tests, Decides-eqb, drop_at, drop-append-le, take-append-drop, length-take-le, drop-cons, starts_is, ends_is, slice_eq-Decides, pointwise, with_first_byte, pieces, IsJoinedAfterStar, IsJoined, Matches, star_takes, byte_then, is_empty, matches, after, greedy}
 use Rattle.target_filter.proofs.ScannedTrees.{both}
 use Rattle.target_filter.proofs.Beginnings.{all_of}
 use Rattle.target_filter.proofs.ScannerMoves.{eq_true}

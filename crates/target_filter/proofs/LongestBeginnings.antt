@@ -1,7 +1,5 @@
 -- Where the scanner stops there ends the longest beginning that some continuation makes a filter.
-use Rattle.std.proofs.Common.{◌≡◌, ◌⊎◌, inl, inr, ℕ, zero, suc, ◌+◌, ◌-◌, ◌≤◌, ◌<◌, max, List, [], ◌∷◌, ◌++◌, length, take, drop, get_or, Bool, true, false, cond, ◌&&◌, ◌==◌, ltb, leb, Option, Some, None, refl, sym, ◌∙◌, ap, subst, arith, append_assoc, append-nil, add-zero, length-append}
-use Rattle.target_filter.proofs.Common.{list_all, IfSome, option_and_then, IsUtf8, IsAscii, IsCharBoundary, false≢true, nat_tests, IsUtf8-from_ascii, IsUtf8-append, IsCharBoundary-end, IsCharBoundary-start, IsCharBoundary-before_ascii, IsCharBoundary-after_ascii, take-take, take-append-drop, take_more, take_all, is_bare_byte, is_quotable_byte, is_nonempty, Field, Id, Name, Tag, Attribute, is_field, field_text, Tree, is_at, OrLevel, spelling, nesting, IsFilter, IsInGrammar, CanContinue, IsLongestBeginning, is_word_letter, Mode, State, Move, run, next, step, state_after, mode_of_name, at_atom_start, at_operator, at_atom_end, start, accepts}
-use Rattle.std.specs.Prelude.{nat_le, nat_lt, codes}
+use Rattle.target_filter.proofs.Common.{◌≡◌, ◌⊎◌, inl, inr, ℕ, zero, suc, ◌+◌, ◌-◌, ◌≤◌, ◌<◌, max, List, [], ◌∷◌, ◌++◌, length, take, drop, get_or, Bool, true, false, cond, ◌&&◌, ◌==◌, ltb, leb, Option, Some, None, refl, sym, ◌∙◌, ap, subst, arith, append_assoc, append-nil, add-zero, length-append, nat_le, nat_lt, codes, list_all, IfSome, option_and_then, IsUtf8, IsAscii, IsCharBoundary, false≢true, nat_tests, IsUtf8-from_ascii, IsUtf8-append, IsCharBoundary-end, IsCharBoundary-start, IsCharBoundary-before_ascii, IsCharBoundary-after_ascii, take-take, take-append-drop, take_more, take_all, is_bare_byte, is_quotable_byte, is_nonempty, Field, Id, Name, Tag, Attribute, is_field, field_text, Tree, is_at, OrLevel, spelling, nesting, IsFilter, IsInGrammar, CanContinue, IsLongestBeginning, is_word_letter, Mode, State, Move, run, next, step, state_after, mode_of_name, at_atom_start, at_operator, at_atom_end, start, accepts}
 use Rattle.std.proofs.lemmas.Str.Ascii.{IsAscii-nil, IsAscii-cons}
 use Rattle.target_filter.specs.Scanner as scan
 use Rattle.target_filter.proofs.ScannedTrees.{both, in_mode, reads, tree_end, tree_ends, closed, lt_true}

@@ -1,6 +1,5 @@
 -- What a filter's tree says is what its text says.
-use Rattle.std.proofs.Common.{◌≡◌, ℕ, List, Bool, ◌∙◌, ap, subst}
-use Rattle.target_filter.proofs.Common.{IsSomeAnd, Target, Tree, IsFilter, holds, IsProfileFilter, filter_of}
+use Rattle.target_filter.proofs.Common.{◌≡◌, ℕ, List, Bool, ◌∙◌, ap, subst, IsSomeAnd, Target, Tree, IsFilter, holds, IsProfileFilter, filter_of}
 use Rattle.target_filter.proofs.ParsedTrees.{one_tree}
 use Rattle.target_filter.proofs.Profiles.{tree_filter}
 

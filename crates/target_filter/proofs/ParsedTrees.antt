@@ -1,7 +1,5 @@
 -- The tree of a text is found, so a text has one tree.
-use Rattle.std.proofs.Common.{◌≡◌, ◌⊎◌, inl, inr, ℕ, zero, suc, ◌+◌, ◌-◌, ◌*◌, ◌≤◌, ◌<◌, List, [], ◌∷◌, ◌++◌, length, take, drop, Bool, true, false, cond, ◌&&◌, ◌||◌, ◌==◌, not, eqb, Option, Some, None, refl, sym, ◌∙◌, ap, subst, arith, append_assoc, append-nil, length-append}
-use Rattle.target_filter.proofs.Common.{list_all, option_and_then, option_map, option_map_or, false≢true, nat_tests, is_bare_byte, is_quotable_byte, is_nonempty, Field, Id, Name, Tag, Attribute, Value, Bare, Quoted, Tree, Or, And, Group, Comparison, Level, OrLevel, AndLevel, AtomLevel, is_at, allows_or, allows_and, spelling, field_text, value_text, Operator, Equal, NotEqual, operator_byte, is_field, is_value, IsFilter, is_word_letter, front, behind_front, attribute_field, field_of_name, operator_at, quoted_value, bare_value, value_at, comparison_at, closed, or_at, more_ors, and_at, more_ands, atom_at}
-use Rattle.std.specs.Prelude.{nat_le, codes}
+use Rattle.target_filter.proofs.Common.{◌≡◌, ◌⊎◌, inl, inr, ℕ, zero, suc, ◌+◌, ◌-◌, ◌*◌, ◌≤◌, ◌<◌, List, [], ◌∷◌, ◌++◌, length, take, drop, Bool, true, false, cond, ◌&&◌, ◌||◌, ◌==◌, not, eqb, Option, Some, None, refl, sym, ◌∙◌, ap, subst, arith, append_assoc, append-nil, length-append, nat_le, codes, list_all, option_and_then, option_map, option_map_or, false≢true, nat_tests, is_bare_byte, is_quotable_byte, is_nonempty, Field, Id, Name, Tag, Attribute, Value, Bare, Quoted, Tree, Or, And, Group, Comparison, Level, OrLevel, AndLevel, AtomLevel, is_at, allows_or, allows_and, spelling, field_text, value_text, Operator, Equal, NotEqual, operator_byte, is_field, is_value, IsFilter, is_word_letter, front, behind_front, attribute_field, field_of_name, operator_at, quoted_value, bare_value, value_at, comparison_at, closed, or_at, more_ors, and_at, more_ands, atom_at}
 use Rattle.target_filter.proofs.ScannedTrees.{both}
 
 -- what may stand behind a value without quotes

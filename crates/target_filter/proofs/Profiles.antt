@@ -1,7 +1,5 @@
 -- What `filter_of` computes is the tree of a text of the profile.
-use Rattle.std.proofs.Common.{◌≡◌, ◌⊎◌, inl, inr, ℕ, ◌+◌, ◌*◌, ◌≤◌, List, [], length, Bool, true, false, cond, ◌&&◌, Option, Some, None, refl, ◌∙◌, ap, subst, arith}
-use Rattle.std.specs.Prelude.{nat_le, nat_eq}
-use Rattle.target_filter.proofs.Common.{option_and_then, pointwise, false≢true, nat_tests, Decides-eqb, slice_eq-Decides, Tree, IsFilter, OrLevel, is_at, spelling, nesting, or_at, IsProfileFilter, IsInProfile, is_profile_filter, filter_of}
+use Rattle.target_filter.proofs.Common.{◌≡◌, ◌⊎◌, inl, inr, ℕ, ◌+◌, ◌*◌, ◌≤◌, List, [], length, Bool, true, false, cond, ◌&&◌, Option, Some, None, refl, ◌∙◌, ap, subst, arith, nat_le, nat_eq, option_and_then, pointwise, false≢true, nat_tests, Decides-eqb, slice_eq-Decides, Tree, IsFilter, OrLevel, is_at, spelling, nesting, or_at, IsProfileFilter, IsInProfile, is_profile_filter, filter_of}
 use Rattle.rollout_model.specs.Limits.{filter_length_limit, filter_depth_limit}
 use Rattle.target_filter.proofs.ScannedTrees.{both}
 use Rattle.target_filter.proofs.Beginnings.{all_of}

@@ -1,10 +1,8 @@
 -- From the scanner's answer to the reader's.
-use Rattle.std.proofs.Common.{◌≡◌, ℕ, ◌≤◌, ◌<◌, List, length, arith, ap, None}
-use Rattle.target_filter.proofs.Common.{IsUtf8, Stops, Ends, Tree, IsInGrammar, IsFilter, nesting, IsProfileFilter, IsInProfile, filter_of}
+use Rattle.target_filter.proofs.Common.{◌≡◌, ℕ, ◌≤◌, ◌<◌, List, length, arith, ap, None, Result, Ok, Err, IsUtf8, Stops, Ends, Tree, IsInGrammar, IsFilter, nesting, IsProfileFilter, IsInProfile, filter_of}
 use Rattle.target_filter.specs.Faults.{IsRefused}
 use Rattle.target_filter.specs.declared.fault.FilterFault.TheVariants.{Syntax, TooDeep, Memory}
 use Rattle.target_filter.specs.declared.fault.FilterFault.{FilterFault}
-use Rattle.std.specs.Prelude.{Result, Ok, Err}
 use Rattle.std.specs.Result.{MatchResult, IfErr}
 use Rattle.target_filter.proofs.ParsedTrees.{one_tree}
 use Rattle.target_filter.proofs.Profiles.{filter_none}

@@ -1,7 +1,5 @@
 -- The scanner goes through each filter.
-use Rattle.std.proofs.Common.{◌≡◌, ℕ, zero, suc, ◌+◌, ◌-◌, ◌≤◌, ◌<◌, max, List, [], ◌∷◌, ◌++◌, length, Bool, true, false, cond, ◌&&◌, ltb, leb, Option, Some, None, refl, sym, ◌∙◌, ap, arith, append_assoc, add-zero}
-use Rattle.target_filter.proofs.Common.{list_all, false≢true, nat_tests, is_bare_byte, is_quotable_byte, is_nonempty, Field, Id, Name, Tag, Attribute, Value, Bare, Quoted, Tree, Or, And, Group, Comparison, Level, OrLevel, AndLevel, AtomLevel, is_at, allows_or, allows_and, spelling, field_text, value_text, Operator, Equal, NotEqual, operator_byte, nesting, is_field, is_value, is_word_letter, Mode, State, run, next}
-use Rattle.std.specs.Prelude.{nat_le, nat_lt}
+use Rattle.target_filter.proofs.Common.{◌≡◌, ℕ, zero, suc, ◌+◌, ◌-◌, ◌≤◌, ◌<◌, max, List, [], ◌∷◌, ◌++◌, length, Bool, true, false, cond, ◌&&◌, ltb, leb, Option, Some, None, refl, sym, ◌∙◌, ap, arith, append_assoc, add-zero, nat_le, nat_lt, list_all, false≢true, nat_tests, is_bare_byte, is_quotable_byte, is_nonempty, Field, Id, Name, Tag, Attribute, Value, Bare, Quoted, Tree, Or, And, Group, Comparison, Level, OrLevel, AndLevel, AtomLevel, is_at, allows_or, allows_and, spelling, field_text, value_text, Operator, Equal, NotEqual, operator_byte, nesting, is_field, is_value, is_word_letter, Mode, State, run, next}
 use Rattle.target_filter.specs.Scanner as scan
 
 pub both : (a b : Bool) → (a && b) ≡ true → (a ≡ true) × (b ≡ true)

@@ -1,7 +1,5 @@
 -- A move of the scanner keeps what stands behind the beginning.
-use Rattle.std.proofs.Common.{◌≡◌, ◌⊎◌, inl, inr, ℕ, zero, suc, ◌+◌, ◌-◌, ◌≤◌, ◌<◌, max, List, [], ◌∷◌, ◌++◌, length, Bool, true, false, cond, ◌&&◌, ◌==◌, ltb, leb, Option, Some, None, refl, sym, ◌∙◌, ap, subst, arith, append_assoc, append-nil, add-zero, length-append}
-use Rattle.target_filter.proofs.Common.{list_all, IfSome, option_and_then, false≢true, nat_tests, is_bare_byte, is_quotable_byte, is_nonempty, Field, Id, Name, Tag, Attribute, Value, Bare, Quoted, Tree, Or, And, Group, Comparison, Level, OrLevel, AndLevel, AtomLevel, is_at, allows_or, allows_and, spelling, field_text, value_text, Operator, Equal, NotEqual, operator_byte, nesting, is_field, is_value, IsFilter, is_word_letter, Mode, State, Move, run, next, step, state_after, mode_of_name, at_atom_start, at_operator, at_atom_end}
-use Rattle.std.specs.Prelude.{nat_le, nat_lt, codes}
+use Rattle.target_filter.proofs.Common.{◌≡◌, ◌⊎◌, inl, inr, ℕ, zero, suc, ◌+◌, ◌-◌, ◌≤◌, ◌<◌, max, List, [], ◌∷◌, ◌++◌, length, Bool, true, false, cond, ◌&&◌, ◌==◌, ltb, leb, Option, Some, None, refl, sym, ◌∙◌, ap, subst, arith, append_assoc, append-nil, add-zero, length-append, nat_le, nat_lt, codes, list_all, IfSome, option_and_then, false≢true, nat_tests, is_bare_byte, is_quotable_byte, is_nonempty, Field, Id, Name, Tag, Attribute, Value, Bare, Quoted, Tree, Or, And, Group, Comparison, Level, OrLevel, AndLevel, AtomLevel, is_at, allows_or, allows_and, spelling, field_text, value_text, Operator, Equal, NotEqual, operator_byte, nesting, is_field, is_value, IsFilter, is_word_letter, Mode, State, Move, run, next, step, state_after, mode_of_name, at_atom_start, at_operator, at_atom_end}
 use Rattle.target_filter.specs.Scanner as scan
 use Rattle.target_filter.proofs.ScannedTrees.{both}
 use Rattle.target_filter.proofs.Beginnings.{Part, before, part_text, fits, PartFits, and_with, or_with, and_spelled, and_fits, whole, whole_spelled, whole_fits, outer_text, AllFit, Begun, atom_of, all_of}

@@ -1,7 +1,5 @@
 -- The scanner stops at a character's beginning, and there ends the longest beginning that can go on.
-use Rattle.std.proofs.Common.{◌≡◌, ◌⊎◌, inl, inr, ℕ, zero, suc, ◌+◌, ◌-◌, ◌≤◌, ◌<◌, max, List, [], ◌∷◌, ◌++◌, length, take, drop, get_or, Bool, true, false, cond, ◌&&◌, ◌||◌, ◌==◌, not, ltb, leb, Option, Some, None, refl, sym, ◌∙◌, ap, subst, arith, append_assoc, append-nil, add-zero, length-append}
-use Rattle.target_filter.proofs.Common.{list_all, IfSome, option_and_then, IsUtf8, IsAscii, IsCharBoundary, false≢true, nat_tests, IsCharBoundary-end, IsCharBoundary-start, IsCharBoundary-before_ascii, IsCharBoundary-after_ascii, IsUtf8-nil, take-length, take_more, is_bare_byte, is_quotable_byte, Tree, IsFilter, IsInGrammar, CanContinue, IsLongestBeginning, nesting, is_word_letter, Mode, State, Move, run, next, step, state_after, mode_of_name, at_atom_start, at_operator, at_atom_end, start, accepts, Stops, Ends}
-use Rattle.std.specs.Prelude.{nat_le, nat_lt, codes}
+use Rattle.target_filter.proofs.Common.{◌≡◌, ◌⊎◌, inl, inr, ℕ, zero, suc, ◌+◌, ◌-◌, ◌≤◌, ◌<◌, max, List, [], ◌∷◌, ◌++◌, length, take, drop, get_or, Bool, true, false, cond, ◌&&◌, ◌||◌, ◌==◌, not, ltb, leb, Option, Some, None, refl, sym, ◌∙◌, ap, subst, arith, append_assoc, append-nil, add-zero, length-append, nat_le, nat_lt, codes, list_all, IfSome, option_and_then, IsUtf8, IsAscii, IsCharBoundary, false≢true, nat_tests, IsCharBoundary-end, IsCharBoundary-start, IsCharBoundary-before_ascii, IsCharBoundary-after_ascii, IsUtf8-nil, take-length, take_more, is_bare_byte, is_quotable_byte, Tree, IsFilter, IsInGrammar, CanContinue, IsLongestBeginning, nesting, is_word_letter, Mode, State, Move, run, next, step, state_after, mode_of_name, at_atom_start, at_operator, at_atom_end, start, accepts, Stops, Ends}
 use Rattle.target_filter.specs.Scanner as scan
 use Rattle.std.proofs.lemmas.Option.{option_and_then_some}
 use Rattle.target_filter.proofs.Beginnings.{Begun}

@@ -1,8 +1,6 @@
 -- Answers at their borders: what is shown, what is not found, pages, offers and downloads.
-use Rattle.rollout_machine.proofs.Common.{query_reply, command_reply, ModuleLabel, AddModule, AddArtifact, AddSet, PutTargets, CreateRollout, Cancel, Succeeded, OfDeployment, no_records, step_records, ArtifactRecord, Records, Refused, ModuleAdded, ArtifactAdded, SetAdded, TargetsPut, PollShown, DeploymentShown, CancelShown, ContentsShown, TargetsShown, ActionsShown, ActionShown, HistoryShown, ModulesShown, ModuleShown, ArtifactsShown, ArtifactShown, RolloutsShown, GroupShown, ActionsTableShown, Module, Artifact, ShownTarget, ShownAction, Page, Poll, ShowDeployment, ShowCancel, Download, ShowTargets, ShowTarget, ShowTargetActions, ShowAction, ShowHistory, ShowModules, ShowModule, ShowArtifacts, ShowArtifact, ShowContents, ShowRollouts, ShowGroup, ShowGroupTargets, ShowActionsTable, RunningGroup, ScheduledGroup, RunningAction, ScheduledAction, Unknown, Unauthorized, NotFound, BadFilter}
+use Rattle.rollout_machine.proofs.Common.{◌≡◌, ℕ, Bool, true, false, [], ◌∷◌, ◌++◌, Some, None, refl, map, codes, query_reply, command_reply, ModuleLabel, AddModule, AddArtifact, AddSet, PutTargets, CreateRollout, Cancel, Succeeded, OfDeployment, no_records, step_records, ArtifactRecord, Records, Refused, ModuleAdded, ArtifactAdded, SetAdded, TargetsPut, PollShown, DeploymentShown, CancelShown, ContentsShown, TargetsShown, ActionsShown, ActionShown, HistoryShown, ModulesShown, ModuleShown, ArtifactsShown, ArtifactShown, RolloutsShown, GroupShown, ActionsTableShown, Module, Artifact, ShownTarget, ShownAction, Page, Poll, ShowDeployment, ShowCancel, Download, ShowTargets, ShowTarget, ShowTargetActions, ShowAction, ShowHistory, ShowModules, ShowModule, ShowArtifacts, ShowArtifact, ShowContents, ShowRollouts, ShowGroup, ShowGroupTargets, ShowActionsTable, RunningGroup, ScheduledGroup, RunningAction, ScheduledAction, Unknown, Unauthorized, NotFound, BadFilter}
 use Rattle.rollout_machine.proofs.Examples.Fleet.{device, token, plan_for, only, everyone, fleet, set_up, rolled_out, by, succeeds, run_of}
-use Rattle.std.proofs.Common.{◌≡◌, ℕ, Bool, true, false, [], ◌∷◌, ◌++◌, Some, None, refl}
-use Rattle.std.specs.Prelude.{map, codes}
 
 abbrev base : Records
 base = no_records false

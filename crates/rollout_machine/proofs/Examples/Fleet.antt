@@ -1,6 +1,5 @@
 -- A fleet of ten devices, and runs over it: what the worked examples speak of.
-use Rattle.std.specs.Prelude.{ℕ, codes, ◌+◌, replicate, Bool, true, false, ◌&&◌, List, [], ◌∷◌, ◌++◌, map, Option, None, is_none}
-use Rattle.rollout_machine.proofs.Common.{option_map, item_numbered, CommandList, Make, followed_by, Bytes, Credential, TargetRow, RolloutPlan, Command, AddModule, AddSet, PutTargets, CreateRollout, Start, Feedback, CancelFeedback, Succeeded, Failed, RejectedCancel, offer, Offer, step_records, run_records, no_records, GroupRecord, RolloutRecord, Records, RolloutWord, rollout_word, check}
+use Rattle.rollout_machine.proofs.Common.{ℕ, codes, ◌+◌, replicate, Bool, true, false, ◌&&◌, List, [], ◌∷◌, ◌++◌, map, Option, None, is_none, option_map, item_numbered, CommandList, Make, followed_by, Bytes, Credential, TargetRow, RolloutPlan, Command, AddModule, AddSet, PutTargets, CreateRollout, Start, Feedback, CancelFeedback, Succeeded, Failed, RejectedCancel, offer, Offer, step_records, run_records, no_records, GroupRecord, RolloutRecord, Records, RolloutWord, rollout_word, check}
 use Rattle.rollout_model.specs.Groupings.{evenly}
 
 abbrev pub device : ℕ → Bytes

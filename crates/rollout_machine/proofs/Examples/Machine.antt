@@ -1,10 +1,8 @@
 -- Single definitions at their borders: targets, tags, attributes, artifacts, outcomes, cancels, notes, patterns.
-use Rattle.rollout_machine.proofs.Common.{outcome, CommandList, Make, ◌▸◌, Command, PutTargets, Tag, Untag, PutAttributes, AddModule, AddArtifact, CreateRollout, Start, Pause, Cancel, Feedback, CancelFeedback, Proceeding, Rejected, Noted, NotedCancel, CanceledCancel, Bad, Gone, Succeeded, members_of, step_records, Records, NotFound, Unauthorized, ClosedAction, WrongState, Quota, target_word, InError, target_in, target_ids, verdict, check}
+use Rattle.rollout_machine.proofs.Common.{◌≡◌, true, false, [], ◌∷◌, ◌++◌, Some, None, refl, replicate, codes, outcome, CommandList, Make, ◌▸◌, Command, PutTargets, Tag, Untag, PutAttributes, AddModule, AddArtifact, CreateRollout, Start, Pause, Cancel, Feedback, CancelFeedback, Proceeding, Rejected, Noted, NotedCancel, CanceledCancel, Bad, Gone, Succeeded, members_of, step_records, Records, NotFound, Unauthorized, ClosedAction, WrongState, Quota, target_word, InError, target_in, target_ids, verdict, check}
 use Rattle.rollout_machine.specs.Digests.{digest_of}
 use Rattle.rollout_machine.specs.Records.{records}
 use Rattle.rollout_machine.proofs.TargetTies.{same_refl}
-use Rattle.std.proofs.Common.{◌≡◌, true, false, [], ◌∷◌, ◌++◌, Some, None, refl}
-use Rattle.std.specs.Prelude.{replicate, codes}
 use Rattle.rollout_machine.proofs.Examples.Fleet.{device, row_for, plan_for, only, everyone, rolled_out, by, succeeds, fails, rejects, history_of, run_of}
 
 -- one command names the target twice

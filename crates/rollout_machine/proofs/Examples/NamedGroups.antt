@@ -1,8 +1,6 @@
 -- Rollouts whose groups have percentages and thresholds of their own.
-use Rattle.std.proofs.Common.{◌≡◌, ℕ, true, false, List, [], ◌∷◌, ◌++◌, Some, None, refl}
-use Rattle.std.specs.Prelude.{map, replicate}
+use Rattle.rollout_machine.proofs.Common.{◌≡◌, ℕ, true, false, List, [], ◌∷◌, ◌++◌, Some, None, refl, map, replicate, TooFewTargets, Bytes, Command, CreateRollout, RolloutPlan, Start, GroupDefinition, cut_by, leaves_empty, PausedRollout, RunningRollout, check}
 use Rattle.rollout_model.specs.Groupings.{defined}
-use Rattle.rollout_machine.proofs.Common.{TooFewTargets, Bytes, Command, CreateRollout, RolloutPlan, Start, GroupDefinition, cut_by, leaves_empty, PausedRollout, RunningRollout, check}
 use Rattle.rollout_machine.specs.GroupRules.{rules_of}
 use Rattle.rollout_machine.proofs.Examples.Fleet.{everyone, fails, only, plan_for, run_of, set_up, shown, succeeds}
 

@@ -1,7 +1,5 @@
 -- Feedback that bears numbers: what is sent again, what is overtaken, and what both leave.
-use Rattle.std.specs.Prelude.{◌≡◌, ℕ, List, [], ◌∷◌, ◌++◌, None, Option, Some, false, true, map}
-use Rattle.std.proofs.Common.{refl}
-use Rattle.rollout_machine.proofs.Common.{option_map, item_numbered, Bytes, CancelFeedback, Cancel, Command, DeploymentWord, Feedback, Failed, Noted, Proceeding, RejectedCancel, Succeeded, ActionRecord, Records, Reported, check, ClosedAction, OldNumber, Unauthorized, NotFound}
+use Rattle.rollout_machine.proofs.Common.{◌≡◌, ℕ, List, [], ◌∷◌, ◌++◌, None, Option, Some, false, true, map, refl, option_map, item_numbered, Bytes, CancelFeedback, Cancel, Command, DeploymentWord, Feedback, Failed, Noted, Proceeding, RejectedCancel, Succeeded, ActionRecord, Records, Reported, check, ClosedAction, OldNumber, Unauthorized, NotFound}
 use Rattle.rollout_machine.proofs.Examples.Fleet.{by, device, everyone, offered, rolled_out, run_of}
 
 abbrev says : ℕ → ℕ → DeploymentWord → List Bytes → ℕ → Command

@@ -1,8 +1,6 @@
 -- The rules of a command's parts at their borders.
 use Rattle.rollout_model.specs.Rules.{are_details}
-use Rattle.rollout_machine.proofs.Common.{is_well_formed, PutTargets, Command, Bytes, PutAttributes, CreateRollout, AddSet, each_from, modules}
-use Rattle.std.proofs.Common.{◌≡◌, ◌+◌, ℕ, true, false, List, [], ◌∷◌, ◌++◌, refl}
-use Rattle.std.specs.Prelude.{map, replicate, codes}
+use Rattle.rollout_machine.proofs.Common.{◌≡◌, ◌+◌, ℕ, true, false, List, [], ◌∷◌, ◌++◌, refl, map, replicate, codes, is_well_formed, PutTargets, Command, Bytes, PutAttributes, CreateRollout, AddSet, each_from, modules}
 use Rattle.std.specs.Str.{is_utf8, chars}
 use lib.Utf8.{encode}
 use Rattle.rollout_machine.proofs.Examples.Fleet.{device, token, by, plan_for, everyone, fleet}

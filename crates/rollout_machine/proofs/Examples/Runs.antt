@@ -1,7 +1,5 @@
-use Rattle.std.specs.Prelude.{map}
+use Rattle.rollout_machine.proofs.Common.{map, ◌≡◌, ℕ, List, [], ◌∷◌, ◌++◌, Some, None, true, false, refl, ◌▸◌, Cancel, Command, PutTargets, CreateRollout, Start, Pause, Resume, TriggerNext, PutAttributes, Tag, step_records, without_repeats, RunningRollout, PausedRollout}
 use Rattle.rollout_machine.proofs.Examples.Fleet.{fleet, run_of, only}
-use Rattle.std.proofs.Common.{◌≡◌, ℕ, List, [], ◌∷◌, ◌++◌, Some, None, true, false, refl}
-use Rattle.rollout_machine.proofs.Common.{◌▸◌, Cancel, Command, PutTargets, CreateRollout, Start, Pause, Resume, TriggerNext, PutAttributes, Tag, step_records, without_repeats, RunningRollout, PausedRollout}
 use Rattle.rollout_machine.specs.Records.{records}
 use Rattle.rollout_machine.proofs.Examples.Fleet.{device, row_for, plan_for, everyone, set_up, rolled_out, by, succeeds, fails, history_of, shown, offered}
 

@@ -1,7 +1,5 @@
 -- Small rollouts worked by hand: how members are cut, too few of them, the words of groups, and feedback.
-use Rattle.std.proofs.Common.{◌≡◌, ℕ, List, [], ◌∷◌, ◌++◌, Option, Some, None, refl}
-use Rattle.rollout_machine.proofs.Common.{option_map, query_reply, item_numbered, Bytes, Command, CreateRollout, Pause, Resume, cut, RolloutRecord, ShownGroup, ReportShown, ShowReport, RolloutWord, FinishedRollout, PausedRollout, RunningRollout, GroupWord, FinishedGroup, RunningGroup, ScheduledGroup, rollout_word, group_word, check, Bounds, TooFewTargets}
-use Rattle.std.specs.Prelude.{map, codes}
+use Rattle.rollout_machine.proofs.Common.{◌≡◌, ℕ, List, [], ◌∷◌, ◌++◌, Option, Some, None, refl, map, codes, option_map, query_reply, item_numbered, Bytes, Command, CreateRollout, Pause, Resume, cut, RolloutRecord, ShownGroup, ReportShown, ShowReport, RolloutWord, FinishedRollout, PausedRollout, RunningRollout, GroupWord, FinishedGroup, RunningGroup, ScheduledGroup, rollout_word, group_word, check, Bounds, TooFewTargets}
 use Rattle.rollout_machine.proofs.Examples.Fleet.{plan_for, everyone, only, set_up, rolled_out, succeeds, fails, run_of}
 
 abbrev three_groups : List Command

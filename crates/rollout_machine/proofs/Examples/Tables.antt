@@ -1,9 +1,7 @@
 -- Each test of each row of the table of verdicts at its border, and the order of the tests.
-use Rattle.rollout_machine.proofs.Common.{Bytes, ModuleLabel, Upload, SetLabel, Command, AddModule, AddArtifact, AddSet, PutTargets, Tag, Untag, PutAttributes, CreateRollout, Approve, Deny, Start, Pause, Resume, TriggerNext, Cancel, each_from, no_records, step_records, run_records, ArtifactRecord, Records, RolloutRecord, GroupRecord, Given, Waiting, Denied, Refusal, Unauthorized, NotFound, Exists, Locked, WrongState, ClosedAction, Quota, BadFilter, TooFewTargets, WrongDigest, rollout_word, group_word, FinishedRollout, PausedRollout, ApprovalDenied, WaitingForApproval, ReadyGroup, FinishedGroup, ErrorGroup, RunningGroup, target_word, Unknown, Pending, check}
+use Rattle.rollout_machine.proofs.Common.{◌≡◌, ℕ, ◌/◌, ◌%◌, Bool, true, false, List, [], ◌∷◌, ◌++◌, Option, Some, None, refl, map, replicate, Bytes, ModuleLabel, Upload, SetLabel, Command, AddModule, AddArtifact, AddSet, PutTargets, Tag, Untag, PutAttributes, CreateRollout, Approve, Deny, Start, Pause, Resume, TriggerNext, Cancel, each_from, no_records, step_records, run_records, ArtifactRecord, Records, RolloutRecord, GroupRecord, Given, Waiting, Denied, Refusal, Unauthorized, NotFound, Exists, Locked, WrongState, ClosedAction, Quota, BadFilter, TooFewTargets, WrongDigest, rollout_word, group_word, FinishedRollout, PausedRollout, ApprovalDenied, WaitingForApproval, ReadyGroup, FinishedGroup, ErrorGroup, RunningGroup, target_word, Unknown, Pending, check}
 use Rattle.rollout_model.specs.Refusals.{refusal_row}
-use Rattle.std.proofs.Common.{◌≡◌, ℕ, ◌/◌, ◌%◌, Bool, true, false, List, [], ◌∷◌, ◌++◌, Option, Some, None, refl}
 use Rattle.sha2.specs.Sha256.{sha256, digest_bytes}
-use Rattle.std.specs.Prelude.{map, replicate}
 use Rattle.rollout_machine.proofs.Examples.Fleet.{token, device, plan_for, only, everyone, set_up, rolled_out, by, succeeds, fails, run_of}
 
 abbrev base : Records

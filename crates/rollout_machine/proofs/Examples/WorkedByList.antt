@@ -1,6 +1,5 @@
 -- The same examples, computed over the history: nothing is stored.
-use Rattle.std.proofs.Common.{◌≡◌, ℕ, true, false, List, [], ◌∷◌, ◌++◌, Some, refl}
-use Rattle.rollout_machine.proofs.Common.{Command, Pause, Resume, TriggerNext, Cancel, CreateRollout, Start, FinishedRollout, RunningRollout, IsValid}
+use Rattle.rollout_machine.proofs.Common.{◌≡◌, ℕ, true, false, List, [], ◌∷◌, ◌++◌, Some, refl, Command, Pause, Resume, TriggerNext, Cancel, CreateRollout, Start, FinishedRollout, RunningRollout, IsValid}
 use Rattle.rollout_machine.specs.Records.{records}
 use Rattle.std.specs.Str.{is_utf8, chars}
 use lib.Utf8.{encode}

@@ -1,6 +1,5 @@
 -- Worked examples, computed over the records.
-use Rattle.std.proofs.Common.{◌≡◌, ℕ, true, false, List, [], ◌∷◌, ◌++◌, Some, None, refl}
-use Rattle.rollout_machine.proofs.Common.{Command, Pause, Resume, Cancel, CreateRollout, Start, no_records, ClosedAction, WrongState, FinishedRollout, PausedRollout, RunningRollout, check}
+use Rattle.rollout_machine.proofs.Common.{◌≡◌, ℕ, true, false, List, [], ◌∷◌, ◌++◌, Some, None, refl, Command, Pause, Resume, Cancel, CreateRollout, Start, no_records, ClosedAction, WrongState, FinishedRollout, PausedRollout, RunningRollout, check}
 use Rattle.rollout_machine.proofs.Examples.Fleet.{rolled_out, everyone, only, device, plan_for, succeeds, fails, rejects, run_of, all_accepted, shown, offered}
 
 abbrev R : ℕ → ℕ → ℕ → List Command

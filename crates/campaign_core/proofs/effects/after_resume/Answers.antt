@@ -1,4 +1,4 @@
-use Rattle.std.proofs.Common.{refl, false}
+use Rattle.campaign_core.proofs.Common.{refl, false}
 use Rattle.rollout_machine.proofs.EffectLaws.{resume_follows}
 use Rattle.campaign_core.proofs.effects.after_resume.Goals as goal
 

@@ -1,4 +1,4 @@
-use Rattle.std.proofs.Common.{◌≡◌, subst, IfOk}
+use Rattle.campaign_core.proofs.Common.{◌≡◌, subst, IfOk}
 use Rattle.campaign_core.proofs.GroupingLemmas.{split_is_cut}
 use Rattle.campaign_core.proofs.groupings.cut_grouping.Goals as goal
 

@@ -1,6 +1,4 @@
-use Rattle.std.proofs.Common.{◌≡◌}
-use Rattle.std.specs.Prelude.{take}
-use Rattle.campaign_core.proofs.Common.{percentages}
+use Rattle.campaign_core.proofs.Common.{◌≡◌, take, percentages}
 use Rattle.campaign_core.proofs.groupings.percentages.Given as goal
 
 -- those of the definitions so far

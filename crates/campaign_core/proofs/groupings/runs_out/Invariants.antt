@@ -1,5 +1,4 @@
-use Rattle.std.proofs.Common.{◌≡◌, ◌+◌, drop}
-use Rattle.campaign_core.proofs.Common.{percentages, first_empty, first_empty_from}
+use Rattle.campaign_core.proofs.Common.{◌≡◌, ◌+◌, drop, percentages, first_empty, first_empty_from}
 use Rattle.campaign_core.proofs.groupings.runs_out.Given as goal
 
 -- none of the groups so far is empty

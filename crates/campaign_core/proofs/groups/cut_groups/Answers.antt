@@ -1,5 +1,4 @@
-use Rattle.std.proofs.Common.{◌≡◌, ◌+◌, ◌++◌, ◌∷◌, [], sym, ◌∙◌, ap, arith}
-use Rattle.campaign_core.proofs.Common.{bounds_of, each_from_more}
+use Rattle.campaign_core.proofs.Common.{◌≡◌, ◌+◌, ◌++◌, ◌∷◌, [], sym, ◌∙◌, ap, arith, bounds_of, each_from_more}
 use Rattle.campaign_core.proofs.groups.cut_groups.Goals as goal
 
 pub loop-i-preserved : goal.loop-i-preserved

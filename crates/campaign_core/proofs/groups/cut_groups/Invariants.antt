@@ -1,5 +1,4 @@
-use Rattle.std.proofs.Common.{◌≡◌}
-use Rattle.campaign_core.proofs.Common.{bounds_of, each_from}
+use Rattle.campaign_core.proofs.Common.{◌≡◌, bounds_of, each_from}
 use Rattle.campaign_core.proofs.groups.cut_groups.Given as goal
 
 -- the groups so far

@@ -1,5 +1,4 @@
-use Rattle.std.proofs.Common.{◌≡◌, ◌<◌, ◌+◌, ◌++◌, ◌∷◌, [], Some, slice_get, refl, sym, ap, ◌∙◌, arith}
-use Rattle.campaign_core.proofs.Common.{slice_get_read, split_bounds_of, split_last, each_from_more, bounds_from, none_here, one_further, one_more_bounds}
+use Rattle.campaign_core.proofs.Common.{◌≡◌, ◌<◌, ◌+◌, ◌++◌, ◌∷◌, [], Some, slice_get, refl, sym, ap, ◌∙◌, arith, slice_get_read, split_bounds_of, split_last, each_from_more, bounds_from, none_here, one_further, one_more_bounds}
 use Rattle.campaign_core.proofs.splits.split_groups.Goals as goal
 
 pub loop-percentage-preserved : goal.loop-percentage-preserved

@@ -1,5 +1,4 @@
-use Rattle.std.proofs.Common.{◌≡◌, ◌+◌, ◌-◌, drop}
-use Rattle.campaign_core.proofs.Common.{each_from, first_empty, first_empty_from, split_bounds_of, split_last}
+use Rattle.campaign_core.proofs.Common.{◌≡◌, ◌+◌, ◌-◌, drop, each_from, first_empty, first_empty_from, split_bounds_of, split_last}
 use Rattle.campaign_core.proofs.splits.split_groups.Given as goal
 
 -- the groups so far, none of them empty

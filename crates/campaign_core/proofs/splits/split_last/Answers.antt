@@ -1,5 +1,4 @@
-use Rattle.std.proofs.Common.{◌≡◌, Some, slice_get, refl, arith}
-use Rattle.campaign_core.proofs.Common.{slice_get_read, one_further}
+use Rattle.campaign_core.proofs.Common.{◌≡◌, Some, slice_get, refl, arith, slice_get_read, one_further}
 use Rattle.campaign_core.proofs.splits.split_last.Goals as goal
 
 pub loop-i-preserved : goal.loop-i-preserved

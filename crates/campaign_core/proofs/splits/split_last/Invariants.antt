@@ -1,5 +1,4 @@
-use Rattle.std.proofs.Common.{◌≡◌}
-use Rattle.campaign_core.proofs.Common.{split_last}
+use Rattle.campaign_core.proofs.Common.{◌≡◌, split_last}
 use Rattle.campaign_core.proofs.splits.split_last.Given as goal
 
 -- the last position of the group so far

@@ -1,5 +1,4 @@
-use Rattle.std.proofs.Common.{◌≡◌, ◌∷◌, [], ◌++◌, Some, string_bytes, sym, ap, ◌∙◌, append_assoc}
-use Rattle.ddi_api.proofs.Common.{Entry}
+use Rattle.ddi_api.proofs.Common.{◌≡◌, ◌∷◌, [], ◌++◌, Some, string_bytes, sym, ap, ◌∙◌, append_assoc, Entry}
 use Rattle.ddi_api.proofs.ConfigLemmas.{attribute_at, attributes_more, attributes_refused}
 use Rattle.ddi_api.proofs.config_body.read_attributes.Goals as goal
 

@@ -1,5 +1,4 @@
-use Rattle.std.proofs.Common.{◌≡◌, ◌++◌, List, Some}
-use Rattle.ddi_api.proofs.Common.{members_view, Entry, attributes_in}
+use Rattle.ddi_api.proofs.Common.{◌≡◌, ◌++◌, List, Some, members_view, Entry, attributes_in}
 use Rattle.ddi_api.proofs.config_body.read_attributes.Given as goal
 
 -- those before were read

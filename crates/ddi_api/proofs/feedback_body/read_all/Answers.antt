@@ -1,5 +1,4 @@
-use Rattle.std.proofs.Common.{arith}
-use Rattle.ddi_api.proofs.Common.{view, detail_in}
+use Rattle.ddi_api.proofs.Common.{arith, view, detail_in}
 use Rattle.mgmt_objects.proofs.TraverseLemmas.{traverse_more, traverse_refuses}
 use Rattle.ddi_api.proofs.feedback_body.read_all.Goals as goal
 

@@ -1,5 +1,4 @@
-use Rattle.std.proofs.Common.{◌≡◌, Some, map, take}
-use Rattle.ddi_api.proofs.Common.{view, traverse, detail_in}
+use Rattle.ddi_api.proofs.Common.{◌≡◌, Some, map, take, view, traverse, detail_in}
 use Rattle.ddi_api.proofs.feedback_body.read_all.Given as goal
 
 abbrev pub invariant-loop-value : goal.invariant-loop-value

@@ -1,4 +1,4 @@
-use Rattle.std.proofs.Common.{refl}
+use Rattle.ddi_api.proofs.Common.{refl}
 use Rattle.ddi_api.proofs.laws.worked_authorization.Goals as goal
 
 pub returns : goal.returns

@@ -1,4 +1,4 @@
-use Rattle.std.proofs.Common.{refl}
+use Rattle.ddi_api.proofs.Common.{refl}
 use Rattle.std.specs.Fmt.{digits}
 use Rattle.http_wire.specs.Replies.{reason}
 use Rattle.serde_json.proofs.OnLiterals.{serde_json_on_literals}

@@ -1,5 +1,4 @@
-use Rattle.std.proofs.Common.{◌≡◌, map, take}
-use Rattle.ddi_api.proofs.Common.{view, artifact_data}
+use Rattle.ddi_api.proofs.Common.{◌≡◌, map, take, view, artifact_data}
 use Rattle.ddi_api.proofs.object.artifact_values.Given as goal
 
 abbrev pub invariant-loop-artifact : goal.invariant-loop-artifact

@@ -1,5 +1,4 @@
-use Rattle.std.proofs.Common.{◌≡◌, map, take}
-use Rattle.ddi_api.proofs.Common.{view, shown_chunk}
+use Rattle.ddi_api.proofs.Common.{◌≡◌, map, take, view, shown_chunk}
 use Rattle.ddi_api.proofs.object.chunk_values.Given as goal
 
 abbrev pub invariant-loop-chunk : goal.invariant-loop-chunk

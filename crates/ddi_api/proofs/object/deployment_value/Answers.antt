@@ -1,5 +1,4 @@
-use Rattle.std.proofs.Common.{◌≡◌, map, ap, ◌∙◌}
-use Rattle.ddi_api.proofs.Common.{IfOk-weaker, view, chunk, chunk_data, deployment_object}
+use Rattle.ddi_api.proofs.Common.{◌≡◌, map, ap, ◌∙◌, IfOk-weaker, view, chunk, chunk_data, deployment_object}
 use Rattle.ddi_api.proofs.ObjectLemmas.{map-shown_chunk}
 use Rattle.ddi_api.proofs.object.deployment_value.Goals as goal
 

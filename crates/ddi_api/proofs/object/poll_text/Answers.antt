@@ -1,5 +1,4 @@
-use Rattle.std.proofs.Common.{rules, ◌≡◌, sym, ◌∙◌}
-use Rattle.ddi_api.proofs.Common.{poll_letters}
+use Rattle.ddi_api.proofs.Common.{rules, ◌≡◌, sym, ◌∙◌, poll_letters}
 use Rattle.ddi_api.proofs.LettersLemmas.{poll_spelled}
 use Rattle.ddi_api.proofs.object.poll_text.Goals as goal
 

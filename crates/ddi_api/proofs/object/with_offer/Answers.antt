@@ -1,5 +1,4 @@
-use Rattle.std.proofs.Common.{rules, ◌≡◌, ℕ, List, [], ◌++◌, codes, ◌∙◌, append-nil, append_assoc}
-use Rattle.ddi_api.proofs.Common.{quoted, action_path, offer_kind}
+use Rattle.ddi_api.proofs.Common.{rules, ◌≡◌, ℕ, List, [], ◌++◌, codes, ◌∙◌, append-nil, append_assoc, quoted, action_path, offer_kind}
 use Rattle.ddi_api.proofs.object.with_offer.Goals as goal
 
 regroup : (old a b c d e : List ℕ) → old ++ a ++ b ++ c ++ d ++ e ≡ old ++ (a ++ (b ++ (c ++ (d ++ (e ++ [])))))

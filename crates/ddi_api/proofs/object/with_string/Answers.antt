@@ -1,7 +1,6 @@
-use Rattle.std.proofs.Common.{◌≡◌, ℕ, List, [], ◌∷◌, ◌++◌, ap, ◌∙◌}
+use Rattle.ddi_api.proofs.Common.{◌≡◌, ℕ, List, [], ◌∷◌, ◌++◌, ap, ◌∙◌, print, quoted}
 use Rattle.std.proofs.lemmas.List.{append-nil}
 use Rattle.json.specs.Token.{Token, string}
-use Rattle.ddi_api.proofs.Common.{print, quoted}
 use Rattle.serde_json.proofs.OnLiterals.{serde_json_on_literals}
 use Rattle.ddi_api.proofs.object.with_string.Goals as goal
 

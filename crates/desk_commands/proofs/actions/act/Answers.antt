@@ -1,7 +1,4 @@
-use Rattle.desk_commands.proofs.Common.{makes_three}
-use Rattle.desk_commands.proofs.ActingExits.{can_end, can_tell, numbers_stay}
-use Rattle.desk_commands.proofs.FailureLemmas.{grown, writes_end, writes_last}
-use Rattle.desk_commands.proofs.TellingLemmas.{acting_parts}
+use Rattle.desk_commands.proofs.Answering.{makes_three, le_trans, can_end, can_tell, numbers_stay, writes_end, writes_last, acting_parts}
 use Rattle.desk_commands.proofs.actions.act.Goals as goal
 
 pub returns-clause-writes : goal.returns-clause-writes
@@ -20,5 +17,5 @@ returns-in_err-offer_next-clause-fails g c =
 
 pub returns-clause-fails : goal.returns-clause-fails
 returns-clause-fails g c =
-    writes_last (λ failed before. record { failures = grown (c.in_ok-tell_action.ensures.counts.to failed before).failures c.in_ok-offer_next.ensures.stays.grows.failures })
+    writes_last (λ failed before. record { failures = le_trans (c.in_ok-tell_action.ensures.counts.to failed before).failures c.in_ok-offer_next.ensures.stays.grows.failures })
     (can_end c.args.seen.now c.args.after.now c.args.told.now) _ c.follow.ensures.counts

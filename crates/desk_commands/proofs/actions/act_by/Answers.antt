@@ -1,7 +1,4 @@
-use Rattle.desk_commands.proofs.Common.{makes_as}
-use Rattle.std.proofs.Common.{◌≡◌, None, Some, sym, ◌∙◌}
-use Rattle.desk_commands.proofs.FailureLemmas.{never_given, writes_as, writes_end}
-use Rattle.desk_commands.proofs.TellingLemmas.{acts_after}
+use Rattle.desk_commands.proofs.Answering.{◌≡◌, None, Some, sym, ◌∙◌, makes_as, never_given, writes_as, writes_end, acts_after}
 use Rattle.desk_commands.proofs.actions.act_by.Goals as goal
 
 pub returns-clause-writes : goal.returns-clause-writes

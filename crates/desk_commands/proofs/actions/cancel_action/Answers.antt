@@ -1,9 +1,4 @@
-use Rattle.desk_commands.proofs.Common.{ledger_made, ledger_of, records_are_sound, records, step_records, ActsBy, Cancel, Leads}
-use Rattle.desk_commands.proofs.ComposeLemmas.{accepted_at, refused_at}
-use Rattle.std.proofs.Common.{refl, None}
-use Rattle.desk_commands.proofs.ActingSteps.{cancel_accepted, cancel_acts}
-use Rattle.desk_commands.proofs.FailureLemmas.{asked_at, writes_end}
-use Rattle.desk_commands.proofs.KnownActions.{cancel_viewed}
+use Rattle.desk_commands.proofs.Answering.{refl, None, ledger_made, ledger_of, records_are_sound, records, step_records, ActsBy, Cancel, Leads, accepted_at, refused_at, cancel_accepted, cancel_acts, asked_at, writes_end, cancel_viewed}
 use Rattle.desk_commands.proofs.actions.cancel_action.Goals as goal
 
 pub returns-in-Err-clause-steps : goal.returns-in-Err-clause-steps

@@ -1,6 +1,4 @@
-use Rattle.desk_commands.proofs.ActingExits.{never_unseen}
-use Rattle.desk_commands.proofs.FailureLemmas.{never_given, writes_end}
-use Rattle.desk_commands.proofs.SeenLemmas.{ok_or_some}
+use Rattle.desk_commands.proofs.Answering.{never_unseen, never_given, writes_end, ok_or_some}
 use Rattle.desk_commands.proofs.actions.may_act.Goals as goal
 
 pub returns-clause-writes : goal.returns-clause-writes

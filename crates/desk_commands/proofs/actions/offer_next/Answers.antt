@@ -1,6 +1,4 @@
-use Rattle.desk_commands.proofs.Common.{makes_as, makes_nothing}
-use Rattle.std.proofs.Common.{sym, ◌∙◌}
-use Rattle.desk_commands.proofs.TellingLemmas.{offered_anew, offered_still}
+use Rattle.desk_commands.proofs.Answering.{sym, ◌∙◌, makes_as, makes_nothing, offered_anew, offered_still}
 use Rattle.desk_commands.proofs.actions.offer_next.Goals as goal
 
 pub returns-then-stays_offered-clause-writes : goal.returns-then-stays_offered-clause-writes

@@ -1,13 +1,6 @@
-use Rattle.desk_commands.proofs.Common.{ledger_made, ledger_of, records_are_sound, step_records, WritesFeedback, does_act, Feedback, records, OfDeployment, reported, feedback_view_seen, Leads}
-use Rattle.desk_commands.proofs.ComposeLemmas.{accepted_at, refused_at}
-use Rattle.std.proofs.Common.{refl}
-use Rattle.rollout_machine.specs.Actions.{outcome_of_deployment}
+use Rattle.desk_commands.proofs.Answering.{refl, ledger_made, ledger_of, records_are_sound, step_records, WritesFeedback, does_act, Feedback, records, OfDeployment, reported, feedback_view_seen, Leads, accepted_at, refused_at, outcome_of_deployment, acts_on_fresh, feedback_taken, asked_at, writes_end, feedback_viewed, taken_within}
 use Rattle.campaign_core.specs.declared.rollout_checks.RolloutChange.TheVariants as change
 use Rattle.campaign_core.specs.declared.rollout_checks.RolloutCommandView.TheVariants as view
-use Rattle.desk_commands.proofs.ActingSteps.{acts_on_fresh, feedback_taken}
-use Rattle.desk_commands.proofs.FailureLemmas.{asked_at, writes_end}
-use Rattle.desk_commands.proofs.KnownActions.{feedback_viewed}
-use Rattle.desk_commands.proofs.WorkLemmas.{taken_within}
 use Rattle.desk_commands.proofs.actions.take_feedback.Goals as goal
 
 pub returns-in-Err-clause-steps : goal.returns-in-Err-clause-steps

@@ -1,5 +1,4 @@
-use Rattle.desk_commands.proofs.Common.{makes_then}
-use Rattle.desk_commands.proofs.TellingLemmas.{telling_parts}
+use Rattle.desk_commands.proofs.Answering.{makes_then, telling_parts}
 use Rattle.desk_commands.proofs.actions.tell_action.Goals as goal
 
 pub returns-clause-writes : goal.returns-clause-writes

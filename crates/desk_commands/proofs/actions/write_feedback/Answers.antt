@@ -1,6 +1,4 @@
-use Rattle.desk_commands.proofs.Common.{makes_as}
-use Rattle.std.proofs.Common.{refl}
-use Rattle.desk_commands.proofs.FailureLemmas.{writes_as}
+use Rattle.desk_commands.proofs.Answering.{refl, makes_as, writes_as}
 use Rattle.desk_commands.proofs.actions.write_feedback.Goals as goal
 
 pub returns-clause-writes : goal.returns-clause-writes

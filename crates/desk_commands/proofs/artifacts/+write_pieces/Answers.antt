@@ -1,6 +1,4 @@
-use Rattle.desk_commands.proofs.Common.{makes_nothing, makes_then, nat_tests}
-use Rattle.std.proofs.Common.{◌≡◌, ◌≤◌, length, arith}
-use Rattle.desk_commands.proofs.ArtifactLemmas.{adds_first_piece, adds_no_bytes}
+use Rattle.desk_commands.proofs.Answering.{◌≡◌, ◌≤◌, length, arith, makes_nothing, makes_then, nat_tests, adds_first_piece, adds_no_bytes}
 use Rattle.desk_commands.proofs.artifacts.+write_pieces.Goals as goal
 
 pub returns-then-is_empty-clause-writes : goal.returns-then-is_empty-clause-writes

@@ -1,4 +1,4 @@
-use Rattle.std.proofs.Common.{length}
+use Rattle.desk_commands.proofs.Answering.{length}
 use Rattle.desk_commands.proofs.artifacts.+write_pieces.Given as goal
 
 abbrev pub decreases-write_pieces : goal.decreases-write_pieces

@@ -1,5 +1,4 @@
-use Rattle.desk_commands.proofs.ComposeLemmas.{accepted, refused}
-use Rattle.desk_commands.proofs.ArtifactLemmas.{artifact_added, artifact_is_step}
+use Rattle.desk_commands.proofs.Answering.{accepted, refused, artifact_added, artifact_is_step}
 use Rattle.desk_commands.proofs.artifacts.add_artifact.Goals as goal
 
 pub returns-in-Err-clause-steps : goal.returns-in-Err-clause-steps

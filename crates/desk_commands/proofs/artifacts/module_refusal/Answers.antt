@@ -1,6 +1,4 @@
-use Rattle.desk_commands.proofs.Common.{both_found, finds_as}
-use Rattle.std.proofs.Common.{◌≤◌, subst, arith}
-use Rattle.desk_commands.proofs.ArtifactLemmas.{module_missing, module_locked, file_exists, file_is_new}
+use Rattle.desk_commands.proofs.Answering.{◌≤◌, subst, arith, both_found, finds_as, module_missing, module_locked, file_exists, file_is_new}
 use Rattle.desk_commands.proofs.artifacts.module_refusal.Goals as goal
 
 pub returns-then-get-last-clause-reads : goal.returns-then-get-last-clause-reads

@@ -1,5 +1,4 @@
-use Rattle.std.proofs.Common.{◌∙◌}
-use Rattle.desk_commands.proofs.ArtifactLemmas.{is_another}
+use Rattle.desk_commands.proofs.Answering.{◌∙◌, is_another}
 use Rattle.desk_commands.proofs.artifacts.names_another.Goals as goal
 
 pub returns-in-Some : goal.returns-in-Some

@@ -1,6 +1,4 @@
-use Rattle.desk_commands.proofs.Common.{both_found, finds_as, wrong_digest, Artifact}
-use Rattle.std.proofs.Common.{◌≡◌, true, false, ◌∙◌, sym, ap}
-use Rattle.desk_commands.proofs.ArtifactLemmas.{refused_first, is_quota, is_wrong, is_accepted}
+use Rattle.desk_commands.proofs.Answering.{◌≡◌, true, false, ◌∙◌, sym, ap, both_found, finds_as, wrong_digest, Artifact, refused_first, is_quota, is_wrong, is_accepted}
 use Rattle.desk_commands.proofs.artifacts.next_artifact.Goals as goal
 
 pub returns-in-Some-clause-reads : goal.returns-in-Some-clause-reads

@@ -1,7 +1,4 @@
-use Rattle.desk_commands.proofs.Common.{both_found, finds_as}
-use Rattle.std.proofs.Common.{◌≡◌, ◌+◌, ◌∙◌, sym, arith}
-use Rattle.desk_commands.proofs.AdditionLemmas.{some_number}
-use Rattle.desk_commands.proofs.ArtifactLemmas.{module_full, desk_full, has_room}
+use Rattle.desk_commands.proofs.Answering.{◌≡◌, ◌+◌, ◌∙◌, sym, arith, both_found, finds_as, same_number, module_full, desk_full, has_room}
 use Rattle.desk_commands.proofs.artifacts.next_number.Goals as goal
 
 pub returns-then-len-ge-MODULE_ARTIFACT_LIMIT-clause-reads : goal.returns-then-len-ge-MODULE_ARTIFACT_LIMIT-clause-reads
@@ -15,6 +12,6 @@ returns-then-last-ge-ARTIFACT_LIMIT-clause-reads g c =
 
 pub returns-clause-reads : goal.returns-clause-reads
 returns-clause-reads g c =
-    let next : c.unwrap.result ≡ c.in_ok-last.last + 1 = some_number _ _ (sym c.new.ensures ∙ c.unwrap.ensures) in
+    let next : c.unwrap.result ≡ c.in_ok-last.last + 1 = same_number _ _ (sym c.new.ensures ∙ c.unwrap.ensures) in
     finds_as (both_found c.in_ok-of_module.ensures.reads c.in_ok-last.ensures.reads)
     (λ r is. has_room r c.args.module_number c.in_ok-of_module.of_module.items is.0 c.in_ok-last.last c.unwrap.result is.1 (omega (arith, c.len.ensures)) (omega arith) next)

@@ -1,5 +1,4 @@
-use Rattle.desk_commands.proofs.Common.{makes_then}
-use Rattle.desk_commands.proofs.ArtifactLemmas.{adds_parts}
+use Rattle.desk_commands.proofs.Answering.{makes_then, adds_parts}
 use Rattle.desk_commands.proofs.artifacts.write_whole.Goals as goal
 
 pub returns-clause-writes : goal.returns-clause-writes

@@ -1,6 +1,4 @@
-use Rattle.std.proofs.Common.{◌≡◌, ◌+◌, cond, sym, ap, ◌∙◌, arith}
-use Rattle.desk_commands.proofs.AttributeLemmas.{counted_key, few_keys, none_counted}
-use Rattle.desk_commands.proofs.Common.{sorted_from}
+use Rattle.desk_commands.proofs.Answering.{◌≡◌, ◌+◌, cond, sym, ap, ◌∙◌, arith, sorted_from, counted_key, few_keys, none_counted}
 use Rattle.desk_commands.proofs.attributes.count_new.Goals as goal
 use Rattle.desk_commands.proofs.attributes.count_new.Goals.{then-not-has_key_since, else-not-has_key_since}
 

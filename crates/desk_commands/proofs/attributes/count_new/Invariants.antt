@@ -1,5 +1,4 @@
-use Rattle.std.proofs.Common.{◌≡◌, ◌≤◌, ◌+◌, true, length, take}
-use Rattle.desk_commands.proofs.Common.{in_byte_order, keys_of, keys_after}
+use Rattle.desk_commands.proofs.Answering.{◌≡◌, ◌≤◌, ◌+◌, true, length, take, in_byte_order, keys_of, keys_after}
 use Rattle.desk_commands.proofs.attributes.count_new.Given as goal
 
 -- of the attributes before this index so many have a new key

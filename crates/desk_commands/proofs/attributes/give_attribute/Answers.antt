@@ -1,6 +1,4 @@
-use Rattle.desk_commands.proofs.Common.{makes_as, makes_nothing, GivesAttribute}
-use Rattle.desk_commands.proofs.ComposeLemmas.{in_order}
-use Rattle.desk_commands.proofs.AttributeLemmas.{adds_one, keeps_one, sets_one}
+use Rattle.desk_commands.proofs.Answering.{makes_as, makes_nothing, GivesAttribute, in_order, adds_one, keeps_one, sets_one}
 use Rattle.desk_commands.proofs.attributes.give_attribute.Goals as goal
 
 pub returns-then-not-has_key_since-clause-writes : goal.returns-then-not-has_key_since-clause-writes

@@ -1,7 +1,4 @@
-use Rattle.desk_commands.proofs.Common.{makes_nothing, makes_then, GivesAttributes}
-use Rattle.std.proofs.Common.{take, subst, rules}
-use Rattle.desk_commands.proofs.AttributeLemmas.{more_attributes, no_attributes}
-use Rattle.desk_commands.proofs.PutLemmas.{one_more}
+use Rattle.desk_commands.proofs.Answering.{take, subst, rules, makes_nothing, makes_then, GivesAttributes, more_attributes, no_attributes, one_more}
 use Rattle.desk_commands.proofs.attributes.give_attributes.Goals as goal
 
 pub loop-i-init : goal.loop-i-init

@@ -1,5 +1,4 @@
-use Rattle.std.proofs.Common.{Ok, take}
-use Rattle.desk_commands.proofs.Common.{Fault, MakesIn, StaysIn, GivesAttributes, CountsIn}
+use Rattle.desk_commands.proofs.Answering.{Ok, take, Fault, MakesIn, StaysIn, GivesAttributes, CountsIn}
 use Rattle.desk_commands.proofs.attributes.give_attributes.Given as goal
 
 -- the attributes before this index are given

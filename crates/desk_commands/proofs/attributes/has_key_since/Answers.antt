@@ -1,4 +1,4 @@
-use Rattle.desk_commands.proofs.AttributeLemmas.{given_since, had_before}
+use Rattle.desk_commands.proofs.Answering.{given_since, had_before}
 use Rattle.desk_commands.proofs.attributes.has_key_since.Goals as goal
 
 pub returns-then-has_key : goal.returns-then-has_key

@@ -1,4 +1,4 @@
-use Rattle.desk_commands.proofs.AttributeLemmas.{changed_since, kept_since}
+use Rattle.desk_commands.proofs.Answering.{changed_since, kept_since}
 use Rattle.desk_commands.proofs.attributes.keeps.Goals as goal
 
 pub returns-then-not-has_key : goal.returns-then-not-has_key

@@ -1,7 +1,4 @@
-use Rattle.desk_commands.proofs.Common.{both_found, found_held}
-use Rattle.desk_commands.proofs.ComposeLemmas.{accepted, refused}
-use Rattle.std.proofs.Common.{◌≤◌, ◌<◌, ◌+◌, length, refl, ap, arith}
-use Rattle.desk_commands.proofs.AttributeLemmas.{gives_all, not_too_many, too_many, unauthorized}
+use Rattle.desk_commands.proofs.Answering.{◌≤◌, ◌<◌, ◌+◌, length, refl, ap, arith, both_found, found_held, accepted, refused, gives_all, not_too_many, too_many, unauthorized}
 use Rattle.desk_commands.proofs.attributes.put_attributes.Goals as goal
 
 pub returns-then-not-branch-clause-steps : goal.returns-then-not-branch-clause-steps

@@ -1,4 +1,4 @@
-use Rattle.desk_commands.proofs.WorkLemmas.{number_within}
+use Rattle.desk_commands.proofs.Answering.{number_within}
 use Rattle.desk_commands.proofs.commands.take_step.Goals as goal
 
 pub returns-in-AddModule-clause-steps : goal.returns-in-AddModule-clause-steps

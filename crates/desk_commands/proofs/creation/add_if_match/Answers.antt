@@ -1,7 +1,5 @@
-use Rattle.desk_commands.proofs.Common.{finds_as}
-use Rattle.std.proofs.Common.{ap, ◌∙◌}
+use Rattle.desk_commands.proofs.Answering.{ap, ◌∙◌, finds_as, id_added, id_left}
 use Rattle.std.specs.Result.{is_ok}
-use Rattle.desk_commands.proofs.CreationLemmas.{id_added, id_left}
 use Rattle.desk_commands.proofs.creation.add_if_match.Goals as goal
 
 pub returns-then-not-matches-clause-reads : goal.returns-then-not-matches-clause-reads

@@ -1,5 +1,4 @@
-use Rattle.desk_commands.proofs.Common.{both_found, finds_as, found_held}
-use Rattle.desk_commands.proofs.CreationLemmas.{all_chosen}
+use Rattle.desk_commands.proofs.Answering.{both_found, finds_as, found_held, all_chosen}
 use Rattle.desk_commands.proofs.creation.all_matching.Goals as goal
 
 pub returns-clause-reads : goal.returns-clause-reads

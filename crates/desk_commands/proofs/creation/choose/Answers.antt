@@ -1,6 +1,4 @@
-use Rattle.desk_commands.proofs.Common.{finds_as, filter_of}
-use Rattle.std.proofs.Common.{refl, sym, ap, ◌∙◌}
-use Rattle.desk_commands.proofs.CreationLemmas.{by_filter}
+use Rattle.desk_commands.proofs.Answering.{refl, sym, ap, ◌∙◌, finds_as, filter_of, by_filter}
 use Rattle.desk_commands.proofs.creation.choose.Goals as goal
 
 pub returns-clause-reads : goal.returns-clause-reads

@@ -1,7 +1,5 @@
-use Rattle.desk_commands.proofs.Common.{both_found, ledger_made}
-use Rattle.desk_commands.proofs.ComposeLemmas.{accepted_at, refused}
-use Rattle.std.proofs.Common.{ap, ◌∙◌, length}
-use Rattle.desk_commands.proofs.CreationLemmas.{creates, judged, ready, shown_added}
+use Rattle.desk_commands.proofs.Answering.{ap, ◌∙◌, length, both_found, ledger_made, accepted_at, refused, creates, ready, shown_added}
+use Rattle.desk_commands.proofs.CreationLemmas.{judged}
 use Rattle.desk_commands.proofs.creation.create_rollout.Goals as goal
 
 pub returns-in-Err-clause-steps : goal.returns-in-Err-clause-steps

@@ -1,7 +1,5 @@
-use Rattle.desk_commands.proofs.Common.{both_found, finds_as, target_listed, ids_matching}
-use Rattle.std.proofs.Common.{map, ap, ◌∙◌, rules}
+use Rattle.desk_commands.proofs.Answering.{map, ap, ◌∙◌, rules, both_found, finds_as, target_listed, ids_matching, one_more_matched}
 use Rattle.desk_reads.proofs.ListedTargets.{all_given}
-use Rattle.desk_commands.proofs.CreationLemmas.{one_more_matched}
 use Rattle.desk_commands.proofs.creation.matching.Goals as goal
 
 pub loop-entry-preserved : goal.loop-entry-preserved

@@ -1,5 +1,4 @@
-use Rattle.std.proofs.Common.{◌≡◌, Some, Ok, map}
-use Rattle.desk_commands.proofs.Common.{Fault, Tree, filter_of, FindsIn, StaysIn, target_listed, ids_matching, FailsAtListsIn}
+use Rattle.desk_commands.proofs.Answering.{◌≡◌, Some, Ok, map, Fault, Tree, filter_of, FindsIn, StaysIn, target_listed, ids_matching, FailsAtListsIn}
 use Rattle.desk_commands.proofs.creation.matching.Given as goal
 
 -- the members so far are those that match of the ones that were gone through

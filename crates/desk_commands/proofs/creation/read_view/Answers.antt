@@ -1,7 +1,4 @@
-use Rattle.desk_commands.proofs.Common.{both_found, finds_as, ledger_found}
-use Rattle.std.proofs.Common.{◌∙◌, subst, ◌≤◌, ap}
-use Rattle.std.specs.Prelude.{length, nat_lt}
-use Rattle.desk_commands.proofs.CreationLemmas.{set_missing}
+use Rattle.desk_commands.proofs.Answering.{◌∙◌, subst, ◌≤◌, ap, length, nat_lt, both_found, finds_as, ledger_found, set_missing}
 use Rattle.desk_commands.proofs.creation.read_view.Goals as goal
 
 pub returns-clause-reads : goal.returns-clause-reads

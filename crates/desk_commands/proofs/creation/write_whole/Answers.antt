@@ -1,6 +1,4 @@
-use Rattle.desk_commands.proofs.Common.{makes_as, makes_then, CreatesRollout, first_rules, in_part}
-use Rattle.std.proofs.Common.{◌≡◌, ◌<◌, [], arith, length, subst, sym, rules, ◌∙◌}
-use Rattle.desk_commands.proofs.CreationLemmas.{begins, one_group, one_member, one_rule, within}
+use Rattle.desk_commands.proofs.Answering.{◌≡◌, ◌<◌, [], arith, length, subst, sym, rules, ◌∙◌, makes_as, makes_then, CreatesRollout, first_rules, in_part, begins, one_group, one_member, one_rule, within}
 use Rattle.desk_commands.proofs.creation.write_whole.Goals as goal
 
 pub loop-i-init : goal.loop-i-init

@@ -1,5 +1,4 @@
-use Rattle.std.proofs.Common.{[], Ok, take, length}
-use Rattle.desk_commands.proofs.Common.{Fault, MakesLedger, StaysIn, rules_of, CreatesRollout, first_rules, in_part, CountsIn}
+use Rattle.desk_commands.proofs.Answering.{[], Ok, take, length, Fault, MakesLedger, StaysIn, rules_of, CreatesRollout, first_rules, in_part, CountsIn}
 use Rattle.desk_commands.proofs.creation.write_whole.Given as goal
 
 -- so many groups are written, with what is said of them

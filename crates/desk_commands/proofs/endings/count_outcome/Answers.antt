@@ -1,5 +1,4 @@
-use Rattle.desk_commands.proofs.Common.{makes_as}
-use Rattle.desk_commands.proofs.EndingLemmas.{outcome_set}
+use Rattle.desk_commands.proofs.Answering.{makes_as, outcome_set}
 use Rattle.desk_commands.proofs.endings.count_outcome.Goals as goal
 
 pub returns-clause-writes : goal.returns-clause-writes

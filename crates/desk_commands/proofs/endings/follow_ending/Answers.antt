@@ -1,5 +1,4 @@
-use Rattle.desk_commands.proofs.Common.{makes_then}
-use Rattle.desk_commands.proofs.EndingLemmas.{ending_parts}
+use Rattle.desk_commands.proofs.Answering.{makes_then, ending_parts}
 use Rattle.desk_commands.proofs.endings.follow_ending.Goals as goal
 
 pub returns-clause-writes : goal.returns-clause-writes

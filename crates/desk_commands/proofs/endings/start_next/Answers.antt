@@ -1,4 +1,4 @@
-use Rattle.desk_commands.proofs.SeenLemmas.{ok_or_some}
+use Rattle.desk_commands.proofs.Answering.{ok_or_some}
 use Rattle.desk_commands.proofs.endings.start_next.Goals as goal
 
 pub returns-clause-writes : goal.returns-clause-writes

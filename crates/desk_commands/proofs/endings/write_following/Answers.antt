@@ -1,5 +1,4 @@
-use Rattle.desk_commands.proofs.Common.{makes_as, makes_nothing}
-use Rattle.desk_commands.proofs.EndingLemmas.{pause_set}
+use Rattle.desk_commands.proofs.Answering.{makes_as, makes_nothing, pause_set}
 use Rattle.desk_commands.proofs.endings.write_following.Goals as goal
 
 pub returns-in-Nothing-clause-writes : goal.returns-in-Nothing-clause-writes

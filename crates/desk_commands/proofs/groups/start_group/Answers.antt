@@ -1,5 +1,4 @@
-use Rattle.desk_commands.proofs.Common.{makes_then, started, with_group}
-use Rattle.std.proofs.Common.{refl}
+use Rattle.desk_commands.proofs.Answering.{refl, makes_then, started, with_group}
 use Rattle.desk_commands.proofs.groups.start_group.Goals as goal
 
 pub returns-clause-writes : goal.returns-clause-writes

@@ -1,6 +1,4 @@
-use Rattle.desk_commands.proofs.Common.{both_found}
-use Rattle.desk_commands.proofs.ComposeLemmas.{accepted, refused}
-use Rattle.desk_commands.proofs.AdditionLemmas.{module_added, module_is_step}
+use Rattle.desk_commands.proofs.Answering.{both_found, accepted, refused, module_added, module_is_step}
 use Rattle.desk_commands.proofs.modules.add_module.Goals as goal
 
 pub returns-in-Err-clause-steps : goal.returns-in-Err-clause-steps

@@ -1,6 +1,4 @@
-use Rattle.desk_commands.proofs.Common.{both_found, finds_as}
-use Rattle.std.proofs.Common.{◌≡◌, ◌+◌, ◌∙◌, sym, arith}
-use Rattle.desk_commands.proofs.AdditionLemmas.{module_exists, modules_full, module_accepted, some_number}
+use Rattle.desk_commands.proofs.Answering.{◌≡◌, ◌+◌, ◌∙◌, sym, arith, both_found, finds_as, same_number, module_exists, modules_full, module_accepted}
 use Rattle.desk_commands.proofs.modules.next_module.Goals as goal
 
 pub returns-then-branch-clause-reads : goal.returns-then-branch-clause-reads
@@ -13,6 +11,6 @@ returns-then-last-ge-MODULE_LIMIT-clause-reads g c =
 
 pub returns-clause-reads : goal.returns-clause-reads
 returns-clause-reads g c =
-    let next : c.unwrap.result ≡ c.in_ok-last.last + 1 = some_number _ _ (sym c.new.ensures ∙ c.unwrap.ensures) in
+    let next : c.unwrap.result ≡ c.in_ok-last.last + 1 = same_number _ _ (sym c.new.ensures ∙ c.unwrap.ensures) in
     finds_as (both_found (rw c.if-branch.false at c.in_ok-read_same_module.ensures.reads) c.in_ok-last.ensures.reads)
     (λ r is. (module_accepted r c.args.label.now c.in_ok-last.last is.0 is.1 (omega arith), omega (arith, next, is.1)))

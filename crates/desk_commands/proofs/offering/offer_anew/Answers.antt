@@ -1,5 +1,4 @@
-use Rattle.desk_commands.proofs.Common.{found_then_makes}
-use Rattle.std.proofs.Common.{None}
+use Rattle.desk_commands.proofs.Answering.{None, found_then_makes}
 use Rattle.desk_commands.proofs.OfferingLemmas.{offer_becomes, offer_set}
 use Rattle.desk_commands.proofs.offering.offer_anew.Goals as goal
 

@@ -1,10 +1,4 @@
-use Rattle.desk_commands.proofs.Common.{both_found, ledger_made, ledger_of, records, GoesOn, CanStart, IsSeenIn}
-use Rattle.desk_commands.proofs.ComposeLemmas.{accepted_at, refused_at}
-use Rattle.std.proofs.Common.{Ok, ◌∙◌}
-use Rattle.desk_commands.proofs.FailureLemmas.{asked_at, counted, grown, writes_end}
-use Rattle.desk_commands.proofs.RolloutExits.{can_start, found_in}
-use Rattle.desk_commands.proofs.ProgressLemmas.{cant_go, gone_on, gone_reply}
-use Rattle.desk_commands.proofs.StandingLemmas.{none_there, of_list, seen_there}
+use Rattle.desk_commands.proofs.Answering.{Ok, ◌∙◌, both_found, ledger_made, ledger_of, records, GoesOn, CanStart, IsSeenIn, le_trans, accepted_at, refused_at, asked_at, counted, writes_end, can_start, found_in, cant_go, gone_on, gone_reply, none_there, of_list, seen_there}
 use Rattle.desk_commands.proofs.progress.go_on.Goals as goal
 
 pub returns-in_default-clause-steps : goal.returns-in_default-clause-steps
@@ -48,7 +42,7 @@ returns-in_err-write_going-clause-fails g c =
     let seen = c.in-Some.seen in
     let starts = c.start_of-starts.result in
     writes_end (asked_at (λ l given. given.of_list) (both_found (rw c.in-Some.is at c.in_ok-found.ensures.reads) c.in_ok-rollout.ensures.reads) (λ l. CanStart seen.groups.items starts)
-    (grown c.in_ok-found.ensures.stays.grows.failures c.in_ok-rollout.ensures.stays.grows.failures) c.in_err-write_going.ensures.writes.wears
+    (le_trans c.in_ok-found.ensures.stays.grows.failures c.in_ok-rollout.ensures.stays.grows.failures) c.in_err-write_going.ensures.writes.wears
     (λ h valid sees given.
     let it = seen_there h valid number seen sees.0 in
     let view = sees.1 (of_list h valid) it.rollout it.at.is_there it.at.is_seen in

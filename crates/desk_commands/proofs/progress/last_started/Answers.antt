@@ -1,6 +1,4 @@
-use Rattle.std.proofs.Common.{ap, ◌∙◌}
-use Rattle.desk_commands.proofs.Common.{take_all, last_started}
-use Rattle.desk_commands.proofs.ProgressLemmas.{last_step}
+use Rattle.desk_commands.proofs.Answering.{ap, ◌∙◌, take_all, last_started, last_step}
 use Rattle.desk_commands.proofs.progress.last_started.Goals as goal
 
 pub loop-group-preserved : goal.loop-group-preserved

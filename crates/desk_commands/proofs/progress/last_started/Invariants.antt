@@ -1,5 +1,4 @@
-use Rattle.std.proofs.Common.{◌≡◌, take}
-use Rattle.desk_commands.proofs.Common.{last_started}
+use Rattle.desk_commands.proofs.Answering.{◌≡◌, take, last_started}
 use Rattle.desk_commands.proofs.progress.last_started.Given as goal
 
 -- that of the groups before this index

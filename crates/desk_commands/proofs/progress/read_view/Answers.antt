@@ -1,8 +1,4 @@
-use Rattle.desk_commands.proofs.Common.{finds_as, item_numbered, last_started, Records}
-use Rattle.std.proofs.Common.{sym, ap, ◌∙◌}
-use Rattle.desk_commands.proofs.FailureLemmas.{never_given, reads_end}
-use Rattle.desk_commands.proofs.RolloutExits.{ends_in}
-use Rattle.desk_commands.proofs.ProgressLemmas.{seen_view}
+use Rattle.desk_commands.proofs.Answering.{sym, ap, ◌∙◌, finds_as, item_numbered, last_started, Records, never_given, reads_end, ends_in, seen_view}
 use Rattle.desk_commands.proofs.progress.read_view.Goals as goal
 
 pub returns-clause-reads : goal.returns-clause-reads

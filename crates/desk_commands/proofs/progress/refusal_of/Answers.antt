@@ -1,8 +1,5 @@
-use Rattle.std.proofs.Common.{Some}
-use Rattle.desk_commands.proofs.Common.{Resume, TriggerNext, records, records_are_sound}
+use Rattle.desk_commands.proofs.Answering.{Some, Resume, TriggerNext, records, records_are_sound, resume_view, trigger_view, judged}
 use Rattle.campaign_core.specs.declared.rollout_checks.RolloutCommandView.TheVariants as view
-use Rattle.desk_commands.proofs.ProgressLemmas.{resume_view, trigger_view}
-use Rattle.desk_commands.proofs.StandingLemmas.{judged}
 use Rattle.desk_commands.proofs.progress.refusal_of.Goals as goal
 
 pub returns-in-Resumed : goal.returns-in-Resumed

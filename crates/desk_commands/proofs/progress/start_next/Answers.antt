@@ -1,8 +1,4 @@
-use Rattle.desk_commands.proofs.Common.{makes_as, StartsIf}
-use Rattle.std.proofs.Common.{subst, sym, ◌∙◌}
-use Rattle.desk_commands.proofs.FailureLemmas.{counts_never, never_missing}
-use Rattle.desk_commands.proofs.ProgressLemmas.{the_group}
-use Rattle.desk_commands.proofs.SeenLemmas.{ok_or_some}
+use Rattle.desk_commands.proofs.Answering.{subst, sym, ◌∙◌, makes_as, StartsIf, counts_never, never_missing, the_group, ok_or_some}
 use Rattle.desk_commands.proofs.progress.start_next.Goals as goal
 
 pub returns-clause-writes : goal.returns-clause-writes

@@ -1,4 +1,4 @@
-use Rattle.desk_commands.proofs.Common.{makes_then}
+use Rattle.desk_commands.proofs.Answering.{makes_then}
 use Rattle.desk_commands.proofs.progress.write_going.Goals as goal
 
 pub returns-clause-writes : goal.returns-clause-writes

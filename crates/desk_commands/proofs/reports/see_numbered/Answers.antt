@@ -1,6 +1,4 @@
-use Rattle.desk_commands.proofs.Common.{both_found, finds_as, ledger_found}
-use Rattle.desk_commands.proofs.ReportLemmas.{none_at, stands_at}
-use Rattle.desk_commands.proofs.FailureLemmas.{asked, reads_end}
+use Rattle.desk_commands.proofs.Answering.{both_found, finds_as, ledger_found, none_at, stands_at, asked, reads_end}
 use Rattle.desk_commands.proofs.reports.see_numbered.Goals as goal
 
 pub returns-in_ok-standing-in-Some-clause-reads : goal.returns-in_ok-standing-in-Some-clause-reads

@@ -1,8 +1,4 @@
-use Rattle.desk_commands.proofs.Common.{finds_as, ledger_found, details_kept}
-use Rattle.std.proofs.Common.{true, false, sym, ◌∙◌}
-use Rattle.desk_commands.proofs.ReportLemmas.{entry_kept, stands_equal}
-use Rattle.desk_commands.proofs.SeenLemmas.{ok_or_some}
-use Rattle.desk_commands.proofs.FailureLemmas.{never, never_missing, reads_end}
+use Rattle.desk_commands.proofs.Answering.{true, false, sym, ◌∙◌, finds_as, ledger_found, details_kept, entry_kept, stands_equal, ok_or_some, never, never_missing, reads_end}
 use Rattle.desk_commands.proofs.reports.stand_against.Goals as goal
 
 pub returns-then-same_entry-clause-reads : goal.returns-then-same_entry-clause-reads

@@ -1,6 +1,5 @@
-use Rattle.desk_commands.proofs.Common.{both_found, finds_as}
-use Rattle.desk_commands.proofs.SeenLemmas.{not_there, seen_there}
-use Rattle.desk_commands.proofs.FailureLemmas.{asked, reads_end}
+use Rattle.desk_commands.proofs.Answering.{both_found, finds_as, not_there, asked, reads_end}
+use Rattle.desk_commands.proofs.SeenLemmas.{seen_there}
 use Rattle.desk_commands.proofs.seen_actions.see_action.Goals as goal
 
 pub returns-in_ok-seen-in-Some-clause-reads : goal.returns-in_ok-seen-in-Some-clause-reads

@@ -1,5 +1,4 @@
-use Rattle.desk_commands.proofs.Common.{both_found, finds_as, ledger_found, only_started}
-use Rattle.std.proofs.Common.{not, ap, ◌∙◌}
+use Rattle.desk_commands.proofs.Answering.{not, ap, ◌∙◌, both_found, finds_as, ledger_found, only_started}
 use Rattle.desk_commands.proofs.seen_actions.see_feedback.Goals as goal
 
 pub returns-clause-reads : goal.returns-clause-reads

@@ -1,8 +1,5 @@
-use Rattle.desk_commands.proofs.Common.{both_found, finds_as}
-use Rattle.std.proofs.Common.{sym, rules, ◌∙◌}
-use Rattle.desk_commands.proofs.SeenLemmas.{ok_or_some, sees}
+use Rattle.desk_commands.proofs.Answering.{sym, rules, ◌∙◌, both_found, finds_as, ok_or_some, sees, never, never_missing, reads_end}
 use Rattle.desk_commands.proofs.ActionGroups.{has_group, never_beyond, own_is, rollout_is, rule_is_there}
-use Rattle.desk_commands.proofs.FailureLemmas.{never, never_missing, reads_end}
 use Rattle.desk_commands.proofs.seen_actions.see_in.Goals as goal
 
 pub returns-in_err-view-clause-stays : goal.returns-in_err-view-clause-stays

@@ -1,5 +1,4 @@
-use Rattle.desk_commands.proofs.Common.{both_found, finds_as, ledger_found, only_of}
-use Rattle.std.proofs.Common.{None, cond, ap, ◌∙◌}
+use Rattle.desk_commands.proofs.Answering.{None, cond, ap, ◌∙◌, both_found, finds_as, ledger_found, only_of}
 use Rattle.desk_commands.proofs.seen_actions.see_target.Goals as goal
 
 pub returns-then-lacks-clause-reads : goal.returns-then-lacks-clause-reads

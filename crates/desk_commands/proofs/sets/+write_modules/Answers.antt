@@ -1,7 +1,4 @@
-use Rattle.desk_commands.proofs.Common.{makes_nothing, makes_then, AddsModules}
-use Rattle.std.proofs.Common.{subst}
-use Rattle.desk_commands.proofs.AdditionLemmas.{adds_front, adds_none}
-use Rattle.desk_commands.proofs.TagLemmas.{none_left}
+use Rattle.desk_commands.proofs.Answering.{subst, makes_nothing, makes_then, AddsModules, adds_front, adds_none, none_left}
 use Rattle.desk_commands.proofs.sets.+write_modules.Goals as goal
 
 pub returns-in-empty-clause-writes : goal.returns-in-empty-clause-writes

@@ -1,4 +1,4 @@
-use Rattle.std.proofs.Common.{length}
+use Rattle.desk_commands.proofs.Answering.{length}
 use Rattle.desk_commands.proofs.sets.+write_modules.Given as goal
 
 abbrev pub decreases-write_modules : goal.decreases-write_modules

@@ -1,5 +1,4 @@
-use Rattle.desk_commands.proofs.ComposeLemmas.{accepted, refused}
-use Rattle.desk_commands.proofs.AdditionLemmas.{set_added, whole_is_step}
+use Rattle.desk_commands.proofs.Answering.{accepted, refused, set_added, whole_is_step}
 use Rattle.desk_commands.proofs.sets.add_set.Goals as goal
 
 pub returns-in-Err-clause-steps : goal.returns-in-Err-clause-steps

@@ -1,5 +1,4 @@
-use Rattle.desk_commands.proofs.Common.{finds_as}
-use Rattle.desk_commands.proofs.AdditionLemmas.{lacks}
+use Rattle.desk_commands.proofs.Answering.{finds_as, lacks}
 use Rattle.desk_commands.proofs.sets.lacks_a_module.Goals as goal
 
 pub returns-clause-reads : goal.returns-clause-reads

@@ -1,6 +1,4 @@
-use Rattle.desk_commands.proofs.Common.{both_found, finds_as}
-use Rattle.std.proofs.Common.{◌≡◌, ◌+◌, ◌∙◌, sym, arith}
-use Rattle.desk_commands.proofs.AdditionLemmas.{set_lacks, set_exists, sets_full, set_accepted, some_number}
+use Rattle.desk_commands.proofs.Answering.{◌≡◌, ◌+◌, ◌∙◌, sym, arith, both_found, finds_as, same_number, set_lacks, set_exists, sets_full, set_accepted}
 use Rattle.desk_commands.proofs.sets.next_set.Goals as goal
 
 pub returns-then-branch-clause-reads : goal.returns-then-branch-clause-reads
@@ -19,7 +17,7 @@ returns-then-last-ge-SET_LIMIT-clause-reads g c =
 
 pub returns-clause-reads : goal.returns-clause-reads
 returns-clause-reads g c =
-    let next : c.unwrap.result ≡ c.in_ok-last.last + 1 = some_number _ _ (sym c.new.ensures ∙ c.unwrap.ensures) in
+    let next : c.unwrap.result ≡ c.in_ok-last.last + 1 = same_number _ _ (sym c.new.ensures ∙ c.unwrap.ensures) in
     finds_as
     (both_found (both_found (rw c.if-branch.false at c.in_ok-lacks_a_module.ensures.reads) (rw c.if-branch-2.false at c.in_ok-read_same_set.ensures.reads)) c.in_ok-last.ensures.reads)
     (λ r is. (set_accepted r c.args.label.now c.in_ok-last.last is.0.0 is.0.1 is.1 (omega arith), omega (arith, next, is.1)))

@@ -1,7 +1,5 @@
-use Rattle.std.proofs.Common.{Some}
-use Rattle.desk_commands.proofs.Common.{Approve, Deny, Pause, records, records_are_sound}
+use Rattle.desk_commands.proofs.Answering.{Some, Approve, Deny, Pause, records, records_are_sound, judged, standing_view}
 use Rattle.campaign_core.specs.declared.rollout_checks.RolloutCommandView.TheVariants as view
-use Rattle.desk_commands.proofs.StandingLemmas.{judged, standing_view}
 use Rattle.desk_commands.proofs.standing.refusal_of.Goals as goal
 
 pub returns-in-Approved : goal.returns-in-Approved

@@ -1,7 +1,5 @@
-use Rattle.desk_commands.proofs.Common.{ledger_made, ledger_of, records, WritesSaid}
-use Rattle.desk_commands.proofs.ComposeLemmas.{accepted_at, refused_at}
-use Rattle.std.proofs.Common.{Ok, ◌∙◌}
-use Rattle.desk_commands.proofs.StandingLemmas.{none_there, not_there, said_reply, said_written, seen_there}
+use Rattle.desk_commands.proofs.Answering.{Ok, ◌∙◌, ledger_made, ledger_of, records, WritesSaid, accepted_at, refused_at, none_there, said_reply, said_written, seen_there}
+use Rattle.desk_commands.proofs.StandingLemmas.{not_there}
 use Rattle.desk_commands.proofs.standing.say.Goals as goal
 
 pub returns-in_default-clause-steps : goal.returns-in_default-clause-steps

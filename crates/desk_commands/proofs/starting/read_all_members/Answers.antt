@@ -1,5 +1,4 @@
-use Rattle.desk_commands.proofs.Common.{finds_as}
-use Rattle.desk_commands.proofs.StartLemmas.{all_members}
+use Rattle.desk_commands.proofs.Answering.{finds_as, all_members}
 use Rattle.desk_commands.proofs.starting.read_all_members.Goals as goal
 
 pub returns-clause-reads : goal.returns-clause-reads

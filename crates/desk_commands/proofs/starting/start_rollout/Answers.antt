@@ -1,11 +1,5 @@
-use Rattle.desk_commands.proofs.Common.{both_found, ledger_found, ledger_made, records, ledger_of, StartsWhole}
-use Rattle.desk_commands.proofs.ComposeLemmas.{accepted_at, refused_at}
-use Rattle.std.proofs.Common.{Ok, refl, sym, ◌∙◌, arith, rules}
-use Rattle.desk_commands.proofs.StandingLemmas.{none_there, seen_there}
-use Rattle.desk_commands.proofs.FailureLemmas.{never_at, never_missing, writes_end}
-use Rattle.desk_commands.proofs.RolloutExits.{first_there, found_in, numbers_left}
-use Rattle.desk_commands.proofs.StartLemmas.{not_there, starts_whole}
-use Rattle.desk_commands.proofs.SeenLemmas.{ok_or_some}
+use Rattle.desk_commands.proofs.Answering.{Ok, refl, ◌∙◌, arith, rules, both_found, ledger_found, ledger_made, records, ledger_of, StartsWhole, accepted_at, refused_at, none_there, seen_there, never_at, never_missing, writes_end, first_there, found_in, numbers_left, starts_whole, ok_or_some}
+use Rattle.desk_commands.proofs.StartLemmas.{not_there}
 use Rattle.desk_commands.proofs.starting.start_rollout.Goals as goal
 
 pub returns-in_default-clause-steps : goal.returns-in_default-clause-steps

@@ -1,7 +1,4 @@
-use Rattle.desk_commands.proofs.Common.{makes_nothing, makes_then}
-use Rattle.std.proofs.Common.{◌∙◌, sym, rules}
-use Rattle.desk_commands.proofs.AdditionLemmas.{some_number}
-use Rattle.desk_commands.proofs.StartLemmas.{no_action, one_action}
+use Rattle.desk_commands.proofs.Answering.{◌∙◌, sym, rules, makes_nothing, makes_then, same_number, no_action, one_action}
 use Rattle.desk_commands.proofs.starting.write_actions.Goals as goal
 
 pub loop-i-init : goal.loop-i-init
@@ -9,7 +6,7 @@ loop-i-init g c = record { stays = search rules; counts = search rules; writes =
 
 pub loop-i-preserved : goal.loop-i-preserved
 loop-i-preserved g c =
-    let number = some_number _ _ (sym c.new.ensures ∙ c.unwrap-action.ensures) in
+    let number = same_number _ _ (sym c.new.ensures ∙ c.unwrap-action.ensures) in
     record {
       stays = search rules;
       counts = search rules;

@@ -1,5 +1,4 @@
-use Rattle.std.proofs.Common.{Ok}
-use Rattle.desk_commands.proofs.Common.{Fault, MakesLedger, StaysIn, AddsActions, CountsIn}
+use Rattle.desk_commands.proofs.Answering.{Ok, Fault, MakesLedger, StaysIn, AddsActions, CountsIn}
 use Rattle.desk_commands.proofs.starting.write_actions.Given as goal
 
 -- the members before this index have their actions

@@ -1,6 +1,4 @@
-use Rattle.desk_commands.proofs.Common.{makes_then}
-use Rattle.std.proofs.Common.{Ok}
-use Rattle.desk_commands.proofs.StartLemmas.{three_parts, two_parts}
+use Rattle.desk_commands.proofs.Answering.{Ok, makes_then, three_parts, two_parts}
 use Rattle.desk_commands.proofs.starting.write_start.Goals as goal
 
 pub returns-clause-writes : goal.returns-clause-writes

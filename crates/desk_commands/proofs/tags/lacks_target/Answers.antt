@@ -1,5 +1,4 @@
-use Rattle.desk_commands.proofs.Common.{finds_as, target_of}
-use Rattle.desk_commands.proofs.TagStepLemmas.{lacks_it}
+use Rattle.desk_commands.proofs.Answering.{finds_as, target_of, lacks_it}
 use Rattle.desk_commands.proofs.tags.lacks_target.Goals as goal
 
 pub returns-clause-reads : goal.returns-clause-reads

@@ -1,8 +1,4 @@
-use Rattle.desk_commands.proofs.Common.{both_found, found_held, makes_nothing, Fault}
-use Rattle.desk_commands.proofs.ComposeLemmas.{accepted, refused}
-use Rattle.std.proofs.Common.{◌≡◌, refl, sym, ◌∙◌, arith}
-use Rattle.desk_commands.proofs.TagLemmas.{any_word}
-use Rattle.desk_commands.proofs.TagStepLemmas.{had_accepted, had_is_step, no_target_to_tag, tag_accepted, tag_is_step, tags_full}
+use Rattle.desk_commands.proofs.Answering.{◌≡◌, refl, sym, ◌∙◌, arith, both_found, found_held, makes_nothing, Fault, accepted, refused, any_word, had_accepted, had_is_step, no_target_to_tag, tag_accepted, tag_is_step, tags_full}
 use Rattle.desk_commands.proofs.tags.tag_target.Goals as goal
 
 pub returns-then-branch-clause-steps : goal.returns-then-branch-clause-steps

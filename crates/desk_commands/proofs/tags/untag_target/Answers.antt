@@ -1,6 +1,4 @@
-use Rattle.desk_commands.proofs.ComposeLemmas.{accepted, refused}
-use Rattle.std.proofs.Common.{refl}
-use Rattle.desk_commands.proofs.TagStepLemmas.{no_target_to_untag, untag_accepted}
+use Rattle.desk_commands.proofs.Answering.{accepted, refused, refl, no_target_to_untag, untag_accepted}
 use Rattle.desk_commands.proofs.tags.untag_target.Goals as goal
 
 pub returns-then-branch-clause-steps : goal.returns-then-branch-clause-steps

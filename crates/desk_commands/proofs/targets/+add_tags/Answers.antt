@@ -1,6 +1,5 @@
-use Rattle.desk_commands.proofs.Common.{makes_as, makes_nothing, makes_then, AddsTags}
-use Rattle.std.proofs.Common.{sym, subst, ◌∙◌}
-use Rattle.desk_commands.proofs.TagLemmas.{none_left, adds_none, adds_front, has_front}
+use Rattle.desk_commands.proofs.Answering.{sym, subst, ◌∙◌, makes_as, makes_nothing, makes_then, AddsTags, none_left, has_front}
+use Rattle.desk_commands.proofs.TagLemmas.{adds_none, adds_front}
 use Rattle.desk_commands.proofs.targets.+add_tags.Goals as goal
 
 pub returns-in-empty-clause-writes : goal.returns-in-empty-clause-writes

@@ -1,6 +1,4 @@
-use Rattle.desk_commands.proofs.Common.{makes_as, makes_nothing, makes_then, DropsTags}
-use Rattle.std.proofs.Common.{sym, subst, ◌∙◌}
-use Rattle.desk_commands.proofs.TagLemmas.{none_left, drops_none, drops_front, keeps_front}
+use Rattle.desk_commands.proofs.Answering.{sym, subst, ◌∙◌, makes_as, makes_nothing, makes_then, DropsTags, none_left, drops_none, drops_front, keeps_front}
 use Rattle.desk_commands.proofs.targets.+drop_tags.Goals as goal
 
 pub returns-in-empty-clause-writes : goal.returns-in-empty-clause-writes

@@ -1,4 +1,4 @@
-use Rattle.std.proofs.Common.{length}
+use Rattle.desk_commands.proofs.Answering.{length}
 use Rattle.desk_commands.proofs.targets.+drop_tags.Given as goal
 
 abbrev pub decreases-drop_tags : goal.decreases-drop_tags

@@ -1,8 +1,4 @@
-use Rattle.desk_commands.proofs.Common.{makes_then, PutsOver}
-use Rattle.desk_commands.proofs.ComposeLemmas.{in_order}
-use Rattle.std.proofs.Common.{None}
-use Rattle.desk_commands.proofs.ImportLemmas.{adds_row_parts}
-use Rattle.desk_commands.proofs.TagLemmas.{tags_distinct}
+use Rattle.desk_commands.proofs.Answering.{None, makes_then, PutsOver, in_order, adds_row_parts, tags_distinct}
 use Rattle.desk_commands.proofs.targets.add_row.Goals as goal
 
 pub returns-clause-writes : goal.returns-clause-writes

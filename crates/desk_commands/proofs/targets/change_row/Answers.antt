@@ -1,9 +1,4 @@
-use Rattle.desk_commands.proofs.Common.{makes_then, records, ledger_of, HoldsLedger, Ledger, renamed, with_changed, seen_in, stored_target, target_of, PutsOver, Sees, IsReadable}
-use Rattle.desk_commands.proofs.ComposeLemmas.{in_order}
-use Rattle.std.proofs.Common.{◌≡◌, Some, option_map, refl, subst}
-use Rattle.desk_commands.proofs.FailureLemmas.{writes_behind}
-use Rattle.desk_commands.proofs.PutExits.{renamed_readable}
-use Rattle.desk_commands.proofs.ImportLemmas.{changes_row_parts}
+use Rattle.desk_commands.proofs.Answering.{◌≡◌, Some, option_map, refl, subst, makes_then, records, ledger_of, HoldsLedger, Ledger, renamed, with_changed, seen_in, stored_target, target_of, PutsOver, Sees, IsReadable, in_order, writes_behind, renamed_readable, changes_row_parts}
 use Rattle.desk_commands.proofs.targets.change_row.Goals as goal
 
 pub returns-clause-writes : goal.returns-clause-writes

@@ -1,7 +1,5 @@
-use Rattle.desk_commands.proofs.Common.{both_found, found_held, PutsOver, ChangesRow}
-use Rattle.std.proofs.Common.{◌≡◌, ◌≤◌, None, Some, refl, arith}
-use Rattle.desk_commands.proofs.FailureLemmas.{asked_at, writes_end}
-use Rattle.desk_commands.proofs.PutLemmas.{room_kept, room_taken, row_put, row_refused, too_many}
+use Rattle.desk_commands.proofs.Answering.{◌≡◌, ◌≤◌, None, Some, refl, arith, both_found, found_held, PutsOver, ChangesRow, asked_at, writes_end, room_kept, room_taken, row_put, row_refused}
+use Rattle.desk_commands.proofs.PutLemmas.{too_many}
 use Rattle.desk_commands.proofs.targets.put_row.Goals as goal
 
 pub returns-in-Some-clause-puts : goal.returns-in-Some-clause-puts

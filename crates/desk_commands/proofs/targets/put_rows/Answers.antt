@@ -1,7 +1,4 @@
-use Rattle.std.proofs.Common.{rules}
-use Rattle.desk_commands.proofs.FailureLemmas.{writes_end}
-use Rattle.desk_commands.proofs.PutExits.{rows_end}
-use Rattle.desk_commands.proofs.PutLemmas.{all_put, none_put, row_more, row_refuses}
+use Rattle.desk_commands.proofs.Answering.{rules, writes_end, rows_end, all_put, none_put, row_more, row_refuses}
 use Rattle.desk_commands.proofs.targets.put_rows.Goals as goal
 
 pub loop-row-init : goal.loop-row-init

@@ -1,6 +1,4 @@
-use Rattle.std.proofs.Common.{take, Ok}
-use Rattle.desk_commands.proofs.Common.{seen_in, StaysIn}
-use Rattle.desk_commands.proofs.PutLemmas.{PutsSoFar}
+use Rattle.desk_commands.proofs.Answering.{take, Ok, seen_in, StaysIn, PutsSoFar}
 use Rattle.desk_commands.proofs.targets.put_rows.Given as goal
 
 -- the rows before this index are put

@@ -1,6 +1,4 @@
-use Rattle.std.proofs.Common.{ap}
-use Rattle.desk_commands.proofs.Common.{TargetsPut}
-use Rattle.desk_commands.proofs.FailureLemmas.{writes_end}
+use Rattle.desk_commands.proofs.Answering.{ap, TargetsPut, writes_end}
 use Rattle.desk_commands.proofs.targets.put_targets.Goals as goal
 
 pub returns-in-Some-2-clause-steps : goal.returns-in-Some-2-clause-steps

@@ -1,8 +1,4 @@
-use Rattle.desk_commands.proofs.Common.{makes_as, makes_nothing, Renames}
-use Rattle.desk_commands.proofs.ComposeLemmas.{in_order}
-use Rattle.std.proofs.Common.{sym, ◌∙◌}
-use Rattle.desk_commands.proofs.ImportLemmas.{renames_nothing}
-use Rattle.desk_commands.proofs.TagLemmas.{pointwise_is}
+use Rattle.desk_commands.proofs.Answering.{sym, ◌∙◌, makes_as, makes_nothing, Renames, in_order, renames_nothing, pointwise_is}
 use Rattle.desk_commands.proofs.targets.rename.Goals as goal
 
 pub returns-then-eq-2-clause-writes : goal.returns-then-eq-2-clause-writes

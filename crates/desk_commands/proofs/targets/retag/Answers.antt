@@ -1,7 +1,4 @@
-use Rattle.desk_commands.proofs.Common.{found_then_makes, makes_then, are_sorted, tags_of, target_of, Retags}
-use Rattle.desk_commands.proofs.ComposeLemmas.{in_order}
-use Rattle.std.proofs.Common.{◌≡◌, true}
-use Rattle.desk_commands.proofs.TagLemmas.{retags_parts, tags_distinct}
+use Rattle.desk_commands.proofs.Answering.{◌≡◌, true, found_then_makes, makes_then, are_sorted, tags_of, target_of, Retags, in_order, retags_parts, tags_distinct}
 use Rattle.desk_commands.proofs.targets.retag.Goals as goal
 
 pub returns-clause-writes : goal.returns-clause-writes

@@ -1,6 +1,4 @@
-use Rattle.desk_commands.proofs.Common.{finds_as, LeavesRoom}
-use Rattle.std.proofs.Common.{◌≡◌, ◌-◌, sym, subst, arith}
-use Rattle.desk_commands.proofs.PutLemmas.{room_counted}
+use Rattle.desk_commands.proofs.Answering.{◌≡◌, ◌-◌, sym, subst, arith, finds_as, LeavesRoom, room_counted}
 use Rattle.desk_commands.proofs.targets.room_left.Goals as goal
 
 pub returns-clause-reads : goal.returns-clause-reads

@@ -1,5 +1,4 @@
-use Rattle.desk_commands.proofs.Common.{makes_as, makes_nothing}
-use Rattle.desk_commands.proofs.TellingLemmas.{no_number, number_adds}
+use Rattle.desk_commands.proofs.Answering.{makes_as, makes_nothing, no_number, number_adds}
 use Rattle.desk_commands.proofs.telling.write_number.Goals as goal
 
 pub returns-in_ok-next-in-Some-clause-writes : goal.returns-in_ok-next-in-Some-clause-writes

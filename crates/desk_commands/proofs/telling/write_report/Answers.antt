@@ -1,5 +1,4 @@
-use Rattle.desk_commands.proofs.Common.{makes_then}
-use Rattle.desk_commands.proofs.TellingLemmas.{told_parts}
+use Rattle.desk_commands.proofs.Answering.{makes_then, told_parts}
 use Rattle.desk_commands.proofs.telling.write_report.Goals as goal
 
 pub returns-clause-writes : goal.returns-clause-writes

@@ -1,5 +1,4 @@
-use Rattle.desk_commands.proofs.Common.{makes_nothing}
-use Rattle.desk_commands.proofs.TellingLemmas.{none_told}
+use Rattle.desk_commands.proofs.Answering.{makes_nothing, none_told}
 use Rattle.desk_commands.proofs.telling.write_told.Goals as goal
 
 pub returns-in-Some-clause-writes : goal.returns-in-Some-clause-writes

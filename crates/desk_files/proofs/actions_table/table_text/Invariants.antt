@@ -1,4 +1,4 @@
-use Rattle.std.proofs.Common.{◌≡◌, string_bytes, take}
+use Rattle.desk_files.proofs.Common.{◌≡◌, string_bytes, take}
 use Rattle.desk_files.specs.ActionTables.{table_text}
 use Rattle.desk_files.proofs.actions_table.table_text.Given as goal
 

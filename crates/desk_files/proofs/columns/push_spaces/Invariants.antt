@@ -1,4 +1,4 @@
-use Rattle.std.proofs.Common.{◌≡◌, ◌++◌, replicate, string_bytes}
+use Rattle.desk_files.proofs.Common.{◌≡◌, ◌++◌, replicate, string_bytes}
 use Rattle.desk_files.proofs.columns.push_spaces.Given as goal
 
 abbrev pub invariant-loop : goal.invariant-loop

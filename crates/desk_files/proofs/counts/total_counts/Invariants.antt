@@ -1,4 +1,4 @@
-use Rattle.std.proofs.Common.{◌≡◌, ◌*◌, ◌^◌, take}
+use Rattle.desk_files.proofs.Common.{◌≡◌, ◌*◌, ◌^◌, take}
 use Rattle.desk_files.specs.Counts.{total_counts, IsUpTo}
 use Rattle.desk_files.proofs.counts.total_counts.Given as goal
 

@@ -1,6 +1,5 @@
-use Rattle.std.proofs.Common.{arith, sym}
+use Rattle.desk_files.proofs.Common.{arith, sym, fields_of}
 use Rattle.csv.proofs.RecordFacts.{field-there}
-use Rattle.desk_files.proofs.Common.{fields_of}
 use Rattle.desk_files.proofs.FieldFacts.{four_are}
 use Rattle.desk_files.proofs.fields.four_fields.Goals as goal
 

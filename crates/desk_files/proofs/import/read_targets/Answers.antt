@@ -1,5 +1,4 @@
-use Rattle.std.proofs.Common.{Ok, ap, sym, ◌∙◌}
-use Rattle.desk_files.proofs.Common.{fields_of, records_of}
+use Rattle.desk_files.proofs.Common.{Ok, ap, sym, ◌∙◌, fields_of, records_of}
 use Rattle.desk_files.proofs.ImportFacts.{begins, ends, faults, goes_on, no_header, no_record, says}
 use Rattle.desk_files.proofs.StepFacts.{not_taken, taken}
 use Rattle.desk_files.proofs.import.read_targets.Goals as goal

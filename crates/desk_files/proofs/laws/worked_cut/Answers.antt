@@ -1,4 +1,4 @@
-use Rattle.std.proofs.Common.{refl}
+use Rattle.desk_files.proofs.Common.{refl}
 use Rattle.desk_files.proofs.laws.worked_cut.Goals as goal
 
 pub returns : goal.returns

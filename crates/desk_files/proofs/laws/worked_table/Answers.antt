@@ -1,4 +1,4 @@
-use Rattle.std.proofs.Common.{refl}
+use Rattle.desk_files.proofs.Common.{refl}
 use Rattle.std.specs.Fmt.{digits}
 use Rattle.desk_files.proofs.laws.worked_table.Goals as goal
 

@@ -1,4 +1,4 @@
-use Rattle.std.proofs.Common.{◌∙◌, ◌+◌, refl, inr, arith, length}
+use Rattle.desk_files.proofs.Common.{◌∙◌, ◌+◌, refl, inr, arith, length}
 use Rattle.csv.specs.Reading.{strip_bom}
 use Rattle.desk_files.proofs.record_reader.records.Goals as goal
 

@@ -1,5 +1,4 @@
-use Rattle.std.proofs.Common.{◌≡◌, ◌++◌, string_bytes, take}
-use Rattle.desk_files.proofs.Common.{flat_map}
+use Rattle.desk_files.proofs.Common.{◌≡◌, ◌++◌, string_bytes, take, flat_map}
 use Rattle.desk_files.specs.Reports.{group_line}
 use Rattle.desk_files.proofs.report.push_groups.Given as goal
 

@@ -1,4 +1,4 @@
-use Rattle.std.proofs.Common.{append_assoc}
+use Rattle.desk_files.proofs.Common.{append_assoc}
 use Rattle.desk_files.proofs.report.push_total.Goals as goal
 
 pub returns : goal.returns

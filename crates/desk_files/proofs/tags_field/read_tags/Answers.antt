@@ -1,4 +1,4 @@
-use Rattle.std.proofs.Common.{◌≤◌, ◌==◌, arith, count_by, sym}
+use Rattle.desk_files.proofs.Common.{◌≤◌, ◌==◌, arith, count_by, sym}
 use Rattle.desk_files.proofs.FieldFacts.{tags_of-many}
 use Rattle.desk_files.proofs.tags_field.read_tags.Goals as goal
 

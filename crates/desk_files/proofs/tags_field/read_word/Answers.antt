@@ -1,4 +1,4 @@
-use Rattle.std.proofs.Common.{sym}
+use Rattle.desk_files.proofs.Common.{sym}
 use Rattle.desk_files.proofs.FieldFacts.{word_of-no_text}
 use Rattle.desk_files.proofs.tags_field.read_word.Goals as goal
 

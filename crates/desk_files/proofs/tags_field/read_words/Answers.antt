@@ -1,4 +1,4 @@
-use Rattle.std.proofs.Common.{[]}
+use Rattle.desk_files.proofs.Common.{[]}
 use Rattle.desk_files.proofs.FieldFacts.{more_words, no_words}
 use Rattle.desk_files.proofs.tags_field.read_words.Goals as goal
 

@@ -1,4 +1,4 @@
-use Rattle.std.proofs.Common.{◌≡◌, map, take}
+use Rattle.desk_files.proofs.Common.{◌≡◌, map, take}
 use Rattle.desk_files.proofs.tags_field.read_words.Given as goal
 
 abbrev pub invariant-loop-part : goal.invariant-loop-part

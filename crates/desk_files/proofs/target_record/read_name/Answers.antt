@@ -1,4 +1,4 @@
-use Rattle.std.proofs.Common.{sym}
+use Rattle.desk_files.proofs.Common.{sym}
 use Rattle.desk_files.proofs.FieldFacts.{text_of-no_text}
 use Rattle.desk_files.proofs.target_record.read_name.Goals as goal
 

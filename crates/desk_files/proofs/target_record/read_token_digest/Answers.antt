@@ -1,4 +1,4 @@
-use Rattle.std.proofs.Common.{option_map, ap, sym}
+use Rattle.desk_files.proofs.Common.{option_map, ap, sym}
 use Rattle.artifact_pieces.specs.Digests.{digest_of}
 use Rattle.desk_files.proofs.FieldFacts.{token_of-no_text}
 use Rattle.desk_files.proofs.target_record.read_token_digest.Goals as goal

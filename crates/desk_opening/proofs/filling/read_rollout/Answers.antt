@@ -1,5 +1,4 @@
-use Rattle.std.proofs.Common.{[], ◌∷◌, pos, Ok}
-use Rattle.desk_opening.proofs.Common.{Int, state, TakesFirst, GET_ROLLOUT}
+use Rattle.desk_opening.proofs.Common.{[], ◌∷◌, pos, Ok, Int, state, TakesFirst, GET_ROLLOUT}
 use Rattle.desk_opening.proofs.FillLemmas.{rollout_found, rollout_stays, rollout_unread}
 use Rattle.desk_opening.proofs.filling.read_rollout.Goals as goal
 

@@ -1,4 +1,4 @@
-use Rattle.std.proofs.Common.{None}
+use Rattle.desk_opening.proofs.Common.{None}
 use Rattle.desk_opening.proofs.FillLemmas.{no_copies, nothing_run, one_copy_more, stays_then}
 use Rattle.desk_opening.proofs.filling.write_copies.Goals as goal
 

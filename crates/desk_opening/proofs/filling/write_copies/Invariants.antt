@@ -1,5 +1,4 @@
-use Rattle.std.proofs.Common.{None, Ok}
-use Rattle.desk_opening.proofs.Common.{state, Fault, MakesLedger, Stays, WritesCopies}
+use Rattle.desk_opening.proofs.Common.{None, Ok, state, Fault, MakesLedger, Stays, WritesCopies}
 use Rattle.desk_opening.proofs.filling.write_copies.Given as goal
 
 -- the first i groups

@@ -1,5 +1,4 @@
-use Rattle.std.proofs.Common.{◌≡◌, None}
-use Rattle.desk_opening.proofs.Common.{state, Null, RunsText, GroupRule, rule_row, PUT_RULE}
+use Rattle.desk_opening.proofs.Common.{◌≡◌, None, state, Null, RunsText, GroupRule, rule_row, PUT_RULE}
 use Rattle.sqlite_value.specs.Value.{owned}
 use Rattle.desk_opening.proofs.FillLemmas.{put_stays, rule_put}
 use Rattle.desk_opening.proofs.filling.write_rule.Goals as goal

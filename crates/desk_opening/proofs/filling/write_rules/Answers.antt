@@ -1,4 +1,4 @@
-use Rattle.std.proofs.Common.{arith}
+use Rattle.desk_opening.proofs.Common.{arith}
 use Rattle.desk_opening.proofs.FillLemmas.{none_filled, nothing_run, one_filled_more, rules_written, stays_then}
 use Rattle.desk_opening.proofs.filling.write_rules.Goals as goal
 

@@ -1,5 +1,4 @@
-use Rattle.std.proofs.Common.{Ok}
-use Rattle.desk_opening.proofs.Common.{state, Fault, MakesLedger, Stays, WritesUpTo}
+use Rattle.desk_opening.proofs.Common.{Ok, state, Fault, MakesLedger, Stays, WritesUpTo}
 use Rattle.desk_opening.proofs.filling.write_rules.Given as goal
 
 -- of the first k rollouts

@@ -1,5 +1,4 @@
-use Rattle.std.proofs.Common.{None}
-use Rattle.desk_opening.proofs.Common.{state, MakesLedger, WritesCopies}
+use Rattle.desk_opening.proofs.Common.{None, state, MakesLedger, WritesCopies}
 use Rattle.desk_opening.proofs.FillLemmas.{rollout_filled}
 use Rattle.desk_opening.proofs.filling.write_rules_of.Goals as goal
 

@@ -1,5 +1,4 @@
-use Rattle.std.proofs.Common.{[], ◌∷◌, Ok, Err, pos, if◌then◌else◌}
-use Rattle.desk_opening.proofs.Common.{Int, state, RunsText, PUT_DESK}
+use Rattle.desk_opening.proofs.Common.{[], ◌∷◌, Ok, Err, pos, if◌then◌else◌, Int, state, RunsText, PUT_DESK}
 use Rattle.desk_opening.proofs.MakeLemmas.{not_begun, no_tables, no_row, no_commit, whole_made}
 use Rattle.desk_opening.proofs.Places.{names_apart}
 use Rattle.desk_opening.proofs.making.fill.Goals as goal

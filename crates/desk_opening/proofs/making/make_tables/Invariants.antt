@@ -1,5 +1,4 @@
-use Rattle.std.proofs.Common.{map}
-use Rattle.desk_opening.proofs.Common.{state, place_of}
+use Rattle.desk_opening.proofs.Common.{map, state, place_of}
 use Rattle.desk_opening.proofs.MakeLemmas.{HasMade}
 use Rattle.desk_opening.proofs.making.make_tables.Given as goal
 

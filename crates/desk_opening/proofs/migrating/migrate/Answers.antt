@@ -1,5 +1,4 @@
-use Rattle.std.proofs.Common.{Ok, subst, sym}
-use Rattle.desk_opening.proofs.Common.{table_count_of, places, AreApart}
+use Rattle.desk_opening.proofs.Common.{Ok, subst, sym, table_count_of, places, AreApart}
 use Rattle.desk_opening.proofs.MigrateLemmas.{migrated, no_tables, not_begun, not_committed, not_filled, not_named}
 use Rattle.desk_opening.proofs.Places.{behind_apart, names_apart}
 use Rattle.desk_opening.proofs.migrating.migrate.Goals as goal

@@ -1,4 +1,4 @@
-use Rattle.std.proofs.Common.{codes, refl}
+use Rattle.desk_opening.proofs.Common.{codes, refl}
 use Rattle.desk_opening.proofs.RowLemmas.{within_row}
 use Rattle.desk_opening.proofs.opening.has_format.Goals as goal
 

@@ -1,6 +1,5 @@
-use Rattle.std.proofs.Common.{◌∙◌, ap, sym, subst}
+use Rattle.desk_opening.proofs.Common.{◌∙◌, ap, sym, subst, IsBareTable, StandsSomewhere, place_of}
 use Rattle.sqlite.specs.Compile.{table_defined_by}
-use Rattle.desk_opening.proofs.Common.{IsBareTable, StandsSomewhere, place_of}
 use Rattle.desk_opening.proofs.Places.{is_place}
 use Rattle.desk_opening.proofs.Tables.{defined_as}
 use Rattle.desk_opening.proofs.opening.has_table.Goals as goal

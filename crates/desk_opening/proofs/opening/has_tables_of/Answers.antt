@@ -1,5 +1,4 @@
-use Rattle.std.proofs.Common.{not, sym, ap, ◌∙◌}
-use Rattle.desk_opening.proofs.Common.{true≢false, StandsSomewhere, table_at}
+use Rattle.desk_opening.proofs.Common.{not, sym, ap, ◌∙◌, true≢false, StandsSomewhere, table_at}
 use Rattle.desk_opening.proofs.VersionLemmas.{all_seen, each_seen, none_used, not_used, some_used}
 use Rattle.desk_opening.proofs.opening.has_tables_of.Goals as goal
 

@@ -1,5 +1,4 @@
-use Rattle.std.proofs.Common.{take}
-use Rattle.desk_opening.proofs.Common.{AllByRecursion, StandsSomewhere, table_at, place_of}
+use Rattle.desk_opening.proofs.Common.{take, AllByRecursion, StandsSomewhere, table_at, place_of}
 use Rattle.desk_opening.proofs.opening.has_tables_of.Given as goal
 
 abbrev pub invariant-loop-table : goal.invariant-loop-table

@@ -1,5 +1,4 @@
-use Rattle.std.proofs.Common.{Ok, Err, subst}
-use Rattle.desk_opening.proofs.Common.{state, LeavesFree, desk_names}
+use Rattle.desk_opening.proofs.Common.{Ok, Err, subst, state, LeavesFree, desk_names}
 use Rattle.desk_opening.proofs.ChoiceLemmas.{adopts_ok, adopts_err, makes_new, makes_ok, makes_err}
 use Rattle.desk_opening.proofs.opening.open_desk.Goals as goal
 

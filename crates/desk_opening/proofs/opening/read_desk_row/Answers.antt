@@ -1,4 +1,4 @@
-use Rattle.std.proofs.Common.{arith}
+use Rattle.desk_opening.proofs.Common.{arith}
 use Rattle.desk_opening.proofs.OpeningLemmas.{keeps_err, not_begun, not_taken, not_ended, ended}
 use Rattle.desk_opening.proofs.RowLemmas.{reads_rows}
 use Rattle.desk_opening.proofs.opening.read_desk_row.Goals as goal

@@ -1,5 +1,4 @@
-use Rattle.std.proofs.Common.{subst}
-use Rattle.desk_opening.proofs.Common.{StandsSomewhere, desk_table, HasDeskTables}
+use Rattle.desk_opening.proofs.Common.{subst, StandsSomewhere, desk_table, HasDeskTables}
 use Rattle.desk_opening.proofs.AdoptLemmas.{adopts_lacking, adopts_renewed}
 use Rattle.desk_opening.proofs.OpeningLemmas.{has_tables, lacks_tables}
 use Rattle.desk_opening.proofs.opening.take_over.Goals as goal

@@ -1,6 +1,5 @@
-use Rattle.std.proofs.Common.{true, false, inl, refl}
+use Rattle.desk_opening.proofs.Common.{true, false, inl, refl, image_at}
 use Rattle.sqlite_std_file.specs.File.{IsFresh}
-use Rattle.desk_opening.proofs.Common.{image_at}
 use Rattle.desk_opening.proofs.SparingLemmas.{left_alone, path_spared}
 use Rattle.desk_opening.proofs.path.open_at.Goals as goal
 

@@ -1,5 +1,4 @@
-use Rattle.std.proofs.Common.{inl}
-use Rattle.desk_opening.proofs.Common.{image_of, file_state, outcomes}
+use Rattle.desk_opening.proofs.Common.{inl, image_of, file_state, outcomes}
 use Rattle.desk_opening.proofs.ReopenLemmas.{begins_plain, left_unharmed, reopens}
 use Rattle.desk_opening.proofs.SparingLemmas.{spares}
 use Rattle.desk_opening.proofs.reopening.reopen_files.Goals as goal

@@ -1,5 +1,4 @@
-use Rattle.std.proofs.Common.{◌≡◌, Ok, Err}
-use Rattle.desk_opening.proofs.Common.{file_state, image_at}
+use Rattle.desk_opening.proofs.Common.{◌≡◌, Ok, Err, file_state, image_at}
 use Rattle.desk_opening.proofs.ReopenLemmas.{begins_plain, left_unharmed, reopens}
 use Rattle.desk_opening.proofs.reopening.reopen_path.Goals as goal
 

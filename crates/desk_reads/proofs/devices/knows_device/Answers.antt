@@ -1,5 +1,4 @@
-use Rattle.std.proofs.Common.{◌∙◌}
-use Rattle.desk_reads.proofs.Common.{finds_as, found_held}
+use Rattle.desk_reads.proofs.Common.{◌∙◌, finds_as, found_held}
 use Rattle.desk_reads.proofs.KnownDevices.{known_by, unknown}
 use Rattle.desk_reads.proofs.devices.knows_device.Goals as goal
 

@@ -1,5 +1,4 @@
-use Rattle.std.proofs.Common.{ap}
-use Rattle.desk_reads.proofs.Common.{last_in}
+use Rattle.desk_reads.proofs.Common.{ap, last_in}
 use Rattle.desk_reads.proofs.rollouts.last_place.Goals as goal
 
 pub returns-in-Some : goal.returns-in-Some

@@ -1,5 +1,4 @@
-use Rattle.std.proofs.Common.{refl}
-use Rattle.desk_reads.proofs.Common.{finds_as, ledger_found}
+use Rattle.desk_reads.proofs.Common.{refl, finds_as, ledger_found}
 use Rattle.desk_reads.proofs.SeenRollouts.{seen_is}
 use Rattle.desk_reads.proofs.rollouts.read_groups_of.Goals as goal
 

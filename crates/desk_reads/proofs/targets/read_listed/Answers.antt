@@ -1,5 +1,4 @@
-use Rattle.std.proofs.Common.{true≢false, sym, ap, ◌∙◌}
-use Rattle.desk_reads.proofs.Common.{both_found, finds_as, is_tag_list}
+use Rattle.desk_reads.proofs.Common.{true≢false, sym, ap, ◌∙◌, both_found, finds_as, is_tag_list}
 use Rattle.desk_reads.proofs.ListedTargets.{listed_is}
 use Rattle.desk_reads.proofs.ListFailLemmas.{fails_never_at}
 use Rattle.desk_reads.proofs.TargetRules.{tags_keep}

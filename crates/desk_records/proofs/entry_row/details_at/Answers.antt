@@ -1,4 +1,4 @@
-use Rattle.std.proofs.Common.{inr, refl, sym, ap, ◌∙◌}
+use Rattle.desk_records.proofs.Common.{inr, refl, sym, ap, ◌∙◌}
 use Rattle.sqlite_value.specs.Value.{owned}
 use Rattle.desk_records.proofs.DetailLines.{unread_details}
 use Rattle.desk_records.proofs.entry_row.details_at.Goals as goal

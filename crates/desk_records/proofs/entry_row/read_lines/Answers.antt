@@ -1,5 +1,4 @@
-use Rattle.std.proofs.Common.{rules, ◌++◌, ◌∷◌, [], Some, None, sym, ap, ◌∙◌, arith}
-use Rattle.desk_records.proofs.Common.{list_all, is_detail, lines_of}
+use Rattle.desk_records.proofs.Common.{rules, ◌++◌, ◌∷◌, [], Some, None, sym, ap, ◌∙◌, arith, list_all, is_detail, lines_of}
 use Rattle.std.proofs.lemmas.Str.Pattern.{split_parts}
 use Rattle.desk_records.proofs.DetailLines.{all_or_none, begins_badly, detail_is, ends_nowhere, goes_too_far, holds_none, line_more, no_detail, one_more}
 use Rattle.desk_records.proofs.entry_row.read_lines.Goals as goal

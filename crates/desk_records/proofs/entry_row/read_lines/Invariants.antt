@@ -1,5 +1,4 @@
-use Rattle.std.proofs.Common.{◌≡◌, ◌++◌, true, length}
-use Rattle.desk_records.proofs.Common.{list_all, is_detail, lines_of}
+use Rattle.desk_records.proofs.Common.{◌≡◌, ◌++◌, true, length, list_all, is_detail, lines_of}
 use denote.Text.{Utf8}
 use denote.Shadow.{shadow}
 use Rattle.desk_records.proofs.entry_row.read_lines.Given as goal

@@ -1,5 +1,4 @@
-use Rattle.std.proofs.Common.{◌≡◌, true, ap, ◌∙◌, subst}
-use Rattle.desk_records.proofs.Common.{is_utf8, is_utf8-from_IsUtf8, has_filter}
+use Rattle.desk_records.proofs.Common.{◌≡◌, true, ap, ◌∙◌, subst, is_utf8, is_utf8-from_IsUtf8, has_filter}
 use Rattle.desk_records.proofs.RowLemmas.{fails_at, unread_filter}
 use Rattle.desk_records.proofs.rollout_row.filter_at.Goals as goal
 

@@ -1,5 +1,4 @@
-use Rattle.std.proofs.Common.{arith}
-use Rattle.desk_records.proofs.Common.{common_steps, spelled_is_utf8}
+use Rattle.desk_records.proofs.Common.{arith, common_steps, spelled_is_utf8}
 use Rattle.desk_records.proofs.target_row.id_at.Goals as goal
 
 -- a text that isn't UTF-8 is no id

@@ -1,5 +1,4 @@
-use Rattle.std.proofs.Common.{take}
-use Rattle.desk_store.proofs.Common.{AreReadAs}
+use Rattle.desk_store.proofs.Answering.{take, AreReadAs}
 use Rattle.desk_store.proofs.checked_row.read_checked.Given as goal
 
 -- what the rows so far are read as

@@ -1,6 +1,4 @@
-use Rattle.std.proofs.Common.{Some, None, sym, ◌∙◌, append-nil}
-use Rattle.desk_store.proofs.Common.{counted_of}
-use Rattle.desk_store.proofs.ReadLemmas.{pick_more}
+use Rattle.desk_store.proofs.Answering.{Some, None, sym, ◌∙◌, append-nil, counted_of, pick_more}
 use Rattle.desk_store.proofs.raw_actions.read_counted.Goals as goal
 
 pub loop-row-preserved-in_default : goal.loop-row-preserved-in_default

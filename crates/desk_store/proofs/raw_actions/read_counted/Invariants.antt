@@ -1,5 +1,4 @@
-use Rattle.std.proofs.Common.{◌≡◌, filter_map, take}
-use Rattle.desk_store.proofs.Common.{counted_of}
+use Rattle.desk_store.proofs.Answering.{◌≡◌, filter_map, take, counted_of}
 use Rattle.desk_store.proofs.raw_actions.read_counted.Given as goal
 
 -- those of the rows so far

@@ -1,6 +1,4 @@
-use Rattle.std.proofs.Common.{Err, ap, ◌∙◌}
-use Rattle.desk_store.proofs.Common.{err_from_is_err_and, has_at}
-use Rattle.desk_store.proofs.ReadLemmas.{read_more, told_broken}
+use Rattle.desk_store.proofs.Answering.{Err, ap, ◌∙◌, err_from_is_err_and, has_at, read_more, told_broken}
 use Rattle.desk_store.proofs.reading.read_all.Goals as goal
 
 pub loop-row-preserved : goal.loop-row-preserved

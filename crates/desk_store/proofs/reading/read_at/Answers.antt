@@ -1,6 +1,4 @@
-use Rattle.std.proofs.Common.{Err, ap, refl, ◌∙◌}
-use Rattle.desk_store.proofs.Common.{slice_get_read, err_from_is_err_and, has_at}
-use Rattle.desk_store.proofs.ReadLemmas.{told_broken}
+use Rattle.desk_store.proofs.Answering.{Err, ap, refl, ◌∙◌, slice_get_read, err_from_is_err_and, has_at, told_broken}
 use Rattle.desk_store.proofs.reading.read_at.Goals as goal
 
 pub returns-in_err-found-clause-err : goal.returns-in_err-found-clause-err

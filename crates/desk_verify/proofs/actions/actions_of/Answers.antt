@@ -1,5 +1,4 @@
-use Rattle.std.proofs.Common.{◌≡◌, false, Err, map, sym, ◌∙◌}
-use Rattle.desk_verify.proofs.Common.{Store, ListedAction, rise, twin_actions, blamed}
+use Rattle.desk_verify.proofs.Common.{◌≡◌, false, Err, map, sym, ◌∙◌, Store, ListedAction, rise, twin_actions, blamed}
 use Rattle.desk_verify.proofs.Causes.{together}
 use Rattle.desk_verify.proofs.actions.actions_of.Goals as goal
 

@@ -1,5 +1,4 @@
-use Rattle.std.proofs.Common.{◌≡◌, false, Err, sym, ◌∙◌}
-use Rattle.desk_verify.proofs.Common.{Store, blamed, count_on}
+use Rattle.desk_verify.proofs.Common.{◌≡◌, false, Err, sym, ◌∙◌, Store, blamed, count_on}
 use Rattle.desk_verify.proofs.Causes.{twin_place}
 use Rattle.desk_verify.proofs.Follow.{breaks}
 use Rattle.desk_verify.proofs.actions.members_of.Goals as goal

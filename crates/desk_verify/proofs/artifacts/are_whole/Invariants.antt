@@ -1,5 +1,4 @@
-use Rattle.std.proofs.Common.{Ok, take}
-use Rattle.desk_verify.proofs.Common.{AllByRecursion, Fault, Blames, FindsTables, StaysIn}
+use Rattle.desk_verify.proofs.Common.{Ok, take, AllByRecursion, Fault, Blames, FindsTables, StaysIn}
 use Rattle.desk_verify.specs.Artifacts.{IsWhole}
 use Rattle.desk_verify.proofs.artifacts.are_whole.Given as goal
 

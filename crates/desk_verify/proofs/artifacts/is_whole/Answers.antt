@@ -1,5 +1,4 @@
-use Rattle.std.proofs.Common.{◌+◌, nat_eq, refl, ap, ◌∙◌}
-use Rattle.desk_verify.proofs.Common.{both_found, finds_as}
+use Rattle.desk_verify.proofs.Common.{◌+◌, nat_eq, refl, ap, ◌∙◌, both_found, finds_as}
 use Rattle.desk_verify.proofs.ArtifactLemmas.{are_other, are_same, by_end, other_digest}
 use Rattle.desk_verify.proofs.artifacts.is_whole.Goals as goal
 

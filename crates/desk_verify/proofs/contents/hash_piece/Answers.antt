@@ -1,5 +1,4 @@
-use Rattle.std.proofs.Common.{◌≡◌, length, sym, ap, ◌∙◌}
-use Rattle.desk_verify.proofs.Common.{finds_as}
+use Rattle.desk_verify.proofs.Common.{◌≡◌, length, sym, ap, ◌∙◌, finds_as}
 use Rattle.desk_verify.proofs.PieceChecks.{other_length}
 use Rattle.desk_verify.proofs.contents.hash_piece.Goals as goal
 

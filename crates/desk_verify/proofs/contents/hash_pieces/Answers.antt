@@ -1,5 +1,4 @@
-use Rattle.std.proofs.Common.{◌<◌, arith, rules}
-use Rattle.desk_verify.proofs.Common.{piece_count, both_found, finds_as}
+use Rattle.desk_verify.proofs.Common.{◌<◌, arith, rules, piece_count, both_found, finds_as}
 use Rattle.desk_verify.proofs.PieceChecks.{more_hashed, none_fits}
 use Rattle.desk_verify.proofs.contents.hash_pieces.Goals as goal
 

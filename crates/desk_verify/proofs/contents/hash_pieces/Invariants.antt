@@ -1,5 +1,4 @@
-use Rattle.std.proofs.Common.{Ok}
-use Rattle.desk_verify.proofs.Common.{Fault, Blames, FindsTables, StaysIn}
+use Rattle.desk_verify.proofs.Common.{Ok, Fault, Blames, FindsTables, StaysIn}
 use Rattle.desk_verify.proofs.PieceChecks.{IsHashedTo}
 use Rattle.desk_verify.proofs.contents.hash_pieces.Given as goal
 

@@ -1,4 +1,4 @@
-use Rattle.std.proofs.Common.{sym, ◌∙◌}
+use Rattle.desk_verify.proofs.Common.{sym, ◌∙◌}
 use Rattle.desk_verify.proofs.GroupLemmas.{one_missed}
 use Rattle.desk_verify.proofs.cuts.has_each.Goals as goal
 

@@ -1,5 +1,4 @@
-use Rattle.std.proofs.Common.{◌≡◌, true}
-use Rattle.desk_verify.proofs.Common.{has_each}
+use Rattle.desk_verify.proofs.Common.{◌≡◌, true, has_each}
 use Rattle.desk_verify.proofs.cuts.has_each.Given as goal
 
 -- there is one of each number so far

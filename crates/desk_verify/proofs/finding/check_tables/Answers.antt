@@ -1,5 +1,4 @@
-use Rattle.std.proofs.Common.{Err, ap, ◌∙◌}
-use Rattle.desk_verify.proofs.Common.{err_from_is_err_and, both_found, finds_as}
+use Rattle.desk_verify.proofs.Common.{Err, ap, ◌∙◌, err_from_is_err_and, both_found, finds_as}
 use Rattle.desk_verify.proofs.Causes.{blamed_when, so_far}
 use Rattle.desk_verify.proofs.Naming.{all_named, first_named}
 use Rattle.desk_verify.proofs.finding.check_tables.Goals as goal

@@ -1,5 +1,4 @@
-use Rattle.std.proofs.Common.{Some, None, sym, ◌∙◌, append-nil}
-use Rattle.desk_verify.proofs.Common.{definition_by}
+use Rattle.desk_verify.proofs.Common.{Some, None, sym, ◌∙◌, append-nil, definition_by}
 use Rattle.desk_store.proofs.ReadLemmas.{pick_more}
 use Rattle.desk_verify.proofs.groupings.definitions_in.Goals as goal
 

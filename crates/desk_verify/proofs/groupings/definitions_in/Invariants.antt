@@ -1,5 +1,4 @@
-use Rattle.std.proofs.Common.{◌≡◌, take}
-use Rattle.desk_verify.proofs.Common.{definitions_in}
+use Rattle.desk_verify.proofs.Common.{◌≡◌, take, definitions_in}
 use Rattle.desk_verify.proofs.groupings.definitions_in.Given as goal
 
 -- those of the rules so far

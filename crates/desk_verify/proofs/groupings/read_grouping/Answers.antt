@@ -1,5 +1,4 @@
-use Rattle.std.proofs.Common.{◌≡◌, Some, None, Err, sym, ap, ◌∙◌}
-use Rattle.desk_verify.proofs.Common.{finds_as, Store, blamed, definitions_in, grouping_with}
+use Rattle.desk_verify.proofs.Common.{◌≡◌, Some, None, Err, sym, ap, ◌∙◌, finds_as, Store, blamed, definitions_in, grouping_with}
 use Rattle.desk_verify.proofs.RuleLemmas.{cut_only, none_made}
 use Rattle.desk_verify.proofs.groupings.read_grouping.Goals as goal
 

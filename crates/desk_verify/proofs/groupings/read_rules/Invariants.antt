@@ -1,5 +1,4 @@
-use Rattle.std.proofs.Common.{◌≡◌, Ok, length}
-use Rattle.desk_verify.proofs.Common.{Fault, BlamesGiven, FindsTables, StaysIn, HaveOnlyRules, HasRollout}
+use Rattle.desk_verify.proofs.Common.{◌≡◌, Ok, length, Fault, BlamesGiven, FindsTables, StaysIn, HaveOnlyRules, HasRollout}
 use Rattle.desk_verify.proofs.groupings.read_rules.Given as goal
 
 -- the rules of the groups so far

@@ -1,5 +1,4 @@
-use Rattle.std.proofs.Common.{◌≡◌, true, false, map, Err, sym, ap, subst, ◌∙◌}
-use Rattle.desk_verify.proofs.Common.{finds_as, Store, SequencedEntry, rise, twin_entries, blamed, IsGiven, first_said, sequences_rise}
+use Rattle.desk_verify.proofs.Common.{◌≡◌, true, false, map, Err, sym, ap, subst, ◌∙◌, finds_as, Store, SequencedEntry, rise, twin_entries, blamed, IsGiven, first_said, sequences_rise}
 use Rattle.desk_verify.proofs.Causes.{together}
 use Rattle.desk_verify.proofs.HistoryLemmas.{given}
 use Rattle.desk_verify.proofs.histories.find_given.Goals as goal

@@ -1,5 +1,4 @@
-use Rattle.std.proofs.Common.{◌≡◌, drop}
-use Rattle.desk_verify.proofs.Common.{first_said}
+use Rattle.desk_verify.proofs.Common.{◌≡◌, drop, first_said}
 use Rattle.desk_verify.proofs.histories.first_said.Given as goal
 
 -- those so far give none

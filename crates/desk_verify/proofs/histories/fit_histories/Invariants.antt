@@ -1,5 +1,4 @@
-use Rattle.std.proofs.Common.{Ok, take}
-use Rattle.desk_verify.proofs.Common.{AllByRecursion, Fault, Blames, FindsTables, StaysIn, PassesHistory}
+use Rattle.desk_verify.proofs.Common.{Ok, take, AllByRecursion, Fault, Blames, FindsTables, StaysIn, PassesHistory}
 use Rattle.desk_verify.proofs.histories.fit_histories.Given as goal
 
 -- those so far pass

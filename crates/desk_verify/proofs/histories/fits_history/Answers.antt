@@ -1,5 +1,4 @@
-use Rattle.std.proofs.Common.{sym, subst}
-use Rattle.desk_verify.proofs.Common.{both_found, finds_as, FitsHistory, PassesHistory, Settles}
+use Rattle.desk_verify.proofs.Common.{sym, subst, both_found, finds_as, FitsHistory, PassesHistory, Settles}
 use Rattle.desk_verify.proofs.HistoryLemmas.{settles}
 use Rattle.desk_verify.proofs.histories.fits_history.Goals as goal
 

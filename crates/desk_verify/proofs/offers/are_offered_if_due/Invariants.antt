@@ -1,5 +1,4 @@
-use Rattle.std.proofs.Common.{Ok, take}
-use Rattle.desk_verify.proofs.Common.{AllByRecursion, Fault, BlamesGiven, FindsTables, StaysIn, AreOffers, IsOfferedIfDue}
+use Rattle.desk_verify.proofs.Common.{Ok, take, AllByRecursion, Fault, BlamesGiven, FindsTables, StaysIn, AreOffers, IsOfferedIfDue}
 use Rattle.desk_verify.proofs.offers.are_offered_if_due.Given as goal
 
 -- those so far are offered where they are due

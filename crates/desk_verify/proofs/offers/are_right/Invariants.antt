@@ -1,5 +1,4 @@
-use Rattle.std.proofs.Common.{Ok, take}
-use Rattle.desk_verify.proofs.Common.{AllByRecursion, Fault, BlamesGiven, FindsTables, StaysIn, IsRight, AgreeBefore}
+use Rattle.desk_verify.proofs.Common.{Ok, take, AllByRecursion, Fault, BlamesGiven, FindsTables, StaysIn, IsRight, AgreeBefore}
 use Rattle.desk_verify.specs.declared.damage.CheckedTable.TheVariants.{Offer}
 use Rattle.desk_verify.proofs.offers.are_right.Given as goal
 

@@ -1,5 +1,4 @@
-use Rattle.std.proofs.Common.{◌≡◌, Err, sym, subst}
-use Rattle.desk_verify.proofs.Common.{finds_as, Store, blamed, Decides, holds_started, IsInStartedGroup}
+use Rattle.desk_verify.proofs.Common.{◌≡◌, Err, sym, subst, finds_as, Store, blamed, Decides, holds_started, IsInStartedGroup}
 use Rattle.desk_verify.proofs.GroupLemmas.{fails_broken}
 use Rattle.desk_verify.proofs.OfferLemmas.{started_tells}
 use Rattle.desk_verify.proofs.offers.is_in_started_group.Goals as goal

@@ -1,5 +1,4 @@
-use Rattle.std.proofs.Common.{sym, ◌∙◌}
-use Rattle.desk_verify.proofs.Common.{Fault, found_then, known}
+use Rattle.desk_verify.proofs.Common.{sym, ◌∙◌, Fault, found_then, known}
 use Rattle.desk_verify.proofs.OfferLemmas.{if_due}
 use Rattle.desk_verify.proofs.offers.is_offered_if_due.Goals as goal
 

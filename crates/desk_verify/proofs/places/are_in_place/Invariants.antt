@@ -1,5 +1,4 @@
-use Rattle.std.proofs.Common.{◌≡◌, drop}
-use Rattle.desk_verify.proofs.Common.{follow}
+use Rattle.desk_verify.proofs.Common.{◌≡◌, drop, follow}
 use Rattle.desk_verify.proofs.places.are_in_place.Given as goal
 
 -- the rest follows where all do

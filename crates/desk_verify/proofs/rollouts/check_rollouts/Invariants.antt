@@ -1,5 +1,4 @@
-use Rattle.std.proofs.Common.{Ok}
-use Rattle.desk_verify.proofs.Common.{Fault, IsLast, Rollouts, BlamesGiven, FindsTables, StaysIn, AreChecked}
+use Rattle.desk_verify.proofs.Common.{Ok, Fault, IsLast, Rollouts, BlamesGiven, FindsTables, StaysIn, AreChecked}
 use Rattle.desk_verify.proofs.rollouts.check_rollouts.Given as goal
 
 -- so many rows were listed, and those of the rollouts so far are as they are to be

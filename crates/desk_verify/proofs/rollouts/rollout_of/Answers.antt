@@ -1,5 +1,4 @@
-use Rattle.std.proofs.Common.{◌≡◌, Err, None, sym, subst, ◌∙◌}
-use Rattle.desk_verify.proofs.Common.{Store, known, number_of, missing_rollout, blamed, IsUpTo}
+use Rattle.desk_verify.proofs.Common.{◌≡◌, Err, None, sym, subst, ◌∙◌, Store, known, number_of, missing_rollout, blamed, IsUpTo}
 use Rattle.desk_verify.proofs.Causes.{even, past_limit, same_number}
 use Rattle.desk_verify.proofs.rollouts.rollout_of.Goals as goal
 

@@ -1,5 +1,4 @@
-use Rattle.std.proofs.Common.{◌≡◌, drop}
-use Rattle.desk_verify.proofs.Common.{count_on}
+use Rattle.desk_verify.proofs.Common.{◌≡◌, drop, count_on}
 use Rattle.desk_verify.proofs.turns.count_on.Given as goal
 
 -- the rest counts on where all do

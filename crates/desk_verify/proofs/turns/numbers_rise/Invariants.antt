@@ -1,5 +1,4 @@
-use Rattle.std.proofs.Common.{◌≡◌, drop, map}
-use Rattle.desk_verify.proofs.Common.{ListedAction, rise, numbers_rise}
+use Rattle.desk_verify.proofs.Common.{◌≡◌, drop, map, ListedAction, rise, numbers_rise}
 use Rattle.desk_verify.proofs.turns.numbers_rise.Given as goal
 
 -- the rest rises where all do

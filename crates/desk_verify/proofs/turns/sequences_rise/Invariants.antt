@@ -1,5 +1,4 @@
-use Rattle.std.proofs.Common.{◌≡◌, drop, map}
-use Rattle.desk_verify.proofs.Common.{SequencedEntry, rise, sequences_rise}
+use Rattle.desk_verify.proofs.Common.{◌≡◌, drop, map, SequencedEntry, rise, sequences_rise}
 use Rattle.desk_verify.proofs.turns.sequences_rise.Given as goal
 
 -- the rest rises where all do

@@ -1,5 +1,4 @@
-use Rattle.std.proofs.Common.{◌≡◌, map, take}
-use Rattle.desk_views.proofs.Common.{shown_among}
+use Rattle.desk_views.proofs.Answering.{◌≡◌, map, take, shown_among}
 use Rattle.desk_views.proofs.actions.all_shown_among.Given as goal
 
 -- those so far

@@ -1,6 +1,4 @@
-use Rattle.std.proofs.Common.{◌+◌, sym, ap, ◌∙◌, arith, ◌++◌, ◌∷◌, []}
-use Rattle.desk_views.proofs.Common.{length-append, is_ok, numbered, entry_by, all_given}
-use Rattle.desk_views.proofs.HistoryViews.{numbered_more}
+use Rattle.desk_views.proofs.Answering.{◌+◌, sym, ap, ◌∙◌, arith, ◌++◌, ◌∷◌, [], length-append, is_ok, numbered, entry_by, all_given, numbered_more}
 use Rattle.desk_views.proofs.actions.numbered_after.Goals as goal
 
 pub loop-entry-preserved : goal.loop-entry-preserved

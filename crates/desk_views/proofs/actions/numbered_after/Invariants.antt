@@ -1,5 +1,4 @@
-use Rattle.std.proofs.Common.{◌≡◌, ◌+◌, length}
-use Rattle.desk_views.proofs.Common.{numbered, entry_by}
+use Rattle.desk_views.proofs.Answering.{◌≡◌, ◌+◌, length, numbered, entry_by}
 use Rattle.desk_views.proofs.actions.numbered_after.Given as goal
 
 -- those that were gone through

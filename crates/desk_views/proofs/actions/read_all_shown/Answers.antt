@@ -1,6 +1,4 @@
-use Rattle.std.proofs.Common.{map, ap, ◌∙◌, arith, rules}
-use Rattle.desk_views.proofs.Common.{take_all, is_ok, both_found, finds_as, listed_shown}
-use Rattle.desk_views.proofs.ActionViews.{more_shown}
+use Rattle.desk_views.proofs.Answering.{map, ap, ◌∙◌, arith, rules, take_all, is_ok, both_found, finds_as, listed_shown, more_shown}
 use Rattle.desk_views.proofs.actions.read_all_shown.Goals as goal
 
 pub loop-one-preserved : goal.loop-one-preserved

@@ -1,5 +1,4 @@
-use Rattle.std.proofs.Common.{◌≡◌, Ok, map, take}
-use Rattle.desk_views.proofs.Common.{Fault, listed_shown, FindsAtListsIn, FailsAtListsIn, StaysIn}
+use Rattle.desk_views.proofs.Answering.{◌≡◌, Ok, map, take, Fault, listed_shown, FindsAtListsIn, FailsAtListsIn, StaysIn}
 use Rattle.desk_views.proofs.actions.read_all_shown.Given as goal
 
 -- those so far

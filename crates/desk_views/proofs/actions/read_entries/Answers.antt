@@ -1,4 +1,4 @@
-use Rattle.desk_views.proofs.Common.{finds_as, ledger_found}
+use Rattle.desk_views.proofs.Answering.{finds_as, ledger_found}
 use Rattle.desk_reads.proofs.HistoryKept.{details_kept}
 use Rattle.desk_views.proofs.actions.read_entries.Goals as goal
 

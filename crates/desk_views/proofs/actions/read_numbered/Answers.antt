@@ -1,8 +1,4 @@
-use Rattle.std.proofs.Common.{◌≡◌, ◌≤◌, Err, ap, ◌∙◌, arith, length}
-use Rattle.desk_views.proofs.Common.{err_from_is_err_and, nat_tests, both_found, finds_as, ledger_found}
-use Rattle.desk_views.proofs.FailingActions.{places_few}
-use Rattle.desk_views.proofs.FailingViews.{never_fails}
-use Rattle.desk_views.proofs.HistoryViews.{none_numbered, page_numbered}
+use Rattle.desk_views.proofs.Answering.{◌≡◌, ◌≤◌, Err, ap, ◌∙◌, arith, length, err_from_is_err_and, nat_tests, both_found, finds_as, ledger_found, places_few, never_fails, none_numbered, page_numbered}
 use Rattle.desk_views.proofs.actions.read_numbered.Goals as goal
 
 pub returns-then-is_empty-clause-reads : goal.returns-then-is_empty-clause-reads

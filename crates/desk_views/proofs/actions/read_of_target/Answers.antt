@@ -1,6 +1,4 @@
-use Rattle.std.proofs.Common.{sym, ◌∙◌}
-use Rattle.desk_views.proofs.Common.{finds_as, item_numbered, ledger_found}
-use Rattle.desk_views.proofs.ActionViews.{no_action, one_action, stored_at}
+use Rattle.desk_views.proofs.Answering.{sym, ◌∙◌, finds_as, item_numbered, ledger_found, no_action, one_action, stored_at}
 use Rattle.desk_views.proofs.actions.read_of_target.Goals as goal
 
 pub returns-in-None-clause-reads : goal.returns-in-None-clause-reads

@@ -1,5 +1,4 @@
-use Rattle.std.proofs.Common.{ap, ◌∙◌}
-use Rattle.desk_views.proofs.Common.{finds_as, group_holding, ledger_found, shown_in, groups_are}
+use Rattle.desk_views.proofs.Answering.{ap, ◌∙◌, finds_as, group_holding, ledger_found, shown_in, groups_are}
 use Rattle.desk_views.proofs.actions.read_shown.Goals as goal
 
 pub returns-clause-reads : goal.returns-clause-reads

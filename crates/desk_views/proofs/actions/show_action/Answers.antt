@@ -1,5 +1,4 @@
-use Rattle.desk_views.proofs.Common.{both_found, finds_as, action_of_target, action_shown, ActionShown, stored_in}
-use Rattle.desk_views.proofs.ActionViews.{action_replied, not_found}
+use Rattle.desk_views.proofs.Answering.{both_found, finds_as, action_of_target, action_shown, ActionShown, stored_in, action_replied, not_found}
 use Rattle.desk_views.proofs.actions.show_action.Goals as goal
 
 pub returns-in-None-clause-shows : goal.returns-in-None-clause-shows

@@ -1,8 +1,4 @@
-use Rattle.std.proofs.Common.{Err, arith, nat_eq, sym, ap, ◌∙◌, not, map, length}
-use Rattle.desk_views.proofs.Common.{err_from_is_err_and, is_some, both_found, finds_as, stored_rollout, item_numbered, actions_of_rollout, ActionsTableShown, ledger_found, shown_among, groups_are}
-use Rattle.desk_views.proofs.ActionViews.{all_listed, none_there, of_rollout_is, one_there}
-use Rattle.desk_views.proofs.FailingActions.{listed_few}
-use Rattle.desk_views.proofs.FailingViews.{never_fails, told}
+use Rattle.desk_views.proofs.Answering.{Err, arith, nat_eq, sym, ap, ◌∙◌, not, map, length, err_from_is_err_and, is_some, both_found, finds_as, stored_rollout, item_numbered, actions_of_rollout, ActionsTableShown, ledger_found, shown_among, groups_are, all_listed, none_there, of_rollout_is, one_there, listed_few, never_fails, told}
 use Rattle.desk_views.proofs.actions.show_actions_table.Goals as goal
 
 pub returns-then-is_none-clause-shows : goal.returns-then-is_none-clause-shows

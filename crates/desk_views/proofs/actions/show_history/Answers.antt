@@ -1,6 +1,4 @@
-use Rattle.desk_views.proofs.Common.{both_found, finds_as, action_of_target, item_numbered, entry_shown, numbered, page_of, HistoryShown, stored_in}
-use Rattle.desk_views.proofs.ActionViews.{not_found}
-use Rattle.desk_views.proofs.HistoryViews.{history_replied}
+use Rattle.desk_views.proofs.Answering.{both_found, finds_as, action_of_target, item_numbered, entry_shown, numbered, page_of, HistoryShown, stored_in, not_found, history_replied}
 use Rattle.desk_views.proofs.actions.show_history.Goals as goal
 
 pub returns-in-None-clause-shows : goal.returns-in-None-clause-shows

@@ -1,9 +1,4 @@
-use Rattle.std.proofs.Common.{Err, arith, sym, ap, ◌∙◌, not, map, take, drop, length}
-use Rattle.desk_views.proofs.Common.{err_from_is_err_and, same_bytes, actor_of, is_some, both_found, finds_as, stored_target, actions_of_target, page_of, ActionsShown, target_of, ledger_found, listed_shown}
-use Rattle.desk_views.proofs.ActionViews.{all_listed, none_there, of_target_is, one_there, page_is}
-use Rattle.desk_views.proofs.FailingActions.{listed_few}
-use Rattle.desk_views.proofs.FailingViews.{never_fails, told}
-use Rattle.desk_views.proofs.TargetViews.{id_found}
+use Rattle.desk_views.proofs.Answering.{Err, arith, sym, ap, ◌∙◌, not, map, take, drop, length, err_from_is_err_and, same_bytes, actor_of, is_some, both_found, finds_as, stored_target, actions_of_target, page_of, ActionsShown, target_of, ledger_found, listed_shown, all_listed, none_there, of_target_is, one_there, page_is, listed_few, never_fails, told, id_found}
 use Rattle.desk_views.proofs.actions.show_target_actions.Goals as goal
 
 pub returns-then-is_none-clause-shows : goal.returns-then-is_none-clause-shows

@@ -1,7 +1,4 @@
-use Rattle.desk_views.proofs.Common.{found_if}
-use Rattle.std.proofs.Common.{◌∙◌}
-use Rattle.desk_views.proofs.FailingReads.{contents_read}
-use Rattle.desk_views.proofs.FailingViews.{never_answers, never_with, told}
+use Rattle.desk_views.proofs.Answering.{◌∙◌, found_if, contents_read, never_answers, never_with, told}
 use Rattle.desk_views.proofs.artifacts.read_contents.Goals as goal
 
 pub returns-clause-reads : goal.returns-clause-reads

@@ -1,6 +1,4 @@
-use Rattle.std.proofs.Common.{sym, ◌∙◌}
-use Rattle.desk_views.proofs.Common.{finds_as, item_numbered}
-use Rattle.desk_views.proofs.ArtifactViews.{no_artifact, of_another, of_this, same_module}
+use Rattle.desk_views.proofs.Answering.{sym, ◌∙◌, finds_as, item_numbered, no_artifact, of_another, of_this, same_module}
 use Rattle.desk_views.proofs.artifacts.read_of_module.Goals as goal
 
 pub returns-in-None-clause-reads : goal.returns-in-None-clause-reads

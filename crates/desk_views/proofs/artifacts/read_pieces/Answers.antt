@@ -1,9 +1,5 @@
-use Rattle.std.proofs.Common.{◌≤◌, ◌*◌, ◌++◌, sym, ap, ◌∙◌, arith, rules}
-use Rattle.desk_views.proofs.Common.{IsSome, artifact_size_limit, piece_length, both_found, finds_as, pieces_of_artifact, item_numbered}
+use Rattle.desk_views.proofs.Answering.{◌≤◌, ◌*◌, ◌++◌, sym, ap, ◌∙◌, arith, rules, IsSome, artifact_size_limit, piece_length, both_found, finds_as, pieces_of_artifact, item_numbered, pieces_end, pieces_grow, none_behind, passed, never_fails, told}
 use Rattle.std.specs.Vec.{vec_items}
-use Rattle.desk_views.proofs.ArtifactViews.{pieces_end, pieces_grow}
-use Rattle.desk_views.proofs.FailingReads.{none_behind, passed}
-use Rattle.desk_views.proofs.FailingViews.{never_fails, told}
 use Rattle.desk_views.proofs.artifacts.read_pieces.Goals as goal
 
 pub returns-in-None-clause-reads : goal.returns-in-None-clause-reads

@@ -1,6 +1,4 @@
-use Rattle.std.proofs.Common.{◌≡◌, ◌≤◌, ◌-◌, Ok, take}
-use Rattle.desk_views.proofs.Common.{Fault, pieces_of_artifact, item_numbered, FindsIn, StaysIn, FailsAtListsIn}
-use Rattle.desk_views.proofs.ArtifactViews.{together}
+use Rattle.desk_views.proofs.Answering.{◌≡◌, ◌≤◌, ◌-◌, Ok, take, Fault, pieces_of_artifact, item_numbered, FindsIn, StaysIn, FailsAtListsIn, together}
 use Rattle.desk_views.proofs.artifacts.read_pieces.Given as goal
 
 -- the bytes so far are those of the first pieces

@@ -1,8 +1,4 @@
-use Rattle.std.proofs.Common.{sym, ap, ◌∙◌, not, drop, length, take}
-use Rattle.desk_views.proofs.Common.{both_found, finds_as, artifacts_shown}
-use Rattle.desk_views.proofs.ArtifactViews.{no_module, page_shown}
-use Rattle.desk_views.proofs.FailingReads.{artifacts_counted, passed}
-use Rattle.desk_views.proofs.FailingViews.{never_fails}
+use Rattle.desk_views.proofs.Answering.{sym, ap, ◌∙◌, not, drop, length, take, both_found, finds_as, artifacts_shown, no_module, page_shown, artifacts_counted, passed, never_fails}
 use Rattle.desk_views.proofs.artifacts.show_artifacts.Goals as goal
 
 pub returns-then-is_none-clause-reads : goal.returns-then-is_none-clause-reads

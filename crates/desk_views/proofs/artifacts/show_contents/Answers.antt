@@ -1,8 +1,5 @@
-use Rattle.std.proofs.Common.{sym, arith}
-use Rattle.desk_views.proofs.Common.{both_found, finds_as, artifact_of_module, item_numbered}
-use Rattle.desk_views.proofs.ArtifactViews.{contents_replied, no_contents}
-use Rattle.desk_views.proofs.FailingReads.{passed, size_of_found}
-use Rattle.desk_views.proofs.FailingViews.{fails_when, listed}
+use Rattle.desk_views.proofs.Answering.{sym, arith, both_found, finds_as, artifact_of_module, item_numbered, contents_replied, no_contents, passed, size_of_found, fails_when}
+use Rattle.desk_views.proofs.FailingViews.{listed}
 use Rattle.desk_views.proofs.artifacts.show_contents.Goals as goal
 
 pub returns-in-None-clause-reads : goal.returns-in-None-clause-reads

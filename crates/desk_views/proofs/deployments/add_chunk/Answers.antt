@@ -1,6 +1,4 @@
-use Rattle.desk_views.proofs.Common.{both_found, finds_as, found_if}
-use Rattle.std.proofs.Common.{refl}
-use Rattle.desk_views.proofs.DeviceViews.{no_chunk, one_chunk}
+use Rattle.desk_views.proofs.Answering.{refl, both_found, finds_as, found_if, no_chunk, one_chunk}
 use Rattle.desk_views.proofs.deployments.add_chunk.Goals as goal
 
 pub returns-in-None-clause-reads : goal.returns-in-None-clause-reads

@@ -1,6 +1,4 @@
-use Rattle.std.proofs.Common.{◌∙◌, IfOk, ap, subst, sym}
-use Rattle.desk_views.proofs.Common.{both_found, finds_as, named, IsOfName}
-use Rattle.desk_views.proofs.DeviceViews.{is_named, named_said, not_among, not_known}
+use Rattle.desk_views.proofs.Answering.{◌∙◌, IfOk, ap, subst, sym, both_found, finds_as, named, IsOfName, is_named, named_said, not_among, not_known}
 use Rattle.desk_views.proofs.deployments.find_download.Goals as goal
 
 pub returns-then-not-branch-clause-reads : goal.returns-then-not-branch-clause-reads

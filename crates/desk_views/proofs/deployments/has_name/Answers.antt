@@ -1,5 +1,4 @@
-use Rattle.std.proofs.Common.{◌∙◌}
-use Rattle.desk_views.proofs.Common.{same_pointwise}
+use Rattle.desk_views.proofs.Answering.{◌∙◌, same_pointwise}
 use Rattle.desk_views.proofs.deployments.has_name.Goals as goal
 
 pub returns : goal.returns

@@ -1,5 +1,4 @@
-use Rattle.std.proofs.Common.{ap}
-use Rattle.desk_views.proofs.Common.{or_not_found}
+use Rattle.desk_views.proofs.Answering.{ap, or_not_found}
 use Rattle.desk_views.proofs.deployments.named.Goals as goal
 
 pub returns-in-Some : goal.returns-in-Some

@@ -1,6 +1,4 @@
-use Rattle.desk_views.proofs.Common.{finds_as, found_then, ledger_found}
-use Rattle.std.proofs.Common.{◌∙◌}
-use Rattle.desk_views.proofs.DeviceViews.{action_modules, no_action_modules}
+use Rattle.desk_views.proofs.Answering.{◌∙◌, finds_as, found_then, ledger_found, action_modules, no_action_modules}
 use Rattle.desk_views.proofs.deployments.read_action_modules.Goals as goal
 
 pub returns-in-Some-clause-reads : goal.returns-in-Some-clause-reads

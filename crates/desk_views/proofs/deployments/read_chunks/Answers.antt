@@ -1,5 +1,4 @@
-use Rattle.desk_views.proofs.Common.{found_then, chunks_of}
-use Rattle.std.proofs.Common.{ap, ◌∙◌}
+use Rattle.desk_views.proofs.Answering.{ap, ◌∙◌, found_then, chunks_of}
 use Rattle.desk_views.proofs.deployments.read_chunks.Goals as goal
 
 pub returns-clause-reads : goal.returns-clause-reads

@@ -1,4 +1,4 @@
-use Rattle.desk_views.proofs.Common.{known}
+use Rattle.desk_views.proofs.Answering.{known}
 use Rattle.desk_views.proofs.deployments.read_installed.Goals as goal
 
 pub returns-then-offer-clause-reads : goal.returns-then-offer-clause-reads

@@ -1,6 +1,4 @@
-use Rattle.std.proofs.Common.{ap, ◌∙◌, rules}
-use Rattle.desk_views.proofs.Common.{both_found, finds_as, chunks_of, all_given}
-use Rattle.desk_views.proofs.DeviceViews.{chunks_grow}
+use Rattle.desk_views.proofs.Answering.{ap, ◌∙◌, rules, both_found, finds_as, chunks_of, all_given, chunks_grow}
 use Rattle.desk_views.proofs.deployments.read_module_chunks.Goals as goal
 
 pub loop-module_number-preserved : goal.loop-module_number-preserved

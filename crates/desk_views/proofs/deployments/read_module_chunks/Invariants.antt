@@ -1,5 +1,4 @@
-use Rattle.std.proofs.Common.{◌≡◌, Ok, map}
-use Rattle.desk_views.proofs.Common.{Fault, chunks_of, chunk, FindsIn, StaysIn, FailsAtListsIn}
+use Rattle.desk_views.proofs.Answering.{◌≡◌, Ok, map, Fault, chunks_of, chunk, FindsIn, StaysIn, FailsAtListsIn}
 use Rattle.desk_views.proofs.deployments.read_module_chunks.Given as goal
 
 -- the chunks so far are those of the modules that were gone through

@@ -1,5 +1,4 @@
-use Rattle.desk_views.proofs.Common.{finds_as, found_then, ledger_found, modules_offered}
-use Rattle.std.proofs.Common.{◌∙◌, ap}
+use Rattle.desk_views.proofs.Answering.{◌∙◌, ap, finds_as, found_then, ledger_found, modules_offered}
 use Rattle.desk_views.proofs.deployments.read_offered_modules.Goals as goal
 
 pub returns-in-Some-clause-reads : goal.returns-in-Some-clause-reads

@@ -1,6 +1,4 @@
-use Rattle.std.proofs.Common.{List, false, ap, ◌∙◌}
-use Rattle.desk_views.proofs.Common.{both_found, finds_as, ledger_found, Chunk, DeploymentShown}
-use Rattle.desk_views.proofs.DeviceViews.{not_offered, offered, turned_away}
+use Rattle.desk_views.proofs.Answering.{List, false, ap, ◌∙◌, both_found, finds_as, ledger_found, Chunk, DeploymentShown, not_offered, offered, turned_away}
 use Rattle.desk_views.proofs.deployments.show_deployment.Goals as goal
 
 pub returns-then-not-branch-clause-reads : goal.returns-then-not-branch-clause-reads

@@ -1,8 +1,5 @@
-use Rattle.std.proofs.Common.{Ok, sym, arith}
-use Rattle.desk_views.proofs.Common.{both_found, finds_as}
-use Rattle.desk_views.proofs.DeviceViews.{answered_by, downloaded}
-use Rattle.desk_views.proofs.FailingReads.{passed, size_of_numbered}
-use Rattle.desk_views.proofs.FailingViews.{fails_when, listed}
+use Rattle.desk_views.proofs.Answering.{Ok, sym, arith, both_found, finds_as, answered_by, downloaded, passed, size_of_numbered, fails_when}
+use Rattle.desk_views.proofs.FailingViews.{listed}
 use Rattle.desk_views.proofs.deployments.show_download.Goals as goal
 
 pub returns-in_ok-contents-in-Ok-clause-reads : goal.returns-in_ok-contents-in-Ok-clause-reads

@@ -1,6 +1,4 @@
-use Rattle.std.proofs.Common.{true}
-use Rattle.desk_views.proofs.Common.{both_found, finds_as, ledger_found}
-use Rattle.desk_views.proofs.DeviceViews.{not_offered, offered, turned_away}
+use Rattle.desk_views.proofs.Answering.{true, both_found, finds_as, ledger_found, not_offered, offered, turned_away}
 use Rattle.desk_views.proofs.devices.show_cancel.Goals as goal
 
 pub returns-then-not-branch-clause-reads : goal.returns-then-not-branch-clause-reads

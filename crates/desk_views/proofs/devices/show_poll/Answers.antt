@@ -1,6 +1,4 @@
-use Rattle.std.proofs.Common.{ap, ◌∙◌}
-use Rattle.desk_views.proofs.Common.{both_found, finds_as, ledger_found, PollShown}
-use Rattle.desk_views.proofs.DeviceViews.{answered, turned_away}
+use Rattle.desk_views.proofs.Answering.{ap, ◌∙◌, both_found, finds_as, ledger_found, PollShown, answered, turned_away}
 use Rattle.desk_views.proofs.devices.show_poll.Goals as goal
 
 pub returns-then-not-branch-clause-reads : goal.returns-then-not-branch-clause-reads

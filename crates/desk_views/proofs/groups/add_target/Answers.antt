@@ -1,5 +1,4 @@
-use Rattle.desk_views.proofs.Common.{finds_as, target_of}
-use Rattle.desk_views.proofs.MemberViews.{none_added, one_added}
+use Rattle.desk_views.proofs.Answering.{finds_as, target_of, none_added, one_added}
 use Rattle.desk_views.proofs.groups.add_target.Goals as goal
 
 pub returns-in-None-clause-reads : goal.returns-in-None-clause-reads

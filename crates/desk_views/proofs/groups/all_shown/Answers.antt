@@ -1,6 +1,4 @@
-use Rattle.std.proofs.Common.{Err, ap, inl, inr, ◌∙◌}
-use Rattle.desk_views.proofs.Common.{err_from_is_err_and}
-use Rattle.desk_views.proofs.GroupViews.{unshown_at}
+use Rattle.desk_views.proofs.Answering.{Err, ap, inl, inr, ◌∙◌, err_from_is_err_and, unshown_at}
 use Rattle.desk_views.proofs.groups.all_shown.Goals as goal
 
 pub returns-in_err-rule-clause-err : goal.returns-in_err-rule-clause-err

@@ -1,5 +1,4 @@
-use Rattle.std.proofs.Common.{◌≡◌, map, take}
-use Rattle.desk_views.proofs.Common.{rules_of, group_shown, RolloutRecord, IsSeenOf}
+use Rattle.desk_views.proofs.Answering.{◌≡◌, map, take, rules_of, group_shown, RolloutRecord, IsSeenOf}
 use Rattle.desk_views.proofs.groups.all_shown.Given as goal
 
 -- those so far

@@ -1,4 +1,4 @@
-use Rattle.std.proofs.Common.{ap, ◌∙◌, take, drop, rules}
+use Rattle.desk_views.proofs.Answering.{ap, ◌∙◌, take, drop, rules}
 use Rattle.desk_views.proofs.GroupViews.{page_is}
 use Rattle.desk_views.proofs.groups.page_shown.Goals as goal
 

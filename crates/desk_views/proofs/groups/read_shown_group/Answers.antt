@@ -1,7 +1,4 @@
-use Rattle.std.proofs.Common.{Err, refl}
-use Rattle.desk_views.proofs.Common.{Store, found_if, ledger_found, said_of}
-use Rattle.desk_views.proofs.FailingGroups.{group_ruled, group_small}
-use Rattle.desk_views.proofs.FailingViews.{never_answers, never_with, told}
+use Rattle.desk_views.proofs.Answering.{Err, refl, Store, found_if, ledger_found, said_of, group_ruled, group_small, never_answers, never_with, told}
 use Rattle.desk_views.proofs.groups.read_shown_group.Goals as goal
 
 pub returns-in-Some-clause-reads : goal.returns-in-Some-clause-reads

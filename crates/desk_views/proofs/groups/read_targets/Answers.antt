@@ -1,6 +1,4 @@
-use Rattle.std.proofs.Common.{ap, ◌∙◌, rules}
-use Rattle.desk_views.proofs.Common.{both_found, finds_as, targets_of, targets_shown, all_given}
-use Rattle.desk_views.proofs.MemberViews.{targets_grow}
+use Rattle.desk_views.proofs.Answering.{ap, ◌∙◌, rules, both_found, finds_as, targets_of, targets_shown, all_given, targets_grow}
 use Rattle.desk_views.proofs.groups.read_targets.Goals as goal
 
 pub loop-id-preserved : goal.loop-id-preserved

@@ -1,5 +1,4 @@
-use Rattle.std.proofs.Common.{◌≡◌, Ok, map}
-use Rattle.desk_views.proofs.Common.{Fault, targets_of, targets_shown, shown_target, FindsIn, StaysIn, FailsAtListsIn}
+use Rattle.desk_views.proofs.Answering.{◌≡◌, Ok, map, Fault, targets_of, targets_shown, shown_target, FindsIn, StaysIn, FailsAtListsIn}
 use Rattle.desk_views.proofs.groups.read_targets.Given as goal
 
 -- the targets of the ids that were gone through

@@ -1,6 +1,5 @@
-use Rattle.std.proofs.Common.{refl, arith}
+use Rattle.desk_views.proofs.Answering.{refl, arith, numbered_rule}
 use Rattle.std.proofs.lemmas.Option.{slice_get_read}
-use Rattle.desk_views.proofs.GroupViews.{numbered_rule}
 use Rattle.desk_views.proofs.groups.rule_of.Goals as goal
 
 pub returns-in-Some : goal.returns-in-Some

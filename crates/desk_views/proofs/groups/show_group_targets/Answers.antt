@@ -1,9 +1,4 @@
-use Rattle.std.proofs.Common.{Err, ap, ◌∙◌}
-use Rattle.desk_views.proofs.Common.{err_from_is_err_and, both_found, finds_as, targets_of, item_numbered, members_in, page_of, targets_shown, TargetsShown, group_numbered, ledger_found, groups_are}
-use Rattle.desk_views.proofs.FailingGroups.{group_small, group_there}
-use Rattle.desk_views.proofs.FailingViews.{never_fails, told}
-use Rattle.desk_views.proofs.GroupViews.{no_group, one_group}
-use Rattle.desk_views.proofs.MemberViews.{members_paged}
+use Rattle.desk_views.proofs.Answering.{Err, ap, ◌∙◌, err_from_is_err_and, both_found, finds_as, targets_of, item_numbered, members_in, page_of, targets_shown, TargetsShown, group_numbered, ledger_found, groups_are, group_small, group_there, never_fails, told, no_group, one_group, members_paged}
 use Rattle.desk_views.proofs.groups.show_group_targets.Goals as goal
 
 pub returns-in-None-clause-shows : goal.returns-in-None-clause-shows

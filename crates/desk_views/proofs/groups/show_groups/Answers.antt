@@ -1,9 +1,4 @@
-use Rattle.std.proofs.Common.{Err, ap, ◌∙◌}
-use Rattle.desk_views.proofs.Common.{err_from_is_err_and, both_found, finds_as, item_numbered, groups_shown, page_of, GroupsShown, ledger_found, rules_there}
-use Rattle.desk_views.proofs.FailingGroups.{page_showable}
-use Rattle.desk_views.proofs.FailingViews.{never_fails}
-use Rattle.desk_views.proofs.GroupViews.{groups_paged}
-use Rattle.desk_views.proofs.RolloutViews.{none_replied, one_replied}
+use Rattle.desk_views.proofs.Answering.{Err, ap, ◌∙◌, err_from_is_err_and, both_found, finds_as, item_numbered, groups_shown, page_of, GroupsShown, ledger_found, rules_there, page_showable, never_fails, groups_paged, none_replied, one_replied}
 use Rattle.desk_views.proofs.groups.show_groups.Goals as goal
 
 pub returns-in-None-clause-shows : goal.returns-in-None-clause-shows

@@ -1,9 +1,4 @@
-use Rattle.std.proofs.Common.{Some, Err, refl, sym}
-use Rattle.desk_views.proofs.Common.{finds_as, known, module_shown, Store}
-use Rattle.desk_views.proofs.ModuleViews.{entry_is}
-use Rattle.desk_views.proofs.PageLemmas.{same_number}
-use Rattle.desk_views.proofs.FailingReads.{is_shown, module_numbered}
-use Rattle.desk_views.proofs.FailingViews.{never_with}
+use Rattle.desk_views.proofs.Answering.{Some, Err, refl, sym, finds_as, known, module_shown, Store, same_number, entry_is, is_shown, module_numbered, never_with}
 use Rattle.desk_views.proofs.modules.read_entry.Goals as goal
 
 pub returns-in-Some-2-clause-reads : goal.returns-in-Some-2-clause-reads

@@ -1,5 +1,4 @@
-use Rattle.std.proofs.Common.{◌≡◌, Ok, drop, length, take}
-use Rattle.desk_views.proofs.Common.{Fault, modules_shown, FindsIn, StaysIn, FailsWith}
+use Rattle.desk_views.proofs.Answering.{◌≡◌, Ok, drop, length, take, Fault, modules_shown, FindsIn, StaysIn, FailsWith}
 use Rattle.desk_views.proofs.modules.read_page.Given as goal
 
 -- the entries so far are the first of the page

@@ -1,6 +1,4 @@
-use Rattle.std.proofs.Common.{refl, sym}
-use Rattle.desk_views.proofs.Common.{both_found, finds_as}
-use Rattle.desk_views.proofs.ModuleViews.{module_is}
+use Rattle.desk_views.proofs.Answering.{refl, sym, both_found, finds_as, module_is}
 use Rattle.desk_views.proofs.modules.read_shown.Goals as goal
 
 pub returns-in-None-clause-reads : goal.returns-in-None-clause-reads

@@ -1,6 +1,4 @@
-use Rattle.std.proofs.Common.{Some, None}
-use Rattle.desk_views.proofs.Common.{finds_as}
-use Rattle.desk_views.proofs.ModuleViews.{replied}
+use Rattle.desk_views.proofs.Answering.{Some, None, finds_as, replied}
 use Rattle.desk_views.proofs.modules.show_module.Goals as goal
 
 pub returns-in-Some-clause-reads : goal.returns-in-Some-clause-reads

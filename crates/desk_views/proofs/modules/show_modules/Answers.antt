@@ -1,7 +1,5 @@
-use Rattle.desk_views.proofs.Common.{both_found, finds_as}
-use Rattle.desk_views.proofs.ModuleViews.{page_replied}
-use Rattle.desk_views.proofs.FailingReads.{passed}
-use Rattle.desk_views.proofs.FailingViews.{fails_when, listed}
+use Rattle.desk_views.proofs.Answering.{both_found, finds_as, page_replied, passed, fails_when}
+use Rattle.desk_views.proofs.FailingViews.{listed}
 use Rattle.desk_views.proofs.modules.show_modules.Goals as goal
 
 pub returns-clause-reads : goal.returns-clause-reads

@@ -1,6 +1,4 @@
-use Rattle.std.proofs.Common.{sym, ap, ◌∙◌, map}
-use Rattle.desk_views.proofs.Common.{group_shown}
-use Rattle.desk_views.proofs.GroupViews.{groups_mapped}
+use Rattle.desk_views.proofs.Answering.{sym, ap, ◌∙◌, map, group_shown, groups_mapped}
 use Rattle.desk_views.proofs.reports.report_of.Goals as goal
 
 pub returns-clause-ok : goal.returns-clause-ok

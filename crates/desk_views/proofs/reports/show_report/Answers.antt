@@ -1,8 +1,4 @@
-use Rattle.std.proofs.Common.{Err, ap, ◌∙◌}
-use Rattle.desk_views.proofs.Common.{err_from_is_err_and, both_found, finds_as, item_numbered, report_of, ReportShown, ledger_found, rules_there}
-use Rattle.desk_views.proofs.FailingGroups.{groups_showable}
-use Rattle.desk_views.proofs.FailingViews.{never_fails}
-use Rattle.desk_views.proofs.RolloutViews.{none_replied, one_replied}
+use Rattle.desk_views.proofs.Answering.{Err, ap, ◌∙◌, err_from_is_err_and, both_found, finds_as, item_numbered, report_of, ReportShown, ledger_found, rules_there, groups_showable, never_fails, none_replied, one_replied}
 use Rattle.desk_views.proofs.reports.show_report.Goals as goal
 
 pub returns-in-None-clause-shows : goal.returns-in-None-clause-shows

@@ -1,8 +1,5 @@
-use Rattle.std.proofs.Common.{Err, refl, sym}
-use Rattle.desk_views.proofs.Common.{Store, finds_as, known}
+use Rattle.desk_views.proofs.Answering.{Err, refl, sym, Store, finds_as, known, same_number, never_with}
 use Rattle.desk_views.proofs.FailingRollouts.{entry_seen, few_numbered}
-use Rattle.desk_views.proofs.FailingViews.{never_with}
-use Rattle.desk_views.proofs.PageLemmas.{same_number}
 use Rattle.desk_views.proofs.RolloutViews.{entry_is}
 use Rattle.desk_views.proofs.rollouts.read_entry.Goals as goal
 

@@ -1,8 +1,5 @@
-use Rattle.std.proofs.Common.{◌≡◌, length, Err, sym, ap, ◌∙◌, arith, rules}
-use Rattle.desk_views.proofs.Common.{err_from_is_err_and, is_ok, both_found, finds_as, rollouts_shown}
-use Rattle.desk_views.proofs.FailingViews.{listed, with_when}
-use Rattle.desk_views.proofs.PageLemmas.{page_ends, page_grows}
-use Rattle.desk_views.proofs.RolloutViews.{shown_count}
+use Rattle.desk_views.proofs.Answering.{◌≡◌, length, Err, sym, ap, ◌∙◌, arith, rules, err_from_is_err_and, is_ok, both_found, finds_as, rollouts_shown, with_when, page_ends, page_grows, shown_count}
+use Rattle.desk_views.proofs.FailingViews.{listed}
 use Rattle.desk_views.proofs.rollouts.read_page.Goals as goal
 
 pub loop-place-preserved : goal.loop-place-preserved

@@ -1,5 +1,4 @@
-use Rattle.std.proofs.Common.{◌≡◌, Ok, drop, take}
-use Rattle.desk_views.proofs.Common.{Fault, rollouts_shown, FindsAtListsIn, FailsAtListsIn, StaysIn}
+use Rattle.desk_views.proofs.Answering.{◌≡◌, Ok, drop, take, Fault, rollouts_shown, FindsAtListsIn, FailsAtListsIn, StaysIn}
 use Rattle.desk_views.proofs.rollouts.read_page.Given as goal
 
 -- the entries so far are the first of the page

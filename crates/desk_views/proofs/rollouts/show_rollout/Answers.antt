@@ -1,6 +1,4 @@
-use Rattle.std.proofs.Common.{ap}
-use Rattle.desk_views.proofs.Common.{finds_as, item_numbered, rollout_shown, RolloutShown}
-use Rattle.desk_views.proofs.RolloutViews.{none_replied, one_replied}
+use Rattle.desk_views.proofs.Answering.{ap, finds_as, item_numbered, rollout_shown, RolloutShown, none_replied, one_replied}
 use Rattle.desk_views.proofs.rollouts.show_rollout.Goals as goal
 
 pub returns-in-Some-clause-shows : goal.returns-in-Some-clause-shows

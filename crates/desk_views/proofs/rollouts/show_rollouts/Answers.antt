@@ -1,6 +1,5 @@
-use Rattle.std.proofs.Common.{Err, ap, ◌∙◌}
-use Rattle.desk_views.proofs.Common.{err_from_is_err_and, both_found, finds_as, ledger_found}
-use Rattle.desk_views.proofs.FailingViews.{fails_when, listed}
+use Rattle.desk_views.proofs.Answering.{Err, ap, ◌∙◌, err_from_is_err_and, both_found, finds_as, ledger_found, fails_when}
+use Rattle.desk_views.proofs.FailingViews.{listed}
 use Rattle.desk_views.proofs.RolloutViews.{page_replied}
 use Rattle.desk_views.proofs.rollouts.show_rollouts.Goals as goal
 

@@ -1,9 +1,5 @@
-use Rattle.std.proofs.Common.{Err, refl, sym}
-use Rattle.desk_views.proofs.Common.{finds_as, known, Store}
-use Rattle.desk_views.proofs.PageLemmas.{same_number}
+use Rattle.desk_views.proofs.Answering.{Err, refl, sym, finds_as, known, Store, same_number, is_there, set_numbered, never_with}
 use Rattle.desk_views.proofs.SetViews.{entry_is}
-use Rattle.desk_views.proofs.FailingReads.{is_there, set_numbered}
-use Rattle.desk_views.proofs.FailingViews.{never_with}
 use Rattle.desk_views.proofs.sets.read_entry.Goals as goal
 
 pub returns-in-Some-2-clause-reads : goal.returns-in-Some-2-clause-reads

@@ -1,8 +1,4 @@
-use Rattle.std.proofs.Common.{◌∙◌}
-use Rattle.desk_views.proofs.Common.{both_found, finds_as, item_numbered}
-use Rattle.desk_views.proofs.SetViews.{no_set, one_set}
-use Rattle.desk_views.proofs.FailingViews.{never_fails, told}
-use Rattle.desk_views.proofs.FailingReads.{passed, set_listed}
+use Rattle.desk_views.proofs.Answering.{◌∙◌, both_found, finds_as, item_numbered, no_set, one_set, never_fails, told, passed, set_listed}
 use Rattle.desk_views.proofs.sets.read_label.Goals as goal
 
 pub returns-in-None-clause-reads : goal.returns-in-None-clause-reads

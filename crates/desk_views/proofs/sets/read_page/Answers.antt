@@ -1,8 +1,5 @@
-use Rattle.std.proofs.Common.{sym, ap, ◌∙◌, arith, rules}
-use Rattle.desk_views.proofs.Common.{is_ok, both_found, finds_as, numbered, set_shown}
-use Rattle.desk_views.proofs.PageLemmas.{numbered_length, page_ends, page_grows}
-use Rattle.desk_views.proofs.FailingReads.{passed}
-use Rattle.desk_views.proofs.FailingViews.{listed, with_when}
+use Rattle.desk_views.proofs.Answering.{sym, ap, ◌∙◌, arith, rules, is_ok, both_found, finds_as, numbered, set_shown, numbered_length, page_ends, page_grows, passed, with_when}
+use Rattle.desk_views.proofs.FailingViews.{listed}
 use Rattle.desk_views.proofs.sets.read_page.Goals as goal
 
 pub loop-place-preserved : goal.loop-place-preserved

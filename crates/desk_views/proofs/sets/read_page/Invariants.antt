@@ -1,5 +1,4 @@
-use Rattle.std.proofs.Common.{◌≡◌, Ok, drop, length, take}
-use Rattle.desk_views.proofs.Common.{Fault, numbered, set_shown, FindsIn, StaysIn, FailsWith}
+use Rattle.desk_views.proofs.Answering.{◌≡◌, Ok, drop, length, take, Fault, numbered, set_shown, FindsIn, StaysIn, FailsWith}
 use Rattle.desk_views.proofs.sets.read_page.Given as goal
 
 -- the entries so far are the first of the page

@@ -1,7 +1,6 @@
-use Rattle.desk_views.proofs.Common.{both_found, finds_as}
+use Rattle.desk_views.proofs.Answering.{both_found, finds_as, passed, fails_when}
 use Rattle.desk_views.proofs.SetViews.{page_replied}
-use Rattle.desk_views.proofs.FailingReads.{passed}
-use Rattle.desk_views.proofs.FailingViews.{fails_when, listed}
+use Rattle.desk_views.proofs.FailingViews.{listed}
 use Rattle.desk_views.proofs.sets.show_sets.Goals as goal
 
 pub returns-clause-reads : goal.returns-clause-reads

@@ -1,6 +1,4 @@
-use Rattle.desk_views.proofs.Common.{found_if, known, worded}
-use Rattle.std.proofs.Common.{◌++◌, ◌∷◌, [], false, true, ap, ◌∙◌, refl, rules, sym}
-use Rattle.desk_views.proofs.TargetPages.{page_with}
+use Rattle.desk_views.proofs.Answering.{◌++◌, ◌∷◌, [], false, true, ap, ◌∙◌, refl, rules, sym, found_if, known, worded, page_with}
 use Rattle.desk_views.proofs.target_pages.add.Goals as goal
 
 pub returns-then-not-is_on-clause-reads : goal.returns-then-not-is_on-clause-reads

@@ -1,8 +1,5 @@
-use Rattle.std.proofs.Common.{ap, ◌∙◌, arith}
-use Rattle.desk_views.proofs.Common.{both_found, finds_as, found_held, page_of}
-use Rattle.desk_views.proofs.TargetPages.{chunk_matched}
-use Rattle.desk_views.proofs.FailingReads.{chunk_few, passed}
-use Rattle.desk_views.proofs.FailingViews.{listed, with_when}
+use Rattle.desk_views.proofs.Answering.{ap, ◌∙◌, arith, both_found, finds_as, found_held, page_of, chunk_matched, chunk_few, passed, with_when}
+use Rattle.desk_views.proofs.FailingViews.{listed}
 use Rattle.desk_views.proofs.target_pages.add_chunk.Goals as goal
 
 pub returns-clause-reads : goal.returns-clause-reads

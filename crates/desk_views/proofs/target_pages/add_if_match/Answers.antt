@@ -1,6 +1,4 @@
-use Rattle.std.proofs.Common.{ap, ◌∙◌}
-use Rattle.desk_views.proofs.Common.{both_found, finds_as, page_of}
-use Rattle.desk_views.proofs.TargetPages.{match_added, match_left}
+use Rattle.desk_views.proofs.Answering.{ap, ◌∙◌, both_found, finds_as, page_of, match_added, match_left}
 use Rattle.desk_views.proofs.target_pages.add_if_match.Goals as goal
 
 pub returns-then-not-matches-clause-reads : goal.returns-then-not-matches-clause-reads

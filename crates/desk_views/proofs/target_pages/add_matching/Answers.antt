@@ -1,8 +1,5 @@
-use Rattle.std.proofs.Common.{◌++◌, [], ◌∷◌, map, ap, ◌∙◌, arith, rules}
-use Rattle.desk_views.proofs.Common.{length-append, both_found, finds_as, page_of, matching_shown, target_listed, all_given}
-use Rattle.desk_views.proofs.TargetPages.{matching_grow}
-use Rattle.desk_views.proofs.FailingReads.{passed, some_left}
-use Rattle.desk_views.proofs.FailingViews.{listed, with_when}
+use Rattle.desk_views.proofs.Answering.{◌++◌, [], ◌∷◌, map, ap, ◌∙◌, arith, rules, length-append, both_found, finds_as, page_of, matching_shown, target_listed, all_given, matching_grow, passed, some_left, with_when}
+use Rattle.desk_views.proofs.FailingViews.{listed}
 use Rattle.desk_views.proofs.target_pages.add_matching.Goals as goal
 
 pub loop-entry-preserved : goal.loop-entry-preserved

@@ -1,5 +1,4 @@
-use Rattle.std.proofs.Common.{◌≡◌, ◌≤◌, ◌<◌, ◌^◌, ◌+◌, ◌++◌, List, Some, Ok, length, map}
-use Rattle.desk_views.proofs.Common.{Fault, page_of, listed, ShownTarget, Tree, filter_of, FindsIn, StaysIn, matching_shown, target_listed, FailsWith}
+use Rattle.desk_views.proofs.Answering.{◌≡◌, ◌≤◌, ◌<◌, ◌^◌, ◌+◌, ◌++◌, List, Some, Ok, length, map, Fault, page_of, listed, ShownTarget, Tree, filter_of, FindsIn, StaysIn, matching_shown, target_listed, FailsWith}
 use Rattle.desk_views.proofs.target_pages.add_matching.Given as goal
 
 -- those that match of the ones that were gone through are added

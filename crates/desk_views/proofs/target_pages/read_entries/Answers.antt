@@ -1,6 +1,4 @@
-use Rattle.std.proofs.Common.{map, ap, ◌∙◌, rules}
-use Rattle.desk_views.proofs.Common.{is_ok, both_found, finds_as, target_listed, worded, all_given}
-use Rattle.desk_views.proofs.TargetPages.{entries_grow}
+use Rattle.desk_views.proofs.Answering.{map, ap, ◌∙◌, rules, is_ok, both_found, finds_as, target_listed, worded, all_given, entries_grow}
 use Rattle.desk_views.proofs.target_pages.read_entries.Goals as goal
 
 pub loop-entry-preserved : goal.loop-entry-preserved

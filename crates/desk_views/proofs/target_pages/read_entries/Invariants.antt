@@ -1,5 +1,4 @@
-use Rattle.std.proofs.Common.{◌≡◌, Ok, map}
-use Rattle.desk_views.proofs.Common.{Fault, target_listed, worded, FindsIn, StaysIn, FailsAtListsIn}
+use Rattle.desk_views.proofs.Answering.{◌≡◌, Ok, map, Fault, target_listed, worded, FindsIn, StaysIn, FailsAtListsIn}
 use Rattle.desk_views.proofs.target_pages.read_entries.Given as goal
 
 -- the content so far are those that were gone through

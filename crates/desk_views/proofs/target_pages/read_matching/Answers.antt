@@ -1,8 +1,6 @@
-use Rattle.std.proofs.Common.{refl, arith, rules}
-use Rattle.desk_views.proofs.Common.{both_found, finds_as}
-use Rattle.desk_views.proofs.TargetPages.{last_chunk, next_chunk, nothing_yet}
-use Rattle.desk_views.proofs.FailingReads.{one_chunk, passed}
-use Rattle.desk_views.proofs.FailingViews.{fails_when, listed}
+use Rattle.desk_views.proofs.Answering.{refl, arith, rules, both_found, finds_as, last_chunk, next_chunk, nothing_yet, passed, fails_when}
+use Rattle.desk_views.proofs.FailingReads.{one_chunk}
+use Rattle.desk_views.proofs.FailingViews.{listed}
 use Rattle.desk_views.proofs.target_pages.read_matching.Goals as goal
 
 pub loop-chunk-init : goal.loop-chunk-init

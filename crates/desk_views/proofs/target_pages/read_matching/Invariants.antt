@@ -1,5 +1,4 @@
-use Rattle.std.proofs.Common.{◌≡◌, ◌*◌, Some, Ok, length, map, take}
-use Rattle.desk_views.proofs.Common.{Fault, seen, page_of, listed, Tree, filter_of, FindsIn, StaysIn, matching_shown, FailsAtListsIn}
+use Rattle.desk_views.proofs.Answering.{◌≡◌, ◌*◌, Some, Ok, length, map, take, Fault, seen, page_of, listed, Tree, filter_of, FindsIn, StaysIn, matching_shown, FailsAtListsIn}
 use Rattle.desk_views.proofs.target_pages.read_matching.Given as goal
 
 -- of the chunks so far those that match are on the page

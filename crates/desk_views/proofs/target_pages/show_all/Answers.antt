@@ -1,5 +1,4 @@
-use Rattle.desk_views.proofs.Common.{both_found, finds_as, found_held}
-use Rattle.desk_views.proofs.TargetPages.{all_replied}
+use Rattle.desk_views.proofs.Answering.{both_found, finds_as, found_held, all_replied}
 use Rattle.desk_views.proofs.target_pages.show_all.Goals as goal
 
 pub returns-clause-reads : goal.returns-clause-reads

@@ -1,6 +1,4 @@
-use Rattle.std.proofs.Common.{sym, ap, ◌∙◌}
-use Rattle.desk_views.proofs.Common.{finds_as, filter_of}
-use Rattle.desk_views.proofs.TargetPages.{matching_replied}
+use Rattle.desk_views.proofs.Answering.{sym, ap, ◌∙◌, finds_as, filter_of, matching_replied}
 use Rattle.desk_views.proofs.target_pages.show_matching.Goals as goal
 
 pub returns-clause-reads : goal.returns-clause-reads

@@ -1,8 +1,6 @@
-use Rattle.std.proofs.Common.{Err, refl, arith}
-use Rattle.desk_views.proofs.Common.{finds_as, ledger_found, Store}
-use Rattle.desk_views.proofs.WordViews.{all_listed, listed_from}
+use Rattle.desk_views.proofs.Answering.{Err, refl, arith, finds_as, ledger_found, Store, listed_from, never_fails}
+use Rattle.desk_views.proofs.WordViews.{all_listed}
 use Rattle.desk_views.proofs.FewActions.{few_actions_for, too_many}
-use Rattle.desk_views.proofs.FailingViews.{never_fails}
 use Rattle.desk_views.proofs.target_words.read_actions.Goals as goal
 
 pub returns-clause-reads : goal.returns-clause-reads

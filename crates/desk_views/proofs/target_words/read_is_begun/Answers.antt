@@ -1,5 +1,4 @@
-use Rattle.std.proofs.Common.{ap}
-use Rattle.desk_views.proofs.Common.{finds_as, ledger_found, group_is_started}
+use Rattle.desk_views.proofs.Answering.{ap, finds_as, ledger_found, group_is_started}
 use Rattle.desk_views.proofs.target_words.read_is_begun.Goals as goal
 
 pub returns-in-Some-clause-reads : goal.returns-in-Some-clause-reads

@@ -1,6 +1,4 @@
-use Rattle.std.proofs.Common.{None, rules, ap, ◌∙◌, arith}
-use Rattle.desk_views.proofs.Common.{both_found, finds_as, last_ending}
-use Rattle.desk_views.proofs.WordViews.{it_is, it_is_not, none_left}
+use Rattle.desk_views.proofs.Answering.{None, rules, ap, ◌∙◌, arith, both_found, finds_as, last_ending, it_is, it_is_not, none_left}
 use Rattle.desk_views.proofs.target_words.read_last_ending.Goals as goal
 
 pub returns-then-branch-clause-reads : goal.returns-then-branch-clause-reads

@@ -1,5 +1,4 @@
-use Rattle.std.proofs.Common.{◌≡◌, None, Ok, vec_len}
-use Rattle.desk_views.proofs.Common.{Fault, FindsIn, StaysIn, last_ending, FailsAtListsIn}
+use Rattle.desk_views.proofs.Answering.{◌≡◌, None, Ok, vec_len, Fault, FindsIn, StaysIn, last_ending, FailsAtListsIn}
 use Rattle.desk_views.proofs.target_words.read_last_ending.Given as goal
 
 -- of those that are left the last ending is that of all

@@ -1,5 +1,4 @@
-use Rattle.desk_views.proofs.Common.{both_found, finds_as, ledger_found}
-use Rattle.desk_views.proofs.WordViews.{word_ended, word_pending}
+use Rattle.desk_views.proofs.Answering.{both_found, finds_as, ledger_found, word_ended, word_pending}
 use Rattle.desk_views.proofs.target_words.read_status.Goals as goal
 
 pub returns-then-is_some-clause-reads : goal.returns-then-is_some-clause-reads

@@ -1,5 +1,4 @@
-use Rattle.std.proofs.Common.{◌∙◌}
-use Rattle.desk_views.proofs.Common.{finds_as}
+use Rattle.desk_views.proofs.Answering.{◌∙◌, finds_as}
 use Rattle.desk_views.proofs.target_words.read_target_word.Goals as goal
 
 pub returns-clause-reads : goal.returns-clause-reads

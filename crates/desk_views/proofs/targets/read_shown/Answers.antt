@@ -1,5 +1,4 @@
-use Rattle.desk_views.proofs.Common.{both_found, finds_as, target_of}
-use Rattle.desk_views.proofs.TargetViews.{no_target, one_target}
+use Rattle.desk_views.proofs.Answering.{both_found, finds_as, target_of, no_target, one_target}
 use Rattle.desk_views.proofs.targets.read_shown.Goals as goal
 
 pub returns-in-None-clause-reads : goal.returns-in-None-clause-reads

@@ -1,5 +1,4 @@
-use Rattle.std.proofs.Common.{Some, None}
-use Rattle.desk_views.proofs.Common.{finds_as}
+use Rattle.desk_views.proofs.Answering.{Some, None, finds_as}
 use Rattle.desk_views.proofs.TargetViews.{replied}
 use Rattle.desk_views.proofs.targets.show_target.Goals as goal
 

@@ -1,5 +1,4 @@
-use Rattle.std.proofs.Common.{ap, ◌∙◌}
-use Rattle.desk_views.proofs.Common.{finds_as, TargetWord}
+use Rattle.desk_views.proofs.Answering.{ap, ◌∙◌, finds_as, TargetWord}
 use Rattle.desk_views.proofs.targets.with_word.Goals as goal
 
 pub returns-clause-reads : goal.returns-clause-reads

@@ -1,6 +1,5 @@
-use Rattle.std.proofs.Common.{◌≡◌, ℕ, ◌+◌, ◌*◌, ◌<◌, true, List, length, get_or, take, sym, ◌∙◌, arith, Err}
+use Rattle.http_wire.proofs.Common.{◌≡◌, ℕ, ◌+◌, ◌*◌, ◌<◌, true, List, length, get_or, take, sym, ◌∙◌, arith, Err, digits_value, and_parts, lt-ltb, cond-true, AllPass-from_list_all, body_length_limit, TooLarge, is_digits, length_of}
 use Rattle.std.specs.Char.{is_ascii_digit, digit_value}
-use Rattle.http_wire.proofs.Common.{digits_value, and_parts, lt-ltb, cond-true, AllPass-from_list_all, body_length_limit, TooLarge, is_digits, length_of}
 use Rattle.std.proofs.lemmas.Int.Digits.{digits_value_more}
 use Rattle.std.proofs.lemmas.Str.Parse.{digits_value-take-le}
 use Rattle.http_wire.proofs.body_length.length_of.Goals as goal

@@ -1,5 +1,4 @@
-use Rattle.std.proofs.Common.{◌≡◌, ◌≤◌, take}
-use Rattle.http_wire.proofs.Common.{digits_value, body_length_limit}
+use Rattle.http_wire.proofs.Common.{◌≡◌, ◌≤◌, take, digits_value, body_length_limit}
 use Rattle.http_wire.proofs.body_length.length_of.Given as goal
 
 abbrev pub invariant-loop-b : goal.invariant-loop-b

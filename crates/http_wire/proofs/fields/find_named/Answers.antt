@@ -1,5 +1,4 @@
-use Rattle.std.proofs.Common.{◌≡◌, ℕ, ◌+◌, ◌<◌, ◌≤◌, true, Option, Some, None, List, [], ◌∷◌, ◌++◌, length, map, take, drop, get_or, sym, ap, ◌∙◌, arith, option_map}
-use Rattle.http_wire.proofs.Common.{is_some, option_to_list, cond-true, length-append, take-append-drop, take-map, length-map, get_or-map, Field, NameAndValue, is_named, fields_named, field_view}
+use Rattle.http_wire.proofs.Common.{◌≡◌, ℕ, ◌+◌, ◌<◌, ◌≤◌, true, Option, Some, None, List, [], ◌∷◌, ◌++◌, length, map, take, drop, get_or, sym, ap, ◌∙◌, arith, option_map, is_some, option_to_list, cond-true, length-append, take-append-drop, take-map, length-map, get_or-map, Field, NameAndValue, is_named, fields_named, field_view}
 use Rattle.std.proofs.lemmas.List.Elements.{filter-append, filter_more}
 use Rattle.http_wire.proofs.fields.find_named.Goals as goal
 

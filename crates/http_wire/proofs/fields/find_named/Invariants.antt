@@ -1,5 +1,4 @@
-use Rattle.std.proofs.Common.{◌≡◌, map, take, option_map}
-use Rattle.http_wire.proofs.Common.{option_to_list, fields_named, field_view}
+use Rattle.http_wire.proofs.Common.{◌≡◌, map, take, option_map, option_to_list, fields_named, field_view}
 use Rattle.http_wire.proofs.fields.find_named.Given as goal
 
 -- the one that was found so far

@@ -1,5 +1,4 @@
-use Rattle.std.proofs.Common.{◌≡◌, ◌&&◌, drop}
-use Rattle.http_wire.proofs.Common.{list_all, is_target_byte}
+use Rattle.http_wire.proofs.Common.{◌≡◌, ◌&&◌, drop, list_all, is_target_byte}
 use Rattle.http_wire.proofs.head.are_target_bytes.Given as goal
 
 -- the bytes that are left decide

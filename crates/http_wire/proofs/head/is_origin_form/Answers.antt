@@ -1,5 +1,4 @@
-use Rattle.std.proofs.Common.{rules, sym, ◌∙◌}
-use Rattle.http_wire.proofs.Common.{AllPass-from_list_all, list_all-from_AllPass, is_target_byte}
+use Rattle.http_wire.proofs.Common.{rules, sym, ◌∙◌, AllPass-from_list_all, list_all-from_AllPass, is_target_byte}
 use Rattle.http_wire.proofs.head.is_origin_form.Goals as goal
 
 pub returns-then-eq : goal.returns-then-eq

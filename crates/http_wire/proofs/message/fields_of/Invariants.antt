@@ -1,6 +1,5 @@
-use Rattle.std.proofs.Common.{◌≡◌, length, map, take}
+use Rattle.http_wire.proofs.Common.{◌≡◌, length, map, take, field_view, field_limit}
 use Rattle.httparse.specs.Spans.{header_bytes}
-use Rattle.http_wire.proofs.Common.{field_view, field_limit}
 use Rattle.http_wire.proofs.message.fields_of.Given as goal
 
 -- the fields so far

@@ -1,5 +1,4 @@
-use Rattle.std.proofs.Common.{◌≡◌, ◌+◌, drop, inl, ap, ◌∙◌, arith}
-use Rattle.http_wire.proofs.Common.{drop-drop, HasRegion}
+use Rattle.http_wire.proofs.Common.{◌≡◌, ◌+◌, drop, inl, ap, ◌∙◌, arith, drop-drop, HasRegion}
 use Rattle.http_wire.proofs.MessageLemmas.{fits, missing_head, missing_body, whole_message}
 use Rattle.http_wire.proofs.message.read_front.Goals as goal
 

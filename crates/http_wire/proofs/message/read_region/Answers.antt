@@ -1,5 +1,4 @@
-use Rattle.std.proofs.Common.{sym, ap, ◌∙◌, arith}
-use Rattle.http_wire.proofs.Common.{false≢true, body_length}
+use Rattle.http_wire.proofs.Common.{sym, ap, ◌∙◌, arith, false≢true, body_length}
 use Rattle.http_wire.proofs.HeadLemmas.{spelled_pairs}
 use Rattle.http_wire.proofs.MessageLemmas.{body_fault}
 use Rattle.http_wire.proofs.message.read_region.Goals as goal

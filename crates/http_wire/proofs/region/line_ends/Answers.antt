@@ -1,5 +1,4 @@
-use Rattle.std.proofs.Common.{◌≡◌, length, ap, ◌∙◌, arith}
-use Rattle.http_wire.proofs.Common.{list_all, is_byte, places}
+use Rattle.http_wire.proofs.Common.{◌≡◌, length, ap, ◌∙◌, arith, list_all, is_byte, places}
 use Rattle.http_wire.proofs.LineLemmas.{follows, pairs_at, reads_places}
 use Rattle.http_wire.proofs.region.line_ends.Goals as goal
 

@@ -1,5 +1,4 @@
-use Rattle.std.proofs.Common.{◌≡◌, ◌+◌, ◌≤◌, ◌&&◌, length}
-use Rattle.http_wire.proofs.Common.{list_all, line_ends, lf_follows_cr}
+use Rattle.http_wire.proofs.Common.{◌≡◌, ◌+◌, ◌≤◌, ◌&&◌, length, list_all, line_ends, lf_follows_cr}
 use Rattle.http_wire.proofs.LineLemmas.{follows, pairs_at}
 use Rattle.http_wire.proofs.region.line_ends.Given as goal
 

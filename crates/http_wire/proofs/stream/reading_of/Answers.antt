@@ -1,5 +1,4 @@
-use Rattle.std.proofs.Common.{◌≡◌, ℕ, ◌+◌, ◌<◌, ◌≤◌, List, [], ◌∷◌, ◌++◌, length, arith, rules}
-use Rattle.http_wire.proofs.Common.{length-append, WireMessage, IsMessage, Begins, message_of}
+use Rattle.http_wire.proofs.Common.{◌≡◌, ℕ, ◌+◌, ◌<◌, ◌≤◌, List, [], ◌∷◌, ◌++◌, length, arith, rules, length-append, WireMessage, IsMessage, Begins, message_of}
 use Rattle.http_wire.proofs.MessageLemmas.{begins_push, message_shorter, undecided_yet}
 use Rattle.http_wire.proofs.stream.reading_of.Goals as goal
 

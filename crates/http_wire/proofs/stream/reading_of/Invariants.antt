@@ -1,5 +1,4 @@
-use Rattle.std.proofs.Common.{◌≡◌, List, length, ◌+◌, ◌≤◌}
-use Rattle.http_wire.proofs.Common.{WireMessage, Begins}
+use Rattle.http_wire.proofs.Common.{◌≡◌, List, length, ◌+◌, ◌≤◌, WireMessage, Begins}
 use Rattle.http_wire.proofs.stream.reading_of.Given as goal
 
 abbrev pub invariant-loop-rest : goal.invariant-loop-rest

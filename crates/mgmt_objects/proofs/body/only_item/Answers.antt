@@ -1,4 +1,4 @@
-use Rattle.std.proofs.Common.{arith}
+use Rattle.mgmt_objects.proofs.Common.{arith}
 use Rattle.mgmt_objects.proofs.BodyLemmas.{only_is_none}
 use Rattle.mgmt_objects.proofs.body.only_item.Goals as goal
 

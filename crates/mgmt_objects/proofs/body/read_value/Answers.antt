@@ -1,4 +1,4 @@
-use Rattle.std.proofs.Common.{inr, refl}
+use Rattle.mgmt_objects.proofs.Common.{inr, refl}
 use Rattle.std.proofs.lemmas.Bool.{false≢true}
 use Rattle.mgmt_objects.proofs.BodyLemmas.{body_is, body_is_none}
 use Rattle.mgmt_objects.proofs.body.read_value.Goals as goal

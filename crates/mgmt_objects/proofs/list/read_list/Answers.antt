@@ -1,5 +1,4 @@
-use Rattle.std.proofs.Common.{arith}
-use Rattle.mgmt_objects.proofs.Common.{view}
+use Rattle.mgmt_objects.proofs.Common.{arith, view}
 use Rattle.mgmt_objects.proofs.TraverseLemmas.{traverse_more, traverse_refuses}
 use Rattle.mgmt_objects.proofs.list.read_list.Goals as goal
 

@@ -1,5 +1,4 @@
-use Rattle.std.proofs.Common.{◌≡◌, Some, map, take}
-use Rattle.mgmt_objects.proofs.Common.{view, traverse}
+use Rattle.mgmt_objects.proofs.Common.{◌≡◌, Some, map, take, view, traverse}
 use Rattle.mgmt_objects.proofs.list.read_list.Given as goal
 
 abbrev pub invariant-loop-value : goal.invariant-loop-value

@@ -1,5 +1,4 @@
-use Rattle.std.proofs.Common.{◌≡◌, map, ap, ◌∙◌}
-use Rattle.mgmt_objects.proofs.Common.{IfOk-weaker, array, view, items_of, Array, view-Array, items_have_float-map}
+use Rattle.mgmt_objects.proofs.Common.{◌≡◌, map, ap, ◌∙◌, IfOk-weaker, array, view, items_of, Array, view-Array, items_have_float-map}
 use Rattle.mgmt_objects.proofs.shown.array_text.Goals as goal
 
 pub returns : goal.returns

@@ -1,5 +1,4 @@
-use Rattle.std.proofs.Common.{◌≡◌, map, ap, ◌∙◌}
-use Rattle.mgmt_objects.proofs.Common.{IfOk-weaker, view, page_data, items_have_float-map}
+use Rattle.mgmt_objects.proofs.Common.{◌≡◌, map, ap, ◌∙◌, IfOk-weaker, view, page_data, items_have_float-map}
 use Rattle.mgmt_objects.proofs.PageLemmas.{has_float-page_data}
 use Rattle.mgmt_objects.proofs.shown.page_text.Goals as goal
 

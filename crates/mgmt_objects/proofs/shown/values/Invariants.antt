@@ -1,5 +1,4 @@
-use Rattle.std.proofs.Common.{◌≡◌, map, take}
-use Rattle.mgmt_objects.proofs.Common.{view}
+use Rattle.mgmt_objects.proofs.Common.{◌≡◌, map, take, view}
 use Rattle.mgmt_objects.proofs.shown.values.Given as goal
 
 abbrev pub invariant-loop-shown : goal.invariant-loop-shown

@@ -1,4 +1,4 @@
-use Rattle.std.proofs.Common.{length}
+use Rattle.mgmt_objects.proofs.Common.{length}
 use Rattle.mgmt_objects.proofs.target_body.+have_distinct_ids.Given as goal
 
 abbrev pub decreases-have_distinct_ids : goal.decreases-have_distinct_ids

@@ -1,6 +1,5 @@
-use Rattle.std.proofs.Common.{◌≡◌, ◌∙◌, ap, sym, arith, string_bytes, drop, rules}
+use Rattle.mgmt_objects.proofs.Common.{◌≡◌, ◌∙◌, ap, sym, arith, string_bytes, drop, rules, object, put, string, view, members_view, members_view-insert_entry, view-Object, with_attributes}
 use Rattle.std.proofs.lemmas.List.{at_drop_all}
-use Rattle.mgmt_objects.proofs.Common.{object, put, string, view, members_view, members_view-insert_entry, view-Object, with_attributes}
 use Rattle.mgmt_objects.proofs.TargetLemmas.{with_attributes_more}
 use Rattle.mgmt_objects.proofs.target_object.attributes_value.Goals as goal
 

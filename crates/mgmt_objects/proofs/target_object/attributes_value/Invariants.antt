@@ -1,5 +1,4 @@
-use Rattle.std.proofs.Common.{◌≡◌, drop}
-use Rattle.mgmt_objects.proofs.Common.{no_members, members_view, with_attributes}
+use Rattle.mgmt_objects.proofs.Common.{◌≡◌, drop, no_members, members_view, with_attributes}
 use Rattle.mgmt_objects.proofs.target_object.attributes_value.Given as goal
 
 -- those that are left, put into those that are there, give them all

@@ -1,4 +1,4 @@
-use Rattle.std.proofs.Common.{length}
+use Rattle.mgmt_objects.proofs.Common.{length}
 use Rattle.mgmt_objects.proofs.threshold.+percent_after.Given as goal
 
 abbrev pub decreases-percent_after : goal.decreases-percent_after

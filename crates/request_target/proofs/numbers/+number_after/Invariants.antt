@@ -1,4 +1,4 @@
-use Rattle.std.proofs.Common.{length}
+use Rattle.request_target.proofs.Common.{length}
 use Rattle.request_target.proofs.numbers.+number_after.Given as goal
 
 abbrev pub decreases-number_after : goal.decreases-number_after

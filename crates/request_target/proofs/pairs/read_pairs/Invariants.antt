@@ -1,4 +1,4 @@
-use Rattle.std.proofs.Common.{◌≡◌, ◌++◌, map}
+use Rattle.request_target.proofs.Common.{◌≡◌, ◌++◌, map}
 use Rattle.form_urlencoded.specs.Parse.{owned_pairs_left}
 use Rattle.request_target.specs.Pairs.{seen, decoded, query_pairs}
 use Rattle.request_target.proofs.pairs.read_pairs.Given as goal

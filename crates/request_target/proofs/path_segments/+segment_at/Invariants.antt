@@ -1,4 +1,4 @@
-use Rattle.std.proofs.Common.{length}
+use Rattle.request_target.proofs.Common.{length}
 use Rattle.request_target.proofs.path_segments.+segment_at.Given as goal
 
 abbrev pub decreases-segment_at : goal.decreases-segment_at

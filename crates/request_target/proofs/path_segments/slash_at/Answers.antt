@@ -1,5 +1,4 @@
-use Rattle.std.proofs.Common.{arith, sym, ap, ◌∙◌}
-use Rattle.request_target.proofs.Common.{list_all}
+use Rattle.request_target.proofs.Common.{arith, sym, ap, ◌∙◌, list_all}
 use Rattle.std.proofs.lemmas.List.{take_all}
 use Rattle.request_target.proofs.SegmentLemmas.{cut, one_segment, no_slash}
 use Rattle.request_target.proofs.path_segments.slash_at.Goals as goal

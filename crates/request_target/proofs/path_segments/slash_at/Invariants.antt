@@ -1,5 +1,4 @@
-use Rattle.std.proofs.Common.{◌≡◌, take, true}
-use Rattle.request_target.proofs.Common.{list_all}
+use Rattle.request_target.proofs.Common.{◌≡◌, take, true, list_all}
 use Rattle.request_target.proofs.SegmentLemmas.{no_slash}
 use Rattle.request_target.proofs.path_segments.slash_at.Given as goal
 

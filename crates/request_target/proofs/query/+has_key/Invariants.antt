@@ -1,4 +1,4 @@
-use Rattle.std.proofs.Common.{length}
+use Rattle.request_target.proofs.Common.{length}
 use Rattle.request_target.proofs.query.+has_key.Given as goal
 
 abbrev pub decreases-has_key : goal.decreases-has_key

@@ -1,4 +1,4 @@
-use Rattle.std.proofs.Common.{◌≡◌, ◌∙◌, ℕ, true, sym, ap}
+use Rattle.request_target.proofs.Common.{◌≡◌, ◌∙◌, ℕ, true, sym, ap}
 use Rattle.std.proofs.Math.Facts.{Fits-lt-pow}
 use Rattle.request_target.proofs.Meets.{all_bytes}
 use Rattle.request_target.proofs.Found.{all_bytes_from}

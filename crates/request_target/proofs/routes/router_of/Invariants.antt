@@ -1,5 +1,4 @@
-use Rattle.std.proofs.Common.{◌≡◌, [], map, drop}
-use Rattle.request_target.proofs.Common.{rows_with}
+use Rattle.request_target.proofs.Common.{◌≡◌, [], map, drop, rows_with}
 use Rattle.request_target.proofs.routes.router_of.Given as goal
 
 abbrev pub invariant-loop-route : goal.invariant-loop-route

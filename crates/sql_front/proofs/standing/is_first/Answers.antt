@@ -1,4 +1,4 @@
-use Rattle.std.proofs.Common.{◌≡◌, ◌==◌, Some, find, sym, subst}
+use Rattle.sql_front.proofs.Common.{◌≡◌, ◌==◌, Some, find, sym, subst}
 use Rattle.sql_front.proofs.standing.is_first.Goals as goal
 
 pub returns-clause-first : goal.returns-clause-first

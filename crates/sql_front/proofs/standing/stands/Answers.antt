@@ -1,5 +1,4 @@
-use Rattle.std.proofs.Common.{◌≡◌, Some, sym, subst}
-use Rattle.sql_front.proofs.Common.{table_named}
+use Rattle.sql_front.proofs.Common.{◌≡◌, Some, sym, subst, table_named}
 use Rattle.sql_front.proofs.Found.{stands_by, stands_first}
 use Rattle.sql_front.proofs.standing.stands.Goals as goal
 

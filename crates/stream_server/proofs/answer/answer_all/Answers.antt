@@ -1,5 +1,4 @@
-use Rattle.std.proofs.Common.{◌≡◌, ℕ, ◌+◌, ◌-◌, ◌^◌, min, List, [], ◌∷◌, ◌++◌, length, Some, None, refl, ◌∙◌, arith, length-append}
-use Rattle.stream_server.proofs.Common.{WireMessage, message_of, err_from_is_err_and}
+use Rattle.stream_server.proofs.Common.{◌≡◌, ℕ, ◌+◌, ◌-◌, ◌^◌, min, List, [], ◌∷◌, ◌++◌, length, Some, None, refl, ◌∙◌, arith, length-append, WireMessage, message_of, err_from_is_err_and}
 use Rattle.stream_server.proofs.PartLemmas.{serves_append, serves_nil, takes_more, takes_nil}
 use Rattle.stream_server.proofs.answer.answer_all.Goals as goal
 

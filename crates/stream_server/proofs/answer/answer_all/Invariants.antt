@@ -1,5 +1,4 @@
-use Rattle.std.proofs.Common.{◌≡◌, ◌+◌, ◌-◌, ◌^◌, min, List, length, None}
-use Rattle.stream_server.proofs.Common.{WireMessage, inner_of, has_failed, Serves, Takes}
+use Rattle.stream_server.proofs.Common.{◌≡◌, ◌+◌, ◌-◌, ◌^◌, min, List, length, None, WireMessage, inner_of, has_failed, Serves, Takes}
 use Rattle.stream_server.proofs.answer.answer_all.Given as goal
 
 -- the messages so far were answered

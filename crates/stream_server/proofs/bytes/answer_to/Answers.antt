@@ -1,5 +1,4 @@
-use Rattle.std.proofs.Common.{◌≡◌, ◌≢◌, ℕ, List, true, false, Result, Ok, Err, IfOk, refl, sym, ◌∙◌}
-use Rattle.stream_server.proofs.Common.{Refusal, Reply, Refused, PollShown, DeploymentShown, CancelShown, message_of, WireMessage, is_for_devices, IsToldWhole}
+use Rattle.stream_server.proofs.Common.{◌≡◌, ◌≢◌, ℕ, List, true, false, Result, Ok, Err, IfOk, refl, sym, ◌∙◌, Refusal, Reply, Refused, PollShown, DeploymentShown, CancelShown, message_of, WireMessage, is_for_devices, IsToldWhole}
 use Rattle.rollout_machine.specs.Views.{reply_of}
 use Rattle.http_wire.specs.Replies.{answer_text}
 use Rattle.http_wire.specs.declared.reply.Answer.{Answer}

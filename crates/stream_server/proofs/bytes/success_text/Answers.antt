@@ -1,4 +1,4 @@
-use Rattle.std.proofs.Common.{Result, Ok, Err, IfOk, ◌∙◌}
+use Rattle.stream_server.proofs.Common.{Result, Ok, Err, IfOk, ◌∙◌}
 use Rattle.stream_server.proofs.bytes.success_text.Goals as goal
 
 weaken : {A E : Type 0} (r : Result A E) (P Q : A → Type 0) → IfOk r P → ((a : A) → P a → Q a) → IfOk r Q

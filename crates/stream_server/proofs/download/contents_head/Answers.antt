@@ -1,4 +1,4 @@
-use Rattle.std.proofs.Common.{ℕ, List, ◌++◌, ap, ◌∙◌, codes}
+use Rattle.stream_server.proofs.Common.{ℕ, List, ◌++◌, ap, ◌∙◌, codes}
 use Rattle.stream_server.proofs.ContentsLemmas.{head_text}
 use Rattle.stream_server.proofs.download.contents_head.Goals as goal
 

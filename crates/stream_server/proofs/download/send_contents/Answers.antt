@@ -1,5 +1,4 @@
-use Rattle.std.proofs.Common.{ℕ, sym, ap, ◌∙◌}
-use Rattle.stream_server.proofs.Common.{err_from_is_err_and}
+use Rattle.stream_server.proofs.Common.{ℕ, sym, ap, ◌∙◌, err_from_is_err_and}
 use Rattle.stream_server.specs.Contents.{contents_head}
 use Rattle.stream_server.proofs.ContentsLemmas.{none_handed, head_cut, piece_handed, piece_cut, all_handed, interrupted}
 use Rattle.stream_server.proofs.download.send_contents.Goals as goal

@@ -1,5 +1,4 @@
-use Rattle.std.proofs.Common.{◌≡◌, ◌-◌}
-use Rattle.stream_server.proofs.Common.{sent, inner_of, has_failed}
+use Rattle.stream_server.proofs.Common.{◌≡◌, ◌-◌, sent, inner_of, has_failed}
 use Rattle.stream_server.proofs.ContentsLemmas.{HandedOn}
 use Rattle.stream_server.proofs.download.send_contents.Given as goal
 

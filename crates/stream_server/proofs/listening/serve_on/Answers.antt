@@ -1,4 +1,4 @@
-use Rattle.std.proofs.Common.{ℕ, arith, Ok, Err}
+use Rattle.stream_server.proofs.Common.{ℕ, arith, Ok, Err}
 use Rattle.stream_server.proofs.ListenLemmas.{keeps_what_stands, on_append}
 use Rattle.stream_server.proofs.listening.serve_on.Goals as goal
 use Rattle.stream_server.proofs.listening.serve_on.Goals.{in-Ok-true, in-Ok-false}

@@ -1,5 +1,4 @@
-use Rattle.std.proofs.Common.{◌≤◌, Ok}
-use Rattle.stream_server.proofs.Common.{KeepsOn}
+use Rattle.stream_server.proofs.Common.{◌≤◌, Ok, KeepsOn}
 use Rattle.stream_server.proofs.listening.serve_on.Given as goal
 
 abbrev pub invariant-loop : goal.invariant-loop

@@ -1,4 +1,4 @@
-use Rattle.std.proofs.Common.{refl, sym, take, drop, take-append-drop}
+use Rattle.stream_server.proofs.Common.{refl, sym, take, drop, take-append-drop}
 use Rattle.stream_server.proofs.reply.send.Goals as goal
 
 pub returns-in_default-clause-err : goal.returns-in_default-clause-err

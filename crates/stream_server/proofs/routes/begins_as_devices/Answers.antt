@@ -1,4 +1,4 @@
-use Rattle.std.proofs.Common.{◌≡◌, true, false, bytes_eq, codes, rules}
+use Rattle.stream_server.proofs.Common.{◌≡◌, true, false, bytes_eq, codes, rules}
 use Rattle.stream_server.proofs.RouteLemmas.{not_of_management, not_of_devices, without_word}
 use Rattle.stream_server.proofs.routes.begins_as_devices.Goals as goal
 

@@ -1,4 +1,4 @@
-use Rattle.std.proofs.Common.{[], None, Err}
+use Rattle.stream_server.proofs.Common.{[], None, Err}
 use Rattle.stream_server.proofs.PartLemmas.{serves_nil}
 use Rattle.stream_server.proofs.HeadlineLemmas.{both}
 use Rattle.stream_server.proofs.ExitLemmas.{exits_unserved}

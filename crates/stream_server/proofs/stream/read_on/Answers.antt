@@ -1,4 +1,4 @@
-use Rattle.std.proofs.Common.{◌++◌, take}
+use Rattle.stream_server.proofs.Common.{◌++◌, take}
 use Rattle.stream_server.proofs.stream.read_on.Goals as goal
 
 pub returns-in_default-feed-clause-read : goal.returns-in_default-feed-clause-read

@@ -1,5 +1,4 @@
-use Rattle.std.proofs.Common.{◌≡◌, ℕ, ◌<◌, List, [], ◌++◌, length, Some, None, Ok, Err, refl, sym, ◌∙◌, subst, rules, arith}
-use Rattle.stream_server.proofs.Common.{Consumes-nil, Consumes-trans, false≢true, err_from_is_err_and, IsUndecided, Begins}
+use Rattle.stream_server.proofs.Common.{◌≡◌, ℕ, ◌<◌, List, [], ◌++◌, length, Some, None, Ok, Err, refl, sym, ◌∙◌, subst, rules, arith, Consumes-nil, Consumes-trans, false≢true, err_from_is_err_and, IsUndecided, Begins}
 use Rattle.std.proofs.lemmas.List.{nil_from_length}
 use Rattle.stream_server.proofs.PartLemmas.{serves_nil, serves_append}
 use Rattle.stream_server.proofs.HeadlineLemmas.{both}

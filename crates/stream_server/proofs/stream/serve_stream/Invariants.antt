@@ -1,5 +1,4 @@
-use Rattle.std.proofs.Common.{◌≡◌, ℕ, ◌-◌, ◌≤◌, ◌^◌, min, List, length, Option, None}
-use Rattle.stream_server.proofs.Common.{Consumes, WireMessage, Begins, DeskState, Interface, inner_of, has_failed, Serves}
+use Rattle.stream_server.proofs.Common.{◌≡◌, ℕ, ◌-◌, ◌≤◌, ◌^◌, min, List, length, Option, None, Consumes, WireMessage, Begins, DeskState, Interface, inner_of, has_failed, Serves}
 use Rattle.stream_server.proofs.stream.serve_stream.Given as goal
 
 -- what was read begins with the messages that were answered, and then what the inbox holds

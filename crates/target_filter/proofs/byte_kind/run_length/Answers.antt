@@ -1,5 +1,4 @@
-use Rattle.std.proofs.Common.{◌≡◌, sym, ap, ◌∙◌, arith, true}
-use Rattle.target_filter.proofs.Common.{list_all, take_all, take-length, drop-length, is_of}
+use Rattle.target_filter.proofs.Common.{◌≡◌, sym, ap, ◌∙◌, arith, true, list_all, take_all, take-length, drop-length, is_of}
 use Rattle.target_filter.proofs.ByteRuns.{front_to, behind_to, front_all, behind_all}
 use Rattle.target_filter.proofs.byte_kind.run_length.Goals as goal
 

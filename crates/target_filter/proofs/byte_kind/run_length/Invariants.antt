@@ -1,5 +1,4 @@
-use Rattle.std.proofs.Common.{◌≡◌, take, true}
-use Rattle.target_filter.proofs.Common.{list_all, is_of}
+use Rattle.target_filter.proofs.Common.{◌≡◌, take, true, list_all, is_of}
 use Rattle.target_filter.proofs.byte_kind.run_length.Given as goal
 
 abbrev pub invariant-loop-at : goal.invariant-loop-at

@@ -1,4 +1,4 @@
-use Rattle.std.proofs.Common.{List, ℕ, Option, sym, subst, arith}
+use Rattle.target_filter.proofs.Common.{List, ℕ, Option, sym, subst, arith}
 use Rattle.target_filter.specs.Grammar as grammar
 use Rattle.target_filter.specs.Gives.{Gives}
 use Rattle.target_filter.proofs.AtomReading.{atom_else}

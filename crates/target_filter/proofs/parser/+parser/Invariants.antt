@@ -1,4 +1,4 @@
-use Rattle.std.proofs.Common.{◌*◌, ◌+◌}
+use Rattle.target_filter.proofs.Common.{◌*◌, ◌+◌}
 use Rattle.target_filter.proofs.parser.+parser.Given as goal
 
 abbrev pub decreases-and_at : goal.decreases-and_at

@@ -1,5 +1,4 @@
-use Rattle.std.proofs.Common.{◌≡◌, ◌+◌, ap, sym, ◌∙◌, Some, None, take, drop}
-use Rattle.target_filter.proofs.Common.{pieces, after, greedy}
+use Rattle.target_filter.proofs.Common.{◌≡◌, ◌+◌, ap, sym, ◌∙◌, Some, None, take, drop, pieces, after, greedy}
 use Rattle.target_filter.proofs.GreedyMatching.{greedy_none, greedy_some}
 use Rattle.target_filter.proofs.pattern.+matches_behind.Goals as goal
 

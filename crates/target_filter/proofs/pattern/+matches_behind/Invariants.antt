@@ -1,4 +1,4 @@
-use Rattle.std.proofs.Common.{length}
+use Rattle.target_filter.proofs.Common.{length}
 use Rattle.target_filter.proofs.pattern.+matches_behind.Given as goal
 
 abbrev pub decreases-matches_behind : goal.decreases-matches_behind

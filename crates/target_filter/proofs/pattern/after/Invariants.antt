@@ -1,5 +1,4 @@
-use Rattle.std.proofs.Common.{◌≡◌, length}
-use Rattle.target_filter.proofs.Common.{after}
+use Rattle.target_filter.proofs.Common.{◌≡◌, length, after}
 use Rattle.target_filter.proofs.pattern.after.Given as goal
 
 abbrev pub invariant-loop-rest : goal.invariant-loop-rest

@@ -1,5 +1,4 @@
-use Rattle.std.proofs.Common.{◌≡◌, take, true}
-use Rattle.target_filter.proofs.Common.{list_all}
+use Rattle.target_filter.proofs.Common.{◌≡◌, take, true, list_all}
 use Rattle.target_filter.proofs.GreedyMatching.{no_star}
 use Rattle.target_filter.proofs.pattern.star_at.Given as goal
 

@@ -1,5 +1,4 @@
-use Rattle.std.proofs.Common.{◌≡◌, ◌≤◌, take, Some}
-use Rattle.target_filter.proofs.Common.{run, start, state_of}
+use Rattle.target_filter.proofs.Common.{◌≡◌, ◌≤◌, take, Some, run, start, state_of}
 use Rattle.target_filter.proofs.scanner.scan.Given as goal
 
 abbrev pub invariant-loop-at : goal.invariant-loop-at

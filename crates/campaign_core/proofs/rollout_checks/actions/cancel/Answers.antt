@@ -1,5 +1,4 @@
-use Rattle.std.proofs.Common.{refl, ◌∙◌}
-use Rattle.campaign_core.proofs.Common.{err_from_is_err_and}
+use Rattle.campaign_core.proofs.Common.{refl, ◌∙◌, err_from_is_err_and}
 use Rattle.campaign_core.proofs.ActionLemmas.{cancel_makes, cancel_row, cancels}
 use Rattle.campaign_core.proofs.rollout_checks.actions.cancel.Goals as goal
 

@@ -1,5 +1,4 @@
-use Rattle.std.proofs.Common.{refl, ◌∙◌}
-use Rattle.campaign_core.proofs.Common.{err_from_is_err_and}
+use Rattle.campaign_core.proofs.Common.{refl, ◌∙◌, err_from_is_err_and}
 use Rattle.campaign_core.proofs.FeedbackLemmas.{on_cancel, report_changes, report_row}
 use Rattle.campaign_core.proofs.rollout_checks.of_cancels.cancel_feedback.Goals as goal
 

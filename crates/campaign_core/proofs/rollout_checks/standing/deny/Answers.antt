@@ -1,5 +1,4 @@
-use Rattle.std.proofs.Common.{None}
-use Rattle.campaign_core.proofs.Common.{Denied, is_waiting, decided}
+use Rattle.campaign_core.proofs.Common.{None, Denied, is_waiting, decided}
 use Rattle.campaign_core.proofs.RolloutLemmas.{changes_rollout, word_row}
 use Rattle.campaign_core.proofs.rollout_checks.standing.deny.Goals as goal
 

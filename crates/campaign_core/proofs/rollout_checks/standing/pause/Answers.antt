@@ -1,5 +1,4 @@
-use Rattle.std.proofs.Common.{None}
-use Rattle.campaign_core.proofs.Common.{is_running, paused}
+use Rattle.campaign_core.proofs.Common.{None, is_running, paused}
 use Rattle.campaign_core.proofs.RolloutLemmas.{changes_rollout, word_row}
 use Rattle.campaign_core.proofs.rollout_checks.standing.pause.Goals as goal
 

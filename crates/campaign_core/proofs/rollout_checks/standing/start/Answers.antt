@@ -1,5 +1,4 @@
-use Rattle.std.proofs.Common.{None}
-use Rattle.campaign_core.proofs.Common.{is_ready}
+use Rattle.campaign_core.proofs.Common.{None, is_ready}
 use Rattle.campaign_core.proofs.RolloutLemmas.{starts_rollout, word_row}
 use Rattle.campaign_core.proofs.rollout_checks.standing.start.Goals as goal
 

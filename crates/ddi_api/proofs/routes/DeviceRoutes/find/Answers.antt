@@ -1,5 +1,4 @@
-use Rattle.std.proofs.Common.{◌∙◌, sym, ap}
-use Rattle.ddi_api.proofs.Common.{route_in, device_table}
+use Rattle.ddi_api.proofs.Common.{◌∙◌, sym, ap, route_in, device_table}
 use Rattle.ddi_api.proofs.Facts.{device_table_is_good, device_call-text, device_call-no_text}
 use Rattle.ddi_api.proofs.routes.DeviceRoutes.find.Goals as goal
 

@@ -1,5 +1,4 @@
-use Rattle.std.proofs.Common.{sym, ◌∙◌}
-use Rattle.desk_files.proofs.Common.{fields_of}
+use Rattle.desk_files.proofs.Common.{sym, ◌∙◌, fields_of}
 use Rattle.desk_files.proofs.StepFacts.{ids_with, takes_new, was_absent}
 use Rattle.desk_files.proofs.imported_rows.ImportedRows.take.Goals as goal
 

@@ -1,9 +1,4 @@
-use Rattle.std.proofs.Common.{rules, subst}
-use Rattle.sql_calls.proofs.Framing.{ask_frames}
-use Rattle.desk_store.proofs.Common.{AsksText, HoldsLedger}
-use Rattle.desk_store.proofs.Known.{in_ledgers}
-use Rattle.desk_store.proofs.ReadLemmas.{ask_keeps, ask_sees}
-use Rattle.desk_store.proofs.FailLemmas.{call_fails}
+use Rattle.desk_store.proofs.Answering.{rules, subst, AsksText, HoldsLedger, ask_frames, in_ledgers, ask_keeps, ask_sees, call_fails}
 use Rattle.desk_store.proofs.change.OpenChange.ask.Goals as goal
 
 pub returns-clause-stays : goal.returns-clause-stays

@@ -1,8 +1,4 @@
-use Rattle.sql_calls.proofs.Ends.{commit_is}
-use Rattle.sql_calls.proofs.FrameEnds.{commits}
-use Rattle.std.proofs.Common.{codes}
-use Rattle.desk_store.proofs.Common.{HoldsLedger}
-use Rattle.desk_store.proofs.EndLemmas.{commits_as_store}
+use Rattle.desk_store.proofs.Answering.{commit_is, commits, codes, HoldsLedger, commits_as_store}
 use Rattle.desk_store.proofs.change.OpenChange.commit.Goals as goal
 
 pub returns-clause-commits : goal.returns-clause-commits

@@ -1,14 +1,12 @@
-use Rattle.desk_store.proofs.Common.{Groups, COUNT_GROUPS, count_groups_is}
-use Rattle.desk_store.proofs.RawCalls.{count_read, counted}
-use Rattle.desk_store.proofs.RawBlames.{count_blamed}
+use Rattle.desk_store.proofs.Answering.{count_groups_is, tables_know, count_read, count_blamed, counted_at}
 use Rattle.desk_store.proofs.change.OpenChange.count_groups.Goals as goal
 
 pub returns-clause-reads : goal.returns-clause-reads
-returns-clause-reads g c = count_read Groups COUNT_GROUPS.now count_groups_is _ _ c.in_ok-row.row c.in_ok-row.ensures.takes c.counted_in.result c.counted_in.ensures.count c.counted_in.ensures.small
+returns-clause-reads g c = count_read count_groups_is _ _ c.in_ok-row.row c.in_ok-row.ensures.takes c.counted_in.result c.counted_in.ensures.count c.counted_in.ensures.small
 
 pub returns-clause-blames : goal.returns-clause-blames
 returns-clause-blames g c =
-    count_blamed g.S.Store _ _ c.in_ok-row.ensures.stays.grows.failures c.counted_in.result Groups COUNT_GROUPS.now count_groups_is c.in_ok-row.row c.counted_in.ensures.err c.in_ok-row.ensures.takes
+    count_blamed g.S.Store _ _ c.in_ok-row.ensures.stays.grows.failures c.counted_in.result count_groups_is c.in_ok-row.row c.counted_in.ensures.err c.in_ok-row.ensures.takes
 
 pub first-requires : goal.first-requires
-first-requires g c = counted Groups COUNT_GROUPS.now count_groups_is
+first-requires g c = tables_know (counted_at count_groups_is)

@@ -1,7 +1,4 @@
-use Rattle.std.proofs.Common.{◌≡◌, subst, true}
-use Rattle.desk_store.proofs.Common.{is_number}
-use Rattle.desk_store.proofs.RawCalls.{listing, place_count_read}
-use Rattle.desk_store.proofs.RawBlames.{place_count_blamed}
+use Rattle.desk_store.proofs.Answering.{◌≡◌, subst, true, is_number, list_places_is, known, place_count_read, place_count_blamed}
 use Rattle.desk_store.proofs.change.OpenChange.count_places.Goals as goal
 
 pub returns-clause-reads : goal.returns-clause-reads
@@ -11,4 +8,4 @@ pub returns-clause-blames : goal.returns-clause-blames
 returns-clause-blames g c = place_count_blamed g.S.Store _ _ c.in_ok-rows.ensures.stays.grows.failures c.row_count.result c.args.number c.in_ok-rows.rows (rw c.deref.ensures.value at c.row_count.ensures.err) (rw (c.params-to_sql.ensures, c.get.ensures.value) at c.in_ok-rows.ensures.asks)
 
 pub ask-requires : goal.ask-requires
-ask-requires g c = listing
+ask-requires g c = known list_places_is

@@ -1,9 +1,4 @@
-use Rattle.std.proofs.Common.{rules, subst}
-use Rattle.sql_calls.proofs.Framing.{few_frames}
-use Rattle.desk_store.proofs.Common.{AsksFew, HoldsLedger}
-use Rattle.desk_store.proofs.Known.{in_ledgers}
-use Rattle.desk_store.proofs.FailLemmas.{call_fails}
-use Rattle.desk_store.proofs.ReadLemmas.{few_sees}
+use Rattle.desk_store.proofs.Answering.{rules, subst, AsksFew, HoldsLedger, few_frames, in_ledgers, call_fails, few_sees}
 use Rattle.desk_store.proofs.change.OpenChange.few.Goals as goal
 
 pub returns-clause-stays : goal.returns-clause-stays

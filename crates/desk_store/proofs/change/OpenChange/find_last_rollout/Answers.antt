@@ -1,7 +1,4 @@
-use Rattle.desk_store.proofs.RawCalls.{last_read}
-use Rattle.desk_store.proofs.RolloutCalls.{ending}
-use Rattle.desk_store.proofs.RawBlames.{last_blamed}
-use Rattle.desk_store.proofs.Known.{known}
+use Rattle.desk_store.proofs.Answering.{last_rollout_is, last_read, last_blamed, known}
 use Rattle.desk_store.proofs.change.OpenChange.find_last_rollout.Goals as goal
 
 pub returns-clause-reads : goal.returns-clause-reads
@@ -12,4 +9,4 @@ returns-clause-blames g c =
     last_blamed g.S.Store _ _ c.in_ok-row.ensures.stays.grows.failures c.last_number.result c.in_ok-row.row c.last_number.ensures.err c.in_ok-row.ensures.takes
 
 pub first-requires : goal.first-requires
-first-requires g c = known ending
+first-requires g c = known last_rollout_is

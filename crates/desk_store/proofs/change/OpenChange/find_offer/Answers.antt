@@ -1,9 +1,4 @@
-use Rattle.std.proofs.Common.{◌≡◌, true, subst}
-use Rattle.desk_store.proofs.Common.{is_word}
-use Rattle.desk_store.proofs.ActionCalls.{offered}
-use Rattle.desk_store.proofs.RawFinds.{offer_read}
-use Rattle.desk_store.proofs.RawBlames.{offer_blamed}
-use Rattle.desk_store.proofs.Known.{known}
+use Rattle.desk_store.proofs.Answering.{◌≡◌, true, subst, is_word, get_offer_is, offer_read, offer_blamed, known}
 use Rattle.desk_store.proofs.change.OpenChange.find_offer.Goals as goal
 
 pub returns-clause-reads : goal.returns-clause-reads
@@ -13,4 +8,4 @@ pub returns-clause-blames : goal.returns-clause-blames
 returns-clause-blames g c = offer_blamed g.S.Store _ _ c.in_ok-rows.rows c.in_ok-rows.ensures.stays.grows.failures c.read_at.result c.args.id.now (rw c.deref.ensures.value at c.read_at.ensures.err) (rw (c.params-to_sql.ensures, c.as_str.ensures.value) at c.in_ok-rows.ensures.asks)
 
 pub few-requires : goal.few-requires
-few-requires g c = known offered
+few-requires g c = known get_offer_is

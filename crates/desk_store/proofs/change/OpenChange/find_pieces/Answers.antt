@@ -1,7 +1,5 @@
-use Rattle.desk_store.proofs.ArtifactCalls.{taking}
+use Rattle.desk_store.proofs.Answering.{get_piece_is, pieces_blamed, known}
 use Rattle.desk_store.proofs.RawPieces.{pieces_read}
-use Rattle.desk_store.proofs.RawBlames.{pieces_blamed}
-use Rattle.desk_store.proofs.Known.{known}
 use Rattle.desk_store.proofs.change.OpenChange.find_pieces.Goals as goal
 
 pub returns-clause-reads : goal.returns-clause-reads
@@ -11,4 +9,4 @@ pub returns-clause-blames : goal.returns-clause-blames
 returns-clause-blames g c = pieces_blamed g.S.Store _ _ c.in_ok-rows.rows c.in_ok-rows.ensures.stays.grows.failures c.read_all.result c.args.number c.args.place (rw c.deref.ensures.value at c.read_all.ensures.err) (rw (c.params-to_sql.ensures, c.params-to_sql-2.ensures, c.get.ensures.value) at c.in_ok-rows.ensures.asks)
 
 pub ask-requires : goal.ask-requires
-ask-requires g c = known taking
+ask-requires g c = known get_piece_is

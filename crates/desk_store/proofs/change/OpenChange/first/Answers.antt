@@ -1,9 +1,4 @@
-use Rattle.std.proofs.Common.{rules, subst}
-use Rattle.sql_calls.proofs.Framing.{first_frames}
-use Rattle.desk_store.proofs.Common.{TakesFirst, HoldsLedger}
-use Rattle.desk_store.proofs.Known.{in_ledgers}
-use Rattle.desk_store.proofs.ReadLemmas.{first_keeps, first_sees}
-use Rattle.desk_store.proofs.FailLemmas.{call_counts, call_fails}
+use Rattle.desk_store.proofs.Answering.{rules, subst, TakesFirst, HoldsLedger, first_frames, in_ledgers, first_keeps, first_sees, call_counts, call_fails}
 use Rattle.desk_store.proofs.change.OpenChange.first.Goals as goal
 
 pub returns-clause-stays : goal.returns-clause-stays

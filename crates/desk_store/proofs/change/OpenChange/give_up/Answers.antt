@@ -1,8 +1,4 @@
-use Rattle.sql_calls.proofs.Ends.{rollback_is}
-use Rattle.sql_calls.proofs.FrameEnds.{gives_up}
-use Rattle.std.proofs.Common.{codes}
-use Rattle.desk_store.proofs.Common.{HoldsLedger}
-use Rattle.desk_store.proofs.EndLemmas.{errors_as_store, gives_up_as_store}
+use Rattle.desk_store.proofs.Answering.{rollback_is, gives_up, codes, HoldsLedger, errors_as_store, gives_up_as_store}
 use Rattle.desk_store.proofs.change.OpenChange.give_up.Goals as goal
 
 pub returns-clause-gives_up : goal.returns-clause-gives_up

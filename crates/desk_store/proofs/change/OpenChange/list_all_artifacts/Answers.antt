@@ -1,5 +1,4 @@
-use Rattle.desk_store.proofs.RawLists.{artifacts_known, artifacts_read}
-use Rattle.desk_store.proofs.RawBlames.{artifacts_blamed}
+use Rattle.desk_store.proofs.Answering.{list_all_artifacts_is, known, artifacts_read, artifacts_blamed}
 use Rattle.desk_store.proofs.change.OpenChange.list_all_artifacts.Goals as goal
 
 pub returns-clause-reads : goal.returns-clause-reads
@@ -10,4 +9,4 @@ returns-clause-blames g c =
     artifacts_blamed g.S.Store _ _ c.in_ok-rows.rows c.in_ok-rows.ensures.stays.grows.failures c.read_checked.result (rw c.deref.ensures.value at c.read_checked.ensures.err) c.in_ok-rows.ensures.asks
 
 pub ask-requires : goal.ask-requires
-ask-requires g c = artifacts_known
+ask-requires g c = known list_all_artifacts_is

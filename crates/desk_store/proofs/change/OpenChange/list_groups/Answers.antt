@@ -1,9 +1,4 @@
-use Rattle.std.proofs.Common.{◌≡◌, subst, true}
-use Rattle.desk_store.proofs.Common.{is_number}
-use Rattle.desk_store.proofs.RawLists.{groups_read}
-use Rattle.desk_store.proofs.RolloutCalls.{listing}
-use Rattle.desk_store.proofs.RawBlames.{groups_blamed}
-use Rattle.desk_store.proofs.Known.{known}
+use Rattle.desk_store.proofs.Answering.{◌≡◌, subst, true, is_number, list_groups_is, groups_read, groups_blamed, known}
 use Rattle.desk_store.proofs.change.OpenChange.list_groups.Goals as goal
 
 pub returns-clause-reads : goal.returns-clause-reads
@@ -13,4 +8,4 @@ pub returns-clause-blames : goal.returns-clause-blames
 returns-clause-blames g c = groups_blamed g.S.Store _ _ c.in_ok-rows.rows c.in_ok-rows.ensures.stays.grows.failures c.read_checked.result c.args.number (rw c.deref.ensures.value at c.read_checked.ensures.err) (rw (c.params-to_sql.ensures, c.get.ensures.value) at c.in_ok-rows.ensures.asks)
 
 pub ask-requires : goal.ask-requires
-ask-requires g c = known listing
+ask-requires g c = known list_groups_is

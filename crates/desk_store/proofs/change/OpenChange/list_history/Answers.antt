@@ -1,7 +1,4 @@
-use Rattle.desk_store.proofs.ActionCalls.{listing_entries}
-use Rattle.desk_store.proofs.RawLists.{history_in_order, history_read}
-use Rattle.desk_store.proofs.RawBlames.{history_blamed}
-use Rattle.desk_store.proofs.Known.{known}
+use Rattle.desk_store.proofs.Answering.{list_entries_is, history_in_order, history_read, history_blamed, known}
 use Rattle.desk_store.proofs.change.OpenChange.list_history.Goals as goal
 
 pub returns-clause-reads : goal.returns-clause-reads
@@ -14,4 +11,4 @@ pub returns-clause-blames : goal.returns-clause-blames
 returns-clause-blames g c = history_blamed g.S.Store _ _ c.in_ok-rows.rows c.in_ok-rows.ensures.stays.grows.failures c.read_all.result c.args.number (rw c.deref.ensures.value at c.read_all.ensures.err) (rw (c.params-to_sql.ensures, c.params-to_sql-2.ensures, c.params-to_sql-3.ensures, c.get.ensures.value) at c.in_ok-rows.ensures.asks)
 
 pub ask-requires : goal.ask-requires
-ask-requires g c = known listing_entries
+ask-requires g c = known list_entries_is

@@ -1,7 +1,4 @@
-use Rattle.desk_store.proofs.NumberCalls.{listing_numbers}
-use Rattle.desk_store.proofs.RawLists.{numbers_read}
-use Rattle.desk_store.proofs.RawBlames.{numbers_blamed}
-use Rattle.desk_store.proofs.Known.{known}
+use Rattle.desk_store.proofs.Answering.{list_numbers_is, numbers_read, numbers_blamed, known}
 use Rattle.desk_store.proofs.change.OpenChange.list_numbers.Goals as goal
 
 pub returns-clause-reads : goal.returns-clause-reads
@@ -11,4 +8,4 @@ pub returns-clause-blames : goal.returns-clause-blames
 returns-clause-blames g c = numbers_blamed g.S.Store _ _ c.in_ok-rows.rows c.in_ok-rows.ensures.stays.grows.failures c.read_all.result c.args.action (rw c.deref.ensures.value at c.read_all.ensures.err) (rw (c.params-to_sql.ensures, c.get.ensures.value) at c.in_ok-rows.ensures.asks)
 
 pub ask-requires : goal.ask-requires
-ask-requires g c = known listing_numbers
+ask-requires g c = known list_numbers_is

@@ -1,8 +1,4 @@
-use Rattle.std.proofs.Common.{◌≡◌, [], ◌∷◌, pos, suc, ◌-◌, subst, ◌≤◌, Ok, arith}
-use Rattle.desk_store.proofs.Common.{nat_tests, Int, state, TakesFirst, LIST_ENTRIES}
-use Rattle.desk_store.proofs.ActionCalls.{entry_read, listing_entries}
-use Rattle.desk_store.proofs.Known.{known}
-use Rattle.desk_store.proofs.FailLemmas.{first_fails}
+use Rattle.desk_store.proofs.Answering.{◌≡◌, [], ◌∷◌, pos, suc, ◌-◌, subst, ◌≤◌, Ok, arith, nat_tests, Int, state, TakesFirst, LIST_ENTRIES, list_entries_is, entry_read, known, first_fails}
 use Rattle.desk_store.proofs.change.OpenChange.read_entry.Goals as goal
 
 pub returns-clause-reads : goal.returns-clause-reads
@@ -13,7 +9,7 @@ returns-clause-reads g c =
     entry_read c.args.number c.args.sequence (c.args.sequence - 1) (subst (λ n. 1 ≤ n) c.get.ensures.value c.get.ensures.least) behind _ _ c.in_ok-row.row it c.read_optional.result c.read_optional.ensures.ok
 
 pub returns-clause-fails : goal.returns-clause-fails
-returns-clause-fails g c = first_fails listing_entries _ (λ params row kept is. kept is) _ c.in_ok-row.ensures.stays.grows.failures c.in_ok-row.row c.in_ok-row.ensures.takes c.read_optional.result c.read_optional.ensures.err
+returns-clause-fails g c = first_fails list_entries_is _ (λ params row kept is. kept is) _ c.in_ok-row.ensures.stays.grows.failures c.in_ok-row.row c.in_ok-row.ensures.takes c.read_optional.result c.read_optional.ensures.err
 
 pub first-requires : goal.first-requires
-first-requires g c = known listing_entries
+first-requires g c = known list_entries_is

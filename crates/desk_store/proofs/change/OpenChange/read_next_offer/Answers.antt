@@ -1,5 +1,5 @@
+use Rattle.desk_store.proofs.Answering.{next_fails}
 use Rattle.desk_store.proofs.NextOfferCalls.{next, next_offer_read}
-use Rattle.desk_store.proofs.RowFails.{next_fails}
 use Rattle.desk_store.proofs.change.OpenChange.read_next_offer.Goals as goal
 
 pub returns-clause-reads : goal.returns-clause-reads

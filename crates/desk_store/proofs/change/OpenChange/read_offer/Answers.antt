@@ -1,13 +1,12 @@
-use Rattle.desk_store.proofs.ActionCalls.{offer_read, offered}
-use Rattle.desk_store.proofs.Known.{known}
-use Rattle.desk_store.proofs.FailLemmas.{first_fails}
+use Rattle.desk_store.proofs.Answering.{get_offer_is, known, first_fails}
+use Rattle.desk_store.proofs.ActionCalls.{offer_read}
 use Rattle.desk_store.proofs.change.OpenChange.read_offer.Goals as goal
 
 pub returns-clause-reads : goal.returns-clause-reads
 returns-clause-reads g c = offer_read c.args.id.now _ _ c.in_ok-row.row (rw (c.params-to_sql.ensures, c.as_str.ensures.value) at c.in_ok-row.ensures.takes) c.read_optional.result c.read_optional.ensures.ok
 
 pub returns-clause-fails : goal.returns-clause-fails
-returns-clause-fails g c = first_fails offered _ (λ params row kept is. kept is) _ c.in_ok-row.ensures.stays.grows.failures c.in_ok-row.row c.in_ok-row.ensures.takes c.read_optional.result c.read_optional.ensures.err
+returns-clause-fails g c = first_fails get_offer_is _ (λ params row kept is. kept is) _ c.in_ok-row.ensures.stays.grows.failures c.in_ok-row.row c.in_ok-row.ensures.takes c.read_optional.result c.read_optional.ensures.err
 
 pub first-requires : goal.first-requires
-first-requires g c = known offered
+first-requires g c = known get_offer_is

@@ -1,14 +1,11 @@
-use Rattle.std.proofs.Common.{subst, ◌≤◌}
-use Rattle.desk_store.proofs.RolloutCalls.{listing_rules, rules_read}
-use Rattle.desk_store.proofs.Known.{known}
-use Rattle.desk_store.proofs.FailLemmas.{all_fails}
+use Rattle.desk_store.proofs.Answering.{subst, ◌≤◌, list_rules_is, rules_read, known, all_fails}
 use Rattle.desk_store.proofs.change.OpenChange.read_rules.Goals as goal
 
 pub returns-clause-reads : goal.returns-clause-reads
 returns-clause-reads g c = rules_read c.args.number (subst (λ n. 1 ≤ n) c.get.ensures.value c.get.ensures.least) _ _ c.in_ok-rows.rows (rw (c.params-to_sql.ensures, c.get.ensures.value) at c.in_ok-rows.ensures.asks) c.read_all.result (rw c.deref.ensures.value at c.read_all.ensures.ok)
 
 pub returns-clause-fails : goal.returns-clause-fails
-returns-clause-fails g c = all_fails listing_rules _ (λ params row kept is. kept is) _ c.in_ok-rows.ensures.stays.grows.failures c.in_ok-rows.rows c.read_all.result (rw c.deref.ensures.value at c.read_all.ensures.err) c.in_ok-rows.ensures.asks
+returns-clause-fails g c = all_fails list_rules_is _ (λ params row kept is. kept is) _ c.in_ok-rows.ensures.stays.grows.failures c.in_ok-rows.rows c.read_all.result (rw c.deref.ensures.value at c.read_all.ensures.err) c.in_ok-rows.ensures.asks
 
 pub ask-requires : goal.ask-requires
-ask-requires g c = known listing_rules
+ask-requires g c = known list_rules_is

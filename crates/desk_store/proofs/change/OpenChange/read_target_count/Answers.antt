@@ -1,5 +1,5 @@
-use Rattle.desk_store.proofs.TargetCalls.{count_read, counting}
-use Rattle.desk_store.proofs.RowFails.{count_fails}
+use Rattle.desk_store.proofs.Answering.{count_targets_is, tables_know, count_fails, counted_at}
+use Rattle.desk_store.proofs.TargetCalls.{count_read}
 use Rattle.desk_store.proofs.change.OpenChange.read_target_count.Goals as goal
 
 pub returns-clause-reads : goal.returns-clause-reads
@@ -9,4 +9,4 @@ pub returns-clause-fails : goal.returns-clause-fails
 returns-clause-fails g c = count_fails c.in_ok-row.ensures.stays.grows.failures c.in_ok-row.row c.in_ok-row.ensures.takes c.counted_in.result c.counted_in.ensures.err
 
 pub first-requires : goal.first-requires
-first-requires g c = counting
+first-requires g c = tables_know (counted_at count_targets_is)

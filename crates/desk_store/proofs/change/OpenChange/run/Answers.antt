@@ -1,7 +1,4 @@
-use Rattle.std.proofs.Common.{rules}
-use Rattle.sql_calls.proofs.Framing.{run_frames}
-use Rattle.desk_store.proofs.Common.{HoldsLedger}
-use Rattle.desk_store.proofs.FailLemmas.{call_counts}
+use Rattle.desk_store.proofs.Answering.{rules, HoldsLedger, run_frames, call_counts}
 use Rattle.desk_store.proofs.change.OpenChange.run.Goals as goal
 
 pub returns-clause-stays : goal.returns-clause-stays

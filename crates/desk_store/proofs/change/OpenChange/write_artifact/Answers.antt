@@ -1,6 +1,4 @@
-use Rattle.std.proofs.Common.{◌∷◌, pos}
-use Rattle.desk_store.proofs.Common.{Int, state, RunsText, PUT_ARTIFACT, told_of, artifact_filed}
-use Rattle.desk_store.proofs.ArtifactCalls.{artifact_written, putting}
+use Rattle.desk_store.proofs.Answering.{refl, ◌∷◌, pos, Int, state, RunsText, PUT_ARTIFACT, told_of, artifact_filed, put_artifact_is, ledger_writes, artifact_written, put_at}
 use Rattle.desk_store.proofs.change.OpenChange.write_artifact.Goals as goal
 
 pub returns-clause-writes : goal.returns-clause-writes
@@ -22,4 +20,4 @@ returns-clause-writes g c =
     artifact_written c.args.number c.args.module_number c.args.filename.now c.args.size c.args.digest.now _ _ c.run.result ran
 
 pub run-requires : goal.run-requires
-run-requires g c = putting
+run-requires g c = ledger_writes (put_at put_artifact_is) (λ at tree. refl)

@@ -1,7 +1,5 @@
-use Rattle.std.proofs.Common.{◌≡◌, ℕ, pos, Option, Some, None, refl}
-use Rattle.desk_store.proofs.Common.{state, bound_value, or_null, Int, RunsText, rule_row, PUT_RULE}
+use Rattle.desk_store.proofs.Answering.{◌≡◌, ℕ, pos, Option, Some, None, refl, state, bound_value, or_null, Int, RunsText, rule_row, PUT_RULE, put_rule_is, ledger_writes, rule_written, put_at}
 use Rattle.sqlite_value.specs.Value.{owned}
-use Rattle.desk_store.proofs.WriteCalls.{knows_put_rule, rule_written}
 use Rattle.desk_store.proofs.change.OpenChange.write_rule.Goals as goal
 
 -- a number or NULL is bound as it is
@@ -17,4 +15,4 @@ returns-clause-writes g c =
     rule_written c.args.number c.args.group c.args.rule.now _ _ c.run.result ran
 
 pub run-requires : goal.run-requires
-run-requires g c = knows_put_rule
+run-requires g c = ledger_writes (put_at put_rule_is) (λ at tree. refl)

@@ -1,7 +1,4 @@
-use Rattle.std.proofs.Common.{refl}
-use Rattle.desk_store.proofs.Common.{state, Begins, Keeps, HoldsLedger, HoldsTables}
-use Rattle.sql_calls.proofs.Ends.{begin_is}
-use Rattle.sql_calls.proofs.FrameEnds.{begins, fails_to_begin}
+use Rattle.desk_store.proofs.Answering.{refl, state, Begins, Keeps, HoldsLedger, HoldsTables, begin_is, begins, fails_to_begin}
 use Rattle.desk_store.specs.Texts.{begin_text}
 use Rattle.desk_store.proofs.store.DeskStore.begin.Goals as goal
 

@@ -1,5 +1,4 @@
-use Rattle.std.proofs.Common.{◌≡◌, ◌≤◌, ◌^◌, true, false, length, Err, sym, ap, ◌∙◌, arith}
-use Rattle.desk_verify.proofs.Common.{finds_as, Store, is_of, Members, blamed, follow}
+use Rattle.desk_verify.proofs.Common.{◌≡◌, ◌≤◌, ◌^◌, true, false, length, Err, sym, ap, ◌∙◌, arith, finds_as, Store, is_of, Members, blamed, follow}
 use Rattle.desk_verify.proofs.Causes.{listed_many}
 use Rattle.desk_verify.proofs.Follow.{breaks, differs}
 use Rattle.desk_verify.proofs.MemberLemmas.{fits}

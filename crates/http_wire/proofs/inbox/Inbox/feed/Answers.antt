@@ -1,6 +1,5 @@
-use Rattle.std.proofs.Common.{◌≡◌, ◌++◌, List, ℕ, subst, rules, arith}
+use Rattle.http_wire.proofs.Common.{◌≡◌, ◌++◌, List, ℕ, subst, rules, arith, Begins, IsFault}
 use Rattle.std.proofs.lemmas.Grind.{common_steps}
-use Rattle.http_wire.proofs.Common.{Begins, IsFault}
 use Rattle.http_wire.proofs.MessageLemmas.{begins_append, fault_append}
 use Rattle.http_wire.proofs.inbox.Inbox.feed.Goals as goal
 

@@ -1,5 +1,4 @@
-use Rattle.std.proofs.Common.{◌≡◌, ℕ, ◌+◌, ◌-◌, ◌<◌, List, length, take, drop, sym, ap, refl, ◌∙◌, subst, Some, None, Ok, Err, arith}
-use Rattle.http_wire.proofs.Common.{drop-drop, take_rest, length-drop, WireMessage, IsMessage, IsFault, IsUndecided}
+use Rattle.http_wire.proofs.Common.{◌≡◌, ℕ, ◌+◌, ◌-◌, ◌<◌, List, length, take, drop, sym, ap, refl, ◌∙◌, subst, Some, None, Ok, Err, arith, drop-drop, take_rest, length-drop, WireMessage, IsMessage, IsFault, IsUndecided}
 use Rattle.http_wire.proofs.MessageLemmas.{hands_out, undecided_yet}
 use Rattle.http_wire.proofs.inbox.Inbox.next.Goals as goal
 

@@ -1,4 +1,4 @@
-use Rattle.std.proofs.Common.{rules}
+use Rattle.rollout_machine.proofs.Common.{rules}
 use Rattle.std.proofs.lemmas.Str.{is_utf8-from_IsUtf8}
 use Rattle.rollout_machine.proofs.well_formed.rollouts.plan_is_well_formed.Goals as goal
 

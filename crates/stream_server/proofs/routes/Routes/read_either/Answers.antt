@@ -1,5 +1,4 @@
-use Rattle.std.proofs.Common.{◌≡◌, ◌⊎◌, ℕ, List, None, IfOk, IfErr, sym, subst}
-use Rattle.stream_server.proofs.Common.{message_of, NoMemory, Asked, Asks, Rejected, manage_route}
+use Rattle.stream_server.proofs.Common.{◌≡◌, ◌⊎◌, ℕ, List, None, IfOk, IfErr, sym, subst, message_of, NoMemory, Asked, Asks, Rejected, manage_route}
 use Rattle.rollout_machine.specs.Views.{request_of}
 use Rattle.stream_server.proofs.RouteLemmas.{as_of_device}
 use Rattle.stream_server.proofs.routes.Routes.read_either.Goals as goal

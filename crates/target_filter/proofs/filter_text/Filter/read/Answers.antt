@@ -1,5 +1,4 @@
-use Rattle.std.proofs.Common.{List, ℕ, inr, subst, arith}
-use Rattle.target_filter.proofs.Common.{Stops, Ends}
+use Rattle.target_filter.proofs.Common.{List, ℕ, inr, subst, arith, Stops, Ends}
 use Rattle.target_filter.proofs.Refusals.{syntax, too_deep, in_profile, outside_none, deep_none, within_fault}
 use Rattle.target_filter.proofs.filter_text.Filter.read.Goals as goal
 
