@@ -1,6 +1,5 @@
 -- From the calls of the store to one request of a desk.
-use Rattle.std.proofs.Common.{◌≡◌, ◌≢◌, ◌⊎◌, inl, inr, Bool, false, Option, Some, None, Ok, refl, sym, subst, ap, ◌∙◌, arith}
-use Rattle.rollout_desk.proofs.Common.{cases_Bool, false≢true, Trees, State, HasCleanDisk, HoldIn, IsAtRest, Rests, Doubts, Begins, Keeps, Finds, Opens, Sees, Spoiled, Wears, Answer, answer, query_reply, CommandList, ◌▸◌, followed_by, Command, Records, records, step_records, Reply, Refused, Request, Do, Ask, Query, Asks, one, StandsFor, Becomes, AppliesAt, IsValid, reply_of, query_answer, refused_answer, accepted_step, records_step, answer_never_stores, failed_true, Refusal, StoreFailed, NoMemory, HoldsList, desk_state_at, rest_shows, Fault, Memory, Store, is_failed_store, refusal_of_fault, Handles, EndsByCommit, EndsByRollback, HoldsLedger, HoldsRecords, Ledger, ledger_of, HoldsReadable}
+use Rattle.rollout_desk.proofs.Common.{◌≡◌, ◌≢◌, ◌⊎◌, inl, inr, Bool, false, Option, Some, None, Ok, refl, sym, subst, ap, ◌∙◌, arith, cases_Bool, false≢true, Trees, State, HasCleanDisk, HoldIn, IsAtRest, Rests, Doubts, Begins, Keeps, Finds, Opens, Sees, Spoiled, Wears, Answer, answer, query_reply, CommandList, ◌▸◌, followed_by, Command, Records, records, step_records, Reply, Refused, Request, Do, Ask, Query, Asks, one, StandsFor, Becomes, AppliesAt, IsValid, reply_of, query_answer, refused_answer, accepted_step, records_step, answer_never_stores, failed_true, Refusal, StoreFailed, NoMemory, HoldsList, desk_state_at, rest_shows, Fault, Memory, Store, is_failed_store, refusal_of_fault, Handles, EndsByCommit, EndsByRollback, HoldsLedger, HoldsRecords, Ledger, ledger_of, HoldsReadable}
 use Rattle.rollout_model.specs.declared.request.Reply as model
 use Rattle.rollout_machine.specs.CommandRules.{IsWellFormed}
 use Rattle.rollout_machine.specs.Verdicts.{check}

@@ -1,6 +1,5 @@
 -- Why a request's failed store is a call that failed: what was blamed inside its change, and how the change ended.
-use Rattle.std.proofs.Common.{◌≡◌, ◌≢◌, ◌≤◌, ◌⊎◌, inl, inr, Bool, false, Option, Some, None, Ok, refl, sym, subst, ap, ◌∙◌, arith}
-use Rattle.rollout_desk.proofs.Common.{state, Ghosts, State, HasCleanDisk, Begins, Finds, Sees, Wears, Fault, rest_shows, HoldsLedger, HoldsRecords, Ledger, ledger_of, OpenChange, Answer, answer, CommandList, Command, records, Reply, Refused, Refusal, Request, Do, Ask, Query, Asks, query_reply, reply_of, query_answer, refused_answer, accepted_step, IsValid, StandsFor, StoreFailed, answer_never_stores, refusal_of_fault, desk_state_at}
+use Rattle.rollout_desk.proofs.Common.{Result, ◌≡◌, ◌≢◌, ◌≤◌, ◌⊎◌, inl, inr, Bool, false, Option, Some, None, Ok, refl, sym, subst, ap, ◌∙◌, arith, state, Ghosts, State, HasCleanDisk, Begins, Finds, Sees, Wears, Fault, rest_shows, HoldsLedger, HoldsRecords, Ledger, ledger_of, OpenChange, Answer, answer, CommandList, Command, records, Reply, Refused, Refusal, Request, Do, Ask, Query, Asks, query_reply, reply_of, query_answer, refused_answer, accepted_step, IsValid, StandsFor, StoreFailed, answer_never_stores, refusal_of_fault, desk_state_at, Err, Store}
 use Rattle.rollout_model.specs.declared.request.Reply as model
 use Rattle.sql_calls.specs.declared.calls.Calls.{Calls}
 use Rattle.desk_commands.specs.Steps.{Steps}
@@ -19,23 +18,30 @@ use Rattle.rollout_desk.proofs.VerifyLemmas.{failed_within, stored}
 pub never_answered : (h : CommandList) (request : Request) (made : Reply) (accepted : Option Command) → record { reply = made; accepted = accepted } ≡ answer h (Asks request) → made ≢ Refused StoreFailed
 never_answered h request made accepted is failed = answer_never_stores h request (ap (λ (a : Answer). a.reply) (sym is) ∙ failed)
 
+-- the fault of a reply, or of a result, that says that the store failed
+pub told_reply : (fault : Fault) (made : Reply) → made ≡ Refused (refusal_of_fault fault) → made ≡ Refused StoreFailed → fault ≡ Store
+told_reply fault made named is = stored fault (let told : Refused (refusal_of_fault fault) ≡ Refused StoreFailed = sym named ∙ is in cc)
+
+pub told_result : {A : Type 0} (fault : Fault) (refusal : Refusal) → refusal ≡ refusal_of_fault fault → ◌≡◌ {A = Result A Refusal} (Err refusal) (Err StoreFailed) → fault ≡ Store
+told_result fault refusal named is = stored fault (let same : refusal ≡ StoreFailed = cc in sym named ∙ same)
+
 module _ {S : Type 0} (g : Ghosts S) (old : Calls S) (begun read : OpenChange S) (end : Calls S) (begins : Begins HoldsLedger (state g old.conn) (seen_in g begun))
     (wears : Wears (seen_in g read) (state g end.conn)) (grew : old.failures ≤ begun.store.now.calls.failures) (rose : begun.store.now.calls.failures ≤ read.store.now.calls.failures) (ended : read.store.now.calls.failures ≤ end.failures) where
   shown : (h : CommandList) → StandsFor (desk_state_at HoldsRecords false (state g old.conn)) h → Sees HoldsLedger (seen_in g begun) (ledger_of (records h))
   shown h stands = begins.sees (ledger_of (records h)) (rest_shows HoldsLedger (state g old.conn) _ (stood (state g old.conn) h stands))
 
-  -- a fault inside
-  pub failed_inside : (Given : Ledger → Type 0) (fault : Fault) (made reply : Reply) → made ≡ Refused (refusal_of_fault fault) → ((sight : Sight) → HasSight g begun sight → Given sight.ledger → HasCall g read sight.failed fault)
-      → ((h : CommandList) → IsValid h → AreCounted (records h) → Given (ledger_of (records h))) → (reply ≡ made) ⊎ HasFailed read.store.now.calls.failures end.failures → reply ≡ Refused StoreFailed → FailsByCalls g old end
+  -- a fault inside, told by what was made of it
+  pub failed_inside : {R : Type 0} {store : R} (Given : Ledger → Type 0) (fault : Fault) (made reply : R) → (made ≡ store → fault ≡ Store) → ((sight : Sight) → HasSight g begun sight → Given sight.ledger → HasCall g read sight.failed fault)
+      → ((h : CommandList) → IsValid h → AreCounted (records h) → Given (ledger_of (records h))) → (reply ≡ made) ⊎ HasFailed read.store.now.calls.failures end.failures → reply ≡ store → FailsByCalls g old end
   failed_inside Given fault made reply named fails given (inr failed) is h clean counted stands = failed_within (omega (arith, grew, rose)) failed (omega arith)
   failed_inside Given fault made reply named fails given (inl same) is h clean counted stands =
       let sight : Sight = record { ledger = ledger_of (records h); readable = readable h stands.valid counted; failed = old.failures } in
       let call = fails sight (record { sees = shown h stands; before = record { failures = grew } }) (given h stands.valid counted) in
-      failed_within (omega arith) (call.call (stored fault (let told : Refused (refusal_of_fault fault) ≡ Refused StoreFailed = sym named ∙ sym same ∙ is in cc)) (omega (arith, clean, wears))) ended
+      failed_within (omega arith) (call.call (named (sym same ∙ is)) (omega (arith, clean, wears))) ended
 
-  -- a reply that the machine gives
-  pub well_inside : (made reply : Reply) → ((h : CommandList) → IsValid h → Sees HoldsLedger (seen_in g begun) (ledger_of (records h)) → HasCleanDisk (seen_in g read) → made ≢ Refused StoreFailed)
-      → (reply ≡ made) ⊎ HasFailed read.store.now.calls.failures end.failures → reply ≡ Refused StoreFailed → FailsByCalls g old end
+  -- what was made tells of no fault
+  pub well_inside : {R : Type 0} {store : R} (made reply : R) → ((h : CommandList) → IsValid h → Sees HoldsLedger (seen_in g begun) (ledger_of (records h)) → HasCleanDisk (seen_in g read) → made ≢ store)
+      → (reply ≡ made) ⊎ HasFailed read.store.now.calls.failures end.failures → reply ≡ store → FailsByCalls g old end
   well_inside made reply never (inr failed) is h clean counted stands = failed_within (omega (arith, grew, rose)) failed (omega arith)
   well_inside made reply never (inl same) is h clean counted stands = absurd (never h stands.valid (shown h stands) (omega (arith, clean, wears)) (sym same ∙ is))
 

@@ -1,5 +1,6 @@
 -- The names of other modules that the proofs here cite, passed on from one place. Declares nothing.
-pub use Rattle.std.proofs.lemmas.Bool.{and_parts, cases_Bool, eqb-true, false≢true}
+pub use Rattle.std.proofs.Common.{All, Bool, Contains, Err, IfErr, IfOk, IsTrue, List, None, Ok, Option, Result, Some, Vec, [], add-one, ap, append-nil, arith, cond, drop, false, find, get_or, inl, inr, is_some, length, length-drop, length-take, map, min, nat_eq, not, refl, rules, slice_get, subst, suc, sym, take, true, vec_capacity, vec_len, zero, ℕ, ◌&&◌, ◌*◌, ◌++◌, ◌+◌, ◌-◌, ◌<◌, ◌||◌, ◌∙◌, ◌∷◌, ◌≡◌, ◌≢◌, ◌≤◌, ◌⊎◌}
+pub use Rattle.std.proofs.lemmas.Bool.{and_parts, cases_Bool, eqb-true, false≢true, not-true, or_right}
 pub use Rattle.std.specs.Option.{option_map, unwrap_or}
 pub use Rattle.std.specs.declared.alloc.Global.{Global}
 pub use Rattle.sqlite.specs.Effect.{Database}
@@ -31,7 +32,7 @@ pub use Rattle.rollout_machine.specs.Standing.{Applies, AppliesAt, Becomes, Desk
 pub use Rattle.rollout_machine.specs.StoreFailures.{is_failed_store, is_store}
 pub use Rattle.rollout_machine.specs.Validity.{IsValid}
 pub use Rattle.rollout_machine.specs.Views.{command_of, query_of, reply_of, request_of}
-pub use Rattle.contents_handler.specs.Downloads.{BeginsAt, HandsPieces, next_length, sent}
+pub use Rattle.contents_handler.specs.Downloads.{BeginsAt, HandsPieces, Sends, next_length, sent}
 pub use Rattle.sql_calls.proofs.FrameEnds.{rest_shows}
 pub use Rattle.sql_calls.specs.Standing.{Begins, Doubts, Finds, HoldIn, IsAtRest, Keeps, Opens, Rests, Sees, Spoiled, Wears}
 pub use Rattle.sql_calls.specs.declared.fault.Fault.{Fault}
@@ -53,3 +54,7 @@ pub use Rattle.rollout_desk.specs.Promises.{Describes, DownloadsItsOffer, IsProm
 pub use Rattle.rollout_desk.specs.Runs.{BreaksOff, EndsRun, Exchange, GoesOn, IsRun, RunsThrough, accepted_in}
 pub use Rattle.rollout_desk.specs.Sizes.{AnswersIn, KeepsSizes}
 pub use Rattle.rollout_desk.specs.Verifying.{FindsDamage, HasCause, IsNeverDamaged}
+pub use Rattle.rollout_machine.specs.Objects.{artifacts_shown}
+pub use Rattle.rollout_machine.specs.Offers.{offer}
+pub use Rattle.std.specs.List.{list_any}
+pub use Rattle.rollout_machine.specs.Verdicts.{is_known}

@@ -1,8 +1,7 @@
 -- From what a crash leaves of a desk's files to the desk that is reopened over it.
-use Rattle.std.proofs.Common.{◌≡◌, Bool, IsTrue, sym, subst, ◌∙◌, arith}
+use Rattle.rollout_desk.proofs.Common.{◌≡◌, Bool, IsTrue, sym, subst, ◌∙◌, arith, Files, Image, Trees, AreClean, FileStore, files, recovers, view, faults, is_shielded, Held, AreDatabases, State, HoldsDatabase, file_state, HoldsRecords, desk_state_at, AllHold, GoesOnOver}
 use Rattle.std.proofs.Math.Logic.{∥∥₁_map}
 use Rattle.sqlite_disk.specs.declared.Disk.{Ghosts}
-use Rattle.rollout_desk.proofs.Common.{Files, Image, Trees, AreClean, FileStore, files, recovers, view, faults, is_shielded, Held, AreDatabases, State, HoldsDatabase, file_state, HoldsRecords, desk_state_at, AllHold, GoesOnOver}
 use Rattle.sqlite.specs.WalFiles.{outcomes}
 use Rattle.sqlite_trees.specs.View.{IsClean, IsQuiet, IsRolledBack}
 use Rattle.sqlite_trees.proofs.Doubt.{no_doubt, clean_of}

@@ -1,6 +1,5 @@
 -- From one request of a desk's store to the desk, which may be stopped.
-use Rattle.std.proofs.Common.{◌≡◌, Bool, true, false, sym, subst, ◌∙◌, arith}
-use Rattle.rollout_desk.proofs.Common.{false≢true, Database, State, HasCleanDisk, Records, Reply, Request, Asks, StandsFor, Applies, AppliesAt, StaysStopped, desk_state_at, is_failed_store, Handles}
+use Rattle.rollout_desk.proofs.Common.{◌≡◌, Bool, true, false, sym, subst, ◌∙◌, arith, false≢true, Database, State, HasCleanDisk, Records, Reply, Request, Asks, StandsFor, Applies, AppliesAt, StaysStopped, desk_state_at, is_failed_store, Handles}
 
 module _ (Holds : Database → Records → Type 0) (old new : State) where
   -- a running desk answers by its store, and is stopped after a failed one

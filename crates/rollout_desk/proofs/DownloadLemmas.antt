@@ -1,8 +1,7 @@
 -- From looks at the records, and from answers, to downloads.
-use Rattle.std.proofs.Common.{◌≡◌, ◌≢◌, ◌≤◌, ◌<◌, inl, inr, ◌+◌, ◌*◌, ◌++◌, ℕ, zero, suc, List, [], ◌∷◌, Bool, true, false, cond, nat_eq, take, drop, Vec, Option, Some, None, Result, Ok, Err, IfOk, refl, sym, subst, ap, ◌∙◌, arith}
-use Rattle.rollout_desk.proofs.Common.{Global, option_map, State, Doubts, Finds, Keeps, Opens, Rests, Spoiled, Wears, rest_shows, Fault, HoldsLedger, HoldsRecords, Ledger, ledger_of, piece_numbered, pieces_of_artifact, Answer, query_reply, if_found, artifact_if, artifact_of_module, item_numbered, CommandList, followed_by, Bytes, Command, Credential, ArtifactRecord, Records, added_artifacts, artifacts, Reply, Refused, ArtifactShown, ContentsShown, Ask, Asks, Query, Request, ShowArtifact, ShowContents, one, DeskState, StandsFor, Applies, reply_of, query_answer, piece_length, Refusal, NoMemory, NotFound, StoreFailed, desk_state_at, sent, next_length, BeginsAt, HandsPieces, artifact_in, BeginsOffered, HandsItsArtifact, IsNextOf, RefusesContents, DownloadsGoOn, EndsLook, FindsDownload, Looks, bytes_of, Handles, refusal_of_fault, is_store, IsPromised}
+use Rattle.rollout_desk.proofs.Common.{◌≡◌, ◌≢◌, ◌≤◌, ◌<◌, inl, inr, ◌+◌, ◌*◌, ◌++◌, ℕ, zero, suc, List, [], ◌∷◌, Bool, true, false, cond, nat_eq, take, drop, Vec, Option, Some, None, Result, Ok, Err, IfOk, refl, sym, subst, ap, ◌∙◌, arith, Global, option_map, State, Doubts, Finds, Keeps, Opens, Rests, Spoiled, Wears, rest_shows, Fault, HoldsLedger, HoldsRecords, Ledger, ledger_of, piece_numbered, pieces_of_artifact, Answer, query_reply, if_found, artifact_if, artifact_of_module, item_numbered, CommandList, followed_by, Bytes, Command, Credential, ArtifactRecord, Records, added_artifacts, artifacts, Reply, Refused, ArtifactShown, ContentsShown, Ask, Asks, Query, Request, ShowArtifact, ShowContents, one, DeskState, StandsFor, Applies, reply_of, query_answer, piece_length, Refusal, NoMemory, NotFound, StoreFailed, desk_state_at, sent, next_length, BeginsAt, HandsPieces, artifact_in, BeginsOffered, HandsItsArtifact, IsNextOf, RefusesContents, DownloadsGoOn, EndsLook, FindsDownload, Looks, bytes_of, Handles, refusal_of_fault, is_store, IsPromised, length, length-take, length-drop, find, Sends, same_bytes, artifacts_shown, modules_offered, offer, list_any, is_known, Unauthorized, HasCleanDisk}
 use Rattle.sql_calls.specs.Standing.{Begins as BeginsChange}
-use Rattle.desk_views.specs.Downloads.{downloadable}
+use Rattle.desk_views.specs.Downloads.{downloadable, or_not_found}
 use Rattle.desk_views.proofs.DeviceViews.{answered_by}
 use Rattle.rollout_machine.specs.Objects.{artifact_shown}
 use Rattle.rollout_machine.specs.Records.{records}
@@ -12,10 +11,11 @@ use Rattle.rollout_model.specs.declared.request.Reply as model
 use Rattle.rollout_model.specs.declared.request.Reply.TheVariants as reply
 use Rattle.contents_handler.specs.declared.download.Download.{Download}
 use Rattle.rollout_desk.specs.Downloads.{Begins}
+use Rattle.rollout_desk.specs.Looks.{IsOtherThan}
 use Rattle.rollout_desk.proofs.ApplyLemmas.{fault_fails, found as found_inside, lost, stands, unbegun, rests_records, stood}
 use Rattle.rollout_desk.proofs.DeskLemmas.{answers}
 use Rattle.rollout_desk.proofs.PromiseLemmas.{downloaded}
-use Rattle.rollout_desk.proofs.PieceLemmas.{size_is, piece_is, so_far, joins}
+use Rattle.rollout_desk.proofs.PieceLemmas.{size_is, piece_is, piece_there, so_far, joins}
 
 -- ---- the next piece
 
@@ -67,6 +67,19 @@ module _ (was : Bool) (a b : State) (p : Download) where
       let looked : Looks HoldsRecords a b (Ok (Some piece)) (IsNextPiece p) = subst (λ x. Looks HoldsRecords a b x (IsNextPiece p)) is look in
       let it = looked.looks (records h) (λ _. standing.shows) in
       (subst (λ (x : Bool). StandsFor (desk_state_at HoldsRecords x b) h) (sym runs) (stands b h standing.valid (it.0 clean)), next_of h p piece.items (it.1 clean))
+
+  -- a list's contents have the piece, of its length
+  pub never_other : (found : Found) → Looks HoldsRecords a b found (IsNextPiece p) → 1 ≤ next_length p → (h : CommandList) (contents : Bytes) → HasCleanDisk b → StandsFor (desk_state_at HoldsRecords was a) h → Sends h p contents
+      → IsOtherThan (next_length p) found → ⊥
+  never_other (Ok x) look more h contents clean standing sends other =
+      go x other ((look.looks (records h) (λ _. standing.shows)).1 clean ∙ piece_there (records h) p.number p.pieces contents sends.artifact (omega (arith, more, sends.size)))
+    where
+      go : (x : Option (Vec ℕ Global)) → IsOtherThan (next_length p) (Ok x) → bytes_of x ≡ Some (take piece_length (drop (p.pieces * piece_length) contents)) → ⊥
+      go None other is = absurd cc
+      go (Some piece) other is =
+          let same : piece.items ≡ take piece_length (drop (p.pieces * piece_length) contents) = cc in
+          other (ap length same ∙ length-take piece_length (drop (p.pieces * piece_length) contents) ∙ omega (arith, length-drop (p.pieces * piece_length) contents, sends.size))
+  never_other (Err refusal) look more h contents clean standing sends other = other
 
 -- ---- the first answer
 
@@ -174,6 +187,17 @@ module _ {File : Type 0} (old new : DeskState File) (m k : ℕ) where
         not_refused refusal is = absurd cc
 
 -- ---- what a device downloads
+
+-- the machine never refuses a download so
+pub never_stores : (r : Records) (device : Credential) (m : ℕ) (filename : Bytes) (found : Result Artifact Refusal) → found ≡ downloadable r device m filename → found ≢ Err StoreFailed
+never_stores r device m filename found is failed =
+    go (is_known r device) (list_any (λ n. nat_eq n m) (modules_offered r (offer r device.id))) (find (λ (a : Artifact). same_bytes a.filename filename) (artifacts_shown m 1 r.artifacts)) (sym is ∙ failed)
+  where
+    go : (known among : Bool) (o : Option Artifact) → cond known (cond among (or_not_found o) (Err NotFound)) (Err Unauthorized) ≡ Err StoreFailed → ⊥
+    go true true (Some a) e = absurd cc
+    go true true None e = absurd cc
+    go true false o e = absurd cc
+    go false among o e = absurd cc
 
 module _ (a : State) (device : Credential) (m : ℕ) (filename : Bytes) where
   abbrev request : Request

@@ -1,6 +1,5 @@
 -- From the calls of the store to a look at the records.
-use Rattle.std.proofs.Common.{◌≡◌, ◌⊎◌, inl, inr, Bool, None, Ok, Err, Result, refl, sym, ap, subst, ◌∙◌, arith}
-use Rattle.rollout_desk.proofs.Common.{Trees, State, HasCleanDisk, Begins, Doubts, Finds, HoldIn, Keeps, Opens, Rests, Spoiled, Wears, rest_shows, Fault, Memory, Store, HoldsLedger, HoldsRecords, Ledger, ledger_of, CommandList, Records, records, Refused, Becomes, DeskState, IsInDoubt, StandsFor, is_store, Refusal, NoMemory, StoreFailed, Looks, EndsLook, refusal_of_fault, desk_state_at}
+use Rattle.rollout_desk.proofs.Common.{◌≡◌, ◌⊎◌, inl, inr, Bool, None, Ok, Err, Result, refl, sym, ap, subst, ◌∙◌, arith, Trees, State, HasCleanDisk, Begins, Doubts, Finds, HoldIn, Keeps, Opens, Rests, Spoiled, Wears, rest_shows, Fault, Memory, Store, HoldsLedger, HoldsRecords, Ledger, ledger_of, CommandList, Records, records, Refused, Becomes, DeskState, IsInDoubt, StandsFor, is_store, Refusal, NoMemory, StoreFailed, Looks, EndsLook, refusal_of_fault, desk_state_at}
 use Rattle.rollout_desk.proofs.ApplyLemmas.{readable, rests_ledger, rests_records, stands}
 
 -- the refusal of a fault
@@ -65,14 +64,14 @@ module _ {A : Type 0} (was : Bool) (a b : State) (Answer : Records → A → Typ
   ]
 
   -- memory was wanted, or the store failed, and the desk is stopped
-  pub interrupted : (found : Result A Refusal) → Looks HoldsRecords a b found Answer → (refusal : Refusal) → (refusal ≡ StoreFailed) ⊎ (found ≡ Err refusal) → (stopped : Bool) → stopped ≡ is_store refusal
+  pub interrupted : (found : Result A Refusal) → Looks HoldsRecords a b found Answer → (refusal : Refusal) {Other : Type 0} → (found ≡ Err refusal) ⊎ ((refusal ≡ StoreFailed) × Other) → (stopped : Bool) → stopped ≡ is_store refusal
       → ((refusal ≡ NoMemory) × StandsFor (desk_state_at HoldsRecords stopped b) h) ⊎ ((refusal ≡ StoreFailed) × IsInDoubt (desk_state_at HoldsRecords stopped b) h None)
   interrupted found look refusal why stopped is = elim why [
-    | inl fails ↦ inr (in_doubt fails)
-    | inr same ↦ elim (subst (λ x. Looks HoldsRecords a b x Answer) same look).looks [
+    | inl same ↦ elim (subst (λ x. Looks HoldsRecords a b x Answer) same look).looks [
       | inl it ↦ inl (it.0, subst (λ x. StandsFor (desk_state_at HoldsRecords x b) h) (sym (is ∙ ap is_store it.0)) (stands b h standing.valid (it.1 (records h) (λ _. standing.shows) clean)))
       | inr it ↦ inr (in_doubt it.0)
     ]
+    | inr other ↦ inr (in_doubt other.0)
   ]
     where
       in_doubt : refusal ≡ StoreFailed → (refusal ≡ StoreFailed) × IsInDoubt (desk_state_at HoldsRecords stopped b) h None

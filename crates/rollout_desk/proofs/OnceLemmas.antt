@@ -1,6 +1,5 @@
 -- What comes again in a run leaves no trace.
-use Rattle.std.proofs.Common.{◌≡◌, inl, inr, Bool, List, [], ◌∷◌, ◌++◌, Option, Some, None, sym, subst, ap, ◌∙◌}
-use Rattle.rollout_desk.proofs.Common.{Database, State, Trees, HoldIn, IsAtRest, Answer, answer, MayAnswer, CommandList, ◌▸◌, followed_by, Command, step_records, Records, Reply, Asked, Asks, Request, one, StandsFor, IsInDoubt, IsValid, records_step, HoldsReadable, HoldsList, desk_state_at, EndsRun, Exchange, IsRun, accepted_in}
+use Rattle.rollout_desk.proofs.Common.{◌≡◌, inl, inr, Bool, List, [], ◌∷◌, ◌++◌, Option, Some, None, sym, subst, ap, ◌∙◌, Database, State, Trees, HoldIn, IsAtRest, Answer, answer, MayAnswer, CommandList, ◌▸◌, followed_by, Command, step_records, Records, Reply, Asked, Asks, Request, one, StandsFor, IsInDoubt, IsValid, records_step, HoldsReadable, HoldsList, desk_state_at, EndsRun, Exchange, IsRun, accepted_in}
 use Rattle.rollout_machine.specs.Repeats.{without_repeats, IsTraceless}
 use Rattle.rollout_machine.proofs.Once.{repeats_leave_no_trace}
 use Rattle.rollout_desk.specs.Once.{AnswersOnce, EndsOnce}

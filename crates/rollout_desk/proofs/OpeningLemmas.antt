@@ -1,8 +1,6 @@
 -- From a connection that was opened to a desk over it.
-use Rattle.std.proofs.Common.{◌≡◌, ℕ, zero, suc, Bool, false, List, [], Some, None, Ok, Err, Result, IfOk, IfErr, refl, sym, ap, ◌∙◌, subst}
-use Rattle.std.specs.Prelude.{slice_get}
+use Rattle.rollout_desk.proofs.Common.{◌≡◌, ℕ, zero, suc, Bool, false, List, [], Some, None, Ok, Err, Result, IfOk, IfErr, refl, sym, ap, ◌∙◌, subst, slice_get, Files, Trees, AreClean, IsClosed, file_state, recovers, Held, FileStore, HoldIn, IsAtRest, Rests, Image, State, HasCleanDisk, HoldsRecords, Reopens, CommandList, Make, records, StandsFor, IsValid, desk_state_at, Global, ReopensDesk, GivesBack}
 use Rattle.sqlite_disk.specs.declared.Disk as disk
-use Rattle.rollout_desk.proofs.Common.{Files, Trees, AreClean, IsClosed, file_state, recovers, Held, FileStore, HoldIn, IsAtRest, Rests, Image, State, HasCleanDisk, HoldsRecords, Reopens, CommandList, Make, records, StandsFor, IsValid, desk_state_at, Global, ReopensDesk, GivesBack}
 use Rattle.sqlite.specs.Closing.{IsCopied}
 use Rattle.sql_calls.specs.Calls.{no_work}
 use Rattle.sqlite_store.specs.Laws.{stays_at}

@@ -1,12 +1,11 @@
 -- From pieces in the records to pieces that are handed out.
-use Rattle.std.proofs.Common.{◌≡◌, ◌<◌, ◌+◌, ◌*◌, ◌++◌, ℕ, zero, suc, List, take, drop, length, min, Option, Some, None, All, sym, subst, ap, ◌∙◌, arith, add-one}
-use Rattle.std.specs.Prelude.{slice_get}
-use Rattle.rollout_desk.proofs.Common.{option_map, pieces_in, pieces_of_artifact, piece_numbered, IsWhole, all_whole, item_numbered, CommandList, Bytes, ArtifactRecord, Records, records, piece_length}
+use Rattle.rollout_desk.proofs.Common.{◌≡◌, ◌<◌, ◌+◌, ◌*◌, ◌++◌, ℕ, zero, suc, List, take, drop, length, min, Option, Some, None, All, sym, subst, ap, ◌∙◌, arith, add-one, slice_get, option_map, pieces_in, pieces_of_artifact, piece_numbered, IsWhole, all_whole, item_numbered, CommandList, Bytes, ArtifactRecord, Records, records, piece_length, get_or, []}
+use Rattle.std.proofs.lemmas.Grind.{div_ceil_times}
 use Rattle.std.proofs.Math.Seq.{take-add}
 use Rattle.std.proofs.lemmas.List.{take_min}
 use Rattle.std.proofs.lemmas.List.Elements.{All-get_or}
-use Rattle.std.proofs.lemmas.Option.{slice_get_within, get_or_from_slice_get}
-use Rattle.desk_records.proofs.PieceLists.{nth_piece}
+use Rattle.std.proofs.lemmas.Option.{slice_get-get_or, slice_get_within, get_or_from_slice_get}
+use Rattle.desk_records.proofs.PieceLists.{count_pieces, nth_piece}
 
 -- ---- an artifact's size and digest are those of its contents
 
@@ -30,6 +29,19 @@ pub piece_is : (r : Records) (number k : ℕ) (contents piece : Bytes) → optio
     → piece ≡ take piece_length (drop (k * piece_length) contents)
 piece_is r number k contents piece has is =
     nth_piece contents piece k (ap (λ l. slice_get l k) (sym (pieces_are (item_numbered r.artifacts number) contents has)) ∙ ap (item_numbered (pieces_of_artifact (item_numbered r.artifacts number))) (sym (add-one k)) ∙ sym is)
+
+-- .. is there, where the contents reach so far
+nth_there : (contents : Bytes) (k : ℕ) → k * piece_length < length contents → slice_get (pieces_in contents) k ≡ Some (take piece_length (drop (k * piece_length) contents))
+nth_there contents k within =
+    let ends = div_ceil_times (length contents) piece_length (omega arith) in
+    let few : k < length (pieces_in contents) = omega (arith, count_pieces contents, ends.0, within) in
+    let there = slice_get-get_or (pieces_in contents) k [] few in
+    there ∙ ap Some (nth_piece contents (get_or (pieces_in contents) k []) k there)
+
+pub piece_there : (r : Records) (number k : ℕ) (contents : Bytes) → option_map (λ (a : ArtifactRecord). a.contents) (item_numbered r.artifacts number) ≡ Some contents → k * piece_length < length contents
+    → piece_numbered r.artifacts number (k + 1) ≡ Some (take piece_length (drop (k * piece_length) contents))
+piece_there r number k contents has within =
+    ap (item_numbered (pieces_of_artifact (item_numbered r.artifacts number))) (add-one k) ∙ ap (λ l. slice_get l k) (pieces_are (item_numbered r.artifacts number) contents has) ∙ nth_there contents k within
 
 -- ---- what was handed out so far
 

@@ -1,5 +1,5 @@
 -- What is promised of an answer follows from the answer itself.
-use Rattle.rollout_desk.proofs.Common.{Answer, query_reply, if_found, for_device, download, targets_reply, targets_matching, is_offer_of, modules_offered, artifact_named, action_of_target, artifact_if, artifact_of_module, contains_word, item_numbered, same_bytes, CommandList, Bytes, Credential, TargetRow, ArtifactRecord, Records, Reply, Refused, PollShown, DeploymentShown, CancelShown, ContentsShown, Page, Query, Ask, Asks, Poll, ShowDeployment, ShowCancel, Download, ShowTargets, ShowTarget, ShowTargetActions, ShowAction, ShowHistory, ShowModules, ShowModule, ShowArtifacts, ShowArtifact, ShowContents, ShowSets, ShowSet, ShowRollouts, ShowRollout, ShowGroups, ShowGroup, ShowGroupTargets, ShowReport, ShowActionsTable, Applies, DeskState, IsValid, query_answer, Refusal, NoMemory, NotFound, StoreFailed, Unauthorized, unwrap_or, and_parts, eqb-true, false≢true, IsWhole, all_whole, Describes, DownloadsItsOffer, IsPromised, IsTarget, KeepsToOffers, NamesItsOffer, ShowsWhole, asker, offer_named}
+use Rattle.rollout_desk.proofs.Common.{◌≡◌, inl, inr, ℕ, Bool, true, false, cond, not, ◌&&◌, ◌||◌, List, [], ◌∷◌, map, Option, Some, None, refl, sym, subst, ap, ◌∙◌, is_some, nat_eq, Answer, query_reply, if_found, for_device, download, targets_reply, targets_matching, is_offer_of, modules_offered, artifact_named, action_of_target, artifact_if, artifact_of_module, contains_word, item_numbered, same_bytes, CommandList, Bytes, Credential, TargetRow, ArtifactRecord, Records, Reply, Refused, PollShown, DeploymentShown, CancelShown, ContentsShown, Page, Query, Ask, Asks, Poll, ShowDeployment, ShowCancel, Download, ShowTargets, ShowTarget, ShowTargetActions, ShowAction, ShowHistory, ShowModules, ShowModule, ShowArtifacts, ShowArtifact, ShowContents, ShowSets, ShowSet, ShowRollouts, ShowRollout, ShowGroups, ShowGroup, ShowGroupTargets, ShowReport, ShowActionsTable, Applies, DeskState, IsValid, query_answer, Refusal, NoMemory, NotFound, StoreFailed, Unauthorized, unwrap_or, and_parts, eqb-true, false≢true, IsWhole, all_whole, Describes, DownloadsItsOffer, IsPromised, IsTarget, KeepsToOffers, NamesItsOffer, ShowsWhole, asker, offer_named, not-true, or_right}
 use Rattle.rollout_machine.specs.Objects.{deployment_shown}
 use Rattle.rollout_machine.specs.Offers.{Offer, offer}
 use Rattle.rollout_machine.specs.Records.{records}
@@ -12,8 +12,6 @@ use Rattle.rollout_machine.proofs.TargetMeanings.{targets_are_named}
 use Rattle.rollout_machine.proofs.TargetTies.{same_true, same_refl}
 use Rattle.target_filter.specs.Grammar.{Tree}
 use Rattle.target_filter.specs.Profile.{filter_of}
-use Rattle.std.proofs.Common.{◌≡◌, inl, inr, ℕ, Bool, true, false, cond, not, ◌&&◌, ◌||◌, List, [], ◌∷◌, map, Option, Some, None, refl, sym, subst, ap, ◌∙◌}
-use Rattle.std.specs.Prelude.{is_some, nat_eq}
 use Rattle.std.specs.List.{list_any}
 use Rattle.sqlite_keyed.proofs.SliceLemmas.{All-find}
 use Rattle.rollout_desk.proofs.PieceLemmas.{is_whole}
@@ -27,10 +25,6 @@ is_device device x = same_bytes x.id device.id && same_bytes x.digest device.dig
 abbrev Passes : CommandList → Credential → List Bytes → Type 0
 Passes h device ids = (contains_word device.id ids ≡ true) × ((target_in h device.id).digest ≡ device.digest)
 
-either_way : (a b : Bool) → b ≡ true → (a || b) ≡ true
-either_way true b e = refl
-either_way false b e = e
-
 passes : (h : CommandList) (device : Credential) (ids : List Bytes) → list_any (is_device device) (map (target_in h) ids) ≡ true → Passes h device ids
 passes h device [] e = absurd (false≢true e)
 passes h device (t ∷ ts) e = go (is_device device (target_in h t)) refl e (passes h device ts) where
@@ -41,7 +35,7 @@ passes h device (t ∷ ts) e = go (is_device device (target_in h t)) refl e (pas
         ap (λ (b : Bool). b || contains_word device.id ts) (subst (λ (x : Bytes). same_bytes device.id x ≡ true) (sym same) (same_refl device.id)),
         subst (λ (x : Bytes). (target_in h x).digest ≡ device.digest) same (same_true _ _ both.1),
       )
-  go false d f rest = let found = rest f in (either_way (same_bytes device.id t) _ found.0, found.1)
+  go false d f rest = let found = rest f in (or_right (same_bytes device.id t) _ found.0, found.1)
 
 is_target : (h : CommandList) (device : Credential) → is_known (records h) device ≡ true → IsTarget h device
 unfolding records
@@ -90,10 +84,7 @@ where_offered : (rs : Records) (t : Bytes) (kind : Bool) (n : ℕ) (o : Offer) (
 where_offered rs t kind n o reply names e = go (offer rs t) refl e where
   same_kind : (x : Offer) (k : Bool) → cond k x.canceling (not x.canceling) ≡ true → x.canceling ≡ k
   same_kind x true d = d
-  same_kind x false d = negated x.canceling d where
-    negated : (b : Bool) → not b ≡ true → b ≡ false
-    negated true f = absurd (false≢true f)
-    negated false f = refl
+  same_kind x false d = not-true x.canceling d
 
   by : (x : Offer) (b : Bool) → offer rs t ≡ Some x → (nat_eq x.action n && cond kind x.canceling (not x.canceling)) ≡ b → offer_named (cond b reply (Refused NotFound)) ≡ Some o → offer rs t ≡ Some o
   by x true d f g =

@@ -1,6 +1,5 @@
 -- Runs grow at their end by one request.
-use Rattle.std.proofs.Common.{Contains, inl, inr, ◌≡◌, ◌≢◌, ◌≤◌, ◌<◌, ◌+◌, ℕ, true, false, zero, suc, length, take, drop, get_or, List, [], ◌∷◌, ◌++◌, map, refl, sym, ap, ◌∙◌, subst, append-nil, arith}
-use Rattle.rollout_desk.proofs.Common.{false≢true, StoreFailed, MayAnswer, Command, CommandList, ◌▸◌, followed_by, Reply, Refused, Request, Asks, one, DeskState, StandsFor, Applies, request_of, reply_of, Exchange, accepted_in, IsRun, GoesOn, RunsThrough, BreaksOff, is_failed_store, failed_true}
+use Rattle.rollout_desk.proofs.Common.{Contains, inl, inr, ◌≡◌, ◌≢◌, ◌≤◌, ◌<◌, ◌+◌, ℕ, true, false, zero, suc, length, take, drop, get_or, List, [], ◌∷◌, ◌++◌, map, refl, sym, ap, ◌∙◌, subst, append-nil, arith, false≢true, StoreFailed, MayAnswer, Command, CommandList, ◌▸◌, followed_by, Reply, Refused, Request, Asks, one, DeskState, StandsFor, Applies, request_of, reply_of, Exchange, accepted_in, IsRun, GoesOn, RunsThrough, BreaksOff, is_failed_store, failed_true}
 use Rattle.std.proofs.lemmas.List.{map-append, take_all, take_more, take-append-drop}
 use Rattle.std.proofs.lemmas.List.Concat.{flat_map-append}
 use Rattle.std.proofs.lemmas.List.Elements.{All-append, Contains-push_cases}

@@ -1,6 +1,5 @@
 -- From what a call inside a change says of the tables to what a query is answered.
-use Rattle.std.proofs.Common.{◌≡◌, inl, inr, Result, Ok, Err, IfOk, sym, subst, arith}
-use Rattle.rollout_desk.proofs.Common.{Ghosts, State, HasCleanDisk, Begins, Sees, Wears, Fault, Refused, Query, Download, ShowContents, reply_of, Refusal, StoreFailed, HoldsTables, Tables, OpenChange, EndsByRollback, AnswersIn, KeepsSizes}
+use Rattle.rollout_desk.proofs.Common.{◌≡◌, inl, inr, Result, Ok, Err, IfOk, sym, subst, arith, Ghosts, State, HasCleanDisk, Begins, Sees, Fault, Refused, Query, Download, ShowContents, reply_of, Refusal, StoreFailed, HoldsTables, Tables, OpenChange, EndsByRollback, AnswersIn, KeepsSizes}
 use Rattle.rollout_machine.specs.Replies as shown
 use Rattle.rollout_model.specs.declared.request.Reply.{Reply}
 use Rattle.desk_views.specs.Showing.{ShowsIn}

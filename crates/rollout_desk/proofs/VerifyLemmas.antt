@@ -1,6 +1,5 @@
 -- From what a change sees of the tables to what a verification says.
-use Rattle.std.proofs.Common.{◌≡◌, ◌≤◌, ◌<◌, ◌+◌, ◌^◌, ◌-◌, ◌⊎◌, ℕ, zero, suc, inl, inr, Option, Result, Ok, Err, refl, sym, subst, arith}
-use Rattle.rollout_desk.proofs.Common.{state, Ghosts, State, HasCleanDisk, Begins, Finds, Rests, Sees, Wears, Fault, Memory, Store, rest_shows, HoldsLedger, ledger_of, HoldsTables, Tables, OpenChange, Records, Refusal, StoreFailed, refusal_of_fault, EndsLook, FindsDamage, HasCause, IsNeverDamaged}
+use Rattle.rollout_desk.proofs.Common.{◌≡◌, ◌≤◌, ◌-◌, ◌⊎◌, ℕ, inl, inr, Option, Result, Ok, Err, refl, sym, subst, arith, state, Ghosts, State, HasCleanDisk, Begins, Finds, Rests, Sees, Wears, Fault, Memory, Store, rest_shows, HoldsLedger, ledger_of, HoldsTables, Tables, OpenChange, Records, Refusal, StoreFailed, refusal_of_fault, EndsLook, FindsDamage, HasCause, IsNeverDamaged}
 use Rattle.sql_calls.specs.declared.calls.Calls.{Calls}
 use Rattle.desk_store.specs.Blaming.{Blames, HasFailed, Watch}
 use Rattle.desk_store.specs.Changing.{seen_in}

@@ -5,11 +5,14 @@ use Rattle.sqlite.specs.Store.{Ghosts}
 use Rattle.sqlite.specs.State.{HasCleanDisk}
 use Rattle.sql_calls.specs.declared.calls.Calls.{Calls}
 use Rattle.rollout_machine.specs.CommandList.{CommandList}
+use Rattle.rollout_machine.specs.Commands.{Bytes}
 use Rattle.rollout_machine.specs.Records.{records}
 use Rattle.rollout_machine.specs.Standing.{StandsFor}
 use Rattle.desk_records.specs.Holds.{HoldsRecords}
 use Rattle.desk_reads.specs.Counted.{AreCounted}
 use Rattle.desk_store.specs.Blaming.{HasFailed}
+use Rattle.contents_handler.specs.Downloads.{Sends}
+use Rattle.contents_handler.specs.declared.download.Download.{Download}
 use Rattle.rollout_desk.specs.DeskStates.{desk_state}
 use Rattle.rollout_desk.specs.Desks.{desk_state_at}
 use Rattle.rollout_desk.specs.declared.desk.Desk.{Desk}
@@ -24,3 +27,8 @@ module _ {S : Type 0} (g : Ghosts S) where
   abbrev pub FailsByCall : Desk S → Desk S → Type 0
   FailsByCall old new = (h : CommandList) → (desk_state g new).is_clean → AreCounted (records h) → StandsFor (desk_state g old) h
       → HasFailed old.store.calls.failures new.store.calls.failures
+
+  -- the same of a desk that hands out contents of the list
+  abbrev pub FailsHandingByCall : Download → Desk S → Desk S → Type 0
+  FailsHandingByCall p old new = (h : CommandList) (contents : Bytes) → (desk_state g new).is_clean → AreCounted (records h) → StandsFor (desk_state g old) h
+      → Sends h p contents → HasFailed old.store.calls.failures new.store.calls.failures

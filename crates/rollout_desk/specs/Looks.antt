@@ -1,5 +1,5 @@
 -- A look at the records in a change of its own, which is given up.
-use Rattle.std.specs.Prelude.{◌≡◌, ◌⊎◌, ℕ, false, Vec, Option, Result, Ok, Err, vec_items}
+use Rattle.std.specs.Prelude.{◌≡◌, ◌≢◌, ◌⊎◌, ℕ, false, length, Vec, Option, Some, None, Result, Ok, Err, vec_items}
 use Rattle.std.specs.declared.alloc.Global.{Global}
 use Rattle.std.specs.Option.{option_map}
 use Rattle.sqlite.specs.Effect.{Database}
@@ -22,6 +22,12 @@ use Rattle.rollout_desk.specs.Desks.{desk_state_at}
 -- the bytes of what was found
 abbrev pub bytes_of : Option (Vec ℕ Global) → Option Bytes
 bytes_of found = option_map vec_items found
+
+-- what was found is no piece of this many bytes
+abbrev pub IsOtherThan : ℕ → Result (Option (Vec ℕ Global)) Refusal → Type 0
+IsOtherThan wanted (Ok (Some piece)) = length piece.items ≢ wanted
+IsOtherThan wanted (Ok None) = Unit {0}
+IsOtherThan wanted (Err refusal) = ⊥
 
 -- the change is given up, and the result is what was found; or that failed
 pub record EndsLook {A : Type 0} (old new : State) (found result : Result A Refusal) : Type 0 where

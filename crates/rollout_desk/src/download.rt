@@ -7,6 +7,7 @@ ghost use Rattle.rollout_machine.specs.Standing.{StaysStopped};
 ghost use Rattle.rollout_machine.specs.Views.{query_of, reply_of};
 ghost use Rattle.rollout_model.specs.declared.refusal.Refusal.TheVariants.{Stopped, StoreFailed};
 ghost use Rattle.rollout_desk.specs.DeskStates.{desk_state};
+ghost use Rattle.rollout_desk.specs.Causes.{FailsByCall, FailsHandingByCall};
 ghost use Rattle.contents_handler.specs.Downloads.{HandsPieces, KeepsCount};
 ghost use Rattle.rollout_desk.specs.Downloads.{Begins, BeginsOffered, HandsItsArtifact, IsInterruption, RefusesContents, DownloadsGoOn, artifact_in};
 ghost use Rattle.rollout_desk.specs.Promises.{IsPromised};
@@ -51,6 +52,7 @@ impl<S: Alter> Desk<S> {
             → IfErr result (λ reply. reply_of reply ≡ Refused Stopped) × StaysStopped (desk_state S.Store self.old) (desk_state S.Store self.new) }
         ensures untouched { (desk_state S.Store self.old).is_stopped ≡ true → self.new.store ≡ self.old.store }
         ensures tells { TellsFailures (replies_store result) self.old.store.calls self.new.store.calls }
+        ensures fails { IfErr result (λ reply. reply_of reply ≡ Refused StoreFailed → FailsByCall S.Store self.old self.new) }
         ensures work { self.new.work ≡ self.old.work }
     {
         match query {
@@ -79,6 +81,7 @@ impl<S: Alter> Desk<S> {
             → IfErr result (λ reply. reply_of reply ≡ Refused Stopped) × StaysStopped (desk_state S.Store self.old) (desk_state S.Store self.new) }
         ensures untouched { (desk_state S.Store self.old).is_stopped ≡ true → self.new.store ≡ self.old.store }
         ensures tells { TellsFailures (replies_store result) self.old.store.calls self.new.store.calls }
+        ensures fails { IfErr result (λ reply. reply_of reply ≡ Refused StoreFailed → FailsByCall S.Store self.old self.new) }
         ensures work { self.new.work ≡ self.old.work }
     {
         let reply = self.ask(&Query::Artifact(module_number, number));
@@ -110,6 +113,7 @@ impl<S: Alter> Desk<S> {
             → IfErr result (λ reply. reply_of reply ≡ Refused Stopped) × StaysStopped (desk_state S.Store self.old) (desk_state S.Store self.new) }
         ensures untouched { (desk_state S.Store self.old).is_stopped ≡ true → self.new.store ≡ self.old.store }
         ensures tells { TellsFailures (replies_store result) self.old.store.calls self.new.store.calls }
+        ensures fails { IfErr result (λ reply. reply_of reply ≡ Refused StoreFailed → FailsByCall S.Store self.old self.new) }
         ensures work { self.new.work ≡ self.old.work }
     {
         if self.stopped {
@@ -142,6 +146,7 @@ impl<S: Alter> Desk<S> {
             × StaysStopped (desk_state S.Store self.old) (desk_state S.Store self.new) }
         ensures untouched { (desk_state S.Store self.old).is_stopped ≡ true → self.new.store ≡ self.old.store }
         ensures tells { TellsFailures (tells_store result) self.old.store.calls self.new.store.calls }
+        ensures fails { result ≡ Err Refusal.StoreFailed → FailsHandingByCall S.Store download.old self.old self.new }
         ensures work { self.new.work ≡ self.old.work }
     {
         if self.stopped {

@@ -5,7 +5,8 @@ ghost use Rattle.sqlite.specs.Held.{state};
 ghost use Rattle.desk_records.specs.Artifacts.{piece_numbered};
 ghost use Rattle.desk_records.specs.Holds.{HoldsRecords};
 ghost use Rattle.desk_store.specs.Blaming.{HasFailed};
-ghost use Rattle.rollout_desk.specs.Looks.{Looks, EndsLook, FindsDownload, bytes_of};
+ghost use Rattle.rollout_desk.specs.Causes.{FailsByCalls};
+ghost use Rattle.rollout_desk.specs.Looks.{Looks, EndsLook, FindsDownload, IsOtherThan, bytes_of};
 ghost use Rattle.rollout_desk.specs.Working.{TellsFailures, tells_store};
 
 use crate::refusals::refusal_of;
@@ -40,6 +41,7 @@ pub(crate) fn read_piece<S: Alter>(
     ensures looks { Looks HoldsRecords (state S.Store store.old.calls.conn) (state S.Store store.new.calls.conn) result
         (λ r found. bytes_of found ≡ piece_numbered r.artifacts number place) }
     ensures tells { TellsFailures (tells_store result) store.old.calls store.new.calls }
+    ensures fails { result ≡ Err Refusal.StoreFailed → FailsByCalls S.Store store.old.calls store.new.calls }
 {
     let mut change = match store.begin() {
         Ok(change) => change,
@@ -62,6 +64,7 @@ pub(crate) fn look_for_download<S: Alter>(
     ensures finds { FindsDownload HoldsRecords (state S.Store store.old.calls.conn)
         (state S.Store store.new.calls.conn) device.now module_number filename.now result }
     ensures tells { TellsFailures (tells_store result) store.old.calls store.new.calls }
+    ensures fails { result ≡ Err Refusal.StoreFailed → FailsByCalls S.Store store.old.calls store.new.calls }
 {
     let mut change = match store.begin() {
         Ok(change) => change,
@@ -79,7 +82,7 @@ pub(crate) fn of_length(
     wanted: u64,
 ) -> Result<Vec<u8>, Refusal>
     ensures { MatchResult result (λ piece. (found ≡ Ok (Some piece)) × (length piece.items ≡ wanted))
-        (λ refusal. (refusal ≡ Refusal.StoreFailed) ⊎ (found ≡ Err refusal)) }
+        (λ refusal. (found ≡ Err refusal) ⊎ ((refusal ≡ Refusal.StoreFailed) × IsOtherThan wanted found)) }
 {
     match found? {
         Some(piece) if piece.len() as u64 == wanted => Ok(piece),

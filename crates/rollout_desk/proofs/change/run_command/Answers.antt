@@ -1,11 +1,10 @@
-use Rattle.std.proofs.Common.{◌≡◌, refl, subst, rules}
-use Rattle.rollout_desk.proofs.Common.{state, Keeps, HoldsLedger, HoldsRecords, Do, command_of, reply_of, Handles}
+use Rattle.rollout_desk.proofs.Common.{◌≡◌, refl, subst, rules, state, Keeps, HoldsLedger, HoldsRecords, Do, command_of, reply_of, Handles}
 use Rattle.rollout_desk.proofs.ApplyLemmas.{fault_fails, unbegun, accepted, refused, broken}
 use Rattle.rollout_machine.specs.Replies.{Refused}
 use Rattle.rollout_model.specs.declared.refusal.Refusal.TheVariants.{StoreFailed}
 use Rattle.desk_commands.specs.Failures.{TakesSteps}
 use Rattle.rollout_desk.specs.Causes.{FailsByCalls}
-use Rattle.rollout_desk.proofs.CauseLemmas.{accepted_never, failed_inside, refused_never, well_inside}
+use Rattle.rollout_desk.proofs.CauseLemmas.{told_reply, accepted_never, failed_inside, refused_never, well_inside}
 use Rattle.rollout_desk.proofs.change.run_command.Goals as goal
 
 pub returns-in-Err-clause-handles : goal.returns-in-Err-clause-handles
@@ -50,4 +49,4 @@ returns-in-Err-take_step-clause-fails g c =
     let same : c.give_up-in-Err-take_step.new.change.0 ≡ c.store-in-Err-take_step-1.given.0 = search rules in
     subst (λ h. reply_of c.give_up-in-Err-take_step.result ≡ Refused StoreFailed → FailsByCalls g.S.Store c.args.store.now.calls h.calls) same
     (failed_inside g.S.Store c.args.store.now.calls c.in-Ok.change c.take_step.new.change c.give_up-in-Err-take_step.new.change.0.calls c.in-Ok.ensures.begun c.give_up-in-Err-take_step.ensures.ends.wears c.in-Ok.ensures.grows.failures c.in-Err-take_step.ensures.stays.grows.failures c.give_up-in-Err-take_step.ensures.counts
-    TakesSteps c.in-Err-take_step.fault _ (reply_of c.give_up-in-Err-take_step.result) c.reply_of_fault-in-Err-take_step.ensures c.in-Err-take_step.ensures.fails.to (λ h valid counted. record { of_list = record { list = h; valid = valid; is = refl }; counted = counted }) c.give_up-in-Err-take_step.ensures.fails)
+    TakesSteps c.in-Err-take_step.fault _ (reply_of c.give_up-in-Err-take_step.result) (told_reply _ _ c.reply_of_fault-in-Err-take_step.ensures) c.in-Err-take_step.ensures.fails.to (λ h valid counted. record { of_list = record { list = h; valid = valid; is = refl }; counted = counted }) c.give_up-in-Err-take_step.ensures.fails)

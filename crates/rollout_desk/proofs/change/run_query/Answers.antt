@@ -1,12 +1,11 @@
-use Rattle.std.proofs.Common.{◌≡◌, refl, subst, rules}
-use Rattle.rollout_desk.proofs.Common.{state, Keeps, HoldsLedger, HoldsRecords, Ask, query_of, reply_of, Handles, KeepsSizes}
+use Rattle.rollout_desk.proofs.Common.{◌≡◌, refl, subst, rules, state, Keeps, HoldsLedger, HoldsRecords, Ask, query_of, reply_of, Handles, KeepsSizes}
 use Rattle.rollout_desk.proofs.ApplyLemmas.{fault_fails, unbegun, shown, unshown}
 use Rattle.rollout_desk.proofs.SizeLemmas.{refused_sized, shown_sized}
 use Rattle.rollout_machine.specs.Replies.{Refused}
 use Rattle.rollout_model.specs.declared.refusal.Refusal.TheVariants.{StoreFailed}
 use Rattle.desk_reads.specs.AtLists.{IsOfList}
 use Rattle.rollout_desk.specs.Causes.{FailsByCalls}
-use Rattle.rollout_desk.proofs.CauseLemmas.{failed_inside, query_never, well_inside}
+use Rattle.rollout_desk.proofs.CauseLemmas.{told_reply, failed_inside, query_never, well_inside}
 use Rattle.rollout_desk.proofs.change.run_query.Goals as goal
 
 pub returns-in-Err-clause-handles : goal.returns-in-Err-clause-handles
@@ -53,4 +52,4 @@ returns-in-Err-answer-clause-fails g c =
     let same : c.give_up-in-Err-answer.new.change.0 ≡ c.store-in-Err-answer-1.given.0 = search rules in
     subst (λ h. reply_of c.give_up-in-Err-answer.result ≡ Refused StoreFailed → FailsByCalls g.S.Store c.args.store.now.calls h.calls) same
     (failed_inside g.S.Store c.args.store.now.calls c.in-Ok.change c.answer.new.change c.give_up-in-Err-answer.new.change.0.calls c.in-Ok.ensures.begun c.give_up-in-Err-answer.ensures.ends.wears c.in-Ok.ensures.grows.failures c.in-Err-answer.ensures.stays.grows.failures c.give_up-in-Err-answer.ensures.counts
-    IsOfList c.in-Err-answer.fault _ (reply_of c.give_up-in-Err-answer.result) c.reply_of_fault-in-Err-answer.ensures c.in-Err-answer.ensures.fails.to (λ h valid counted. record { list = h; valid = valid; is = refl }) c.give_up-in-Err-answer.ensures.fails)
+    IsOfList c.in-Err-answer.fault _ (reply_of c.give_up-in-Err-answer.result) (told_reply _ _ c.reply_of_fault-in-Err-answer.ensures) c.in-Err-answer.ensures.fails.to (λ h valid counted. record { list = h; valid = valid; is = refl }) c.give_up-in-Err-answer.ensures.fails)

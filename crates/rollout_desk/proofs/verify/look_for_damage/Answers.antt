@@ -1,5 +1,4 @@
-use Rattle.std.proofs.Common.{◌≡◌, ◌≤◌, Err, subst, arith, rules}
-use Rattle.rollout_desk.proofs.Common.{state, Keeps, HoldsLedger, HoldsRecords, StoreFailed, Looks, FindsDamage, HasCause, IsNeverDamaged}
+use Rattle.rollout_desk.proofs.Common.{◌≡◌, ◌≤◌, Err, subst, arith, rules, state, Keeps, HoldsLedger, HoldsRecords, StoreFailed, Looks, FindsDamage, HasCause, IsNeverDamaged}
 use Rattle.rollout_desk.proofs.LookLemmas.{look_failed, looked, unbegun}
 use Rattle.rollout_desk.proofs.VerifyLemmas.{judged, never_damaged, none_found, read_in_vain}
 use Rattle.rollout_desk.proofs.verify.look_for_damage.Goals as goal

@@ -1,5 +1,4 @@
-use Rattle.std.proofs.Common.{refl}
-use Rattle.rollout_desk.proofs.Common.{state, HoldsRecords, Ask, query_of, reply_of, desk_state, desk_state_at}
+use Rattle.rollout_desk.proofs.Common.{refl, state, HoldsRecords, Ask, query_of, reply_of, desk_state, desk_state_at}
 use Rattle.rollout_desk.proofs.DeskLemmas.{answers}
 use Rattle.rollout_desk.proofs.PromiseLemmas.{offers_kept, contents_whole}
 use Rattle.rollout_desk.proofs.SizeLemmas.{refused_sized}

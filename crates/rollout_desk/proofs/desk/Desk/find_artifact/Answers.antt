@@ -1,5 +1,6 @@
-use Rattle.std.proofs.Common.{◌≡◌, subst}
-use Rattle.rollout_desk.proofs.Common.{Refused, Stopped, Asks, Ask, ShowArtifact, ShowContents, Applies, is_failed_store, reply_of, desk_state, RefusesContents}
+use Rattle.rollout_desk.proofs.Common.{◌≡◌, subst, Refused, Stopped, Asks, Ask, ShowArtifact, ShowContents, Applies, is_failed_store, reply_of, desk_state, RefusesContents}
+use Rattle.rollout_model.specs.declared.refusal.Refusal.TheVariants.{StoreFailed}
+use Rattle.rollout_desk.specs.Causes.{FailsByCall}
 use Rattle.rollout_desk.specs.Working.{TellsFailures}
 use Rattle.rollout_desk.proofs.DownloadLemmas.{begun, contents_refused, other_reply, refuses, shown_reply}
 use Rattle.rollout_desk.proofs.desk.Desk.find_artifact.Goals as goal
@@ -37,3 +38,8 @@ pub returns-in-Err-clause-tells : goal.returns-in-Err-clause-tells
 returns-in-Err-clause-tells g c =
     let other = other_reply c.ask-reply.result c.in-Err.reply c.in-Err.ensures in
     subst (λ r. TellsFailures (is_failed_store (reply_of r)) c.args.self.now.store.calls c.ask-reply.new.self.store.calls) other.0 c.ask-reply.ensures.tells
+
+pub returns-in-Err-clause-fails : goal.returns-in-Err-clause-fails
+returns-in-Err-clause-fails g c =
+    let other = other_reply c.ask-reply.result c.in-Err.reply c.in-Err.ensures in
+    subst (λ r. reply_of r ≡ Refused StoreFailed → FailsByCall g.S.Store c.args.self.now c.ask-reply.new.self) other.0 c.ask-reply.ensures.fails

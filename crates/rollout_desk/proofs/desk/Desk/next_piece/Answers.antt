@@ -1,6 +1,8 @@
-use Rattle.std.proofs.Common.{◌≤◌, refl, rules}
-use Rattle.rollout_desk.proofs.Common.{state, next_length}
-use Rattle.rollout_desk.proofs.DownloadLemmas.{handed, own_piece}
+use Rattle.rollout_desk.proofs.Common.{◌≡◌, ◌≤◌, subst, inl, inr, Err, ap, ◌∙◌, refl, rules, state, next_length}
+use Rattle.rollout_desk.proofs.DownloadLemmas.{handed, never_other, own_piece}
+use Rattle.rollout_model.specs.declared.refusal.Refusal.TheVariants.{StoreFailed}
+use Rattle.rollout_desk.specs.Looks.{IsOtherThan}
+use Rattle.rollout_desk.proofs.CauseLemmas.{stands_running}
 use Rattle.rollout_desk.proofs.LookLemmas.{interrupted}
 use Rattle.rollout_desk.proofs.desk.Desk.next_piece.Goals as goal
 
@@ -26,3 +28,13 @@ pub returns-in-Err-clause-own : goal.returns-in-Err-clause-own
 returns-in-Err-clause-own g c = λ h clean standing.
     interrupted c.args.self.now.stopped (state g.S.Store c.args.self.now.store.calls.conn) (state g.S.Store c.read_piece-found.new.store.calls.conn) _ h clean standing
     c.read_piece-found.result c.read_piece-found.ensures.looks c.in-Err.refusal c.in-Err.ensures c.is_failed_store-self.result c.is_failed_store-self.ensures
+
+pub returns-in-Err-clause-fails : goal.returns-in-Err-clause-fails
+returns-in-Err-clause-fails g c = λ is h contents clean counted stands sends.
+    let failed : c.in-Err.refusal ≡ StoreFailed = cc in
+    let more : 1 ≤ next_length c.args.download.now = search rules in
+    elim c.in-Err.ensures [
+      | inl same ↦ c.read_piece-found.ensures.fails (same ∙ ap Err failed) h clean counted (stands_running _ c.args.self.now.stopped h c.if-self.false stands)
+      | inr other ↦ absurd (never_other c.args.self.now.stopped (state g.S.Store c.args.self.now.store.calls.conn) (state g.S.Store c.read_piece-found.new.store.calls.conn) c.args.download.now
+          c.read_piece-found.result c.read_piece-found.ensures.looks more h contents clean stands sends (subst (λ n. IsOtherThan n c.read_piece-found.result) c.next_length-wanted.ensures.length other.1))
+    ]

@@ -1,5 +1,4 @@
-use Rattle.std.proofs.Common.{inl, inr, refl, sym, map, ◌∙◌, rules}
-use Rattle.rollout_desk.proofs.Common.{false≢true, state, HoldsRecords, CommandList, StandsFor, request_of, reply_of, desk_state, EndsRun}
+use Rattle.rollout_desk.proofs.Common.{inl, inr, refl, sym, map, ◌∙◌, rules, false≢true, state, HoldsRecords, CommandList, StandsFor, request_of, reply_of, desk_state, EndsRun}
 use Rattle.rollout_desk.proofs.OnceLemmas.{ends_once}
 use Rattle.rollout_desk.proofs.RunLemmas.{nothing_ran, none_failed_yet, none_failed_more, goes_on, ends, all_ran}
 use Rattle.rollout_desk.proofs.desk.Desk.run.Goals as goal

@@ -1,5 +1,4 @@
-use Rattle.std.proofs.Common.{◌≡◌, ◌≤◌, length, map, take, vec_len, vec_capacity}
-use Rattle.rollout_desk.proofs.Common.{request_of, reply_of, desk_state}
+use Rattle.rollout_desk.proofs.Common.{◌≡◌, ◌≤◌, length, map, take, vec_len, vec_capacity, request_of, reply_of, desk_state}
 use Rattle.rollout_desk.proofs.RunLemmas.{NoneFailed, Ran}
 use Rattle.rollout_desk.proofs.desk.Desk.run.Given as goal
 
