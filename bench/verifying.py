@@ -22,23 +22,35 @@ KINDS = [  # how an action ends: its share, its outcome, and the kinds and words
 
 @dataclass(frozen=True)
 class Full:
-    """How full a desk is: artifacts of 1 MiB, rollouts of so many members in two groups, of which the last rollout's second one waits."""
+    """How full a desk is: artifacts of 1 MiB, rollouts of so many members in groups, of which the last rollout's last one waits.
+
+    Or all groups are started, and nobody has said anything, so that each member is offered its action."""
 
     name: str
     artifacts: int
     rollouts: int
     members: int
+    groups: int = 2
+    is_offered: bool = False
+
+    def is_started(self, rollout, group):
+        return self.is_offered or rollout < self.rollouts or group < self.groups
+
+    def last_place(self, group):
+        return self.members * group // self.groups
 
 
 SMALL = Full("small: 2 rollouts of 5", 1, 2, 5)
 HALF = Full("10 rollouts of 10,000, 50 artifacts", 50, 10, 10_000)
 WHOLE = Full("20 rollouts of 10,000, 100 artifacts", 100, 20, 10_000)
+OFFERS = Full("10,000 offers in 50 groups", 1, 1, 10_000, 50, True)
 CONTENTS = Full("256 artifacts", 256, 1, 2)
 # what is asked: of the seconds and MiB above `report`, and of the share of the opening
 BOUNDS = {
     SMALL: ("10 ms", lambda above, share, more: above <= 0.010),
     HALF: ("", None),
     WHOLE: ("0.7 of the opening, 20 MiB", lambda above, share, more: share <= 0.7 and more <= 20),
+    OFFERS: ("1.0 of the opening", lambda above, share, more: share <= 1.0),
     CONTENTS: ("a piece of 64 KiB, beside 1 MiB", lambda above, share, more: more <= 1.0625),
 }
 
@@ -79,26 +91,26 @@ def fill(path, full):
 
 def fill_rollout(db, full, rollout, ids, chance, offers, number):
     """One started rollout with its actions and their histories; answers the number of its last action."""
-    half = full.members // 2
-    counts = {}
-    db.execute("INSERT INTO rollout VALUES (?,?,1,'name==*',2,50,100,1,1,0)", (rollout, f"ro{rollout}"))
+    counts, group = {}, 1
+    db.execute("INSERT INTO rollout VALUES (?,?,1,'name==*',?,50,100,1,1,0)", (rollout, f"ro{rollout}", full.groups))
     db.executemany("INSERT INTO member VALUES (?,?,?)", [(rollout, place, it) for place, it in enumerate(ids, 1)])
     for place, it in enumerate(ids, 1):
         number += 1
-        group = 1 if place <= half else 2
-        started = rollout < full.rollouts or group == 1
+        group += place > full.last_place(group)
+        started = full.is_started(rollout, group)
         drawn = chance.random()
-        outcome, said = next((o, es) for share, o, es in KINDS if drawn < share) if started else (0, [])
+        speaks = started and not full.is_offered
+        outcome, said = next((o, es) for share, o, es in KINDS if drawn < share) if speaks else (0, [])
         counts[group, outcome] = counts.get((group, outcome), 0) + 1
         if started and not outcome:
             offers.setdefault(it, number)
         notes = sum(word < 3 for _, word in said)
         db.execute("INSERT INTO action VALUES (?,?,?,?,0,?,?,?)", (number, rollout, place, it, outcome, notes, len(said)))
         db.executemany("INSERT INTO feedback VALUES (?,?,?,?,'')", [(number, s, kind, word) for s, (kind, word) in enumerate(said, 1)])
-    for group, first, last in (1, 1, half), (2, half + 1, full.members):
-        started = rollout < full.rollouts or group == 1
+    for group in range(1, full.groups + 1):
+        places = full.last_place(group - 1) + 1, full.last_place(group)
         ended = [counts.get((group, outcome), 0) for outcome in (1, 2, 3)]
-        db.execute("INSERT INTO rollout_group VALUES (?,?,?,?,?,?,?,?)", (rollout, group, first, last, started, *ended))
+        db.execute("INSERT INTO rollout_group VALUES (?,?,?,?,?,?,?,?)", (rollout, group, *places, full.is_started(rollout, group), *ended))
         db.execute("INSERT INTO group_rule VALUES (?,?,NULL,50,100)", (rollout, group))
     return number
 

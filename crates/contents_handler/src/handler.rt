@@ -2,7 +2,7 @@
 
 use crate::answered::Answered;
 use crate::download::Download;
-use rollout_machine::Handler;
+use crate::requests::Handler;
 use rollout_model::{Query, Refusal};
 
 /// A desk that hands out the contents which a query asks for in pieces, seen as a `Handler` is.

@@ -4,7 +4,9 @@
 mod answered;
 mod download;
 mod handler;
+mod requests;
 
 pub use crate::answered::Answered;
 pub use crate::download::Download;
 pub use crate::handler::ContentsHandler;
+pub use crate::requests::Handler;

@@ -1,7 +1,7 @@
 -- What was read is taken over.
-use Rattle.desk_opening.proofs.Common.{◌≡◌, inr, Ok, Err, Result, IfErr, IsTrue, sym, subst, arith, Database, State, HasCleanDisk, StandsSomewhere, HoldIn, IsAtRest, Rests, Wears, Records, desk_table, HoldsRecords, HoldsAt, HoldsReadable, newest, Version, from_newest, newest_is_readable, OpenFault, NotDesk, NewerVersion, Memory, Store, Migrates, Adopts, HasDeskTables, HasNoRow, HasRow, IsDeskRow, IsFailure, IsSettled, Keeps, Tells}
+use Rattle.desk_opening.proofs.Common.{◌≡◌, inl, inr, Ok, Err, Result, IfErr, IsTrue, sym, subst, arith, Trees, Database, State, HasCleanDisk, StandsSomewhere, HoldIn, IsAtRest, Rests, still_holds, Wears, Records, desk_table, HoldsRecords, HoldsAt, HoldsReadable, newest, Version, from_newest, newest_is_readable, OpenFault, NotDesk, NewerVersion, Memory, Store, HoldsFrom, Migrates, MigratesTo, Adopts, HasDeskAt, HasRow, IsDeskRow, IsFailure, IsSettled, Keeps, TellsVersion}
+use Rattle.desk_opening.specs.Opening.{TakesTo}
 use Rattle.desk_opening.proofs.HeldLemmas.{same_version}
-use Rattle.desk_opening.proofs.OpeningLemmas.{leaves_still}
 use Rattle.desk_opening.proofs.Steps.{rests_as}
 
 -- ---- the version that the row names
@@ -23,38 +23,50 @@ stays_newest v is s = record { wears = omega arith; migrates = λ r. rests_as (H
 -- the tables were looked at again
 pub looked_at : {E F : Type 0} (v : Version) (a z : State) → Migrates {A = Unit {0}} {E = F} v a z (Ok tt) → (out : Result (Unit {0}) E) → Migrates v a z out
 looked_at v a z h (Ok x) = record { wears = h.wears; migrates = h.migrates }
-looked_at v a z h (Err e) = record { wears = h.wears; migrates = λ r was clean db left. let found = (h.migrates r was clean).held.crash db left in (found.0, newest_is_readable _ r found.1) }
+looked_at v a z h (Err e) = record { wears = h.wears; migrates = λ r was clean db left. let found = (h.migrates r was clean).held.crash db left in (found.0, inr found.1) }
+
+-- in the one version or the other
+pub one_or_other : (v : Version) (r : Records) (db : Trees) → HoldIn (HoldsFrom v) db r → HoldIn HoldsReadable db r
+one_or_other v r db (s, inl h) = (s, (v, h))
+one_or_other v r db (s, inr h) = (s, newest_is_readable _ r h)
 
 -- ---- the whole
 
--- what was said of the row
-abbrev Told : State → State → Result Version OpenFault → Type 0
-Told old new out = HasCleanDisk new → StandsSomewhere old.now.schema (desk_table 0) → Tells (λ v. HasRow old.now (IsDeskRow v)) (HasRow old.now) (HasNoRow old.now) out
+-- a desk of this version was found, and its tables become those of the newest
+module _ (old mid : State) (table : StandsSomewhere old.now.schema (desk_table 0)) (v : Version) (k : Keeps {E = OpenFault} old mid (Ok v)) (tells : HasCleanDisk mid → TellsVersion old.now (Ok v)) (settled : IsSettled old) (new : State) where
+  found : HasCleanDisk mid → HasDeskAt old.now v
+  found clean = tells clean table
 
-module _ (old mid : State) (table : StandsSomewhere old.now.schema (desk_table 0)) where
-  module _ (v : Version) (k : Keeps {E = OpenFault} old mid (Ok v)) (tells : Told old mid (Ok v)) where
-    -- the tables of the version that the row names are not there
-    pub adopts_lacking : (A : Type 0) → (¬ HasDeskTables v old.now.schema) → Adopts {A = A} old mid (Err NotDesk)
-    adopts_lacking A lacks = record { wears = k.wears; takes = leaves_still old mid v k; tells = λ clean. inr (inr (inr (record { version = v; row = tells clean table; lacks = lacks }))) }
+  stood : Wears mid new → HasCleanDisk new → (r : Records) → Rests HoldsReadable old r → Rests (HoldsAt v) mid r
+  stood wears clean r was =
+      let between : HasCleanDisk mid = omega (arith, clean, wears) in
+      let before : HasCleanDisk old = omega (arith, between, k.wears) in
+      k.keeps_at v r (λ _. rest_at old settled (k.opened between) v (found between).row r (was before))
 
-    -- they are, and become those of the newest
-    module _ (settled : IsSettled old) (tables : HasDeskTables v old.now.schema) (new : State) where
-      stood : Wears mid new → HasCleanDisk new → (r : Records) → Rests HoldsReadable old r → Rests (HoldsAt v) mid r
-      stood wears clean r was =
-          let between : HasCleanDisk mid = omega (arith, clean, wears) in
-          let before : HasCleanDisk old = omega (arith, between, k.wears) in
-          k.keeps_at v r (λ _. rest_at old settled (k.opened between) v (tells between table) r (was before))
+  -- the version that they stood in is the one that the row names
+  moved_at : (w : Version) → Wears mid new → HasCleanDisk new → (r : Records) → Rests (HoldsAt w) old r → v ≡ w
+  moved_at w wears clean r was =
+      let between : HasCleanDisk mid = omega (arith, clean, wears) in
+      let before : HasCleanDisk old = omega (arith, between, k.wears) in
+      same_version old.now r w (still_holds (HoldsAt w) old r (was before) (k.opened between)) v (found between).row
 
-      says : Wears mid new → HasCleanDisk new → HasRow old.now (IsDeskRow v)
-      says wears clean = tells (omega (arith, clean, wears)) table
+  pub stood_at : (w : Version) → Wears mid new → HasCleanDisk new → (r : Records) → Rests (HoldsAt w) old r → Rests (HoldsAt v) mid r
+  stood_at w wears clean r was = subst (λ u. Rests (HoldsAt u) mid r) (sym (moved_at w wears clean r was)) (k.keeps_at w r was)
 
-      pub adopts_renewed : {A : Type 0} (out : Result A OpenFault) → Migrates v mid new out → IfErr out IsFailure → Adopts old new out
-      adopts_renewed (Ok x) m fails = record {
-        wears = omega (arith, k.wears, m.wears);
-        takes = λ r was clean. m.migrates r (stood m.wears clean r was) clean;
-        tells = λ clean. record { version = v; tables = tables; row = says m.wears clean };
-      }
-      adopts_renewed (Err NotDesk) m fails = absurd fails
-      adopts_renewed (Err NewerVersion) m fails = absurd fails
-      adopts_renewed (Err Memory) m fails = record { wears = omega (arith, k.wears, m.wears); takes = λ r was clean db left. m.migrates r (stood m.wears clean r was) clean db left; tells = λ clean. tt }
-      adopts_renewed (Err Store) m fails = record { wears = omega (arith, k.wears, m.wears); takes = λ r was clean db left. m.migrates r (stood m.wears clean r was) clean db left; tells = λ clean. tt }
+  still : {A : Type 0} {e : OpenFault} → Migrates {A = A} v mid new (Err e) → TakesTo {A = A} old new (Err e)
+  still m r was clean db left = one_or_other v r db (m.migrates r (stood m.wears clean r was) clean db left)
+
+  still_at : {A : Type 0} (w : Version) {e : OpenFault} → Migrates {A = A} v mid new (Err e) → MigratesTo {A = A} w old new (Err e)
+  still_at w m r was clean db left = subst (λ u. HoldIn (HoldsFrom u) db r) (moved_at w m.wears clean r was) (m.migrates r (stood_at w m.wears clean r was) clean db left)
+
+  pub adopts_renewed : {A : Type 0} (out : Result A OpenFault) → Migrates v mid new out → IfErr out IsFailure → Adopts old new out
+  adopts_renewed (Ok x) m fails = record {
+    wears = omega (arith, k.wears, m.wears);
+    takes = λ r was clean. m.migrates r (stood m.wears clean r was) clean;
+    takes_at = λ w r was clean. m.migrates r (stood_at w m.wears clean r was) clean;
+    tells = λ clean. let it = found (omega (arith, clean, m.wears)) in record { version = v; tables = it.tables; row = it.row };
+  }
+  adopts_renewed (Err NotDesk) m fails = absurd fails
+  adopts_renewed (Err NewerVersion) m fails = absurd fails
+  adopts_renewed (Err Memory) m fails = record { wears = omega (arith, k.wears, m.wears); takes = still m; takes_at = λ w. still_at w m; tells = λ clean. tt }
+  adopts_renewed (Err Store) m fails = record { wears = omega (arith, k.wears, m.wears); takes = still m; takes_at = λ w. still_at w m; tells = λ clean. tt }

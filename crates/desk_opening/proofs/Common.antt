@@ -5,7 +5,7 @@ pub use Rattle.std.proofs.lemmas.Bool.{and_parts, both_ways, cases_Bool, cases_e
 pub use Rattle.std.proofs.lemmas.List.{drop_all, drop_more, length-map, length-take, nil_from_length, take-append-drop, take_all, take_more}
 pub use Rattle.std.specs.List.{AllByRecursion, AllZip, list_any, position_from}
 pub use Rattle.sqlite.proofs.Callers.{statement_of}
-pub use Rattle.sqlite.specs.Command.TheVariants.{Begin, CreateTable, Insert, Select, Update}
+pub use Rattle.sqlite.specs.Command.TheVariants.{Begin, Commit, CreateTable, Insert, Select, Update}
 pub use Rattle.sqlite.specs.Effect.{Database, IsDatabase}
 pub use Rattle.sqlite.specs.Files.{AreFoundIn, FailsToOpenFiles, HoldsDatabase, IsBlankAs, IsCleanLeft, IsNothing, LeavesFiles, NamesSize, SaysSums, file_state, image_of}
 pub use Rattle.sqlite.specs.Held.{Held, state}
@@ -67,10 +67,10 @@ pub use Rattle.desk_records.specs.declared.version.Version.{Version}
 pub use Rattle.desk_records.specs.declared.version.Version.TheVariants.{One, Three, Two}
 pub use Rattle.desk_opening.specs.Filling.{FillsLater, FillsRollout, FindsLedger, IsOfNumber, Leaves, MakesLedger, Stays, WritesCopies, WritesRules, WritesUpTo, bare_ledger, no_rules, rules_up_to}
 pub use Rattle.desk_opening.specs.Making.{AreApart, At, Before, Changes, Free, HoldsBefore, HoldsPartly, HoldsStage, IsEmptyTable, LeavesDesk, LeavesNoDesk, Makes, MakesTables, Nothing, Older, Partly, Stage, Standing, Whole, first_records, told}
-pub use Rattle.desk_opening.specs.Migrating.{Migrates}
-pub use Rattle.desk_opening.specs.Opening.{Adopts, FindsTo, HasDesk, HasDeskTables, HasNoDesk, HasNoRow, HasRow, IsDeskRow, IsFailure, IsKnownOpen, IsNewerRow, IsOtherRow, IsSettled, Keeps, LacksDesk, OpensDesk, OpensTo, ReadsRow, Tells}
+pub use Rattle.desk_opening.specs.Migrating.{HoldsFrom, Migrates, MigratesTo}
+pub use Rattle.desk_opening.specs.Opening.{Adopts, FindsTo, HasDesk, HasDeskAt, HasDeskTables, HasNoDesk, HasNoRow, HasRow, IsDeskRow, IsFailure, IsKnownOpen, IsNewerRow, IsOtherRow, IsSettled, IsWholeAt, Keeps, LacksAt, LacksDesk, LacksTables, OpensDesk, OpensTo, TakesRow, Tells, TellsVersion}
 pub use Rattle.desk_opening.specs.Places.{create_text_of, place_of}
-pub use Rattle.desk_opening.specs.Reopening.{BeginsPlain, EachAfter, HasNewer, HoldsDesk, HoldsNoDesk, HoldsNone, HoldsPlain, IsForeign, IsLeftOf, IsOpenable, LeavesUnharmed, Refuses, RefusesStore, Reopens, Spares, UsesNoName}
+pub use Rattle.desk_opening.specs.Reopening.{BeginsPlain, EachAfter, HasNewer, HoldsDesk, HoldsDeskAt, HoldsNoDesk, HoldsNone, HoldsPlain, HoldsWhatWas, IsForeign, IsOpenable, LeavesUnharmed, Refuses, Reopens, Spares, UsesNoName}
 pub use Rattle.desk_opening.specs.declared.desk_table.DeskTable.{DeskTable}
 pub use Rattle.desk_opening.specs.declared.opening.OpenFault.{OpenFault}
 pub use Rattle.desk_opening.specs.declared.opening.OpenFault.TheVariants.{Memory, NewerVersion, NotDesk, Store}

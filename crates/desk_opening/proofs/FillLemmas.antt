@@ -30,10 +30,10 @@ abbrev knows_put : (db : Database) → HoldsStage db Standing → Known db.schem
 knows_put db h = let spot = h.1.spot Rules in record { command = Insert spot.at (Values rule_terms 6); means = (put_at put_rule_is).at db.schema spot.at spot.tree (h.1.stands Rules) }
 
 -- .. where they hold a ledger
-abbrev ending : Knows HoldsLedger LAST_ROLLOUT.now
+abbrev pub ending : Knows HoldsLedger LAST_ROLLOUT.now
 ending db l h = let spot = h.spot Rollouts in record { command = Select (record { lets = []; body = last_rollout_query spot.tree }) (codes "number" ∷ []); means = (asked_at last_rollout_is).at db.schema spot.at spot.tree (h.stands Rollouts) }
 
-abbrev getting : Knows HoldsLedger GET_ROLLOUT.now
+abbrev pub getting : Knows HoldsLedger GET_ROLLOUT.now
 getting db l h = let spot = h.spot Rollouts in record { command = Select (record { lets = []; body = simple spot.tree (at_key 0 0 ∷ []) rollout_columns }) rollout_names; means = (asked_at get_rollout_is).at db.schema spot.at spot.tree (h.stands Rollouts) }
 
 abbrev putting : Knows HoldsLedger PUT_RULE.now
@@ -191,7 +191,7 @@ nothing_yet l next w = w.next_is ∙ ap (with_rules l) (none_said l.records.roll
 pub none_filled : (s : State) → MakesLedger {A = Unit {0}} {E = Fault} s s (Ok tt) (WritesUpTo 0)
 none_filled s = makes_nothing nothing_yet
 
-within : (k : ℕ) (xs : List RolloutRecord) → k < length xs → (x : RolloutRecord) × (slice_get xs k ≡ Some x)
+pub within : (k : ℕ) (xs : List RolloutRecord) → k < length xs → (x : RolloutRecord) × (slice_get xs k ≡ Some x)
 within k [] low = absurd (omega (arith, low))
 within zero (x ∷ xs) low = (x, refl)
 within (suc k) (x ∷ xs) low = within k xs (omega (arith, low))

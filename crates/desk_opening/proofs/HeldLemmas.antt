@@ -48,7 +48,7 @@ module _ (db : Database) (r : Records) (v : Version) (holds : HoldsAt v db r) wh
   table_stands : StandsSomewhere db.schema (desk_table 0)
   table_stands = let spot = holds.spot Desk in record { at = spot.at; tree = spot.tree; stands = desk_held.0 }
 
-  has_tables : HasDeskTables v db.schema
+  pub has_tables : HasDeskTables v db.schema
   has_tables = record { stands = all_kept _ (λ t. StandsSomewhere db.schema (table_at t 0)) (λ t held. let spot = holds.spot t in record { at = spot.at; tree = spot.tree; stands = held.0 }) (places_at v) holds.tables; free = holds.free }
 
   -- the row names the version that it is held in

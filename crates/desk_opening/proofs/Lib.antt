@@ -1,5 +1,6 @@
 pub mod Common
 pub mod Steps
+pub mod CountLemmas
 pub mod IsPlace
 pub mod EachText
 pub mod Places
@@ -8,6 +9,7 @@ pub mod Tables
 pub mod MakeLemmas
 pub mod RuleLists
 pub mod FillLemmas
+pub mod FailLemmas
 pub mod RowLemmas
 pub mod VersionSet
 pub mod MigrateLemmas
@@ -16,6 +18,7 @@ pub mod OpeningLemmas
 pub mod ChoiceLemmas
 pub mod HeldLemmas
 pub mod AdoptLemmas
+pub mod CauseLemmas
 pub mod BlankLemmas
 pub mod ReopenLemmas
 pub mod SparingLemmas

@@ -1,15 +1,18 @@
 -- From files that were opened to what the connection stands for.
-use Rattle.desk_opening.proofs.Common.{◌≡◌, ◌⊎◌, inl, inr, ℕ, ◌+◌, Bool, cond, false, Some, ap, List, [], ◌∷◌, map, ◌∙◌, refl, Ok, Err, Result, IfOk, IfErr, sym, subst, arith, ∥∥₁_elim, Trees, Schema, Table, Image, HoldsDatabase, AreFoundIn, IsNothing, IsBlankAs, IsCleanLeft, file_state, Held, Leftover, State, HasCleanDisk, Opens, IsLive, AllZip, position_from, Row, Text, IsSound, IsViewRow, same_name, is_used, Stands, Has, HoldIn, IsAtRest, Rests, still_holds, LeavesFree, Records, desk_names, HoldsPlace, HoldsReadable, name_of, later_than, places_at, HoldsStage, Free, told, OpenFault, OpensDesk, HasDesk, HasNoDesk, HasRow, IsFailure, IsNewerRow, FindsTo, IsSettled, Reopens, Refuses, RefusesStore, LeavesUnharmed, IsLeftOf, BeginsPlain, HoldsDesk, HoldsNone, HoldsNoDesk, HasNewer, IsOpenable, UsesNoName}
+use Rattle.desk_opening.proofs.Common.{◌≡◌, ◌⊎◌, inl, inr, ℕ, ◌+◌, Bool, cond, false, Some, ap, List, [], ◌∷◌, map, ◌∙◌, refl, Ok, Err, Result, IfOk, sym, subst, arith, ∥∥₁_elim, Trees, Schema, Table, Image, HoldsDatabase, AreFoundIn, IsNothing, IsBlankAs, file_state, Held, State, HasCleanDisk, Opens, IsLive, AllZip, position_from, Row, Text, IsSound, IsViewRow, same_name, is_used, Stands, Has, HoldIn, IsAtRest, Rests, still_holds, LeavesFree, Records, desk_names, HoldsAt, HoldsPlace, HoldsReadable, Version, Database, name_of, later_than, places_at, HoldsStage, Free, told, OpenFault, OpensDesk, HasDesk, HasNoDesk, HasRow, IsFailure, IsNewerRow, FindsTo, IsSettled, Reopens, Refuses, BeginsPlain, HoldsDesk, HoldsDeskAt, HoldsNone, HoldsNoDesk, HasNewer, IsOpenable, UsesNoName}
 use Rattle.std.proofs.Math.Bool.{Bool-set}
 use mathlib.Core.HLevel.{Π_prop}
 use Rattle.sqlite_trees.specs.Props.{Trees-set, AllByRecursion-prop}
 use Rattle.sqlite.specs.Start.{FindsIn}
-use Rattle.sqlite.specs.declared.file.Leftover.TheVariants as left
 use Rattle.sqlite_disk.specs.declared.Disk as disk
 use Rattle.sqlite_store.specs.declared.store.FileStore.{FileStore}
 use Rattle.sqlite_store.specs.FileStore as store
-use Rattle.sqlite_trees.proofs.Doubt.{no_doubt}
 use Rattle.sqlite_schema.specs.declared.schema.View.{View}
+use Rattle.sqlite.specs.Files.{over_files}
+use Rattle.sql_calls.specs.declared.calls.Calls.{Calls}
+use Rattle.desk_opening.specs.Causes.{HasCause, IsHealthy}
+use Rattle.desk_opening.specs.Counting.{AreReadable}
+use Rattle.desk_opening.specs.Reopening.{RefusesCalls}
 use Rattle.sql_calls.proofs.Schemas.{same_indexes, same_tables}
 use Rattle.desk_opening.proofs.BlankLemmas.{nothing_is_unused}
 use Rattle.desk_opening.proofs.Tables.{all_kept}
@@ -41,33 +44,35 @@ free_over : (s z : Schema) (trees : Trees) → IsSound s trees → IsSound z tre
 free_over s z trees was sound [] free = tt
 free_over s z trees was sound (name ∷ names) free = (used_over s z trees was sound name ∙ free.0, free_over s z trees was sound names free.1)
 
--- it finds the records
-holds_over : (z : Schema) (trees : Trees) (r : Records) → IsSound z trees → HoldIn HoldsReadable trees r → HoldsReadable (record { schema = z; trees = trees }) r
-holds_over z trees r sound (s, (v, h)) =
-    let same = same_tables z s trees sound h.sound in (
-      v,
-      record {
-        sound = sound;
-        spot = h.spot;
-        tables = all_kept _ (λ t. HoldsPlace v (record { schema = z; trees = trees }) r (h.spot t) t) (λ t held. (stands_over s z _ _ _ same held.0, held.1)) (places_at v) h.tables;
-        free = free_over s z trees h.sound sound (map name_of (later_than v)) h.free;
-        tellable = h.tellable;
-        sorted = h.sorted;
-        keyed = λ index there. h.keyed index (subst (λ indexes. Has indexes index) (same_indexes z s trees sound h.sound) there);
-      },
-    )
+-- it finds the records, in the same version
+at_over : (v : Version) (z : Schema) (trees : Trees) (r : Records) → IsSound z trees → HoldIn (HoldsAt v) trees r → HoldsAt v (record { schema = z; trees = trees }) r
+at_over v z trees r sound (s, h) =
+    let same = same_tables z s trees sound h.sound in
+    record {
+      sound = sound;
+      spot = h.spot;
+      tables = all_kept _ (λ t. HoldsPlace v (record { schema = z; trees = trees }) r (h.spot t) t) (λ t held. (stands_over s z _ _ _ same held.0, held.1)) (places_at v) h.tables;
+      free = free_over s z trees h.sound sound (map name_of (later_than v)) h.free;
+      tellable = h.tellable;
+      sorted = h.sorted;
+      keyed = λ index there. h.keyed index (subst (λ indexes. Has indexes index) (same_indexes z s trees sound h.sound) there);
+    }
+
+any_over : (z : Schema) (trees : Trees) (r : Records) → IsSound z trees → HoldIn HoldsReadable trees r → HoldsReadable (record { schema = z; trees = trees }) r
+any_over z trees r sound (s, (v, h)) = (v, at_over v z trees r sound (s, h))
 
 -- ---- a connection that was just opened
 
-at_rest : (s : State) (r : Records) → IsSettled s → Opens s → IsLive s → HoldIn HoldsReadable s.committed.trees r → IsAtRest HoldsReadable s r
-at_rest s r settled opens live held =
-    let kept : HoldsReadable s.committed r = holds_over s.committed.schema s.committed.trees r (live opens.is_open).1 held in
+at_rest : (Holds : Database → Records → Type 0) → ((z : Schema) (trees : Trees) (r : Records) → IsSound z trees → HoldIn Holds trees r → Holds (record { schema = z; trees = trees }) r)
+    → (s : State) (r : Records) → IsSettled s → Opens s → IsLive s → HoldIn Holds s.committed.trees r → IsAtRest Holds s r
+at_rest Holds over s r settled opens live held =
+    let kept : Holds s.committed r = over s.committed.schema s.committed.trees r (live opens.is_open).1 held in
     record {
       mode = opens.autocommit;
       held = record {
         ended = λ _ _. opens.clean;
         kept_holds = λ _. kept;
-        crash = λ db left. subst (λ t. HoldIn HoldsReadable t r) (sym (settled db opens.is_open left)) held;
+        crash = λ db left. subst (λ t. HoldIn Holds t r) (sym (settled db opens.is_open left)) held;
       };
     }
 
@@ -90,8 +95,8 @@ none_is_prop : (db : Trees) → IsProp (UsesNoName db)
 none_is_prop db = Π_prop λ (s : Schema). Π_prop λ (sound : IsSound s db). AllByRecursion-prop (λ name. is_used s name ≡ false) (λ name. Bool-set (is_used s name) false) desk_names
 
 module _ (image : Image) (found : Trees) (holds : (db : Trees) → HoldsDatabase image db → found ≡ db) where
-  pub found_records : (r : Records) → HoldsDesk HoldsDatabase image r → HoldIn HoldsReadable found r
-  found_records r has = subst (λ t. HoldIn HoldsReadable t r) (sym (∥∥₁_elim has.1 (Trees-set found has.0) (holds has.0))) has.2
+  pub found_records : (Is : Trees → Type 0) → (db : Trees) × ∥ HoldsDatabase image db ∥₁ × Is db → Is found
+  found_records Is has = subst Is (sym (∥∥₁_elim has.1 (Trees-set found has.0) (holds has.0))) has.2
 
   pub found_none : (IsNothing image → UsesNoName found) → HoldsNone HoldsDatabase image → UsesNoName found
   found_none nothing (inl empty) = nothing empty
@@ -100,7 +105,10 @@ module _ (image : Image) (found : Trees) (holds : (db : Trees) → HoldsDatabase
 module _ (image : Image) (old : State) (opened : HasCleanDisk old → Opens old × IsLive old) (holds : HasCleanDisk old → (db : Trees) → HoldsDatabase image db → old.committed.trees ≡ db)
     (reads : HasCleanDisk old → AreFoundIn image old.committed.trees) (settled : IsSettled old) where
   rests : (r : Records) → HoldsDesk HoldsDatabase image r → Rests HoldsReadable old r
-  rests r has clean = let it = opened clean in at_rest old r settled it.0 it.1 (found_records image old.committed.trees (holds clean) r has)
+  rests r has clean = let it = opened clean in at_rest HoldsReadable any_over old r settled it.0 it.1 (found_records image old.committed.trees (holds clean) (λ t. HoldIn HoldsReadable t r) has)
+
+  rests_at : (v : Version) (r : Records) → HoldsDeskAt HoldsDatabase v image r → Rests (HoldsAt v) old r
+  rests_at v r has clean = let it = opened clean in at_rest (HoldsAt v) (at_over v) old r settled it.0 it.1 (found_records image old.committed.trees (holds clean) (λ t. HoldIn (HoldsAt v) t r) has)
 
   rests_free : HoldsNone HoldsDatabase image → Rests HoldsStage old Free
   rests_free none clean = let it = opened clean in free_at_rest old settled it.0 it.1 (found_none image old.committed.trees (holds clean) (λ nothing. nothing_is_unused image old.committed.trees nothing (reads clean)) none)
@@ -137,24 +145,20 @@ module _ (image : Image) (old : State) (opened : HasCleanDisk old → Opens old 
         newer = λ is. newer (omega (arith, clean, h.wears)) (subst (λ f. FindsTo {A = X} old.now (Err f)) is (h.finds clean));
         none = λ is. none (omega (arith, clean, h.wears)) (subst (λ f. FindsTo {A = X} old.now (Err f)) is (h.finds clean));
         fails = only_fails X e (omega (arith, clean, h.wears)) (h.finds clean);
-        holds = λ r has. h.takes is_open r (rests r has) clean;
+        holds = λ v r has. h.takes_at is_open v r (rests_at v r has) clean;
         makes = λ none. h.makes is_open (rests_free none) clean;
       }
 
-  -- the store that is left of a connection, which was rolled back, leaves no more than the connection
-  module _ {D : Type 0} {g : disk.Ghosts D} (approval : Bool) where
-    leaves_store : (X : Type 0) (last : Held (FileStore D g)) (e : OpenFault) (rest : Leftover D g) → OpensDesk {A = X} old (file_state last) approval (Err e) → IsLeftOf last rest → IsCleanLeft rest → RefusesStore image approval e rest
-    leaves_store X last e (left.Files now) h gone clean = gone
-    leaves_store X last e (left.Unopened now) h gone clean = gone
-    leaves_store X last e (left.Store now) h quiet clean =
-        let sure = no_doubt (store.view now).is_clean clean in
-        let it = refuses X (file_state last) approval e h (omega (arith, quiet.clean, sure)) in
-        record { newer = it.newer; none = it.none; fails = it.fails; holds = λ r has db may. it.holds r has db (quiet.outcomes db may); makes = λ none db may. it.makes none db (quiet.outcomes db may) }
-
-    pub left_unharmed : {X : Type 0} (before : Image → Type 0) (out : Result X (OpenFault × Leftover D g))
-        → IfErr out (λ e. (last : Held (FileStore D g)) × OpensDesk old (file_state last) approval (told out) × IsLeftOf last e.1) → IfErr out (λ e. LeavesUnharmed before image approval e.0 e.1)
-    left_unharmed before (Ok x) h = tt
-    left_unharmed {X} before (Err e) h = inr (leaves_store X h.0 e.0 e.1 h.1 h.2)
+  -- the connection that is left
+  pub refuses_calls : {D : Type 0} {g : disk.Ghosts D} (X : Type 0) (approval : Bool) (e : OpenFault) (calls : Calls (FileStore D g)) → OpensDesk {A = X} old (file_state calls.conn) approval (Err e) → HasCause over_files old calls e
+      → HasCleanDisk (file_state calls.conn) → RefusesCalls image approval e calls
+  refuses_calls X approval e calls h why clean =
+      let is_open = λ (clean : HasCleanDisk old). (opened clean).0.is_open in
+      record { refuses = refuses X (file_state calls.conn) approval e h clean; causes = λ sound. why.cause is_open (healthy sound) clean }
+    where
+      healthy : ((r : Records) × HoldsDesk HoldsDatabase image r × AreReadable r) ⊎ HoldsNone HoldsDatabase image → IsHealthy old
+      healthy (inl it) = let held = it.1.2 in inl (record { version = held.1.0; records = it.0; rests = rests_at held.1.0 it.0 (it.1.0, it.1.1, (held.0, held.1.1)); readable = it.2 })
+      healthy (inr nothing) = inr (rests_free nothing)
 
 -- ---- what the connection began as
 
@@ -163,4 +167,4 @@ pub begins_plain : {D : Type 0} {g : disk.Ghosts D} (image : Image) (approval : 
     → IfOk out (λ x. OpensDesk (file_state first) (file_state x) approval (told out)) → IfOk out (BeginsPlain image approval)
 begins_plain image approval first found plain (Err e) h = tt
 begins_plain image approval first found plain (Ok x) h =
-    record { first = first; opens = record { wears = h.wears; finds = h.finds; takes = h.takes; makes = h.makes }; found = found; plain = plain }
+    record { first = first; opens = record { wears = h.wears; finds = h.finds; takes = h.takes; takes_at = h.takes_at; makes = h.makes }; found = found; plain = plain }

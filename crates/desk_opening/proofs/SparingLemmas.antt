@@ -1,6 +1,7 @@
 -- What files keep that were not opened.
-use Rattle.desk_opening.proofs.Common.{◌≡◌, ◌≢◌, ◌==◌, ◌%◌, ◌≤◌, inl, inr, ℕ, Bool, true, false, List, [], ◌∷◌, if◌then◌else◌, cond, refl, sym, ap, ap₂, subst, ◌∙◌, IsTrue, arith, cases_eq, cases_Bool, ∥∥₁_map, ∥∥₁_elim, Image, Trees, is_summed, reserved, stored_size, StandsAs, store_error, outcomes, Leftover, HoldsDatabase, IsCleanLeft, FailsToOpenFiles, NamesSize, SaysSums, LeavesFiles, image_of, HoldIn, Records, HoldsReadable, OpenFault, NotDesk, NewerVersion, Memory, Store, IsFailure, HoldsPlain, HoldsNone, HoldsDesk, UsesNoName, EachAfter, IsForeign, Spares, LeavesUnharmed}
+use Rattle.desk_opening.proofs.Common.{◌≡◌, ◌≢◌, ◌⊎◌, ◌==◌, ◌%◌, ◌≤◌, inl, inr, ℕ, Bool, true, false, List, [], ◌∷◌, if◌then◌else◌, cond, refl, sym, ap, ap₂, subst, ◌∙◌, IsTrue, arith, cases_eq, cases_Bool, ∥∥₁_map, ∥∥₁_elim, Image, Trees, is_summed, reserved, stored_size, StandsAs, store_error, outcomes, Leftover, HoldsDatabase, IsCleanLeft, FailsToOpenFiles, NamesSize, SaysSums, LeavesFiles, image_of, HoldIn, Records, HoldsAt, Version, OpenFault, NotDesk, NewerVersion, Memory, Store, IsFailure, HoldsPlain, HoldsNone, HoldsDeskAt, HoldsWhatWas, UsesNoName, EachAfter, IsForeign, Spares, LeavesUnharmed}
 use Rattle.sqlite_disk.specs.declared.Disk as disk
+use Rattle.sqlite_disk.specs.Disk.{MoreFaults}
 use Rattle.sqlite_disk.specs.declared.Files.{Files}
 use Rattle.sqlite_disk.specs.declared.modelled.Modelled.{Modelled}
 use Rattle.sqlite_disk.specs.declared.calls.Calls as calls
@@ -16,7 +17,9 @@ use Rattle.sqlite.specs.declared.error.Error.{Error}
 use Rattle.sqlite.specs.declared.error.Error.TheVariants.{SqliteFailure}
 use Rattle.sqlite.specs.declared.error.ErrorCode.TheVariants as code
 use Rattle.sqlite.specs.declared.file.Leftover.TheVariants as left
+use Rattle.sqlite.specs.Files.{IsFullLeft, faults_left}
 use Rattle.sqlite.proofs.FileLemmas.{is_something}
+use Rattle.desk_opening.specs.declared.reopening.DeskLeftover.TheVariants as desk
 use Rattle.desk_opening.proofs.BlankLemmas.{nothing_is_unused, empty_is_unused}
 use Rattle.desk_opening.proofs.ReopenLemmas.{found_records, found_none}
 
@@ -86,15 +89,14 @@ module _ {D : Type 0} (g : disk.Ghosts D) (stays : (file : D) → g.may_leave fi
   seen_is : before_it (image_of g files)
   seen_is = (stays files.log, stays files.db)
 
-  pub holds_on : (rest : Leftover D g) → LeavesFiles files rest → (r : Records)
-      → ((image : Image) → before_it image → HoldsDesk HoldsPlain image r) → EachAfter g (λ image. HoldsDesk HoldsPlain image r) (λ db. HoldIn HoldsReadable db r) rest
-  holds_on (left.Files now) leaves r before = λ image out. before image (leaves image out)
-  holds_on (left.Unopened now) (inl blank) r before = let seen = before (image_of g files) seen_is in absurd (∥∥₁_elim seen.1 (λ x. absurd x) (λ it. is_something _ _ (whole _ _ it) blank.0))
-  holds_on (left.Unopened now) (inr kept) r before = let seen = before (image_of g files) seen_is in λ image may. elim ((kept.4 image may).same) [
-    | inl out ↦ before image out
-    | inr stands ↦ (seen.0, ∥∥₁_map seen.1 (λ it. stands_still _ _ it _ kept.1 kept.3 image stands), seen.2)
+  pub holds_on : (rest : Leftover D g) → LeavesFiles files rest → EachAfter g (HoldsWhatWas before_it (HoldsDeskAt HoldsPlain)) (HoldsWhatWas before_it (λ v db r. HoldIn (HoldsAt v) db r)) rest
+  holds_on (left.Files now) leaves = λ image out. (image, leaves image out, λ v r h. h)
+  holds_on (left.Unopened now) (inl blank) = λ image may. (image_of g files, seen_is, λ v r seen. absurd (∥∥₁_elim seen.1 (λ x. absurd x) (λ it. is_something _ _ (whole _ _ it) blank.0)))
+  holds_on (left.Unopened now) (inr kept) = λ image may. elim ((kept.4 image may).same) [
+    | inl out ↦ (image, out, λ v r h. h)
+    | inr stands ↦ (image_of g files, seen_is, λ v r seen. (seen.0, ∥∥₁_map seen.1 (λ it. stands_still _ _ it _ kept.1 kept.3 image stands), seen.2))
   ]
-  holds_on (left.Store now) leaves r before = let seen = before (image_of g files) seen_is in λ db found. found_records (image_of g files) db (leaves db found).1 r (seen.0, ∥∥₁_map seen.1 (whole _ _), seen.2)
+  holds_on (left.Store now) leaves = λ db found. (image_of g files, seen_is, λ v r seen. found_records (image_of g files) db (leaves db found).1 (λ t. HoldIn (HoldsAt v) t r) (seen.0, ∥∥₁_map seen.1 (whole _ _), seen.2))
 
   pub makes_none : (rest : Leftover D g) → LeavesFiles files rest → ((image : Image) → before_it image → HoldsNone HoldsPlain image) → EachAfter g (HoldsNone HoldsDatabase) UsesNoName rest
   makes_none (left.Files now) leaves before = λ image out. plainly image (before image (leaves image out))
@@ -124,17 +126,36 @@ module _ {D : Type 0} (g : disk.Ghosts D) (stays : (file : D) → g.may_leave fi
       go (inr (inr (inl fault))) = absurd (never (λ no. not_stored _ (sym (fault.0) ∙ no)))
       go (inr (inr (inr full))) = absurd (never (λ no. let x = sym (full.0) ∙ no in cc))
 
-  pub spares : (error : Error) (rest : Leftover D g) (e : OpenFault) → (error ≢ SqliteFailure code.NotADatabase → IsFailure e) → e ≢ NewerVersion → FailsToOpenFiles files rest error × LeavesFiles files rest → Spares g before_it rest e
-  spares error rest e opened named why = record { named = named; foreign = foreign error rest e opened (why.0); holds = holds_on rest (why.1); makes = makes_none rest (why.1) }
+  -- a failed store has a cause
+  caused : (error : Error) (rest : Leftover D g) (e : OpenFault) → (e ≡ Store → error ≢ SqliteFailure code.OutOfMemory) → FailsToOpenFiles files rest error → e ≡ Store
+      → ((image : Image) × before_it image × IsForeign image) ⊎ (MoreFaults 0 (faults_left rest) ⊎ IsFullLeft rest)
+  caused error rest e memory (inl wanting) is = absurd (memory is wanting)
+  caused error rest e memory (inr (inl refused)) is = inl (image_of g files, seen_is, (λ nothing. refused.1 (inr nothing), λ held. refused.1 (inl held)))
+  caused error rest e memory (inr (inr (inl fault))) is = let more = fault.1 in inr (inl (grind (arith, more)))
+  caused error rest e memory (inr (inr (inr full))) is = inr (inr full.1)
+
+  pub spares : (error : Error) (rest : Leftover D g) (e : OpenFault) → (error ≢ SqliteFailure code.NotADatabase → IsFailure e) → e ≢ NewerVersion → (e ≡ Store → error ≢ SqliteFailure code.OutOfMemory) → FailsToOpenFiles files rest error × LeavesFiles files rest → Spares g before_it rest e
+  spares error rest e opened named memory why = record { named = named; foreign = foreign error rest e opened (why.0); causes = caused error rest e memory (why.0); holds = holds_on rest (why.1); makes = makes_none rest (why.1) }
+
+  -- what held what one of the files before held, also does where more are named
+  wider : {X : Type 0} (named_here : Image → Type 0) → ((image : Image) → before_it image → named_here image) → (Holds : Version → X → Records → Type 0) (x : X) → HoldsWhatWas before_it Holds x → HoldsWhatWas named_here Holds x
+  wider named_here all Holds x it = (it.0, all it.0 it.1, it.2)
 
   -- a crash may leave no more than is named here
   pub spares_at : (named_here : Image → Type 0) → ((image : Image) → before_it image → named_here image) → (rest : Leftover D g) (e : OpenFault) → Spares g before_it rest e → Spares g named_here rest e
   spares_at named_here all rest e it = record {
     named = it.named;
     foreign = λ is. let found = it.foreign is in (found.0, all found.0 found.1, found.2);
-    holds = λ r each. it.holds r (λ image out. each image (all image out));
+    causes = λ is. elim (it.causes is) [ inl found ↦ inl (found.0, all found.0 found.1, found.2) | inr failed ↦ inr failed ];
+    holds = each_wider rest it.holds;
     makes = λ each. it.makes (λ image out. each image (all image out));
   }
+    where
+      each_wider : (of : Leftover D g) → EachAfter g (HoldsWhatWas before_it (HoldsDeskAt HoldsPlain)) (HoldsWhatWas before_it (λ v db r. HoldIn (HoldsAt v) db r)) of
+          → EachAfter g (HoldsWhatWas named_here (HoldsDeskAt HoldsPlain)) (HoldsWhatWas named_here (λ v db r. HoldIn (HoldsAt v) db r)) of
+      each_wider (left.Files now) h = λ image out. wider named_here all (HoldsDeskAt HoldsPlain) image (h image out)
+      each_wider (left.Unopened now) h = λ image may. wider named_here all (HoldsDeskAt HoldsPlain) image (h image may)
+      each_wider (left.Store now) h = λ db found. wider named_here all (λ v db r. HoldIn (HoldsAt v) db r) db (h db found)
 
 -- ---- the fault
 
@@ -155,10 +176,10 @@ module _ {C S : Type 0} {g : calls.Ghosts C} {start : start_ghosts.Ghosts S} (it
 
 module _ {D : Type 0} (g : disk.Ghosts D) (stays : (file : D) → g.may_leave file (g.seen file)) (at : Image) (IsFreshLog IsFreshDb : D → Type 0)
     (logs : (f : D) → IsFreshLog f → (c : List ℕ) → g.may_leave f c → c ≡ at.log) (dbs : (f : D) → IsFreshDb f → (c : List ℕ) → g.may_leave f c → c ≡ at.db) where
-  pub path_spared : (error : Error) (rest : Leftover D g) (e : OpenFault) → (error ≢ SqliteFailure code.NotADatabase → IsFailure e) → e ≢ NewerVersion
+  pub path_spared : (error : Error) (rest : Leftover D g) (e : OpenFault) → (error ≢ SqliteFailure code.NotADatabase → IsFailure e) → e ≢ NewerVersion → (e ≡ Store → error ≢ SqliteFailure code.OutOfMemory)
       → (files : Files D) × IsFreshLog files.log × IsFreshDb files.db × (IsCleanLeft rest → FailsToOpenFiles files rest error × LeavesFiles files rest)
-      → (approval : Bool) → LeavesUnharmed (λ left. left ≡ at) at approval e rest
-  path_spared error rest e opened named cause approval =
+      → (approval : Bool) → LeavesUnharmed (λ left. left ≡ at) at approval e (desk.Unopened rest)
+  path_spared error rest e opened named memory cause approval =
       let files = cause.0 in
       let all = λ (image : Image) (out : outcomes g files.log files.db image). ap₂ (λ (a b : List ℕ). let i : Image = record { log = a; db = b } in i) (logs files.log cause.1 image.log out.0) (dbs files.db cause.2 image.db out.1) in
-      inl (λ clean. spares_at g stays files (λ left. left ≡ at) all rest e (spares g stays files error rest e opened named (cause.3 clean)))
+      λ clean. spares_at g stays files (λ left. left ≡ at) all rest e (spares g stays files error rest e opened named memory (cause.3 clean))

@@ -1,6 +1,7 @@
 -- A change that fills the tables of the newest version.
-use Rattle.std.specs.Prelude.{◌≡◌, ◌≤◌, ℕ, zero, suc, List, [], ◌∷◌, length, map, Option, Some, None, Result, Ok, Err}
-use Rattle.sqlite_value.specs.Order.{Row}
+use Rattle.std.specs.Prelude.{◌≡◌, ◌<◌, ◌≤◌, ◌^◌, ℕ, pos, zero, suc, List, [], ◌∷◌, length, map, Option, Some, None, Result, Ok, Err}
+use Rattle.sqlite_value.specs.declared.value.Value.TheVariants.{Int}
+use Rattle.sqlite_value.specs.Order.{Row, column}
 use Rattle.sqlite.specs.Tree.{Trees}
 use Rattle.sqlite.specs.State.{State, HasCleanDisk}
 use Rattle.sql_calls.specs.Standing.{Finds, HoldIn, Makes, Wears}
@@ -18,6 +19,7 @@ use Rattle.desk_records.specs.Versions.{IsTellable}
 use Rattle.desk_records.specs.declared.rollout_row.StoredRollout.{StoredRollout}
 use Rattle.desk_records.specs.declared.version.Version.{Version}
 use Rattle.desk_records.specs.declared.version.Version.TheVariants.{One, Two, Three}
+use Rattle.desk_opening.specs.Counting.{AreReadable}
 use Rattle.desk_opening.specs.Making.{Changes, HoldsStage, Stage, Standing}
 
 -- every crash leaves what the change began with
@@ -51,6 +53,11 @@ pub record IsOfNumber (number : ℕ) (l : Ledger) (found : StoredRollout) : Type
   pub groups : found.plan.groups ≡ rollout.plan.groups.count
   pub success : found.plan.success ≡ rollout.plan.success
   pub error : found.plan.error ≡ rollout.plan.error
+
+-- the first column of the row has no number of 32 bits
+abbrev pub HasNoNumber : Option Row → Type 0
+HasNoNumber None = ⊥
+HasNoNumber (Some row) = (0 < length row) → (n : ℕ) → n < 2 ^ 32 → column row 0 ≡ Int (pos n) → ⊥
 
 -- the row is not there, or one of its columns breaks its rule
 abbrev pub LacksRollout : Option Row → Type 0
@@ -88,6 +95,11 @@ pub record WritesRules (l next : Ledger) : Type 0 where
   pub none : l.rules ≡ no_rules l.records.rollouts
   pub next_is : next ≡ with_rules l (map (λ (x : RolloutRecord). even_rules x.plan) l.records.rollouts)
 
+-- nothing is said of any group yet, and the rollouts can be read
+pub record GivenRules (l : Ledger) : Type 0 where
+  pub none : l.rules ≡ no_rules l.records.rollouts
+  pub readable : AreReadable l.records
+
 -- ---- from version to version
 
 -- what a version says of groups
@@ -99,6 +111,12 @@ bare_rules Three r = (ledger_of r).rules
 -- What all tables hold where those that the version doesn't have were made with no row. No feedback bears a number where the version has no table of them.
 abbrev pub bare_ledger : Version → Records → Ledger
 bare_ledger v r = with_rules (ledger_of r) (bare_rules v r)
+
+-- they do, and the rollouts can be read
+pub record GivenBare (v : Version) (l : Ledger) : Type 0 where
+  pub records : Records
+  pub bare : l ≡ bare_ledger v records
+  pub readable : AreReadable records
 
 -- they hold what follows from the records
 pub record FillsLater (v : Version) (l next : Ledger) : Type 0 where

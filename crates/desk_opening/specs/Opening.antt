@@ -1,5 +1,5 @@
 -- The taking over of a desk that is there.
-use Rattle.std.specs.Prelude.{◌≡◌, ◌<ℤ◌, ℤ, Bool, true, [], ◌∷◌, false, pos, codes, map, Option, Some, None, Result, Ok, Err, IfOk, IsTrue, ◌⊎◌}
+use Rattle.std.specs.Prelude.{◌≡◌, ◌<ℤ◌, ℤ, Bool, true, [], ◌∷◌, false, pos, codes, map, Option, Result, Ok, Err, IfOk, IsTrue, ◌⊎◌}
 use Rattle.std.specs.List.{AllByRecursion}
 use Rattle.sqlite_value.specs.declared.value.Value.TheVariants.{Int, Text}
 use Rattle.sqlite_value.specs.Order.{Row, column}
@@ -11,16 +11,20 @@ use Rattle.sqlite_trees.specs.Tree.{has_rowid}
 use Rattle.sqlite_rules.specs.Lists.{Has}
 use Rattle.sql_front.specs.Free.{LeavesFree}
 use Rattle.sql_front.specs.Found.{StandsSomewhere}
+use Rattle.sql_calls.specs.Calls.{TakesFirst}
 use Rattle.sql_calls.specs.Standing.{Wears, HoldIn, Rests}
+use Rattle.sql_calls.specs.declared.fault.Fault.{Fault}
 use Rattle.rollout_machine.specs.Records.{Records}
 use Rattle.desk_records.specs.Schema.{table_at, desk_table, name_of, desk_names}
 use Rattle.desk_records.specs.Holds.{HoldsRecords}
 use Rattle.desk_records.specs.Readable.{HoldsAt, HoldsReadable}
 use Rattle.desk_records.specs.Versions.{later_than, newest, number_of, places_at}
+use Rattle.desk_records.specs.declared.texts.TheConstants.{GET_DESK}
 use Rattle.desk_records.specs.declared.version.Version.{Version}
 use Rattle.desk_opening.specs.declared.opening.OpenFault.{OpenFault}
 use Rattle.desk_opening.specs.declared.opening.OpenFault.TheVariants.{NotDesk, NewerVersion, Memory, Store}
 use Rattle.desk_opening.specs.Making.{HoldsStage, Free, LeavesNoDesk, LeavesDesk, first_records}
+use Rattle.desk_opening.specs.Migrating.{MigratesTo}
 
 -- each table of the version is there as the desk makes it, and the names of later ones are free
 pub record HasDeskTables (v : Version) (schema : Schema) : Type 0 where
@@ -62,11 +66,6 @@ pub record HasNoRow (db : Database) : Type 0 where
   pub table : StandsSomewhere db.schema (desk_table 0)
   pub none : AllByRecursion (λ row. has_rowid (pos 1) row ≡ false) (db.trees table.tree)
 
--- the row that is read says what the row of the table says
-abbrev pub ReadsRow : Database → Option Row → Type 0
-ReadsRow db (Some row) = StandsSomewhere db.schema (desk_table 0) → HasRow db (λ shown. row ≡ shown)
-ReadsRow db None = StandsSomewhere db.schema (desk_table 0) → HasNoRow db
-
 -- What each answer tells of the row: that it is a desk's, where it is taken over, a later version's, where it is refused as that, and
 -- another, where it is refused as no desk, unless no row was there to judge.
 abbrev pub Tells : {A : Type 0} → (A → Type 0) → ((Row → Type 0) → Type 0) → Type 0 → Result A OpenFault → Type 0
@@ -75,6 +74,17 @@ Tells Found Says Lacks (Err NotDesk) = Says IsOtherRow ⊎ Lacks
 Tells Found Says Lacks (Err NewerVersion) = Says IsNewerRow
 Tells Found Says Lacks (Err Memory) = Unit {0}
 Tells Found Says Lacks (Err Store) = Unit {0}
+
+-- .. of the row that is read, and of the schema: the row is of this version, and its tables are there
+pub record IsWholeAt (row : Row) (schema : Schema) (v : Version) : Type 0 where
+  pub row_is : IsDeskRow v row
+  pub tables : HasDeskTables v schema
+
+-- the row is of a version that the program reads, whose tables are not there
+pub record LacksAt (row : Row) (schema : Schema) : Type 0 where
+  pub version : Version
+  pub row_is : IsDeskRow version row
+  pub lacks : ¬ HasDeskTables version schema
 
 -- a database with a desk of a version that the program reads
 pub record HasDesk (db : Database) : Type 0 where
@@ -102,6 +112,20 @@ IsFailure Store = Unit {0}
 
 -- ---- reading
 
+-- the row of `desk` was asked for
+pub record TakesRow (old new : State) : Type 0 where
+  pub took : Result (Option Row) Fault
+  pub takes : TakesFirst old new GET_DESK.now [] took
+
+-- a desk of this version
+pub record HasDeskAt (db : Database) (v : Version) : Type 0 where
+  pub tables : HasDeskTables v db.schema
+  pub row : HasRow db (IsDeskRow v)
+
+-- where the table `desk` stands, what is told of the version
+abbrev pub TellsVersion : Database → Result Version OpenFault → Type 0
+TellsVersion db result = StandsSomewhere db.schema (desk_table 0) → Tells (HasDeskAt db) (HasRow db) (HasNoRow db ⊎ LacksTables db) result
+
 abbrev pub KeepsTo : {A E : Type 0} → (Database → Records → Type 0) → State → State → Result A E → Type 0
 KeepsTo Holds old new (Ok _) = (r : Records) → Rests Holds old r → Rests Holds new r
 KeepsTo Holds old new (Err e) = (r : Records) → Rests Holds old r → HasCleanDisk new → (db : Trees) → new.may_leave db → HoldIn Holds db r
@@ -120,10 +144,11 @@ TakesTo old new (Ok _) = (r : Records) → Rests HoldsReadable old r → Rests H
 TakesTo old new (Err e) = (r : Records) → Rests HoldsReadable old r → HasCleanDisk new → (db : Trees) → new.may_leave db → HoldIn HoldsReadable db r
 
 -- Records that stood in the tables of any version that the program reads stand in those of the newest, and at an error every crash still
--- leaves them. The answer is by the database as it was.
+-- leaves them: in the version that they stood in, or in the newest. The answer is by the database as it was.
 pub record Adopts {A : Type 0} (old new : State) (result : Result A OpenFault) : Type 0 where
   pub wears : Wears old new
   pub takes : TakesTo old new result
+  pub takes_at : (v : Version) → MigratesTo v old new result
   pub tells : HasCleanDisk new → Tells (λ _. HasDesk old.now) (HasRow old.now) (LacksDesk old.now) result
 
 -- A name of a desk is used, and by no desk: a table or the row is another's, or is not there.
@@ -155,6 +180,7 @@ pub record OpensDesk {A : Type 0} (old new : State) (approval : Bool) (result : 
   pub wears : Wears old new
   pub finds : HasCleanDisk new → FindsTo old.now result
   pub takes : IsKnownOpen old → TakesTo old new result
+  pub takes_at : IsKnownOpen old → (v : Version) → MigratesTo v old new result
   pub makes : IsKnownOpen old → OpensTo old new approval result
 
 -- A law of each store: while it is open, a crash leaves the last commit.

@@ -11,7 +11,6 @@ mod reopening;
 mod running;
 mod version_tables;
 
-pub use crate::making::{fill, make};
-pub use crate::opening::{OpenFault, adopt, open_desk};
+pub use crate::opening::{OpenFault, open_desk};
 pub use crate::path::{NoFile, PathLeftover, open_at};
-pub use crate::reopening::{open_desk_in, reopen_files, reopen_path};
+pub use crate::reopening::{DeskLeftover, reopen_files, reopen_path};

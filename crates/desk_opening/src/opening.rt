@@ -1,6 +1,6 @@
 //! A desk that is there already.
 
-ghost use Rattle.std.specs.Prelude.{◌≡◌, ◌≢◌, ◌⊎◌, IfOk, IfErr, IsTrue, MatchOption, Ok, Some, codes, false, map};
+ghost use Rattle.std.specs.Prelude.{◌≡◌, ◌≢◌, ◌⊎◌, Err, IfOk, IfErr, IsTrue, Ok, codes, false, map};
 ghost use Rattle.sql_front.specs.Free.{LeavesFree};
 ghost use Rattle.sql_front.specs.Found.{StandsSomewhere};
 ghost use Rattle.std.specs.List.{list_any};
@@ -15,16 +15,19 @@ ghost use Rattle.sqlite.specs.State.{HasCleanDisk};
 ghost use Rattle.desk_opening.specs.Faults.{fault_row};
 ghost use Rattle.desk_opening.specs.Making.{told};
 ghost use Rattle.desk_records.specs.Versions.{newest};
-ghost use Rattle.desk_opening.specs.Opening.{Adopts, HasDeskTables, HasNoRow, HasRow, IsDeskRow, IsFailure, IsSettled, Keeps, OpensDesk, ReadsRow, Tells};
+ghost use Rattle.desk_opening.specs.Opening.{Adopts, HasDeskTables, IsDeskRow, IsFailure, IsSettled, IsWholeAt};
+ghost use Rattle.desk_opening.specs.Opening.{Keeps, LacksAt, OpensDesk, TakesRow, Tells, TellsVersion};
 ghost use Rattle.desk_opening.specs.Migrating.{Migrates};
+ghost use Rattle.desk_opening.specs.Counting.{CountsOpening, FailsAt};
+ghost use Rattle.desk_opening.specs.Causes.{FailsOpening, HasCause};
 
 use crate::desk_table::{DeskTable, TABLES};
-use crate::making::make;
+use crate::making::fill;
 use crate::migrating::migrate;
 use crate::running::{BEGIN, ROLLBACK, first, run};
 use crate::version_tables::{tables_after, tables_at};
 use desk_records::{GET_DESK, Version};
-use sql_calls::{Fault, fault_of};
+use sql_calls::{Calls, Fault, fault_of};
 use sql_front::{stands, uses_name};
 use sqlite::{Alter, Connection, Error, ErrorCode, Row};
 use sqlite_resolve::{CompileError, define_table};
@@ -74,6 +77,7 @@ impl OpenFault {
 fn table_of(alloc: Global, text: &str) -> Result<Table, OpenFault>
     ensures defined { IfOk result (λ table. table_defined_by text.now ≡ Ok table) }
     ensures failed { IfErr result IsFailure }
+    ensures memory { IfErr result (λ e. (table : _) → table_defined_by text.now ≡ Ok table → e ≢ OpenFault.Store) }
 {
     match define_table(alloc, text.as_bytes()) {
         Ok(table) => Ok(table),
@@ -87,6 +91,7 @@ fn has_table(alloc: Global, schema: &Schema, table: DeskTable) -> Result<bool, O
     ensures found { IfOk result (λ found. IsTrue found → StandsSomewhere schema.now (table_at (place_of table) 0)) }
     ensures missing { IfOk result (λ found. found ≡ false → StandsSomewhere schema.now (table_at (place_of table) 0) → ⊥) }
     ensures failed { IfErr result IsFailure }
+    ensures memory { IfErr result (λ e. e ≢ OpenFault.Store) }
 {
     let wanted = table_of(alloc, table.create_text())?;
     Ok(stands(schema, &wanted))
@@ -97,6 +102,7 @@ fn has_tables_of(alloc: Global, schema: &Schema, version: Version) -> Result<boo
     ensures found { IfOk result (λ found. IsTrue found → HasDeskTables version schema.now) }
     ensures missing { IfOk result (λ found. found ≡ false → HasDeskTables version schema.now → ⊥) }
     ensures failed { IfErr result IsFailure }
+    ensures memory { IfErr result (λ e. e ≢ OpenFault.Store) }
 {
     for table in tables_at(version) {
         if !has_table(alloc, schema, *table)? {
@@ -106,50 +112,10 @@ fn has_tables_of(alloc: Global, schema: &Schema, version: Version) -> Result<boo
     Ok(!uses_name_of(schema, tables_after(version)))
 }
 
-/// The version whose tables the schema has.
-fn standing_version(alloc: Global, schema: &Schema) -> Result<Option<Version>, OpenFault>
-    ensures found { IfOk result (λ found. MatchOption found ((v : Version) → HasDeskTables v schema.now → ⊥) (λ v. HasDeskTables v schema.now)) }
-    ensures failed { IfErr result IsFailure }
-{
-    if has_tables_of(alloc, schema, Version::One)? {
-        return Ok(Some(Version::One));
-    }
-    if has_tables_of(alloc, schema, Version::Two)? {
-        return Ok(Some(Version::Two));
-    }
-    if has_tables_of(alloc, schema, Version::Three)? {
-        return Ok(Some(Version::Three));
-    }
-    Ok(None)
-}
-
-/// Whether it is that one.
-fn is_standing(standing: Option<Version>, version: Version) -> bool
-    ensures yes { IsTrue result → standing ≡ Some version }
-    ensures no { result ≡ false → standing ≢ Some version }
-{
-    match (standing, version) {
-        (Some(Version::One), Version::One) => true,
-        (Some(Version::Two), Version::Two) => true,
-        (Some(Version::Three), Version::Three) => true,
-        _ => false,
-    }
-}
-
-/// Reads the row of `desk`, and leaves what stood.
-fn read_desk_row<S: Alter>(conn: &mut Connection<S>) -> Result<Option<Row>, Fault>
-    ensures keeps { Keeps (state S.Store conn.old) (state S.Store conn.new) result }
-    ensures reads { IfOk result (λ found. HasCleanDisk (state S.Store conn.new) → ReadsRow (state S.Store conn.old).now found) }
-{
-    run(conn, BEGIN, &[])?;
-    let row = first(conn, GET_DESK, &[])?;
-    run(conn, ROLLBACK, &[])?;
-    Ok(row)
-}
-
 /// The version that a desk's row names, if the program reads it.
 fn judge(row: &Row) -> Result<Version, OpenFault>
-    ensures { Tells (λ v. IsDeskRow v row.now) (λ Says. Says row.now) ⊥ result }
+    ensures tells { Tells (λ v. IsDeskRow v row.now) (λ Says. Says row.now) ⊥ result }
+    ensures memory { IfErr result (λ e. e ≢ OpenFault.Store) }
 {
     if !has_format(row)? {
         return Err(OpenFault::NotDesk);
@@ -168,7 +134,7 @@ fn judge(row: &Row) -> Result<Version, OpenFault>
 fn has_format(row: &Row) -> Result<bool, OpenFault>
     ensures found { IfOk result (λ found. IsTrue found → column row.now 0 ≡ StoredText (codes "fwdesk")) }
     ensures other { IfOk result (λ found. found ≡ false → column row.now 0 ≢ StoredText (codes "fwdesk")) }
-    ensures unread { IfErr result (λ e. e ≢ OpenFault.NewerVersion) }
+    ensures unread { IfErr result (λ e. (e ≢ OpenFault.NewerVersion) × (e ≢ OpenFault.Store)) }
     ensures unreadable { IfErr result (λ e. e ≡ OpenFault.NotDesk → column row.now 0 ≢ StoredText (codes "fwdesk")) }
 {
     match row.get::<String>(0) {
@@ -179,7 +145,7 @@ fn has_format(row: &Row) -> Result<bool, OpenFault>
 
 /// The fault of a column that can't be read.
 fn unread(error: Error) -> OpenFault
-    ensures named { result ≢ OpenFault.NewerVersion }
+    ensures named { (result ≢ OpenFault.NewerVersion) × (result ≢ OpenFault.Store) }
     ensures memory { result ≡ OpenFault.NotDesk → error ≢ Error.SqliteFailure ErrorCode.OutOfMemory }
 {
     match fault_of(error) {
@@ -189,7 +155,8 @@ fn unread(error: Error) -> OpenFault
 }
 
 pub(crate) fn open_fault(fault: Fault) -> OpenFault
-    ensures { IsFailure result }
+    ensures failed { IsFailure result }
+    ensures store { result ≡ OpenFault.Store → fault ≡ Fault.Store }
 {
     match fault {
         Fault::Memory => OpenFault::Memory,
@@ -197,68 +164,73 @@ pub(crate) fn open_fault(fault: Fault) -> OpenFault
     }
 }
 
-/// Reads the row of `desk`, and judges it.
-fn check_row<S: Alter>(conn: &mut Connection<S>) -> Result<Version, OpenFault>
-    ensures keeps { Keeps (state S.Store conn.old) (state S.Store conn.new) result }
-    ensures tells { HasCleanDisk (state S.Store conn.new) → StandsSomewhere (state S.Store conn.old).now.schema (desk_table 0)
-        → Tells (λ v. HasRow (state S.Store conn.old).now (IsDeskRow v)) (HasRow (state S.Store conn.old).now)
-        (HasNoRow (state S.Store conn.old).now) result }
+/// The version that a desk's row names, if the program reads it and the schema has its tables.
+fn judge_whole(alloc: Global, schema: &Schema, row: &Row) -> Result<Version, OpenFault>
+    ensures tells { Tells (IsWholeAt row.now schema.now) (λ Says. Says row.now) (LacksAt row.now schema.now) result }
+    ensures memory { IfErr result (λ e. e ≢ OpenFault.Store) }
 {
-    match read_desk_row(conn) {
-        Ok(Some(row)) => judge(&row),
+    let version = judge(row)?;
+    if has_tables_of(alloc, schema, version)? {
+        Ok(version)
+    } else {
+        Err(OpenFault::NotDesk)
+    }
+}
+
+/// The version of the desk that a change sees: its row is read first, and then the tables of the version that it names are looked at.
+fn see_version<S: Alter>(alloc: Global, calls: &mut Calls<S>) -> Result<Version, OpenFault>
+    ensures took { TakesRow (state S.Store calls.old.conn) (state S.Store calls.new.conn) }
+    ensures counts { CountsOpening calls.old calls.new result }
+    ensures tells { HasCleanDisk (state S.Store calls.new.conn) → TellsVersion (state S.Store calls.old.conn).now result }
+{
+    match first(calls, GET_DESK, &[]) {
+        Ok(Some(row)) => judge_whole(alloc, calls.schema(), &row),
         Ok(None) => Err(OpenFault::NotDesk),
         Err(fault) => Err(open_fault(fault)),
     }
 }
 
-/// Takes a database as the desk that it holds. The row of `desk` is judged before the other tables are, which
-/// are those of the version that it names: a later version may have others. The tables of an older version become
-/// those of the newest. A connection that is refused is given back.
-pub fn adopt<S: Alter + Drop>(
-    alloc: Global,
-    mut conn: Connection<S>,
-) -> Result<Connection<S>, (OpenFault, Connection<S>)>
-    ensures adopted { IfOk result (λ adopted. Adopts (state S.Store conn) (state S.Store adopted) (told result)) }
-    ensures whole { IfOk result (λ adopted. (v : Version) × HasDeskTables v (state S.Store conn).now.schema) }
-    ensures refused { IfErr result (λ e. Adopts (state S.Store conn) (state S.Store e.1) (told result)) }
+/// The version of the desk that the database holds. Leaves what stood.
+fn find_version<S: Alter>(alloc: Global, calls: &mut Calls<S>) -> Result<Version, OpenFault>
+    ensures keeps { Keeps (state S.Store calls.old.conn) (state S.Store calls.new.conn) result }
+    ensures counts { CountsOpening calls.old calls.new result }
+    ensures tells { HasCleanDisk (state S.Store calls.new.conn) → TellsVersion (state S.Store calls.old.conn).now result }
 {
-    match take_over(alloc, &mut conn) {
-        Ok(()) => Ok(conn),
-        Err(fault) => Err((fault, conn)),
+    if let Err(fault) = run(calls, BEGIN, &[]) {
+        return Err(open_fault(fault));
+    }
+    let seen = see_version(alloc, calls);
+    match run(calls, ROLLBACK, &[]) {
+        Ok(()) => seen,
+        Err(fault) => Err(open_fault(fault)),
     }
 }
 
-/// The same for a caller that keeps the connection.
-fn take_over<S: Alter>(alloc: Global, conn: &mut Connection<S>) -> Result<(), OpenFault>
-    ensures adopts { Adopts (state S.Store conn.old) (state S.Store conn.new) result }
-    ensures whole { IfOk result (λ adopted. (v : Version) × HasDeskTables v (state S.Store conn.old).now.schema) }
+/// Takes a database as the desk that it holds. The row of `desk` is read first, and then the tables of the version that it names are
+/// looked at: a later version may have others. The tables of an older version become those of the newest.
+fn take_over<S: Alter>(alloc: Global, calls: &mut Calls<S>) -> Result<(), OpenFault>
+    ensures adopts { Adopts (state S.Store calls.old.conn) (state S.Store calls.new.conn) result }
+    ensures fails { (v : Version) → FailsAt S.Store OpenFault.Store v calls.old calls.new result }
 {
-    if !has_table(alloc, conn.schema(), DeskTable::Desk)? {
+    if !has_table(alloc, calls.schema(), DeskTable::Desk)? {
         return Err(OpenFault::NotDesk);
     }
-    let standing = standing_version(alloc, conn.schema())?;
-    let version = check_row(conn)?;
-    if !is_standing(standing, version) {
-        return Err(OpenFault::NotDesk);
-    }
-    renew(alloc, conn, version)
+    let version = find_version(alloc, calls)?;
+    renew(alloc, calls, version)
 }
 
 /// Makes the tables of an older version into those of the newest, and looks at them again.
-fn renew<S: Alter>(
-    alloc: Global,
-    conn: &mut Connection<S>,
-    version: Version,
-) -> Result<(), OpenFault>
-    ensures renews { Migrates version (state S.Store conn.old) (state S.Store conn.new) result }
-    ensures renewed { IfOk result (λ it. (version ≡ newest) ⊎ HasDeskTables newest (state S.Store conn.new).now.schema) }
+fn renew<S: Alter>(alloc: Global, calls: &mut Calls<S>, version: Version) -> Result<(), OpenFault>
+    ensures renews { Migrates version (state S.Store calls.old.conn) (state S.Store calls.new.conn) result }
+    ensures renewed { IfOk result (λ it. (version ≡ newest) ⊎ HasDeskTables newest (state S.Store calls.new.conn).now.schema) }
     ensures failed { IfErr result IsFailure }
+    ensures fails { FailsAt S.Store OpenFault.Store version calls.old calls.new result }
 {
     if let Version::Three = version {
         return Ok(());
     }
-    match migrate(alloc, conn, version) {
-        Ok(()) => look_again(alloc, conn.schema()),
+    match migrate(alloc, calls, version) {
+        Ok(()) => look_again(alloc, calls.schema()),
         Err(fault) => Err(open_fault(fault)),
     }
 }
@@ -267,6 +239,7 @@ fn renew<S: Alter>(
 fn look_again(alloc: Global, schema: &Schema) -> Result<(), OpenFault>
     ensures found { IfOk result (λ found. HasDeskTables newest schema.now) }
     ensures failed { IfErr result IsFailure }
+    ensures missing { result ≡ Err OpenFault.Store → HasDeskTables newest schema.now → ⊥ }
 {
     if has_tables_of(alloc, schema, Version::Three)? {
         Ok(())
@@ -290,21 +263,40 @@ fn uses_name_of(schema: &Schema, tables: &[DeskTable]) -> bool
     tables.iter().any(|table| uses_name(schema, table.name()))
 }
 
-/// Opens the desk in a connection's database: the one that is there, or a new one where no name of a desk is used. A connection that is refused is given back.
+/// Opens the desk in a connection's database: the one that is there, or a new one where no name of a desk is used. A connection that is
+/// refused is given back with what was counted of its calls.
 pub fn open_desk<S: Alter + Drop>(
     alloc: Global,
     conn: Connection<S>,
     approval_if_new: bool,
-) -> Result<Connection<S>, (OpenFault, Connection<S>)>
+) -> Result<Connection<S>, (OpenFault, Calls<S>)>
     ensures opened { IfOk result (λ opened. OpensDesk (state S.Store conn) (state S.Store opened) approval_if_new (told result)) }
-    ensures refused { IfErr result (λ e. OpensDesk (state S.Store conn) (state S.Store e.1) approval_if_new (told result)) }
+    ensures refused { IfErr result (λ e. OpensDesk (state S.Store conn) (state S.Store e.1.conn) approval_if_new (told result)) }
     ensures settled { IsSettled (state S.Store conn) }
+    ensures fails { IfErr result (λ e. HasCause S.Store (state S.Store conn) e.1 e.0) }
 {
-    if uses_desk_name(conn.schema()) {
-        return adopt(alloc, conn);
+    let mut calls = Calls::new(conn);
+    match enter(alloc, &mut calls, approval_if_new) {
+        Ok(()) => Ok(calls.into_connection()),
+        Err(fault) => Err((fault, calls)),
     }
-    match make(conn, approval_if_new) {
-        Ok(made) => Ok(made),
-        Err((fault, conn)) => Err((open_fault(fault), conn)),
+}
+
+/// The same for a caller that keeps the connection.
+fn enter<S: Alter>(
+    alloc: Global,
+    calls: &mut Calls<S>,
+    approval_if_new: bool,
+) -> Result<(), OpenFault>
+    ensures opens { OpensDesk (state S.Store calls.old.conn) (state S.Store calls.new.conn) approval_if_new result }
+    ensures settled { IsSettled (state S.Store calls.old.conn) }
+    ensures fails { FailsOpening S.Store calls.old calls.new result }
+{
+    if uses_desk_name(calls.schema()) {
+        return take_over(alloc, calls);
+    }
+    match fill(calls, approval_if_new) {
+        Ok(()) => Ok(()),
+        Err(fault) => Err(open_fault(fault)),
     }
 }

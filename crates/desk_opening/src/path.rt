@@ -9,8 +9,8 @@ ghost use Rattle.sqlite.specs.WalFiles.{image_at};
 ghost use Rattle.desk_opening.specs.Reopening.{LeavesPath};
 
 use crate::opening::OpenFault;
-use crate::reopening::refused_open;
-use sqlite::{Connection, FileFrom, FileStore, Leftover, Start};
+use crate::reopening::{DeskLeftover, refused_open};
+use sqlite::{Connection, FileFrom, FileStore, Start};
 use sqlite_disk::Disk;
 use std::marker::PhantomData;
 
@@ -24,7 +24,7 @@ pub struct NoFile<D> {
 #[derive(Drop)]
 pub enum PathLeftover<D: Disk> {
     NoFile(NoFile<D>),
-    Opened(Leftover<D>),
+    Opened(DeskLeftover<D>),
 }
 
 /// Opens the database at a path, with its log beside it. A new file gets no sums.
@@ -40,7 +40,10 @@ pub fn open_at<S: Start>(
 {
     match Connection::open_from(rt, path, false, start) {
         Ok(conn) => Ok(conn),
-        Err((error, Some(left))) => Err((refused_open(error), PathLeftover::Opened(left))),
+        Err((error, Some(left))) => Err((
+            refused_open(error),
+            PathLeftover::Opened(DeskLeftover::Unopened(left)),
+        )),
         Err((error, None)) => Err((
             refused_open(error),
             PathLeftover::NoFile(NoFile { files: PhantomData }),

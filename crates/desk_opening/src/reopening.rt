@@ -4,16 +4,24 @@ ghost use Rattle.std.specs.Prelude.{◌≡◌, ◌≢◌, IsTrue, IfOk, IfErr};
 ghost use Rattle.sqlite.specs.Files.{file_state, image_of};
 ghost use Rattle.sqlite_wal.specs.Files.{outcomes};
 ghost use Rattle.sqlite.specs.WalFiles.{image_at};
-ghost use Rattle.desk_opening.specs.Making.{told};
-ghost use Rattle.desk_opening.specs.Opening.{IsFailure, IsSettled, OpensDesk};
-ghost use Rattle.desk_opening.specs.Reopening.{BeginsPlain, IsLeftOf, LeavesPath, LeavesUnharmed, Reopens};
+ghost use Rattle.desk_opening.specs.Opening.{IsFailure};
+ghost use Rattle.desk_opening.specs.Reopening.{BeginsPlain, LeavesPath, LeavesUnharmed, Reopens};
 
 use crate::opening::{OpenFault, open_desk, open_fault};
 use crate::path::{PathLeftover, open_at};
-use sql_calls::fault_of;
+use sql_calls::{Calls, fault_of};
 use sqlite::{Connection, Error, ErrorCode, FileFrom, FileStore, Files, Leftover, Options, Start};
 use sqlite_disk::Disk;
 use std::alloc::Global;
+
+/// What is left of the files over which no desk is opened.
+#[derive(Drop)]
+pub enum DeskLeftover<D: Disk> {
+    /// They weren't opened.
+    Unopened(Leftover<D>),
+    /// The connection, with what was counted of its calls.
+    Refused(Calls<FileStore<D>>),
+}
 
 /// Opens the desk that the files hold, or a new one where they hold no database, or one that uses no name of a desk. A fault comes with
 /// what is left of the files.
@@ -22,7 +30,7 @@ pub fn reopen_files<D: Disk + Drop>(
     files: Files<D>,
     options: Options,
     approval_if_new: bool,
-) -> Result<Connection<FileStore<D>>, (OpenFault, Leftover<D>)>
+) -> Result<Connection<FileStore<D>>, (OpenFault, DeskLeftover<D>)>
     requires log { IsTrue (D.Disk.is_usable files.log) }
     requires db { IsTrue (D.Disk.is_usable files.db) }
     ensures reopened { IfOk result (λ conn. Reopens (image_of D.Disk files) (file_state conn) approval_if_new) }
@@ -30,8 +38,11 @@ pub fn reopen_files<D: Disk + Drop>(
     ensures refused { IfErr result (λ e. LeavesUnharmed (outcomes D.Disk files.log files.db) (image_of D.Disk files) approval_if_new e.0 e.1) }
 {
     match Connection::open_files(alloc, files, options) {
-        Ok(conn) => open_desk_in(alloc, conn, approval_if_new),
-        Err((error, left)) => Err((refused_open(error), left)),
+        Ok(conn) => match open_desk(alloc, conn, approval_if_new) {
+            Ok(opened) => Ok(opened),
+            Err((fault, calls)) => Err((fault, DeskLeftover::Refused(calls))),
+        },
+        Err((error, left)) => Err((refused_open(error), DeskLeftover::Unopened(left))),
     }
 }
 
@@ -47,27 +58,11 @@ pub fn reopen_path<S: Start>(
     ensures refused { IfErr result (λ e. LeavesPath (image_at S.Start) approval_if_new e.0 e.1) }
 {
     match open_at(rt, path, start) {
-        Ok(conn) => match open_desk_in(rt.alloc(), conn, approval_if_new) {
+        Ok(conn) => match open_desk(rt.alloc(), conn, approval_if_new) {
             Ok(opened) => Ok(opened),
-            Err((fault, left)) => Err((fault, PathLeftover::Opened(left))),
+            Err((fault, calls)) => Err((fault, PathLeftover::Opened(DeskLeftover::Refused(calls)))),
         },
         Err(refused) => Err(refused),
-    }
-}
-
-/// As `open_desk`, over files. Of a connection that is refused the store is left.
-pub fn open_desk_in<D: Disk + Drop>(
-    alloc: Global,
-    conn: Connection<FileStore<D>>,
-    approval_if_new: bool,
-) -> Result<Connection<FileStore<D>>, (OpenFault, Leftover<D>)>
-    ensures opened { IfOk result (λ opened. OpensDesk (file_state conn) (file_state opened) approval_if_new (told result)) }
-    ensures refused { IfErr result (λ e. (last : _) × OpensDesk (file_state conn) (file_state last) approval_if_new (told result) × IsLeftOf last e.1) }
-    ensures settled { IsSettled (file_state conn) }
-{
-    match open_desk(alloc, conn, approval_if_new) {
-        Ok(opened) => Ok(opened),
-        Err((fault, refused)) => Err((fault, Leftover::Store(refused.into_store()))),
     }
 }
 
@@ -75,6 +70,7 @@ pub fn open_desk_in<D: Disk + Drop>(
 pub(crate) fn refused_open(error: Error) -> OpenFault
     ensures opened { error ≢ Error.SqliteFailure ErrorCode.NotADatabase → IsFailure result }
     ensures named { result ≢ OpenFault.NewerVersion }
+    ensures memory { result ≡ OpenFault.Store → error ≢ Error.SqliteFailure ErrorCode.OutOfMemory }
 {
     match error {
         Error::SqliteFailure(ErrorCode::NotADatabase) => OpenFault::NotDesk,

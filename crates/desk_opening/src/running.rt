@@ -3,10 +3,11 @@
 ghost use Rattle.sqlite.specs.Held.{state};
 ghost use Rattle.sqlite.specs.Values.{bound};
 ghost use Rattle.sql_calls.specs.Calls.{RunsText, TakesFirst};
+ghost use Rattle.desk_opening.specs.Counting.{Counts};
 
-use sql_calls::{Fault, fault_of};
+use sql_calls::{Calls, Fault};
 use sqlite::types::ValueRef;
-use sqlite::{Alter, Connection, Error, Row};
+use sqlite::{Alter, Row};
 
 pub(crate) const BEGIN: &str = "BEGIN";
 
@@ -16,29 +17,24 @@ pub(crate) const ROLLBACK: &str = "ROLLBACK";
 
 /// Runs one statement that is no query.
 pub(crate) fn run<S: Alter>(
-    conn: &mut Connection<S>,
+    calls: &mut Calls<S>,
     sql: &str,
     params: &[ValueRef<'_>],
 ) -> Result<(), Fault>
-    ensures { RunsText (state S.Store conn.old) (state S.Store conn.new) sql.now (bound params.now) result }
+    ensures runs { RunsText (state S.Store calls.old.conn) (state S.Store calls.new.conn) sql.now (bound params.now) result }
+    ensures counts { Counts calls.old calls.new result }
 {
-    match conn.execute(sql, params) {
-        Ok(_) => Ok(()),
-        Err(error) => Err(fault_of(error)),
-    }
+    calls.run(sql, params)
 }
 
 /// Runs one query, and takes its first row, if there is one.
 pub(crate) fn first<S: Alter>(
-    conn: &mut Connection<S>,
+    calls: &mut Calls<S>,
     sql: &str,
     params: &[ValueRef<'_>],
 ) -> Result<Option<Row>, Fault>
-    ensures { TakesFirst (state S.Store conn.old) (state S.Store conn.new) sql.now (bound params.now) result }
+    ensures takes { TakesFirst (state S.Store calls.old.conn) (state S.Store calls.new.conn) sql.now (bound params.now) result }
+    ensures counts { Counts calls.old calls.new result }
 {
-    match conn.query_row(sql, params) {
-        Ok(row) => Ok(Some(row)),
-        Err(Error::QueryReturnedNoRows) => Ok(None),
-        Err(error) => Err(fault_of(error)),
-    }
+    calls.first(sql, params)
 }

@@ -1,3 +1,2 @@
 pub mod OrderLemmas
 pub mod AfterCrashLemmas
-pub mod CarryingLemmas

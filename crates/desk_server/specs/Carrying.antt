@@ -1,6 +1,5 @@
 -- What an order comes to on a machine, from the opening of its desk to the exit status.
-use Rattle.std.specs.Prelude.{◌≡◌, ℕ, Bool, List, [], ◌∷◌, Option, Result, IfOk, IfErr}
-use Rattle.sqlite.specs.Held.{state}
+use Rattle.std.specs.Prelude.{◌≡◌, ℕ, Bool, List, [], ◌∷◌, Option, Result, IfOk, IfErr, is_some}
 use Rattle.sqlite.specs.Files.{over_files}
 use Rattle.sqlite.specs.Recovery.{Image}
 use Rattle.sqlite_disk.specs.declared.Disk as disk
@@ -17,7 +16,7 @@ use Rattle.stream_server.specs.declared.interface.Interface.{Interface}
 use Rattle.desk_server.specs.declared.order.Order.{Order}
 use Rattle.desk_server.specs.declared.order.Order.TheVariants.{Run, Serve, Import, Report, Verify}
 use Rattle.desk_server.specs.Orders.{asks_approval, database_of}
-use Rattle.desk_server.specs.Program.{CarriesOut, CarriesOutOn, Tells, open_line}
+use Rattle.desk_server.specs.Program.{CarriesOut, CarriesOutOn, Network, Tells, open_line}
 use Rattle.desk_server.specs.Imports.{CarriesOutImport}
 use Rattle.desk_server.specs.ReportOrders.{ReportsRollout}
 use Rattle.desk_server.specs.Verifications.{Verifies}
@@ -38,11 +37,11 @@ pub record LacksDesk (fault : OpenFault) (input input_new output output_new erro
   pub tells : Tells errors.bytes errors_new.bytes errors_new.failed (open_line fault)
 
 -- a port of 127.0.0.1, which nobody reaches from another machine, was taken or not, and so many of its connections were served
-abbrev pub ServesPort : {File : Type 0} → (List ℕ → ℕ → Bool → Type 0) → ℕ → Interface → ℕ → DeskState File → DeskState File → Stream → Stream → ℕ
+abbrev pub ServesPort : {File C : Type 0} → (List ℕ → ℕ → Bool → Type 0) → Network C → ℕ → Interface → ℕ → DeskState File → DeskState File → Stream → Stream → ℕ
     → Type 0
-ServesPort listens port interface connections old new errors errors_new status =
-    (bound : Bool) × listens (127 ∷ 0 ∷ 0 ∷ 1 ∷ []) port bound
-    × CarriesOutOn interface bound connections old new errors.bytes errors_new.bytes errors_new.failed status
+ServesPort {C = C} listens net port interface connections old new errors errors_new status =
+    (listener : Option C) × (after : Option C) × listens (127 ∷ 0 ∷ 0 ∷ 1 ∷ []) port (is_some listener)
+    × CarriesOutOn net interface listener after connections old new errors.bytes errors_new.bytes errors_new.failed status
 
 -- the file at this path was read or not, and its targets were put
 abbrev pub ImportsFile : {File : Type 0} → (List ℕ → Option (List ℕ) → Type 0) → List ℕ → DeskState File → DeskState File
@@ -52,34 +51,40 @@ ImportsFile reads path old new output output_new errors errors_new status =
     × CarriesOutImport file old new output.bytes output_new.bytes errors.bytes errors_new.bytes errors_new.failed output.failed output_new.failed status
 
 -- the order was carried out over an opened desk: what each kind of order comes to
-abbrev pub Does : {S : Type 0} → (g : Ghosts S) → (List ℕ → Option (List ℕ) → Type 0) → (List ℕ → ℕ → Bool → Type 0) → Order → Desk S → Desk S
+abbrev pub Does : {S C : Type 0} → (g : Ghosts S) → (List ℕ → Option (List ℕ) → Type 0) → (List ℕ → ℕ → Bool → Type 0) → Network C → Order → Desk S → Desk S
     → Stream → Stream → Stream → Stream → Stream → Stream → ℕ → Type 0
-Does g reads listens (Run setup) before after input input_new output output_new errors errors_new status =
+Does g reads listens net (Run setup) before after input input_new output output_new errors errors_new status =
     CarriesOut g setup before after input.bytes input_new.bytes output.bytes output_new.bytes errors.bytes errors_new.bytes errors_new.failed
     input.failed input_new.failed output.failed output_new.failed status
-Does g reads listens (Serve setup port connections) before after input input_new output output_new errors errors_new status =
+Does g reads listens net (Serve setup port connections) before after input input_new output output_new errors errors_new status =
     (input_new ≡ input) × (output_new ≡ output)
-    × ServesPort listens port setup.interface connections (desk_state g before) (desk_state g after) errors errors_new status
-Does g reads listens (Import db file) before after input input_new output output_new errors errors_new status =
+    × ServesPort listens net port setup.interface connections (desk_state g before) (desk_state g after) errors errors_new status
+Does g reads listens net (Import db file) before after input input_new output output_new errors errors_new status =
     (input_new ≡ input)
     × ImportsFile reads file.now (desk_state g before) (desk_state g after) output output_new errors errors_new status
-Does g reads listens (Report db rollout) before after input input_new output output_new errors errors_new status =
+Does g reads listens net (Report db rollout) before after input input_new output output_new errors errors_new status =
     (input_new ≡ input)
     × ReportsRollout rollout (desk_state g before) (desk_state g after) output.bytes output_new.bytes
     errors.bytes errors_new.bytes errors_new.failed output.failed output_new.failed status
-Does g reads listens (Verify db) before after input input_new output output_new errors errors_new status =
+Does g reads listens net (Verify db) before after input input_new output output_new errors errors_new status =
     (input_new ≡ input)
-    × Verifies (state g before.store.calls.conn) (state g after.store.calls.conn) (desk_state g before) (desk_state g after)
+    × Verifies g before.store.calls after.store.calls (desk_state g before) (desk_state g after)
     output.bytes output_new.bytes errors.bytes errors_new.bytes errors_new.failed output.failed output_new.failed status
 
--- The desk at the order's path was opened, with the order's approval where it is new, and the order was carried out over it; or that is told.
-pub record CarriesOutOrder {D : Type 0} (g : disk.Ghosts D) (image : List ℕ → Image) (refuses : List ℕ → Bool → PathRefusal D → Type 0)
-    (reads : List ℕ → Option (List ℕ) → Type 0) (listens : List ℕ → ℕ → Bool → Type 0) (order : Order)
-    (input input_new output output_new errors errors_new : Stream) (status : ℕ) : Type 0 where
-  pub opening : Result (Desk (FileStore D g)) (PathRefusal D)
-  pub opened : IfOk opening (λ desk. ReopensDesk (image (database_of order)) (desk_state over_files desk) (asks_approval order))
-  pub refused : IfErr opening (LeftPath g (image (database_of order)) (asks_approval order))
-  pub told : IfErr opening (refuses (database_of order) (asks_approval order))
-  pub unopened : IfErr opening (λ e. LacksDesk e.0 input input_new output output_new errors errors_new status)
-  pub does : IfOk opening (λ before. (after : Desk (FileStore D g))
-      × Does over_files reads listens order before after input input_new output output_new errors errors_new status)
+-- The desk at the order's path was opened, with the order's approval where it is new, and the order was carried out over it: this desk is what
+-- that left.
+pub record LeavesDesk {D C : Type 0} (g : disk.Ghosts D) (image : Image) (reads : List ℕ → Option (List ℕ) → Type 0)
+    (listens : List ℕ → ℕ → Bool → Type 0) (net : Network C) (order : Order) (input input_new output output_new errors errors_new : Stream) (status : ℕ)
+    (after : Desk (FileStore D g)) : Type 0 where
+  pub before : Desk (FileStore D g)
+  pub opened : ReopensDesk image (desk_state over_files before) (asks_approval order)
+  pub does : Does over_files reads listens net order before after input input_new output output_new errors errors_new status
+
+-- The order was carried out over its desk, which is left as that says; or the host refused to open it, and that is told.
+pub record CarriesOutOrder {D C : Type 0} (g : disk.Ghosts D) (image : List ℕ → Image) (refuses : List ℕ → Bool → PathRefusal D → Type 0)
+    (reads : List ℕ → Option (List ℕ) → Type 0) (listens : List ℕ → ℕ → Bool → Type 0) (net : Network C) (order : Order)
+    (input input_new output output_new errors errors_new : Stream) (status : ℕ) (left : Result (Desk (FileStore D g)) (PathRefusal D)) : Type 0 where
+  pub leaves : IfOk left (LeavesDesk g (image (database_of order)) reads listens net order input input_new output output_new errors errors_new status)
+  pub refused : IfErr left (LeftPath g (image (database_of order)) (asks_approval order))
+  pub told : IfErr left (refuses (database_of order) (asks_approval order))
+  pub unopened : IfErr left (λ e. LacksDesk e.0 input input_new output output_new errors errors_new status)

@@ -1,5 +1,5 @@
 -- What the program tells, and its exit status.
-use Rattle.std.specs.Prelude.{◌≡◌, ◌≤◌, ◌⊎◌, ℕ, Bool, true, false, List, [], ◌++◌, Option, Result, Ok, Err, IfOk, IfErr, codes}
+use Rattle.std.specs.Prelude.{◌≡◌, ◌≤◌, ◌⊎◌, ℕ, Bool, true, false, List, [], ◌++◌, Option, Some, None, Result, Ok, Err, IfOk, IfErr, codes, is_some}
 use Rattle.std.specs.Io.KnownBytes.{Appends}
 use Rattle.sqlite_trees.specs.declared.store.Store.{Ghosts}
 use Rattle.rollout_machine.specs.CommandList.{CommandList}
@@ -16,7 +16,7 @@ use Rattle.stream_server.specs.declared.served.Served.{Served}
 use Rattle.stream_server.specs.declared.served.ServeFault.{ServeFault}
 use Rattle.stream_server.specs.declared.served.ServeFault.TheVariants.{Read, Write, Store, Memory}
 use Rattle.stream_server.specs.Headline.{FailsBy}
-use Rattle.stream_server.specs.Listening.{Keeps, StopsAtStore}
+use Rattle.stream_server.specs.Listening.{ComesToEnd, Keeps, Sockets, StopsAtStore}
 use Rattle.stream_server.specs.Parts.{ServesStream}
 
 -- the line of a fault
@@ -71,17 +71,33 @@ pub record CarriesOut {S : Type 0} (g : Ghosts S) (setup : Setup) (before after 
   pub read_failed : FailsBy outcome Read failed_read reading_fails
   pub write_failed : FailsBy outcome Write failed_write writing_fails
 
--- So many connections were served one after the other, or the port wasn't taken. What a socket gives and takes no contract can say, so this
--- speaks of the desk and of the outcome.
-pub record Listens {File : Type 0} (interface : Interface) (bound : Bool) (connections : ℕ)
+-- What is known of connections: with what bytes each came and went, how many came, and that no further one can be accepted.
+pub record Network (C : Type 0) : Type 1 where
+  pub comes : Sockets
+  pub goes : Sockets
+  pub counts : C → ℕ → Type 0
+  pub has_failed : C → Type 0
+
+abbrev pub network : {C : Type 0} → Sockets → Sockets → (C → ℕ → Type 0) → (C → Type 0) → Network C
+network comes goes counts has_failed = record { comes = comes; goes = goes; counts = counts; has_failed = has_failed }
+
+-- where the port was taken: so many connections came, or no further one can be accepted, or the store failed
+abbrev pub EndsOf : {C : Type 0} → Network C → Option C → Option C → ℕ → Result ℕ ListenFault → Type 0
+EndsOf net (Some old) (Some new) connections outcome = ComesToEnd (net.counts old) (net.counts new) (net.has_failed new) connections outcome
+EndsOf net (Some old) None connections outcome = ⊥
+EndsOf net None new connections outcome = Unit {0}
+
+-- So many connections were served one after the other, or the port wasn't taken.
+pub record Listens {File C : Type 0} (net : Network C) (interface : Interface) (listener after : Option C) (connections : ℕ)
     (old new : DeskState File) (outcome : Result ℕ ListenFault) : Type 0 where
   pub clean : new.is_clean → old.is_clean
-  pub keeps : (h : CommandList) → new.is_clean → StandsFor old h → Keeps interface new h
+  pub keeps : (h : CommandList) → new.is_clean → StandsFor old h → Keeps net.comes net.goes interface new h
+  pub ends : EndsOf net listener after connections outcome
   pub store : StopsAtStore new outcome
   pub stopped : old.is_stopped ≡ true → StaysStopped old new
   pub counts : IfOk outcome (λ served. served ≤ connections)
-  pub unbound : bound ≡ false → outcome ≡ Err listen_fault.Net
-  pub unserved : bound ≡ false → (h : CommandList) → StandsFor old h → StandsFor new h
+  pub unbound : is_some listener ≡ false → outcome ≡ Err listen_fault.Net
+  pub unserved : is_some listener ≡ false → (h : CommandList) → StandsFor old h → StandsFor new h
 
 -- nothing where the connections were served, and else the line of what ended the listening
 abbrev pub ReportsOn : Option (List ℕ) → Option (List ℕ) → Bool → Result ℕ ListenFault → Type 0
@@ -89,9 +105,9 @@ ReportsOn old new telling_fails (Ok served) = Appends old new []
 ReportsOn old new telling_fails (Err fault) = Tells old new telling_fails (listen_line fault)
 
 -- The order `serve` was carried out over an opened desk, with this outcome, which gives the status and the line that is told.
-pub record CarriesOutOn {File : Type 0} (interface : Interface) (bound : Bool) (connections : ℕ)
-    (before after : DeskState File) (told told_new : Option (List ℕ)) (telling_fails : Bool) (status : ℕ) : Type 0 where
+pub record CarriesOutOn {File C : Type 0} (net : Network C) (interface : Interface) (listener after : Option C) (connections : ℕ)
+    (before now : DeskState File) (told told_new : Option (List ℕ)) (telling_fails : Bool) (status : ℕ) : Type 0 where
   pub outcome : Result ℕ ListenFault
-  pub listens : Listens interface bound connections before after outcome
+  pub listens : Listens net interface listener after connections before now outcome
   pub status_is : status ≡ status_of outcome
   pub reports : ReportsOn told told_new telling_fails outcome

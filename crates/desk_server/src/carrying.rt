@@ -1,8 +1,8 @@
 //! Carrying an order out, from the opening of its desk to the exit status.
 
-ghost use Rattle.std.specs.Prelude.{IsOkAnd, IfErr, IfOk};
 ghost use Rattle.rollout_desk.specs.DeskStates.{desk_state};
-ghost use Rattle.desk_server.specs.Carrying.{CarriesOutOrder, Does, ImportsFile, LacksDesk, ServesPort, seen};
+ghost use Rattle.desk_server.specs.Carrying.{CarriesOutOrder, Does, ImportsFile, ServesPort, seen};
+ghost use Rattle.desk_server.specs.Program.{network};
 
 use crate::host::Host;
 use crate::import::import_given;
@@ -10,10 +10,11 @@ use crate::order::{Order, Setup};
 use crate::program::{FAILED, listen_address, open_line, run, serve_on_port, tell};
 use crate::report::report;
 use crate::verify::verify;
-use desk_opening::OpenFault;
+use desk_opening::{NoFile, OpenFault};
 use http_wire::Watched;
 use rollout_desk::Desk;
-use sqlite::Alter;
+use sqlite::{Alter, FileStore};
+use sqlite_disk::Disk;
 use std::alloc::Global;
 use std::io::{Read, Write};
 
@@ -27,16 +28,17 @@ fn serve_port<H: Host, E: Write, S: Alter>(
     desk: &mut Desk<S>,
     errors: &mut Watched<E>,
 ) -> u8
-    ensures { ServesPort H.listens port setup.now.interface connections (desk_state S.Store desk.old) (desk_state S.Store desk.new)
+    ensures { ServesPort H.listens (network H.Listener.comes H.Listener.goes H.Listener.counts H.Listener.has_failed) port setup.now.interface connections
+        (desk_state S.Store desk.old) (desk_state S.Store desk.new)
         (seen E.contents errors.old) (seen E.contents errors.new) result }
 {
     let (address, port) = listen_address(port);
-    let listener = host.listen(address, port);
+    let mut listener = host.listen(address, port);
     serve_on_port(
         alloc,
         desk,
         setup.interface,
-        listener.as_ref(),
+        &mut listener,
         connections,
         errors,
     )
@@ -68,7 +70,8 @@ fn carry_out_over<H: Host, R: Read, W: Write, E: Write, S: Alter>(
     output: &mut Watched<W>,
     errors: &mut Watched<E>,
 ) -> u8
-    ensures { Does S.Store H.reads H.listens order.now desk.old desk.new (seen R.remaining input.old) (seen R.remaining input.new)
+    ensures { Does S.Store H.reads H.listens (network H.Listener.comes H.Listener.goes H.Listener.counts H.Listener.has_failed) order.now desk.old desk.new
+        (seen R.remaining input.old) (seen R.remaining input.new)
         (seen W.contents output.old) (seen W.contents output.new) (seen E.contents errors.old) (seen E.contents errors.new) result }
 {
     match order {
@@ -84,32 +87,16 @@ fn carry_out_over<H: Host, R: Read, W: Write, E: Write, S: Alter>(
     }
 }
 
-/// Carries an order out over what the opening of its desk came to.
-fn carry_out_opened<H: Host, R: Read, W: Write, E: Write, S: Alter, Rest>(
-    alloc: Global,
-    order: &Order<'_>,
-    host: &mut H,
-    desk: &mut Result<Desk<S>, (OpenFault, Rest)>,
-    input: &mut Watched<R>,
-    output: &mut Watched<W>,
-    errors: &mut Watched<E>,
-) -> u8
-    ensures unopened { IfErr desk.old (λ e. LacksDesk e.0 (seen R.remaining input.old) (seen R.remaining input.new)
-        (seen W.contents output.old) (seen W.contents output.new) (seen E.contents errors.old) (seen E.contents errors.new) result) }
-    ensures does { IfOk desk.old (λ before. IsOkAnd desk.new (λ after. Does S.Store H.reads H.listens order.now before after
-        (seen R.remaining input.old) (seen R.remaining input.new) (seen W.contents output.old) (seen W.contents output.new)
-        (seen E.contents errors.old) (seen E.contents errors.new) result)) }
-{
-    match desk {
-        Err((fault, _)) => {
-            tell(errors, open_line(*fault));
-            FAILED
-        }
-        Ok(desk) => carry_out_over(alloc, order, host, desk, input, output, errors),
-    }
+/// An order that was carried out: the exit status, and the order's desk as it was left. Nothing can be done to that desk any more but to let go
+/// of it.
+#[derive(Drop)]
+pub struct CarriedOut<D: Disk + Drop> {
+    pub status: u8,
+    /// The desk, or why it couldn't be opened.
+    left: Result<Desk<FileStore<D>>, (OpenFault, Option<NoFile<D>>)>,
 }
 
-/// Carries an order out on a machine, and answers the exit status: opens the order's desk, does what the order asks, and tells what failed.
+/// Carries an order out on a machine: opens the order's desk, does what the order asks, and tells what failed.
 pub fn carry_out<H: Host, R: Read, W: Write, E: Write>(
     alloc: Global,
     order: &Order<'_>,
@@ -118,10 +105,25 @@ pub fn carry_out<H: Host, R: Read, W: Write, E: Write>(
     input: &mut Watched<R>,
     output: &mut Watched<W>,
     errors: &mut Watched<E>,
-) -> u8
-    ensures { CarriesOutOrder H.Disk.Disk H.image H.refuses H.reads H.listens order.now (seen R.remaining input.old) (seen R.remaining input.new)
-        (seen W.contents output.old) (seen W.contents output.new) (seen E.contents errors.old) (seen E.contents errors.new) result }
+) -> CarriedOut<H::Disk>
+    ensures { CarriesOutOrder H.Disk.Disk H.image H.refuses H.reads H.listens
+        (network H.Listener.comes H.Listener.goes H.Listener.counts H.Listener.has_failed) order.now (seen R.remaining input.old) (seen R.remaining input.new)
+        (seen W.contents output.old) (seen W.contents output.new) (seen E.contents errors.old) (seen E.contents errors.new) result.status result.left }
 {
-    let mut desk = host.open(order.db(), start, order.approval());
-    carry_out_opened(alloc, order, host, &mut desk, input, output, errors)
+    match host.open(order.db(), start, order.approval()) {
+        Ok(mut desk) => {
+            let status = carry_out_over(alloc, order, host, &mut desk, input, output, errors);
+            CarriedOut {
+                status,
+                left: Ok(desk),
+            }
+        }
+        Err(refused) => {
+            tell(errors, open_line(refused.0));
+            CarriedOut {
+                status: FAILED,
+                left: Err(refused),
+            }
+        }
+    }
 }

@@ -12,7 +12,8 @@ use rollout_desk::Desk;
 use sqlite::FileStore;
 use sqlite_disk::Disk;
 use std::alloc::Global;
-use std::net::{Ipv4Addr, TcpListener};
+use std::net::Ipv4Addr;
+use stream_server::Connections;
 
 /// The files and the network of a machine, as the program sees them.
 pub trait Host {
@@ -21,6 +22,9 @@ pub trait Host {
 
     /// A file that a database or its log is kept in.
     type Disk: Disk + Drop;
+
+    /// The connections to a port.
+    type Listener: Connections + Drop;
 
     /// What the database at a path and its log held as they were opened.
     ghost image: { List ℕ → Image };
@@ -50,6 +54,6 @@ pub trait Host {
         ensures { reads path.now (option_map vec_items result) };
 
     /// Takes a port of an address. None where that isn't possible.
-    fn listen(&mut self, address: Ipv4Addr, port: u16) -> Option<TcpListener>
+    fn listen(&mut self, address: Ipv4Addr, port: u16) -> Option<Self::Listener>
         ensures { listens (ipv4_octets address) port (is_some result) };
 }

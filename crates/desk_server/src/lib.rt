@@ -13,9 +13,10 @@ mod telling;
 mod verify;
 
 pub use crate::after_crash::headline_after_crash;
-pub use crate::carrying::carry_out;
+pub use crate::carrying::{CarriedOut, carry_out};
 pub use crate::host::Host;
 pub use crate::order::{Order, Setup, read_order};
 pub use stream_server::{
-    ContentsHandler, End, Handler, Interface, ListenFault, ServeFault, Served, serve, serve_on,
+    Connections, ContentsHandler, End, Handler, Interface, ListenFault, ServeFault, Served,
+    TcpConnections, serve, serve_on,
 };

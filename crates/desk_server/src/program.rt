@@ -1,12 +1,12 @@
 //! What the program does with an order.
 
-ghost use Rattle.std.specs.Prelude.{◌≡◌, ◌++◌, ◌∷◌, ℕ, List, [], true, Result, is_some, IfErr};
+ghost use Rattle.std.specs.Prelude.{◌≡◌, ◌++◌, ◌∷◌, ℕ, List, [], true, Result, IfErr};
 ghost use Rattle.std.specs.Net.Addr.{ipv4_octets};
 ghost use Rattle.http_wire.specs.Watched.{inner_of, has_failed};
 ghost use Rattle.stream_server.specs.declared.served.Served.{Served as Outcome};
 ghost use Rattle.stream_server.specs.declared.served.ServeFault.{ServeFault as Fault};
 ghost use Rattle.stream_server.specs.Headline.{FailsBy};
-ghost use Rattle.desk_server.specs.Program.{fault_line, open_line, listen_line, status_of, Tells, Reports, CarriesOut, Listens, CarriesOutOn};
+ghost use Rattle.desk_server.specs.Program.{fault_line, open_line, listen_line, status_of, Tells, Reports, CarriesOut, Listens, CarriesOutOn, network};
 ghost use Rattle.stream_server.specs.Parts.{ServesStream};
 
 use crate::Setup;
@@ -16,8 +16,10 @@ use rollout_desk::Desk;
 use sqlite::Alter;
 use std::alloc::Global;
 use std::io::{Read, Write};
-use std::net::{Ipv4Addr, TcpListener};
-use stream_server::{ContentsHandler, Interface, ListenFault, ServeFault, serve, serve_on};
+use std::net::Ipv4Addr;
+use stream_server::{
+    Connections, ContentsHandler, Interface, ListenFault, ServeFault, serve, serve_on,
+};
 
 /// The exit status of what was done.
 pub(crate) const DONE: u8 = 0;
@@ -119,14 +121,15 @@ pub(crate) fn listen_address(port: u16) -> (Ipv4Addr, u16)
 
 /// Serves the connections to a port, or answers at once where the port wasn't taken.
 #[tactic(auto, using(stream_server::proofs::ListenLemmas::keeps_what_stands, stream_server::proofs::PartLemmas::stays))]
-fn listen<D: ContentsHandler>(
+fn listen<C: Connections, D: ContentsHandler>(
     alloc: Global,
     desk: &mut D,
     interface: Interface,
-    listener: Option<&TcpListener>,
+    listener: &mut Option<C>,
     connections: u32,
 ) -> Result<u32, ListenFault>
-    ensures { Listens interface (is_some listener.entry) connections (D.state desk.old) (D.state desk.new) result }
+    ensures { Listens (network C.comes C.goes C.counts C.has_failed) interface listener.old listener.new connections
+        (D.state desk.old) (D.state desk.new) result }
 {
     match listener {
         Some(listener) => serve_on(alloc, desk, listener, connections, interface),
@@ -135,15 +138,15 @@ fn listen<D: ContentsHandler>(
 }
 
 /// Serves the connections, and tells of a fault.
-pub(crate) fn serve_on_port<E: Write, D: ContentsHandler>(
+pub(crate) fn serve_on_port<C: Connections, E: Write, D: ContentsHandler>(
     alloc: Global,
     desk: &mut D,
     interface: Interface,
-    listener: Option<&TcpListener>,
+    listener: &mut Option<C>,
     connections: u32,
     errors: &mut Watched<E>,
 ) -> u8
-    ensures { CarriesOutOn interface (is_some listener.entry) connections (D.state desk.old) (D.state desk.new)
+    ensures { CarriesOutOn (network C.comes C.goes C.counts C.has_failed) interface listener.old listener.new connections (D.state desk.old) (D.state desk.new)
         (E.contents (inner_of errors.old)) (E.contents (inner_of errors.new)) (has_failed errors.new) result }
 {
     match listen(alloc, desk, interface, listener, connections) {

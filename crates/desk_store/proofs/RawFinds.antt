@@ -6,7 +6,7 @@ use Rattle.desk_records.specs.FoundPieces.{lies_at}
 use Rattle.desk_records.specs.TableRows.{IsRollout}
 use Rattle.desk_records.proofs.RuleRows.{judges_rule}
 use Rattle.desk_records.proofs.TextColumns.{passes_text, text_is}
-use Rattle.desk_store.specs.RawLists.{HasNumbered, SaysNumbered, SaysOfferOf, SaysRule, SaysStored}
+use Rattle.desk_store.specs.RawLists.{FindsFirst, HasNumbered, SaysNumbered, SaysOfferOf, SaysRule, SaysStored}
 use Rattle.desk_records.proofs.MeaningWords.{Asks}
 use Rattle.desk_store.proofs.Known.{answer_of, known}
 use Rattle.desk_store.proofs.RawCalls.{FindsOf, few_read}
@@ -53,6 +53,24 @@ module _ {p : Place} {sql : List ℕ} {query : ℕ → Query} {names : List (Lis
         answers (Ok found) read = λ db t holds shows. said db t holds row shows found read
         answers (Err e) read = tt
 
+    -- .. or none passes
+    abbrev FirstSaid : Tables → Option A → Type 0
+    FirstSaid t found = FindsFirst (t p) passing says found
+
+    pub first_or_none : (old new : State) (row : Option Row) → TakesFirst old new sql params (Ok row) → (out : Result (Option A) Fault) → IfOk out (λ found. IsReadAs is found row) → FindsOf old new out FirstSaid
+    first_or_none old new row h out read = first_finds HoldsTables (λ (t : Tables). t) sql params old new FirstSaid (known text) (λ db t holds at given. tt) row h out (answers out read)
+      where
+        said : (db : Database) (t : Tables) (holds : HoldsTables db t) (row : Option Row) → ShowsFirst (known text db t holds).command db params row → (found : Option A) → IsReadAs is found row → FirstSaid t found
+        said db t holds None shows found read =
+            subst (FirstSaid t) (sym read) (none_passes (holds.spot p).tree (query 0).filter (query 0).project (query 0).order (query 0).limit (query 0).offset params db.trees (t p) (holds.rows p) (whole (holds.spot p).tree) passing (judged db t holds) [] (answer_of text holds shows) refl)
+        said db t holds (Some x) shows found read =
+            let from = from_shown (holds.spot p).tree (query 0).filter (query 0).project (query 0).order (query 0).limit (query 0).offset params db.trees (t p) (holds.rows p) (whole (holds.spot p).tree) passing (judged db t holds) (x ∷ shows.0) (answer_of text holds shows.1) x (inl refl) in
+            subst (FirstSaid t) (sym read.1) (record { row = from.0; among = from.1; passes = from.2; is = means_so from.0 from.2 read.0 (subst (λ y. is y read.0) from.3 read.2) })
+
+        answers : (out : Result (Option A) Fault) → IfOk out (λ found. IsReadAs is found row) → IfOk out (λ found. (db : Database) (t : Tables) (holds : HoldsTables db t) → ShowsFirst (known text db t holds).command db params row → FirstSaid t found)
+        answers (Ok found) read = λ db t holds shows. said db t holds row shows found read
+        answers (Err e) read = tt
+
 -- ---- by a number
 
 pub artifact_told : (k : ℕ) (old new : State) (row : Option Row) → TakesFirst old new GET_ARTIFACT.now (Int (pos k) ∷ []) (Ok row) → (out : Result (Option StoredArtifact) Fault) → IfOk out (λ found. IsReadAs IsStoredRow found row)
@@ -83,3 +101,7 @@ module _ (id : Bytes) (word : is_word id ≡ true) where
   pub offer_read : (old new : State) (rows : Vec Row Global) → AsksFew old new GET_OFFER.now (Text id ∷ []) 1 (Ok rows) → (out : Result (Option Offer) Fault) → IfOk out (λ found. IsReadAs IsOfferRow found (slice_get rows.items 0))
       → FindsOf old new out (λ t found. FindsOne (t Offers) (has_text_at 1 id) (SaysOfferOf id) found)
   offer_read = one_read get_offer_is (Text id ∷ []) (λ tree xs. refl) (has_text_at 1 id) (λ db t holds row among. passes_text row 1 id) IsOfferRow (SaysOfferOf id) says_offer_of
+
+  pub offer_kept : (old new : State) (row : Option Row) → TakesFirst old new GET_OFFER.now (Text id ∷ []) (Ok row) → (out : Result (Option Offer) Fault) → IfOk out (λ found. IsReadAs IsOfferRow found row)
+      → FindsOf old new out (λ t found. FindsFirst (t Offers) (has_text_at 1 id) (SaysOfferOf id) found)
+  offer_kept = first_or_none get_offer_is (Text id ∷ []) (λ tree xs. refl) (has_text_at 1 id) (λ db t holds row among. passes_text row 1 id) IsOfferRow (SaysOfferOf id) says_offer_of

@@ -77,6 +77,11 @@ SaysListed row a = IsArtifactRow (listed_shown row) a
 abbrev pub SaysOfferOf : Bytes → Row → Offer → Type 0
 SaysOfferOf id row o = IsOffer row id o
 
+-- what a row says that passes the test, or none passes
+abbrev pub FindsFirst : {A : Type 0} → List Row → (Row → Bool) → (Row → A → Type 0) → Option A → Type 0
+FindsFirst rows test says (Some a) = IsSaid rows test says a
+FindsFirst rows test says None = (row : Row) → Has rows row → test row ≡ true → ⊥
+
 -- what was found is in the order of a number
 abbrev pub AreInOrder : {A : Type 0} → (A → ℕ) → Option (List A) → Type 0
 AreInOrder key (Some found) = IsNonDecreasingBy key found

@@ -7,11 +7,14 @@ ghost use Rattle.rollout_machine.specs.ByteStrings.{item_numbered};
 ghost use Rattle.desk_records.specs.Actions.{history_of};
 ghost use Rattle.desk_records.specs.EntryRow.{BreaksEntry, BreaksSequenced, IsEntryRow, IsSequencedRow, keeps_details};
 ghost use Rattle.desk_records.specs.LedgerSteps.{AddsAction, AddsEntry, SetsAction, SetsOffer, with_offer};
+ghost use Rattle.desk_records.specs.Listings.{has_text_at};
 ghost use Rattle.desk_records.specs.NextOffers.{next_offer};
 ghost use Rattle.desk_records.specs.RolloutRow.{IsActionRow, IsListedActionRow, IsOfferRow, actions_for, actions_of, stored_action};
 ghost use Rattle.desk_records.specs.RolloutRow.{broken_action_column, broken_listed_action_column, broken_offer_column};
+ghost use Rattle.desk_records.specs.Schema.{Offers};
 ghost use Rattle.desk_store.specs.Counting.{AddsIn};
-ghost use Rattle.desk_store.specs.Changing.{FindsLedger, KeepsTables, MakesLedger, StaysIn};
+ghost use Rattle.desk_store.specs.Changing.{FindsLedger, FindsTables, KeepsTables, MakesLedger, StaysIn};
+ghost use Rattle.desk_store.specs.RawLists.{FindsFirst, SaysOfferOf};
 ghost use Rattle.desk_store.specs.Rows.{BreaksRule};
 ghost use Rattle.desk_store.specs.Failing.{CountsIn, FailsIn, FailsSeeing, NumbersActions};
 
@@ -189,6 +192,7 @@ impl<'a, S: Alter> OpenChange<'a, S> {
         ensures stays { StaysIn S.Store self.old self.new result }
         ensures keeps { KeepsTables S.Store self.old self.new result }
         ensures reads { FindsLedger S.Store self.old self.new result (λ l found. found ≡ l.offers id.now) }
+        ensures tells { FindsTables S.Store self.old self.new result (λ t found. FindsFirst (t Offers) (has_text_at 1 id.now) (SaysOfferOf id.now) found) }
         ensures fails { FailsIn S.Store self.old self.new result }
         ensures work { AddsIn 1 1 self.old self.new }
     {

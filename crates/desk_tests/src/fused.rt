@@ -7,10 +7,11 @@ ghost use Rattle.sqlite_disk.specs.Memory.{memory_is_usable};
 use super::forty::{CHANGES, commands, looks};
 use super::told::{answer, new_desk, run, verifies};
 use ddi_api::device_reply;
+use desk_opening::DeskLeftover;
 use mgmt_api::manage_reply;
 use rollout_desk::{Desk, goes_on_after_crash};
 use rollout_model::{Reply, Request};
-use sqlite::{Alter, FileStore, Files, MemStore, Options};
+use sqlite::{Alter, FileStore, Files, Leftover, MemStore, Options};
 use sqlite_disk::{Crash, Disk, Fuse, Memory};
 use std::alloc::Global;
 
@@ -104,6 +105,16 @@ fn left_by(mut desk: Desk<FileStore<Fuse<Memory>>>, course: &Course) -> Option<L
     Some(Left { files, least, most })
 }
 
+/// The files over which no desk was opened.
+fn files_left(left: DeskLeftover<Fuse<Memory>>) -> Files<Fuse<Memory>> {
+    match left {
+        DeskLeftover::Unopened(left) => left.into_files(),
+        DeskLeftover::Refused(calls) => {
+            Leftover::Store(calls.into_connection().into_store()).into_files()
+        }
+    }
+}
+
 /// What is left where a desk is opened over new files that take so many calls, and does the commands.
 fn leave(alloc: Global, course: &Course, log_calls: u64, db_calls: u64) -> Option<Left> {
     let files = Files {
@@ -113,7 +124,7 @@ fn leave(alloc: Global, course: &Course, log_calls: u64, db_calls: u64) -> Optio
     match Desk::reopen_over(alloc, files, OPTIONS, false) {
         Ok(desk) => left_by(desk, course),
         Err((_, unopened)) => Some(Left {
-            files: unopened.into_files(),
+            files: files_left(unopened),
             least: 0,
             most: 0,
         }),

@@ -1,5 +1,12 @@
 -- What the reads of the tables of offers, actions and groups come to.
 use Rattle.desk_verify.proofs.Common.{◌≡◌, ℕ, Bool, true, false, List, is_none, is_some, length, Option, Some, None, true≢false, refl, sym, ap, subst, ◌∙◌, pos, AllByRecursion, and_from, and_parts, Row, column, has_rowid, Has, all_from, all_has, some_from, some_has, Offer, Bytes, holds_position, Outcome, GroupRecord, same_refl, FindsOne, has_at, has_text_at, Actions, Groups, Offers, IsAction, IsOffer, Tables, OwnedOffer, ListedAction, StoredAction, StoredRollout, is_at, number_in_is, number_in_least, number_is, one_number, ListsRows, SaysAction, SaysGroup, SaysNumbered, SaysOffer, SaysOfferOf, any_row, Decides, Fits, IsRight, IsRowOffered, IsOfferedIfDue, holds_started, is_due, is_started_at, AgreesOffers, HasNumberedAction, IsDue, IsInStartedGroup, IsOffered, IsRightOffer, HasRollout, IsChecked, JudgesAll, IsThere}
+use Rattle.std.proofs.lemmas.Bool.Decides.{nat_tests}
+use Rattle.std.proofs.Common.{arith}
+use Rattle.std.proofs.lemmas.List.Sorted.{IsPermutation-sym, length_permutation}
+use Rattle.std.specs.List.Sorted.{IsPermutation}
+use Rattle.sqlite_trees.proofs.ListLemmas.{all-permutation}
+use Rattle.desk_records.specs.Listings.{AreSaid, IsSaid}
+use Rattle.desk_verify.specs.OfferChecks.{is_of}
 use Rattle.desk_verify.proofs.Counting.{is_within}
 use Rattle.desk_verify.proofs.GroupLemmas.{one_group}
 use Rattle.desk_verify.proofs.OneRow.{one_action, one_in, one_text}
@@ -23,6 +30,11 @@ has_id : (row : Row) (id : Bytes) (o : Offer) → IsOffer row id o → has_text_
 has_id row id o is = rw is.id_is (same_refl id)
 
 -- ---- groups
+
+-- it is the rollout whose groups are kept
+pub kept_is : (kept : Option ℕ) (r : ℕ) → is_of kept r ≡ true → kept ≡ Some r
+kept_is None r same = absurd cc
+kept_is (Some n) r same = let is : n ≡ r = grind (arith, nat_tests, same) in ap Some is
 
 pub started_tells : (t : Tables) (r place : ℕ) (groups : List GroupRecord) → ListsRows (t Groups) (has_at 1 r) (SaysGroup r) (Some groups) → Decides (IsInStartedGroup t r place) (holds_started groups place)
 started_tells t r place groups listed = go (holds_started groups place) refl
@@ -113,6 +125,17 @@ module _ (t : Tables) (r : ℕ) (rollout : StoredRollout) (groups : List GroupRe
           })
 
 -- ---- all of them
+
+-- what was found, in another order
+pub sorted_said : {A : Type 0} {rows : List Row} {test : Row → Bool} {says : Row → A → Type 0} {found sorted : List A} → IsPermutation found sorted → AreSaid rows test says found → AreSaid rows test says sorted
+sorted_said {A} {rows} {test} {says} {found} {sorted} moved said = record {
+  sound = λ a among. all_has (IsSaid rows test says) sorted a (all-permutation (IsSaid rows test says) found sorted moved (all_from (IsSaid rows test says) found said.sound)) among;
+  complete = λ row among passes. let it = said.complete row among passes in record { one = it.one; among = moves it.one it.among; is = it.is };
+  count = length_permutation found sorted moved ∙ said.count;
+}
+  where
+    moves : (a : A) → Has found a → Has sorted a
+    moves a among = all_has (Has sorted) found a (all-permutation (Has sorted) sorted found (IsPermutation-sym found sorted moved) (all_from (Has sorted) sorted (λ b has. has))) among
 
 pub row_broken : (t : Tables) → ListsRows (t Offers) any_row SaysOffer None → Decides (AgreesOffers t) false
 row_broken t broken agree = let it = agree.each broken.row broken.among in broken.breaks (record { id = it.id; offer = it.offer }) it.is

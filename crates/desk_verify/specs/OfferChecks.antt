@@ -1,5 +1,5 @@
 -- The check of one offer, and of the actions of one rollout.
-use Rattle.std.specs.Prelude.{◌≡◌, ◌&&◌, ℕ, Bool, true, List, is_none, None}
+use Rattle.std.specs.Prelude.{◌≡◌, ◌&&◌, ℕ, Bool, true, false, nat_eq, List, is_none, Option, Some, None}
 use Rattle.std.specs.List.{list_any}
 use Rattle.sqlite_value.specs.Order.{Row}
 use Rattle.rollout_machine.specs.Groups.{holds_position}
@@ -8,6 +8,10 @@ use Rattle.desk_records.specs.Tables.{Tables}
 use Rattle.desk_records.specs.declared.checked_rows.OwnedOffer.{OwnedOffer}
 use Rattle.desk_records.specs.declared.rollout_row.ListedAction.{ListedAction}
 use Rattle.desk_records.specs.declared.rollout_row.StoredAction.{StoredAction}
+use Rattle.desk_records.specs.Listings.{has_at}
+use Rattle.desk_records.specs.Schema.{Groups}
+use Rattle.desk_store.specs.RawLists.{ListsRows, SaysGroup}
+use Rattle.desk_verify.specs.declared.offers.KeptGroups.{KeptGroups}
 use Rattle.desk_verify.specs.Offers.{HasNumberedAction, IsDue, IsInStartedGroup, IsOffered}
 
 -- ---- groups
@@ -18,6 +22,19 @@ is_started_at place group = holds_position place group.bounds && group.started
 -- a started one of these holds the place
 abbrev pub holds_started : List GroupRecord → ℕ → Bool
 holds_started groups place = list_any (is_started_at place) groups
+
+-- it is this rollout
+abbrev pub is_of : Option ℕ → ℕ → Bool
+is_of None rollout = false
+is_of (Some number) rollout = nat_eq number rollout
+
+-- they are those of the rollout
+abbrev pub AreGroupsOf : Tables → ℕ → List GroupRecord → Type 0
+AreGroupsOf t rollout groups = ListsRows (t Groups) (has_at 1 rollout) (SaysGroup rollout) (Some groups)
+
+-- .. of the one that is kept, if one is
+abbrev pub AreKept : Tables → KeptGroups → Type 0
+AreKept t kept = (rollout : ℕ) → kept.rollout ≡ Some rollout → AreGroupsOf t rollout kept.groups.items
 
 -- ---- one offer
 

@@ -4,12 +4,21 @@ ghost use Rattle.std.specs.Prelude.{◌≡◌, IfOk, count_by};
 ghost use Rattle.std.specs.List.{list_all};
 ghost use Rattle.desk_verify.specs.Cuts.{are_right, counts_them, has_each, has_number, is_cut, is_right};
 ghost use Rattle.desk_verify.specs.Groups.{has_ended};
+ghost use Rattle.rollout_machine.specs.declared.outcome.Outcome.TheVariants.{Bad, Gone, Good};
 
 use campaign_core::{cut_grouping, leaves_empty};
 use desk_store::CountedAction;
-use rollout_machine::{Bounds, GroupRecord, Outcome, is_outcome};
+use rollout_machine::{Bounds, GroupRecord, Outcome};
 use rollout_model::Grouping;
 use std::alloc::{AllocError, Global};
+
+/// How many actions ended, by their outcome.
+#[derive(Clone, Copy)]
+struct EndedCounts {
+    ok: usize,
+    bad: usize,
+    gone: usize,
+}
 
 /// Whether these are the groups of a rollout with so many members that is cut so, and with these actions.
 pub(crate) fn are_right(
@@ -75,25 +84,32 @@ fn is_cut(group: &GroupRecord, cuts: &[Bounds]) -> bool
 fn counts_them(group: &GroupRecord, actions: &[CountedAction]) -> bool
     ensures { result ≡ counts_them actions.now group.now }
 {
-    count_ended(actions, group.bounds, Outcome::Good) == group.ok as usize
-        && count_ended(actions, group.bounds, Outcome::Bad) == group.bad as usize
-        && count_ended(actions, group.bounds, Outcome::Gone) == group.gone as usize
+    let ended = count_ended(actions, group.bounds);
+    ended.ok == group.ok as usize
+        && ended.bad == group.bad as usize
+        && ended.gone == group.gone as usize
 }
 
-/// How many actions between the bounds ended so.
-fn count_ended(actions: &[CountedAction], bounds: Bounds, outcome: Outcome) -> usize
-    ensures { result ≡ count_by (has_ended bounds outcome) actions.now }
+/// How many actions between the bounds ended, by each outcome.
+fn count_ended(actions: &[CountedAction], bounds: Bounds) -> EndedCounts
+    ensures ok { result.ok ≡ count_by (has_ended bounds Good) actions.now }
+    ensures bad { result.bad ≡ count_by (has_ended bounds Bad) actions.now }
+    ensures gone { result.gone ≡ count_by (has_ended bounds Gone) actions.now }
 {
-    actions
-        .iter()
-        .filter(|action| has_ended(action, bounds, outcome))
-        .count()
-}
-
-fn has_ended(action: &CountedAction, bounds: Bounds, outcome: Outcome) -> bool
-    ensures { result ≡ has_ended bounds outcome action.now }
-{
-    bounds.first <= action.place
-        && action.place <= bounds.last
-        && is_outcome(outcome, action.outcome)
+    let mut ended = EndedCounts {
+        ok: 0,
+        bad: 0,
+        gone: 0,
+    };
+    for action in actions {
+        if bounds.first <= action.place && action.place <= bounds.last {
+            match action.outcome {
+                Some(Outcome::Good) => ended.ok += 1,
+                Some(Outcome::Bad) => ended.bad += 1,
+                Some(Outcome::Gone) => ended.gone += 1,
+                None => {}
+            }
+        }
+    }
+    ended
 }

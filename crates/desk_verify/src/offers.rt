@@ -2,13 +2,14 @@
 
 ghost use Rattle.std.specs.Prelude.{◌≡◌};
 ghost use Rattle.std.specs.List.{AllByRecursion};
+ghost use Rattle.std.specs.List.Sorted.{IsPermutation};
 ghost use Rattle.desk_records.specs.Schema.{Actions};
 ghost use Rattle.desk_store.specs.Blaming.{BlamesGiven};
 ghost use Rattle.desk_store.specs.Changing.{FindsTables, StaysIn};
 ghost use Rattle.desk_store.specs.RawLists.{AreOffers};
 ghost use Rattle.desk_verify.specs.Agreement.{AgreeBefore, Decides};
 ghost use Rattle.desk_verify.specs.declared.damage.CheckedTable.TheVariants as checked;
-ghost use Rattle.desk_verify.specs.OfferChecks.{Fits, IsOfferedIfDue, IsRight, IsRowOffered, holds_started, is_due, is_started_at};
+ghost use Rattle.desk_verify.specs.OfferChecks.{AreGroupsOf, AreKept, Fits, IsOfferedIfDue, IsRight, IsRowOffered, holds_started, is_due, is_of, is_started_at};
 ghost use Rattle.desk_verify.specs.Offers.{AgreesOffers, IsInStartedGroup, IsOffered};
 
 use crate::rollouts::{ByRollout, NumberedRollout, check_rollouts};
@@ -19,6 +20,13 @@ use sqlite::Alter;
 
 /// The actions, of which one that is due is to be offered.
 struct Actions;
+
+/// The groups of the rollout that was looked at last, if one was.
+#[derive(Drop)]
+struct KeptGroups {
+    rollout: Option<RolloutNo>,
+    groups: Vec<GroupRecord>,
+}
 
 impl<S: Alter> ByRollout<S> for Actions {
     ghost table = { Actions };
@@ -59,9 +67,10 @@ pub(crate) fn check_offers<S: Alter>(change: &mut OpenChange<'_, S>) -> Result<b
     ensures judges { FindsTables S.Store change.old change.new result (λ t agrees. Decides (AgreesOffers t) agrees) }
     ensures blames { BlamesGiven S.Store (AgreeBefore checked.Offer) change.old change.new result }
 {
-    let Some(offers) = change.list_offers()? else {
+    let Some(listed) = change.list_offers()? else {
         return Ok(false);
     };
+    let offers = in_action_order(listed);
     if !are_right(change, &offers)? {
         return Ok(false);
     }
@@ -69,14 +78,26 @@ pub(crate) fn check_offers<S: Alter>(change: &mut OpenChange<'_, S>) -> Result<b
     Ok(offered.is_some())
 }
 
-/// Whether each of the offers is right.
+/// Offers in the order of their actions, in which those of one rollout stand together.
+fn in_action_order(mut offers: Vec<OwnedOffer>) -> Vec<OwnedOffer>
+    ensures { IsPermutation offers.items result.items }
+{
+    offers.sort_unstable_by_key(|owned| owned.offer.action.get());
+    offers
+}
+
+/// Whether each of the offers is right. The groups of a rollout are read once for all its offers that stand together.
 fn are_right<S: Alter>(change: &mut OpenChange<'_, S>, offers: &[OwnedOffer]) -> Result<bool, Fault>
     ensures stays { StaysIn S.Store change.old change.new result }
     ensures judges { FindsTables S.Store change.old change.new result (λ t right. Decides (AllByRecursion (IsRight t) offers.now) right) }
     ensures blames { BlamesGiven S.Store (AgreeBefore checked.Offer) change.old change.new result }
 {
+    let mut kept = KeptGroups {
+        rollout: None,
+        groups: Vec::new(change.alloc()),
+    };
     for offer in offers {
-        if !is_right(change, offer)? {
+        if !is_right(change, &mut kept, offer)? {
             return Ok(false);
         }
     }
@@ -84,9 +105,14 @@ fn are_right<S: Alter>(change: &mut OpenChange<'_, S>, offers: &[OwnedOffer]) ->
 }
 
 /// Whether an open action of the target is offered as it is to be done, and its group is started.
-fn is_right<S: Alter>(change: &mut OpenChange<'_, S>, owned: &OwnedOffer) -> Result<bool, Fault>
+fn is_right<S: Alter>(
+    change: &mut OpenChange<'_, S>,
+    kept: &mut KeptGroups,
+    owned: &OwnedOffer,
+) -> Result<bool, Fault>
     ensures stays { StaysIn S.Store change.old change.new result }
-    ensures judges { FindsTables S.Store change.old change.new result (λ t right. Decides (IsRight t owned.now) right) }
+    ensures judges { FindsTables S.Store change.old change.new result
+        (λ t right. AreKept t kept.old → Decides (IsRight t owned.now) right × AreKept t kept.new) }
     ensures blames { BlamesGiven S.Store (AgreeBefore checked.Offer) change.old change.new result }
 {
     let Some(action) = change.find_action(owned.offer.action)? else {
@@ -95,7 +121,7 @@ fn is_right<S: Alter>(change: &mut OpenChange<'_, S>, owned: &OwnedOffer) -> Res
     if !fits(&action, owned) {
         return Ok(false);
     }
-    is_in_started_group(change, action.rollout, action.position)
+    is_in_started_group(change, kept, action.rollout, action.position)
 }
 
 /// Whether the action is open, of the target, and to be canceled where the offer says so.
@@ -110,16 +136,48 @@ fn fits(action: &StoredAction, owned: &OwnedOffer) -> bool
 /// Whether a started group of the rollout holds the place. A row of a group that breaks a rule is a failed store.
 fn is_in_started_group<S: Alter>(
     change: &mut OpenChange<'_, S>,
+    kept: &mut KeptGroups,
     rollout: RolloutNo,
     place: u32,
 ) -> Result<bool, Fault>
     ensures stays { StaysIn S.Store change.old change.new result }
-    ensures judges { FindsTables S.Store change.old change.new result (λ t started. Decides (IsInStartedGroup t rollout place) started) }
+    ensures judges { FindsTables S.Store change.old change.new result
+        (λ t started. AreKept t kept.old → Decides (IsInStartedGroup t rollout place) started × AreKept t kept.new) }
     ensures blames { BlamesGiven S.Store (AgreeBefore checked.Offer) change.old change.new result }
 {
-    match change.list_groups(rollout)? {
-        Some(groups) => Ok(holds_started(&groups, place)),
-        None => Err(Fault::Store),
+    keep_groups(change, kept, rollout)?;
+    Ok(holds_started(&kept.groups, place))
+}
+
+/// Reads the groups of a rollout, unless they are kept already. A row of a group that breaks a rule is a failed store.
+fn keep_groups<S: Alter>(
+    change: &mut OpenChange<'_, S>,
+    kept: &mut KeptGroups,
+    rollout: RolloutNo,
+) -> Result<(), Fault>
+    ensures stays { StaysIn S.Store change.old change.new result }
+    ensures reads { FindsTables S.Store change.old change.new result
+        (λ t done. AreKept t kept.old → AreGroupsOf t rollout kept.new.groups.items × AreKept t kept.new) }
+    ensures blames { BlamesGiven S.Store (AgreeBefore checked.Offer) change.old change.new result }
+{
+    if is_of(kept.rollout, rollout) {
+        return Ok(());
+    }
+    let Some(groups) = change.list_groups(rollout)? else {
+        return Err(Fault::Store);
+    };
+    kept.rollout = Some(rollout);
+    kept.groups = groups;
+    Ok(())
+}
+
+/// Whether it is this rollout.
+fn is_of(kept: Option<RolloutNo>, rollout: RolloutNo) -> bool
+    ensures { result ≡ is_of kept rollout }
+{
+    match kept {
+        Some(number) => number.get() == rollout.get(),
+        None => false,
     }
 }
 

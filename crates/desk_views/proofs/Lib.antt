@@ -21,3 +21,4 @@ pub mod TargetViews
 pub mod TargetPages
 pub mod DeviceViews
 mod Answering
+pub mod KeptViews

@@ -7,3 +7,4 @@ pub mod TargetWords
 pub mod Downloads
 pub mod Groups
 pub mod Failing
+pub mod Kept

@@ -1,6 +1,6 @@
 //! What devices are to install: deployments, and the contents of their artifacts.
 
-ghost use Rattle.std.specs.Prelude.{◌≡◌, ◌++◌, ◌∷◌, [], IfErr, IfOk, Some, map, nat_eq};
+ghost use Rattle.std.specs.Prelude.{◌≡◌, ℕ, true, ◌++◌, ◌∷◌, [], IfErr, IfOk, Some, map, nat_eq};
 ghost use Rattle.std.specs.List.{find, list_any};
 ghost use Rattle.std.specs.Option.{option_copied, option_map};
 ghost use Rattle.rollout_machine.specs.Answers.{modules_offered, query_reply};
@@ -14,6 +14,7 @@ ghost use Rattle.rollout_model.specs.declared.artifact.Artifact.{Artifact};
 ghost use Rattle.sql_calls.specs.declared.fault.Fault.TheVariants.{Memory};
 ghost use Rattle.desk_reads.specs.AtLists.{FailsAtListsIn};
 ghost use Rattle.desk_views.specs.Downloads.{downloadable, named};
+ghost use Rattle.desk_views.specs.Kept.{AreKept, IsKeptAs, TellsKept};
 ghost use Rattle.desk_views.specs.Sizes.{AgreesIn, IsOfName, KeepsSize};
 ghost use Rattle.desk_store.specs.Changing.{FindsIn, KeepsTables, StaysIn};
 
@@ -37,6 +38,7 @@ pub fn show_deployment<S: Alter>(
 ) -> Result<Reply, Fault>
     ensures stays { StaysIn S.Store change.old change.new result }
     ensures reads { FindsIn S.Store change.old change.new result (λ now reply. reply_of reply ≡ query_reply now (ShowDeployment device.now number)) }
+    ensures kept { AgreesIn S.Store change.old change.new result (λ t reply. TellsKept t device.now.id (reply_of reply)) }
     ensures fails { FailsAtListsIn S.Store change.old change.new result }
 {
     if !knows_device(change, device)? {
@@ -178,6 +180,7 @@ pub fn show_download<S: Alter>(
         (λ now reply. reply_of reply ≡ query_reply now (Download device.now module_number filename.now)) }
     ensures fails { FailsAtListsIn S.Store change.old change.new result }
     ensures sized { AgreesIn S.Store change.old change.new result (λ t reply. KeepsSize t (Download device.now module_number filename.now) (reply_of reply)) }
+    ensures kept { AgreesIn S.Store change.old change.new result (λ t reply. TellsKept t device.now.id (reply_of reply)) }
 {
     match find_download(alloc, change, device, module_number, filename)? {
         Ok(artifact) => {
@@ -200,6 +203,7 @@ pub fn find_download<S: Alter>(
     ensures reads { FindsIn S.Store change.old change.new result (λ now found. found ≡ downloadable now device.now module_number filename.now) }
     ensures fails { FailsAtListsIn S.Store change.old change.new result }
     ensures agrees { AgreesIn S.Store change.old change.new result (λ t found. IfOk found (IsOfName t module_number filename.now)) }
+    ensures kept { AgreesIn S.Store change.old change.new result (λ t found. IfOk found (λ _. (action : ℕ) × IsKeptAs t device.now.id action)) }
 {
     if !knows_device(change, device)? {
         return Ok(Err(Refusal::Unauthorized));
@@ -221,6 +225,7 @@ fn read_offered_modules<S: Alter>(
     ensures stays { StaysIn S.Store change.old change.new result }
     ensures keeps { KeepsTables S.Store change.old change.new result }
     ensures reads { FindsIn S.Store change.old change.new result (λ now modules. modules.items ≡ modules_offered now (offer now id.now)) }
+    ensures kept { AgreesIn S.Store change.old change.new result (λ t modules. AreKept t id.now modules.items) }
     ensures fails { FailsAtListsIn S.Store change.old change.new result }
 {
     match change.read_offer(id)? {
@@ -238,6 +243,7 @@ fn read_installed<S: Alter>(
     ensures stays { StaysIn S.Store change.old change.new result }
     ensures keeps { KeepsTables S.Store change.old change.new result }
     ensures reads { FindsIn S.Store change.old change.new result (λ now modules. modules.items ≡ modules_offered now (Some offer)) }
+    ensures none { IfOk result (λ modules. offer.canceling ≡ true → modules.items ≡ []) }
     ensures fails { FailsAtListsIn S.Store change.old change.new result }
 {
     if offer.canceling {

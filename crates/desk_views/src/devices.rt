@@ -6,6 +6,8 @@ ghost use Rattle.rollout_machine.specs.Requests.{Poll, ShowCancel};
 ghost use Rattle.rollout_machine.specs.Views.{reply_of};
 ghost use Rattle.desk_reads.specs.AtLists.{FailsAtListsIn};
 ghost use Rattle.desk_store.specs.Changing.{FindsIn, StaysIn};
+ghost use Rattle.desk_views.specs.Kept.{TellsKept};
+ghost use Rattle.desk_views.specs.Sizes.{AgreesIn};
 
 use desk_reads::knows_device;
 use desk_store::{Fault, OpenChange};
@@ -19,6 +21,7 @@ pub fn show_poll<S: Alter>(
 ) -> Result<Reply, Fault>
     ensures stays { StaysIn S.Store change.old change.new result }
     ensures reads { FindsIn S.Store change.old change.new result (λ now reply. reply_of reply ≡ query_reply now (Poll device.now)) }
+    ensures kept { AgreesIn S.Store change.old change.new result (λ t reply. TellsKept t device.now.id (reply_of reply)) }
     ensures fails { FailsAtListsIn S.Store change.old change.new result }
 {
     if !knows_device(change, device)? {
@@ -36,6 +39,7 @@ pub fn show_cancel<S: Alter>(
 ) -> Result<Reply, Fault>
     ensures stays { StaysIn S.Store change.old change.new result }
     ensures reads { FindsIn S.Store change.old change.new result (λ now reply. reply_of reply ≡ query_reply now (ShowCancel device.now number)) }
+    ensures kept { AgreesIn S.Store change.old change.new result (λ t reply. TellsKept t device.now.id (reply_of reply)) }
     ensures fails { FailsAtListsIn S.Store change.old change.new result }
 {
     if !knows_device(change, device)? {

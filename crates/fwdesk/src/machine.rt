@@ -3,7 +3,7 @@
 ghost use Rattle.sqlite.specs.WalFiles.{image_at};
 
 use desk_opening::{NoFile, OpenFault};
-use desk_server::Host;
+use desk_server::{Host, TcpConnections};
 use rollout_desk::Desk;
 use rollout_model::limits::FILE_LENGTH_LIMIT;
 use sqlite::{FileFrom, FileStore, Start};
@@ -48,6 +48,8 @@ impl<'a, S: Start> Host for Machine<'a, S> {
 
     type Disk = FileFrom<S>;
 
+    type Listener = TcpConnections;
+
     ghost image = { λ path. image_at S.Start };
 
     ghost refuses = { λ path approval refusal. Unit {0} };
@@ -69,7 +71,8 @@ impl<'a, S: Start> Host for Machine<'a, S> {
         first_bytes(self.rt, alloc, path).ok()
     }
 
-    fn listen(&mut self, address: Ipv4Addr, port: u16) -> Option<TcpListener> {
-        TcpListener::bind(self.rt, (address, port)).ok()
+    fn listen(&mut self, address: Ipv4Addr, port: u16) -> Option<TcpConnections> {
+        let listener = TcpListener::bind(self.rt, (address, port)).ok()?;
+        Some(TcpConnections::new(listener))
     }
 }

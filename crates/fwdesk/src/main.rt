@@ -30,15 +30,18 @@ fn main(rt: HostRuntime) -> ExitCode {
         return ExitCode::from(REFUSED);
     };
     match read_order(alloc, words.as_slice()) {
-        Ok(order) => ExitCode::from(carry_out(
-            alloc,
-            &order,
-            &mut Machine::new(&rt),
-            Unknown,
-            &mut Watched::new(rt.stdin()),
-            &mut Watched::new(rt.stdout()),
-            &mut Watched::new(rt.stderr()),
-        )),
+        Ok(order) => {
+            let carried_out = carry_out(
+                alloc,
+                &order,
+                &mut Machine::new(&rt),
+                Unknown,
+                &mut Watched::new(rt.stdin()),
+                &mut Watched::new(rt.stdout()),
+                &mut Watched::new(rt.stderr()),
+            );
+            ExitCode::from(carried_out.status)
+        }
         Err(error) => {
             let _told = rt.eprint(&error);
             ExitCode::from(REFUSED)

@@ -3,9 +3,8 @@
 ghost use Rattle.std.specs.Prelude.{◌≢◌, IfErr};
 ghost use Rattle.rollout_model.specs.declared.refusal.Refusal.TheVariants.{StoreFailed};
 
-use contents_handler::{Answered, ContentsHandler, Download};
+use contents_handler::{Answered, ContentsHandler, Download, Handler};
 use http_wire::Watched;
-use rollout_machine::Handler;
 use rollout_model::{Command, Module, ModuleLabel, ModuleNo, Query, Refusal, Reply, Request};
 use std::alloc::Global;
 use std::io;

@@ -1,5 +1,5 @@
 -- Downloads: what a desk says of them beside the words of `contents_handler`.
-use Rattle.std.specs.Prelude.{◌≡◌, ◌⊎◌, ℕ, ◌*◌, take, drop, Vec, Option, Some, None, Result, Ok, Err}
+use Rattle.std.specs.Prelude.{◌≡◌, ◌⊎◌, ℕ, ◌*◌, Bool, true, take, drop, Vec, Option, Some, None, Result, Ok, Err}
 use Rattle.std.specs.declared.alloc.Global.{Global}
 use Rattle.std.specs.Option.{option_map}
 use Rattle.contents_handler.specs.Downloads.{Sends, Begins as BeginsAnswered}
@@ -59,9 +59,9 @@ StaysAt h new p (Err refusal) = ((refusal ≡ NoMemory) × StandsFor new h) ⊎ 
 abbrev pub HandsItsArtifact : {File : Type 0} → DeskState File → DeskState File → Download → Result (Option (Vec ℕ Global)) Refusal → Type 0
 HandsItsArtifact old new p result = (h : CommandList) → new.is_clean → StandsFor old h → StaysAt h new p result
 
--- memory was wanted, the store failed, or the desk is stopped
-abbrev pub IsInterruption : Refusal → Type 0
-IsInterruption refusal = (refusal ≡ NoMemory) ⊎ (refusal ≡ StoreFailed) ⊎ (refusal ≡ Stopped)
+-- memory was wanted, the store failed, or the desk was stopped before
+abbrev pub IsInterruption : Bool → Refusal → Type 0
+IsInterruption was_stopped refusal = (refusal ≡ NoMemory) ⊎ (refusal ≡ StoreFailed) ⊎ ((refusal ≡ Stopped) × (was_stopped ≡ true))
 
 -- what an artifact's contents are, they stay
 abbrev pub DownloadsGoOn : Type 0

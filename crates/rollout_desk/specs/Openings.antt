@@ -11,8 +11,8 @@ use Rattle.sqlite.specs.FileStore.{files as files_in}
 use Rattle.sqlite_store.specs.declared.store.FileStore.{FileStore}
 use Rattle.rollout_machine.specs.CommandList.{CommandList, Make}
 use Rattle.rollout_machine.specs.Standing.{DeskState, StandsFor}
-use Rattle.sqlite.specs.declared.file.Leftover.{Leftover}
 use Rattle.desk_opening.specs.declared.opening.OpenFault.{OpenFault}
+use Rattle.desk_opening.specs.declared.reopening.DeskLeftover.{DeskLeftover}
 use Rattle.desk_opening.specs.declared.path.NoFile.{NoFile}
 use Rattle.desk_opening.specs.Opening.{IsFailure}
 use Rattle.desk_opening.specs.Reopening.{HoldsNone, IsOpenable, LeavesUnharmed}
@@ -29,7 +29,7 @@ pub record ReopensDesk (image : Image) (desk : DeskState Trees) (approval : Bool
 
 -- Of a call that lets go of what a refused opening left: what was left then was unharmed.
 abbrev pub LeftUnharmed : {D : Type 0} (g : disk.Ghosts D) → (Image → Type 0) → Image → Bool → OpenFault → Type 0
-LeftUnharmed {D = D} g before image approval e = (rest : Leftover D g) × LeavesUnharmed before image approval e rest
+LeftUnharmed {D = D} g before image approval e = (rest : DeskLeftover D g) × LeavesUnharmed before image approval e rest
 
 -- why the desk at a path isn't opened, and whether no file was
 abbrev pub PathRefusal : Type 0 → Type 0

@@ -58,9 +58,9 @@ abbrev pub KeepsDesk : {File : Type 0} → DeskState File → DeskState File →
 KeepsDesk old new result = (h : CommandList) → new.is_clean → StandsFor old h → GoesOn h new result
 
 -- a table, or why none was found out
-abbrev pub MayTell : Damage → Type 0
-MayTell (Table table) = ⊤
-MayTell (Refused refusal) = IsInterruption refusal
+abbrev pub MayTell : Bool → Damage → Type 0
+MayTell was_stopped (Table table) = ⊤
+MayTell was_stopped (Refused refusal) = IsInterruption was_stopped refusal
 
 -- whether a failed store is told
 abbrev pub tells_damage : Result (Unit {0}) Damage → Bool

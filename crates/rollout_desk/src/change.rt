@@ -9,7 +9,7 @@ ghost use Rattle.rollout_machine.specs.StoreFailures.{is_failed_store};
 ghost use Rattle.rollout_machine.specs.Views.{command_of, query_of, reply_of};
 ghost use Rattle.rollout_model.specs.declared.refusal.Refusal.TheVariants.{StoreFailed};
 ghost use Rattle.rollout_desk.specs.Causes.{FailsByCalls};
-ghost use Rattle.rollout_desk.specs.Sizes.{AnswersIn, KeepsSizes};
+ghost use Rattle.rollout_desk.specs.Sizes.{AnswersIn, KeepsOffers, KeepsSizes};
 ghost use Rattle.rollout_desk.specs.Working.{TellsFailures};
 ghost use Rattle.rollout_machine.specs.Bounds.{is_feedback};
 ghost use Rattle.rollout_desk.specs.Changes.{Handles, EndsByCommit, EndsByRollback};
@@ -136,6 +136,7 @@ pub(crate) fn run_query<S: Alter>(alloc: Global, store: &mut DeskStore<S>, query
     ensures handles { Handles HoldsRecords (state S.Store store.old.calls.conn) (state S.Store store.new.calls.conn) (Ask (query_of query.now))
         (reply_of result) }
     ensures sized { KeepsSizes (state S.Store store.old.calls.conn) (state S.Store store.new.calls.conn) (query_of query.now) (reply_of result) }
+    ensures kept { KeepsOffers (state S.Store store.old.calls.conn) (state S.Store store.new.calls.conn) (query_of query.now) (reply_of result) }
     ensures tells { TellsFailures (is_failed_store (reply_of result)) store.old.calls store.new.calls }
     ensures fails { reply_of result ≡ Refused StoreFailed → FailsByCalls S.Store store.old.calls store.new.calls }
 {

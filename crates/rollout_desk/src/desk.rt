@@ -12,7 +12,7 @@ ghost use Rattle.rollout_machine.specs.Views.{command_of, query_of, request_of, 
 ghost use Rattle.rollout_desk.specs.Causes.{FailsByCall};
 ghost use Rattle.rollout_desk.specs.DeskStates.{desk_state};
 ghost use Rattle.rollout_desk.specs.Promises.{IsPromised, KeepsToOffers, ShowsWhole};
-ghost use Rattle.rollout_desk.specs.Sizes.{KeepsSizes};
+ghost use Rattle.rollout_desk.specs.Sizes.{KeepsOffers, KeepsSizes};
 ghost use Rattle.rollout_desk.specs.Working.{TellsFailures};
 ghost use Rattle.sql_calls.specs.Calls.{no_work, since};
 
@@ -85,6 +85,7 @@ impl<S: Alter> Desk<S> {
         ensures offered { IsPromised (desk_state S.Store self.old) (desk_state S.Store self.new) (λ h. KeepsToOffers h (query_of query.now) (reply_of result)) }
         ensures whole { IsPromised (desk_state S.Store self.old) (desk_state S.Store self.new) (λ h. ShowsWhole h (query_of query.now) (reply_of result)) }
         ensures sized { KeepsSizes (state S.Store self.old.store.calls.conn) (state S.Store self.new.store.calls.conn) (query_of query.now) (reply_of result) }
+        ensures kept { KeepsOffers (state S.Store self.old.store.calls.conn) (state S.Store self.new.store.calls.conn) (query_of query.now) (reply_of result) }
         ensures stops { reply_of result ≡ Refused StoreFailed → (desk_state S.Store self.new).is_stopped ≡ true }
         ensures stopped { (desk_state S.Store self.old).is_stopped ≡ true → (reply_of result ≡ Refused Stopped)
             × StaysStopped (desk_state S.Store self.old) (desk_state S.Store self.new) }
@@ -107,11 +108,15 @@ impl<S: Alter> Desk<S> {
         ensures applies { Applies (desk_state S.Store self.old) (desk_state S.Store self.new) (Asks (request_of request.now)) (reply_of result) }
         ensures sized { (query : _) → request_of request.now ≡ Ask query
             → KeepsSizes (state S.Store self.old.store.calls.conn) (state S.Store self.new.store.calls.conn) query (reply_of result) }
+        ensures kept { (query : _) → request_of request.now ≡ Ask query
+            → KeepsOffers (state S.Store self.old.store.calls.conn) (state S.Store self.new.store.calls.conn) query (reply_of result) }
         ensures stops { reply_of result ≡ Refused StoreFailed → (desk_state S.Store self.new).is_stopped ≡ true }
         ensures stopped { (desk_state S.Store self.old).is_stopped ≡ true → (reply_of result ≡ Refused Stopped)
             × StaysStopped (desk_state S.Store self.old) (desk_state S.Store self.new) }
         ensures untouched { (desk_state S.Store self.old).is_stopped ≡ true → self.new.store ≡ self.old.store }
         ensures bound { (c : _) → request_of request.now ≡ Do c → KeepsBound c self.new.work.statements self.new.work.rows }
+        ensures counted { (c : _) → request_of request.now ≡ Do c → self.new.work ≡ since self.new.store.calls.work self.old.store.calls.work }
+        ensures work { (query : _) → request_of request.now ≡ Ask query → self.new.work ≡ self.old.work }
         ensures tells { TellsFailures (is_failed_store (reply_of result)) self.old.store.calls self.new.store.calls }
         ensures fails { reply_of result ≡ Refused StoreFailed → FailsByCall S.Store self.old self.new }
     {

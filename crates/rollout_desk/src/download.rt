@@ -140,7 +140,7 @@ impl<S: Alter> Desk<S> {
         ensures hands { HandsPieces (desk_state S.Store self.old) (desk_state S.Store self.new) download.old download.new result }
         ensures own { HandsItsArtifact (desk_state S.Store self.old) (desk_state S.Store self.new) download.old result }
         ensures counts { KeepsCount download.old download.new result }
-        ensures interrupted { IfErr result IsInterruption }
+        ensures interrupted { IfErr result (IsInterruption (desk_state S.Store self.old).is_stopped) }
         ensures stops { result ≡ Err Refusal.StoreFailed → (desk_state S.Store self.new).is_stopped ≡ true }
         ensures stopped { (desk_state S.Store self.old).is_stopped ≡ true → (result ≡ Err Refusal.Stopped)
             × StaysStopped (desk_state S.Store self.old) (desk_state S.Store self.new) }

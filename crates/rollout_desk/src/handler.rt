@@ -1,7 +1,7 @@
 //! A desk as what answers requests.
 
 use crate::desk::Desk;
-use rollout_machine::Handler;
+use contents_handler::Handler;
 use rollout_model::{Reply, Request};
 use sqlite::Alter;
 
@@ -14,9 +14,9 @@ impl<S: Alter> Handler for Desk<S> {
 
     ghost state = { desk_state S.Store };
 
-    ghost statements = { λ desk. desk.work.statements };
+    ghost statements = { λ desk. desk.store.calls.work.statements };
 
-    ghost rows = { λ desk. desk.work.rows };
+    ghost rows = { λ desk. desk.store.calls.work.rows };
 
     fn handle(&mut self, request: &Request) -> Reply {
         self.answer(request)

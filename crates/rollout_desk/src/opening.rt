@@ -14,11 +14,11 @@ ghost use Rattle.rollout_desk.specs.DeskStates.{desk_state};
 ghost use Rattle.rollout_desk.specs.Openings.{ReopensDesk, LeftUnharmed, LeftPath, GivesBack, GoesOnAfterCrash, GoesOnOver};
 
 use crate::desk::Desk;
-use desk_opening::{NoFile, OpenFault, PathLeftover, open_desk, reopen_files, reopen_path};
-use desk_store::DeskStore;
-use sqlite::{
-    Alter, Connection, Error, FileFrom, FileStore, Files, Leftover, MemStore, Options, Start,
+use desk_opening::{
+    DeskLeftover, NoFile, OpenFault, PathLeftover, open_desk, reopen_files, reopen_path,
 };
+use desk_store::DeskStore;
+use sqlite::{Alter, Connection, Error, FileFrom, FileStore, Files, MemStore, Options, Start};
 use sqlite_disk::Disk;
 use std::alloc::Global;
 
@@ -30,7 +30,7 @@ impl<D: Disk + Drop> Desk<FileStore<D>> {
         files: Files<D>,
         options: Options,
         approval_if_new: bool,
-    ) -> Result<Desk<FileStore<D>>, (OpenFault, Leftover<D>)>
+    ) -> Result<Desk<FileStore<D>>, (OpenFault, DeskLeftover<D>)>
         requires log { IsTrue (D.Disk.is_usable files.log) }
         requires db { IsTrue (D.Disk.is_usable files.db) }
         ensures reopened { IfOk result (λ desk. ReopensDesk (image_of D.Disk files) (desk_state over_files desk) approval_if_new) }

@@ -49,7 +49,7 @@ impl<S: Alter> Desk<S> {
         ensures stopped { (desk_state S.Store self.old).is_stopped ≡ true → (result ≡ Err (Damage.Refused Stopped))
             × StaysStopped (desk_state S.Store self.old) (desk_state S.Store self.new) }
         ensures untouched { (desk_state S.Store self.old).is_stopped ≡ true → self.new.store ≡ self.old.store }
-        ensures refuses { IfErr result MayTell }
+        ensures refuses { IfErr result (MayTell (desk_state S.Store self.old).is_stopped) }
         ensures tells { TellsFailures (tells_damage result) self.old.store.calls self.new.store.calls }
         ensures work { self.new.work ≡ self.old.work }
     {

@@ -4,7 +4,6 @@
 #![tactic(auto)]
 
 mod bounds;
-mod handler;
 pub mod laws;
 mod outcome;
 mod records;
@@ -15,7 +14,6 @@ mod view;
 mod well_formed;
 
 pub use bounds::Bounds;
-pub use handler::Handler;
 pub use outcome::{Outcome, is_outcome};
 pub use records::{ActionRecord, GroupRecord, RolloutRecord};
 pub use said::{outcome_of_cancel, outcome_of_deployment, outcome_said, says_note};

@@ -9,6 +9,7 @@ ghost use Rattle.sql_calls.specs.Calls.{fails, failures_of, failures_in, errors_
 use crate::fault::{Fault, fault_of};
 use sqlite::types::ValueRef;
 use sqlite::{Alter, Connection, Error, Row};
+use sqlite_schema::schema::Schema;
 
 const BEGIN: &str = "BEGIN";
 
@@ -82,6 +83,13 @@ impl<S: Alter> Calls<S> {
         ensures { result ≡ self.now.failures }
     {
         self.failures
+    }
+
+    /// The tables, indexes and views that the transaction sees.
+    pub fn schema(&self) -> &Schema
+        ensures { result.now ≡ (state S.Store self.now.conn).now.schema }
+    {
+        self.conn.schema()
     }
 
     /// Whether no transaction is open.

@@ -23,7 +23,7 @@ pub use Rattle.http_wire.specs.declared.stream.End.TheVariants.{Cut, Fault, Inpu
 pub use Rattle.mgmt_api.specs.Table.{manage_route}
 pub use Rattle.stream_server.specs.Headline.{AnswersEnd, CutsDownload, Exits, Headline, HoldsFirstPart, IsRefusedAsStopped, IsTold, StoppedThroughout, Stops, Transcript}
 pub use Rattle.stream_server.specs.Interfaces.{end_text, is_for_devices, reading, reading_by, reply_text}
-pub use Rattle.stream_server.specs.Listening.{IsAsked, Keeps, KeepsOn, StopsAtStore}
+pub use Rattle.stream_server.specs.Listening.{Keeps, KeepsOn, StopsAtStore}
 pub use Rattle.stream_server.specs.Parts.{Answers, AnswersOne, BeginsDownload, Broken, ByStopped, Comes, Conduct, CutsReply, GivesReply, IsToldWhole, SendsPart, Serves, ServesStream, Takes, Whole, running, stopped}
 pub use Rattle.stream_server.specs.Run.{Answering, ByMachine, Exchange, GoesOn, IsRun, accepted_in, messages_of, texts_of}
 pub use Rattle.stream_server.specs.declared.interface.Interface.{Interface}

@@ -1,100 +1,183 @@
--- Connections, one after the other: each leaves a desk that keeps the lists that were kept, and accepts what was asked by the interface alone.
-use Rattle.stream_server.proofs.Common.{◌≡◌, ◌++◌, ◌∷◌, ℕ, true, List, [], Option, Some, None, Result, Ok, inl, inr, ap, subst, sym, All-append, All-cons, All-head, All-nil, All-tail, WireMessage, Refusal, Answer, MayAnswer, command_answer, Command, CommandList, followed_by, Reply, Ask, Asked, Asks, Do, Rejected, one, DeskState, StandsFor, StaysStopped, Interface, Served, ServeFault, Headline, StoppedThroughout, reading, IsAsked, Keeps, KeepsOn, StopsAtStore, ByMachine, Exchange, IsRun, accepted_in}
-use Rattle.std.specs.List.{All}
-use Rattle.rollout_machine.specs.Answers.{answer}
-use Rattle.rollout_machine.specs.Verdicts.{verdict}
+-- Connections, one after the other: each leaves a desk that keeps the lists that were kept, followed by what was accepted over it.
+use Rattle.stream_server.proofs.Common.{◌≡◌, ◌≢◌, ◌+◌, ◌++◌, ◌∷◌, ℕ, arith, true, List, [], Option, None, Result, Ok, Err, IfErr, inl, inr, refl, ap, subst, sym, ◌∙◌, append_assoc, append-nil, All, All-head, All-tail, Command, CommandList, followed_by, one, DeskState, StandsFor, StaysStopped, Interface, Served, ServeFault, Headline, HoldsFirstPart, IsRefusedAsStopped, StoppedThroughout, Transcript, Keeps, KeepsOn, StopsAtStore, Exchange, accepted_in}
+use Rattle.std.proofs.Common.{suc}
+use Rattle.std.proofs.lemmas.List.Concat.{flat_map-append}
+use Rattle.stream_server.specs.Headline.{EndsInDoubt}
+use Rattle.stream_server.specs.Listening.{AnswersBy, AreServed, ComesToEnd, IsServed, LosesInDoubt, Sockets, Talk, accepted_over}
 use Rattle.stream_server.specs.declared.listening.ListenFault.{ListenFault}
+use Rattle.stream_server.specs.declared.listening.ListenFault.TheVariants as listen_fault
+use Rattle.stream_server.specs.declared.served.ServeFault.TheVariants as serve_fault
 use Rattle.stream_server.proofs.RunLemmas.{followed_append}
-use Rattle.stream_server.proofs.PartLemmas.{stays, stays_on}
+use Rattle.stream_server.proofs.PartLemmas.{stays_on}
 
--- ---- what is accepted was asked
+-- ---- talks
 
--- the command of an answer is the one that was asked
-by_verdict : (h : CommandList) (c d : Command) (o : Option Refusal) → Some c ≡ (command_answer h d o).accepted → d ≡ c
-by_verdict h c d None some = cc
-by_verdict h c d (Some refusal) some = absurd (let missed : Some c ≡ None = some in cc)
+-- a stopped desk accepts nothing
+none_accepted : (run : List Exchange) → All IsRefusedAsStopped run → accepted_in run ≡ []
+none_accepted [] all = refl
+none_accepted (x ∷ xs) all =
+    ap (λ (o : Option Command). one o ++ accepted_in xs) (All-head IsRefusedAsStopped x xs all).1 ∙ none_accepted xs (All-tail IsRefusedAsStopped x xs all)
 
-asked_command : (h : CommandList) (asked : Asked) (c : Command) → Some c ≡ (answer h asked).accepted → asked ≡ Asks (Do c)
-unfolding answer
-asked_command h (Rejected refusal) c some = absurd (let missed : Some c ≡ None = some in cc)
-asked_command h (Asks (Ask query)) c some = absurd (let missed : Some c ≡ None = some in cc)
-asked_command h (Asks (Do d)) c some = ap (λ (k : Command). Asks (Do k)) (by_verdict h c d (verdict h d) some)
+over_append : (talks : List Talk) (t : Talk) → accepted_over (talks ++ t ∷ []) ≡ accepted_over talks ++ accepted_in t.run
+over_append talks t =
+    flat_map-append (λ (u : Talk). accepted_in u.run) talks (t ∷ []) ∙ ap (λ (cs : List Command). accepted_over talks ++ cs) (append-nil (accepted_in t.run))
 
-accepted_is : (h : CommandList) (asked : Asked) (reply : Reply) (c : Command) → MayAnswer h asked reply (Some c) → Some c ≡ (answer h asked).accepted
-accepted_is h asked reply c may = elim may [
-  | inl memory ↦ absurd (let missed : Some c ≡ None = memory.1 in cc)
-  | inr other ↦ elim other [
-    | inl store ↦ store.1
-    | inr exact ↦ ap (λ (a : Answer). a.accepted) exact.1
+-- the same transcript, of whose run this is known
+retold : (P Q : List Exchange → Type 0) (stream unread out out_new : Option (List ℕ)) (outcome : Result Served ServeFault)
+    → (t : Transcript P stream unread out out_new outcome) → Q t.run → Transcript Q stream unread out out_new outcome
+retold P Q stream unread out out_new outcome t is = record {
+  given = t.given;
+  reads = t.reads;
+  written = t.written;
+  writes = t.writes;
+  run = t.run;
+  is_run = is;
+  rest = t.rest;
+  messages = t.messages;
+  end = t.end;
+  ends = t.ends;
+  unwritten = t.unwritten;
+  begins = t.begins;
+  whole = t.whole;
+  exit = t.exit;
+}
+
+module _ (comes goes : Sockets) (interface : Interface) where
+  served_append : (h : CommandList) (talks : List Talk) (t : Talk) → AreServed comes goes interface h talks
+      → IsServed comes goes interface (followed_by h (accepted_over talks)) t → AreServed comes goes interface h (talks ++ t ∷ [])
+  served_append h [] t all last = (last, tt)
+  served_append h (x ∷ xs) t all last =
+      let next : CommandList = followed_by h (accepted_in x.run) in
+      (all.0, served_append next xs t all.1 (subst (λ (k : CommandList). IsServed comes goes interface k t) (followed_append h (accepted_in x.run) (accepted_over xs)) last))
+
+  loses_append : (talks : List Talk) (t : Talk) (lost : List Command) → LosesInDoubt talks lost → LosesInDoubt (talks ++ t ∷ []) lost
+  loses_append talks t lost loses = elim loses [
+    | inl none ↦ inl none
+    | inr d ↦ inr (d.0, d.1, d.2 ++ t ∷ [], ap (λ (ts : List Talk). ts ++ t ∷ []) d.3 ∙ append_assoc d.0 (d.1 ∷ d.2) (t ∷ []), d.4)
   ]
-]
 
-one_asked : (interface : Interface) (h : CommandList) (message : WireMessage) (reply : Reply) (accepted : Option Command) → ByMachine interface h message reply accepted
-    → All (IsAsked interface) (one accepted)
-one_asked interface h message reply None may = All-nil (IsAsked interface)
-one_asked interface h message reply (Some c) may = All-cons (IsAsked interface) c [] (message, asked_command h (reading interface message) c (accepted_is h (reading interface message) reply c may)) (All-nil (IsAsked interface))
+  pub keeps_what_stands : {File : Type 0} (s : DeskState File) (h : CommandList) → StandsFor s h → Keeps comes goes interface s h
+  keeps_what_stands s h stands = record {
+    talks = [];
+    served = tt;
+    desk = inr stands;
+    crash = λ file leaves. ([], [], refl, inl refl, stands.crash file leaves);
+  }
 
-all_asked : (interface : Interface) (h : CommandList) (run : List Exchange) → IsRun (ByMachine interface) h run → All (IsAsked interface) (accepted_in run)
-all_asked interface h [] is_run = All-nil (IsAsked interface)
-all_asked interface h (x ∷ xs) is_run =
-    All-append (IsAsked interface) (one x.accepted) (accepted_in xs) (one_asked interface h x.message x.reply x.accepted is_run.0) (all_asked interface (followed_by h (one x.accepted)) xs is_run.2)
+  -- a connection came and went, and was served by a desk that stood for what was kept
+  keeps_by_headline : {File : Type 0} (old new : DeskState File) (h : CommandList) (keeps : Keeps comes goes interface old h)
+      (stream unread out out_new : Option (List ℕ)) (outcome : Result Served ServeFault)
+      → comes stream out → goes unread out_new
+      → Headline interface (followed_by h (accepted_over keeps.talks)) new stream unread out out_new outcome → Keeps comes goes interface new h
+  keeps_by_headline old new h keeps stream unread out out_new outcome came went headline =
+      let talks : List Talk = keeps.talks in
+      let run : List Exchange = headline.transcript.run in
+      let t : Talk = record { stream = stream; unread = unread; out = out; out_new = out_new; outcome = outcome; run = run } in
+      let before : CommandList = followed_by h (accepted_over talks) in
+      record {
+        talks = talks ++ t ∷ [];
+        served = served_append h talks t keeps.served (record {
+          came = came;
+          went = went;
+          transcript = retold _ (λ xs. (xs ≡ run) × AnswersBy interface before xs) stream unread out out_new outcome headline.transcript (refl, inl headline.transcript.is_run);
+        });
+        desk = elim headline.desk [
+          | inl stopped ↦ inl stopped
+          | inr stands ↦
+              inr (subst (λ (k : CommandList). StandsFor new k) (sym (followed_append h (accepted_over talks) (accepted_in run)) ∙ ap (followed_by h) (sym (over_append talks t))) stands)
+        ];
+        crash = λ file leaves.
+            let part = headline.crash file leaves in (
+              accepted_over talks ++ part.kept,
+              part.lost,
+              over_append talks t ∙ ap (λ (cs : List Command). accepted_over talks ++ cs) part.parts ∙ sym (append_assoc (accepted_over talks) part.kept part.lost),
+              elim part.in_doubt [ inl none ↦ inl none | inr doubt ↦ inr (talks, t, [], refl, doubt) ],
+              subst (λ (k : CommandList). new.holds file k) (sym (followed_append h (accepted_over talks) part.kept)) part.holds,
+            );
+      }
 
-All-first : {X : Type 0} (P : X → Type 0) (xs ys : List X) → All P (xs ++ ys) → All P xs
-All-first P [] ys all = All-nil P
-All-first P (x ∷ xs) ys all = All-cons P x xs (All-head P x (xs ++ ys) all) (All-first P xs ys (All-tail P x (xs ++ ys) all))
+  -- .. by a stopped one
+  keeps_stopped : {File : Type 0} (old new : DeskState File) (h : CommandList) (keeps : Keeps comes goes interface old h)
+      (stream unread out out_new : Option (List ℕ)) (outcome : Result Served ServeFault)
+      → comes stream out → goes unread out_new
+      → StoppedThroughout old new stream unread out out_new outcome → Keeps comes goes interface new h
+  keeps_stopped old new h keeps stream unread out out_new outcome came went stopped =
+      let talks : List Talk = keeps.talks in
+      let run : List Exchange = stopped.transcript.run in
+      let t : Talk = record { stream = stream; unread = unread; out = out; out_new = out_new; outcome = outcome; run = run } in
+      let before : CommandList = followed_by h (accepted_over talks) in
+      let none : accepted_in run ≡ [] = none_accepted run stopped.transcript.is_run in
+      let same : accepted_over (talks ++ t ∷ []) ≡ accepted_over talks =
+      over_append talks t ∙ ap (λ (cs : List Command). accepted_over talks ++ cs) none ∙ append-nil (accepted_over talks) in
+      record {
+        talks = talks ++ t ∷ [];
+        served = served_append h talks t keeps.served (record {
+          came = came;
+          went = went;
+          transcript = retold _ (λ xs. (xs ≡ run) × AnswersBy interface before xs) stream unread out out_new outcome stopped.transcript (refl, inr stopped.transcript.is_run);
+        });
+        desk = inl stopped.stays.stopped;
+        crash = λ file leaves.
+            let held = keeps.crash file (stopped.stays.crash file leaves) in
+            (held.0, held.1, same ∙ held.2, loses_append talks t held.1 held.3, stopped.stays.holds file (followed_by h held.0) held.4);
+      }
 
--- ---- connections
+  -- a connection was served, and this is told of it
+  pub keeps_on : {A : Type 0} {File : Type 0} (old new : DeskState File) (stream unread out out_new : Option (List ℕ)) (outcome : Result Served ServeFault) (told : Result A ListenFault)
+      → comes stream out → goes unread out_new
+      → (new.is_clean → old.is_clean)
+      → ((h : CommandList) → new.is_clean → StandsFor old h → Headline interface h new stream unread out out_new outcome)
+      → (old.is_stopped ≡ true → StoppedThroughout old new stream unread out out_new outcome)
+      → StopsAtStore new told
+      → KeepsOn comes goes interface old new told
+  keeps_on old new stream unread out out_new outcome told came went clean headline stopped store = record {
+    clean = clean;
+    keeps = λ h is_clean keeps. elim keeps.desk [
+      | inl stop ↦ keeps_stopped old new h keeps stream unread out out_new outcome came went (stopped stop)
+      | inr stands ↦
+          keeps_by_headline old new h keeps stream unread out out_new outcome came went (headline (followed_by h (accepted_over keeps.talks)) is_clean stands)
+    ];
+    store = store;
+    stays = λ stop. (stopped stop).stays;
+  }
 
-pub keeps_what_stands : {File : Type 0} (interface : Interface) (s : DeskState File) (h : CommandList) → StandsFor s h → Keeps interface s h
-keeps_what_stands interface s h stands = record { desk = inr ([], All-nil (IsAsked interface), stands); crash = λ file leaves. ([], All-nil (IsAsked interface), stands.crash file leaves) }
+  -- some and then one more, of which this is told
+  pub on_append : {A B C : Type 0} {File : Type 0} (s t u : DeskState File) (count : A) (next : Result B ListenFault) (told : Result C ListenFault)
+      → KeepsOn comes goes interface s t (Ok count) → KeepsOn comes goes interface t u next → (StopsAtStore u next → StopsAtStore u told)
+      → KeepsOn comes goes interface s u told
+  on_append s t u count next told first second tells = record {
+    clean = λ clean. first.clean (second.clean clean);
+    keeps = λ h clean keeps. second.keeps h clean (first.keeps h (second.clean clean) keeps);
+    store = tells second.store;
+    stays = stays_on s t u first.stays second.stays;
+  }
 
-keeps_by_headline : {File : Type 0} (interface : Interface) (s : DeskState File) (h : CommandList) (more : List Command) (stream unread out out_new : Option (List ℕ)) (outcome : Result Served ServeFault)
-    → All (IsAsked interface) more → Headline interface (followed_by h more) s stream unread out out_new outcome → Keeps interface s h
-keeps_by_headline interface s h more stream unread out out_new outcome asked headline =
-    let accepted = accepted_in headline.transcript.run in
-    let asks = all_asked interface (followed_by h more) headline.transcript.run headline.transcript.is_run in
-    record {
-      desk = elim headline.desk [
-        | inl stopped ↦ inl stopped
-        | inr stands ↦
-            inr (more ++ accepted, All-append (IsAsked interface) more accepted asked asks, subst (λ (k : CommandList). StandsFor s k) (sym (followed_append h more accepted)) stands)
-      ];
-      crash = λ file leaves.
-          let part = headline.crash file leaves in
-          let kept = All-first (IsAsked interface) part.kept part.lost (subst (All (IsAsked interface)) part.parts asks) in
-          (more ++ part.kept, All-append (IsAsked interface) more part.kept asked kept, subst (λ (k : CommandList). s.holds file k) (sym (followed_append h more part.kept)) part.holds);
-    }
+-- the desk is stopped where a failed store is told
+pub stops_at_store : {A : Type 0} {File : Type 0} (s : DeskState File) (outcome : Result Served ServeFault) (told : Result A ListenFault)
+    → (told ≡ Err listen_fault.Store → outcome ≡ Err serve_fault.Store) → IfErr outcome (λ fault. fault ≡ serve_fault.Store → s.is_stopped ≡ true) → StopsAtStore s told
+stops_at_store s outcome (Ok a) store stops = tt
+stops_at_store s outcome (Err listen_fault.Net) store stops = tt
+stops_at_store s outcome (Err listen_fault.Store) store stops =
+    subst (λ (o : Result Served ServeFault). IfErr o (λ fault. fault ≡ serve_fault.Store → s.is_stopped ≡ true)) (store refl) stops refl
 
-keeps_stopped : {File : Type 0} (interface : Interface) (old new : DeskState File) (h : CommandList) → StaysStopped old new → Keeps interface old h → Keeps interface new h
-keeps_stopped interface old new h stays keeps = record {
-  desk = inl stays.stopped;
-  crash = λ file leaves.
-      let held = keeps.crash file (stays.crash file leaves) in (held.0, held.1, stays.holds file (followed_by h held.0) held.2);
-}
+-- ---- how many connections came
 
--- a connection was served, and this is told of it
-pub keeps_on : {A : Type 0} {File : Type 0} (interface : Interface) (old new : DeskState File) (stream unread out out_new : Option (List ℕ)) (outcome : Result Served ServeFault) (told : Result A ListenFault)
-    → (new.is_clean → old.is_clean)
-    → ((h : CommandList) → new.is_clean → StandsFor old h → Headline interface h new stream unread out out_new outcome)
-    → (old.is_stopped ≡ true → StoppedThroughout old new stream unread out out_new outcome)
-    → StopsAtStore new told
-    → KeepsOn interface old new told
-keeps_on interface old new stream unread out out_new outcome told clean headline stopped store = record {
-  clean = clean;
-  keeps = λ h is_clean keeps. elim keeps.desk [
-    | inl stop ↦ keeps_stopped interface old new h (stopped stop).stays keeps
-    | inr stands ↦ keeps_by_headline interface new h stands.0 stream unread out out_new outcome stands.1 (headline (followed_by h stands.0) is_clean stands.2)
-  ];
-  store = store;
-  stays = λ stop. (stopped stop).stays;
-}
+-- the one that came was served
+pub one_came : {A : Type 0} (before between after : ℕ → Type 0) (failed : Type 0) (told : Result A ListenFault) → ((n : ℕ) → before n → between (n + 1)) → ((n : ℕ) → between n → after n) → told ≢ Err listen_fault.Net
+    → ComesToEnd before after failed 1 told
+one_came before between after failed (Ok a) came same net = λ n was. same (n + 1) (came n was)
+one_came before between after failed (Err listen_fault.Net) came same net = absurd (net refl)
+one_came before between after failed (Err listen_fault.Store) came same net = tt
 
--- some and then one more, of which this is told
-pub on_append : {A B C : Type 0} {File : Type 0} (interface : Interface) (s t u : DeskState File) (count : A) (next : Result B ListenFault) (told : Result C ListenFault)
-    → KeepsOn interface s t (Ok count) → KeepsOn interface t u next → (StopsAtStore u next → StopsAtStore u told) → KeepsOn interface s u told
-on_append interface s t u count next told first second tells = record {
-  clean = λ clean. first.clean (second.clean clean);
-  keeps = λ h clean keeps. second.keeps h clean (first.keeps h (second.clean clean) keeps);
-  store = tells second.store;
-  stays = stays_on s t u first.stays second.stays;
-}
+-- some came, and then one more
+pub one_more_came : {A : Type 0} (before between after : ℕ → Type 0) (failed : Type 0) (count : ℕ) (next : Result A ListenFault) (a : A) → next ≡ Ok a → ((n : ℕ) → before n → between (n + count)) → ComesToEnd between after failed 1 next
+    → (n : ℕ) → before n → after (n + suc count)
+one_more_came before between after failed count next a is first second n was =
+    let one : (m : ℕ) → between m → after (m + 1) = subst (λ (r : Result _ ListenFault). ComesToEnd between after failed 1 r) is second in
+    let sum : (n + count) + 1 ≡ n + suc count = omega arith in
+    subst after sum (one (n + count) (first n was))
+
+-- what ends one connection ends all
+pub ends_all : (A B : Type 0) (before between after : ℕ → Type 0) (failed : Type 0) (count : ℕ) (fault : ListenFault) → ComesToEnd {A = A} between after failed 1 (Err fault) → ComesToEnd {A = B} before after failed count (Err fault)
+ends_all A B before between after failed count listen_fault.Net ended = ended
+ends_all A B before between after failed count listen_fault.Store ended = tt

@@ -4,4 +4,5 @@ pub mod Headline
 pub mod Parts
 pub mod Contents
 pub mod Reading
+pub mod Arrivals
 pub mod Listening

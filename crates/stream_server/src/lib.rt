@@ -3,6 +3,7 @@
 
 mod answer;
 mod bytes;
+mod connections;
 mod download;
 mod interface;
 mod listening;
@@ -12,11 +13,11 @@ mod served;
 mod serving;
 mod stream;
 
+pub use crate::connections::{Arrival, Connections, TcpConnections};
 pub use crate::interface::Interface;
 pub use crate::listening::{ListenFault, serve_on};
 pub use crate::reply::send;
 pub use crate::served::{ServeFault, Served};
 pub use crate::serving::serve;
-pub use contents_handler::ContentsHandler;
+pub use contents_handler::{ContentsHandler, Handler};
 pub use http_wire::End;
-pub use rollout_machine::Handler;

@@ -1,18 +1,17 @@
 //! Serving connections, one after the other.
 
-ghost use Rattle.std.specs.Prelude.{◌≡◌, ◌≤◌, true, IfOk};
+ghost use Rattle.std.specs.Prelude.{◌≡◌, ◌≢◌, ◌≤◌, ℕ, true, IfOk, Err};
+ghost use Rattle.http_wire.specs.Watched.{inner_of};
 ghost use Rattle.rollout_machine.specs.CommandList.{CommandList};
 ghost use Rattle.rollout_machine.specs.Standing.{StandsFor, StaysStopped};
-ghost use Rattle.stream_server.specs.Listening.{Keeps, KeepsOn, StopsAtStore};
+ghost use Rattle.stream_server.specs.Listening.{ComesToEnd, Keeps, KeepsOn, StopsAtStore};
 
+use crate::connections::{Arrival, Connections};
 use crate::serving::serve;
-use crate::{Interface, ServeFault};
+use crate::{Interface, ServeFault, Served};
 use contents_handler::ContentsHandler;
 use http_wire::Watched;
 use std::alloc::Global;
-use std::io::Read;
-use std::net::{Shutdown, TcpListener, TcpStream};
-use std::time::Duration;
 
 /// Why no further connection is served.
 #[derive(Clone, Copy)]
@@ -23,104 +22,87 @@ pub enum ListenFault {
     Net,
 }
 
-/// How long a read of a connection waits for its client, in seconds.
-const READ_PATIENCE: u64 = 30;
-
-/// How long a write does. It is a third of that: a write that has waited in vain ends well where a part of it went out before, so a client
-/// that reads nothing is waited for by some three of them, until no room is left on the way to it.
-const WRITE_PATIENCE: u64 = 10;
-
-/// Lets no read and no write of a connection wait for ever, and says whether that could be set.
-fn limit_waiting(stream: &TcpStream) -> bool {
-    let read = stream.set_read_timeout(Some(Duration::from_secs(READ_PATIENCE)));
-    let write = stream.set_write_timeout(Some(Duration::from_secs(WRITE_PATIENCE)));
-    read.is_ok() && write.is_ok()
-}
-
-/// How many reads are made of what a client still sends once its connection is served.
-const LAST_READS: u32 = 4096;
-
-/// Ends the writing half of a connection and reads what the client still sends, up to 16 MiB: closing it with bytes unread takes back a reply
-/// that the client hasn't read yet, as the refusal of a body that is too long. A client that sends nothing more is waited for once.
-fn let_go(mut stream: &TcpStream) {
-    let Ok(()) = stream.shutdown(Shutdown::Write) else {
-        return;
-    };
-    let mut rest = [0; 4096];
-    for _ in 0..LAST_READS {
-        match stream.read(&mut rest) {
-            Ok(0) | Err(_) => return,
-            Ok(_) => {}
-        }
+/// Whether a client is waited for once its connection was served so: one that kept a read or a write waiting, or is gone, isn't.
+fn is_waited_for(outcome: Result<Served, ServeFault>) -> bool {
+    match outcome {
+        Err(ServeFault::Read | ServeFault::Write) => false,
+        _ => true,
     }
 }
 
-/// Serves a connection, and says whether it was served to its end. A client that kept a read or a write waiting isn't waited for again.
-fn serve_connection<D: ContentsHandler>(
+/// Whether a connection was served to its end.
+fn tell(outcome: Result<Served, ServeFault>) -> Result<bool, ListenFault>
+    ensures store { result ≡ Err ListenFault.Store → outcome ≡ Err ServeFault.Store }
+    ensures net { result ≢ Err ListenFault.Net }
+{
+    match outcome {
+        Ok(_) => Ok(true),
+        Err(ServeFault::Store) => Err(ListenFault::Store),
+        Err(_) => Ok(false),
+    }
+}
+
+/// Serves a connection, and says whether it was served to its end.
+fn serve_connection<C: Connections, D: ContentsHandler>(
     alloc: Global,
     desk: &mut D,
-    stream: &TcpStream,
+    connections: &mut C,
+    reader: Watched<C::Reader>,
+    writer: Watched<C::Writer>,
     interface: Interface,
 ) -> Result<bool, ListenFault>
-    ensures { KeepsOn interface (D.state desk.old) (D.state desk.new) result }
+    ensures keeps { C.comes (C.Reader.remaining (inner_of reader)) (C.Writer.contents (inner_of writer))
+        → KeepsOn C.comes C.goes interface (D.state desk.old) (D.state desk.new) result }
+    ensures same { (n : ℕ) → C.counts connections.old n → C.counts connections.new n }
+    ensures net { result ≢ Err ListenFault.Net }
 {
-    let mut reader = Watched::new(stream);
-    let mut writer = Watched::new(stream);
-    match serve(alloc, desk, &mut reader, &mut writer, interface) {
-        Ok(_) => {
-            let_go(stream);
-            Ok(true)
-        }
-        Err(ServeFault::Store) => {
-            let_go(stream);
-            Err(ListenFault::Store)
-        }
-        Err(ServeFault::Memory) => {
-            let_go(stream);
-            Ok(false)
-        }
-        Err(ServeFault::Read | ServeFault::Write) => Ok(false),
-    }
+    let mut reader = reader;
+    let mut writer = writer;
+    let outcome = serve(alloc, desk, &mut reader, &mut writer, interface);
+    connections.let_go(reader, writer, is_waited_for(outcome));
+    tell(outcome)
 }
 
 /// Serves the next connection, and says whether it was served to its end. One whose waiting can't be limited isn't served.
-fn serve_next<D: ContentsHandler>(
+fn serve_next<C: Connections, D: ContentsHandler>(
     alloc: Global,
     desk: &mut D,
-    listener: &TcpListener,
+    connections: &mut C,
     interface: Interface,
 ) -> Result<bool, ListenFault>
-    ensures { KeepsOn interface (D.state desk.old) (D.state desk.new) result }
+    ensures keeps { KeepsOn C.comes C.goes interface (D.state desk.old) (D.state desk.new) result }
+    ensures ends { ComesToEnd (λ n. C.counts connections.old n) (λ n. C.counts connections.new n) (C.has_failed connections.new) 1 result }
 {
-    let Ok((stream, _peer)) = listener.accept() else {
-        return Err(ListenFault::Net);
-    };
-    if !limit_waiting(&stream) {
-        return Ok(false);
+    match connections.accept() {
+        Arrival::Net => Err(ListenFault::Net),
+        Arrival::Unlimited => Ok(false),
+        Arrival::Connection(reader, writer) => {
+            serve_connection(alloc, desk, connections, reader, writer, interface)
+        }
     }
-    serve_connection(alloc, desk, &stream, interface)
 }
 
 /// Serves so many connections one after the other, and counts those that were served to their end. A fault of reading, writing or memory
 /// ends its connection alone; so does a client for which a read waits longer than 30 seconds, or a write longer than 10.
-pub fn serve_on<D: ContentsHandler>(
+pub fn serve_on<C: Connections, D: ContentsHandler>(
     alloc: Global,
     desk: &mut D,
-    listener: &TcpListener,
-    connections: u32,
+    connections: &mut C,
+    count: u32,
     interface: Interface,
 ) -> Result<u32, ListenFault>
     ensures clean { (D.state desk.new).is_clean → (D.state desk.old).is_clean }
-    ensures keeps { (h : CommandList) → (D.state desk.new).is_clean → StandsFor (D.state desk.old) h → Keeps interface (D.state desk.new) h }
+    ensures keeps { (h : CommandList) → (D.state desk.new).is_clean → StandsFor (D.state desk.old) h
+        → Keeps C.comes C.goes interface (D.state desk.new) h }
     ensures store { StopsAtStore (D.state desk.new) result }
     ensures stopped { (D.state desk.old).is_stopped ≡ true → StaysStopped (D.state desk.old) (D.state desk.new) }
-    ensures counts { IfOk result (λ served. served ≤ connections) }
+    ensures counts { IfOk result (λ served. served ≤ count) }
+    ensures ends { ComesToEnd (λ n. C.counts connections.old n) (λ n. C.counts connections.new n) (C.has_failed connections.new) count result }
 {
     let mut served = 0;
-    for _ in 0..connections {
-        match serve_next(alloc, desk, listener, interface) {
-            Ok(true) => served += 1,
-            Ok(false) => {}
+    for _ in 0..count {
+        match serve_next(alloc, desk, connections, interface) {
+            Ok(is_whole) => served += u32::from(is_whole),
             Err(fault) => return Err(fault),
         }
     }

@@ -1,3 +1,5 @@
+use Rattle.desk_opening.proofs.CountLemmas.{fails_as}
+use Rattle.desk_opening.proofs.FailLemmas.{bare_given}
 use Rattle.desk_opening.proofs.FillLemmas.{later_filled, none_later, nothing_run}
 use Rattle.desk_opening.proofs.filling.fill_later.Goals as goal
 
@@ -9,3 +11,6 @@ returns-in-Two-clause-stays g c = nothing_run _
 
 pub returns-in-Two-clause-writes : goal.returns-in-Two-clause-writes
 returns-in-Two-clause-writes g c = none_later c.args.version c.in-Two.is _
+
+pub returns-in-One-clause-fails : goal.returns-in-One-clause-fails
+returns-in-One-clause-fails g c = fails_as (bare_given c.args.version c.in-One.is) c.write_rules.result c.write_rules.ensures.fails

@@ -4,12 +4,12 @@ use Rattle.desk_opening.proofs.FillLemmas.{put_stays, rule_put}
 use Rattle.desk_opening.proofs.filling.write_rule.Goals as goal
 
 pub returns-clause-stays : goal.returns-clause-stays
-returns-clause-stays g c = put_stays _ _ _ c.run.result c.run.ensures
+returns-clause-stays g c = put_stays _ _ _ c.run.result c.run.ensures.runs
 
 pub returns-clause-writes : goal.returns-clause-writes
 returns-clause-writes g c =
     let it : GroupRule = record { percentage = None; success = c.args.success; error = c.args.error } in
     let percentage : owned c.params-to_sql-3.result ≡ Null = c.params-to_sql-3.ensures in
-    let ran : RunsText (state g.S.Store c.args.conn.now) (state g.S.Store c.run.new.conn) PUT_RULE.now (rule_row c.args.number c.args.group it) c.run.result =
-    rw (c.params-to_sql.ensures, c.params-to_sql-2.ensures, percentage, c.params-to_sql-4.ensures, c.params-to_sql-5.ensures) at c.run.ensures in
+    let ran : RunsText (state g.S.Store c.args.calls.now.conn) (state g.S.Store c.run.new.calls.conn) PUT_RULE.now (rule_row c.args.number c.args.group it) c.run.result =
+    rw (c.params-to_sql.ensures, c.params-to_sql-2.ensures, percentage, c.params-to_sql-4.ensures, c.params-to_sql-5.ensures) at c.run.ensures.runs in
     rule_put c.args.number c.args.group it _ _ c.run.result ran

@@ -1,16 +1,26 @@
-use Rattle.desk_opening.proofs.Common.{subst, StandsSomewhere, desk_table, HasDeskTables}
-use Rattle.desk_opening.proofs.AdoptLemmas.{adopts_lacking, adopts_renewed}
-use Rattle.desk_opening.proofs.OpeningLemmas.{has_tables, lacks_tables}
+use Rattle.desk_opening.proofs.Common.{◌≢◌, Err, NotDesk, Store, subst, StandsSomewhere, desk_table}
+use Rattle.desk_opening.proofs.AdoptLemmas.{adopts_renewed}
+use Rattle.desk_opening.proofs.CauseLemmas.{adopts_fails}
+use Rattle.desk_opening.proofs.CountLemmas.{at_counted, at_none, counts_passed, passed_on}
 use Rattle.desk_opening.proofs.opening.take_over.Goals as goal
 
-pub returns-then-not-is_standing-clause-adopts : goal.returns-then-not-is_standing-clause-adopts
-returns-then-not-is_standing-clause-adopts g c =
-    let table = subst (λ s. StandsSomewhere s (desk_table 0)) c.schema.ensures.value (c.in_ok-has_table.ensures.found c.if-not-branch.false) in
-    let lacks = lacks_tables _ c.in_ok-standing.standing c.in_ok-version.version c.in_ok-standing.ensures.found (c.is_standing.ensures.no c.if-not-is_standing.true) in
-    adopts_lacking _ _ table c.in_ok-version.version c.in_ok-version.ensures.keeps c.in_ok-version.ensures.tells _ (subst (λ s. ¬ HasDeskTables c.in_ok-version.version s) c.schema-2.ensures.value lacks)
+pub returns : goal.returns
+returns g c =
+    let table = subst (λ s. StandsSomewhere s (desk_table 0)) c.schema.ensures (c.in_ok-has_table.ensures.found c.if-not-branch.false) in
+    let settled = g.met.S.Store.settled c.args.calls.now.conn.store in
+    let found = c.in_ok-version.ensures in
+    record {
+      adopts = adopts_renewed _ _ table c.in_ok-version.version found.keeps found.tells settled _ c.renew.result c.renew.ensures.renews c.renew.ensures.failed;
+      fails = λ v. adopts_fails table c.in_ok-version.version found.keeps found.tells settled found.counts c.renew.ensures.renews.wears v c.renew.result c.renew.ensures.fails;
+    }
 
-pub returns-clause-adopts : goal.returns-clause-adopts
-returns-clause-adopts g c =
-    let table = subst (λ s. StandsSomewhere s (desk_table 0)) c.schema.ensures.value (c.in_ok-has_table.ensures.found c.if-not-branch.false) in
-    let tables = has_tables _ c.in_ok-standing.standing c.in_ok-version.version c.in_ok-standing.ensures.found (c.is_standing.ensures.yes c.if-not-is_standing.false) in
-    adopts_renewed _ _ table c.in_ok-version.version c.in_ok-version.ensures.keeps c.in_ok-version.ensures.tells (g.met.S.Store.settled c.args.conn.now.store) (subst (HasDeskTables c.in_ok-version.version) c.schema-2.ensures.value tables) _ c.renew.result c.renew.ensures.renews c.renew.ensures.failed
+pub returns-in_err-version-clause-fails : goal.returns-in_err-version-clause-fails
+returns-in_err-version-clause-fails g c = λ v.
+    let out = c.from_residual-in_err-version in
+    at_counted v out.result (counts_passed c.in_err-version.field-0.0 c.in_err-version.ensures.counts out.result out.ensures.1)
+
+pub returns-in_err-has_table-clause-fails : goal.returns-in_err-has_table-clause-fails
+returns-in_err-has_table-clause-fails g c = λ v. at_none v c.from_residual.result (passed_on (λ e. e ≢ Store) c.in_err-has_table.field-0.0 c.in_err-has_table.ensures.memory c.from_residual.result c.from_residual.ensures.1)
+
+pub returns-then-not-branch-clause-fails : goal.returns-then-not-branch-clause-fails
+returns-then-not-branch-clause-fails g c = λ v. at_none v (Err NotDesk) (λ is. cc)

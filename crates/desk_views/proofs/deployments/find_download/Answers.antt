@@ -1,4 +1,6 @@
 use Rattle.desk_views.proofs.Answering.{◌∙◌, IfOk, ap, subst, sym, both_found, finds_as, named, IsOfName, is_named, named_said, not_among, not_known}
+use Rattle.std.proofs.Common.{arith}
+use Rattle.desk_views.proofs.KeptViews.{kept_among, where_ok}
 use Rattle.desk_views.proofs.deployments.find_download.Goals as goal
 
 pub returns-then-not-branch-clause-reads : goal.returns-then-not-branch-clause-reads
@@ -16,4 +18,12 @@ returns-clause-agrees g c = record {
       let listed = (c.in_ok-artifacts.ensures.tells.finds t (c.in_ok-modules.ensures.keeps.to t (c.in_ok-knows_device.ensures.keeps.to t was))).1 clean in
       subst (λ it. IfOk it (IsOfName t c.args.module_number c.args.filename.now)) (sym (c.named.ensures ∙ ap (named c.args.filename.now) c.deref-2.ensures.value))
       (named_said c.args.module_number c.args.filename.now t _ listed.sound);
+}
+
+pub returns-clause-kept : goal.returns-clause-kept
+returns-clause-kept g c = record {
+  agrees = λ t was clean.
+      where_ok _ c.named.result
+      (kept_among t c.args.device.now.id c.args.module_number _ _ (rw c.deref.ensures.value at c.is_among.ensures) c.if-not-is_among.false
+      (c.in_ok-modules.ensures.kept.agrees t (c.in_ok-knows_device.ensures.keeps.to t was) (omega (arith, clean, c.in_ok-artifacts.ensures.reads.wears))));
 }

@@ -1,4 +1,6 @@
 use Rattle.desk_views.proofs.Answering.{List, false, ap, ◌∙◌, both_found, finds_as, ledger_found, Chunk, DeploymentShown, not_offered, offered, turned_away}
+use Rattle.std.proofs.Common.{arith}
+use Rattle.desk_views.proofs.KeptViews.{kept_offer}
 use Rattle.desk_views.proofs.deployments.show_deployment.Goals as goal
 
 pub returns-then-not-branch-clause-reads : goal.returns-then-not-branch-clause-reads
@@ -9,3 +11,10 @@ returns-then-not-is_offer_of-clause-reads g c = finds_as (both_found (rw c.if-no
 
 pub returns-clause-reads : goal.returns-clause-reads
 returns-clause-reads g c = finds_as (both_found (both_found (rw c.if-not-branch.false at c.in_ok-knows_device.ensures.reads) (ledger_found _ c.in_ok-offer.ensures.reads)) c.in_ok-chunks.ensures.reads) (λ r is. ap (λ (chunks : List Chunk). DeploymentShown (record { target = c.args.device.now.id; action = c.args.number; chunks = chunks })) is.1 ∙ offered c.args.device.now r is.0.0 c.args.number false _ _ c.is_offer_of.ensures is.0.1 _ c.if-not-is_offer_of.false)
+
+pub returns-clause-kept : goal.returns-clause-kept
+returns-clause-kept g c = record {
+  agrees = λ t was clean.
+      kept_offer t c.args.device.now.id c.args.number false _ _ c.is_offer_of.ensures c.if-not-is_offer_of.false
+      ((c.in_ok-offer.ensures.tells.finds t (c.in_ok-knows_device.ensures.keeps.to t was)).1 (omega (arith, clean, c.in_ok-chunks.ensures.reads.wears)));
+}

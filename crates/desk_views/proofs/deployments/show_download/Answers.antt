@@ -21,3 +21,8 @@ returns-in_err-contents-in-Ok-clause-fails g c =
     (λ r is of.
     let it = answered_by c.args.module_number c.args.filename.now r c.args.device.now (Ok c.in-Ok.artifact) is in
     record { of_list = listed of; wanted = size_of_numbered r of c.in-Ok.artifact.number c.in-Ok.artifact.size it.0 it.2 it.3 }) _ (passed _ _ c.from_residual-in_err-contents-in-Ok.ensures.1)
+
+pub returns-in_ok-contents-in-Ok-clause-kept : goal.returns-in_ok-contents-in-Ok-clause-kept
+returns-in_ok-contents-in-Ok-clause-kept g c = record {
+  agrees = λ t was clean. (rw c.in-Ok.is at c.in_ok-artifact.ensures.kept).agrees t was (omega (arith, clean, c.in_ok-contents-in-Ok.ensures.reads.wears));
+}

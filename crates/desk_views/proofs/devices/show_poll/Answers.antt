@@ -6,3 +6,6 @@ returns-then-not-branch-clause-reads g c = finds_as (rw c.if-not-branch.true at 
 
 pub returns-clause-reads : goal.returns-clause-reads
 returns-clause-reads g c = finds_as (both_found (rw c.if-not-branch.false at c.in_ok-knows_device.ensures.reads) (ledger_found _ c.in_ok-offer.ensures.reads)) (λ r is. ap (PollShown c.args.device.now.id) is.1 ∙ answered c.args.device.now r is.0 _)
+
+pub returns-clause-kept : goal.returns-clause-kept
+returns-clause-kept g c = record { agrees = λ t was clean. (c.in_ok-offer.ensures.tells.finds t (c.in_ok-knows_device.ensures.keeps.to t was)).1 clean }

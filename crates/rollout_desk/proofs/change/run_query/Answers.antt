@@ -1,6 +1,6 @@
-use Rattle.rollout_desk.proofs.Common.{◌≡◌, refl, subst, rules, state, Keeps, HoldsLedger, HoldsRecords, Ask, query_of, reply_of, Handles, KeepsSizes}
+use Rattle.rollout_desk.proofs.Common.{◌≡◌, refl, subst, rules, state, Keeps, HoldsLedger, HoldsRecords, Ask, query_of, reply_of, Handles, KeepsOffers, KeepsSizes}
 use Rattle.rollout_desk.proofs.ApplyLemmas.{fault_fails, unbegun, shown, unshown}
-use Rattle.rollout_desk.proofs.SizeLemmas.{refused_sized, shown_sized}
+use Rattle.rollout_desk.proofs.SizeLemmas.{refused_kept, refused_sized, shown_kept, shown_sized}
 use Rattle.rollout_machine.specs.Replies.{Refused}
 use Rattle.rollout_model.specs.declared.refusal.Refusal.TheVariants.{StoreFailed}
 use Rattle.desk_reads.specs.AtLists.{IsOfList}
@@ -39,6 +39,21 @@ returns-in-Err-answer-clause-sized g c =
     let same : c.give_up-in-Err-answer.new.change.0 ≡ c.store-in-Err-answer-1.given.0 = search rules in
     subst (λ h. KeepsSizes (state g.S.Store c.args.store.now.calls.conn) (state g.S.Store h.calls.conn) (query_of c.args.query.now) (reply_of c.give_up-in-Err-answer.result)) same
     (shown_sized _ _ _ _ _ _ _ c.in-Ok.ensures.tables (λ t was clean. refused_sized t (query_of c.args.query.now) _ _ c.reply_of_fault-in-Err-answer.ensures) c.give_up-in-Err-answer.ensures.ends)
+
+pub returns-in-Err-clause-kept : goal.returns-in-Err-clause-kept
+returns-in-Err-clause-kept g c = λ t clean shown. refused_kept t (query_of c.args.query.now) _ _ c.reply_of_fault.ensures
+
+pub returns-in-Ok-answer-clause-kept : goal.returns-in-Ok-answer-clause-kept
+returns-in-Ok-answer-clause-kept g c =
+    let same : c.give_up.new.change.0 ≡ c.store-in-Ok-answer-1.given.0 = search rules in
+    subst (λ h. KeepsOffers (state g.S.Store c.args.store.now.calls.conn) (state g.S.Store h.calls.conn) (query_of c.args.query.now) (reply_of c.give_up.result)) same
+    (shown_kept _ _ _ _ _ _ _ c.in-Ok.ensures.tables c.in-Ok-answer.ensures.answers.kept.agrees c.give_up.ensures.ends)
+
+pub returns-in-Err-answer-clause-kept : goal.returns-in-Err-answer-clause-kept
+returns-in-Err-answer-clause-kept g c =
+    let same : c.give_up-in-Err-answer.new.change.0 ≡ c.store-in-Err-answer-1.given.0 = search rules in
+    subst (λ h. KeepsOffers (state g.S.Store c.args.store.now.calls.conn) (state g.S.Store h.calls.conn) (query_of c.args.query.now) (reply_of c.give_up-in-Err-answer.result)) same
+    (shown_kept _ _ _ _ _ _ _ c.in-Ok.ensures.tables (λ t was clean. refused_kept t (query_of c.args.query.now) _ _ c.reply_of_fault-in-Err-answer.ensures) c.give_up-in-Err-answer.ensures.ends)
 
 pub returns-in-Ok-answer-clause-fails : goal.returns-in-Ok-answer-clause-fails
 returns-in-Ok-answer-clause-fails g c =

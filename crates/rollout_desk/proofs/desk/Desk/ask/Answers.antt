@@ -1,7 +1,7 @@
 use Rattle.rollout_desk.proofs.Common.{refl, state, HoldsRecords, Ask, query_of, reply_of, desk_state, desk_state_at}
 use Rattle.rollout_desk.proofs.DeskLemmas.{answers}
 use Rattle.rollout_desk.proofs.PromiseLemmas.{offers_kept, contents_whole}
-use Rattle.rollout_desk.proofs.SizeLemmas.{refused_sized}
+use Rattle.rollout_desk.proofs.SizeLemmas.{refused_kept, refused_sized}
 use Rattle.rollout_desk.proofs.CauseLemmas.{stands_running}
 use Rattle.rollout_desk.proofs.desk.Desk.ask.Goals as goal
 
@@ -19,6 +19,9 @@ returns-clause-whole g c =
 
 pub returns-then-self-clause-sized : goal.returns-then-self-clause-sized
 returns-then-self-clause-sized g c = λ t clean shown. refused_sized t (query_of c.args.query.now) _ _ refl
+
+pub returns-then-self-clause-kept : goal.returns-then-self-clause-kept
+returns-then-self-clause-kept g c = λ t clean shown. refused_kept t (query_of c.args.query.now) _ _ refl
 
 pub returns-clause-fails : goal.returns-clause-fails
 returns-clause-fails g c = λ is h clean counted stands. c.run_query-reply.ensures.fails is h clean counted (stands_running _ c.args.self.now.stopped h c.if-self.false stands)

@@ -4,7 +4,7 @@ use rollout_model::{Reply, Request};
 
 /// A desk that answers requests, seen by the list of commands that it stands for and by what a crash may leave of it.
 pub trait Handler {
-    ghost use Rattle.std.specs.Prelude.{◌≡◌, true, ℕ};
+    ghost use Rattle.std.specs.Prelude.{◌≡◌, ◌≤◌, ◌-◌, true, ℕ};
     ghost use Rattle.rollout_model.specs.declared.refusal.Refusal.TheVariants as refusal;
     ghost use Rattle.rollout_machine.specs.Bounds.{KeepsBound};
     ghost use Rattle.rollout_machine.specs.Requests.{Asks, Do};
@@ -17,7 +17,7 @@ pub trait Handler {
 
     ghost state: { Self → DeskState File };
 
-    /// How many statements the last command ran, and how many rows they gave.
+    /// How many statements were run so far, and how many rows they gave: no request sets a count back.
     ghost statements: { Self → ℕ };
 
     ghost rows: { Self → ℕ };
@@ -28,7 +28,9 @@ pub trait Handler {
         ensures applies { Applies (state self.old) (state self.new) (Asks (request_of request.now)) (reply_of result) }
         ensures stops { reply_of result ≡ Refused refusal.StoreFailed → (state self.new).is_stopped ≡ true }
         ensures stopped { (state self.old).is_stopped ≡ true → (reply_of result ≡ Refused refusal.Stopped) × StaysStopped (state self.old) (state self.new) }
-        ensures bound { (c : _) → request_of request.now ≡ Do c → KeepsBound c (statements self.new) (rows self.new) };
+        ensures grows { (statements self.old ≤ statements self.new) × (rows self.old ≤ rows self.new) }
+        ensures bound { (c : _) → request_of request.now ≡ Do c
+            → KeepsBound c (statements self.new - statements self.old) (rows self.new - rows self.old) };
 
     /// Whether the desk refuses everything until it is reopened.
     fn is_stopped(&self) -> bool
