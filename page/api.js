@@ -1,4 +1,5 @@
 // Asks the server: one request at a time, gently, and says in words what it refuses.
+import {LARGEST} from "./limits.js";
 
 const WORDS = {
   1: "the input isn't in the form that the server takes",
@@ -9,7 +10,7 @@ const WORDS = {
   6: "a set names this module already, so it takes no further file",
   7: "the state doesn't allow it (any more)",
   8: "the action has its outcome already",
-  9: "it is larger than the server takes",
+  9: `it is larger than the ${LARGEST.toLocaleString("en")} bytes that the server takes`,
   10: "a limit of the server is reached",
   11: "the filter can't be read",
   12: "a group would have no device",
@@ -42,6 +43,9 @@ export class Refusal extends Error {
 /** Tells of each failed request that isn't a plain refusal (`fault`), and of each answer (`answer`). */
 export const events = new EventTarget();
 
+/** Where a call is: beside the page. Below an address that has a login in it browsers refuse to ask, and don't below its origin. */
+export const urlOf = (path) => location.origin + location.pathname.replace(/\/page\/.*$/, "") + path;
+
 let last = Promise.resolve();
 
 /** Does the work once all that was asked before is answered. */
@@ -71,7 +75,7 @@ function refused(status, text) {
 async function sent(method, path, body) {
   let reply, text;
   try {
-    reply = await fetch(path, {method, body, cache: "no-store", signal: AbortSignal.timeout(60_000)});
+    reply = await fetch(urlOf(path), {method, body, cache: "no-store", signal: AbortSignal.timeout(60_000)});
     text = await reply.text();
   } catch {
     throw refused(0, "");
@@ -94,6 +98,9 @@ export async function ask(method, path, body) {
 
 export const get = (path) => ask("GET", path);
 
+/** Asks out of turn: for what is done to many, a few at a time. */
+export const beside = async (method, path) => JSON.parse(await sent(method, path));
+
 /** A page of a list. */
 export const page = (path, offset, limit) => get(`${path}${path.includes("?") ? "&" : "?"}offset=${offset}&limit=${limit}`);
 
@@ -112,7 +119,7 @@ export async function all(path) {
 /** Sends a file and tells how much of it has gone. */
 export const upload = (path, file, progress) => inTurn(() => new Promise((done, fail) => {
   const request = new XMLHttpRequest();
-  request.open("POST", path);
+  request.open("POST", urlOf(path));
   request.upload.onprogress = (it) => progress(it.loaded, it.total);
   request.onload = () => (request.status < 300 ? done(JSON.parse(request.responseText)) : fail(refused(request.status, request.responseText)));
   request.onerror = () => fail(refused(0, ""));

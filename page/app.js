@@ -1,20 +1,27 @@
 // Leads from an address to what it shows, keeps that up to date, and says what went wrong.
+import {view as action} from "./action.js";
 import {events, gently, Refusal} from "./api.js";
 import {h, settle} from "./drawing.js";
-import * as firmware from "./firmware.js";
-import * as rollouts from "./rollouts.js";
-import * as targets from "./targets.js";
+import {view as firmware} from "./firmware.js";
+import {view as fleet} from "./fleet.js";
+import {showFleets} from "./fleets.js";
+import {view as members} from "./members.js";
+import {view as module} from "./module.js";
+import {view as plan} from "./plan.js";
+import {view as rollout} from "./rollout.js";
+import {view as rollouts} from "./rollouts.js";
+import {view as target} from "./target.js";
 
 const VIEWS = [
-  [/^\/rollouts$/, rollouts.list],
-  [/^\/rollouts\/new$/, rollouts.fresh],
-  [/^\/rollouts\/(\d+)$/, rollouts.one],
-  [/^\/rollouts\/(\d+)\/groups\/(\d+)$/, rollouts.members],
-  [/^\/targets$/, targets.list],
-  [/^\/targets\/([\w.-]+)$/, targets.one],
-  [/^\/targets\/([\w.-]+)\/actions\/(\d+)$/, targets.action],
-  [/^\/firmware$/, firmware.list],
-  [/^\/firmware\/modules\/(\d+)$/, firmware.module],
+  [/^\/rollouts$/, rollouts],
+  [/^\/rollouts\/new$/, plan],
+  [/^\/rollouts\/(\d+)$/, rollout],
+  [/^\/rollouts\/(\d+)\/groups\/(\d+)$/, members],
+  [/^\/targets$/, fleet],
+  [/^\/targets\/([\w.-]+)$/, target],
+  [/^\/targets\/([\w.-]+)\/actions\/(\d+)$/, action],
+  [/^\/firmware$/, firmware],
+  [/^\/firmware\/modules\/(\d+)$/, module],
 ];
 
 /** What an address leads to that leads nowhere: what the server says of such a number. */
@@ -39,10 +46,17 @@ const page = {
     carried = words;
     location.hash = address;
   },
-  refresh: () => shown.loop.now(),
-  redraw: () => draw(shown),
+  /** Asks anew for all that is shown, after a command. */
+  refresh() {
+    shown.anew = true;
+    shown.loop.now();
+  },
+  redraw: () => shown.data && draw(shown),
+  /** The address that is shown, without its query. */
+  here: () => location.hash.split("?")[0],
+  /** Says it in place of what was said before; without words nothing. */
   say(kind, words) {
-    settle(place("notice"), [h("p", {class: `notice ${kind}`, "data-key": Date.now()}, words,
+    settle(place("notice"), !words ? [] : [h("p", {class: `notice ${kind}`, "data-key": Date.now()}, words,
       h("button", {class: "small", "aria-label": "Put this message away", onclick: () => settle(place("notice"), [])}, "✕"))]);
   },
   /** Does it, and says what the server refuses. */
@@ -50,7 +64,7 @@ const page = {
     try {
       await work();
     } catch (refusal) {
-      page.say("bad", refusal.sentence ?? String(refusal));
+      page.say("bad", refusal.sentence ?? refusal.message);
     }
   },
   /** A part that is drawn once for as long as the view is shown. */
@@ -75,8 +89,10 @@ async function update(view) {
   if (view.data && view.view.still) {
     return;
   }
+  const before = view.anew ? null : view.data ?? view.before;
+  view.anew = false;
   try {
-    const data = await view.view.load(view.parameters, view.query);
+    const data = await view.view.load(view.parameters, view.query, before);
     if (view !== shown) {
       return;
     }
@@ -103,7 +119,10 @@ function show(moved) {
   const [address, query] = (location.hash.slice(1) || "/rollouts").split("?");
   const [pattern, view] = VIEWS.find(([it]) => it.test(address)) ?? [/^/, NOWHERE];
   shown?.loop.end();
-  const next = {view, moved, parameters: pattern.exec(address).slice(1), query: new URLSearchParams(query), parts: new Map()};
+  const parameters = pattern.exec(address).slice(1);
+  // another query of the same things begins with what is known of them
+  const before = shown?.address === address ? shown.data : null;
+  const next = {view, address, moved, parameters, before, query: new URLSearchParams(query), parts: new Map()};
   shown = next;
   next.loop = gently(() => update(next));
   for (const it of place("pages").children) {
@@ -142,4 +161,5 @@ addEventListener("hashchange", () => {
   carried = null;
   show(true);
 });
+showFleets(place("fleets"));
 show(false);

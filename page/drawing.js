@@ -1,4 +1,5 @@
 // Draws: elements with text in them (never HTML), bars, badges, tables, forms; and settles a new drawing into the old one.
+import {longText, TEXT} from "./limits.js";
 
 const SVG = "http://www.w3.org/2000/svg";
 
@@ -54,6 +55,9 @@ export function settle(place, drawn) {
   fresh.forEach((it, at) => {
     const node = it instanceof Node ? it : document.createTextNode(it);
     const old = place.childNodes[at];
+    if (node === old) {
+      return;
+    }
     if (!old) {
       place.append(node);
     } else if (node.parentNode === place) {
@@ -114,11 +118,12 @@ const SIGNS = {ok: "✓", bad: "✕", gone: "○", open: "▶", waiting: "…", 
 export const badge = (kind, word) =>
   h("span", {class: `badge ${kind}`}, h("span", {"aria-hidden": true, class: "sign"}, SIGNS[kind]), word.replaceAll("_", " "));
 
-/** A table that scrolls by itself where it is too wide. */
+/** A table that scrolls by itself where it is too wide; in a narrow window each row is a card, in which each value has its column's name. */
 export function table(label, heads, rows) {
-  return h("div", {class: "wide", role: "region", "aria-label": label, tabindex: 0}, h("table", {},
-    h("thead", {}, h("tr", {}, heads.map((it) => h("th", {scope: "col"}, it)))),
-    h("tbody", {}, rows.map((row) => h("tr", {}, row.map((it) => h("td", {}, it)))))));
+  const row = (it) => h("tr", {role: "row"}, it.map((value, k) => h("td", {role: "cell", "data-head": heads[k]}, value)));
+  return h("div", {class: "wide", role: "region", "aria-label": label, tabindex: 0}, h("table", {role: "table"},
+    h("thead", {role: "rowgroup"}, h("tr", {role: "row"}, heads.map((it) => h("th", {role: "columnheader", scope: "col"}, it)))),
+    h("tbody", {role: "rowgroup"}, rows.map(row))));
 }
 
 export const link = (address, ...text) => h("a", {href: address}, ...text);
@@ -149,17 +154,53 @@ export function field(id, label, control, hint = "") {
 export const word = (name, longest, more = {}) =>
   h("input", {name, required: true, pattern: `[A-Za-z0-9._\\-]{1,${longest}}`, title: `1 to ${longest} of A-Z a-z 0-9 . _ -`, autocomplete: "off", ...more});
 
+/** A control for a name, a type or a version: whether it is too long is said while it is typed. */
+export const text = (name, more = {}) =>
+  h("input", {name, required: true, maxlength: TEXT, autocomplete: "off", oninput: ({target}) => target.setCustomValidity(longText(target.value)), ...more});
+
 /** What was typed into a form. */
 export const typed = (form) => Object.fromEntries(new FormData(form));
 
+/** A form whose input is sent, after which it is empty and the page is asked for anew; `send` answers what is said then, or null. */
+export function adding(id, command, controls, send, page) {
+  const submit = (event) => {
+    event.preventDefault();
+    const form = event.target;
+    return page.tried(async () => {
+      const words = await send(form);
+      if (words) {
+        page.say("ok", words);
+        form.reset();
+        page.refresh();
+      }
+    });
+  };
+  return h("form", {id, class: "row", onsubmit: submit}, controls, h("button", {}, command));
+}
+
 const dialog = document.getElementById("dialog");
 
-/** Asks once more, in words that say what will happen. */
-export function sure(title, sentences, yes) {
+let questions = 0;
+
+/**
+ * Asks once more, in words that say what will happen. Answers what was chosen, or null where it isn't to be done.
+ * Where there are choices, each a value and its words, one has to be taken.
+ */
+export async function sure(title, sentences, yes, choices = []) {
+  if (dialog.open) {
+    return null;
+  }
+  questions += 1;
+  const radio = (value) => h("input", {type: "radio", name: "way", value, required: true});
+  const choice = ([value, words]) => h("label", {class: "choice", "data-key": `${questions} ${value}`}, radio(value), words);
   settle(document.getElementById("dialog-title"), [title]);
   settle(document.getElementById("dialog-words"), sentences.map((it) => h("p", {}, it)));
+  const place = document.getElementById("dialog-choices");
+  place.hidden = !choices.length;
+  settle(place, choices.map(choice));
   settle(document.getElementById("dialog-yes"), [yes]);
   dialog.returnValue = "no";
   dialog.showModal();
-  return new Promise((done) => dialog.addEventListener("close", () => done(dialog.returnValue === "yes"), {once: true}));
+  const chosen = () => typed(dialog.querySelector("form")).way ?? "yes";
+  return new Promise((done) => dialog.addEventListener("close", () => done(dialog.returnValue === "yes" ? chosen() : null), {once: true}));
 }
