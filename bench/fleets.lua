@@ -1,0 +1,22 @@
+-- wrk's script: polls of random devices of random fleets, each led to by path, host or prefix; or downloads of what they are offered.
+-- wrk .. -s fleets.lua URL -- FIRST LAST DEVICES keep|close|download
+local first, last, devices, close, download
+function init(args)
+    first, last, devices, close, download = tonumber(args[1]), tonumber(args[2]), tonumber(args[3]), args[4] == "close", args[4] == "download"
+    math.randomseed(os.time())
+end
+function request()
+    local fleet = string.format("f%02d", math.random(first, last))
+    local id = string.format("%s-%05d", fleet, math.random(devices))
+    local way, headers, path = math.random(3), { ["Authorization"] = "TargetToken tok-" .. id }, "/DEFAULT/controller/v1/" .. id
+    if way == 1 then path = "/fleets/" .. fleet .. path end
+    if way == 2 then headers["Host"] = fleet .. ".desk.example" end
+    if download then path = path .. "/softwaremodules/1/artifacts/app.bin" end
+    if close then headers["Connection"] = "close" end
+    return wrk.format("GET", path, headers)
+end
+function done(summary, latency)
+    local errors = summary.errors
+    io.write(string.format("%.0f %.1f %.1f %.0f %d %d\n", summary.requests / summary.duration * 1e6, latency:percentile(50) / 1000,
+        latency:percentile(99) / 1000, latency.max / 1000, errors.status, errors.connect + errors.read + errors.write + errors.timeout))
+end
