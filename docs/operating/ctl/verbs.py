@@ -1,0 +1,28 @@
+"""The verbs: the file that has each, and what it does in a line."""
+
+VERBS = {
+    "module": ("module", "makes a module, and tells its number"),
+    "upload": ("upload", "puts a file into a module, and compares its digest"),
+    "set": ("set", "makes a distribution set of modules"),
+    "plan": ("plan", "plans a rollout, in even groups or by percentages"),
+    "copy": ("copy", "plans a rollout like another one"),
+    "start": ("steer", "starts a rollout"),
+    "pause": ("steer", "pauses a rollout"),
+    "resume": ("steer", "ends a rollout's pause"),
+    "trigger": ("steer", "starts a rollout's next group"),
+    "approve": ("steer", "approves a rollout"),
+    "deny": ("steer", "denies a rollout, for good"),
+    "wait": ("wait", "waits until a rollout ends, pauses or is denied"),
+    "rollouts": ("rollouts", "lists rollouts by their states"),
+    "cancel-open": ("cancel_open", "cancels what a rollout, or a group of it, has open"),
+    "failed": ("failed", "lists a rollout's failed devices with their last words, counted"),
+    "targets": ("targets", "lists targets, or counts them by state"),
+    "tag": ("tag", "tags many targets"),
+    "untag": ("tag", "takes a tag off many targets"),
+    "follow": ("follow", "gives sets to devices that join, by rules"),
+    "silent": ("silent", "lists the devices that haven't polled for so many hours"),
+    "tokens": ("tokens", "makes tokens, and the file to import, from a list of ids"),
+    "import": ("imports", "imports a file of targets"),
+    "firmware-add": ("firmware_add", "adds a .swu or .raucb of any size for hawkBit's clients"),
+    "firmware-lines": ("firmware_lines", "makes the adapter's lines from the desk's own list"),
+}

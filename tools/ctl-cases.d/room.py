@@ -1,0 +1,290 @@
+"""Where tools/ctl-cases plays: the program, its fleet, a line that is cut or watched, and the proxies."""
+import http.client
+import importlib.machinery
+import importlib.util
+import json
+import os
+import re
+import socket
+import ssl
+import subprocess
+import sys
+import threading
+from pathlib import Path
+
+sys.dont_write_bytecode = True
+ROOT = Path(__file__).resolve().parent.parent.parent
+OPERATING = ROOT / "docs/operating"
+HOST = "127.0.0.1"
+PASSWORD = "a secret of anna's"
+
+
+def module_of(path):
+    """A script as a module."""
+    loader = importlib.machinery.SourceFileLoader(path.name, str(path))
+    found = importlib.util.module_from_spec(importlib.util.spec_from_loader(path.name, loader))
+    loader.exec_module(found)
+    return found
+
+
+devices = module_of(ROOT / "tools/devices")
+eventually, free_port, listens = devices.eventually, devices.free_port, devices.listens
+
+
+class Left(Exception):
+    """What can't be tried here, since a program is missing."""
+
+
+def needs(*programs):
+    """Where Debian has them in a folder that is root's, too."""
+    if missing := [it for it in programs if not devices.packages.found(it)]:
+        raise Left(f"there is no {', '.join(missing)}")
+
+
+def status(execution, finished, *details):
+    return {"status": {"execution": execution, "result": {"finished": finished}, "details": list(details)}}
+
+
+class Room:
+    """A desk of its own with the calls of an operator and of devices, and fwdesk-ctl asking it."""
+
+    def __init__(self, program, folder, *more):
+        self.program, self.folder, self.more, self.port = program, Path(folder), more, free_port()
+        self.processes = devices.Processes(self.folder)
+        self.environment = {"PATH": f"{os.environ['PATH']}:/usr/sbin", "HOME": folder, "LC_ALL": "C.UTF-8"}
+
+    def serve(self):
+        words = f"serve --db {self.folder}/desk.db --port {self.port} --connections 1000000 --interface both".split()
+        self.server = self.processes.start("fwdesk", [self.program, *words, *self.more])
+        eventually("the program", lambda: listens(self.port), child=self.server)
+
+    def __enter__(self):
+        try:
+            self.serve()
+            return self
+        except BaseException:
+            self.processes.end_all()
+            raise
+
+    def __exit__(self, *_):
+        self.processes.end_all()
+
+    @property
+    def url(self):
+        return f"http://{HOST}:{self.port}"
+
+    def call(self, method, path, body=None, token=None, port=None):
+        """A call, and what is answered: a status and an object or a text."""
+        client = http.client.HTTPConnection(HOST, port or self.port, timeout=120)
+        fields = {"Authorization": f"TargetToken {token}"} if token else {}
+        client.request(method, path, json.dumps(body) if isinstance(body, dict | list) else body, fields)
+        reply = client.getresponse()
+        told = reply.read().decode()
+        client.close()
+        return reply.status, json.loads(told) if told.startswith(("{", "[")) else told
+
+    def ask(self, method, path, body=None):
+        """A call of an operator that has to succeed."""
+        status, told = self.call(method, path, body)
+        assert status < 300, f"{method} {path}: {status} {told}"
+        return told
+
+    def get(self, path):
+        return self.ask("GET", f"/rest/v1/{path}")
+
+    def words(self, *words):
+        return [str(OPERATING / "fwdesk-ctl"), *map(str, words)]
+
+    def started(self, *words, **more):
+        """fwdesk-ctl as it runs: the address of this desk where `FWDESK_URL` says no other."""
+        own = {"FWDESK_URL": self.url, **self.environment, **more}
+        pipes = {"stdin": subprocess.PIPE, "stdout": subprocess.PIPE, "stderr": subprocess.PIPE}
+        return subprocess.Popen(self.words(*words), env=own, text=True, cwd=self.folder, **pipes)
+
+    def ctl(self, *words, given="", **more):
+        """Its status, what comes of it, and what it says beside."""
+        child = self.started(*words, **more)
+        out, said = child.communicate(given, timeout=300)
+        assert "Traceback" not in said, said
+        return child.returncode, out, said
+
+    def gives(self, *words, **more):
+        """What comes of an order that has to succeed."""
+        status, out, said = self.ctl(*words, **more)
+        assert status == 0, f"{words}: status {status}: {said}"
+        return out.strip()
+
+    def refuses(self, wanted, why, *words, **more):
+        """An order that ends with this status, tells nothing but why, and says this of it."""
+        status, out, said = self.ctl(*words, **more)
+        assert (status, out) == (wanted, "") and why in said, f"{words}: status {status}: {out}{said}"
+
+    def fleet(self, count, form="dev-{:05}", first=1):
+        """So many devices, and their ids."""
+        names = [form.format(it) for it in range(first, first + count)]
+        rows = "".join(f"{it},Pump,tok-{it},lab\n" for it in names)
+        self.ask("POST", "/desk/v1/import", f"controllerid,name,token,tags\n{rows}")
+        return names
+
+    def firmware(self, version="1"):
+        """A set of one module with a file, and its number."""
+        (module,) = self.ask("POST", "/rest/v1/softwaremodules", [{"name": "os", "type": "os", "version": version}])
+        path = f"/rest/v1/softwaremodules/{module['id']}/artifacts?filename=firmware.bin"
+        self.ask("POST", path, f"firmware {version}")
+        wanted = [{"name": "os", "version": version, "modules": [{"id": module["id"]}]}]
+        return self.ask("POST", "/rest/v1/distributionsets", wanted)[0]["id"]
+
+    def rollout(self, name="spring", text="name==*", groups=1, success=100, error=100, started=True):
+        """A rollout of firmware of its own, and its number."""
+        plan = {"name": name, "distributionSetId": self.firmware(name), "targetFilterQuery": text}
+        plan["amountGroups"] = groups
+        for key, value in (("successCondition", success), ("errorCondition", error)):
+            plan[key] = {"condition": "THRESHOLD", "expression": str(value)}
+        number = self.ask("POST", "/rest/v1/rollouts", plan)["id"]
+        if started:
+            self.ask("POST", f"/rest/v1/rollouts/{number}/start")
+        return number
+
+    def rows(self, rollout):
+        """The rows of a rollout's table of actions."""
+        table = self.ask("GET", f"/desk/v1/rollouts/{rollout}/actions").splitlines()[1:]
+        return [dict(zip(("action", "id", "group", "state"), it.split(","))) for it in table]
+
+    def states(self, rollout):
+        return [it["state"] for it in self.rows(rollout)]
+
+    def offered(self, name):
+        """The kind and the action that a device is told of at a poll."""
+        links = self.call("GET", f"/DEFAULT/controller/v1/{name}", token=f"tok-{name}")[1]["_links"]
+        return next(((kind, int(it["href"].rpartition("/")[2])) for kind, it in links.items()), None)
+
+    def report(self, name, finished, *details, execution="closed"):
+        """A device reports on what it is offered."""
+        kind, action = self.offered(name)
+        path = f"/DEFAULT/controller/v1/{name}/{kind}/{action}/feedback"
+        answer = self.call("POST", path, status(execution, finished, *details), f"tok-{name}")
+        assert answer[0] == 200, answer
+
+
+class Relay:
+    """A line to a port, over TCP or a socket of the machine. It counts the requests that go up, and their bytes, and
+    does something in place of the so-many-th: what that answers goes up instead, and nothing ends the line."""
+
+    def __init__(self, port, at=None, then=None, path=None):
+        self.to, self.at, self.then, self.requests, self.up = port, at, then, 0, 0
+        if path:
+            self.listener = socket.socket(socket.AF_UNIX)
+            self.listener.bind(str(path))
+            self.listener.listen()
+        else:
+            self.listener = socket.create_server((HOST, 0))
+            self.url = f"http://{HOST}:{self.listener.getsockname()[1]}"
+        threading.Thread(target=self.accept, daemon=True).start()
+
+    def accept(self):
+        while True:
+            try:
+                near = self.listener.accept()[0]
+            except OSError:
+                return
+            far = socket.create_connection((HOST, self.to))
+            threading.Thread(target=self.carry, args=(near, far, self.watched), daemon=True).start()
+            threading.Thread(target=self.carry, args=(far, near, lambda it: it), daemon=True).start()
+
+    def watched(self, piece):
+        """A client asks one thing after the other, so a piece has at most one head."""
+        self.up += len(piece)
+        if re.search(rb"(GET|POST|PUT|DELETE) \S+ HTTP/1.1\r\n", piece):
+            self.requests += 1
+            if self.requests == self.at:
+                return self.then(piece)
+        return piece
+
+    @staticmethod
+    def carry(source, sink, watched):
+        try:
+            while (piece := source.recv(65536)) and (piece := watched(piece)):
+                sink.sendall(piece)
+        except OSError:
+            pass
+        for it in (source, sink):
+            try:
+                it.shutdown(socket.SHUT_RDWR)
+            except OSError:
+                pass
+            it.close()
+
+    def end(self):
+        """Nobody is taken any more. (Closed alone, the one that is waited for would still be taken.)"""
+        self.listener.shutdown(socket.SHUT_RDWR)
+        self.listener.close()
+
+
+class Proxy:
+    """HAProxy as docs/operating has it, with TLS, a login and the table of devices, before a room's desk."""
+
+    def __init__(self, room):
+        needs("haproxy", "openssl")
+        folder, self.port, self.near, self.socket = room.folder, free_port(), free_port(), room.folder / "admin.sock"
+        certificate(folder)
+        (folder / "server.pem").write_bytes((folder / "server.crt").read_bytes() + (folder / "server.key").read_bytes())
+        places = {"bind :8443": f"bind {HOST}:{self.port}", "/etc/fwdesk/server.pem": f"{folder}/server.pem"}
+        places |= {f"{HOST}:8081": f"{HOST}:{self.near}", f"{HOST}:8405": f"{HOST}:{free_port()}"}
+        places |= {f"{HOST}:8080": f"{HOST}:{room.port}", "/usr/share/fwdesk/page": f"{ROOT}/page"}
+        places["@PASSWORD@"] = devices.packages.said(["openssl", "passwd", "-6", PASSWORD]).strip()
+        text = (OPERATING / "haproxy.cfg").read_text().replace("/run/haproxy/", f"{folder}/")
+        (folder / "haproxy.cfg").write_text(devices.with_places(text, places))
+        words = [devices.packages.found("haproxy"), "-db", "-f", str(folder / "haproxy.cfg")]
+        child = room.processes.start("haproxy", words)
+        eventually("HAProxy", lambda: listens(self.port), child=child)
+
+    @property
+    def url(self):
+        return f"https://localhost:{self.port}"
+
+
+def certificate(folder):
+    made = "openssl req -x509 -newkey ec -pkeyopt ec_paramgen_curve:prime256v1 -nodes -days 2 -subj /CN=localhost"
+    files = ["-keyout", f"{folder}/server.key", "-out", f"{folder}/server.crt"]
+    devices.packages.said([*made.split(), "-addext", "subjectAltName=DNS:localhost", *files])
+
+
+class Adapter:
+    """nginx with the adapter of hawkBit's clients, before a room's desk, and a device that asks it."""
+
+    def __init__(self, room):
+        needs("nginx", "openssl")
+        self.room, self.folder, self.port = room, room.folder, free_port()
+        (self.folder / "firmware").mkdir()
+        (self.folder / "etc").mkdir()
+        self.conf = self.folder / "etc/sha1.conf"
+        self.conf.touch()
+        certificate(self.folder)
+        places = {"listen 8444 ssl": f"listen {HOST}:{self.port} ssl", f"{HOST}:8080": f"{HOST}:{room.port}"}
+        places |= {"/srv/firmware": f"{self.folder}/firmware"}
+        text = (OPERATING / "hawkbit-clients.conf").read_text().replace("/etc/fwdesk/sha1.conf", str(self.conf))
+        places["/etc/fwdesk/"] = f"{self.folder}/"
+        (self.folder / "adapter.conf").write_text(devices.with_places(text, places))
+        kinds = ("client_body", "proxy", "fastcgi", "uwsgi", "scgi")
+        own = "".join(f"{it}_temp_path {self.folder}/{it};" for it in kinds)
+        user = "user root;" if os.geteuid() == 0 else ""
+        within = f"access_log off; {own} include {self.folder}/adapter.conf;"
+        frame = f"{user} daemon off; worker_processes 2;\npid {self.folder}/nginx.pid;\nevents {{}}\n"
+        (self.folder / "nginx.conf").write_text(f"{frame}http {{ {within} }}\n")
+        words = [devices.packages.found("nginx"), "-p", str(self.folder), "-c", str(self.folder / "nginx.conf")]
+        words += ["-e", "stderr"]
+        self.nginx = room.processes.start("nginx", words)
+        eventually("nginx", lambda: listens(self.port), child=self.nginx)
+        self.places = ["--conf", self.conf, "--firmware", self.folder / "firmware", "--nginx", " ".join(words)]
+
+    def get(self, path, name):
+        """What a device gets, as a status and the bytes."""
+        client = http.client.HTTPSConnection(HOST, self.port, timeout=60, context=ssl._create_unverified_context())
+        client.request("GET", path, headers={"Authorization": f"TargetToken tok-{name}"})
+        reply = client.getresponse()
+        got = reply.status, reply.read()
+        client.close()
+        return got
+
+    def lines(self):
+        return [it for it in self.conf.read_text().splitlines() if it.startswith("sub_filter ")]
