@@ -202,7 +202,19 @@ fn find_version<S: Alter>(alloc: Global, calls: &mut Calls<S>) -> Result<Version
     let seen = see_version(alloc, calls);
     match run(calls, ROLLBACK, &[]) {
         Ok(()) => seen,
-        Err(fault) => Err(open_fault(fault)),
+        Err(fault) => Err(first_fault(seen, fault)),
+    }
+}
+
+/// The fault that is told where what was seen can't be rolled back. Want of memory comes first: a statement that it ends may have rolled
+/// back by itself, and then ROLLBACK finds no transaction.
+fn first_fault(seen: Result<Version, OpenFault>, fault: Fault) -> OpenFault
+    ensures failed { IsFailure result }
+    ensures store { result ≡ OpenFault.Store → fault ≡ Fault.Store }
+{
+    match seen {
+        Err(OpenFault::Memory) => OpenFault::Memory,
+        _ => open_fault(fault),
     }
 }
 

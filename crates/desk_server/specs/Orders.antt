@@ -54,8 +54,14 @@ rollout_rule = record (new_rule (codes "rollout")) { long = Some (codes "rollout
 abbrev pub report_app : App
 report_app = with_rule (with_rule (new_app (codes "report")) db_rule) rollout_rule
 
+-- the program itself, which has a version to tell
+abbrev pub named_app : App
+named_app =
+    let app = new_app (codes "fwdesk") in
+    record app { top = record (app.top) { has_version = true } }
+
 abbrev pub serving_app : App
-serving_app = with_subcommand (with_subcommand (new_app (codes "fwdesk")) run_app.top) serve_app.top
+serving_app = with_subcommand (with_subcommand named_app run_app.top) serve_app.top
 
 abbrev pub asking_app : App
 asking_app = with_subcommand (with_subcommand serving_app import_app.top) report_app.top

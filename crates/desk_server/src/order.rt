@@ -17,6 +17,9 @@ use std::alloc::{AllocError, Global};
 use std::convert::AsStr;
 use stream_server::Interface;
 
+/// What `--version` tells: as the file VERSION has it.
+const VERSION: &str = "1.0.0~pre";
+
 /// Which desk an order serves, and to whom.
 #[derive(Clone, Copy)]
 pub struct Setup<'a> {
@@ -234,7 +237,8 @@ fn serving<'a>(alloc: Global) -> Result<Command<'a>, AllocError>
 {
     let run = run(alloc)?;
     let serve = serve(alloc)?;
-    let with_run = Command::new(alloc, "fwdesk").subcommand(run)?;
+    let named = Command::new(alloc, "fwdesk").version(VERSION);
+    let with_run = named.subcommand(run)?;
     with_run.subcommand(serve)
 }
 
