@@ -11,11 +11,16 @@ import socket
 import sqlite3
 import statistics
 import subprocess
+import sys
 import tempfile
 import time
 from dataclasses import dataclass
+from pathlib import Path
 
 import desk
+
+sys.path.append(str(Path(__file__).resolve().parent.parent / "tools"))
+from servers import HOST, free_port
 
 DONE = desk.reply("200 OK", "{}")
 WARM = 200  # polls before the clock runs
@@ -226,19 +231,12 @@ def connected(port):
     """A connection to the port, once something listens there."""
     for _ in range(6000):
         try:
-            made = socket.create_connection(("127.0.0.1", port))
+            made = socket.create_connection((HOST, port))
             made.setsockopt(socket.IPPROTO_TCP, socket.TCP_NODELAY, 1)
             return made
         except ConnectionRefusedError:
             time.sleep(0.01)
     raise SystemExit("nobody listens")
-
-
-def free_port():
-    """A port that nobody listens to."""
-    with socket.socket() as probe:
-        probe.bind(("127.0.0.1", 0))
-        return probe.getsockname()[1]
 
 
 # ---- fleets

@@ -5,8 +5,6 @@ the script itself, which moves into that Debian's network."""
 import base64
 import ctypes
 import http.client
-import importlib.machinery
-import importlib.util
 import json
 import multiprocessing
 import os
@@ -20,6 +18,8 @@ from pathlib import Path
 
 ROOT = Path(__file__).resolve().parent.parent
 sys.path.insert(0, str(ROOT / "tools"))
+from as_module import as_module
+
 CLONE_NEWNET = 0x40000000
 WITHIN = "systemd,systemd-sysv,dbus,curl,jq,sqlite3,haproxy,nginx-light,python3,openssl,procps"
 EXAMPLES = "/usr/share/doc/fwdesk/examples"
@@ -31,16 +31,8 @@ BASE = "/DEFAULT/controller/v1"
 PATIENCE = 120
 
 
-def tool(name):
-    """A tool as a module, though its name has no ending."""
-    loader = importlib.machinery.SourceFileLoader(f"tool_{name}", str(ROOT / "tools" / name))
-    made = importlib.util.module_from_spec(importlib.util.spec_from_loader(loader.name, loader))
-    loader.exec_module(made)
-    return made
-
-
-package = tool("package")
-herd = tool("herd")
+package = as_module(ROOT / "tools/package")
+herd = as_module(ROOT / "tools/herd")
 
 
 def fleet(number):

@@ -6,7 +6,8 @@ import re
 import sys
 import time
 
-from room import HOST, OPERATING, PASSWORD, ROOT, Proxy, Relay, devices, needs
+import packages
+from room import HOST, OPERATING, PASSWORD, ROOT, Proxy, Relay, needs
 
 
 def makes_tokens(room):
@@ -130,7 +131,7 @@ def tells_metrics(room):
     for it in ("a", "b"):
         room.ask("POST", f"/rest/v1/softwaremodules/{module['id']}/artifacts?filename={it}", it)
     script = str(OPERATING / "fwdesk-metrics")
-    text = devices.packages.said([script, f"{room.url}/"]).splitlines()
+    text = packages.said([script, f"{room.url}/"]).splitlines()
     used = {"modules": 4, "artifacts": 5, "sets": 3, "targets": 4, "rollouts": 3}
     used |= {"module_artifacts": 2, "rollout_groups": 3}
     limits = {"modules": 1000, "artifacts": 256, "sets": 1000, "targets": 10000, "rollouts": 1000}
@@ -145,9 +146,9 @@ def tells_metrics(room):
     assert of_groups == {str(going)}, of_groups
     room.processes.end(room.server)
     try:
-        told = devices.packages.said([script, room.url])
+        told = packages.said([script, room.url])
         raise AssertionError(f"nobody answers, and it is well: {told}")
-    except devices.packages.Missing as told:
+    except packages.Missing as told:
         assert "fwdesk_" not in str(told), told
 
 
@@ -169,7 +170,7 @@ def is_told(room):
         words = f"COMP_WORDS=(fwdesk-ctl {line}); COMP_CWORD={len(line.split())}"
         script = f"source {file}; {words}; _fwdesk_ctl; echo ${{COMPREPLY[*]}}"
         own = {**os.environ, "PATH": f"{OPERATING}:{os.environ['PATH']}"}
-        assert (said := devices.packages.said(["bash", "-c", script], env=own).strip()) == wanted, f"{line}: {said}"
+        assert (said := packages.said(["bash", "-c", script], env=own).strip()) == wanted, f"{line}: {said}"
     for line in ((), ("dance",), ("wait",), ("wait", "x")):
         room.refuses(2, "usage: fwdesk-ctl", *line)
     assert all(it in room.gives("--help") for it in verbs.VERBS)

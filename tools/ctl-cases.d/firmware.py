@@ -5,7 +5,8 @@ import signal
 import subprocess
 import sys
 
-from room import OPERATING, Adapter, devices
+import packages
+from room import OPERATING, Adapter
 
 BASE = "/DEFAULT/controller/v1"
 LARGEST = 4_194_304
@@ -90,7 +91,7 @@ def adds_firmware(room):
         installs(adapter, device(room, number), name)
         assert room.gives(*words) == str(number), "the same again, of a locked module"
     assert room.get("softwaremodules/2/artifacts/2")["size"] == 65
-    made = devices.packages.said([str(OPERATING / "sha1-lines"), str(file)]).strip()
+    made = packages.said([str(OPERATING / "sha1-lines"), str(file)]).strip()
     assert made in adapter.lines(), "sha1-lines makes another line"
 
 

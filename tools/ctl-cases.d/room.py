@@ -1,7 +1,5 @@
 """Where tools/ctl-cases plays: the program, its fleet, a line that is cut or watched, and the proxies."""
 import http.client
-import importlib.machinery
-import importlib.util
 import json
 import os
 import re
@@ -14,21 +12,12 @@ from pathlib import Path
 
 sys.dont_write_bytecode = True
 ROOT = Path(__file__).resolve().parent.parent.parent
+sys.path.insert(0, str(ROOT / "tools/devices.d"))
+import packages
+from servers import HOST, Processes, eventually, free_port, listens, with_places
+
 OPERATING = ROOT / "docs/operating"
-HOST = "127.0.0.1"
 PASSWORD = "a secret of anna's"
-
-
-def module_of(path):
-    """A script as a module."""
-    loader = importlib.machinery.SourceFileLoader(path.name, str(path))
-    found = importlib.util.module_from_spec(importlib.util.spec_from_loader(path.name, loader))
-    loader.exec_module(found)
-    return found
-
-
-devices = module_of(ROOT / "tools/devices")
-eventually, free_port, listens = devices.eventually, devices.free_port, devices.listens
 
 
 class Left(Exception):
@@ -37,7 +26,7 @@ class Left(Exception):
 
 def needs(*programs):
     """Where Debian has them in a folder that is root's, too."""
-    if missing := [it for it in programs if not devices.packages.found(it)]:
+    if missing := [it for it in programs if not packages.found(it)]:
         raise Left(f"there is no {', '.join(missing)}")
 
 
@@ -50,7 +39,7 @@ class Room:
 
     def __init__(self, program, folder, *more):
         self.program, self.folder, self.more, self.port = program, Path(folder), more, free_port()
-        self.processes = devices.Processes(self.folder)
+        self.processes = Processes(self.folder)
         self.environment = {"PATH": f"{os.environ['PATH']}:/usr/sbin", "HOME": folder, "LC_ALL": "C.UTF-8"}
 
     def serve(self):
@@ -231,10 +220,10 @@ class Proxy:
         places = {"bind :8443": f"bind {HOST}:{self.port}", "/etc/fwdesk/server.pem": f"{folder}/server.pem"}
         places |= {f"{HOST}:8081": f"{HOST}:{self.near}", f"{HOST}:8405": f"{HOST}:{free_port()}"}
         places |= {f"{HOST}:8080": f"{HOST}:{room.port}", "/usr/share/fwdesk/page": f"{ROOT}/page"}
-        places["@PASSWORD@"] = devices.packages.said(["openssl", "passwd", "-6", PASSWORD]).strip()
+        places["@PASSWORD@"] = packages.said(["openssl", "passwd", "-6", PASSWORD]).strip()
         text = (OPERATING / "haproxy.cfg").read_text().replace("/run/haproxy/", f"{folder}/")
-        (folder / "haproxy.cfg").write_text(devices.with_places(text, places))
-        words = [devices.packages.found("haproxy"), "-db", "-f", str(folder / "haproxy.cfg")]
+        (folder / "haproxy.cfg").write_text(with_places(text, places))
+        words = [packages.found("haproxy"), "-db", "-f", str(folder / "haproxy.cfg")]
         child = room.processes.start("haproxy", words)
         eventually("HAProxy", lambda: listens(self.port), child=child)
 
@@ -246,7 +235,7 @@ class Proxy:
 def certificate(folder):
     made = "openssl req -x509 -newkey ec -pkeyopt ec_paramgen_curve:prime256v1 -nodes -days 2 -subj /CN=localhost"
     files = ["-keyout", f"{folder}/server.key", "-out", f"{folder}/server.crt"]
-    devices.packages.said([*made.split(), "-addext", "subjectAltName=DNS:localhost", *files])
+    packages.said([*made.split(), "-addext", "subjectAltName=DNS:localhost", *files])
 
 
 class Adapter:
@@ -264,14 +253,14 @@ class Adapter:
         places |= {"/srv/firmware": f"{self.folder}/firmware"}
         text = (OPERATING / "hawkbit-clients.conf").read_text().replace("/etc/fwdesk/sha1.conf", str(self.conf))
         places["/etc/fwdesk/"] = f"{self.folder}/"
-        (self.folder / "adapter.conf").write_text(devices.with_places(text, places))
+        (self.folder / "adapter.conf").write_text(with_places(text, places))
         kinds = ("client_body", "proxy", "fastcgi", "uwsgi", "scgi")
         own = "".join(f"{it}_temp_path {self.folder}/{it};" for it in kinds)
         user = "user root;" if os.geteuid() == 0 else ""
         within = f"access_log off; {own} include {self.folder}/adapter.conf;"
         frame = f"{user} daemon off; worker_processes 2;\npid {self.folder}/nginx.pid;\nevents {{}}\n"
         (self.folder / "nginx.conf").write_text(f"{frame}http {{ {within} }}\n")
-        words = [devices.packages.found("nginx"), "-p", str(self.folder), "-c", str(self.folder / "nginx.conf")]
+        words = [packages.found("nginx"), "-p", str(self.folder), "-c", str(self.folder / "nginx.conf")]
         words += ["-e", "stderr"]
         self.nginx = room.processes.start("nginx", words)
         eventually("nginx", lambda: listens(self.port), child=self.nginx)

@@ -8,7 +8,8 @@ import signal
 import subprocess
 import time
 
-from processes import HOST, PATIENCE, PICTURES, ended, free_port, listens, members
+from processes import PATIENCE, PICTURES, ended, listens, members
+from servers import HOST, free_port
 
 
 class Browser:

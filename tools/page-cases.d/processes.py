@@ -1,21 +1,16 @@
-"""What the parts of page-cases share: the place of things, free ports, children that end. Not run by itself."""
+"""What the parts of page-cases share: the place of things, children that end. Not run by itself."""
 import contextlib
 import socket
 import subprocess
 import time
 from pathlib import Path
 
+from servers import HOST
+
 ROOT = Path(__file__).resolve().parent.parent.parent
 PICTURES = ROOT / "docs/pictures"
-HOST = "127.0.0.1"
 LOGIN = ("anna", "to-test-the-page")
 PATIENCE = 40
-
-
-def free_port():
-    with socket.socket() as it:
-        it.bind((HOST, 0))
-        return it.getsockname()[1]
 
 
 def listens(port, child):

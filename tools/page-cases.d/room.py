@@ -9,7 +9,8 @@ import ssl
 import subprocess
 from pathlib import Path
 
-from processes import HOST, LOGIN, PATIENCE, ROOT, ended, free_port, listens
+from processes import LOGIN, PATIENCE, ROOT, ended, listens
+from servers import HOST, free_port
 
 # what the configuration of many fleets has, for two of them that are one desk
 FLEETS = {r"(?m)^    http-request redirect location /page/": """

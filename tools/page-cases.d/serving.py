@@ -1,7 +1,8 @@
 """The files behind the proxies and their logins. For page-cases, and not run by itself."""
 import base64
 
-from processes import HOST, LOGIN, ROOT
+from processes import LOGIN, ROOT
+from servers import HOST
 from steps import case, compared, confirmed, entered
 
 SECURITY = {
