@@ -118,7 +118,8 @@ class Node:
 
 class Rack:
     def __init__(self, root, room, fleets, names=("n1", "n2")):
-        said("ip", "link", "add", "br0", "type", "bridge")
+        # an address of its own: else it has a node's, and another one when that node goes, so that nobody finds the switch for a while
+        said("ip", "link", "add", "br0", "address", "02:00:00:00:00:fe", "type", "bridge")
         said("ip", "addr", "add", f"{HUB}/24", "dev", "br0")
         said("ip", "link", "set", "br0", "up")
         self.nodes = {it: Node(it, root, room, fleets) for it in names}
