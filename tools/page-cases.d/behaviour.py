@@ -136,9 +136,12 @@ VIEWS = (
     ("#/targets?q=name%3D%3D*7*", "Fleet", 2),
     ("#/rollouts/new?like=1", "New rollout, like first", 1),
 )
+# (the observer of an earlier look would go on, and tell that look's time)
 WATCH = """window.seen = null; const began = performance.now(); const [address, title] = arguments;
-const look = () => { if (document.querySelector('h1')?.innerText === title && location.hash === address) window.seen ??= performance.now() - began; };
-new MutationObserver(look).observe(document.getElementById('main'), {subtree: true, childList: true, characterData: true}); location.hash = address;"""
+const eye = new MutationObserver(() => {
+  if (document.querySelector('h1')?.innerText === title && location.hash === address) { window.seen = performance.now() - began; eye.disconnect(); }
+});
+eye.observe(document.getElementById('main'), {subtree: true, childList: true, characterData: true}); location.hash = address;"""
 
 
 def seconds_to(browser, address, title):
