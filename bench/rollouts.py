@@ -244,7 +244,8 @@ def connected(port):
 
 @dataclass(frozen=True)
 class Fleet:
-    """So many targets, and rollouts of all of them, the first group of each started: the first rollout is of two groups where nothing is said, the others of fifty."""
+    """So many targets, and rollouts of all of them, the first group of each started: the first rollout is of two groups where nothing is
+    said, the others of fifty."""
 
     name: str
     targets: int
@@ -312,7 +313,8 @@ BOUNDS = {
 
 @dataclass(frozen=True)
 class Spread:
-    """The largest of these figures of the program over the smallest has to be under the limit; each is the least of its turns, since a disk's syncs come in bursts."""
+    """The largest of these figures of the program over the smallest has to be under the limit; each is the least of its turns, since a
+    disk's syncs come in bursts."""
 
     what: str
     rows: tuple

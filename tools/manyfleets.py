@@ -95,7 +95,8 @@ class Machine(package.Debian):
         self.gives("dpkg -i /tmp/fwdesk.deb && systemctl disable -q --now fwdesk")
         self.gives(
             "cd /etc/fwdesk 2>/dev/null || { mkdir -p /etc/fwdesk && cd /etc/fwdesk; }; "
-            "openssl req -x509 -newkey ec -pkeyopt ec_paramgen_curve:prime256v1 -nodes -subj /CN=desk.example -addext subjectAltName=DNS:localhost,IP:127.0.0.1 -keyout server.key -out server.crt 2>&1 && "
+            "openssl req -x509 -newkey ec -pkeyopt ec_paramgen_curve:prime256v1 -nodes -subj /CN=desk.example "
+            "-addext subjectAltName=DNS:localhost,IP:127.0.0.1 -keyout server.key -out server.crt 2>&1 && "
             f"cat server.crt server.key > server.pem && cp {EXAMPLES}/fleets/*.cfg /etc/haproxy/"
         )
         # passwords in plain words here, so that thousands of logins are asked in seconds

@@ -127,7 +127,8 @@ def behind_the_first_group(browser, room):
         confirmed(browser, "[data-command=triggerNextGroup]")
         time.sleep(0.5)
     entered(browser, room, "#/rollouts/1")
-    confirmed(browser, "[data-command=triggerNextGroup]", "6 of 6 have a newer action open, os 2-good of rollout 2 (second): they are handed this one before it.")
+    words = "6 of 6 have a newer action open, os 2-good of rollout 2 (second): they are handed this one before it."
+    confirmed(browser, "[data-command=triggerNextGroup]", words)
 
 
 # presses the button that stops a job, once it has done more than twenty

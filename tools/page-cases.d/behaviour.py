@@ -5,7 +5,7 @@ from processes import LOGIN, ended
 from steps import case, compared, confirmed, entered
 
 # the roles of what is worked with or looked at: each has to have a name
-NAMED = {"button", "link", "textbox", "searchbox", "spinbutton", "combobox", "checkbox", "image", "img", "dialog", "progressbar", "DisclosureTriangle", "region"}
+NAMED = set("button link textbox searchbox spinbutton combobox checkbox image img dialog progressbar DisclosureTriangle region".split())
 
 
 @case()
@@ -17,7 +17,8 @@ def hostile_names(browser, room):
     token = {"Authorization": "TargetToken tok-dev-00001"}
     assert room.ask("PUT", "/DEFAULT/controller/v1/dev-00001/configData", {"data": {"os": f"{bad}'\"&amp;"}}, token)[0] == 200
     room.report(1, "failure", [f"{bad}<b>bold</b>", "javascript:window.hit=1"])
-    for place in ("#/rollouts", "#/rollouts/1", "#/rollouts/1/groups/1", "#/targets", "#/targets/dev-00001", "#/targets/dev-00001/actions/1", "#/rollouts/9", "#/targets/%3Cimg%3E"):
+    device = "#/targets/dev-00001"
+    for place in ("#/rollouts", "#/rollouts/1", "#/rollouts/1/groups/1", "#/targets", device, f"{device}/actions/1", "#/rollouts/9", "#/targets/%3Cimg%3E"):
         entered(browser, room, place)
         assert browser.js("return window.hit === undefined && !document.querySelector('main img, main script, main b')"), place
     entered(browser, room, "#/rollouts/1")
@@ -28,7 +29,10 @@ def hostile_names(browser, room):
     assert browser.texts(".details li") == [f"{bad}<b>bold</b>", "javascript:window.hit=1"]
 
 
-PLACES = ("#/rollouts", "#/rollouts/new", "#/rollouts/new?like=2", "#/rollouts/1", "#/rollouts/1/groups/1", "#/targets", "#/targets/dev-00001", "#/targets/dev-00001/actions/1", "#/firmware", "#/firmware/modules/2")
+PLACES = (
+    *("#/rollouts", "#/rollouts/new", "#/rollouts/new?like=2", "#/rollouts/1", "#/rollouts/1/groups/1"),
+    *("#/targets", "#/targets/dev-00001", "#/targets/dev-00001/actions/1", "#/firmware", "#/firmware/modules/2"),
+)
 
 
 @case()
@@ -211,7 +215,8 @@ def a_failed_store(browser, room):
     before = browser.text("#asked")
     room.server = room.serve()
     browser.js("document.dispatchEvent(new Event('visibilitychange'))")
-    browser.until("document.querySelector('#asked').innerText.startsWith('as of') && document.querySelector('#asked').innerText !== arguments[0]", before, seconds=60)
+    told = "document.querySelector('#asked').innerText"
+    browser.until(f"{told}.startsWith('as of') && {told} !== arguments[0]", before, seconds=60)
     assert browser.js("return !!document.querySelector('#banner [data-key=store]')"), "the banner doesn't stay"
     browser.click("#banner button")
     browser.until("!document.querySelector('#banner .notice')")

@@ -31,7 +31,8 @@ def a_rollout_that_pauses_by_itself(browser, room):
     assert browser.js("return document.activeElement.dataset.command") == "pause", "a new drawing takes the focus away"
     room.report(6, "failure")
     browser.until("document.querySelector('main .cause')")
-    assert browser.text("main .cause") == "Paused: the errors of group 2 (2 of 4 failed, 50 %) reached the error threshold of 50 %.", browser.text("main .cause")
+    cause = browser.text("main .cause")
+    assert cause == "Paused: the errors of group 2 (2 of 4 failed, 50 %) reached the error threshold of 50 %.", cause
     assert commands(browser) == ["resume"]
     compared(browser, room)
     assert len(browser.js("return [...document.querySelectorAll('.group .mark')]")) == 6
@@ -143,11 +144,13 @@ def filters_that_are_refused(browser, room):
     """The server refuses them, and the page shows where each goes wrong."""
     room.fleet(3)
     entered(browser, room, "#/rollouts/new")
-    places = {"tag=a": 4, "tag==": 5, "tag==a;": 7, "(tag==a))": 8, 'name=="a': 8, "(tag==a": 7, "tagx==a": 3, "attribute.==a": 10, "name== a": 6, "colour==red": 2}
+    places = {"tag=a": 4, "tag==": 5, "tag==a;": 7, "(tag==a))": 8, 'name=="a': 8}
+    places |= {"(tag==a": 7, "tagx==a": 3, "attribute.==a": 10, "name== a": 6, "colour==red": 2}
     for text, at in places.items():
         browser.type("#rollout-filter", text)
-        browser.until("document.querySelector('#rollout-filter-told [data-at]')?.dataset.at === arguments[0] && arguments[1] === document.querySelector('.told code').innerText.replace('␣', '')",
-                      str(at), text)
+        marked = "document.querySelector('#rollout-filter-told [data-at]')?.dataset.at === arguments[0]"
+        shown = "arguments[1] === document.querySelector('.told code').innerText.replace('␣', '')"
+        browser.until(f"{marked} && {shown}", str(at), text)
         assert "number 11" in browser.text("#rollout-filter-told")
         assert browser.text("#rollout-filter-told mark").replace("␣", "") == text[at:], text
     for text, total in {"name==*": 3, 'controllerid==dev-00001,name=="Device 2"': 2, "((tag==none))": 0}.items():

@@ -96,7 +96,8 @@ class Room:
             r"syslog:server=unix:/dev/log,nohostname": f"{self.folder}/audit",
         })
         paths = "".join(f"{it}_temp_path {self.folder}/{it};" for it in ("client_body", "proxy", "fastcgi", "uwsgi", "scgi"))
-        whole = f"daemon off; user root; pid {self.folder}/pid; error_log stderr; events {{}} http {{ access_log off; {paths} include /etc/nginx/mime.types; include {part}; }}"
+        http = f"access_log off; {paths} include /etc/nginx/mime.types; include {part};"
+        whole = f"daemon off; user root; pid {self.folder}/pid; error_log stderr; events {{}} http {{ {http} }}"
         (self.folder / "whole.conf").write_text(whole)
         return ["nginx", "-e", "stderr", "-c", self.folder / "whole.conf"]
 

@@ -25,8 +25,9 @@ def entered(browser, room, place=""):
 
 def shown_counts(browser, selector):
     """The numbers that the page shows, by their parts."""
-    return {it["part"]: it["count"] for it in browser.js(
-        "return [...document.querySelectorAll(arguments[0] + ' [data-count]')].map((it) => ({part: it.dataset.count, count: Number(it.innerText.replace(/\\D/g, ''))}))", selector)}
+    of_part = "({part: it.dataset.count, count: Number(it.innerText.replace(/\\D/g, ''))})"
+    parts = browser.js(f"return [...document.querySelectorAll(arguments[0] + ' [data-count]')].map((it) => {of_part})", selector)
+    return {it["part"]: it["count"] for it in parts}
 
 
 def compared(browser, room, rollout=1):

@@ -10,11 +10,15 @@ from steps import case, confirmed, entered
 def an_import_with_a_wrong_line(browser, room):
     entered(browser, room, "#/targets")
     browser.open("details:has(#import-file)")
-    for name, text, line, shown in (("wrong.csv", "dev-1,Lab,tok-dev-1,lab\ndev 2,Lab,tok-dev-2,lab\n", 3, "dev 2,Lab,tok-dev-2,lab"), ("quoted.csv", 'dev-1,"a, b",tok-dev-1,\ndev-2,,tok-dev-2,\n', 3, "dev-2,,tok-dev-2,")):
+    wrong = "wrong.csv", "dev-1,Lab,tok-dev-1,lab\ndev 2,Lab,tok-dev-2,lab\n", 3, "dev 2,Lab,tok-dev-2,lab"
+    quoted = "quoted.csv", 'dev-1,"a, b",tok-dev-1,\ndev-2,,tok-dev-2,\n', 3, "dev-2,,tok-dev-2,"
+    for name, text, line, shown in (wrong, quoted):
         (room.folder / name).write_text(f"controllerid,name,token,tags\n{text}")
         browser.type("#import-file", str(room.folder / name))
         browser.click("details:has(#import-file) button")
-        browser.until("document.querySelector('#import-told [data-line]')?.dataset.line === arguments[0] && document.querySelector('#import-told mark').innerText === arguments[1]", str(line), shown)
+        is_line = "document.querySelector('#import-told [data-line]')?.dataset.line === arguments[0]"
+        is_shown = "document.querySelector('#import-told mark').innerText === arguments[1]"
+        browser.until(f"{is_line} && {is_shown}", str(line), shown)
         assert "Refused, number 14" in browser.text("#import-told")
     assert room.api("GET", "/rest/v1/targets")["total"] == 0
     (room.folder / "right.csv").write_text("controllerid,name,token,tags\n" + "".join(f"dev-{k},Lab {k},tok-dev-{k},lab north\n" for k in range(60)))
@@ -154,8 +158,10 @@ def an_upload(browser, room):
     browser.click("tbody a")
     data = os.urandom(700_000)
     (room.folder / "image.bin").write_bytes(data)
-    browser.js("const send = XMLHttpRequest.prototype.open; XMLHttpRequest.prototype.open = function (...words) { window.sent = words[1]; return send.apply(this, words); };"
-               "window.seen = 0; new MutationObserver(() => { window.seen = Math.max(window.seen, document.querySelector('progress')?.value ?? 0); }).observe(document.body, {subtree: true, childList: true, characterData: true});")
+    browser.js("const send = XMLHttpRequest.prototype.open;"
+               "XMLHttpRequest.prototype.open = function (...words) { window.sent = words[1]; return send.apply(this, words); };"
+               "const look = () => { window.seen = Math.max(window.seen, document.querySelector('progress')?.value ?? 0); };"
+               "window.seen = 0; new MutationObserver(look).observe(document.body, {subtree: true, childList: true, characterData: true});")
     browser.type("#upload-file", str(room.folder / "image.bin"))
     browser.click("#upload button")
     digest = hashlib.sha256(data).hexdigest()
