@@ -25,7 +25,8 @@ const WORDS = {
 export class Refusal extends Error {
   constructor(status, told) {
     const number = told?.number ?? 0;
-    super(number ? WORDS[number] ?? told.error : status ? WORDS[{401: 2, 413: 9}[status]] ?? `the proxy answers ${status}` : "the server can't be reached");
+    const ofProxy = () => told?.why ?? WORDS[{401: 2, 413: 9}[status]] ?? `the proxy answers ${status}`;
+    super(number ? WORDS[number] ?? told.error : status ? ofProxy() : "the server can't be reached");
     Object.assign(this, {status, number, line: told?.line});
   }
 

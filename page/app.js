@@ -1,6 +1,7 @@
 // Leads from an address to what it shows, keeps that up to date, and says what went wrong.
 import {view as action} from "./action.js";
 import {events, gently, Refusal} from "./api.js";
+import {showBrake} from "./brake.js";
 import {h, settle} from "./drawing.js";
 import {view as firmware} from "./firmware.js";
 import {view as fleet} from "./fleet.js";
@@ -162,4 +163,5 @@ addEventListener("hashchange", () => {
   show(true);
 });
 showFleets(place("fleets"));
+showBrake(place("held"), page);
 show(false);

@@ -210,9 +210,10 @@ class Relay:
 
 
 class Proxy:
-    """HAProxy as docs/operating has it, with TLS, a login and the table of devices, before a room's desk."""
+    """HAProxy as docs/operating has it, with TLS, a login, the table of devices and the brake, before a room's desk.
+    `how` is what it is started with; by itself it is one process."""
 
-    def __init__(self, room):
+    def __init__(self, room, how=("-db",)):
         needs("haproxy", "openssl")
         folder, self.port, self.near, self.socket = room.folder, free_port(), free_port(), room.folder / "admin.sock"
         certificate(folder)
@@ -220,16 +221,32 @@ class Proxy:
         places = {"bind :8443": f"bind {HOST}:{self.port}", "/etc/fwdesk/server.pem": f"{folder}/server.pem"}
         places |= {f"{HOST}:8081": f"{HOST}:{self.near}", f"{HOST}:8405": f"{HOST}:{free_port()}"}
         places |= {f"{HOST}:8080": f"{HOST}:{room.port}", "/usr/share/fwdesk/page": f"{ROOT}/page"}
+        places |= {"/var/lib/fwdesk-brake/": f"{folder}/", "/run/fwdesk-brake.sock": f"{folder}/brake.sock"}
         places["@PASSWORD@"] = packages.said(["openssl", "passwd", "-6", PASSWORD]).strip()
+        (folder / "held.map").touch()
         text = (OPERATING / "haproxy.cfg").read_text().replace("/run/haproxy/", f"{folder}/")
         (folder / "haproxy.cfg").write_text(with_places(text, places))
-        words = [packages.found("haproxy"), "-db", "-f", str(folder / "haproxy.cfg")]
-        child = room.processes.start("haproxy", words)
-        eventually("HAProxy", lambda: listens(self.port), child=child)
+        self.words = [packages.found("haproxy"), *how, "-f", str(folder / "haproxy.cfg")]
+        self.child = room.processes.start("haproxy", self.words)
+        eventually("HAProxy", lambda: listens(self.port), child=self.child)
 
     @property
     def url(self):
         return f"https://localhost:{self.port}"
+
+    def brake(self, room, operating=OPERATING):
+        """fwdesk-brake behind its socket, as fwdesk-brake.socket has it; answers the environment that leads it here."""
+        needs("systemd-socket-activate")
+        own = {"FWDESK_BRAKE_FILE": f"{room.folder}/held.map"}
+        own["FWDESK_BRAKE_SOCKETS"] = f"{room.folder}/master.sock {room.folder}/admin.sock"
+        given = [word for key, value in own.items() for word in ("-E", f"{key}={value}")]
+        listener = [packages.found("systemd-socket-activate"), "--accept", "--inetd", "-l", f"{room.folder}/brake.sock", *given]
+        room.processes.start("brake", [*listener, str(operating / "fwdesk-brake"), "serve"])
+        eventually("the brake's socket", (room.folder / "brake.sock").exists)
+        # HAProxy's own user gets to it
+        (room.folder / "brake.sock").chmod(0o666)
+        room.folder.chmod(0o711)
+        return own
 
 
 def certificate(folder):

@@ -7,6 +7,7 @@ import re
 import resource
 import ssl
 import subprocess
+import time
 from pathlib import Path
 
 from processes import LOGIN, PATIENCE, ROOT, ended, listens
@@ -72,6 +73,7 @@ class Room:
 
     def haproxy(self):
         self.certificate()
+        (self.folder / "held.map").touch()
         return ["haproxy", "-db", "-f", self.configured("haproxy.cfg", {
             r"(?m)^ *(user|group) haproxy\n": "",
             r" user haproxy mode 600": "",
@@ -82,8 +84,21 @@ class Room:
             r"127\.0\.0\.1:8080": f"{HOST}:{self.behind}",
             r"@PASSWORD@": self.password(),
             r"/usr/share/fwdesk/page": f"{ROOT}/page",
+            r"/var/lib/fwdesk-brake/": f"{self.folder}/",
+            r"/run/fwdesk-brake\.sock": f"{self.folder}/brake.sock",
             **(FLEETS if self.fleets else {}),
         })]
+
+    def brake(self):
+        """fwdesk-brake behind its socket, as fwdesk-brake.socket has it."""
+        own = (f"FWDESK_BRAKE_FILE={self.folder}/held.map", f"FWDESK_BRAKE_SOCKETS={self.folder}/admin.sock")
+        given = [word for it in own for word in ("-E", it)]
+        words = ["systemd-socket-activate", "--accept", "--inetd", "-l", self.folder / "brake.sock", *given, self.order.operating / "fwdesk-brake", "serve"]
+        self.children.append(subprocess.Popen(list(map(str, words)), stderr=open(self.folder / "errors", "ab")))
+        until = time.monotonic() + PATIENCE
+        while not (self.folder / "brake.sock").exists():
+            assert time.monotonic() < until, "the brake's socket isn't there"
+            time.sleep(0.05)
 
     def nginx(self):
         self.certificate()

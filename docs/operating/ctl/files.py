@@ -33,11 +33,11 @@ def placed(path, pieces):
 
 
 @contextlib.contextmanager
-def alone(folder):
+def alone(folder, waits=False):
     """Nobody else changes what lies in a folder by these scripts meanwhile; a kill lets go of it."""
     held = os.open(folder, os.O_RDONLY)
     try:
-        fcntl.flock(held, fcntl.LOCK_EX | fcntl.LOCK_NB)
+        fcntl.flock(held, fcntl.LOCK_EX | (0 if waits else fcntl.LOCK_NB))
     except BlockingIOError:
         os.close(held)
         raise NotDone(f"another fwdesk-ctl is changing {folder}") from None

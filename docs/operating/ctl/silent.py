@@ -8,9 +8,9 @@ said too: where that is less than N hours ago it may have been there before. So 
 Prometheus, counts such a device only after N hours."""
 import json
 import re
-import socket
 import sys
 
+from ctl.haproxy import asked
 from ctl.words import Wrong
 
 KEPT = 24 * 24  # hours that the table keeps a device for
@@ -27,18 +27,6 @@ def options(parser):
         how.add_argument(it, action="store_true")
     parser.add_argument("--socket", metavar="FILE", default="/run/haproxy/admin.sock")
     parser.add_argument("--table", metavar="NAME", default="seen")
-
-
-def asked(path, line):
-    """What HAProxy answers to a line at its socket."""
-    try:
-        with socket.socket(socket.AF_UNIX) as it:
-            it.settimeout(30)
-            it.connect(path)
-            it.sendall(f"{line}\n".encode())
-            return b"".join(iter(lambda: it.recv(1 << 16), b"")).decode()
-    except OSError as error:
-        raise Wrong(f"HAProxy's socket {path}: {error.strerror or error}") from None
 
 
 def silences(order):

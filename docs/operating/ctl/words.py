@@ -31,6 +31,7 @@ OF_PROXY = {
     403: "the proxy doesn't let this user do that",
     413: "it is larger than the proxy lets by",
     429: "too many wrong logins came from here: try again in a moment",
+    500: "the brake isn't confirmed, though it may be written: order it again",
     502: "the proxy got no answer; what was asked may or may not be done",
     503: "the proxy doesn't reach the desk",
     504: "the proxy waited too long for the desk; what was asked may or may not be done",
