@@ -2,6 +2,7 @@
 import {view as action} from "./action.js";
 import {events, gently, Refusal} from "./api.js";
 import {showBrake} from "./brake.js";
+import {showComing} from "./coming.js";
 import {h, settle} from "./drawing.js";
 import {view as firmware} from "./firmware.js";
 import {view as fleet} from "./fleet.js";
@@ -164,4 +165,5 @@ addEventListener("hashchange", () => {
 });
 showFleets(place("fleets"));
 showBrake(place("held"), page);
+showComing(place("coming"));
 show(false);

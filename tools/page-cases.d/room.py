@@ -86,6 +86,7 @@ class Room:
             r"/usr/share/fwdesk/page": f"{ROOT}/page",
             r"/var/lib/fwdesk-brake/": f"{self.folder}/",
             r"/run/fwdesk-brake\.sock": f"{self.folder}/brake.sock",
+            r"/run/fwdesk-coming\.sock": f"{self.folder}/coming.sock",
             **(FLEETS if self.fleets else {}),
         })]
 

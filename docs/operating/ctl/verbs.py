@@ -15,6 +15,8 @@ VERBS = {
     "hold": ("hold", "lets no device be told of a deployment, from now on"),
     "release": ("hold", "ends that"),
     "held": ("hold", "lists what is held: who, since when, why"),
+    "at": ("at", "orders for later: start, pause, resume, trigger, hold or release at a time"),
+    "quiet": ("quiet", "hours of each day in which no device is handed firmware"),
     "wait": ("wait", "waits until a rollout ends, pauses or is denied"),
     "rollouts": ("rollouts", "lists rollouts by their states"),
     "cancel-open": ("cancel_open", "cancels what a rollout, or a group of it, has open"),
