@@ -40,7 +40,7 @@ class Room:
             raise
 
     def start(self, words, port, **how):
-        child = subprocess.Popen(list(map(str, words)), stdout=subprocess.DEVNULL, stderr=open(self.folder / "errors", "ab"), **how)
+        child = subprocess.Popen(list(map(str, words)), stdout=open(self.folder / "said", "ab"), stderr=open(self.folder / "errors", "ab"), **how)
         self.children.append(child)
         listens(port, child)
         return child
