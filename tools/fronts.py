@@ -1,8 +1,6 @@
 """The real proxies with the files of docs/operating/ before the program, for roles and certificates; not run by itself.
 
 They are the rooms of page-cases, and one more: the edge of many fleets, before the HAProxy that has the desks."""
-import importlib.machinery
-import importlib.util
 import subprocess
 import sys
 import time
@@ -10,21 +8,16 @@ from pathlib import Path
 from types import SimpleNamespace
 
 ROOT = Path(__file__).resolve().parent.parent
-sys.path.insert(0, str(ROOT / "tools/page-cases.d"))
+sys.path[:0] = [str(ROOT / "tools"), str(ROOT / "tools/page-cases.d")]
 
-from processes import HOST, PATIENCE, free_port
+import processes
+from as_module import as_module
 from room import Room
+from servers import HOST, PATIENCE, free_port
 
 FLEET = "acme"
-
-
-def as_module(path):
-    """A script as a module, though its name has no ending."""
-    loader = importlib.machinery.SourceFileLoader(path.name.replace("-", "_"), str(path))
-    made = importlib.util.module_from_spec(importlib.util.spec_from_loader(loader.name, loader))
-    sys.modules[loader.name] = made
-    loader.exec_module(made)
-    return made
+# a program that was compiled without its proofs takes a minute to listen on a busy machine
+processes.PATIENCE = 2 * PATIENCE
 
 
 class Edge(Room):
