@@ -21,13 +21,13 @@ const WORDS = {
   17: "the server's database failed before: the program has to be started anew",
 };
 
-/** What the server, or the proxy before it, doesn't do: its number (0 where it gave none), its words, and the line of an import. */
+/** What the server, or the proxy before it, doesn't do: its number (0 of the proxy), its words, and the line of an import. */
 export class Refusal extends Error {
   constructor(status, told) {
     const number = told?.number ?? 0;
-    const ofProxy = () => told?.why ?? WORDS[{401: 2, 413: 9}[status]] ?? `the proxy answers ${status}`;
-    super(number ? WORDS[number] ?? told.error : status ? ofProxy() : "the server can't be reached");
-    Object.assign(this, {status, number, line: told?.line});
+    const plain = told?.words ?? WORDS[{401: 2, 413: 9}[status]] ?? `the proxy answers ${status}`;
+    super(number ? WORDS[number] ?? told.error : status ? plain : "the server can't be reached");
+    Object.assign(this, {status, number, line: told?.line, isFault: !number && !told?.words});
   }
 
   /** The refusal as a sentence. */
@@ -67,7 +67,7 @@ function read(text) {
 /** The refusal that a reply is, told to all who listen. */
 function refused(status, text) {
   const refusal = new Refusal(status, read(text));
-  if (refusal.isStore || !refusal.number) {
+  if (refusal.isStore || refusal.isFault) {
     events.dispatchEvent(new CustomEvent("fault", {detail: refusal}));
   }
   return refusal;

@@ -7,6 +7,7 @@ import {h, settle} from "./drawing.js";
 import {view as firmware} from "./firmware.js";
 import {view as fleet} from "./fleet.js";
 import {showFleets} from "./fleets.js";
+import {introduce} from "./me.js";
 import {view as members} from "./members.js";
 import {view as module} from "./module.js";
 import {view as plan} from "./plan.js";
@@ -166,4 +167,4 @@ addEventListener("hashchange", () => {
 showFleets(place("fleets"));
 showBrake(place("held"), page);
 showComing(place("coming"));
-show(false);
+introduce(place("who")).then(() => show(false));

@@ -1,6 +1,7 @@
 // Cancels: of one action, and of what is open of a group, a rollout or a list. First the device is asked, then it can be forced.
 import {ask, beside, get} from "./api.js";
 import {h, many, number, sure} from "./drawing.js";
+import {ifSteers, may} from "./me.js";
 import {actionsOf, ROLLOUTS, titleOf} from "./records.js";
 import {job} from "./work.js";
 
@@ -56,13 +57,13 @@ export function cancelOpenButton({rollout, set, group = null}, page) {
     }
     page.refresh();
   });
-  return h("button", {"data-key": "cancel-open", id: "cancel-open", onclick: press}, "Cancel what is open");
+  return ifSteers(() => h("button", {"data-key": "cancel-open", id: "cancel-open", onclick: press}, "Cancel what is open"));
 }
 
-/** The button that cancels an action, where its state allows that. */
+/** The button that cancels an action, where its state and the login allow that. */
 export function cancelButton(action, page) {
   const {id, target, rollout} = action;
-  if (!isOpen(action)) {
+  if (!isOpen(action) || !may("steer")) {
     return null;
   }
   const forced = !isRunning(action);

@@ -2,6 +2,7 @@
 import {all, ask, page as pageOf} from "./api.js";
 import {adding, field, h, link, number, p, settle, sure, table, text, typed} from "./drawing.js";
 import {MODULES as MOST} from "./limits.js";
+import {ifSteers} from "./me.js";
 import {MODULES} from "./module.js";
 import {SETS, titleOf} from "./records.js";
 
@@ -96,10 +97,10 @@ export const view = {
     return [
       search,
       h("h2", {}, "Modules"),
-      page.kept("module", () => h("details", {class: "card"}, h("summary", {}, "Add a module"), moduleForm(page))),
+      ifSteers(() => page.kept("module", () => h("details", {class: "card"}, h("summary", {}, "Add a module"), moduleForm(page)))),
       newest("Modules", ["Module", "Type", "Files"], offered, moduleRow),
       h("h2", {}, "Sets"),
-      set,
+      ifSteers(() => set),
       newest("Sets", ["Set", "Modules"], found(sets, wanted), setRow),
     ];
   },

@@ -4,6 +4,7 @@ import {field, h, link, many, p, pager, settle, table, typed} from "./drawing.js
 import {importForm} from "./imports.js";
 import {isWord} from "./limits.js";
 import {filterField, matching} from "./matching.js";
+import {ifSteers, may} from "./me.js";
 import {stateBadge} from "./states.js";
 import {tagForm} from "./tags.js";
 
@@ -59,11 +60,10 @@ export const view = {
     return [
       page.kept("filter", () => h("form", {onsubmit: search, role: "search"}, filterField("fleet-filter", filter),
         p("buttons", h("button", {class: "main"}, "Show these")))),
-      page.kept("import", () => importForm(page)),
-      page.kept("list", () => listForm(page)),
+      ifSteers(() => [page.kept("import", () => importForm(page)), page.kept("list", () => listForm(page))]),
       shownTargets(targets),
       pager(targets.total, offset, SHOWN, address),
-      targets.total ? page.kept("tag", () => h("details", {class: "card"}, h("summary", {}, "Tag all of these"),
+      targets.total && may("steer") ? page.kept("tag", () => h("details", {class: "card"}, h("summary", {}, "Tag all of these"),
         p("hint", filter ? ["all that match ", h("code", {}, filter), ", on the other pages too"] : "the whole fleet: a filter finds some of it"),
         tagForm("tag-matching", async () => (await all(matching(filter))).map((it) => it.controllerId), page))) : null,
     ];

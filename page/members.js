@@ -3,6 +3,7 @@ import {beside, get} from "./api.js";
 import {cancelOpenButton} from "./cancel.js";
 import {countsOf} from "./counts.js";
 import {bar, h, legend, link, many, number, p, pager, table} from "./drawing.js";
+import {ifSteers} from "./me.js";
 import {actionsOf, membersOf, ROLLOUTS, setOf} from "./records.js";
 import {stateBadge} from "./states.js";
 import {tagForm} from "./tags.js";
@@ -107,8 +108,8 @@ export const view = {
       words ? p("line", "with the last words ", h("strong", {}, words)) : null,
       table("Members of the group", ["Device", "Name", "In this rollout", "Last words", "History"], rows.slice(offset, offset + SHOWN).map(row)),
       pager(rows.length, offset, SHOWN, (it) => address({...(state && {state}), ...(words && {words}), offset: it})),
-      page.kept("tag", () => h("details", {class: "card"}, h("summary", {}, "Tag all of these"), p("hint", "all that the table has, on its other pages too"),
-        tagForm("tag-members", async () => current, page, rollout.id))),
+      ifSteers(() => page.kept("tag", () => h("details", {class: "card"}, h("summary", {}, "Tag all of these"),
+        p("hint", "all that the table has, on its other pages too"), tagForm("tag-members", async () => current, page, rollout.id)))),
     ];
   },
 };

@@ -2,6 +2,7 @@
 import {all, get, upload, urlOf} from "./api.js";
 import {adding, field, h, link, many, number, p, settle, table, typed, word} from "./drawing.js";
 import {FILES, LARGEST, noFilename, tooLarge} from "./limits.js";
+import {ifSteers} from "./me.js";
 import {titleOf} from "./records.js";
 
 export const MODULES = "/rest/v1/softwaremodules";
@@ -65,7 +66,8 @@ export const view = {
   draw({module: it, artifacts}, page) {
     const row = (file) => [h("a", {href: urlOf(`${MODULES}/${it.id}/artifacts/${file.id}/download`), download: file.providedFilename},
       file.providedFilename), `${number(file.size)} bytes`, h("code", {class: "digest"}, file.hashes.sha256)];
-    const full = artifacts.length >= FILES ? p("hint", `It has the ${FILES} files that a module may have.`) : page.kept("upload", () => uploadForm(it, page));
+    const form = () => page.kept("upload", () => uploadForm(it, page));
+    const full = artifacts.length >= FILES ? p("hint", `It has the ${FILES} files that a module may have.`) : ifSteers(form);
     return [
       h("p", {}, link("#/firmware", "← Firmware")),
       p("facts", `module ${it.id}, type ${it.type}`),

@@ -5,6 +5,7 @@ import {byPercentages, evenly, percentagesOf} from "./cut.js";
 import {bar, field, h, link, many, p, settle, text, typed} from "./drawing.js";
 import {GROUPS} from "./limits.js";
 import {filterField} from "./matching.js";
+import {may} from "./me.js";
 import {groupsOf, ROLLOUTS, SETS, titleOf} from "./records.js";
 
 const EVEN = {even: true, count: 3, success: 80, error: 10, rows: []};
@@ -159,6 +160,8 @@ export const view = {
     const plan = old ? like(await groupsOf(old.id)) : {...EVEN};
     return {sets, old, plan, filter: query.get("q") ?? old?.targetFilterQuery ?? "name==*"};
   },
-  draw: (data, page) => (data.sets.length ? [page.kept("form", () => planForm(data, page))]
-    : [p("empty", "A rollout needs a set: ", link("#/firmware", "make one first"), ".")]),
+  draw(data, page) {
+    const none = () => p("empty", "A rollout needs a set: ", link("#/firmware", "make one first"), ".");
+    return [may("steer") ? data.sets.length ? page.kept("form", () => planForm(data, page)) : none() : p("empty", "This login may not plan or steer.")];
+  },
 };

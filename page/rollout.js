@@ -3,6 +3,7 @@ import {get, urlOf} from "./api.js";
 import {cancelOpenButton} from "./cancel.js";
 import {cause, countsOf, percent, sum} from "./counts.js";
 import {bar, h, legend, link, many, number, p, PARTS} from "./drawing.js";
+import {ifSteers} from "./me.js";
 import {groupsOf, ROLLOUTS, setOf, titleOf} from "./records.js";
 import {stateBadge} from "./states.js";
 import {buttons} from "./steering.js";
@@ -29,7 +30,7 @@ export const view = {
       p("line", stateBadge("rollout", rollout.status), h("span", {class: "facts"}, `${titleOf(set)} for `, h("code", {}, rollout.targetFilterQuery))),
       rollout.status === "paused" ? p("cause", cause(groups)) : null,
       p("buttons", buttons({rollout, groups, set}, page), total.open ? cancelOpenButton({rollout, set}, page) : null,
-        link(`#/rollouts/new?like=${rollout.id}`, "Plan a rollout like this one")),
+        ifSteers(() => link(`#/rollouts/new?like=${rollout.id}`, "Plan a rollout like this one"))),
       h("section", {class: "card", "aria-label": "All groups"}, bar(total, "All groups"), legend(total)),
       h("ol", {class: "groups", "aria-label": "Groups"}, groups.map((it) => groupRow(rollout, it))),
       p("files", file("report", `rollout-${rollout.id}.txt`, "Save the report"), file("actions", `rollout-${rollout.id}.csv`, "Save the table of actions")),

@@ -2,6 +2,7 @@
 import {all, beside, page as pageOf} from "./api.js";
 import {cause, countsOf, sum} from "./counts.js";
 import {bar, h, inWords, link, many, p, pager, sure} from "./drawing.js";
+import {ifSteers} from "./me.js";
 import {groupsOf, ROLLOUTS, setOf, titleOf} from "./records.js";
 import {stateBadge} from "./states.js";
 import {job} from "./work.js";
@@ -69,8 +70,8 @@ export const view = {
     const none = p("empty", "There is no rollout yet. It needs ", link("#/firmware", "a set of firmware"), " and ", link("#/targets", "a fleet"), ".");
     const someRun = total > SHOWN || shown.some((it) => it.rollout.status === "running");
     return [
-      p("buttons", h("a", {class: "button main", href: "#/rollouts/new"}, "New rollout"),
-        someRun ? h("button", {id: "pause-all", onclick: () => page.tried(() => pauseAll(page))}, "Pause all running rollouts") : null),
+      ifSteers(() => p("buttons", h("a", {class: "button main", href: "#/rollouts/new"}, "New rollout"),
+        someRun ? h("button", {id: "pause-all", onclick: () => page.tried(() => pauseAll(page))}, "Pause all running rollouts") : null)),
       shown.length ? h("ul", {class: "cards"}, shown.map(card)) : none,
       total > SHOWN ? pager(total, offset, SHOWN, (at) => `#/rollouts?offset=${at}`) : null,
     ];

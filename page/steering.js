@@ -3,6 +3,7 @@ import {ask} from "./api.js";
 import {cancelEach, waysToCancel} from "./cancel.js";
 import {countsOf, last, next} from "./counts.js";
 import {h, many, sure} from "./drawing.js";
+import {may} from "./me.js";
 import {inSentences, olderOpen, others} from "./others.js";
 import {ROLLOUTS, titleOf} from "./records.js";
 
@@ -23,7 +24,7 @@ function onResume({groups, set}) {
     : `Ends the pause. Group ${after.id} starts once ${needed(before)} of ${before.size} in group ${before.id} succeeded; ${before.ok} did so far.`;
 }
 
-/** `starts` is the group that the command starts at once. */
+/** `starts` is the group of devices that the command starts at once; `needs` is the group of operators that gives it. */
 const COMMANDS = {
   start: {
     word: "Start",
@@ -51,11 +52,13 @@ const COMMANDS = {
   },
   approve: {
     word: "Approve",
+    needs: "approve",
     allowed: ({rollout}) => rollout.status === "waiting_for_approval",
     says: ({rollout}) => [`Lets ${rollout.name} be started. No device is offered anything yet.`],
   },
   deny: {
     word: "Deny",
+    needs: "approve",
     allowed: ({rollout}) => rollout.status === "waiting_for_approval",
     says: ({rollout}) => [`Denies ${rollout.name} for good: it can't be approved or started afterwards.`],
   },
@@ -91,9 +94,9 @@ async function steer(name, seen, page) {
   page.refresh();
 }
 
-/** The buttons that a rollout's state allows. */
+/** The buttons that a rollout's state allows, and its operator may press. */
 export function buttons(seen, page) {
-  return Object.entries(COMMANDS).filter(([, it]) => it.allowed(seen)).map(([name, {word}]) =>
+  return Object.entries(COMMANDS).filter(([, it]) => it.allowed(seen) && may(it.needs ?? "steer")).map(([name, {word}]) =>
     h("button", {"data-key": name, "data-command": name, class: name === "deny" || name === "pause" ? "" : "main",
       onclick: () => page.tried(() => steer(name, seen, page))}, word));
 }

@@ -3,6 +3,7 @@ import {ask, get, page as pageOf} from "./api.js";
 import {cancelButton} from "./cancel.js";
 import {field, h, link, p, pager, table, typed, word} from "./drawing.js";
 import {TARGETS} from "./matching.js";
+import {ifSteers} from "./me.js";
 import {stateBadge} from "./states.js";
 
 const SHOWN = 50;
@@ -20,10 +21,10 @@ function tags(target, page) {
     event.target.reset();
     change("POST", tag, "Tag put");
   };
-  const take = (it) => h("button", {class: "small", "aria-label": `Take the tag ${it}`, onclick: () => change("DELETE", it, "Tag taken")}, "✕");
+  const take = (it) => ifSteers(() => h("button", {class: "small", "aria-label": `Take the tag ${it}`, onclick: () => change("DELETE", it, "Tag taken")}, "✕"));
   const tag = (it) => h("li", {class: "tag", "data-key": it}, it, take(it));
   return [h("ul", {class: "tags", "aria-label": "Tags"}, target.tags.map(tag)),
-    h("form", {class: "row", onsubmit: put}, field("tag", "A new tag", word("tag", 64)), h("button", {}, "Put the tag"))];
+    ifSteers(() => h("form", {class: "row", onsubmit: put}, field("tag", "A new tag", word("tag", 64)), h("button", {}, "Put the tag")))];
 }
 
 export const view = {

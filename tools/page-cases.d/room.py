@@ -10,6 +10,7 @@ import subprocess
 import time
 from pathlib import Path
 
+from operators import with_operators
 from processes import LOGIN, PATIENCE, ROOT, ended, listens
 from servers import HOST, free_port
 
@@ -21,10 +22,12 @@ FLEETS = {r"(?m)^    http-request redirect location /page/": """
 
 
 class Room:
-    """A new desk behind a proxy."""
+    """A new desk behind a proxy. `operators` are those of its groups, and `edits` what else a keeper writes into a configuration."""
 
-    def __init__(self, order, folder, proxy="haproxy", approval=False, limit=None, fleets=False):
+    def __init__(self, order, folder, proxy="haproxy", approval=False, limit=None, fleets=False, operators=None, edits=None):
         self.order, self.folder, self.approval, self.fleets = order, Path(folder), approval, fleets
+        self.login = LOGIN
+        self.operators, self.edits = operators or {}, edits or (lambda _, text: text)
         self.port, self.behind = free_port(), free_port()
         self.children = []
         self.client = http.client.HTTPSConnection(HOST, self.port, timeout=PATIENCE, context=ssl._create_unverified_context())
@@ -38,7 +41,7 @@ class Room:
             raise
 
     def start(self, words, port, **how):
-        child = subprocess.Popen(list(map(str, words)), stdout=subprocess.DEVNULL, stderr=open(self.folder / "errors", "ab"), **how)
+        child = subprocess.Popen(list(map(str, words)), stdout=open(self.folder / "said", "ab"), stderr=open(self.folder / "errors", "ab"), **how)
         self.children.append(child)
         listens(port, child)
         return child
@@ -61,7 +64,8 @@ class Room:
 
     def configured(self, name, changes):
         """A configuration of docs/operating/, for this folder and these ports; each change has to apply."""
-        text = (self.order.operating / name).read_text(encoding="utf-8")
+        text = with_operators((self.order.operating / name).read_text(encoding="utf-8"), self.operators)
+        text = self.edits(name, text)
         for old, new in changes.items():
             assert re.search(old, text), f"{name} has no {old}"
             text = re.sub(old, lambda _, it=new: it, text)
@@ -103,7 +107,7 @@ class Room:
 
     def nginx(self):
         self.certificate()
-        (self.folder / "operators").write_text(f"{LOGIN[0]}:{self.password()}\n")
+        (self.folder / "operators").write_text("".join(f"{it}:{self.password()}\n" for it in {LOGIN[0]: "", **self.operators}))
         part = self.configured("nginx.conf", {
             r"listen 8443 ssl": f"listen {HOST}:{self.port} ssl",
             r"/etc/fwdesk": str(self.folder),
@@ -120,7 +124,7 @@ class Room:
     def ask(self, method, path, body=None, fields=None):
         """Asks through the proxy. Answers status, fields and body."""
         if fields is None:
-            fields = {"Authorization": f"Basic {base64.b64encode(':'.join(LOGIN).encode()).decode()}"}
+            fields = {"Authorization": f"Basic {base64.b64encode(':'.join(self.login).encode()).decode()}"}
         if isinstance(body, (dict, list)):
             body = json.dumps(body)
         try:

@@ -15,9 +15,9 @@ def case(**ways):
     return kept
 
 
-def entered(browser, room, place=""):
+def entered(browser, room, place="", name=LOGIN[0]):
     """Logs in, and shows a place of the page."""
-    browser.go(room.address().replace("//", f"//{':'.join(LOGIN)}@"))
+    browser.go(room.address().replace("//", f"//{name}:{LOGIN[1]}@"))
     browser.go("about:blank")
     browser.go(room.address(place))
     browser.until("document.querySelector('h1')")
