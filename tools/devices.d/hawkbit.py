@@ -102,7 +102,8 @@ class Asked(BaseHTTPRequestHandler):
         links = {"download": {"href": file}, "md5sum": {"href": f"{file}.MD5SUM"}, "download-http": {"href": file}, "md5sum-http": {"href": f"{file}.MD5SUM"}}
         artifact = {"filename": it.filename, "hashes": hashes, "size": len(it.image), "_links": links}
         chunk = {"part": "os", "version": str(number), "name": "os", "artifacts": [artifact]}
-        return {"id": str(number), "deployment": {"download": "forced", "update": "forced", "chunks": [chunk]}, "actionHistory": {"status": "RUNNING", "messages": []}}
+        deployment = {"download": "forced", "update": "forced", "chunks": [chunk]}
+        return {"id": str(number), "deployment": deployment, "actionHistory": {"status": "RUNNING", "messages": []}}
 
     def download(self, action):
         found = re.fullmatch(r"bytes=(\d+)-", self.headers.get("Range", ""))
@@ -126,7 +127,8 @@ class Asked(BaseHTTPRequestHandler):
         if self.headers.get("Authorization") != LOGIN:
             return self.answers(401)
         targets, tags = self.server.targets, sorted({tag for it in self.server.targets.values() for tag in it.tags})
-        as_target = lambda ident: {"createdBy": "admin", "controllerId": ident, "name": f"Pump {ident}", "securityToken": targets[ident].token, "updateStatus": "registered"}
+        always = {"createdBy": "admin", "updateStatus": "registered"}
+        as_target = lambda ident: always | {"controllerId": ident, "name": f"Pump {ident}", "securityToken": targets[ident].token}
         if path == "/rest/v1/targets":
             return self.page([as_target(it) for it in targets], query)
         if path == "/rest/v1/targettags":
