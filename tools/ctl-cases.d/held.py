@@ -132,7 +132,8 @@ def holds_without_the_proxy(room):
     assert front.links(name) == [] and room.gives("held", **front.near).startswith("brake: by ben")
     assert front.by_itself("release")[0] == 0 and front.links(name) == ["deploymentBase"]
     # two at the same time
-    both = [subprocess.Popen([OPERATING / "fwdesk-brake", "hold", "--kind", it], env=room.environment | front.own, stdout=subprocess.DEVNULL) for it in ("brake", "quiet")]
+    how = {"env": room.environment | front.own, "stdout": subprocess.DEVNULL}
+    both = [subprocess.Popen([OPERATING / "fwdesk-brake", "hold", "--kind", it], **how) for it in ("brake", "quiet")]
     assert [it.wait() for it in both] == [0, 0]
     assert [it.split(" ")[0] for it in sorted(file.read_text().splitlines())] == ["brake", "quiet"]
     assert front.by_itself("release", "--kind", "quiet")[0] == 0 and front.links(name) == []
