@@ -12,6 +12,7 @@ those of this machine's zone, or of --zone. Where they jump over a time, the mom
 they show twice the first one begins and the last one ends. For root, on HAProxy's machine, whose systemd keeps them.
 Their end releases no brake that somebody pulled by `hold`. `release --kind quiet` ends them this time, `quiet off` for good.
 --dry-run only tells when it would be quiet, from now on or from a TIME on."""
+import argparse
 import json
 
 from ctl import kept_hours as hours
@@ -26,8 +27,9 @@ def options(parser):
     parser.add_argument("words", nargs="*", metavar="HOURS [DAYS]")
     for it, what in (("--zone", "ZONE"), ("--fleet", "FLEET"), ("--from", "TIME")):
         parser.add_argument(it, metavar=what, dest=it.strip("-").replace("from", "since"))
-    for it in ("--dry-run", "--json", "--settle"):
+    for it in ("--dry-run", "--json"):
         parser.add_argument(it, action="store_true")
+    parser.add_argument("--settle", action="store_true", help=argparse.SUPPRESS)
 
 
 def show(rule, since, as_json):
