@@ -165,6 +165,8 @@ addEventListener("hashchange", () => {
   show(true);
 });
 showFleets(place("fleets"));
-showBrake(place("held"), page);
 showComing(place("coming"));
-introduce(place("who")).then(() => show(false));
+introduce(place("who")).then(() => {
+  showBrake(place("held"), page);
+  show(false);
+});

@@ -1,6 +1,7 @@
 // The brake: who holds the fleet, since when and why, on every view, and the buttons that hold and release it.
 import {ask, get, gently} from "./api.js";
 import {h, settle, sure} from "./drawing.js";
+import {may} from "./me.js";
 
 const PATH = "/fwdesk/brake";
 const KINDS = {brake: "Everything is held", quiet: "Quiet hours"};
@@ -31,8 +32,8 @@ export function showBrake(place, page) {
 
   function draw(held) {
     const bar = (kind) => held[kind] && h("p", {class: "notice bad", "data-key": kind}, `${told(kind, held[kind])} No device is told of a deployment.`,
-      h("button", {class: "small", onclick: () => page.tried(() => release(kind, held[kind]))}, "Release"));
-    const button = held.brake ? null : h("button", {id: "hold", class: "small", onclick: () => page.tried(hold)}, "Hold everything");
+      may("hold") ? h("button", {class: "small", onclick: () => page.tried(() => release(kind, held[kind]))}, "Release") : null);
+    const button = held.brake || !may("hold") ? null : h("button", {id: "hold", class: "small", onclick: () => page.tried(hold)}, "Hold everything");
     settle(place, [...Object.keys(KINDS).map(bar), button]);
   }
 

@@ -29,12 +29,15 @@ class Edge(Room):
         named = [f"{name}:{groups}" for name, groups in self.operators.items() if groups] or [self.login[0]]
         words.write_proxies([words.Fleet(FLEET, self.behind, operators=named), words.Fleet("other", free_port(), operators=named)])
         (self.folder / "fleets").mkdir()
+        (self.folder / "held.map").touch()
         self.certificate()
         common = {r"(?m)^ *(user|group) haproxy\n": ""}
         desks = self.configured("fleets/desks.cfg", common | {
             r" user haproxy": "",
             r"/run/haproxy-desks/": f"{self.folder}/",
             r"127\.0\.0\.1:8405": f"{HOST}:{free_port()}",
+            r"/var/lib/fwdesk-brake/": f"{self.folder}/",
+            r"/run/fwdesk-brake\.sock": f"{self.folder}/brake.sock",
         })
         self.start_at(self.folder / "desks.sock", ["haproxy", "-db", "-f", desks, "-f", self.folder / "maps/servers.cfg"])
         return ["haproxy", "-W", "-S", self.folder / "master.sock", "-f", self.configured("fleets/haproxy.cfg", common | {
@@ -47,6 +50,7 @@ class Edge(Room):
             r"127\.0\.0\.1:8406": f"{HOST}:{free_port()}",
             r"@PASSWORD@": self.password(),
             r"/usr/share/fwdesk/page": f"{ROOT}/page",
+            r"/run/fwdesk-coming\.sock": f"{self.folder}/coming.sock",
         })]
 
     def start_at(self, path, words):

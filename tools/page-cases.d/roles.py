@@ -1,7 +1,8 @@
 """Who may what: the page offers no button in vain, and shows the words of a refusal. For page-cases, and not run by itself."""
+from servers import HOST
 from steps import case, commands, confirmed, entered
 
-OPERATORS = {"anna": "look,steer", "ben": "look,approve", "wall": "look", "otto": "", "zoe": "look,steer,approve,hold"}
+OPERATORS = {"anna": "look,steer", "ben": "look,approve", "cleo": "look,hold", "wall": "look", "otto": "", "zoe": "look,steer,approve,hold"}
 # where the page has what changes something: the place, and what is there for who plans and steers
 STEERED = {
     "#/rollouts": ("a[href='#/rollouts/new']", "#pause-all"),
@@ -42,9 +43,16 @@ def is_offered(browser, name):
         assert name in ("anna", "zoe") or not buttons(browser), (name, place, buttons(browser))
 
 
+def holds(browser, room):
+    """The buttons of the brake, once the page has asked for it."""
+    browser.until("performance.getEntriesByName(arguments[0]).length", f"https://{HOST}:{room.port}/fwdesk/brake")
+    return browser.texts("#held button")
+
+
 @case(approval=True, operators=OPERATORS)
 def roles(browser, room):
     """Each login is offered what it may press, and is told what it may not."""
+    room.brake()
     room.login = ("zoe", room.login[1])
     room.fleet(3)
     room.plan(groups=1, start=False)
@@ -52,13 +60,21 @@ def roles(browser, room):
     room.api("POST", "/rest/v1/rollouts/1/start")
     room.api("POST", "/rest/v1/softwaremodules", [{"name": "app", "type": "os", "version": "2.0"}])
     room.plan(name="summer", groups=1, start=False)
-    who = {"anna": "anna may look, steer", "ben": "ben may look, approve", "wall": "wall may look", "zoe": "zoe"}
-    offered = {"anna": [], "ben": ["approve", "deny"], "wall": [], "zoe": ["approve", "deny"]}
+    who = {"anna": "anna may look, steer", "ben": "ben may look, approve", "cleo": "cleo may look, hold", "wall": "wall may look", "zoe": "zoe"}
+    offered = {"anna": [], "ben": ["approve", "deny"], "cleo": [], "wall": [], "zoe": ["approve", "deny"]}
     for name, words in who.items():
         entered(browser, room, "#/rollouts/2", name)
         assert browser.text("#who") == words, browser.text("#who")
         assert commands(browser) == offered[name], (name, commands(browser))
+        assert holds(browser, room) == (["Hold everything"] if name in ("cleo", "zoe") else []), name
         is_offered(browser, name)
+    # whoever holds releases, and others see that it is held
+    room.api("POST", "/fwdesk/brake?kind=brake&reason=smoke")
+    for name in ("cleo", "ben"):
+        entered(browser, room, "#/rollouts/2", name)
+        browser.until("document.querySelector('#held .notice')")
+        assert holds(browser, room) == (["Release"] if name == "cleo" else []), name
+    room.api("DELETE", "/fwdesk/brake?kind=brake")
     # a page that is open while somebody's groups are taken away
     entered(browser, room, "#/rollouts/2", "ben")
     browser.js("window.fetch = new Proxy(window.fetch, {apply: (it, of, [at, how]) => it.call(of, at.replace('approve', 'start'), how)})")
