@@ -1,23 +1,37 @@
-"""Reads tools/wrong_models.edits, and writes each wrong model as a package. A name that comes again edits once more."""
+"""Wrong models for tools/conversations: each is a few edits of `model/`, and has to be found by a conversation.
+
+Each part of tools/wrong_models.edits names a model and a file, and has the lines there and those in their place. A name
+that comes again edits once more. tools/wrong_models.seeds says which conversation finds each."""
+import importlib
+import multiprocessing
+import os
 import shutil
+import sys
+import tempfile
+import time
 from pathlib import Path
 
+import old_files
+
 ROOT = Path(__file__).resolve().parent.parent
-EDITS = ROOT / "tools/wrong_models.edits"
+EDITS, SEEDS = ROOT / "tools/wrong_models.edits", ROOT / "tools/wrong_models.seeds"
+BASE = "/dev/shm" if os.path.isdir("/dev/shm") else None
+# of each model the conversations that it is played over; the processes that do so have them from here
+REPLAYED = {}
 
 
-def edits():
+def edits(path):
     """Of each wrong model its name, the file that it changes, and the lines there and in their place."""
-    for part in EDITS.read_text(encoding="utf-8").split("\n\n")[1:]:
+    for part in path.read_text(encoding="utf-8").split("\n\n")[1:]:
         first, *lines = part.rstrip("\n").split("\n")
         old, new = ("".join(f"{it[1:]}\n" for it in lines if it.startswith(sign)) for sign in "-+")
         yield *first.split(), old, new
 
 
-def write_all(room):
-    """Writes each wrong model below a folder, and gives their names."""
+def write_all(room, path=EDITS):
+    """Writes each wrong model as a package below a folder, and gives their names."""
     names = []
-    for name, file, old, new in edits():
+    for name, file, old, new in edits(path):
         folder = Path(room) / f"wrong_{name}"
         if name not in names:
             shutil.copytree(ROOT / "model", folder, ignore=shutil.ignore_patterns("__pycache__", "test_*"))
@@ -27,3 +41,57 @@ def write_all(room):
         (folder / file).write_text(text.replace(old, new), encoding="utf-8")
         names.append(name)
     return list(dict.fromkeys(names))
+
+
+def seeds():
+    return {name: int(seed) for name, seed in map(str.split, SEEDS.read_text().splitlines())}
+
+
+def write_seeds(found):
+    SEEDS.write_text("".join(f"{name} {seed}\n" for name, seed in sorted(found.items())))
+
+
+def replay(package, talk):
+    """Whether another model answers something else than was answered, and how many replies were compared."""
+    theirs = importlib.import_module(f"{package}.run")
+    their_machine = importlib.import_module(f"{package}.machine")
+    h, compared = their_machine.made(talk.approval), 0
+    if talk.old:
+        h, _, _ = theirs.run(h, b"".join(old_files.REQUESTS[talk.old]()), "both")
+    for part in talk.parts:
+        for stream, got in zip(part.streams, part.got):
+            h, turns, _ = theirs.run(h, b"".join(stream), part.words[part.words.index("--interface") + 1])
+            compared += len(turns)
+            if b"".join(it.reply for it in turns) != got:
+                return True, compared
+    return False, compared
+
+
+def find(name):
+    """The seed of the conversation by which a wrong model is found, or None; how many replies it took, and seconds."""
+    replies, began, said = 0, time.monotonic(), 0
+    for talk in REPLAYED[name]:
+        try:
+            differs, compared = replay(f"wrong_{name}", talk)
+        except Exception:
+            differs, compared = True, 0
+        replies, said = replies + compared, talk.seconds
+        if differs:
+            return name, talk.seed, replies, said + time.monotonic() - began
+    return name, None, replies, said + time.monotonic() - began
+
+
+def find_all(jobs, begin, talks_of):
+    """Plays each wrong model over its conversations, and tells by which it is found; and whether one wasn't."""
+    with tempfile.TemporaryDirectory(dir=BASE) as room:
+        names = write_all(room)
+        sys.path.insert(0, room)
+        REPLAYED.update((it, talks_of(it)) for it in names)
+        with multiprocessing.Pool(jobs, begin) as pool:
+            found = list(pool.imap_unordered(find, names))
+    for name, seed, replies, seconds in sorted(found, key=lambda it: it[3]):
+        told = f"seed {seed}" if seed is not None else "NOT FOUND"
+        print(f"{name:45} {told}, {replies} replies, {seconds:.1f} s")
+    missed = [name for name, seed, _, _ in found if seed is None]
+    print(f"{len(found) - len(missed)} passed, {len(missed)} failed")
+    return {name: seed for name, seed, _, _ in found if seed is not None}, bool(missed or not found)
