@@ -86,9 +86,9 @@ def places(value, path=()):
 
 
 def spoiled_value(rng, value):
-    """A value with one part gone, or another one in its place."""
-    path = rng.choice(list(places(value)))
-    odd = Raw(rng.choice(ODD))
+    """A value with one part gone, or another one in its place: often an inner one, and often by `null`."""
+    path = max(rng.choices(list(places(value)), k=2), key=len)
+    odd = Raw(rng.choice(("null", *rng.choices(ODD, k=4))))
     if not path:
         return odd if rng.random() < 0.5 else [value] if rng.random() < 0.5 else [value, value]
     if isinstance(value, list):
@@ -158,7 +158,7 @@ def pattern(rng, known):
     found = rng.choice((*known, "*", rng.choice(TAGS), "dev-*", word(rng, 2)))
     at = rng.randrange(len(found) + 1)
     return rng.choice((found, found, found[:at] + "*", "*" + found[at:], found[:at] + "*" + found[at + 1:],
-                       found[:at] + "**" + found[at:]))
+                       found[:at] + "**" + found[at:], found.swapcase()))
 
 
 def comparison(rng, known):
@@ -183,8 +183,10 @@ def a_filter(rng, known, depth=0):
 def spoiled_filter(rng, found):
     at = rng.randrange(len(found) + 1)
     deep = rng.choice((1, 15, 16, 17))
+    if rng.random() < 0.15:
+        return "(" * deep + found + ")" * deep
     return rng.choice((found[:at], found[:at] + rng.choice(" ()=!;,\"*'é\x7f<") + found[at:],
-                       found[:at] + found[at + 1:], "(" * deep + found + ")" * deep,
+                       found[:at] + found[at + 1:], "(" * deep + found + ")" * (deep - 1),
                        "", 'name==""', "tag==", "attribute.==x", f"attribute.{'k' * 65}==x",
                        f"attribute.{'k' * 64}!=x", f"name=={'x' * 507}",
                        f"name=={'*' * 506}", f'name=="{"é" * 252}"', "Name==x", "name=x", "name===x", "name==*;",
@@ -225,36 +227,74 @@ def spoiled_rows(rng, rows):
 
 # --- heads
 
+FORMS = (b" folded: x", b"no colon", b": x", b"a b: c", b"a : c", b"x: \x00", b"x: \x7f", b"x: \xc3\xa9\t\x80",
+         b"x:\t a \t", b"x(y): z", b"x: a\nb", b"x: a\rb", b"Expect: 100-continue", b"Connection: close",
+         b"~!#$%&'*+.^_`|: x", b"authorization: x")
+CODINGS = (b"Transfer-Encoding: chunked", b"transfer-encoding:", b"TRANSFER-ENCODING: identity")
+LENGTHS = (b"+3", b"+0", b"-3", b"\t3 ", b"", b"1 2", b"3,3", b"3\r\ncontent-length: 3",
+           b"3\r\nContent-Length: 99999999", b"0x3", b"1_0", b"3.0", b"0" * 20, b"0" * 20 + b"3", b"4194304",
+           b"4194305", b"9999999", b"9" * 20)
+VERSIONS = (b" HTTP/1.0", b" HTTP/1.1 ", b"", b" http/1.1", b" HTTP/2", b"\tHTTP/1.1")
+METHODS = (b"", b"G(ET", b" GET", b"get", b"GE\tT", b"~")
+HEAD = 8_192
 
-def spoiled_head(rng, head):
-    """The bytes of a head, against its form or just within."""
+
+def with_field(rng, head, field):
+    """A head with one more field somewhere."""
+    line, *fields = head[:-4].split(b"\r\n")
+    fields.insert(rng.randrange(len(fields) + 1), field)
+    return b"\r\n".join([line, *fields, b"", b""])
+
+
+def spoiled_line(rng, head):
     line, rest = head.split(b"\r\n", 1)
     method, target, _ = line.split(b" ", 2)
-    field = rng.choice((b"Transfer-Encoding: chunked", b"Content-Length: +3",
-                        b"Content-Length: 3\r\nContent-Length: 3", b"content-LENGTH:",
-                        b"Content-Length: 4194305", b"Content-Length: " + b"9" * 20,
-                        b"Content-Length: 00000000000000000000", b" folded: x", b"no colon", b": x",
-                        b"a b: c", b"a : c", b"x: \x00", b"x: \x7f", b"x: \xc3\xa9\t\x80", b"x:\t a \t",
-                        b"Content-Length: 1 2", b"x(y): z", b"x: a\nb", b"x: a\rb",
-                        b"x" * 9000 + b": y", b"x: " + b"y" * rng.randrange(7900, 8200),
-                        b"\r\n".join([b"x: y"] * rng.choice((31, 32, 33))), b"Expect: 100-continue",
-                        b"Connection: close", b"transfer-encoding:", b"~!#$%&'*+.^_`|: x",
-                        b"Content-Length: 3\r\nContent-Length: 99999999"))
+    targets = (b"http://a" + target, b"*", target + b"#x", target + b"[x]", target + b"\xc3\xa9", target + b'"', b"",
+               target + b"^", target + b"//")
     return rng.choice((
-        lambda: line + b"\r\n" + field + b"\r\n" + rest,
-        lambda: line + b"\r\n" + field + b"\r\n" + rest,
-        lambda: line + b"\r\n" + field + b"\r\n" + rest,
-        lambda: method + b"  " + target + b" HTTP/1.1\r\n" + rest,
-        lambda: method + b" " + target + rng.choice((b" HTTP/1.0", b" HTTP/1.1 ", b"", b" http/1.1", b" HTTP/2",
-                                                     b"\tHTTP/1.1")) + b"\r\n" + rest,
-        lambda: method + b" " + rng.choice((b"http://a" + target, b"*", target + b"#x", target + b"[x]",
-                                            target + b"\xc3\xa9", target + b'"', b"", target + b"^", target + b"//"))
-        + b" HTTP/1.1\r\n" + rest,
-        lambda: rng.choice((b"", b"G(ET", b" GET", b"get", b"GE\tT", b"~")) + b" " + target + b" HTTP/1.1\r\n" + rest,
-        lambda: b"\r\n" + head,
-        lambda: head.replace(b"\r\n", b"\n", 1),
-        lambda: spoiled_bytes(rng, head),
-    ))()
+        method + b"  " + target + b" HTTP/1.1\r\n" + rest,
+        method + b" " + target + rng.choice(VERSIONS) + b"\r\n" + rest,
+        method + b" " + rng.choice(targets) + b" HTTP/1.1\r\n" + rest,
+        rng.choice(METHODS) + b" " + target + b" HTTP/1.1\r\n" + rest,
+        b"\r\n" + head,
+        head.replace(b"\r\n", b"\n", 1),
+    ))
+
+
+def spoiled_form(rng, head):
+    return with_field(rng, head, rng.choice(FORMS))
+
+
+def spoiled_coding(rng, head):
+    return with_field(rng, head, rng.choice(CODINGS))
+
+
+def spoiled_length(rng, head):
+    """Another length, mostly in place of the one that is there."""
+    if rng.random() < 0.8:
+        lines = head.split(b"\r\n")
+        head = b"\r\n".join(it for it in lines if not it.lower().startswith(b"content-length"))
+    name = rng.choice((b"Content-Length", b"content-length", b"CONTENT-length"))
+    return with_field(rng, head, name + b": " + rng.choice(LENGTHS))
+
+
+def spoiled_size(rng, head):
+    """As many fields as there may be, or as many bytes, and some more."""
+    if rng.random() < 0.5:
+        return with_field(rng, head, b"\r\n".join([b"x: y"] * rng.choice((29, 30, 31, 32, 33))))
+    left = HEAD - len(head) - len(b"x: \r\n") + rng.choice((-1, 0, 1, 2, 900))
+    return with_field(rng, head, b"x: " + b"y" * max(0, left))
+
+
+# (what spoils the line comes first, since the others look for it)
+FAULTS = (spoiled_line, spoiled_form, spoiled_length, spoiled_coding, spoiled_size, spoiled_bytes)
+
+
+def spoiled_head(rng, head):
+    """The bytes of a head against its form or just within, sometimes in two places."""
+    for fault in sorted(rng.sample(FAULTS, rng.choice((1, 1, 2))), key=FAULTS.index):
+        head = fault(rng, head)
+    return head
 
 
 def ignored_fields(rng):

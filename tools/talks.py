@@ -7,14 +7,17 @@ import conversation
 import noise
 from model import machine, refusals, routes, run, wire
 
-SAID = (("closed", "success"), ("closed", "failure"), ("proceeding", "none"), ("scheduled", "none"),
-        ("resumed", "none"), ("rejected", "none"),
-        ("canceled", "success"))
+# what a device may say, first what ends an action or a cancel
+SAID = (("closed", "success"), ("closed", "failure"), ("canceled", "success"), ("rejected", "none"),
+        ("proceeding", "none"), ("scheduled", "none"), ("resumed", "none"))
 STEPS = ("start", "pause", "resume", "approve", "deny", "triggerNextGroup")
 QUERIES = [it for it in routes.CALLS if it.startswith("GET") and not routes.is_device(it)]
 DEVICES = [it for it in routes.CALLS if routes.is_device(it)]
 FEEDBACK, CANCEL_FEEDBACK = (f"POST {routes.DEVICES}/{it}/{{action}}/feedback"
                              for it in ("deploymentBase", "cancelAction"))
+# the calls whose bodies tell something
+TELLING = {FEEDBACK, CANCEL_FEEDBACK, f"PUT {routes.DEVICES}/configData", f"POST {routes.DESK}/import",
+           *(f"POST {routes.REST}/{it}" for it in ("targets", "softwaremodules", "distributionsets", "rollouts"))}
 IDS = tuple(f"dev-{it:02}" for it in range(1, 13)) + ("A", "z.9_-", "i" * 64)
 
 
@@ -49,10 +52,13 @@ class Listener:
 class Talker:
     """Thinks of one request after the other. It remembers the tokens that it gave out by their digests."""
 
+    # the words that it knows; and how many of its feedback end an action
+    ids, tags, keys, files, ending = IDS, noise.TAGS, noise.KEYS, noise.FILES, 1
+
     def __init__(self, rng, h, tokens, interface="both", hostile=0.1):
         self.rng, self.tokens, self.hostile, self.interface = rng, tokens, hostile, interface
         self.listener = Listener(h, interface)
-        self.sent, self.spoils = {}, ""
+        self.sent, self.spoils = {}, ()
 
     @property
     def h(self):
@@ -67,7 +73,7 @@ class Talker:
         return self.rng.choice(found) if found and not self.chance(0.04) else otherwise
 
     def known(self):
-        return self.some(machine.targets(self.h)[:40], self.rng.choice(IDS))
+        return self.some(machine.targets(self.h)[:40], self.rng.choice((*self.ids, *["nobody"] * len(self.ids))))
 
     def number(self, most, recent=False):
         """A number of something that is there, mostly; of the newest, where recent."""
@@ -94,10 +100,10 @@ class Talker:
         m = self.number(len(machine.modules(h)))
         files = machine.artifacts_of(h, m)
         device = its if "action" in call or self.chance(0.5) else self.known()
-        filename = rng.choice(noise.FILES)
+        filename = rng.choice(self.files)
         if files and self.chance(0.9):
             filename = machine.artifacts(h)[rng.choice(files) - 1].filename
-        found = {"target": device, "device": device, "tag": rng.choice(noise.TAGS), "action": a, "rollout": r,
+        found = {"target": device, "device": device, "tag": rng.choice(self.tags), "action": a, "rollout": r,
                  "group": self.number(groups), "module": m,
                  "artifact": rng.choice(files) if files and self.chance(0.9)
                  else self.number(len(machine.artifacts(h))),
@@ -118,12 +124,12 @@ class Talker:
         rng = self.rng
         token = f"tok-{name}"[:64].ljust(8, "x") if self.chance(0.8) else noise.word(rng, rng.choice((8, 64)))
         self.tokens[run.bodies.sha256(token.encode())] = token
-        tags = rng.sample(noise.TAGS, rng.choice((0, 0, 1, 2)))
+        tags = rng.sample(self.tags, rng.choice((0, 0, 1, 2)))
         return {"controllerId": name, "name": name if self.chance(0.7) else noise.text(rng), "securityToken": token,
                 "tags": tags}
 
     def rows(self, most):
-        return [self.row(it) for it in self.rng.sample(IDS, self.rng.randint(1, most))]
+        return [self.row(it) for it in self.rng.sample(self.ids, self.rng.randint(1, min(most, len(self.ids))))]
 
     def threshold(self):
         percent = self.rng.choice((1, 10, 25, 33, 34, 40, 50, 51, 66, 67, 75, 99, 100, 100, self.rng.randint(1, 100)))
@@ -133,7 +139,7 @@ class Talker:
         rng, h = self.rng, self.h
         found = {"name": f"r{rng.randint(1, 99)}" if self.chance(0.9) else noise.text(rng),
                  "distributionSetId": self.number(len(machine.sets(h)), True),
-                 "targetFilterQuery": noise.a_filter(rng, machine.targets(h)[:40] or IDS),
+                 "targetFilterQuery": noise.a_filter(rng, machine.targets(h)[:40] or self.ids),
                  "successCondition": self.threshold(), "errorCondition": self.threshold()}
         if self.chance(0.2):
             found["targetFilterQuery"] = noise.spoiled_filter(rng, found["targetFilterQuery"])
@@ -154,7 +160,8 @@ class Talker:
         rng = self.rng
         if (call, action) in self.sent and self.chance(0.25):
             return self.once_more(self.sent[call, action])
-        said = rng.choices(SAID, weights=(8, 5, 5, 2, 2, 2, 1) if call == FEEDBACK else (3, 1, 4, 2, 2, 8, 3))[0]
+        weights = (8, 5, 1, 2, 5, 2, 2) if call == FEEDBACK else (3, 1, 3, 8, 4, 2, 2)
+        said = rng.choices(SAID, weights=[it if at > 3 else it * self.ending for at, it in enumerate(weights)])[0]
         found = {"status": {"execution": said[0], "result": {"finished": said[1]}}}
         if self.chance(0.4):
             most = rng.choice((0, 1, 2, 8, 9))
@@ -165,6 +172,8 @@ class Talker:
             last = machine.greatest(self.h, action) if there else 0
             found["number"] = max(1, rng.choice((last + 1, last + 1, last + 1, last + 3, last, last, last - 1,
                                                  4294967295 if self.chance(0.02) else last + 2)))
+            if self.chance(0.03):
+                found["number"] = noise.Raw(rng.choice(("null", "0", "-1", "1.0", '"1"', "4294967296")))
         self.sent[call, action] = found
         return found
 
@@ -177,7 +186,7 @@ class Talker:
     def attributes(self):
         rng = self.rng
         count = rng.choice((0, 1, 1, 2, 3, 31, 32, 33)) if self.chance(0.1) else rng.choice((1, 2))
-        keys = rng.sample(noise.KEYS, count) if count < 4 else [f"k{it}" for it in range(count)]
+        keys = rng.sample(self.keys, count) if count < 4 else [f"k{it}" for it in range(count)]
         found = {"data": {it: rng.choice(("", "linux", "1.0", noise.text(rng))) for it in keys}}
         return found | ({"mode": "merge"} if self.chance(0.3) else {})
 
@@ -214,7 +223,14 @@ class Talker:
 
     def wrong(self, what):
         """Whether this part of the request is to be wrong."""
-        return self.spoils == what
+        return what in self.spoils
+
+    def spoiled_parts(self, call):
+        """Which parts of a request are to be wrong: none, mostly; seldom two, of which the first is told."""
+        parts = ["path", "method", "query", "query"] + ["body"] * (3 * (call in TELLING))
+        parts += ["credential"] * (2 * routes.is_device(call))
+        count = (2 if self.chance(0.3) else 1) if self.chance(self.hostile) else 0
+        return self.rng.choices(parts, k=count)
 
     def pairs(self, call, body):
         """The pairs of a query."""
@@ -223,12 +239,12 @@ class Talker:
             found += [("offset", str(rng.choice((0, 1, 2, 5))))] * self.chance(0.3) + [("limit",
                     str(rng.choice((1, 2, 5, 50, 500))))] * self.chance(0.3)
         if "q" in keys and self.chance(0.7):
-            text = noise.a_filter(rng, machine.targets(self.h)[:40] or IDS)
+            text = noise.a_filter(rng, machine.targets(self.h)[:40] or self.ids)
             found.append(("q", noise.spoiled_filter(rng, text) if self.chance(0.2) else text))
         if "force" in keys and self.chance(0.6):
             found.append(("force", rng.choice(("true", "true", "false"))))
         if "filename" in keys:
-            found.append(("filename", rng.choice(noise.FILES) if self.chance(0.9) else noise.words(rng, 128)))
+            found.append(("filename", rng.choice(self.files) if self.chance(0.9) else noise.words(rng, 128)))
             if self.chance(0.4):
                 digest = run.bodies.sha256(body)
                 found.append(("sha256", rng.choice((digest, digest, digest.upper(), "0" * 64, digest[:63] + "g"))))
@@ -261,8 +277,7 @@ class Talker:
     def request(self, call):
         """The bytes of a request that makes a call."""
         rng = self.rng
-        self.spoils = rng.choice(("path", "method", "query", "body", "body",
-                                  "credential")) if self.chance(self.hostile) else ""
+        self.spoils = self.spoiled_parts(call)
         given = self.parameters(call)
         body = self.body(call, given)
         if not isinstance(body, bytes):
@@ -311,89 +326,23 @@ class Talker:
 
     def messages(self, count):
         """So many requests, or as many as there are until a fault, each as the model takes it."""
+        return self.said(self.call for _ in range(count))
+
+    def said(self, calls):
+        """Requests that make these calls, each thought of once those before were answered."""
         found = []
-        while len(found) < count and not self.listener.ended:
-            found.append(self.request(self.call()))
+        for call in calls:
+            if self.listener.ended:
+                break
+            found.append(self.request(call()))
             self.listener.feed(found[-1])
         return found
-
-    # --- up to the limits
 
     def ask(self, line, value=b"", device=None):
         """Sends a request with a body, bytes or a value, and gives it."""
         body = value if isinstance(value, bytes) else noise.as_json(self.rng, value, noisy=False).encode()
-        self.spoils = ""
+        self.spoils = ()
         fields = self.credential(device) if device else []
         found = conversation.request_bytes(" | ".join([line, *fields]), body)
         self.listener.feed(found)
-        return found
-
-    def firmware(self):
-        return [self.ask("POST /rest/v1/softwaremodules", [{"name": "app", "type": "os", "version": "1"}]),
-                self.ask("POST /rest/v1/distributionsets", [{"name": "r1", "version": "1", "modules": [{"id": 1}]}]),
-                self.ask("POST /rest/v1/targets", [self.row("dev-01"), self.row("dev-02")])]
-
-    def plan(self, name):
-        return {"name": name, "distributionSetId": 1, "targetFilterQuery": "name==*", "amountGroups": 1,
-                "successCondition": self.threshold(),
-                "errorCondition": {"condition": "THRESHOLD", "expression": "100"}}
-
-    def up_to_a_limit(self):
-        """Requests up to a limit and a dozen past it."""
-        ways = (self.many_modules, self.many_sets, self.many_rollouts, self.many_artifacts, self.many_targets,
-                self.many_tags_and_attributes,
-                self.many_notes, self.many_notes)
-        found = self.firmware()
-        return found + self.rng.choice(ways)()
-
-    def many_modules(self):
-        return [self.ask("POST /rest/v1/softwaremodules", [{"name": "m", "type": "t", "version": str(it)}])
-                for it in range(1012)]
-
-    def many_sets(self):
-        return [self.ask("POST /rest/v1/distributionsets", [{"name": "s", "version": str(it),
-                                                             "modules": [{"id": 1}]}]) for it in range(1012)]
-
-    def many_rollouts(self):
-        return [self.ask("POST /rest/v1/rollouts", self.plan(f"r{it}")) for it in range(1012)]
-
-    def many_artifacts(self):
-        """Eight in each of 32 modules, and two more in each."""
-        found = []
-        for it in range(2, 36):
-            found.append(self.ask("POST /rest/v1/softwaremodules", [{"name": "m", "type": "t", "version": str(it)}]))
-            found += [self.ask(f"POST /rest/v1/softwaremodules/{it}/artifacts?filename=f{file}", b"abc")
-                      for file in range(10)]
-        return found
-
-    def many_targets(self):
-        """Just not too many by an import, and then some more by both calls."""
-        rows = "".join(f"t{it},t{it},token-{it:05},\n" for it in range(10_001 - self.rng.randrange(5)))
-        found = [self.ask("POST /desk/v1/import", f"controllerid,name,token,tags\n{rows}".encode())]
-        for it in range(12):
-            found.append(self.ask("POST /rest/v1/targets", self.rows(12)))
-            more = [(f"u{at}", "u", "token-uu", "") for at in range(self.rng.randint(0, 9))]
-            found.append(self.ask("POST /desk/v1/import", noise.csv_file(self.rng, more)))
-        return found
-
-    def many_tags_and_attributes(self):
-        found = [self.ask(f"POST /rest/v1/targets/dev-01/tags/t{it}") for it in range(30)]
-        for it in range(14):
-            data = {f"k{it}-{at}": "v" for at in range(self.rng.randint(1, 12))}
-            found.append(self.ask("PUT /DEFAULT/controller/v1/dev-02/configData", {"data": data}, "dev-02"))
-        return found
-
-    def many_notes(self):
-        """Notes of both kinds, with numbers and without, up to a hundred, and then some."""
-        found = [self.ask("POST /rest/v1/rollouts", self.plan("r")), self.ask("POST /rest/v1/rollouts/1/start"),
-                 self.ask("DELETE /rest/v1/targets/dev-01/actions/1")]
-        number = 0
-        for _ in range(150):
-            call = self.rng.choice(("deploymentBase", "cancelAction"))
-            body = {"status": {"execution": self.rng.choice(("proceeding", "resumed", "scheduled")),
-                               "result": {"finished": "none"}}}
-            if self.chance(0.3):
-                number += self.rng.choice((0, 1, 1, 2))
-                body["number"] = max(1, number)
-            found.append(self.ask(f"POST /DEFAULT/controller/v1/dev-01/{call}/1/feedback", body, "dev-01"))
         return found
