@@ -29,6 +29,8 @@ SECRET = "secret"
 BASE = "/DEFAULT/controller/v1"
 # how long a client waits, in seconds: longer than the proxies' own limits
 PATIENCE = 120
+# the longest that clients poll, in seconds: longer than any check takes on a busy machine
+LONGEST = 7200
 
 
 package = as_module(ROOT / "tools/package")
@@ -179,7 +181,7 @@ def crowd(names, devices, clients, stop, tell):
     """So many clients over kept connections, in a process of their own."""
     alike = requests(names, devices, stop)
     them = herd.Crowd(LOCAL, [herd.Client("127.0.200.1", alike) for _ in range(clients)])
-    waiting = them.run(600)
+    waiting = them.run(LONGEST)
     them.waits.sort()
     tell.send((dict(them.told), waiting, them.late(), them.waits[-1] if them.waits else 0.0, len(them.waits)))
 
