@@ -1,4 +1,5 @@
 -- The ledger behind a row of a put, and between its name and its tags, can be read.
+use Rattle.sqlite.specs.State.{State}
 use Rattle.desk_commands.proofs.Common.{◌≡◌, ◌≤◌, ◌<◌, ◌^◌, ◌&&◌, ℕ, zero, suc, pos, Bool, true, false, cond, inl, inr, List, [], ◌∷◌, take, get_or, length, Option, Some, None, Result, Err, refl, sym, ap, ◌∙◌, subst, arith, true≢false, length-map, list_all, and_parts, HasCleanDisk, HoldsLedger, ledger_of, IsHeld, Sees, Wears, Fault, Refusal, CommandList, ◌▸◌, IsValid, Records, records, records_step, step_records, put_targets, change_target, Bytes, Attribute, TargetRow, PutTargets, Target, check, same_bytes, renamed, with_changed, attribute_rows, tag_rows, target_row, Has, is_digest, is_tag_list, is_text, is_value, is_word, limits_hold, broken_attribute_column, broken_listed_column, broken_target_column, BreaksColumn, IsReadable, second_shown, third_shown, seen_in, OpenChange, Ghosts, FailsWriting, TakesRow, TakesRows, le_trans, has_flat, kept_to}
 use Rattle.sqlite_value.specs.Order.{Row}
 use Rattle.sqlite_value.specs.declared.value.Value.TheVariants.{Int, Text}
@@ -113,22 +114,23 @@ good_at p (y ∷ ys) zero x below is all = ap p is ∙ (and_parts (p y) (list_al
 good_at p (y ∷ ys) (suc k) x below is all = good_at p ys k x (omega (arith, below)) is (and_parts (p y) (list_all p ys) all).1
 
 -- behind those that are put before it
-pub rows_end : {S : Type 0} {g : Ghosts S} {old mid new : OpenChange S} {fault : Fault} (rows : List TargetRow) (row : TargetRow) (k : ℕ) → k < length rows → row ≡ get_or rows k row → (left : Option ℕ) → PutsSoFar (seen_in g old) (seen_in g mid) (take k rows) left
-    → old.store.now.calls.failures ≤ mid.store.now.calls.failures → Wears (seen_in g mid) (seen_in g new) → FailsWriting g (TakesRow row) {A = Result (Option ℕ) Refusal} mid new (Err fault) → Exits g (TakesRows rows) old new fault
-rows_end {g = g} {old = old} {mid = mid} rows row k below at left so_far grows wears w = λ sight was given.
-    let of = given.of_list in
+pub rows_end : {S : Type 0} {g : Ghosts S} {was : State} {mid new : OpenChange S} {fault : Fault} (rows : List TargetRow) (row : TargetRow) (k : ℕ) → k < length rows → row ≡ get_or rows k row → (left : Option ℕ) → PutsSoFar was (seen_in g mid) (take k rows) left
+    → Wears (seen_in g mid) (seen_in g new) → FailsWriting g (TakesRow row) {A = Result (Option ℕ) Refusal} mid new (Err fault) → Exits g (TakesRows rows) was new fault
+rows_end {g = g} {was = was} {mid = mid} rows row k below at left so_far wears w = λ l sees it.
+    let of = it.given.of_list in
     let h = of.list in
-    let so = so_far.puts h of.valid (subst (Sees HoldsLedger (seen_in g old)) of.is was.sees) in
-    let good = kept_to is_target_row k rows given.rows_keep in
+    let so = so_far.puts h of.valid (subst (Sees HoldsLedger was) of.is sees) in
+    let good = kept_to is_target_row k rows it.given.rows_keep in
     record {
-      call = λ store clean.
+      reason = λ is clean.
           let quiet : HasCleanDisk (seen_in g mid) = omega (arith, clean, wears) in
           let few = few_left left (step_records (records h) (PutTargets (take k rows))) (so.1 quiet) in
-          (w.to
-          (record { ledger = ledger_of (step_records (records h) (PutTargets (take k rows))); readable = put_readable h of.valid (take k rows) good few (subst IsReadable of.is sight.readable); failed = sight.failed })
-          (record { sees = so.0; before = record { failures = le_trans was.before.failures grows } })
+          (w.to (ledger_of (step_records (records h) (PutTargets (take k rows)))) so.0
           (record {
-            of_list = record { list = h ▸ PutTargets (take k rows); valid = put_valid h of.valid (take k rows) good few; is = ap ledger_of (put_is h of.valid (take k rows) good few) };
-            row_keeps = good_at is_target_row rows k row below at given.rows_keep;
-          })).call store clean;
+            readable = put_readable h of.valid (take k rows) good few (subst IsReadable of.is it.readable);
+            given = record {
+              of_list = record { list = h ▸ PutTargets (take k rows); valid = put_valid h of.valid (take k rows) good few; is = ap ledger_of (put_is h of.valid (take k rows) good few) };
+              row_keeps = good_at is_target_row rows k row below at it.given.rows_keep;
+            };
+          })).reason is clean;
     }

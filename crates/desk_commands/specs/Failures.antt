@@ -18,14 +18,15 @@ use Rattle.campaign_core.specs.declared.rollout_checks.actions.ActionChange.{Act
 use Rattle.campaign_core.specs.declared.rollout_checks.actions.ActionChange.TheVariants.{Ends}
 use Rattle.campaign_core.specs.declared.rollout_checks.actions.Ending.{Ending}
 use Rattle.desk_records.specs.FeedbackNumbers.{last_number, numbers_numbered}
-use Rattle.desk_records.specs.Holds.{Ledger}
+use Rattle.desk_records.specs.Holds.{HoldsLedger, Ledger}
 use Rattle.desk_records.specs.RolloutRow.{stored_action}
 use Rattle.desk_records.specs.declared.rollout_row.StoredAction.{StoredAction}
 use Rattle.desk_records.specs.declared.number_row.PlacedNumber.{PlacedNumber}
 use Rattle.desk_records.specs.TargetRow.{stored_target}
 use Rattle.desk_records.specs.declared.target_row.StoredTarget.{StoredTarget}
-use Rattle.desk_store.specs.Blaming.{FailedBefore}
-use Rattle.desk_store.specs.Failing.{HasCall, HasSight, Sight}
+use Rattle.desk_store.specs.Breaking.{BreaksFirst, HasReason}
+use Rattle.desk_store.specs.Failing.{ReadableAs, nothing}
+use Rattle.desk_store.specs.Readable.{IsReadable}
 use Rattle.desk_store.specs.declared.change.OpenChange.{OpenChange}
 use Rattle.desk_reads.specs.AtLists.{IsOfList}
 use Rattle.desk_reads.specs.Rollouts.{IsSeenOf}
@@ -37,27 +38,22 @@ use Rattle.desk_commands.specs.declared.seen_actions.SeenAction.{SeenAction}
 use Rattle.desk_commands.specs.declared.telling.Told.{Told}
 
 module _ {S : Type 0} (g : Ghosts S) where
-  module _ (Given : Ledger → Type 0) where
-    abbrev pub WritingTo : {A : Type 0} → OpenChange S → OpenChange S → Result A Fault → Type 0
-    WritingTo old new (Ok a) = (sight : Sight) → HasSight g old sight → FailedBefore g new sight.failed
-    WritingTo old new (Err fault) = (sight : Sight) → HasSight g old sight → Given sight.ledger → HasCall g new sight.failed fault
-
-    -- What reads and then writes: where the ledger before can be read, and is as given, a failed store is a call that failed.
-    pub record FailsWriting {A : Type 0} (old new : OpenChange S) (result : Result A Fault) : Type 0 where
-      pub to : WritingTo old new result
+  -- what reads and then writes: where the ledger before can be read, and is as given, broken rows are never told
+  abbrev pub FailsWriting : (Ledger → Type 0) → {A : Type 0} → OpenChange S → OpenChange S → Result A Fault → Type 0
+  FailsWriting Given = BreaksFirst g HoldsLedger (ReadableAs Given) nothing
 
   -- .. whatever it is
   abbrev pub FailsWritingIn : {A : Type 0} → OpenChange S → OpenChange S → Result A Fault → Type 0
-  FailsWritingIn = FailsWriting (λ l. Unit {0})
+  FailsWritingIn = BreaksFirst g HoldsLedger IsReadable nothing
 
   module _ (If : Type 0) where
-    abbrev pub CountsIfTo : {A : Type 0} → OpenChange S → OpenChange S → Result A Fault → Type 0
-    CountsIfTo old new (Ok a) = (failed : ℕ) → FailedBefore g old failed → FailedBefore g new failed
-    CountsIfTo old new (Err fault) = (failed : ℕ) → FailedBefore g old failed → If → HasCall g new failed fault
+    abbrev pub CountsIfTo : {A : Type 0} → OpenChange S → Result A Fault → Type 0
+    CountsIfTo new (Ok a) = Unit {0}
+    CountsIfTo new (Err fault) = If → HasReason g new ⊥ fault
 
-    -- what writes: if this is so, a failed store is a call that failed, whatever is seen
+    -- what writes: if this is so, broken rows are never told
     pub record CountsIf {A : Type 0} (old new : OpenChange S) (result : Result A Fault) : Type 0 where
-      pub to : CountsIfTo old new result
+      pub to : CountsIfTo new result
 
 -- ---- steps
 

@@ -1,7 +1,7 @@
 //! Feedback on actions, and the cancels of actions.
 
 ghost use Rattle.std.specs.Prelude.{◌≡◌, ◌+◌, cond, MatchResult, None, Some, is_some};
-ghost use Rattle.sql_calls.specs.declared.fault.Fault.TheVariants.{Store};
+ghost use Rattle.sql_calls.specs.declared.fault.Fault.TheVariants.{Broken};
 ghost use Rattle.rollout_machine.specs.Reports.{reported};
 ghost use Rattle.rollout_machine.specs.Commands.{Cancel as CancelCommand, CancelFeedback, Feedback};
 ghost use Rattle.desk_commands.specs.ActionSteps.{Acts, ActsBy, Follows, MayAct, TellsAction, WritesFeedback};
@@ -150,19 +150,19 @@ fn may_act<S: Alter>(
     let Some(after) = after else {
         return Ok(());
     };
-    let seen = seen.ok_or(Fault::Store)?;
+    let seen = seen.ok_or(Fault::Broken)?;
     act(change, &seen, after, told)
 }
 
 /// What an accepted command makes of its action: nothing where it repeats an outcome.
 fn action_change(accepted: &RolloutChange) -> Result<Option<ActionChange>, Fault>
-    ensures { MatchResult result (λ after. action_change_of accepted.now ≡ Some after) (λ e. (e ≡ Store) × (action_change_of accepted.now ≡ None)) }
+    ensures { MatchResult result (λ after. action_change_of accepted.now ≡ Some after) (λ e. (e ≡ Broken) × (action_change_of accepted.now ≡ None)) }
 {
     match accepted {
         RolloutChange::Cancel(after) => Ok(Some(*after)),
         RolloutChange::Feedback(after) => Ok(*after),
         RolloutChange::CancelFeedback(after) => Ok(*after),
-        _ => Err(Fault::Store),
+        _ => Err(Fault::Broken),
     }
 }
 

@@ -1,7 +1,7 @@
 //! What follows from the outcome of an action: it is counted in its group, its rollout may pause, and the next group may start.
 
 ghost use Rattle.std.specs.Prelude.{◌≡◌, ◌≤◌, ◌+◌, ◌^◌, MatchResult};
-ghost use Rattle.sql_calls.specs.declared.fault.Fault.TheVariants.{Store};
+ghost use Rattle.sql_calls.specs.declared.fault.Fault.TheVariants.{Broken};
 ghost use Rattle.rollout_machine.specs.RecordSteps.{counted};
 ghost use Rattle.desk_commands.specs.Endings.{CountsOutcome, FollowsOutcome, FollowsSo, StartsGroupOf, outcomes_in};
 ghost use Rattle.desk_commands.specs.Failures.{CanCount, CanEnd, CanFollow, CountsIf, HasNext};
@@ -20,7 +20,7 @@ use sqlite::Alter;
 fn counted(group: GroupRecord, outcome: Outcome) -> Result<GroupRecord, Fault>
     ensures { MatchResult result
         (λ after. after ≡ counted outcome group.number group)
-        (λ e. (e ≡ Store) × (2 ^ 32 ≤ outcomes_in outcome group + 1)) }
+        (λ e. (e ≡ Broken) × (2 ^ 32 ≤ outcomes_in outcome group + 1)) }
 {
     match outcome {
         Outcome::Good => {
@@ -67,7 +67,7 @@ fn start_next<S: Alter>(change: &mut OpenChange<'_, S>, seen: &SeenAction) -> Re
     ensures counts { CountsIf S.Store (HasNext seen.now) change.old change.new result }
     ensures work { AddsIn 2 0 change.old change.new }
 {
-    let group = seen.next.ok_or(Fault::Store)?;
+    let group = seen.next.ok_or(Fault::Broken)?;
     start_group(change, seen.action.rollout, &group)
 }
 

@@ -1,7 +1,7 @@
 //! Groups as the rules of rollouts rest on them.
 
 ghost use Rattle.std.specs.Prelude.{◌≡◌, MatchResult, Some};
-ghost use Rattle.sql_calls.specs.declared.fault.Fault.TheVariants.{Store};
+ghost use Rattle.sql_calls.specs.declared.fault.Fault.TheVariants.{Broken};
 ghost use Rattle.rollout_machine.specs.StateWords.{size_of_group};
 ghost use Rattle.desk_commands.specs.GroupViews.{EndsBeyond, view_by};
 
@@ -12,7 +12,7 @@ use rollout_model::GroupRule;
 
 /// How many members the group has. One that reaches beyond all numbers is a failed store.
 fn size_of(group: &GroupRecord) -> Result<u32, Fault>
-    ensures { MatchResult result (λ size. size ≡ size_of_group group.now) (λ e. (e ≡ Store) × EndsBeyond (Some group.now)) }
+    ensures { MatchResult result (λ size. size ≡ size_of_group group.now) (λ e. (e ≡ Broken) × EndsBeyond (Some group.now)) }
 {
     let end = one_more(group.bounds.last)?;
     Ok(end.saturating_sub(group.bounds.first))
@@ -24,7 +24,7 @@ pub(crate) fn group_view(
     number: u32,
     group: Option<GroupRecord>,
 ) -> Result<GroupView, Fault>
-    ensures { MatchResult result (λ view. view ≡ view_by rule.now number group) (λ e. (e ≡ Store) × EndsBeyond group) }
+    ensures { MatchResult result (λ view. view ≡ view_by rule.now number group) (λ e. (e ≡ Broken) × EndsBeyond group) }
 {
     let success = rule.success.get();
     let error = rule.error.get();

@@ -91,7 +91,7 @@ fn read_last_rule<S: Alter>(
     if last == 0 {
         return Ok(own_rule(&seen.plan));
     }
-    let rule = change.read_rule(number, last)?.ok_or(Fault::Store)?;
+    let rule = change.read_rule(number, last)?.ok_or(Fault::Broken)?;
     Ok(rule)
 }
 
@@ -176,7 +176,7 @@ fn start_next<S: Alter>(
     let Some(next) = starts else {
         return Ok(());
     };
-    let group = group_at(groups, next).ok_or(Fault::Store)?;
+    let group = group_at(groups, next).ok_or(Fault::Broken)?;
     start_group(change, number, &group)
 }
 

@@ -101,7 +101,7 @@ fn stand_against<S: Alter, W: Copy>(
     }
     let entry = change
         .read_entry(given.action, last.sequence)?
-        .ok_or(Fault::Store)?;
+        .ok_or(Fault::Broken)?;
     if same_entry(&entry, said, &given.details) {
         Ok(Standing::Again)
     } else {

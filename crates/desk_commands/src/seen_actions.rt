@@ -1,7 +1,7 @@
 //! An action as commands on it find it: with its group and its rollout.
 
 ghost use Rattle.std.specs.Prelude.{◌≡◌, ◌+◌, option_map, MatchResult, Some};
-ghost use Rattle.sql_calls.specs.declared.fault.Fault.TheVariants.{Store};
+ghost use Rattle.sql_calls.specs.declared.fault.Fault.TheVariants.{Broken};
 ghost use Rattle.campaign_core.specs.OwnGroups.{waits};
 ghost use Rattle.desk_store.specs.Counting.{AddsIn};
 ghost use Rattle.rollout_machine.specs.Reports.{reported};
@@ -71,7 +71,7 @@ fn own_view(
 ) -> Result<OwnView, Fault>
     ensures { MatchResult result
         (λ view. view ≡ own_seen rollout.now rule.now own.now next.now)
-        (λ e. (e ≡ Store) × EndsBeyond (Some own.now)) }
+        (λ e. (e ≡ Broken) × EndsBeyond (Some own.now)) }
 {
     let view = group_view(rule, own.number, Some(*own))?;
     Ok(OwnView {
@@ -92,12 +92,12 @@ fn see_in<S: Alter>(
     ensures fails { FailsGiven S.Store (IsActionOf number action.now) change.old change.new result }
     ensures work { AddsIn 3 4 change.old change.new }
 {
-    let rollout = change.read_rollout(action.rollout)?.ok_or(Fault::Store)?;
+    let rollout = change.read_rollout(action.rollout)?.ok_or(Fault::Broken)?;
     let found = change.read_group_and_next(action.rollout, action.position)?;
-    let own = found.group.ok_or(Fault::Store)?;
+    let own = found.group.ok_or(Fault::Broken)?;
     let rule = change
         .read_rule(action.rollout, own.number)?
-        .ok_or(Fault::Store)?;
+        .ok_or(Fault::Broken)?;
     let view = own_view(&rollout, &rule, &own, &found.next)?;
     Ok(SeenAction {
         number,

@@ -2,7 +2,7 @@
 
 ghost use Rattle.std.specs.Prelude.{◌≡◌, ◌≤◌, ◌<◌, ◌+◌, MatchResult, length, slice_get};
 ghost use Rattle.std.specs.Option.{ok_or};
-ghost use Rattle.sql_calls.specs.declared.fault.Fault.TheVariants.{Store};
+ghost use Rattle.sql_calls.specs.declared.fault.Fault.TheVariants.{Broken};
 ghost use Rattle.rollout_machine.specs.Commands.{Start};
 ghost use Rattle.desk_commands.specs.Standings.{Judges};
 ghost use Rattle.desk_commands.specs.Starts.{AddsActions, ReadsMembers, StartsWhole};
@@ -94,20 +94,20 @@ fn write_start<S: Alter>(
 fn check_numbers(last: u32, members: &[ControllerId]) -> Result<(), Fault>
     ensures { MatchResult result
         (λ _. last + length members.now ≤ 2147483647)
-        (λ e. (e ≡ Store) × (2147483647 < last + length members.now)) }
+        (λ e. (e ≡ Broken) × (2147483647 < last + length members.now)) }
 {
-    let left = NUMBER_LIMIT.checked_sub(last).ok_or(Fault::Store)?;
+    let left = NUMBER_LIMIT.checked_sub(last).ok_or(Fault::Broken)?;
     if members.len() > left as usize {
-        return Err(Fault::Store);
+        return Err(Fault::Broken);
     }
     Ok(())
 }
 
 /// The first group of a rollout. Where it isn't there the store failed.
 fn first_group(seen: &SeenRollout) -> Result<GroupRecord, Fault>
-    ensures { result ≡ ok_or (slice_get seen.now.groups.items 0) Store }
+    ensures { result ≡ ok_or (slice_get seen.now.groups.items 0) Broken }
 {
-    seen.groups.first().copied().ok_or(Fault::Store)
+    seen.groups.first().copied().ok_or(Fault::Broken)
 }
 
 /// Starts a rollout that is ready: each member has an action from then on, and those of the first group are offered.

@@ -3,9 +3,8 @@ use Rattle.desk_opening.proofs.Common.{◌≡◌, inl, inr, refl, [], Bool, Ok, 
 use Rattle.std.specs.Prelude.{IsErrAnd}
 use Rattle.sqlite.specs.Store.{Ghosts}
 use Rattle.sql_calls.specs.declared.calls.Calls.{Calls}
-use Rattle.sql_calls.specs.declared.fault.Fault.TheVariants as fault
 use Rattle.desk_opening.specs.Causes.{FailsOpening, HasCause, IsHealthy}
-use Rattle.desk_opening.specs.Counting.{Counts, CountsOpening, FailsAt, FailsGiven, HasCall}
+use Rattle.desk_opening.specs.Counting.{Counts, CountsOpening, FailsAt, FailsGiven, HasCall, IsStore, TellsStore}
 use Rattle.desk_opening.specs.Filling.{GivenBare}
 use Rattle.desk_opening.proofs.MigrateLemmas.{named as renamed}
 use Rattle.desk_opening.proofs.AdoptLemmas.{stood_at}
@@ -15,15 +14,15 @@ use Rattle.desk_opening.proofs.HeldLemmas.{has_tables}
 module _ {S : Type 0} {g : Ghosts S} where
   -- ---- the tables are made the newest
 
-  pub newest_fails : {E : Type 0} {store : E} (v : Version) {a : Calls S} → FailsAt g {A = Unit {0}} {E = E} store v a a (Ok tt)
+  pub newest_fails : {E : Type 0} {Told : E → Type 0} (v : Version) {a : Calls S} → FailsAt g {A = Unit {0}} {E = E} Told v a a (Ok tt)
   newest_fails v = record { to = λ failed was. was }
 
-  pub at_named : {A B : Type 0} (v : Version) {a b : Calls S} (f : Fault) → FailsAt g {A = A} fault.Store v a b (Err f) → (e : OpenFault) → (e ≡ Store → f ≡ fault.Store) → FailsAt g {A = B} Store v a b (Err e)
+  pub at_named : {A B : Type 0} (v : Version) {a b : Calls S} (f : Fault) → FailsAt g {A = A} TellsStore v a b (Err f) → (e : OpenFault) → (IsStore e → TellsStore f) → FailsAt g {A = B} IsStore v a b (Err e)
   at_named v f h e same = record { to = λ failed was r rests readable clean. let it = h.to failed was r rests readable clean in record { before = it.before; call = λ is. it.call (same is) } }
 
   -- the tables that were made are found
-  pub looked_fails : (v : Version) {a z : Calls S} → FailsAt g {A = Unit {0}} fault.Store v a z (Ok tt) → Migrates {A = Unit {0}} {E = Fault} v (state g a.conn) (state g z.conn) (Ok tt) → IsKnownOpen (state g z.conn)
-      → (schema : Schema) → schema ≡ (state g z.conn).now.schema → (out : Result (Unit {0}) OpenFault) → (out ≡ Err Store → ¬ HasDeskTables newest schema) → FailsAt g Store v a z out
+  pub looked_fails : (v : Version) {a z : Calls S} → FailsAt g {A = Unit {0}} TellsStore v a z (Ok tt) → Migrates {A = Unit {0}} {E = Fault} v (state g a.conn) (state g z.conn) (Ok tt) → IsKnownOpen (state g z.conn)
+      → (schema : Schema) → schema ≡ (state g z.conn).now.schema → (out : Result (Unit {0}) OpenFault) → (out ≡ Err Store → ¬ HasDeskTables newest schema) → FailsAt g IsStore v a z out
   looked_fails v h m opened schema here (Ok x) missing = record { to = h.to }
   looked_fails v {a} {z} h m opened schema here (Err e) missing = record {
     to = λ failed was r rests readable clean.
@@ -36,27 +35,27 @@ module _ {S : Type 0} {g : Ghosts S} where
 
   module _ (v : Version) {a : Calls S} (b c : Calls S) {d e : Calls S} (first : RunsText (state g a.conn) (state g b.conn) BEGIN.now [] (Ok tt)) (second : MakesTables {A = Unit {0}} {E = Fault} (later_than v) (state g b.conn) (state g c.conn) (Ok tt))
       (third : RunsText (state g c.conn) (state g d.conn) SET_VERSION.now [] (Ok tt)) (counts : Counts {A = Unit {0}} a d (Ok tt)) where
-    pub fill_fails : (f : Fault) → FailsGiven g (GivenBare v) {A = Unit {0}} d e (Err f) → (out : Result (Unit {0}) Fault) → IsErrAnd out (λ i. i ≡ f) → FailsAt g fault.Store v a e out
+    pub fill_fails : (f : Fault) → FailsGiven g (GivenBare v) {A = Unit {0}} d e (Err f) → (out : Result (Unit {0}) Fault) → IsErrAnd out (λ i. i ≡ f) → FailsAt g TellsStore v a e out
     fill_fails f h (Ok x) is = absurd is
     fill_fails f h (Err i) is = record {
       to = λ failed was r rests readable clean.
           let now = renamed v {F = Fault} (Ok tt) (state g a.conn) (state g b.conn) first (state g c.conn) second (state g d.conn) third (state g e.conn) r rests in
           let seen : Sees HoldsLedger (state g d.conn) (bare_ledger v r) = record { sees = λ known. let it = now.sees.sees known in record { mode = it.mode; is_open = it.is_open; now_holds = it.now_holds } } in
-          subst (HasCall fault.Store e failed) (sym is) (h.to failed (counts.to failed was) (bare_ledger v r) seen (record { records = r; bare = refl; readable = readable }) clean);
+          subst (HasCall TellsStore e failed) (sym is) (h.to failed (counts.to failed was) (bare_ledger v r) seen (record { records = r; bare = refl; readable = readable }) clean);
     }
 
   -- ---- taken over, by the version that the row names
 
   module _ {a m z : Calls S} (table : StandsSomewhere (state g a.conn).now.schema (desk_table 0)) (v : Version) (k : Keeps {E = OpenFault} (state g a.conn) (state g m.conn) (Ok v))
       (tells : HasCleanDisk (state g m.conn) → TellsVersion (state g a.conn).now (Ok v)) (settled : IsSettled (state g a.conn)) (counts : CountsOpening {A = Version} a m (Ok v)) (wears : Wears (state g m.conn) (state g z.conn)) where
-    pub adopts_fails : {A : Type 0} (w : Version) (out : Result A OpenFault) → FailsAt g Store v m z out → FailsAt g Store w a z out
+    pub adopts_fails : {A : Type 0} (w : Version) (out : Result A OpenFault) → FailsAt g IsStore v m z out → FailsAt g IsStore w a z out
     adopts_fails w (Ok x) h = record { to = λ failed was. h.to failed (counts.to failed was) }
     adopts_fails w (Err e) h = record { to = λ failed was r rests readable clean. h.to failed (counts.to failed was) r (stood_at (state g a.conn) (state g m.conn) table v k tells settled (state g z.conn) w wears clean r rests) readable clean }
 
   -- ---- the one or the other
 
   module _ {A : Type 0} {a z : Calls S} where
-    pub taken_fails : (out : Result A OpenFault) → ((v : Version) → FailsAt g Store v a z out) → (¬ LeavesFree (state g a.conn).now.schema desk_names) → Wears (state g a.conn) (state g z.conn) → FailsOpening g a z out
+    pub taken_fails : (out : Result A OpenFault) → ((v : Version) → FailsAt g IsStore v a z out) → (¬ LeavesFree (state g a.conn).now.schema desk_names) → Wears (state g a.conn) (state g z.conn) → FailsOpening g a z out
     taken_fails (Ok x) h used wears = record { to = tt }
     taken_fails (Err e) h used wears = record {
       to = λ failed was known sound clean. elim sound [

@@ -3,7 +3,7 @@ use Rattle.desk_opening.proofs.Common.{◌≡◌, ◌<◌, ◌≤◌, ◌^◌, �
 use Rattle.sqlite.specs.Store.{Ghosts}
 use Rattle.sql_calls.specs.Standing.{Sees}
 use Rattle.sql_calls.specs.declared.calls.Calls.{Calls}
-use Rattle.sql_calls.specs.declared.fault.Fault.TheVariants.{Memory, Store}
+use Rattle.sql_calls.specs.declared.fault.Fault.TheVariants.{Broken, Memory, Store}
 use Rattle.sql_calls.proofs.Finding.{first_finds}
 use Rattle.rollout_machine.specs.ByteStrings.{item_numbered}
 use Rattle.desk_records.specs.LedgerSteps.{with_rules}
@@ -12,13 +12,13 @@ use Rattle.desk_records.specs.RowFaults.{IfStore}
 use Rattle.desk_records.specs.declared.rollout_row.StoredRollout.{StoredRollout}
 use Rattle.desk_records.proofs.RolloutMeaning.{rollout_names}
 use Rattle.desk_records.proofs.RolloutRecords.{gets_rollout, lasts_rollout}
-use Rattle.desk_opening.specs.Counting.{AreReadable, Counts, FailsGiven, HasReadable, IsReadable}
+use Rattle.desk_opening.specs.Counting.{AreReadable, Counts, FailsGiven, HasReadable, IsReadable, TellsStore}
 use Rattle.desk_opening.specs.Filling.{GivenBare, GivenRules, HasNoNumber, LacksRollout}
 use Rattle.desk_opening.proofs.FillLemmas.{ending, getting, within}
 use Rattle.desk_opening.proofs.RowLemmas.{within_row}
 
-never_memory : {A : Type 0} → Memory ≡ Store → A
-never_memory is = absurd cc
+never_memory : {A : Type 0} → TellsStore Memory → A
+never_memory told = absurd (told refl)
 
 abbrev done : Result (Unit {0}) Fault
 done = Ok tt
@@ -34,7 +34,8 @@ module _ {S : Type 0} {g : Ghosts S} {old new : Calls S} where
       → (out : Result ℕ Fault) → IfErr out (λ fault. IfStore fault (HasNoNumber row)) → FailsGiven g (λ l. length l.records.rollouts < 2 ^ 32) old new out
   last_fails row h counts (Ok n) why = record { to = counts.to }
   last_fails row h counts (Err Memory) why = record { to = λ failed was l sees few clean. record { before = counts.to failed was; call = never_memory } }
-  last_fails row h counts (Err Store) why =
+  last_fails row h counts (Err Store) why = absurd why
+  last_fails row h counts (Err Broken) why =
       let found = first_finds HoldsLedger (λ (l : Ledger). l) LAST_ROLLOUT.now [] (state g old.conn) (state g new.conn) (λ l (u : Unit {0}). IsLastRow (length l.records.rollouts) row) ending (λ db r holds at given. tt) row h done
       (λ db l holds shown. lasts_rollout db l holds (codes "number" ∷ []) row shown) in
       record { to = λ failed was l sees few clean. record { before = counts.to failed was; call = λ is. absurd (number_kept row (length l.records.rollouts) few ((found.finds l sees).1 clean) why) } }
@@ -52,7 +53,8 @@ module _ {S : Type 0} {g : Ghosts S} {old new : Calls S} (number : ℕ) (least :
       → (out : Result StoredRollout Fault) → IfErr out (λ fault. IfStore fault (LacksRollout row)) → FailsGiven g (HasReadable number) old new out
   rollout_fails row h counts (Ok x) why = record { to = counts.to }
   rollout_fails row h counts (Err Memory) why = record { to = λ failed was l sees given clean. record { before = counts.to failed was; call = never_memory } }
-  rollout_fails row h counts (Err Store) why =
+  rollout_fails row h counts (Err Store) why = absurd why
+  rollout_fails row h counts (Err Broken) why =
       let found = first_finds HoldsLedger (λ (l : Ledger). l) GET_ROLLOUT.now (Int (pos number) ∷ []) (state g old.conn) (state g new.conn) (λ l (u : Unit {0}). row ≡ option_map told_rollout (item_numbered l.records.rollouts number)) getting
       (λ db r holds at given. tt) row h done (λ db l holds shown. gets_rollout db l holds rollout_names number least row shown) in
       record {

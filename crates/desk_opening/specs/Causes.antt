@@ -8,7 +8,7 @@ use Rattle.sql_calls.specs.declared.calls.Calls.{Calls}
 use Rattle.rollout_machine.specs.Records.{Records}
 use Rattle.desk_records.specs.Readable.{HoldsAt}
 use Rattle.desk_records.specs.declared.version.Version.{Version}
-use Rattle.desk_opening.specs.Counting.{AreReadable, FailedBefore, HasCall, HasFailed}
+use Rattle.desk_opening.specs.Counting.{AreReadable, FailedBefore, HasCall, HasFailed, IsStore}
 use Rattle.desk_opening.specs.Making.{HoldsStage, Free}
 use Rattle.desk_opening.specs.Opening.{IsKnownOpen}
 use Rattle.desk_opening.specs.declared.opening.OpenFault.{OpenFault}
@@ -29,7 +29,7 @@ module _ {S : Type 0} (g : Ghosts S) where
   abbrev pub FailsOpeningTo : {A : Type 0} → Calls S → Calls S → Result A OpenFault → Type 0
   FailsOpeningTo old new (Ok a) = Unit {0}
   FailsOpeningTo old new (Err e) = (failed : ℕ) → FailedBefore old failed → IsKnownOpen (state g old.conn) → IsHealthy (state g old.conn)
-      → HasCleanDisk (state g new.conn) → HasCall Store new failed e
+      → HasCleanDisk (state g new.conn) → HasCall IsStore new failed e
 
   pub record FailsOpening {A : Type 0} (old new : Calls S) (result : Result A OpenFault) : Type 0 where
     pub to : FailsOpeningTo old new result

@@ -1,5 +1,5 @@
 -- What an opening counts: a failed store is a call that failed.
-use Rattle.std.specs.Prelude.{◌≡◌, ◌≤◌, ◌<◌, ◌-◌, ◌^◌, ◌⊎◌, ℕ, length, Some, None, Result, Ok, Err}
+use Rattle.std.specs.Prelude.{◌≡◌, ◌≢◌, ◌≤◌, ◌<◌, ◌-◌, ◌^◌, ◌⊎◌, ℕ, length, Some, None, Result, Ok, Err}
 use Rattle.std.specs.List.{AllByRecursion}
 use Rattle.sqlite.specs.Store.{Ghosts}
 use Rattle.sqlite.specs.Held.{state}
@@ -27,24 +27,31 @@ HasFailed before now = (before < now) ⊎ (2 ^ 64 - 1 ≤ now)
 pub record FailedBefore {S : Type 0} (calls : Calls S) (failed : ℕ) : Type 0 where
   pub failures : failed ≤ calls.failures
 
--- no count fell, and a failed store is a call that failed since
-pub record HasCall {S E : Type 0} (store : E) (calls : Calls S) (failed : ℕ) (e : E) : Type 0 where
-  pub before : FailedBefore calls failed
-  pub call : e ≡ store → HasFailed failed calls.failures
+-- what an opening tells as a failed store
+abbrev pub TellsStore : Fault → Type 0
+TellsStore f = f ≢ fault.Memory
 
-abbrev pub CountsTo : {S A E : Type 0} → E → Calls S → Calls S → Result A E → Type 0
-CountsTo store old new (Ok a) = (failed : ℕ) → FailedBefore old failed → FailedBefore new failed
-CountsTo store old new (Err e) = (failed : ℕ) → FailedBefore old failed → HasCall store new failed e
+abbrev pub IsStore : OpenFault → Type 0
+IsStore e = e ≡ refused.Store
+
+-- no count fell, and what is told so is a call that failed since
+pub record HasCall {S E : Type 0} (Told : E → Type 0) (calls : Calls S) (failed : ℕ) (e : E) : Type 0 where
+  pub before : FailedBefore calls failed
+  pub call : Told e → HasFailed failed calls.failures
+
+abbrev pub CountsTo : {S A E : Type 0} → (E → Type 0) → Calls S → Calls S → Result A E → Type 0
+CountsTo Told old new (Ok a) = (failed : ℕ) → FailedBefore old failed → FailedBefore new failed
+CountsTo Told old new (Err e) = (failed : ℕ) → FailedBefore old failed → HasCall Told new failed e
 
 -- No count falls, and a failed store is a call that failed, whatever is seen.
-pub record CountsBy {S A E : Type 0} (store : E) (old new : Calls S) (result : Result A E) : Type 0 where
-  pub to : CountsTo store old new result
+pub record CountsBy {S A E : Type 0} (Told : E → Type 0) (old new : Calls S) (result : Result A E) : Type 0 where
+  pub to : CountsTo Told old new result
 
 abbrev pub Counts : {S A : Type 0} → Calls S → Calls S → Result A Fault → Type 0
-Counts = CountsBy fault.Store
+Counts = CountsBy TellsStore
 
 abbrev pub CountsOpening : {S A : Type 0} → Calls S → Calls S → Result A OpenFault → Type 0
-CountsOpening = CountsBy refused.Store
+CountsOpening = CountsBy IsStore
 
 -- ---- what a migration reads
 
@@ -68,17 +75,17 @@ module _ {S : Type 0} (g : Ghosts S) where
     abbrev pub FailsTo : {A : Type 0} → Calls S → Calls S → Result A Fault → Type 0
     FailsTo old new (Ok a) = (failed : ℕ) → FailedBefore old failed → FailedBefore new failed
     FailsTo old new (Err e) = (failed : ℕ) → FailedBefore old failed → (l : Ledger) → Sees HoldsLedger (state g old.conn) l → Given l
-        → HasCleanDisk (state g new.conn) → HasCall fault.Store new failed e
+        → HasCleanDisk (state g new.conn) → HasCall TellsStore new failed e
 
     -- where the ledger is as given, a failed store is a call that failed
     pub record FailsGiven {A : Type 0} (old new : Calls S) (result : Result A Fault) : Type 0 where
       pub to : FailsTo old new result
 
-  abbrev pub FailsAtTo : {A E : Type 0} → E → Version → Calls S → Calls S → Result A E → Type 0
-  FailsAtTo store v old new (Ok a) = (failed : ℕ) → FailedBefore old failed → FailedBefore new failed
-  FailsAtTo store v old new (Err e) = (failed : ℕ) → FailedBefore old failed → (r : Records) → Rests (HoldsAt v) (state g old.conn) r → AreReadable r
-      → HasCleanDisk (state g new.conn) → HasCall store new failed e
+  abbrev pub FailsAtTo : {A E : Type 0} → (E → Type 0) → Version → Calls S → Calls S → Result A E → Type 0
+  FailsAtTo Told v old new (Ok a) = (failed : ℕ) → FailedBefore old failed → FailedBefore new failed
+  FailsAtTo Told v old new (Err e) = (failed : ℕ) → FailedBefore old failed → (r : Records) → Rests (HoldsAt v) (state g old.conn) r → AreReadable r
+      → HasCleanDisk (state g new.conn) → HasCall Told new failed e
 
   -- where the tables of a version hold records that can be read, a failed store is a call that failed
-  pub record FailsAt {A E : Type 0} (store : E) (v : Version) (old new : Calls S) (result : Result A E) : Type 0 where
-    pub to : FailsAtTo store v old new result
+  pub record FailsAt {A E : Type 0} (Told : E → Type 0) (v : Version) (old new : Calls S) (result : Result A E) : Type 0 where
+    pub to : FailsAtTo Told v old new result

@@ -14,7 +14,7 @@ use crate::running::{first, run};
 use desk_records::{
     GET_ROLLOUT, LAST_ROLLOUT, PUT_RULE, StoredRollout, Version, fault_of_row, read_stored_rollout,
 };
-use sql_calls::{Calls, Fault, fault_of};
+use sql_calls::{Calls, Fault, broken_of};
 use sqlite::{Alter, Row, params};
 use std::alloc::Global;
 
@@ -136,7 +136,7 @@ fn last_number(row: Option<Row>) -> Result<u32, Fault>
     };
     match row.get(0) {
         Ok(number) => Ok(number),
-        Err(error) => Err(fault_of(error)),
+        Err(error) => Err(broken_of(error)),
     }
 }
 
@@ -146,7 +146,7 @@ fn rollout_in(alloc: Global, row: Option<Row>) -> Result<StoredRollout, Fault>
     ensures err { IfErr result (λ fault. IfStore fault (LacksRollout row)) }
 {
     let Some(row) = row else {
-        return Err(Fault::Store);
+        return Err(Fault::Broken);
     };
     match read_stored_rollout(alloc, &row) {
         Ok(rollout) => Ok(rollout),

@@ -2,7 +2,7 @@
 
 ghost use Rattle.std.specs.Prelude.{IfOk};
 ghost use Rattle.sqlite.specs.Held.{state};
-ghost use Rattle.desk_opening.specs.Counting.{FailsAt};
+ghost use Rattle.desk_opening.specs.Counting.{FailsAt, TellsStore};
 ghost use Rattle.desk_opening.specs.Migrating.{Migrates};
 ghost use Rattle.desk_opening.specs.Opening.{IsKnownOpen};
 
@@ -22,7 +22,7 @@ pub(crate) fn migrate<S: Alter>(
     version: Version,
 ) -> Result<(), Fault>
     ensures migrates { Migrates version (state S.Store calls.old.conn) (state S.Store calls.new.conn) result }
-    ensures fails { FailsAt S.Store Fault.Store version calls.old calls.new result }
+    ensures fails { FailsAt S.Store TellsStore version calls.old calls.new result }
     ensures opened { IfOk result (λ done. IsKnownOpen (state S.Store calls.new.conn)) }
 {
     run(calls, BEGIN, &[])?;

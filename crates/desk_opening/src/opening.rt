@@ -18,7 +18,7 @@ ghost use Rattle.desk_records.specs.Versions.{newest};
 ghost use Rattle.desk_opening.specs.Opening.{Adopts, HasDeskTables, IsDeskRow, IsFailure, IsSettled, IsWholeAt};
 ghost use Rattle.desk_opening.specs.Opening.{Keeps, LacksAt, OpensDesk, TakesRow, Tells, TellsVersion};
 ghost use Rattle.desk_opening.specs.Migrating.{Migrates};
-ghost use Rattle.desk_opening.specs.Counting.{CountsOpening, FailsAt};
+ghost use Rattle.desk_opening.specs.Counting.{CountsOpening, FailsAt, IsStore, TellsStore};
 ghost use Rattle.desk_opening.specs.Causes.{FailsOpening, HasCause};
 
 use crate::desk_table::{DeskTable, TABLES};
@@ -150,17 +150,17 @@ fn unread(error: Error) -> OpenFault
 {
     match fault_of(error) {
         Fault::Memory => OpenFault::Memory,
-        Fault::Store => OpenFault::NotDesk,
+        Fault::Store | Fault::Broken => OpenFault::NotDesk,
     }
 }
 
 pub(crate) fn open_fault(fault: Fault) -> OpenFault
     ensures failed { IsFailure result }
-    ensures store { result ≡ OpenFault.Store → fault ≡ Fault.Store }
+    ensures store { IsStore result → TellsStore fault }
 {
     match fault {
         Fault::Memory => OpenFault::Memory,
-        Fault::Store => OpenFault::Store,
+        Fault::Store | Fault::Broken => OpenFault::Store,
     }
 }
 
@@ -210,7 +210,7 @@ fn find_version<S: Alter>(alloc: Global, calls: &mut Calls<S>) -> Result<Version
 /// back by itself, and then ROLLBACK finds no transaction.
 fn first_fault(seen: Result<Version, OpenFault>, fault: Fault) -> OpenFault
     ensures failed { IsFailure result }
-    ensures store { result ≡ OpenFault.Store → fault ≡ Fault.Store }
+    ensures store { IsStore result → TellsStore fault }
 {
     match seen {
         Err(OpenFault::Memory) => OpenFault::Memory,
@@ -222,7 +222,7 @@ fn first_fault(seen: Result<Version, OpenFault>, fault: Fault) -> OpenFault
 /// looked at: a later version may have others. The tables of an older version become those of the newest.
 fn take_over<S: Alter>(alloc: Global, calls: &mut Calls<S>) -> Result<(), OpenFault>
     ensures adopts { Adopts (state S.Store calls.old.conn) (state S.Store calls.new.conn) result }
-    ensures fails { (v : Version) → FailsAt S.Store OpenFault.Store v calls.old calls.new result }
+    ensures fails { (v : Version) → FailsAt S.Store IsStore v calls.old calls.new result }
 {
     if !has_table(alloc, calls.schema(), DeskTable::Desk)? {
         return Err(OpenFault::NotDesk);
@@ -236,7 +236,7 @@ fn renew<S: Alter>(alloc: Global, calls: &mut Calls<S>, version: Version) -> Res
     ensures renews { Migrates version (state S.Store calls.old.conn) (state S.Store calls.new.conn) result }
     ensures renewed { IfOk result (λ it. (version ≡ newest) ⊎ HasDeskTables newest (state S.Store calls.new.conn).now.schema) }
     ensures failed { IfErr result IsFailure }
-    ensures fails { FailsAt S.Store OpenFault.Store version calls.old calls.new result }
+    ensures fails { FailsAt S.Store IsStore version calls.old calls.new result }
 {
     if let Version::Three = version {
         return Ok(());

@@ -3,7 +3,7 @@
 ghost use Rattle.std.specs.Prelude.{◌≡◌, false, MatchResult};
 ghost use Rattle.desk_reads.specs.AtLists.{FailsAtListsIn};
 ghost use Rattle.rollout_model.specs.Rules.{is_tag_list};
-ghost use Rattle.sql_calls.specs.declared.fault.Fault.TheVariants.{Store};
+ghost use Rattle.sql_calls.specs.declared.fault.Fault.TheVariants.{Broken};
 ghost use Rattle.desk_reads.specs.Targets.{target_listed};
 ghost use Rattle.desk_store.specs.Changing.{FindsIn, StaysIn};
 
@@ -38,12 +38,12 @@ fn whole(listed: ListedTarget, tags: Tags, attributes: Attributes) -> Target
     }
 }
 
-/// The tags of a target. Where they are more than 16, or one stands twice, the store has failed, since no target was given such tags.
+/// The tags of a target. Where they are more than 16, or one stands twice, rows are broken, since no target was given such tags.
 fn tag_list(words: Vec<Word>) -> Result<Tags, Fault>
-    ensures { MatchResult result (λ tags. tags ≡ words.items) (λ fault. (fault ≡ Store) × (is_tag_list words.items ≡ false)) }
+    ensures { MatchResult result (λ tags. tags ≡ words.items) (λ fault. (fault ≡ Broken) × (is_tag_list words.items ≡ false)) }
 {
     match Tags::from_words(words) {
         Some(tags) => Ok(tags),
-        None => Err(Fault::Store),
+        None => Err(Fault::Broken),
     }
 }

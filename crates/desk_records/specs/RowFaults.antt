@@ -1,15 +1,15 @@
 -- What a row that can't be read makes of a call.
 use Rattle.std.specs.Prelude.{◌≡◌, Option, Some}
 use Rattle.sql_calls.specs.declared.fault.Fault.{Fault}
-use Rattle.sql_calls.specs.declared.fault.Fault.TheVariants.{Memory, Store}
+use Rattle.sql_calls.specs.declared.fault.Fault.TheVariants.{Broken, Memory, Store}
 use Rattle.desk_records.specs.declared.module_row.Column.{Column}
 use Rattle.desk_records.specs.declared.module_row.RowFault.{RowFault}
 use Rattle.desk_records.specs.declared.module_row.RowFault.TheVariants as row
 
--- a row that breaks a column's rule is a failed store, since the disk did not return what was written
+-- a row that breaks a column's rule is broken: it isn't what was written
 abbrev pub fault_of_row : RowFault → Fault
 fault_of_row row.Memory = Memory
-fault_of_row (row.Broken c) = Store
+fault_of_row (row.Broken c) = Broken
 
 -- a column breaks its rule
 pub record BreaksRule (column : Option Column) : Type 0 where
@@ -22,4 +22,5 @@ IfBroken (row.Broken c) Why = Why
 
 abbrev pub IfStore : Fault → Type 0 → Type 0
 IfStore Memory Why = Unit {0}
-IfStore Store Why = Why
+IfStore Store Why = ⊥
+IfStore Broken Why = Why

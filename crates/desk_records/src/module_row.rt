@@ -83,7 +83,7 @@ pub fn fault_of_row(fault: RowFault) -> Fault
 {
     match fault {
         RowFault::Memory => Fault::Memory,
-        RowFault::Broken(_) => Fault::Store,
+        RowFault::Broken(_) => Fault::Broken,
     }
 }
 

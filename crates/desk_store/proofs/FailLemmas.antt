@@ -1,10 +1,10 @@
 -- Why a call over a ledger that can be read is no failed store by itself.
-use Rattle.desk_store.proofs.Common.{Place, ◌≡◌, ◌≤◌, ◌^◌, ◌+◌, ◌-◌, ℕ, Bool, true, false, zero, suc, inl, inr, nat_lt, List, [], ◌∷◌, take, drop, filter, map, Option, Some, None, Ok, Err, Result, IfErr, Vec, refl, sym, ap, subst, ◌∙◌, arith, Global, Row, Query, Output, page, Database, Ghosts, Has, has_filtered, Fault, Memory, Store, AsksFew, AsksText, TakesFirst, ShowsFirst, first_finds, ask_finds, few_finds, IsOrdered, by, ordered_rows, passes, shown_in, shown_of, simple, HoldsLedger, Ledger, HoldsTables, Tables, IfStore, HasBroken, seen_in, OpenChange}
+use Rattle.desk_store.proofs.Common.{Place, ◌≡◌, ◌≤◌, ◌^◌, ◌+◌, ◌-◌, ℕ, Bool, true, false, zero, suc, inl, inr, List, [], ◌∷◌, take, drop, filter, map, Option, Some, None, Ok, Err, Result, IfErr, Vec, refl, sym, ap, subst, ◌∙◌, arith, Global, Row, Query, Output, page, Database, Ghosts, Has, has_filtered, Fault, Memory, Store, AsksFew, AsksText, TakesFirst, ShowsFirst, first_finds, ask_finds, few_finds, IsOrdered, by, ordered_rows, passes, shown_in, shown_of, simple, HoldsLedger, Ledger, HoldsTables, Tables, IfStore, HasBroken, seen_in, OpenChange}
+use Rattle.std.specs.Prelude.{◌≢◌}
 use Rattle.sqlite.specs.Effect.{Reads as Shows}
-use Rattle.std.proofs.lemmas.Bool.Decides.{nat_tests}
-use Rattle.sql_calls.specs.Calls.{capped, failures_in, failures_of, fails}
-use Rattle.sql_calls.specs.Standing.{Sees}
-use Rattle.desk_store.specs.Blaming.{FailedBefore, HasFailed}
+use Rattle.sql_calls.specs.Standing.{Finds, Sees}
+use Rattle.sql_calls.specs.declared.fault.Fault.TheVariants.{Broken}
+use Rattle.desk_store.specs.Breaking.{BreaksOnly, NeverBreaks}
 use Rattle.std.proofs.lemmas.List.Sorted.{IsPermutation-sym}
 use Rattle.sqlite.specs.Query.{as_count, limited}
 use Rattle.sqlite.specs.Term.{eval}
@@ -12,7 +12,7 @@ use Rattle.std.specs.Option.{unwrap_or}
 use Rattle.desk_records.proofs.HeldTables.{rows_of}
 use Rattle.desk_records.proofs.Membership.{has_mapped, has_permuted}
 use Rattle.desk_store.specs.Changing.{FindsLedger}
-use Rattle.desk_store.specs.Failing.{CountsIn, FailsGiven, FailsIn, HasCall}
+use Rattle.desk_store.specs.Failing.{FailsIn}
 use Rattle.desk_store.specs.Readable.{BreaksColumn, IsReadable}
 use Rattle.desk_store.specs.Rows.{IsBroken}
 use Rattle.desk_store.proofs.Known.{answer_of, in_ledgers, known}
@@ -20,43 +20,34 @@ use Rattle.desk_records.proofs.MeaningWords.{Asks}
 
 -- ---- one call
 
-more_failed : (failed before now : ℕ) → failed ≤ before → now ≡ capped (before + 1) → HasFailed failed now
-more_failed failed before now least is = go (nat_lt before (2 ^ 64 - 1)) refl
-  where
-    go : (b : Bool) → nat_lt before (2 ^ 64 - 1) ≡ b → HasFailed failed now
-    go true room = inl (grind (arith, nat_tests, least, is, room))
-    go false full = inr (grind (arith, nat_tests, least, is, full))
+-- a call of the database tells no broken rows
+pub never_breaks : {S A : Type 0} {g : Ghosts S} {new : OpenChange S} (out : Result A Fault) → IfErr out (λ fault. fault ≢ Broken) → NeverBreaks g new out
+never_breaks (Ok x) sound = record { to = tt }
+never_breaks (Err fault) sound = record { to = record { reason = λ is clean. sound is } }
 
 module _ {S : Type 0} {g : Ghosts S} {old new : OpenChange S} where
-  has_call : (fault : Fault) → new.store.now.calls.failures ≡ fails (failures_of fault) old.store.now.calls.failures → (failed : ℕ) → FailedBefore g old failed → HasCall g new failed fault
-  has_call Memory counted failed was = record { call = λ is clean. absurd cc }
-  has_call Store counted failed was = record { call = λ is clean. more_failed failed old.store.now.calls.failures new.store.now.calls.failures was.failures counted }
-
-  -- a query that leaves the ledger as it is
-  pub call_fails : {A : Type 0} (out : Result A Fault) → new.store.now.calls.failures ≡ fails (failures_in out) old.store.now.calls.failures
-      → ((x : A) → out ≡ Ok x → (l : Ledger) → Sees HoldsLedger (seen_in g old) l → Sees HoldsLedger (seen_in g new) l) → FailsIn g old new out
-  call_fails (Ok x) counted keeps = record { to = λ sight was. record { sees = keeps x refl sight.ledger was.sees; before = record { failures = omega (arith, was.before.failures, counted) } } }
-  call_fails (Err fault) counted keeps = record { to = λ sight was given. has_call fault counted sight.failed was.before }
-
-  pub call_counts : {A : Type 0} (out : Result A Fault) → new.store.now.calls.failures ≡ fails (failures_in out) old.store.now.calls.failures → CountsIn g old new out
-  call_counts (Ok x) counted = record { to = λ failed was. record { failures = omega (arith, was.failures, counted) } }
-  call_counts (Err fault) counted = record { to = λ failed was. has_call fault counted failed was }
+  module _ {R : Type 0} {Holds : Database → R → Type 0} {Given Why : R → Type 0} where
+    -- a query that leaves what is seen as it is
+    pub call_breaks : {A : Type 0} (out : Result A Fault) → NeverBreaks g new out → ((x : A) → out ≡ Ok x → (r : R) → Sees Holds (seen_in g old) r → Sees Holds (seen_in g new) r) → BreaksOnly g Holds Given Why old new out
+    call_breaks (Ok x) sound keeps = record { to = keeps x refl }
+    call_breaks (Err fault) sound keeps = record { to = λ r seen given. record { reason = λ is clean. absurd (sound.to.reason is clean) } }
 
 -- ---- by what was found
 
-module _ {S A B : Type 0} {g : Ghosts S} {Given : Ledger → Type 0} {old new : OpenChange S} {x : A} {P : Ledger → A → Type 0} where
-  -- where no call failed: what was found leaves no such fault
-  pub fails_never : FindsLedger g {E = Fault} old new (Ok x) P → old.store.now.calls.failures ≤ new.store.now.calls.failures
-      → (out : Result B Fault) → IfErr out (λ fault. IfStore fault ((l : Ledger) → P l x → IsReadable l → Given l → ⊥)) → FailsGiven g Given old new out
-  fails_never read grows (Ok y) why = record { to = λ sight was. record { sees = (read.finds sight.ledger was.sees).0; before = record { failures = omega (arith, was.before.failures, grows) } } }
-  fails_never read grows (Err Memory) why = record { to = λ sight was given. record { call = λ is clean. absurd cc } }
-  fails_never read grows (Err Store) why = record { to = λ sight was given. record { call = λ is clean. absurd (why sight.ledger ((read.finds sight.ledger was.sees).1 clean) sight.readable given) } }
+module _ {S A B R : Type 0} {g : Ghosts S} {Holds : Database → R → Type 0} {Given Why : R → Type 0} {old new : OpenChange S} {x : A} {P : R → A → Type 0} where
+  -- what was found leaves no broken row but for this
+  pub breaks_by : Finds Holds (λ (r : R). r) {E = Fault} (seen_in g old) (seen_in g new) (Ok x) P → (out : Result B Fault) → IfErr out (λ fault. IfStore fault ((r : R) → P r x → Given r → Why r)) → BreaksOnly g Holds Given Why old new out
+  breaks_by read (Ok y) why = record { to = λ r seen. (read.finds r seen).0 }
+  breaks_by read (Err Memory) why = record { to = λ r seen given. record { reason = λ is clean. absurd cc } }
+  breaks_by read (Err Store) why = absurd why
+  breaks_by read (Err Broken) why = record { to = λ r seen given. record { reason = λ is clean. why r ((read.finds r seen).1 clean) given } }
 
--- where what was found leaves no such fault
-pub told_never : {B : Type 0} (Why : Type 0) (out : Result B Fault) → IfErr out (λ fault. IfStore fault Why) → IfErr out (λ fault. IfStore fault ((l : Ledger) → (IsReadable l → Why → ⊥) → IsReadable l → Unit {0} → ⊥))
+-- the same at a ledger that can be read
+pub told_never : {B : Type 0} (Why : Type 0) (out : Result B Fault) → IfErr out (λ fault. IfStore fault Why) → IfErr out (λ fault. IfStore fault ((l : Ledger) → (IsReadable l → Why → ⊥) → IsReadable l → ⊥))
 told_never Why (Ok y) is = tt
 told_never Why (Err Memory) is = tt
-told_never Why (Err Store) is = λ l said readable given. said readable is
+told_never Why (Err Store) is = is
+told_never Why (Err Broken) is = λ l said readable. said readable is
 
 -- ---- by the rows of one table
 
@@ -112,7 +103,7 @@ module _ {p : Place} {sql : List ℕ} {query : ℕ → Query} {names : List (Lis
       -- the first row
       pub first_fails : (row : Option Row) → TakesFirst (seen_in g old) (seen_in g new) sql params (Ok row) → (out : Result B Fault) → IfErr out (λ fault. IfStore fault (IsBroken is_broken row)) → FailsIn g old new out
       first_fails row h out broken =
-          fails_never (first_finds HoldsLedger (λ (l : Ledger). l) sql params (seen_in g old) (seen_in g new) (λ l u. IsReadable l → IsBroken is_broken row → ⊥) (in_ledgers (known text)) (λ db l holds at given. tt) row h (Ok (tt {0})) (λ db l holds shown. go db l holds row shown)) grows out
+          breaks_by (first_finds HoldsLedger (λ (l : Ledger). l) sql params (seen_in g old) (seen_in g new) (λ l u. IsReadable l → IsBroken is_broken row → ⊥) (in_ledgers (known text)) (λ db l holds at given. tt) row h (Ok (tt {0})) (λ db l holds shown. go db l holds row shown)) out
           (told_never _ out broken)
         where
           go : (db : Database) (l : Ledger) (holds : HoldsLedger db l) (row : Option Row) → ShowsFirst (in_ledgers (known text) db l holds).command db params row → IsReadable l → IsBroken is_broken row → ⊥
@@ -121,7 +112,7 @@ module _ {p : Place} {sql : List ℕ} {query : ℕ → Query} {names : List (Lis
 
       module _ (rows : Vec Row Global) (out : Result B Fault) (broken : IfErr out (λ fault. IfStore fault (HasBroken is_broken rows.items))) where
         found : FindsLedger g {E = Fault} old new (Ok (tt {0})) (λ l u. IsReadable l → HasBroken is_broken rows.items → ⊥) → FailsIn g old new out
-        found read = fails_never read grows out (told_never _ out broken)
+        found read = breaks_by read out (told_never _ out broken)
 
         -- each row
         pub all_fails : AsksText (seen_in g old) (seen_in g new) sql params (Ok rows) → FailsIn g old new out

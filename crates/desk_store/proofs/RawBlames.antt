@@ -1,5 +1,6 @@
 -- What a failed read of a table is blamed on.
 use Rattle.desk_store.proofs.Common.{◌≡◌, ◌≤◌, ◌<◌, ◌⊎◌, ◌^◌, ◌||◌, inl, inr, ℕ, min, nat_lt, pos, negsuc, Bool, true, false, not, List, [], ◌∷◌, length, nat_le, Option, Some, None, Ok, Err, Result, IfErr, Vec, refl, sym, subst, arith, and_parts, nat_tests, number_in_good, number_in_is, Global, Value, Null, Int, Text, Row, column, Database, Query, Ghosts, lit, Has, Fault, Memory, Store, AsksFew, AsksText, TakesFirst, ShowsFirst, first_finds, by, passes, shown_of, Members, Place, Rollouts, HoldsTables, Tables, has_bytes, has_wide_count, is_wide, first_broken, number_in, BreaksSequenced, broken_number_column, broken_action_column, broken_offer_column, broken_rollout_column, broken_rule_column, Offer, Column, StoredAction, GET_ACTION, GET_OFFER, LIST_ACTIONS, LIST_ENTRIES, LIST_NUMBERS, LIST_OFFERS, GET_PIECE, LIST_ALL_ARTIFACTS, GET_ROLLOUT, GET_RULE, LAST_ROLLOUT, LIST_GROUPS, LIST_PLACES, get_action_is, get_offer_is, list_actions_is, list_entries_is, list_numbers_is, list_offers_is, count_shown, get_piece_is, list_all_artifacts_is, get_rollout_is, get_rule_is, list_groups_is, list_places_is, of_rollout, placed_columns, places_query, Blames, BlamesGiven, FindsTables, seen_in, BreaksRule, HasBroken, HasNoNumber, IfStore, IsUnreadable, broken_entry, broken_number, broken_piece, broken_rollout, broken_rule, large_count, large_number, many_rows, OpenChange, last_rollout_is}
+use Rattle.sql_calls.specs.declared.fault.Fault.TheVariants.{Broken}
 use Rattle.std.proofs.lemmas.List.Filters.{length-filter_both}
 use Rattle.rollout_model.specs.Limits.{number_limit}
 use Rattle.sqlite.specs.Effect.{Reads as Shows}
@@ -35,7 +36,8 @@ module _ {p : Place} {sql : List ℕ} {query : ℕ → Query} {names : List (Lis
           go : (out : Result B Fault) → IfErr out (λ fault. IfStore fault (HasBroken is_broken rows.items)) → IfErr out (λ fault. IfStore fault ((t : Tables) → AreOf t rows → Given t → IsUnreadable t))
           go (Ok found) is = tt
           go (Err Memory) is = tt
-          go (Err Store) is = unreadable is
+          go (Err Store) is = is
+          go (Err Broken) is = unreadable is
 
       pub all_blamed : AsksText (seen_in g old) (seen_in g new) sql params (Ok rows) → BlamesGiven g Given old new out
       all_blamed h = told (all_read sql params (seen_in g old) (seen_in g new) (known text) AreOf (λ found. found ≡ rows) rows are_of h (Ok rows) refl)
@@ -75,50 +77,50 @@ module _ {S B : Type 0} (g : Ghosts S) (old new : OpenChange S) (rows : Vec Row 
   abbrev AsksOne : List ℕ → Row → Type 0
   AsksOne sql params = AsksFew (seen_in g old) (seen_in g new) sql params 1 (Ok rows)
 
-  abbrev Broken : (Row → Type 0) → Type 0
-  Broken is_broken = IfErr out (λ fault. IfStore fault (HasBroken is_broken rows.items))
+  abbrev AreSpoiled : (Row → Type 0) → Type 0
+  AreSpoiled is_broken = IfErr out (λ fault. IfStore fault (HasBroken is_broken rows.items))
 
   -- ---- by a number
 
-  pub rollout_blamed : (r : ℕ) → Broken (λ row. BreaksRule (broken_rollout_column row)) → AsksOne GET_ROLLOUT.now (Int (pos r) ∷ []) → Blames g old new out
+  pub rollout_blamed : (r : ℕ) → AreSpoiled (λ row. BreaksRule (broken_rollout_column row)) → AsksOne GET_ROLLOUT.now (Int (pos r) ∷ []) → Blames g old new out
   rollout_blamed r broken = few_blamed get_rollout_is (Int (pos r) ∷ []) rows g nothing (λ row. BreaksRule (broken_rollout_column row)) (λ t row among is given. broken_rollout row among is) old new grows out broken 1
 
-  pub rule_blamed : (number group : ℕ) → Broken (λ row. BreaksRule (broken_rule_column row)) → AsksOne GET_RULE.now (Int (pos number) ∷ Int (pos group) ∷ []) → Blames g old new out
+  pub rule_blamed : (number group : ℕ) → AreSpoiled (λ row. BreaksRule (broken_rule_column row)) → AsksOne GET_RULE.now (Int (pos number) ∷ Int (pos group) ∷ []) → Blames g old new out
   rule_blamed number group broken = few_blamed get_rule_is (Int (pos number) ∷ Int (pos group) ∷ []) rows g nothing (λ row. BreaksRule (broken_rule_column row)) (λ t row among is given. broken_rule row among is) old new grows out broken 1
 
-  pub action_blamed : (k : ℕ) → Broken (λ row. BreaksRule (broken_action_column row)) → AsksOne GET_ACTION.now (Int (pos k) ∷ []) → BlamesGiven g AreActions old new out
+  pub action_blamed : (k : ℕ) → AreSpoiled (λ row. BreaksRule (broken_action_column row)) → AsksOne GET_ACTION.now (Int (pos k) ∷ []) → BlamesGiven g AreActions old new out
   action_blamed k broken =
       few_blamed get_action_is (Int (pos k) ∷ []) rows g AreActions (λ row. BreaksRule (broken_action_column row)) (λ t row among is given. let it = given row among in large_count row among (wide_action row it.0 it.1 it.2 is.first is.is)) old new grows out broken 1
 
-  pub offer_blamed : (id : List ℕ) → Broken (λ row. BreaksRule (broken_offer_column row)) → AsksOne GET_OFFER.now (Text id ∷ []) → BlamesGiven g AreOffers old new out
+  pub offer_blamed : (id : List ℕ) → AreSpoiled (λ row. BreaksRule (broken_offer_column row)) → AsksOne GET_OFFER.now (Text id ∷ []) → BlamesGiven g AreOffers old new out
   offer_blamed id broken =
       few_blamed get_offer_is (Text id ∷ []) rows g AreOffers (λ row. BreaksRule (broken_offer_column row)) (λ t row among is given. let it = given row among in absurd (no_offer row it.0 it.1 it.2 is.first is.is)) old new grows out broken 1
 
   -- ---- lists
 
-  pub actions_blamed : (n : ℕ) → Broken (λ row. has_wide_count row ≡ true) → AsksAll LIST_ACTIONS.now (all_of n) → Blames g old new out
+  pub actions_blamed : (n : ℕ) → AreSpoiled (λ row. has_wide_count row ≡ true) → AsksAll LIST_ACTIONS.now (all_of n) → Blames g old new out
   actions_blamed n broken = all_blamed list_actions_is (all_of n) rows g nothing (λ row. has_wide_count row ≡ true) (λ t row among is given. large_count row among is) old new grows out broken
 
-  pub history_blamed : (n : ℕ) → Broken (λ row. (c : Column) × BreaksSequenced row c) → AsksAll LIST_ENTRIES.now (all_of n) → Blames g old new out
+  pub history_blamed : (n : ℕ) → AreSpoiled (λ row. (c : Column) × BreaksSequenced row c) → AsksAll LIST_ENTRIES.now (all_of n) → Blames g old new out
   history_blamed n broken = all_blamed list_entries_is (all_of n) rows g nothing (λ row. (c : Column) × BreaksSequenced row c) (λ t row among is given. broken_entry row is.0 among is.1) old new grows out broken
 
-  pub numbers_blamed : (n : ℕ) → Broken (λ row. BreaksRule (broken_number_column row)) → AsksAll LIST_NUMBERS.now (Int (pos n) ∷ []) → Blames g old new out
+  pub numbers_blamed : (n : ℕ) → AreSpoiled (λ row. BreaksRule (broken_number_column row)) → AsksAll LIST_NUMBERS.now (Int (pos n) ∷ []) → Blames g old new out
   numbers_blamed n broken = all_blamed list_numbers_is (Int (pos n) ∷ []) rows g nothing (λ row. BreaksRule (broken_number_column row)) (λ t row among is given. broken_number row among is) old new grows out broken
 
-  pub pieces_blamed : (number place : ℕ) → Broken (λ row. has_bytes (column row 0) ≡ false) → AsksAll GET_PIECE.now (Int (pos number) ∷ Int (pos place) ∷ []) → Blames g old new out
+  pub pieces_blamed : (number place : ℕ) → AreSpoiled (λ row. has_bytes (column row 0) ≡ false) → AsksAll GET_PIECE.now (Int (pos number) ∷ Int (pos place) ∷ []) → Blames g old new out
   pieces_blamed number place broken = all_blamed get_piece_is (Int (pos number) ∷ Int (pos place) ∷ []) rows g nothing (λ row. has_bytes (column row 0) ≡ false) (λ t row among is given. broken_piece row among is) old new grows out broken
 
   -- nothing of these rows can't be read
-  pub groups_blamed : (r : ℕ) → Broken never → AsksAll LIST_GROUPS.now (Int (pos r) ∷ []) → Blames g old new out
+  pub groups_blamed : (r : ℕ) → AreSpoiled never → AsksAll LIST_GROUPS.now (Int (pos r) ∷ []) → Blames g old new out
   groups_blamed r broken = all_blamed list_groups_is (Int (pos r) ∷ []) rows g nothing never (λ t row among is given. absurd is) old new grows out broken
 
-  pub places_blamed : (r : ℕ) → Broken never → AsksAll LIST_PLACES.now (Int (pos r) ∷ []) → Blames g old new out
+  pub places_blamed : (r : ℕ) → AreSpoiled never → AsksAll LIST_PLACES.now (Int (pos r) ∷ []) → Blames g old new out
   places_blamed r broken = all_blamed list_places_is (Int (pos r) ∷ []) rows g nothing never (λ t row among is given. absurd is) old new grows out broken
 
-  pub artifacts_blamed : Broken never → AsksAll LIST_ALL_ARTIFACTS.now [] → Blames g old new out
+  pub artifacts_blamed : AreSpoiled never → AsksAll LIST_ALL_ARTIFACTS.now [] → Blames g old new out
   artifacts_blamed broken = all_blamed list_all_artifacts_is [] rows g nothing never (λ t row among is given. absurd is) old new grows out broken
 
-  pub offers_blamed : Broken never → AsksAll LIST_OFFERS.now [] → Blames g old new out
+  pub offers_blamed : AreSpoiled never → AsksAll LIST_OFFERS.now [] → Blames g old new out
   offers_blamed broken = all_blamed list_offers_is [] rows g nothing never (λ t row among is given. absurd is) old new grows out broken
 
   pub counted_blamed : (n : ℕ) → IfErr out (λ fault. fault ≡ Memory) → AsksAll LIST_ACTIONS.now (all_of n) → Blames g old new out
@@ -128,6 +130,7 @@ module _ {S B : Type 0} (g : Ghosts S) (old new : OpenChange S) (rows : Vec Row 
       only_memory (Ok found) is = tt
       only_memory (Err Memory) is = tt
       only_memory (Err Store) is = absurd cc
+      only_memory (Err Broken) is = absurd cc
 
 -- ---- numbers
 
@@ -150,7 +153,7 @@ no_number v unread = go (number_in v) refl
         absurd (unread n (grind (arith, nat_tests, high)) (number_in_is v n is))
 
 module _ {S : Type 0} (g : Ghosts S) (old new : OpenChange S) (grows : old.store.now.calls.failures ≤ new.store.now.calls.failures) (out : Result ℕ Fault) where
-  pub place_count_blamed : (r : ℕ) (rows : Vec Row Global) → IfErr out (λ fault. (fault ≡ Store) × (2 ^ 32 ≤ length rows.items)) → AsksText (seen_in g old) (seen_in g new) LIST_PLACES.now (Int (pos r) ∷ []) (Ok rows) → Blames g old new out
+  pub place_count_blamed : (r : ℕ) (rows : Vec Row Global) → IfErr out (λ fault. (fault ≡ Broken) × (2 ^ 32 ≤ length rows.items)) → AsksText (seen_in g old) (seen_in g new) LIST_PLACES.now (Int (pos r) ∷ []) (Ok rows) → Blames g old new out
   place_count_blamed r rows large h = blamed (all_read LIST_PLACES.now (Int (pos r) ∷ []) (seen_in g old) (seen_in g new) (known list_places_is) AreFewer (λ found. found ≡ rows) rows counts h (Ok rows) refl) grows out (go out large)
     where
       AreFewer : Tables → Vec Row Global → Type 0
@@ -161,10 +164,11 @@ module _ {S : Type 0} (g : Ghosts S) (old new : OpenChange S) (grows : old.store
           (let of = count_shown (holds.spot Members).tree of_rollout placed_columns (places_query 0).order (lit (Int (negsuc 0))) (lit (Int (pos 0))) (Int (pos r) ∷ []) db.trees (t Members) (holds.rows Members) (λ xs. refl) (passes of_rollout (Int (pos r) ∷ [])) (λ row among. refl) rows.items (shows.answer Null) in
           omega (arith, of, length-filter_both (passes of_rollout (Int (pos r) ∷ [])) (λ row. not (passes of_rollout (Int (pos r) ∷ []) row)) (λ row. refl) (t Members)))
 
-      go : (out : Result ℕ Fault) → IfErr out (λ fault. (fault ≡ Store) × (2 ^ 32 ≤ length rows.items)) → IfErr out (λ fault. IfStore fault ((t : Tables) → AreFewer t rows → Unit {0} → IsUnreadable t))
+      go : (out : Result ℕ Fault) → IfErr out (λ fault. (fault ≡ Broken) × (2 ^ 32 ≤ length rows.items)) → IfErr out (λ fault. IfStore fault ((t : Tables) → AreFewer t rows → Unit {0} → IsUnreadable t))
       go (Ok found) is = tt
       go (Err Memory) is = tt
-      go (Err Store) is = λ t fewer given. many_rows Members (omega (arith, is.1, fewer))
+      go (Err Store) is = absurd (let same = is.0 in cc)
+      go (Err Broken) is = λ t fewer given. many_rows Members (omega (arith, is.1, fewer))
 
   pub count_blamed : {p : Place} {sql : List ℕ} (text : Counts p sql) (row : Option Row)
       → IfErr out (λ fault. IfStore fault ((row ≡ None) ⊎ HasNoNumber row)) → TakesFirst (seen_in g old) (seen_in g new) sql [] (Ok row) → Blames g old new out
@@ -181,7 +185,8 @@ module _ {S : Type 0} (g : Ghosts S) (old new : OpenChange S) (grows : old.store
       go : (out : Result ℕ Fault) → IfErr out (λ fault. IfStore fault ((row ≡ None) ⊎ HasNoNumber row)) → IfErr out (λ fault. IfStore fault ((t : Tables) → IsCounted t row → Unit {0} → IsUnreadable t))
       go (Ok found) unread = tt
       go (Err Memory) unread = tt
-      go (Err Store) unread = λ t is given. unreadable t unread is
+      go (Err Store) unread = unread
+      go (Err Broken) unread = λ t is given. unreadable t unread is
 
   pub last_blamed : (row : Option Row) → IfErr out (λ fault. IfStore fault (HasNoNumber row)) → TakesFirst (seen_in g old) (seen_in g new) LAST_ROLLOUT.now [] (Ok row) → Blames g old new out
   last_blamed row broken h =
@@ -202,4 +207,5 @@ module _ {S : Type 0} (g : Ghosts S) (old new : OpenChange S) (grows : old.store
       go : (out : Result ℕ Fault) (row : Option Row) → IfErr out (λ fault. IfStore fault (HasNoNumber row)) → IfErr out (λ fault. IfStore fault ((t : Tables) → IsOfRollout t row → Unit {0} → IsUnreadable t))
       go (Ok found) row unread = tt
       go (Err Memory) row unread = tt
-      go (Err Store) row unread = λ t its given. unreadable t row unread its
+      go (Err Store) row unread = unread
+      go (Err Broken) row unread = λ t its given. unreadable t row unread its

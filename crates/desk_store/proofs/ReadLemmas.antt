@@ -1,4 +1,5 @@
 -- Rows that are read, whatever they are read as.
+use Rattle.sql_calls.specs.declared.fault.Fault.TheVariants.{Broken}
 use Rattle.desk_store.proofs.Common.{◌≡◌, ◌<◌, ◌++◌, ◌+◌, ℕ, get_or, take, List, [], ◌∷◌, length, map, Option, Some, None, option_map, Ok, Err, Result, IfErr, IfOk, Vec, refl, sym, ap₂, subst, filter_map, ap, ◌∙◌, pos, arith, cons_option, Global, Int, Row, IsLastRow, Database, HasCleanDisk, IsUnchanged, State, Fault, AsksFew, AsksText, TakesFirst, Finds, Sees, Wears, Known, Knows, ShowsFirst, ask_finds, few_finds, first_finds, HoldsLedger, Ledger, HoldsTables, Has, Memory, Store, KeepsTo, AreReadAs, HasBroken, IfStore, IsReadAs}
 use Rattle.std.proofs.lemmas.List.{take_more}
 use Rattle.std.proofs.lemmas.Slice.Zip.{all_zipped_more}
@@ -95,7 +96,8 @@ told_broken {A = A} broken rows row among fault told out is = subst (λ (o : Res
   where
     go : (fault : Fault) → IfStore fault (broken row) → IfStore fault (HasBroken broken rows)
     go Memory _ = tt
-    go Store is = record { row = row; among = among; broken = is }
+    go Store is = is
+    go Broken is = record { row = row; among = among; broken = is }
 
 -- ---- the last number
 

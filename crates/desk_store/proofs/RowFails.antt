@@ -1,5 +1,6 @@
 -- Why the rows of numbers, of the desk and of the next offer are no failed store by themselves.
 use Rattle.desk_store.proofs.Common.{◌≡◌, ◌⊎◌, ◌≤◌, ◌<◌, ◌^◌, ◌+◌, ℕ, suc, inl, inr, min, nat_lt, length, pos, Bool, true, false, cond, List, [], ◌∷◌, Option, Some, None, option_map, Ok, Err, Result, IfErr, refl, ap, subst, arith, codes, is_some, Value, Int, Text, Row, column, has_size, small_number, flag_in, first_broken, flag, Fault, Memory, Store, TakesFirst, first_finds, shown_of, Ghosts, HoldsLedger, Ledger, IfStore, HasNoNumber, BreaksRule, broken_offer_column, told_offer, is_number, seen_in, OpenChange, COUNT_TARGETS, GET_DESK, NEXT_OFFER, Targets, get_desk_is, count_targets_is, counted_at, Place, Query}
+use Rattle.sql_calls.specs.declared.fault.Fault.TheVariants.{Broken}
 use Rattle.std.proofs.lemmas.Bool.Decides.{nat_tests}
 use Rattle.rollout_machine.specs.declared.records.RolloutRecord.{RolloutRecord}
 use Rattle.rollout_model.specs.Limits.{number_limit}
@@ -17,7 +18,7 @@ use Rattle.desk_store.specs.Changing.{FindsLedger}
 use Rattle.desk_store.specs.Failing.{FailsIn, FailsSeeing, NumbersActions}
 use Rattle.desk_store.specs.Readable.{BreaksColumn, HasNoKey, IsReadable}
 use Rattle.desk_store.specs.Rows.{HasNoApproval, IsBroken}
-use Rattle.desk_store.proofs.FailLemmas.{fails_never, first_fails, tables_of, told_never}
+use Rattle.desk_store.proofs.FailLemmas.{breaks_by, first_fails, tables_of, told_never}
 use Rattle.desk_store.proofs.Known.{in_ledgers, known, tables_know}
 use Rattle.desk_records.proofs.MeaningWords.{Asks}
 use Rattle.desk_store.proofs.NextOfferCalls.{next}
@@ -98,19 +99,20 @@ never_next (Some o) (Some x) is good broken =
 module _ {S : Type 0} {g : Ghosts S} {old new : OpenChange S} (grows : old.store.now.calls.failures ≤ new.store.now.calls.failures) (row : Option Row) where
   pub count_fails : TakesFirst (seen_in g old) (seen_in g new) COUNT_TARGETS.now [] (Ok row) → (out : Result ℕ Fault) → IfErr out (λ fault. IfStore fault ((row ≡ None) ⊎ HasNoNumber row)) → FailsIn g old new out
   count_fails h out broken =
-      fails_never (first_finds HoldsLedger (λ (l : Ledger). l) COUNT_TARGETS.now [] (seen_in g old) (seen_in g new) (λ l u. IsReadable l → (row ≡ None) ⊎ HasNoNumber row → ⊥) (in_ledgers (tables_know (counted_at count_targets_is))) (λ db l holds at given. tt) row h (Ok (tt {0}))
+      breaks_by (first_finds HoldsLedger (λ (l : Ledger). l) COUNT_TARGETS.now [] (seen_in g old) (seen_in g new) (λ l u. IsReadable l → (row ≡ None) ⊎ HasNoNumber row → ⊥) (in_ledgers (tables_know (counted_at count_targets_is))) (λ db l holds at given. tt) row h (Ok (tt {0}))
       (λ db l holds shown readable. never_many (length (db.trees (holds.spot Targets).tree)) row (count_shown count_targets_is db (rows_of db l holds) (tables_of db l holds) row shown) (readable.few (db.trees (holds.spot Targets).tree) (holds.rows Targets))))
-      grows out (told_never _ out broken)
+      out (told_never _ out broken)
 
-  pub approval_fails : TakesFirst (seen_in g old) (seen_in g new) GET_DESK.now [] (Ok row) → (out : Result Bool Fault) → IfErr out (λ fault. (fault ≡ Store) × HasNoApproval row) → FailsIn g old new out
+  pub approval_fails : TakesFirst (seen_in g old) (seen_in g new) GET_DESK.now [] (Ok row) → (out : Result Bool Fault) → IfErr out (λ fault. (fault ≡ Broken) × HasNoApproval row) → FailsIn g old new out
   approval_fails h out broken =
-      fails_never (first_finds HoldsLedger (λ (l : Ledger). l) GET_DESK.now [] (seen_in g old) (seen_in g new) (λ l u. IsReadable l → HasNoApproval row → ⊥) (in_ledgers (known get_desk_is)) (λ db l holds at given. tt) row h (Ok (tt {0}))
-      (λ db l holds shown readable. never_untold l.records.approval row (gets_desk db l holds (codes "format" ∷ codes "version" ∷ codes "approval" ∷ []) row shown))) grows out (told_never _ out (as_store out broken))
+      breaks_by (first_finds HoldsLedger (λ (l : Ledger). l) GET_DESK.now [] (seen_in g old) (seen_in g new) (λ l u. IsReadable l → HasNoApproval row → ⊥) (in_ledgers (known get_desk_is)) (λ db l holds at given. tt) row h (Ok (tt {0}))
+      (λ db l holds shown readable. never_untold l.records.approval row (gets_desk db l holds (codes "format" ∷ codes "version" ∷ codes "approval" ∷ []) row shown))) out (told_never _ out (as_store out broken))
     where
-      as_store : (out : Result Bool Fault) → IfErr out (λ fault. (fault ≡ Store) × HasNoApproval row) → IfErr out (λ fault. IfStore fault (HasNoApproval row))
+      as_store : (out : Result Bool Fault) → IfErr out (λ fault. (fault ≡ Broken) × HasNoApproval row) → IfErr out (λ fault. IfStore fault (HasNoApproval row))
       as_store (Ok b) is = tt
       as_store (Err Memory) is = tt
-      as_store (Err Store) is = is.1
+      as_store (Err Store) is = absurd (let same = is.0 in cc)
+      as_store (Err Broken) is = is.1
 
   -- the next offer
   pub next_fails : (id : Bytes) → TakesFirst (seen_in g old) (seen_in g new) NEXT_OFFER.now (Text id ∷ []) (Ok row) → (out : Result (Option Offer) Fault) → IfErr out (λ fault. IfStore fault (IsBroken (λ r. BreaksRule (broken_offer_column r)) row))
@@ -123,5 +125,6 @@ module _ {S : Type 0} {g : Ghosts S} {old new : OpenChange S} (grows : old.store
 
       go : (out : Result (Option Offer) Fault) → IfErr out (λ fault. IfStore fault (IsBroken (λ r. BreaksRule (broken_offer_column r)) row)) → FailsSeeing g NumbersActions old new out
       go (Ok o) is = record { to = tt }
-      go (Err Memory) is = record { to = λ l seen numbers failed was. record { call = λ e clean. absurd cc } }
-      go (Err Store) is = record { to = λ l seen numbers failed was. record { call = λ e clean. absurd ((found.finds l seen).1 clean numbers is) } }
+      go (Err Memory) is = record { to = λ l seen numbers. record { reason = λ e clean. absurd cc } }
+      go (Err Store) is = absurd is
+      go (Err Broken) is = record { to = λ l seen numbers. record { reason = λ e clean. absurd ((found.finds l seen).1 clean numbers is) } }

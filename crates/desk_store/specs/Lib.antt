@@ -8,6 +8,7 @@ pub mod GroupPairs
 pub mod RawLists
 pub mod RuleTables
 pub mod Unreadable
+pub mod Breaking
 pub mod Blaming
 pub mod Readable
 pub mod Failing

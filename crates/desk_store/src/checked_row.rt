@@ -98,7 +98,7 @@ impl FromCheckedRow for ListedAction {
     fn from_checked_row(row: &Row) -> Result<Option<Self>, Fault> {
         match read_listed_action(row) {
             Ok(action) => Ok(Some(action)),
-            Err(_) if has_wide_count(row) => Err(Fault::Store),
+            Err(_) if has_wide_count(row) => Err(Fault::Broken),
             Err(_) => Ok(None),
         }
     }

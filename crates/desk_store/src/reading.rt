@@ -9,7 +9,7 @@ ghost use Rattle.desk_store.specs.Faults.{as_store};
 use crate::from_row::FromRow;
 use desk_records::{fault_of_row, read_approval};
 use rollout_model::{Attribute, Attributes};
-use sql_calls::{Fault, fault_of};
+use sql_calls::{Fault, broken_of};
 use sqlite::Row;
 use std::alloc::Global;
 
@@ -23,7 +23,7 @@ pub(crate) fn last_number(row: Option<Row>) -> Result<u32, Fault>
     };
     match row.get(0) {
         Ok(number) => Ok(number),
-        Err(error) => Err(fault_of(error)),
+        Err(error) => Err(broken_of(error)),
     }
 }
 
@@ -104,21 +104,21 @@ pub(crate) fn counted_in(row: Option<Row>) -> Result<u32, Fault>
     ensures small { IfOk result (λ n. n < 2 ^ 32) }
 {
     let Some(row) = row else {
-        return Err(Fault::Store);
+        return Err(Fault::Broken);
     };
     match row.get(0) {
         Ok(number) => Ok(number),
-        Err(error) => Err(fault_of(error)),
+        Err(error) => Err(broken_of(error)),
     }
 }
 
 /// How many rows there are.
 pub(crate) fn row_count(rows: &[Row]) -> Result<u32, Fault>
     ensures ok { IfOk result (λ n. n ≡ length rows.now) }
-    ensures err { IfErr result (λ fault. (fault ≡ Fault.Store) × (2 ^ 32 ≤ length rows.now)) }
+    ensures err { IfErr result (λ fault. (fault ≡ Fault.Broken) × (2 ^ 32 ≤ length rows.now)) }
 {
     let Ok(count) = u32::try_from(rows.len()) else {
-        return Err(Fault::Store);
+        return Err(Fault::Broken);
     };
     Ok(count)
 }
@@ -126,10 +126,10 @@ pub(crate) fn row_count(rows: &[Row]) -> Result<u32, Fault>
 /// Whether rollouts wait for approval, in the desk's row.
 pub(crate) fn approval_in(row: Option<Row>) -> Result<bool, Fault>
     ensures ok { IfOk result (λ approval. IsApproval approval row) }
-    ensures err { IfErr result (λ fault. (fault ≡ Fault.Store) × HasNoApproval row) }
+    ensures err { IfErr result (λ fault. (fault ≡ Fault.Broken) × HasNoApproval row) }
 {
     let Some(row) = row else {
-        return Err(Fault::Store);
+        return Err(Fault::Broken);
     };
     match read_approval(&row) {
         Ok(approval) => Ok(approval),

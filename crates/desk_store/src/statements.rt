@@ -1,15 +1,16 @@
 //! The statements that typed calls are made of.
 
-ghost use Rattle.std.specs.Prelude.{◌≡◌, IfErr};
+ghost use Rattle.std.specs.Prelude.{◌≡◌};
 ghost use Rattle.sqlite.specs.Values.{bound};
 ghost use Rattle.sql_calls.specs.Calls.{AsksFew, AsksText, RunsText, TakesFirst, counts, row_in, rows_in};
 ghost use Rattle.sql_calls.specs.Means.{Knows, KnowsWrite};
 ghost use Rattle.desk_records.specs.Holds.{HoldsLedger};
 ghost use Rattle.desk_records.specs.Tables.{HoldsTables};
-ghost use Rattle.desk_store.specs.Blaming.{HasCause, Watches};
+ghost use Rattle.desk_store.specs.Blaming.{Blames};
+ghost use Rattle.desk_store.specs.Breaking.{NeverBreaks};
 ghost use Rattle.desk_store.specs.Changing.{KeepsTables, StaysIn, seen_in};
 ghost use Rattle.desk_store.specs.Counting.{AddsIn};
-ghost use Rattle.desk_store.specs.Failing.{CountsIn, FailsIn};
+ghost use Rattle.desk_store.specs.Failing.{FailsIn};
 
 use crate::change::OpenChange;
 use sql_calls::Fault;
@@ -22,9 +23,9 @@ impl<'a, S: Alter> OpenChange<'a, S> {
         requires { Knows HoldsTables sql.now }
         ensures stays { StaysIn S.Store self.old self.new result }
         ensures keeps { KeepsTables S.Store self.old self.new result }
-        ensures blames { IfErr result (λ fault. (watch : _) → Watches S.Store self.old watch → HasCause S.Store self.new watch fault) }
-        ensures counts { CountsIn S.Store self.old self.new result }
+        ensures sound { NeverBreaks S.Store self.new result }
         ensures fails { FailsIn S.Store self.old self.new result }
+        ensures blames { Blames S.Store self.old self.new result }
         ensures takes { TakesFirst (seen_in S.Store self.old) (seen_in S.Store self.new) sql.now (bound params.now) result }
         ensures work { self.new.store.now.calls.work ≡ counts self.old.store.now.calls.work (row_in result) }
     {
@@ -36,8 +37,9 @@ impl<'a, S: Alter> OpenChange<'a, S> {
         requires { Knows HoldsTables sql.now }
         ensures stays { StaysIn S.Store self.old self.new result }
         ensures keeps { KeepsTables S.Store self.old self.new result }
-        ensures blames { IfErr result (λ fault. (watch : _) → Watches S.Store self.old watch → HasCause S.Store self.new watch fault) }
+        ensures sound { NeverBreaks S.Store self.new result }
         ensures fails { FailsIn S.Store self.old self.new result }
+        ensures blames { Blames S.Store self.old self.new result }
         ensures asks { AsksText (seen_in S.Store self.old) (seen_in S.Store self.new) sql.now (bound params.now) result }
         ensures work { self.new.store.now.calls.work ≡ counts self.old.store.now.calls.work (rows_in result) }
     {
@@ -54,8 +56,9 @@ impl<'a, S: Alter> OpenChange<'a, S> {
         requires { Knows HoldsTables sql.now }
         ensures stays { StaysIn S.Store self.old self.new result }
         ensures asks { AsksFew (seen_in S.Store self.old) (seen_in S.Store self.new) sql.now (bound params.now) most result }
-        ensures blames { IfErr result (λ fault. (watch : _) → Watches S.Store self.old watch → HasCause S.Store self.new watch fault) }
+        ensures sound { NeverBreaks S.Store self.new result }
         ensures fails { FailsIn S.Store self.old self.new result }
+        ensures blames { Blames S.Store self.old self.new result }
         ensures work { AddsIn 1 most self.old self.new }
     {
         self.store.calls.few(sql, params, most)
@@ -66,7 +69,7 @@ impl<'a, S: Alter> OpenChange<'a, S> {
         requires { KnowsWrite HoldsLedger sql.now }
         ensures stays { StaysIn S.Store self.old self.new result }
         ensures runs { RunsText (seen_in S.Store self.old) (seen_in S.Store self.new) sql.now (bound params.now) result }
-        ensures counts { CountsIn S.Store self.old self.new result }
+        ensures sound { NeverBreaks S.Store self.new result }
         ensures work { self.new.store.now.calls.work ≡ counts self.old.store.now.calls.work 0 }
     {
         self.store.calls.run(sql, params)

@@ -1,6 +1,6 @@
 //! The one owner of a desk's connection.
 
-ghost use Rattle.std.specs.Prelude.{◌≡◌, not, [], IfOk};
+ghost use Rattle.std.specs.Prelude.{◌≡◌, ◌≢◌, not, [], IfOk, IfErr};
 ghost use Rattle.sqlite.specs.Held.{state};
 ghost use Rattle.sql_calls.specs.Calls.{RunsText, Grows, fails, no_work, failures_in};
 ghost use Rattle.sql_calls.specs.Standing.{Begins};
@@ -49,6 +49,7 @@ impl<S: Alter> DeskStore<S> {
 
     fn start(&mut self) -> Result<(), Fault>
         ensures runs { RunsText (state S.Store self.old.calls.conn) (state S.Store self.new.calls.conn) begin_text [] result }
+        ensures sound { IfErr result (λ fault. fault ≢ Fault.Broken) }
         ensures work { self.new.calls.work ≡ self.old.calls.work }
         ensures grows { Grows (failures_in result) self.old.calls self.new.calls }
         ensures failures { self.new.calls.failures ≡ fails (failures_in result) self.old.calls.failures }
@@ -64,6 +65,7 @@ impl<S: Alter> DeskStore<S> {
     /// Begins a change. Where that is refused, the records stand as before. Counts nothing.
     pub fn begin(&mut self) -> Result<OpenChange<'_, S>, Fault>
         ensures* refused { sem 𝓛 (store_rests S.row S.Store self.entry result) }
+        ensures sound { IfErr result (λ fault. fault ≢ Fault.Broken) }
         ensures same_reference { IfOk result (λ c. c.store.ghost_name ≡ self.entry.ghost_name) }
         ensures begun { IfOk result (λ c. Begins HoldsLedger (state S.Store self.old.calls.conn) (state S.Store c.store.now.calls.conn)) }
         ensures tables { IfOk result (λ c. Begins HoldsTables (state S.Store self.old.calls.conn) (state S.Store c.store.now.calls.conn)) }

@@ -1,5 +1,5 @@
 -- What a failed store is blamed on in the checks.
-use Rattle.desk_verify.proofs.Common.{◌≡◌, ◌≤◌, ◌<◌, ◌^◌, ◌⊎◌, ◌&&◌, inl, inr, ◌≢◌, ℕ, nat_eq, nat_le, nat_lt, pos, ◌+◌, slice_index_or, zero, suc, take, Bool, not, true, false, cond, List, [], ◌∷◌, length, filter, map, Option, Some, None, refl, Ok, Err, Result, sym, ap, subst, ◌∙◌, arith, and_parts, nat_tests, AllByRecursion, Int, Row, column, value_cmp, State, Finds, Wears, Fault, is_number, number_of, number_in, AreSaid, HasNumber, IsLast, AreMembers, OwnedOffer, PlacedMember, Members, Offers, Place, Rollouts, number_in_good, number_in_is, HoldsTables, Tables, BlamesGiven, Watches, FindsTables, seen_in, AreActions, AreOffers, SaysOffer, any_row, IsUnreadable, large_number, many_rows, rise, twin_members, count_on, AgreesActions, AgreeBefore, Passes, checked, Artifact, follow, AgreesMembers, IsUpTo, number_limit, and_from}
+use Rattle.desk_verify.proofs.Common.{◌≡◌, ◌≤◌, ◌<◌, ◌^◌, ◌⊎◌, ◌&&◌, inl, inr, ◌≢◌, ℕ, nat_eq, nat_le, nat_lt, pos, ◌+◌, slice_index_or, zero, suc, take, Bool, not, true, false, cond, List, [], ◌∷◌, length, filter, map, Option, Some, None, refl, Ok, Err, Result, sym, ap, subst, ◌∙◌, arith, and_parts, nat_tests, AllByRecursion, Int, Row, column, value_cmp, State, Finds, Wears, Fault, is_number, number_of, number_in, AreSaid, HasNumber, IsLast, AreMembers, OwnedOffer, PlacedMember, Members, Offers, Place, Rollouts, number_in_good, number_in_is, HoldsTables, Tables, BlamesGiven, FindsTables, seen_in, AreActions, AreOffers, SaysOffer, any_row, IsUnreadable, large_number, many_rows, rise, twin_members, count_on, AgreesActions, AgreeBefore, Passes, checked, Artifact, follow, AgreesMembers, IsUpTo, number_limit, and_from}
 use Rattle.std.proofs.lemmas.List.Filters.{length-filter_both}
 use Rattle.std.specs.Ordering.{is_eq}
 use Rattle.sqlite.specs.Store.{Ghosts}
@@ -13,13 +13,12 @@ even n = omega arith
 -- what is given to a call is known by what was read before it
 pub blamed_when : {S A B C : Type 0} {g : Ghosts S} {Given G : Tables → Type 0} {old mid new : OpenChange S} {x : A} {P : Tables → A → Type 0} → FindsTables g {E = Fault} old mid (Ok x) P → old.store.now.calls.failures ≤ mid.store.now.calls.failures
     → Wears (seen_in g mid) (seen_in g new) → (fault : Fault) → BlamesGiven g G {A = C} mid new (Err fault) → ((t : Tables) → P t x → Given t → G t) → (out : Result B Fault) → out ≡ Err fault → BlamesGiven g Given old new out
-blamed_when {B = B} {g = g} {Given = Given} {old = old} {mid = mid} {new = new} read grows wears fault blames means out is = subst (BlamesGiven g Given {A = B} old new) (sym is)
+blamed_when {B = B} {g = g} {Given = Given} {old = old} {new = new} read grows wears fault blames means out is = subst (BlamesGiven g Given {A = B} old new) (sym is)
     (record {
-      to = λ watch was given. record {
-        cause = λ store clean.
-            let seen = read.finds watch.tables was.sees in
-            let before : Watches g mid watch = record { sees = seen.0; before = record { failures = omega (arith, was.before.failures, grows) } } in
-            (blames.to watch before (means watch.tables (seen.1 (omega (arith, clean, wears))) given)).cause store clean;
+      to = λ t sees given. record {
+        reason = λ broken clean.
+            let seen = read.finds t sees in
+            (blames.to t seen.0 (means t (seen.1 (omega (arith, clean, wears))) given)).reason broken clean;
       };
     })
 

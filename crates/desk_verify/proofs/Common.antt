@@ -59,7 +59,7 @@ pub use Rattle.sql_calls.proofs.Composing.{both_found, finds_as, found_then, kno
 pub use Rattle.sql_calls.specs.Keyed.{IsHeldBy, rows_from}
 pub use Rattle.sql_calls.specs.Standing.{Finds, Wears}
 pub use Rattle.sql_calls.specs.declared.fault.Fault.{Fault}
-pub use Rattle.sql_calls.specs.declared.fault.Fault.TheVariants.{Store}
+pub use Rattle.sql_calls.specs.declared.fault.Fault.TheVariants.{Broken}
 pub use Rattle.desk_records.proofs.HeldCounts.{at_place, has_place, held_passing, item_row, own_parts, part_among, place_within}
 pub use Rattle.desk_records.proofs.HeldTables.{IsNumbered, IsPart, are_tables, held_rows, numbered, of_part, row_numbered, row_of, rows_of, wanted_of}
 pub use Rattle.desk_records.proofs.Membership.{all_pass, each_passes, has_flat, has_mapped, map_has}
@@ -92,7 +92,7 @@ pub use Rattle.desk_records.specs.declared.rollout_row.ListedAction.{ListedActio
 pub use Rattle.desk_records.specs.declared.rollout_row.StoredAction.{StoredAction}
 pub use Rattle.desk_records.specs.declared.rollout_row.StoredRollout.{StoredRollout}
 pub use Rattle.desk_store.proofs.BlameLemmas.{blamed}
-pub use Rattle.desk_store.specs.Blaming.{Blames, BlamesGiven, Watches}
+pub use Rattle.desk_store.specs.Blaming.{Blames, BlamesGiven}
 pub use Rattle.desk_store.specs.Changing.{FindsTables, StaysIn, seen_in}
 pub use Rattle.desk_store.specs.RawLists.{AreActions, AreOffers, ListsRows, SaysAction, SaysArtifact, SaysGroup, SaysNumber, SaysNumbered, SaysOffer, SaysOfferOf, SaysRule, any_row, listed_shown}
 pub use Rattle.desk_store.specs.Readable.{BreaksColumn, IsReadable, label_shown, placed_shown, second_shown, third_shown}

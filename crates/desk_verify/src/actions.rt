@@ -50,7 +50,7 @@ impl<S: Alter> ByRollout<S> for Actions {
         }
         match u32::try_from(actions.len()) {
             Ok(count) => Ok(Some(count)),
-            Err(_) => Err(Fault::Store),
+            Err(_) => Err(Fault::Broken),
         }
     }
 }
@@ -88,7 +88,7 @@ fn actions_of<S: Alter>(
         return Ok(None);
     };
     if !numbers_rise(&actions) {
-        return Err(Fault::Store);
+        return Err(Fault::Broken);
     }
     Ok(Some(actions))
 }
@@ -104,10 +104,10 @@ fn members_of<S: Alter>(
     ensures blames { BlamesGiven S.Store (AgreeBefore checked.Action) change.old change.new result }
 {
     let Some(members) = change.list_places(number)? else {
-        return Err(Fault::Store);
+        return Err(Fault::Broken);
     };
     if !count_on(&members) {
-        return Err(Fault::Store);
+        return Err(Fault::Broken);
     }
     Ok(members)
 }

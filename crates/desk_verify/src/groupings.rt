@@ -29,7 +29,7 @@ pub(crate) fn read_grouping<S: Alter>(
     };
     match grouping_with(rollout.rollout.plan.groups, definitions) {
         Some(groups) => Ok(groups),
-        None => Err(Fault::Store),
+        None => Err(Fault::Broken),
     }
 }
 
@@ -46,7 +46,7 @@ fn read_rules<S: Alter>(
     let mut rules = Vec::new(change.alloc());
     for before in 0..rollout.rollout.plan.groups.get() {
         let Some(rule) = change.find_rule(rollout.number, before + 1)? else {
-            return Err(Fault::Store);
+            return Err(Fault::Broken);
         };
         match rules.push(rule) {
             Ok(()) => {}

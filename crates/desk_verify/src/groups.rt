@@ -46,7 +46,7 @@ impl<S: Alter> ByRollout<S> for Groups {
         }
         match u32::try_from(groups.len()) {
             Ok(listed) => Ok(Some(listed)),
-            Err(_) => Err(Fault::Store),
+            Err(_) => Err(Fault::Broken),
         }
     }
 }

@@ -57,7 +57,7 @@ fn find_given<S: Alter>(
 {
     let entries = change.list_history(number)?;
     if !sequences_rise(&entries) {
-        return Err(Fault::Store);
+        return Err(Fault::Broken);
     }
     Ok(first_said(&entries))
 }

@@ -38,7 +38,7 @@ impl<S: Alter> ByRollout<S> for Members {
         }
         match u32::try_from(members.len()) {
             Ok(count) => Ok(Some(count)),
-            Err(_) => Err(Fault::Store),
+            Err(_) => Err(Fault::Broken),
         }
     }
 }

@@ -46,17 +46,17 @@ impl<S: Alter> ByRollout<S> for Actions {
         rollout: &NumberedRollout,
     ) -> Result<Option<u32>, Fault> {
         let Some(groups) = change.list_groups(rollout.number)? else {
-            return Err(Fault::Store);
+            return Err(Fault::Broken);
         };
         let Some(actions) = change.list_all_actions(rollout.number)? else {
-            return Err(Fault::Store);
+            return Err(Fault::Broken);
         };
         if !are_offered_if_due(change, &groups, &actions)? {
             return Ok(None);
         }
         match u32::try_from(actions.len()) {
             Ok(count) => Ok(Some(count)),
-            Err(_) => Err(Fault::Store),
+            Err(_) => Err(Fault::Broken),
         }
     }
 }
@@ -164,7 +164,7 @@ fn keep_groups<S: Alter>(
         return Ok(());
     }
     let Some(groups) = change.list_groups(rollout)? else {
-        return Err(Fault::Store);
+        return Err(Fault::Broken);
     };
     kept.rollout = Some(rollout);
     kept.groups = groups;

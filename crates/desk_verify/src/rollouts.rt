@@ -65,7 +65,7 @@ pub(crate) fn check_rollouts<T: ByRollout<S>, S: Alter>(
         };
         listed = match listed.checked_add(count) {
             Some(sum) => sum,
-            None => return Err(Fault::Store),
+            None => return Err(Fault::Broken),
         };
     }
     Ok(Some(listed))
@@ -82,10 +82,10 @@ fn rollout_of<S: Alter>(
     ensures blames { BlamesGiven S.Store (IsUpTo number) change.old change.new result }
 {
     let Some(number) = RolloutNo::new(number) else {
-        return Err(Fault::Store);
+        return Err(Fault::Broken);
     };
     match change.find_rollout(number)? {
         Some(rollout) => Ok(NumberedRollout { number, rollout }),
-        None => Err(Fault::Store),
+        None => Err(Fault::Broken),
     }
 }

@@ -1,5 +1,5 @@
 -- What the answers here cite, passed on from one place. Declares nothing.
-pub use Rattle.desk_views.proofs.Common.{◌≡◌, map, take, shown_among, ◌+◌, sym, ap, ◌∙◌, arith, ◌++◌, ◌∷◌, [], length-append, is_ok, numbered, entry_by, all_given, length, rules, take_all, both_found, finds_as, listed_shown, Ok, Fault, FindsAtListsIn, FailsAtListsIn, StaysIn, ledger_found, ◌≤◌, Err, err_from_is_err_and, nat_tests, item_numbered, group_holding, shown_in, groups_are, action_of_target, action_shown, ActionShown, stored_in, nat_eq, not, is_some, stored_rollout, actions_of_rollout, ActionsTableShown, entry_shown, page_of, HistoryShown, drop, same_bytes, actor_of, stored_target, actions_of_target, ActionsShown, target_of, found_if, ◌*◌, IsSome, artifact_size_limit, piece_length, pieces_of_artifact, ◌-◌, FindsIn, Some, None, artifacts_shown, artifact_of_module, refl, IfOk, subst, named, IsOfName, same_pointwise, or_not_found, found_then, chunks_of, known, chunk, modules_offered, List, false, Chunk, DeploymentShown, true, PollShown, inl, inr, rules_of, group_shown, RolloutRecord, IsSeenOf, Store, said_of, targets_of, targets_shown, shown_target, BothOrNone, group_reply, GroupShown, group_numbered, le_trans, members_in, TargetsShown, groups_shown, GroupsShown, rules_there, module_shown, same_number, modules_shown, FailsWith, report_of, ReportShown, rollouts_shown, rollout_shown, RolloutShown, set_shown, worded, found_held, matching_shown, target_listed, ◌<◌, ◌^◌, listed, ShownTarget, Tree, filter_of, seen, group_is_started, last_ending, vec_len, TargetWord}
+pub use Rattle.desk_views.proofs.Common.{◌≡◌, map, take, shown_among, ◌+◌, sym, ap, ◌∙◌, arith, ◌++◌, ◌∷◌, [], length-append, is_ok, numbered, entry_by, all_given, length, rules, take_all, both_found, finds_as, listed_shown, Ok, Fault, FindsAtListsIn, FailsAtListsIn, StaysIn, ledger_found, ◌≤◌, Err, err_from_is_err_and, nat_tests, item_numbered, group_holding, shown_in, groups_are, action_of_target, action_shown, ActionShown, stored_in, nat_eq, not, is_some, stored_rollout, actions_of_rollout, ActionsTableShown, entry_shown, page_of, HistoryShown, drop, same_bytes, actor_of, stored_target, actions_of_target, ActionsShown, target_of, found_if, ◌*◌, IsSome, artifact_size_limit, piece_length, pieces_of_artifact, ◌-◌, FindsIn, Some, None, artifacts_shown, artifact_of_module, refl, IfOk, subst, named, IsOfName, same_pointwise, or_not_found, found_then, chunks_of, known, chunk, modules_offered, List, false, Chunk, DeploymentShown, true, PollShown, inl, inr, rules_of, group_shown, RolloutRecord, IsSeenOf, Broken, said_of, targets_of, targets_shown, shown_target, BothOrNone, group_reply, GroupShown, group_numbered, le_trans, members_in, TargetsShown, groups_shown, GroupsShown, rules_there, module_shown, same_number, modules_shown, FailsWith, report_of, ReportShown, rollouts_shown, rollout_shown, RolloutShown, set_shown, worded, found_held, matching_shown, target_listed, ◌<◌, ◌^◌, listed, ShownTarget, Tree, filter_of, seen, group_is_started, last_ending, vec_len, TargetWord}
 pub use Rattle.desk_views.proofs.ActionViews.{action_replied, all_listed, more_shown, no_action, none_there, not_found, of_rollout_is, of_target_is, one_action, one_there, page_is, stored_at}
 pub use Rattle.desk_views.proofs.ArtifactViews.{artifact_replied, contents_replied, no_artifact, no_contents, no_module, of_another, of_this, page_shown, pieces_end, pieces_grow, same_module, together}
 pub use Rattle.desk_views.proofs.DeviceViews.{action_modules, answered, answered_by, chunks_grow, downloaded, is_named, named_said, no_action_modules, no_chunk, no_rollout_modules, not_among, not_known, not_offered, offered, one_chunk, rollout_modules, turned_away}

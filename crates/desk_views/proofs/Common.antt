@@ -45,7 +45,7 @@ pub use Rattle.rollout_machine.specs.declared.records.RolloutRecord.{RolloutReco
 pub use Rattle.campaign_core.specs.RolloutChecks.{BothOrNone}
 pub use Rattle.sql_calls.proofs.Composing.{both_found, finds_as, found_held, found_if, found_then, known}
 pub use Rattle.sql_calls.specs.declared.fault.Fault.{Fault}
-pub use Rattle.sql_calls.specs.declared.fault.Fault.TheVariants.{Memory, Store}
+pub use Rattle.sql_calls.specs.declared.fault.Fault.TheVariants.{Broken, Memory, Store}
 pub use Rattle.desk_records.specs.Actions.{Tally, action_row, actor_of, history_of, tally_of}
 pub use Rattle.desk_records.specs.ArtifactRow.{has_size, stored}
 pub use Rattle.desk_records.specs.Artifacts.{piece_numbered, pieces_of_artifact}

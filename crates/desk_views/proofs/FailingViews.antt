@@ -1,19 +1,21 @@
 -- Why a view of a list of accepted commands is no failed store by itself.
-use Rattle.desk_views.proofs.Common.{◌≡◌, ◌≤◌, ◌<◌, ℕ, zero, suc, true, List, [], ◌∷◌, length, slice_get, Some, None, Result, Ok, Err, IfErr, refl, sym, ap, subst, arith, Memory, Store, number_limit, is_number, number_of, records, Records, HoldsLedger, Ledger, ledger_of, seen_in, FindsIn, IsReadable, IfStore, IsOfList, AreOfList, item_numbered, Fault, IsOfListWith}
+use Rattle.desk_views.proofs.Common.{◌≡◌, ◌≤◌, ◌<◌, ℕ, zero, suc, true, List, [], ◌∷◌, length, slice_get, Some, None, Result, Ok, Err, IfErr, refl, sym, ap, subst, arith, Broken, Memory, Store, number_limit, is_number, number_of, records, Records, HoldsLedger, Ledger, ledger_of, seen_in, FindsIn, IsReadable, IfStore, IsOfList, AreOfList, item_numbered, Fault, IsOfListWith}
 use Rattle.sqlite.specs.Store.{Ghosts}
 use Rattle.sql_calls.specs.Standing.{Sees, Wears}
 use Rattle.desk_records.proofs.NumberColumns.{is_in_range}
-use Rattle.desk_store.specs.Failing.{FailsGiven, HasSight}
+use Rattle.desk_store.specs.Breaking.{BreaksOnly}
+use Rattle.desk_store.specs.Failing.{FailsGiven, nothing}
 use Rattle.desk_store.specs.declared.change.OpenChange.{OpenChange}
 
 -- the ledger of such records
 pub listed : {r : Records} → AreOfList r → IsOfList (ledger_of r)
 listed of = record { list = of.list; valid = of.valid; is = ap ledger_of of.are }
 
--- where a fault is always told so
-pub told : {Why : Type 0} → (fault : Fault) → Why → IfStore fault Why
+-- where broken rows are always told so
+pub told : {Why : Type 0} → (fault : Fault) → (fault ≡ Broken) × Why → IfStore fault Why
 told Memory why = tt
-told Store why = why
+told Store why = absurd (let same = why.0 in cc)
+told Broken why = why.1
 
 -- ---- where the ledger is as given, which is that of a list
 
@@ -24,13 +26,14 @@ module _ {S A : Type 0} {g : Ghosts S} {Given : Ledger → Type 0} (at : (l : Le
   never_given {B} {Why} {new} read fault why reason out is = subst (λ (o : Result B Fault). FailsGiven g Given old new o) (sym is) (go fault why)
     where
       go : (fault : Fault) → IfStore fault Why → FailsGiven g Given {A = B} old new (Err fault)
-      go Memory why = record { to = λ sight was given. record { call = λ store clean. absurd cc } }
-      go Store why = record {
-        to = λ sight was given. record {
-          call = λ store clean.
-              let it = at sight.ledger given in
-              let seen = read.finds (records it.list) (subst (λ l. Sees HoldsLedger (seen_in g old) l) it.is was.sees) in
-              absurd (reason (records it.list) (seen.1 clean) (record { list = it.list; valid = it.valid; are = refl }) (subst Given it.is given) (subst IsReadable it.is sight.readable) why);
+      go Memory why = record { to = λ l sees given. record { reason = λ is clean. absurd cc } }
+      go Store why = absurd why
+      go Broken why = record {
+        to = λ l sees all. record {
+          reason = λ is clean.
+              let it = at l all.given in
+              let seen = read.finds (records it.list) (subst (λ l. Sees HoldsLedger (seen_in g old) l) it.is sees) in
+              absurd (reason (records it.list) (seen.1 clean) (record { list = it.list; valid = it.valid; are = refl }) (subst Given it.is all.given) (subst IsReadable it.is all.readable) why);
         };
       }
 
@@ -39,13 +42,12 @@ module _ {S A : Type 0} {g : Ghosts S} {Given : Ledger → Type 0} (at : (l : Le
       → (fault : Fault) → FailsGiven g G {A = C} mid new (Err fault) → ((r : Records) → P r x → AreOfList r → Given (ledger_of r) → G (ledger_of r)) → (out : Result B Fault) → out ≡ Err fault → FailsGiven g Given old new out
   when_given {B} {G = G} {mid = mid} {new = new} read grows wears fault fails means out is = subst (λ (o : Result B Fault). FailsGiven g Given old new o) (sym is)
       (record {
-        to = λ sight was given. record {
-          call = λ store clean.
-              let it = at sight.ledger given in
-              let seen = read.finds (records it.list) (subst (λ l. Sees HoldsLedger (seen_in g old) l) it.is was.sees) in
-              let known = means (records it.list) (seen.1 (omega (arith, clean, wears))) (record { list = it.list; valid = it.valid; are = refl }) (subst Given it.is given) in
-              let before : HasSight g mid sight = record { sees = subst (λ l. Sees HoldsLedger (seen_in g mid) l) (sym it.is) seen.0; before = record { failures = omega (arith, was.before.failures, grows) } } in
-              (fails.to sight before (subst G (sym it.is) known)).call store clean;
+        to = λ l sees all. record {
+          reason = λ broken clean.
+              let it = at l all.given in
+              let seen = read.finds (records it.list) (subst (λ l. Sees HoldsLedger (seen_in g old) l) it.is sees) in
+              let known = means (records it.list) (seen.1 (omega (arith, clean, wears))) (record { list = it.list; valid = it.valid; are = refl }) (subst Given it.is all.given) in
+              (fails.to l (subst (λ l. Sees HoldsLedger (seen_in g mid) l) (sym it.is) seen.0) (record { readable = all.readable; given = subst G (sym it.is) known })).reason broken clean;
         };
       })
 
@@ -74,7 +76,7 @@ module _ {S A : Type 0} {g : Ghosts S} {Want : Records → Type 0} {old : OpenCh
 -- ---- where the answer is a call's
 
 -- of values alone: at Ok what was seen is seen
-pub never_answers : {S B C : Type 0} {g : Ghosts S} {Given G : Ledger → Type 0} {old new : OpenChange S} {y : C} {Why : Fault → Type 0} → FailsGiven g G old new (Ok y) → (out : Result B Fault) → IfErr out Why → ((fault : Fault) → Why fault → out ≡ Err fault → FailsGiven g Given old new out)
+pub never_answers : {S B C : Type 0} {g : Ghosts S} {Given G : Ledger → Type 0} {old new : OpenChange S} {y : C} {Why : Fault → Type 0} → BreaksOnly g HoldsLedger G nothing old new (Ok y) → (out : Result B Fault) → IfErr out Why → ((fault : Fault) → Why fault → out ≡ Err fault → FailsGiven g Given old new out)
     → FailsGiven g Given old new out
 never_answers kept (Ok z) why failed = record { to = kept.to }
 never_answers kept (Err fault) why failed = failed fault why refl

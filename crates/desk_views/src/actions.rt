@@ -12,7 +12,7 @@ ghost use Rattle.desk_records.specs.Actions.{history_of};
 ghost use Rattle.desk_views.specs.Actions.{entry_by, listed_shown, number_at, reports_of, shown_among, shown_in, stored_in};
 ghost use Rattle.desk_reads.specs.AtLists.{FailsAtListsIn, FindsAtListsIn};
 ghost use Rattle.desk_views.specs.Showing.{ShowsIn};
-ghost use Rattle.sql_calls.specs.declared.fault.Fault.TheVariants.{Memory, Store};
+ghost use Rattle.sql_calls.specs.declared.fault.Fault.TheVariants.{Broken, Memory};
 ghost use Rattle.desk_store.specs.Rows.{IfStore};
 ghost use Rattle.desk_store.specs.Changing.{FindsIn, StaysIn};
 
@@ -164,7 +164,7 @@ fn numbered_after(
     let mut last = before;
     for entry in entries {
         let Some(place) = last.checked_add(1) else {
-            return Err(Fault::Store);
+            return Err(Fault::Broken);
         };
         let number = number_at(numbers, place);
         let reported = Reported { entry, number };
@@ -192,11 +192,11 @@ fn number_at(numbers: &[PlacedNumber], place: u32) -> Option<FeedbackNumber>
 /// How many were listed. Where they are as many as a statement lists there may be more, and the store has failed.
 fn count_of(listed: &[ListedAction]) -> Result<u32, Fault>
     ensures { MatchResult result (λ count. (count ≡ length listed.now) × (count < 4294967295))
-        (λ fault. (fault ≡ Store) × (4294967295 ≤ length listed.now)) }
+        (λ fault. (fault ≡ Broken) × (4294967295 ≤ length listed.now)) }
 {
     match u32::try_from(listed.len()) {
         Ok(count) if count < u32::MAX => Ok(count),
-        _ => Err(Fault::Store),
+        _ => Err(Fault::Broken),
     }
 }
 

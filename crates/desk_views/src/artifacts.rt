@@ -12,7 +12,7 @@ ghost use Rattle.desk_views.specs.Contents.{contents_found};
 ghost use Rattle.desk_views.specs.Failing.{FailsWith};
 ghost use Rattle.rollout_model.specs.Limits.{artifact_size_limit, piece_length};
 ghost use Rattle.rollout_model.specs.Rules.{is_contents};
-ghost use Rattle.sql_calls.specs.declared.fault.Fault.TheVariants.{Memory, Store};
+ghost use Rattle.sql_calls.specs.declared.fault.Fault.TheVariants.{Broken, Memory};
 ghost use Rattle.desk_store.specs.Rows.{IfStore};
 ghost use Rattle.desk_views.specs.Sizes.{AgreesIn, IsOfNumber, KeepsSize};
 ghost use Rattle.desk_store.specs.Changing.{FindsIn, StaysIn};
@@ -105,7 +105,7 @@ fn part_of(alloc: Global, all: &[Artifact], page: Page) -> Result<PageOf<Artifac
     ensures err { IfErr result (λ fault. IfStore fault (2 ^ 32 ≤ length all.now)) }
 {
     let Ok(total) = u32::try_from(all.len()) else {
-        return Err(Fault::Store);
+        return Err(Fault::Broken);
     };
     let after = &all[all.len().min(page.offset as usize)..];
     let part = &after[..after.len().min(page.limit as usize)];
@@ -175,11 +175,11 @@ fn read_pieces<S: Alter>(
 fn within_limit(before: u32, found: Option<Vec<u8>>) -> Result<Option<Vec<u8>>, Fault>
     ensures same { IfOk result (λ piece. piece ≡ found) }
     ensures few { IfOk result (λ piece. IfSome piece (λ _. before * piece_length < artifact_size_limit)) }
-    ensures err { IfErr result (λ fault. (fault ≡ Store) × IsSome found × (artifact_size_limit ≤ before * piece_length)) }
+    ensures err { IfErr result (λ fault. (fault ≡ Broken) × IsSome found × (artifact_size_limit ≤ before * piece_length)) }
 {
     match found {
         Some(piece) if before < PIECE_LIMIT => Ok(Some(piece)),
-        Some(_) => Err(Fault::Store),
+        Some(_) => Err(Fault::Broken),
         None => Ok(None),
     }
 }
@@ -198,13 +198,13 @@ fn append(bytes: &mut Vec<u8>, piece: &[u8]) -> Result<(), Fault>
 fn whole_contents(bytes: Vec<u8>, size: u32) -> Result<Contents, Fault>
     ensures bytes { IfOk result (λ contents. contents ≡ bytes.items) }
     ensures sized { IfOk result (λ contents. length contents ≡ size) }
-    ensures err { IfErr result (λ fault. (fault ≡ Store) × ((length bytes.items ≢ size) ⊎ (is_contents bytes.items ≡ false))) }
+    ensures err { IfErr result (λ fault. (fault ≡ Broken) × ((length bytes.items ≢ size) ⊎ (is_contents bytes.items ≡ false))) }
 {
     if bytes.len() != size as usize {
-        return Err(Fault::Store);
+        return Err(Fault::Broken);
     }
     match Contents::from_bytes(bytes) {
         Some(contents) => Ok(contents),
-        None => Err(Fault::Store),
+        None => Err(Fault::Broken),
     }
 }

@@ -13,7 +13,7 @@ ghost use Rattle.rollout_machine.specs.Views.{listed, shown_target};
 ghost use Rattle.rollout_machine.specs.declared.records.RolloutRecord.{RolloutRecord};
 ghost use Rattle.desk_reads.specs.AtLists.{FailsAtListsIn};
 ghost use Rattle.desk_reads.specs.Rollouts.{IsSeenOf};
-ghost use Rattle.sql_calls.specs.declared.fault.Fault.TheVariants.{Memory, Store};
+ghost use Rattle.sql_calls.specs.declared.fault.Fault.TheVariants.{Broken, Memory};
 ghost use Rattle.desk_store.specs.Rows.{IfStore};
 ghost use Rattle.desk_views.specs.Failing.{FailsWith};
 ghost use Rattle.desk_views.specs.Groups.{HasUnshown, IsGroupOf};
@@ -88,7 +88,7 @@ fn read_shown_group<S: Alter>(
 {
     match change.read_rule(number, group.number)? {
         Some(rule) => shown_in(seen, rule, group),
-        None => Err(Fault::Store),
+        None => Err(Fault::Broken),
     }
 }
 
@@ -176,11 +176,11 @@ fn push(content: &mut Vec<ShownTarget>, shown: ShownTarget) -> Result<(), Fault>
 
 /// How many members a group has. Where they are more than are counted, the store has failed.
 fn count_of(group: &GroupRecord) -> Result<u32, Fault>
-    ensures { MatchResult result (λ size. size ≡ size_of_group group.now) (λ fault. (fault ≡ Store) × (2 ^ 32 ≤ size_of_group group.now)) }
+    ensures { MatchResult result (λ size. size ≡ size_of_group group.now) (λ fault. (fault ≡ Broken) × (2 ^ 32 ≤ size_of_group group.now)) }
 {
     match u32::try_from(size_of(group)) {
         Ok(size) => Ok(size),
-        Err(_) => Err(Fault::Store),
+        Err(_) => Err(Fault::Broken),
     }
 }
 
@@ -197,7 +197,7 @@ fn page_shown(
         (take page.limit (drop page.offset seen.now.groups.items)))) }
 {
     let Ok(total) = u32::try_from(seen.groups.len()) else {
-        return Err(Fault::Store);
+        return Err(Fault::Broken);
     };
     let content = all_shown(alloc, seen, rules, part_on(&seen.groups, page))?;
     Ok(PageOf { content, total })
@@ -229,14 +229,14 @@ pub(crate) fn all_shown(
 /// The rule of the group of a number, counted from 1. Where there is none, the store has failed.
 fn rule_of(rules: &[GroupRule], number: u32) -> Result<GroupRule, Fault>
     ensures { MatchResult result (λ rule. (plan : RolloutPlan) → rules.now ≡ rules_of plan → rule ≡ rule_at plan number)
-        (λ fault. (fault ≡ Store) × (item_numbered rules.now number ≡ None)) }
+        (λ fault. (fault ≡ Broken) × (item_numbered rules.now number ≡ None)) }
 {
     if number == 0 {
-        return Err(Fault::Store);
+        return Err(Fault::Broken);
     }
     match rules.get(number as usize - 1) {
         Some(rule) => Ok(*rule),
-        None => Err(Fault::Store),
+        None => Err(Fault::Broken),
     }
 }
 
@@ -244,7 +244,7 @@ fn rule_of(rules: &[GroupRule], number: u32) -> Result<GroupRule, Fault>
 fn shown_in(seen: &SeenRollout, rule: GroupRule, group: &GroupRecord) -> Result<Group, Fault>
     ensures ok { IfOk result (λ shown. (x : RolloutRecord) → IsSeenOf seen.now x → rule ≡ rule_at x.plan group.now.number
         → shown ≡ group_shown x group.now) }
-    ensures err { IfErr result (λ fault. (fault ≡ Store) × (2 ^ 32 ≤ size_of_group group.now)) }
+    ensures err { IfErr result (λ fault. (fault ≡ Broken) × (2 ^ 32 ≤ size_of_group group.now)) }
 {
     let size = count_of(group)?;
     let GroupRecord {

@@ -77,11 +77,11 @@ fn read_entry<S: Alter>(change: &mut OpenChange<'_, S>, number: u32) -> Result<M
     ensures fails { FailsWith S.Store (λ now. (1 ≤ number) × (number ≤ length now.modules)) change.old change.new result }
 {
     let Some(number) = ModuleNo::new(number) else {
-        return Err(Fault::Store);
+        return Err(Fault::Broken);
     };
     match read_shown(change, number)? {
         Some(shown) => Ok(shown),
-        None => Err(Fault::Store),
+        None => Err(Fault::Broken),
     }
 }
 

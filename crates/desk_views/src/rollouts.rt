@@ -96,10 +96,10 @@ fn read_entry<S: Alter>(change: &mut OpenChange<'_, S>, number: u32) -> Result<R
     ensures fails { FailsWith S.Store (λ now. (1 ≤ number) × (number ≤ length now.rollouts)) change.old change.new result }
 {
     let Some(number) = RolloutNo::new(number) else {
-        return Err(Fault::Store);
+        return Err(Fault::Broken);
     };
     match read_seen_rollout(change, number)? {
         Some(seen) => Ok(shown(seen)),
-        None => Err(Fault::Store),
+        None => Err(Fault::Broken),
     }
 }

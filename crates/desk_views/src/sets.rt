@@ -7,7 +7,7 @@ ghost use Rattle.rollout_machine.specs.Objects.{numbered, set_shown};
 ghost use Rattle.rollout_machine.specs.Requests.{ShowSet, ShowSets};
 ghost use Rattle.rollout_machine.specs.Views.{reply_of};
 ghost use Rattle.rollout_model.specs.Rules.{is_module_list};
-ghost use Rattle.sql_calls.specs.declared.fault.Fault.TheVariants.{Store};
+ghost use Rattle.sql_calls.specs.declared.fault.Fault.TheVariants.{Broken};
 ghost use Rattle.desk_reads.specs.AtLists.{FailsAtListsIn};
 ghost use Rattle.desk_views.specs.Failing.{FailsWith};
 ghost use Rattle.desk_store.specs.Changing.{FindsIn, StaysIn};
@@ -80,11 +80,11 @@ fn read_entry<S: Alter>(
     ensures fails { FailsWith S.Store (λ now. (1 ≤ number) × (number ≤ length now.sets)) change.old change.new result }
 {
     let Some(number) = SetNo::new(number) else {
-        return Err(Fault::Store);
+        return Err(Fault::Broken);
     };
     match read_label(change, number)? {
         Some(label) => Ok(DistributionSet { number, label }),
-        None => Err(Fault::Store),
+        None => Err(Fault::Broken),
     }
 }
 
@@ -108,11 +108,11 @@ fn read_label<S: Alter>(
 
 /// The modules of a set. Where they aren't 1 to 8, or one stands twice, the store has failed, since no such set was added.
 fn module_list(numbers: Vec<ModuleNo>) -> Result<ModuleList, Fault>
-    ensures { MatchResult result (λ modules. modules ≡ numbers.items) (λ fault. (fault ≡ Store) × (is_module_list numbers.items ≡ false)) }
+    ensures { MatchResult result (λ modules. modules ≡ numbers.items) (λ fault. (fault ≡ Broken) × (is_module_list numbers.items ≡ false)) }
 {
     match ModuleList::from_numbers(numbers) {
         Some(modules) => Ok(modules),
-        None => Err(Fault::Store),
+        None => Err(Fault::Broken),
     }
 }
 

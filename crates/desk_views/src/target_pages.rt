@@ -127,7 +127,7 @@ fn read_matching<S: Alter>(
     };
     for chunk in 0..count.div_ceil(CHUNK) {
         let Some(offset) = chunk.checked_mul(CHUNK) else {
-            return Err(Fault::Store);
+            return Err(Fault::Broken);
         };
         add_chunk(change, filter, page, offset, &mut shown)?;
     }
@@ -215,7 +215,7 @@ fn add<S: Alter>(
 {
     let place = shown.total;
     let Some(total) = place.checked_add(1) else {
-        return Err(Fault::Store);
+        return Err(Fault::Broken);
     };
     shown.total = total;
     if !is_on(page, place) {

@@ -68,7 +68,7 @@ fn read_actions<S: Alter>(
     let limit = ROLLOUT_LIMIT + 1;
     let actions = change.read_target_actions(id, Page { offset: 0, limit })?;
     if actions.len() >= limit as usize {
-        return Err(Fault::Store);
+        return Err(Fault::Broken);
     }
     Ok(actions)
 }

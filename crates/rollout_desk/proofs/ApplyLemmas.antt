@@ -1,5 +1,5 @@
 -- From the calls of the store to one request of a desk.
-use Rattle.rollout_desk.proofs.Common.{◌≡◌, ◌≢◌, ◌⊎◌, inl, inr, Bool, false, Option, Some, None, Ok, refl, sym, subst, ap, ◌∙◌, arith, cases_Bool, false≢true, Trees, State, HasCleanDisk, HoldIn, IsAtRest, Rests, Doubts, Begins, Keeps, Finds, Opens, Sees, Spoiled, Wears, Answer, answer, query_reply, CommandList, ◌▸◌, followed_by, Command, Records, records, step_records, Reply, Refused, Request, Do, Ask, Query, Asks, one, StandsFor, Becomes, AppliesAt, IsValid, reply_of, query_answer, refused_answer, accepted_step, records_step, answer_never_stores, failed_true, Refusal, StoreFailed, NoMemory, HoldsList, desk_state_at, rest_shows, Fault, Memory, Store, is_failed_store, refusal_of_fault, Handles, EndsByCommit, EndsByRollback, HoldsLedger, HoldsRecords, Ledger, ledger_of, HoldsReadable}
+use Rattle.rollout_desk.proofs.Common.{◌≡◌, ◌≢◌, ◌⊎◌, inl, inr, Bool, false, Option, Some, None, Ok, refl, sym, subst, ap, ◌∙◌, arith, cases_Bool, false≢true, Trees, State, HasCleanDisk, HoldIn, IsAtRest, Rests, Doubts, Begins, Keeps, Finds, Opens, Sees, Spoiled, Wears, Answer, answer, query_reply, CommandList, ◌▸◌, followed_by, Command, Records, records, step_records, Reply, Refused, Request, Do, Ask, Query, Asks, one, StandsFor, Becomes, AppliesAt, IsValid, reply_of, query_answer, refused_answer, accepted_step, records_step, answer_never_stores, failed_true, Refusal, StoreFailed, NoMemory, HoldsList, desk_state_at, rest_shows, Fault, Broken, Memory, Store, is_failed_store, refusal_of_fault, Handles, EndsByCommit, EndsByRollback, HoldsLedger, HoldsRecords, Ledger, ledger_of, HoldsReadable}
 use Rattle.rollout_model.specs.declared.request.Reply as model
 use Rattle.rollout_machine.specs.CommandRules.{IsWellFormed}
 use Rattle.rollout_machine.specs.Verdicts.{check}
@@ -26,6 +26,7 @@ IsFailure reply = (reply ≡ Refused NoMemory) ⊎ (reply ≡ Refused StoreFaile
 pub fault_fails : (fault : Fault) (reply : Reply) → reply ≡ Refused (refusal_of_fault fault) → IsFailure reply
 fault_fails Memory reply is = inl is
 fault_fails Store reply is = inr is
+fault_fails Broken reply is = inr is
 
 -- what the desk keeps is read again
 pub readable : (db : Trees) (r : Records) → HoldIn HoldsRecords db r → HoldIn HoldsReadable db r

@@ -1,5 +1,5 @@
 -- Why a request's failed store is a call that failed: what was blamed inside its change, and how the change ended.
-use Rattle.rollout_desk.proofs.Common.{Result, ◌≡◌, ◌≢◌, ◌≤◌, ◌⊎◌, inl, inr, Bool, false, Option, Some, None, Ok, refl, sym, subst, ap, ◌∙◌, arith, state, Ghosts, State, HasCleanDisk, Begins, Finds, Sees, Wears, Fault, rest_shows, HoldsLedger, HoldsRecords, Ledger, ledger_of, OpenChange, Answer, answer, CommandList, Command, records, Reply, Refused, Refusal, Request, Do, Ask, Query, Asks, query_reply, reply_of, query_answer, refused_answer, accepted_step, IsValid, StandsFor, StoreFailed, answer_never_stores, refusal_of_fault, desk_state_at, Err, Store}
+use Rattle.rollout_desk.proofs.Common.{Result, ◌≡◌, ◌≢◌, ◌≤◌, ◌⊎◌, inl, inr, Bool, false, Option, Some, None, Ok, refl, sym, subst, ap, ◌∙◌, arith, state, Ghosts, State, HasCleanDisk, Begins, Finds, Sees, Wears, Fault, rest_shows, HoldsLedger, HoldsRecords, Ledger, ledger_of, OpenChange, Answer, answer, CommandList, Command, records, Reply, Refused, Refusal, Request, Do, Ask, Query, Asks, query_reply, reply_of, query_answer, refused_answer, accepted_step, IsValid, StandsFor, StoreFailed, Broken, answer_never_stores, refusal_of_fault, desk_state_at, Err, Store}
 use Rattle.rollout_model.specs.declared.request.Reply as model
 use Rattle.sql_calls.specs.declared.calls.Calls.{Calls}
 use Rattle.desk_commands.specs.Steps.{Steps}
@@ -9,20 +9,22 @@ use Rattle.desk_reads.specs.Counted.{AreCounted}
 use Rattle.desk_verify.proofs.ReadableRecords.{readable}
 use Rattle.desk_store.specs.Blaming.{HasFailed}
 use Rattle.desk_store.specs.Changing.{seen_in}
-use Rattle.desk_store.specs.Failing.{HasCall, HasSight, Sight}
+use Rattle.sql_calls.specs.Calls.{Grows, failures_of}
+use Rattle.desk_store.specs.Breaking.{HasReason}
+use Rattle.desk_store.specs.Readable.{IsReadable}
 use Rattle.rollout_desk.specs.Causes.{FailsByCalls}
 use Rattle.rollout_desk.proofs.ApplyLemmas.{stood}
-use Rattle.rollout_desk.proofs.VerifyLemmas.{failed_within, stored}
+use Rattle.rollout_desk.proofs.VerifyLemmas.{failed_within, is_counted, stored}
 
 -- the machine never answers so
 pub never_answered : (h : CommandList) (request : Request) (made : Reply) (accepted : Option Command) → record { reply = made; accepted = accepted } ≡ answer h (Asks request) → made ≢ Refused StoreFailed
 never_answered h request made accepted is failed = answer_never_stores h request (ap (λ (a : Answer). a.reply) (sym is) ∙ failed)
 
 -- the fault of a reply, or of a result, that says that the store failed
-pub told_reply : (fault : Fault) (made : Reply) → made ≡ Refused (refusal_of_fault fault) → made ≡ Refused StoreFailed → fault ≡ Store
+pub told_reply : (fault : Fault) (made : Reply) → made ≡ Refused (refusal_of_fault fault) → made ≡ Refused StoreFailed → (fault ≡ Store) ⊎ (fault ≡ Broken)
 told_reply fault made named is = stored fault (let told : Refused (refusal_of_fault fault) ≡ Refused StoreFailed = sym named ∙ is in cc)
 
-pub told_result : {A : Type 0} (fault : Fault) (refusal : Refusal) → refusal ≡ refusal_of_fault fault → ◌≡◌ {A = Result A Refusal} (Err refusal) (Err StoreFailed) → fault ≡ Store
+pub told_result : {A : Type 0} (fault : Fault) (refusal : Refusal) → refusal ≡ refusal_of_fault fault → ◌≡◌ {A = Result A Refusal} (Err refusal) (Err StoreFailed) → (fault ≡ Store) ⊎ (fault ≡ Broken)
 told_result fault refusal named is = stored fault (let same : refusal ≡ StoreFailed = cc in sym named ∙ same)
 
 module _ {S : Type 0} (g : Ghosts S) (old : Calls S) (begun read : OpenChange S) (end : Calls S) (begins : Begins HoldsLedger (state g old.conn) (seen_in g begun))
@@ -31,13 +33,14 @@ module _ {S : Type 0} (g : Ghosts S) (old : Calls S) (begun read : OpenChange S)
   shown h stands = begins.sees (ledger_of (records h)) (rest_shows HoldsLedger (state g old.conn) _ (stood (state g old.conn) h stands))
 
   -- a fault inside, told by what was made of it
-  pub failed_inside : {R : Type 0} {store : R} (Given : Ledger → Type 0) (fault : Fault) (made reply : R) → (made ≡ store → fault ≡ Store) → ((sight : Sight) → HasSight g begun sight → Given sight.ledger → HasCall g read sight.failed fault)
-      → ((h : CommandList) → IsValid h → AreCounted (records h) → Given (ledger_of (records h))) → (reply ≡ made) ⊎ HasFailed read.store.now.calls.failures end.failures → reply ≡ store → FailsByCalls g old end
-  failed_inside Given fault made reply named fails given (inr failed) is h clean counted stands = failed_within (omega (arith, grew, rose)) failed (omega arith)
-  failed_inside Given fault made reply named fails given (inl same) is h clean counted stands =
-      let sight : Sight = record { ledger = ledger_of (records h); readable = readable h stands.valid counted; failed = old.failures } in
-      let call = fails sight (record { sees = shown h stands; before = record { failures = grew } }) (given h stands.valid counted) in
-      failed_within (omega arith) (call.call (named (sym same ∙ is)) (omega (arith, clean, wears))) ended
+  pub failed_inside : {R : Type 0} {store : R} (Given : Ledger → Type 0) (fault : Fault) (made reply : R) → (made ≡ store → (fault ≡ Store) ⊎ (fault ≡ Broken)) → Grows (failures_of fault) begun.store.now.calls read.store.now.calls
+      → ((l : Ledger) → Sees HoldsLedger (seen_in g begun) l → Given l → HasReason g read ⊥ fault) → ((h : CommandList) → IsValid h → IsReadable (ledger_of (records h)) → AreCounted (records h) → Given (ledger_of (records h)))
+      → (reply ≡ made) ⊎ HasFailed read.store.now.calls.failures end.failures → reply ≡ store → FailsByCalls g old end
+  failed_inside Given fault made reply named grows breaks given (inr failed) is h clean counted stands = failed_within (omega (arith, grew, rose)) failed (omega arith)
+  failed_inside Given fault made reply named grows breaks given (inl same) is h clean counted stands = elim (named (sym same ∙ is)) [
+    | inl store ↦ failed_within grew (is_counted fault store grows) ended
+    | inr broken ↦ absurd ((breaks (ledger_of (records h)) (shown h stands) (given h stands.valid (readable h stands.valid counted) counted)).reason broken (omega (arith, clean, wears)))
+  ]
 
   -- what was made tells of no fault
   pub well_inside : {R : Type 0} {store : R} (made reply : R) → ((h : CommandList) → IsValid h → Sees HoldsLedger (seen_in g begun) (ledger_of (records h)) → HasCleanDisk (seen_in g read) → made ≢ store)

@@ -36,7 +36,7 @@ pub use Rattle.contents_handler.specs.Downloads.{BeginsAt, HandsPieces, Sends, n
 pub use Rattle.sql_calls.proofs.FrameEnds.{rest_shows}
 pub use Rattle.sql_calls.specs.Standing.{Begins, Doubts, Finds, HoldIn, IsAtRest, Keeps, Opens, Rests, Sees, Spoiled, Wears}
 pub use Rattle.sql_calls.specs.declared.fault.Fault.{Fault}
-pub use Rattle.sql_calls.specs.declared.fault.Fault.TheVariants.{Memory, Store}
+pub use Rattle.sql_calls.specs.declared.fault.Fault.TheVariants.{Broken, Memory, Store}
 pub use Rattle.desk_records.proofs.WholeArtifacts.{IsWhole, all_whole}
 pub use Rattle.desk_records.specs.Artifacts.{piece_numbered, pieces_in, pieces_of_artifact}
 pub use Rattle.desk_records.specs.Holds.{HoldsLedger, HoldsRecords, Ledger, ledger_of}

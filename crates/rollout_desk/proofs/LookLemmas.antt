@@ -1,5 +1,5 @@
 -- From the calls of the store to a look at the records.
-use Rattle.rollout_desk.proofs.Common.{◌≡◌, ◌⊎◌, inl, inr, Bool, None, Ok, Err, Result, refl, sym, ap, subst, ◌∙◌, arith, Trees, State, HasCleanDisk, Begins, Doubts, Finds, HoldIn, Keeps, Opens, Rests, Spoiled, Wears, rest_shows, Fault, Memory, Store, HoldsLedger, HoldsRecords, Ledger, ledger_of, CommandList, Records, records, Refused, Becomes, DeskState, IsInDoubt, StandsFor, is_store, Refusal, NoMemory, StoreFailed, Looks, EndsLook, refusal_of_fault, desk_state_at}
+use Rattle.rollout_desk.proofs.Common.{◌≡◌, ◌⊎◌, inl, inr, Bool, None, Ok, Err, Result, refl, sym, ap, subst, ◌∙◌, arith, Trees, State, HasCleanDisk, Begins, Doubts, Finds, HoldIn, Keeps, Opens, Rests, Spoiled, Wears, rest_shows, Fault, Broken, Memory, Store, HoldsLedger, HoldsRecords, Ledger, ledger_of, CommandList, Records, records, Refused, Becomes, DeskState, IsInDoubt, StandsFor, is_store, Refusal, NoMemory, StoreFailed, Looks, EndsLook, refusal_of_fault, desk_state_at}
 use Rattle.rollout_desk.proofs.ApplyLemmas.{readable, rests_ledger, rests_records, stands}
 
 -- the refusal of a fault
@@ -9,6 +9,7 @@ IsFailing refusal = (refusal ≡ NoMemory) ⊎ (refusal ≡ StoreFailed)
 fails : (fault : Fault) (refusal : Refusal) → refusal ≡ refusal_of_fault fault → IsFailing refusal
 fails Memory refusal is = inl is
 fails Store refusal is = inr is
+fails Broken refusal is = inr is
 
 module _ {A : Type 0} (a d : State) (Answer : Records → A → Type 0) where
   -- the store failed, and a crash leaves what stood

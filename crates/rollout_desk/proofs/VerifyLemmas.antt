@@ -1,7 +1,10 @@
 -- From what a change sees of the tables to what a verification says.
-use Rattle.rollout_desk.proofs.Common.{◌≡◌, ◌≤◌, ◌-◌, ◌⊎◌, ℕ, inl, inr, Option, Result, Ok, Err, refl, sym, subst, arith, state, Ghosts, State, HasCleanDisk, Begins, Finds, Rests, Sees, Wears, Fault, Memory, Store, rest_shows, HoldsLedger, ledger_of, HoldsTables, Tables, OpenChange, Records, Refusal, StoreFailed, refusal_of_fault, EndsLook, FindsDamage, HasCause, IsNeverDamaged}
+use Rattle.rollout_desk.proofs.Common.{◌≡◌, ◌≢◌, ◌≤◌, ◌-◌, ◌⊎◌, ℕ, inl, inr, Option, Result, Ok, Err, refl, sym, subst, arith, state, Ghosts, State, HasCleanDisk, Begins, Finds, Rests, Sees, Wears, Fault, Broken, Memory, Store, rest_shows, HoldsLedger, ledger_of, HoldsTables, Tables, OpenChange, Records, Refusal, StoreFailed, refusal_of_fault, EndsLook, FindsDamage, HasCause, IsNeverDamaged}
 use Rattle.sql_calls.specs.declared.calls.Calls.{Calls}
-use Rattle.desk_store.specs.Blaming.{Blames, HasFailed, Watch}
+use Rattle.sql_calls.specs.Calls.{Grows, failures_of}
+use Rattle.std.specs.Prelude.{Bool, nat_lt, true, false, ◌^◌}
+use Rattle.std.proofs.lemmas.Bool.Decides.{nat_tests}
+use Rattle.desk_store.specs.Blaming.{Blames, HasFailed}
 use Rattle.desk_store.specs.Changing.{seen_in}
 use Rattle.desk_store.specs.Unreadable.{IsUnreadable}
 use Rattle.desk_verify.specs.Agreement.{IsDamage}
@@ -34,17 +37,32 @@ pub failed_within : {a b c d : ℕ} → a ≤ b → HasFailed b c → c ≤ d �
 failed_within le (inl fails) grows = inl (omega (arith, le, fails, grows))
 failed_within le (inr full) grows = inr (omega (arith, full, grows))
 
-pub stored : (fault : Fault) → refusal_of_fault fault ≡ StoreFailed → fault ≡ Store
+-- a failed store is a call that failed, or broken rows
+pub stored : (fault : Fault) → refusal_of_fault fault ≡ StoreFailed → (fault ≡ Store) ⊎ (fault ≡ Broken)
 stored Memory never = absurd cc
-stored Store is = refl
+stored Store is = inl refl
+stored Broken is = inr refl
+
+-- one that failed is counted
+pub is_counted : {S : Type 0} {old new : Calls S} (fault : Fault) → fault ≡ Store → Grows (failures_of fault) old new → HasFailed old.failures new.failures
+is_counted {old = old} {new = new} fault is grows = go (nat_lt new.failures (2 ^ 64 - 1)) refl (subst (λ f. Grows (failures_of f) old new) is grows)
+  where
+    go : (b : Bool) → nat_lt new.failures (2 ^ 64 - 1) ≡ b → Grows 1 old new → HasFailed old.failures new.failures
+    go true room grows = let more = grows.counted (grind (arith, nat_tests, room)) in inl (omega (arith, more))
+    go false full grows = inr (grind (arith, nat_tests, full))
+
+-- of a call that tells no broken rows
+pub failed_call : {S : Type 0} {old new : Calls S} (fault : Fault) → fault ≢ Broken → Grows (failures_of fault) old new → (fault ≡ Store) ⊎ (fault ≡ Broken) → HasFailed old.failures new.failures
+failed_call fault sound grows (inl store) = is_counted fault store grows
+failed_call fault sound grows (inr broken) = absurd (sound broken)
 
 module _ {S : Type 0} (g : Ghosts S) (old : Calls S) (begun read : OpenChange S) (end : Calls S) where
   -- what was blamed before the change is given up is blamed afterwards
   pub read_in_vain : (fault : Fault) (refusal : Refusal) (result : Result (Option CheckedTable) Refusal) → refusal ≡ refusal_of_fault fault → Begins HoldsTables (state g old.conn) (seen_in g begun)
       → old.failures ≤ begun.store.now.calls.failures → Blames g {A = Option CheckedTable} begun read (Err fault) → Wears (seen_in g read) (state g end.conn) → read.store.now.calls.failures ≤ end.failures
-      → old.failures ≤ read.store.now.calls.failures → (result ≡ Err refusal) ⊎ HasFailed read.store.now.calls.failures end.failures → result ≡ Err StoreFailed → HasCause g old end
-  read_in_vain fault refusal result named begins grew blames wears grows rose (inr failed) is t clean shown = inl (failed_within rose failed (omega arith))
-  read_in_vain fault refusal result named begins grew blames wears grows rose (inl same) is t clean shown =
-      let watch : Watch = record { tables = t; failed = old.failures } in
-      let why : HasFailed old.failures read.store.now.calls.failures ⊎ IsUnreadable t = (blames.to watch (record { sees = begins.sees t shown; before = record { failures = grew } }) (tt {0})).cause (stored fault (cc)) (omega (arith, clean, wears)) in
-      elim why [ inl failed ↦ inl (failed_within (omega arith) failed grows) | inr unread ↦ inr unread ]
+      → Grows (failures_of fault) begun.store.now.calls read.store.now.calls → (result ≡ Err refusal) ⊎ HasFailed read.store.now.calls.failures end.failures → result ≡ Err StoreFailed → HasCause g old end
+  read_in_vain fault refusal result named begins grew blames wears ended grows (inr failed) is t clean shown = inl (failed_within (omega (arith, grew, grows.failures)) failed (omega arith))
+  read_in_vain fault refusal result named begins grew blames wears ended grows (inl same) is t clean shown = elim (stored fault (cc)) [
+    | inl store ↦ inl (failed_within grew (is_counted fault store grows) ended)
+    | inr broken ↦ inr ((blames.to t (begins.sees t shown) (tt {0})).reason broken (omega (arith, clean, wears)))
+  ]

@@ -12,7 +12,7 @@ use Rattle.rollout_machine.specs.StoreFailures.{is_failed_store}
 use Rattle.rollout_model.specs.declared.refusal.Refusal.{Refusal}
 use Rattle.rollout_model.specs.declared.refusal.Refusal.TheVariants.{NoMemory, StoreFailed}
 use Rattle.sql_calls.specs.declared.fault.Fault.{Fault}
-use Rattle.sql_calls.specs.declared.fault.Fault.TheVariants.{Memory, Store}
+use Rattle.sql_calls.specs.declared.fault.Fault.TheVariants.{Broken, Memory, Store}
 use Rattle.desk_records.specs.Holds.{HoldsLedger, Ledger}
 use Rattle.rollout_desk.specs.Desks.{desk_state_at}
 
@@ -20,6 +20,7 @@ use Rattle.rollout_desk.specs.Desks.{desk_state_at}
 abbrev pub refusal_of_fault : Fault → Refusal
 refusal_of_fault Memory = NoMemory
 refusal_of_fault Store = StoreFailed
+refusal_of_fault Broken = StoreFailed
 
 -- ---- the ends of a change
 

@@ -14,7 +14,7 @@ pub(crate) fn refusal_of(fault: Fault) -> Refusal
 {
     match fault {
         Fault::Memory => Refusal::NoMemory,
-        Fault::Store => Refusal::StoreFailed,
+        Fault::Store | Fault::Broken => Refusal::StoreFailed,
     }
 }
 

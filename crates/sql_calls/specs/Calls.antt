@@ -1,5 +1,5 @@
 -- What one call leaves of the connection, and what it adds to the work.
-use Rattle.std.specs.Prelude.{◌≡◌, ◌≤◌, ℕ, zero, suc, ◌+◌, ◌-◌, ◌^◌, min, cond, nat_le, List, length, Vec, Option, Some, None, Result, Ok, Err}
+use Rattle.std.specs.Prelude.{◌≡◌, ◌≤◌, ◌<◌, ℕ, zero, suc, ◌+◌, ◌-◌, ◌^◌, min, cond, nat_le, List, length, Vec, Option, Some, None, Result, Ok, Err}
 use Rattle.std.specs.declared.alloc.Global.{Global}
 use Rattle.sqlite.specs.Order.{Row}
 use Rattle.sqlite.specs.declared.error.Error.{Error}
@@ -8,7 +8,7 @@ use Rattle.sqlite.specs.State.{State, HasCleanDisk, Survives, Shown, Executes, F
 use Rattle.sql_calls.specs.declared.calls.Work.{Work}
 use Rattle.sql_calls.specs.declared.calls.Calls.{Calls}
 use Rattle.sql_calls.specs.declared.fault.Fault.{Fault}
-use Rattle.sql_calls.specs.declared.fault.Fault.TheVariants.{Memory, Store}
+use Rattle.sql_calls.specs.declared.fault.Fault.TheVariants.{Broken, Memory, Store}
 use Rattle.sql_calls.specs.Faults.{fault_named}
 
 -- ---- the work
@@ -47,6 +47,7 @@ fails (suc more) failures = capped (failures + suc more)
 abbrev pub failures_of : Fault → ℕ
 failures_of Store = 1
 failures_of Memory = 0
+failures_of Broken = 0
 
 abbrev pub failures_in : {A : Type 0} → Result A Fault → ℕ
 failures_in (Ok a) = 0
@@ -57,12 +58,13 @@ abbrev pub errors_in : {A : Type 0} → Result A Fault → ℕ
 errors_in (Ok a) = 0
 errors_in (Err fault) = 1
 
--- no count falls, and at most so many calls failed
+-- no count falls, and so many calls failed: each is counted, up to the greatest number
 pub record Grows {S : Type 0} (more : ℕ) (old new : Calls S) : Type 0 where
   pub statements : old.work.statements ≤ new.work.statements
   pub rows : old.work.rows ≤ new.work.rows
   pub failures : old.failures ≤ new.failures
   pub few : new.failures ≤ old.failures + more
+  pub counted : new.failures < 2 ^ 64 - 1 → old.failures + more ≤ new.failures
 
 -- ---- the connection
 

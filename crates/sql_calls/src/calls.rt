@@ -1,6 +1,6 @@
 //! The one owner of a connection.
 
-ghost use Rattle.std.specs.Prelude.{◌≡◌, ◌≤◌, not, [], IfOk, length};
+ghost use Rattle.std.specs.Prelude.{◌≡◌, ◌≢◌, ◌≤◌, not, [], IfOk, IfErr, length};
 ghost use Rattle.sqlite.specs.Held.{state};
 ghost use Rattle.sqlite.specs.Values.{bound};
 ghost use Rattle.sql_calls.specs.Calls.{RunsText, AsksText, AsksFew, TakesFirst, Grows, counts, no_work, since, rows_in, row_in, few_of};
@@ -102,6 +102,7 @@ impl<S: Alter> Calls<S> {
     /// Runs one statement that is no query.
     pub fn run(&mut self, sql: &str, params: &[ValueRef<'_>]) -> Result<(), Fault>
         ensures runs { RunsText (state S.Store self.old.conn) (state S.Store self.new.conn) sql.now (bound params.now) result }
+        ensures sound { IfErr result (λ fault. fault ≢ Fault.Broken) }
         ensures work { self.new.work ≡ counts self.old.work 0 }
         ensures failures { self.new.failures ≡ fails (failures_in result) self.old.failures }
         ensures grows { Grows (failures_in result) self.old self.new }
@@ -113,6 +114,7 @@ impl<S: Alter> Calls<S> {
     /// Runs one query, and takes all its rows.
     pub fn ask(&mut self, sql: &str, params: &[ValueRef<'_>]) -> Result<Vec<Row>, Fault>
         ensures asks { AsksText (state S.Store self.old.conn) (state S.Store self.new.conn) sql.now (bound params.now) result }
+        ensures sound { IfErr result (λ fault. fault ≢ Fault.Broken) }
         ensures work { self.new.work ≡ counts self.old.work (rows_in result) }
         ensures failures { self.new.failures ≡ fails (failures_in result) self.old.failures }
         ensures grows { Grows (failures_in result) self.old self.new }
@@ -129,6 +131,7 @@ impl<S: Alter> Calls<S> {
         most: usize,
     ) -> Result<Vec<Row>, Fault>
         ensures asks { AsksFew (state S.Store self.old.conn) (state S.Store self.new.conn) sql.now (bound params.now) most result }
+        ensures sound { IfErr result (λ fault. fault ≢ Fault.Broken) }
         ensures few { IfOk result (λ rows. length rows.items ≤ most) }
         ensures work { self.new.work ≡ counts self.old.work (rows_in result) }
         ensures failures { self.new.failures ≡ fails (failures_in result) self.old.failures }
@@ -141,6 +144,7 @@ impl<S: Alter> Calls<S> {
     /// Runs one query, and takes its first row, if there is one.
     pub fn first(&mut self, sql: &str, params: &[ValueRef<'_>]) -> Result<Option<Row>, Fault>
         ensures takes { TakesFirst (state S.Store self.old.conn) (state S.Store self.new.conn) sql.now (bound params.now) result }
+        ensures sound { IfErr result (λ fault. fault ≢ Fault.Broken) }
         ensures work { self.new.work ≡ counts self.old.work (row_in result) }
         ensures failures { self.new.failures ≡ fails (failures_in result) self.old.failures }
         ensures grows { Grows (failures_in result) self.old self.new }
@@ -165,6 +169,7 @@ impl<S: Alter> Calls<S> {
     /// Begins a transaction.
     pub fn begin(&mut self) -> Result<(), Fault>
         ensures runs { RunsText (state S.Store self.old.conn) (state S.Store self.new.conn) BEGIN.now [] result }
+        ensures sound { IfErr result (λ fault. fault ≢ Fault.Broken) }
         ensures work { self.new.work ≡ self.old.work }
         ensures failures { self.new.failures ≡ fails (failures_in result) self.old.failures }
         ensures grows { Grows (failures_in result) self.old self.new }
@@ -175,6 +180,7 @@ impl<S: Alter> Calls<S> {
     /// Commits the transaction. Any error is counted as a failure, want of memory too.
     pub fn commit(&mut self) -> Result<(), Fault>
         ensures runs { RunsText (state S.Store self.old.conn) (state S.Store self.new.conn) COMMIT.now [] result }
+        ensures sound { IfErr result (λ fault. fault ≢ Fault.Broken) }
         ensures work { self.new.work ≡ self.old.work }
         ensures failures { self.new.failures ≡ fails (errors_in result) self.old.failures }
         ensures grows { Grows (errors_in result) self.old self.new }
@@ -185,6 +191,7 @@ impl<S: Alter> Calls<S> {
     /// Rolls the transaction back. Any error is counted as a failure, want of memory too.
     pub fn roll_back(&mut self) -> Result<(), Fault>
         ensures runs { RunsText (state S.Store self.old.conn) (state S.Store self.new.conn) ROLLBACK.now [] result }
+        ensures sound { IfErr result (λ fault. fault ≢ Fault.Broken) }
         ensures work { self.new.work ≡ self.old.work }
         ensures failures { self.new.failures ≡ fails (errors_in result) self.old.failures }
         ensures grows { Grows (errors_in result) self.old self.new }
@@ -194,6 +201,7 @@ impl<S: Alter> Calls<S> {
 
     fn run_uncounted(&mut self, sql: &str, params: &[ValueRef<'_>]) -> Result<(), Fault>
         ensures runs { RunsText (state S.Store self.old.conn) (state S.Store self.new.conn) sql.now (bound params.now) result }
+        ensures sound { IfErr result (λ fault. fault ≢ Fault.Broken) }
         ensures work { self.new.work ≡ self.old.work }
         ensures failures { self.new.failures ≡ fails (failures_in result) self.old.failures }
         ensures grows { Grows (failures_in result) self.old self.new }
@@ -210,6 +218,7 @@ impl<S: Alter> Calls<S> {
     /// Runs a text that ends a transaction.
     fn end(&mut self, sql: &str) -> Result<(), Fault>
         ensures runs { RunsText (state S.Store self.old.conn) (state S.Store self.new.conn) sql.now [] result }
+        ensures sound { IfErr result (λ fault. fault ≢ Fault.Broken) }
         ensures work { self.new.work ≡ self.old.work }
         ensures failures { self.new.failures ≡ fails (errors_in result) self.old.failures }
         ensures grows { Grows (errors_in result) self.old self.new }
@@ -271,7 +280,8 @@ fn run_on<S: Alter>(
     sql: &str,
     params: &[ValueRef<'_>],
 ) -> Result<(), Fault>
-    ensures { RunsText (state S.Store conn.old) (state S.Store conn.new) sql.now (bound params.now) result }
+    ensures runs { RunsText (state S.Store conn.old) (state S.Store conn.new) sql.now (bound params.now) result }
+    ensures sound { IfErr result (λ fault. fault ≢ Fault.Broken) }
 {
     match conn.execute(sql, params) {
         Ok(_) => Ok(()),
@@ -284,7 +294,8 @@ fn ask_on<S: Alter>(
     sql: &str,
     params: &[ValueRef<'_>],
 ) -> Result<Vec<Row>, Fault>
-    ensures { AsksText (state S.Store conn.old) (state S.Store conn.new) sql.now (bound params.now) result }
+    ensures asks { AsksText (state S.Store conn.old) (state S.Store conn.new) sql.now (bound params.now) result }
+    ensures sound { IfErr result (λ fault. fault ≢ Fault.Broken) }
 {
     match conn.query_all(sql, params) {
         Ok(rows) => Ok(rows),
@@ -294,6 +305,7 @@ fn ask_on<S: Alter>(
 
 fn few_of(answer: Result<Vec<Row>, Fault>, most: usize) -> Result<Vec<Row>, Fault>
     ensures few { result ≡ few_of most answer }
+    ensures sound { IfErr answer (λ fault. fault ≢ Fault.Broken) → IfErr result (λ fault. fault ≢ Fault.Broken) }
     ensures at_most { IfOk result (λ rows. length rows.items ≤ most) }
 {
     let rows = answer?;
@@ -309,7 +321,8 @@ fn first_on<S: Alter>(
     sql: &str,
     params: &[ValueRef<'_>],
 ) -> Result<Option<Row>, Fault>
-    ensures { TakesFirst (state S.Store conn.old) (state S.Store conn.new) sql.now (bound params.now) result }
+    ensures takes { TakesFirst (state S.Store conn.old) (state S.Store conn.new) sql.now (bound params.now) result }
+    ensures sound { IfErr result (λ fault. fault ≢ Fault.Broken) }
 {
     match conn.query_row(sql, params) {
         Ok(row) => Ok(Some(row)),

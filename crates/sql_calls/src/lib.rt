@@ -5,4 +5,4 @@ mod calls;
 mod fault;
 
 pub use crate::calls::{Calls, Work};
-pub use crate::fault::{Fault, fault_of};
+pub use crate::fault::{Fault, broken_of, fault_of};

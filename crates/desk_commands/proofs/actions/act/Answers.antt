@@ -7,15 +7,14 @@ returns-clause-writes g c =
 
 pub returns-in_err-tell_action-clause-fails : goal.returns-in_err-tell_action-clause-fails
 returns-in_err-tell_action-clause-fails g c =
-    writes_end (λ sight was given. c.in_err-tell_action.ensures.counts.to sight.failed was.before (can_tell c.args.seen.now c.args.after.now c.args.told.now sight.ledger given)) _ c.from_residual.ensures.1
+    writes_end (λ l sees it. c.in_err-tell_action.ensures.counts.to (can_tell c.args.seen.now c.args.after.now c.args.told.now l it.given)) _ c.from_residual.ensures.1
 
 pub returns-in_err-offer_next-clause-fails : goal.returns-in_err-offer_next-clause-fails
 returns-in_err-offer_next-clause-fails g c =
-    writes_end (λ sight was given.
-    c.in_err-offer_next.ensures.fails.to given.changes.acted (c.in_ok-tell_action.ensures.writes.makes sight.ledger given.changes.acted was.sees (λ clean. given.changes.tells))
-    (numbers_stay c.args.seen.now c.args.after.now c.args.told.now sight.ledger given) sight.failed (c.in_ok-tell_action.ensures.counts.to sight.failed was.before)) _ c.from_residual-in_err-offer_next.ensures.1
+    writes_end (λ l sees it.
+    c.in_err-offer_next.ensures.fails.to it.given.changes.acted (c.in_ok-tell_action.ensures.writes.makes l it.given.changes.acted sees (λ clean. it.given.changes.tells))
+    (numbers_stay c.args.seen.now c.args.after.now c.args.told.now l it.given)) _ c.from_residual-in_err-offer_next.ensures.1
 
 pub returns-clause-fails : goal.returns-clause-fails
 returns-clause-fails g c =
-    writes_last (λ failed before. record { failures = le_trans (c.in_ok-tell_action.ensures.counts.to failed before).failures c.in_ok-offer_next.ensures.stays.grows.failures })
-    (can_end c.args.seen.now c.args.after.now c.args.told.now) _ c.follow.ensures.counts
+    writes_last (can_end c.args.seen.now c.args.after.now c.args.told.now) _ c.follow.ensures.counts

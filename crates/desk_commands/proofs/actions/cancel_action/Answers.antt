@@ -21,6 +21,6 @@ returns-in_err-act_by-clause-fails g c =
     let a = c.args.asked.now in
     let decides = rw c.cancel_view.ensures at c.in-Ok.ensures.decides in
     let makes = rw c.cancel_view.ensures at c.in-Ok.ensures.makes in
-    writes_end (asked_at (λ l given. given.of_list) c.in_ok-seen.ensures.reads (Leads (ActsBy c.in_ok-seen.seen c.in-Ok.accepted None)) c.in_ok-seen.ensures.stays.grows.failures c.in_err-act_by.ensures.writes.wears
+    writes_end (asked_at (λ l given. given.of_list) c.in_ok-seen.ensures.reads (Leads (ActsBy c.in_ok-seen.seen c.in-Ok.accepted None)) c.in_err-act_by.ensures.writes.wears
     (λ h valid w steps. record { takes = steps; next = ledger_of (step_records (records h) (Cancel a.target a.action a.force)); changes = cancel_acts a.target a.action a.force c.in_ok-seen.seen c.in-Ok.accepted c.cancel_is_well_formed.ensures decides makes h valid w })
     c.in_err-act_by.ensures.fails.to) _ c.from_residual-in_err-act_by.ensures.1

@@ -35,5 +35,5 @@ returns-in_err-write_feedback-clause-fails g c =
     let makes = rw c.feedback_view.ensures at c.in-Ok.ensures.makes in
     let taken = feedback_taken seen c.in-Ok.accepted given.credential given.action (reported OfDeployment given) (Feedback given) (view.Feedback (feedback_view_seen seen)) change.Feedback (outcome_of_deployment given.word) (λ b. b) makes
     (λ o. refl) (λ rs w. w) (λ o old new leads. leads) refl c.feedback_is_well_formed.ensures decides in
-    writes_end (asked_at (λ l given. given.of_list) c.in_ok-seen.ensures.reads (Leads (WritesFeedback seen c.in-Ok.accepted (reported OfDeployment given))) c.in_ok-seen.ensures.stays.grows.failures c.in_err-write_feedback.ensures.writes.wears
+    writes_end (asked_at (λ l given. given.of_list) c.in_ok-seen.ensures.reads (Leads (WritesFeedback seen c.in-Ok.accepted (reported OfDeployment given))) c.in_err-write_feedback.ensures.writes.wears
     (λ h valid w steps. record { takes = steps; next = ledger_of (step_records (records h) (Feedback given)); changes = (taken h valid w).1 }) c.in_err-write_feedback.ensures.fails.to) _ c.from_residual-in_err-write_feedback.ensures.1

@@ -11,7 +11,7 @@ returns-clause-reads g c =
 
 pub returns-in_err-rule-clause-fails : goal.returns-in_err-rule-clause-fails
 returns-in_err-rule-clause-fails g c =
-    reads_end (λ sight was given. c.in_err-rule.ensures.fails.to sight was (record { sees = given; last_is = c.last_started-started.ensures ∙ ap last_started c.deref.ensures.value })) _ c.from_residual.ensures.1
+    reads_end (λ l sees it. c.in_err-rule.ensures.fails.to l sees (record { readable = it.readable; given = record { sees = it.given; last_is = c.last_started-started.ensures ∙ ap last_started c.deref.ensures.value } })) _ c.from_residual.ensures.1
 
 pub returns-in_err-last-clause-fails : goal.returns-in_err-last-clause-fails
 returns-in_err-last-clause-fails g c =

@@ -3,7 +3,7 @@ use Rattle.desk_commands.proofs.ActionGroups.{has_group, never_beyond, own_is, r
 use Rattle.desk_commands.proofs.seen_actions.see_in.Goals as goal
 
 pub returns-in_err-view-clause-stays : goal.returns-in_err-view-clause-stays
-returns-in_err-view-clause-stays g c = search (c.in_ok-read_rollout.ensures.stays, c.in_ok-found.ensures.stays, c.in_ok-read_rule.ensures.stays, rules)
+returns-in_err-view-clause-stays g c = search (c.in_ok-read_rollout.ensures.stays, c.in_ok-found.ensures.stays, c.in_ok-read_rule.ensures.stays, c.in_err-view.ensures.0, c.from_residual-in_err-view.ensures.1, rules)
 
 pub returns-clause-reads : goal.returns-clause-reads
 returns-clause-reads g c =

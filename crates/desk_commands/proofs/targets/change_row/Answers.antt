@@ -10,13 +10,13 @@ pub returns-clause-fails : goal.returns-clause-fails
 returns-clause-fails g c =
     let row = c.args.row.now in
     let stored = c.args.stored.now in
-    writes_behind c.in_ok-rename.ensures.stays.grows.failures c.retag.ensures.stays.grows.failures
-    (λ sight was given.
+    writes_behind (λ l sees it.
+    let given = it.given in
     let of = given.takes.of_list in
     let r = records of.list in
     let next = with_changed r row.id (renamed row.name row.digest) in (
       ledger_of next,
-      renamed_readable of.list of.valid row given.takes.row_keeps (subst IsReadable of.is sight.readable),
-      c.in_ok-rename.ensures.writes.makes r next (subst (Sees HoldsLedger (seen_in g.S.Store c.args.change.now)) of.is was.sees)
+      renamed_readable of.list of.valid row given.takes.row_keeps (subst IsReadable of.is it.readable),
+      c.in_ok-rename.ensures.writes.makes r next (subst (Sees HoldsLedger (seen_in g.S.Store c.args.change.now)) of.is sees)
           (λ clean. (subst (λ (m : Ledger). Some stored ≡ option_map stored_target (target_of m.records row.id)) of.is given.stored_is, refl)),
     )) _ c.retag.ensures.fails

@@ -24,5 +24,5 @@ returns-clause-puts g c =
 
 pub returns-in_err-change_row-in-Some-clause-fails : goal.returns-in_err-change_row-in-Some-clause-fails
 returns-in_err-change_row-in-Some-clause-fails g c =
-    writes_end (asked_at (λ l given. given.of_list) (rw c.in-Some.is at c.in_ok-found.ensures.reads) (ChangesRow c.args.row.now c.in-Some.stored) c.in_ok-found.ensures.stays.grows.failures c.in_err-change_row-in-Some.ensures.writes.wears
+    writes_end (asked_at (λ l given. given.of_list) (rw c.in-Some.is at c.in_ok-found.ensures.reads) (ChangesRow c.args.row.now c.in-Some.stored) c.in_err-change_row-in-Some.ensures.writes.wears
     (λ h valid is given. record { takes = given; stored_is = is }) c.in_err-change_row-in-Some.ensures.fails.to) _ c.from_residual-in_err-change_row-in-Some.ensures.1

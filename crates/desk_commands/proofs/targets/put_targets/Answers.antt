@@ -15,4 +15,4 @@ returns-in-None-clause-steps g c =
 
 pub returns-in_err-refusal-clause-fails : goal.returns-in_err-refusal-clause-fails
 returns-in_err-refusal-clause-fails g c =
-    writes_end (λ sight was given. c.in_err-refusal.ensures.fails.to sight was (record { of_list = given.of_list; rows_keep = c.as_slice-rows.ensures.rules })) _ c.from_residual.ensures.1
+    writes_end (λ l sees it. c.in_err-refusal.ensures.fails.to l sees (record { readable = it.readable; given = record { of_list = it.given.of_list; rows_keep = c.as_slice-rows.ensures.rules } })) _ c.from_residual.ensures.1

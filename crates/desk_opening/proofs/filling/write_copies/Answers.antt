@@ -1,5 +1,5 @@
 use Rattle.desk_opening.proofs.Common.{None, Ok}
-use Rattle.desk_opening.proofs.CountLemmas.{counts_then, nothing_counted}
+use Rattle.desk_opening.proofs.CountLemmas.{counts_then, err_counts, nothing_counted}
 use Rattle.desk_opening.proofs.FillLemmas.{no_copies, nothing_run, one_copy_more, stays_then}
 use Rattle.desk_opening.proofs.filling.write_copies.Goals as goal
 
@@ -12,3 +12,6 @@ loop-i-preserved g c = record {
   counts = counts_then c.loop-i.invariant.counts (Ok tt) c.in_ok-write_rule.ensures.counts;
   writes = one_copy_more c.args.number (record { percentage = None; success = c.args.success; error = c.args.error }) c.loop-i.i _ _ _ _ c.loop-i.invariant.writes c.in_ok-write_rule.ensures.writes;
 }
+
+pub returns-in_err-write_rule-clause-counts : goal.returns-in_err-write_rule-clause-counts
+returns-in_err-write_rule-clause-counts g c = err_counts c.loop-i.invariant.counts c.in_err-write_rule.field-0.0 c.in_err-write_rule.ensures.counts c.from_residual.result c.from_residual.ensures.1

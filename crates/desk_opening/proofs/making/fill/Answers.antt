@@ -44,3 +44,8 @@ pub returns-clause-counts : goal.returns-clause-counts
 returns-clause-counts g c =
     let made = counts_then c.in_ok-run.ensures.counts (Ok tt) c.in_ok-make_tables.ensures.counts in
     counts_then (counts_then made (Ok tt) c.in_ok-run-2.ensures.counts) (Ok tt) c.in_ok-run-3.ensures.counts
+
+pub returns-in_err-make_tables-clause-counts : goal.returns-in_err-make_tables-clause-counts
+returns-in_err-make_tables-clause-counts g c =
+    let out = c.from_residual-in_err-make_tables in
+    err_counts c.in_ok-run.ensures.counts c.in_err-make_tables.field-0.0 c.in_err-make_tables.ensures.counts out.result out.ensures.1

@@ -49,3 +49,8 @@ returns-in_err-run-3-clause-fails g c =
     let renamed = counts_then made (Ok tt) c.in_ok-run-2.ensures.counts in
     let out = c.from_residual-in_err-run-3 in
     at_counted c.args.version out.result (err_counts (counts_then renamed (Ok (tt {0})) (record { to = c.in_ok-fill_later.ensures.fails.to })) c.in_err-run-3.field-0.0 c.in_err-run-3.ensures.counts out.result out.ensures.1)
+
+pub returns-in_err-make_tables-clause-fails : goal.returns-in_err-make_tables-clause-fails
+returns-in_err-make_tables-clause-fails g c =
+    let out = c.from_residual-in_err-make_tables in
+    at_counted c.args.version out.result (err_counts c.in_ok-run.ensures.counts c.in_err-make_tables.field-0.0 c.in_err-make_tables.ensures.counts out.result out.ensures.1)

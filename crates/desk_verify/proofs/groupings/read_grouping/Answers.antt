@@ -1,4 +1,4 @@
-use Rattle.desk_verify.proofs.Common.{◌≡◌, Some, None, Err, sym, ap, ◌∙◌, finds_as, Store, blamed, definitions_in, grouping_with}
+use Rattle.desk_verify.proofs.Common.{◌≡◌, Some, None, Err, sym, ap, ◌∙◌, finds_as, Broken, blamed, definitions_in, grouping_with}
 use Rattle.desk_verify.proofs.RuleLemmas.{cut_only, none_made}
 use Rattle.desk_verify.proofs.groupings.read_grouping.Goals as goal
 
@@ -12,4 +12,4 @@ pub returns-clause-blames : goal.returns-clause-blames
 returns-clause-blames g c =
     let told : grouping_with c.args.rollout.now.rollout.plan.groups (definitions_in c.in_ok-rules.rules.items) ≡ None =
     ap (grouping_with c.args.rollout.now.rollout.plan.groups) (sym (c.in-Ok.ensures ∙ ap definitions_in c.deref.ensures.value)) ∙ sym c.grouping_with.ensures ∙ c.in-None.is in
-    blamed c.in_ok-rules.ensures.reads c.in_ok-rules.ensures.stays.grows.failures (Err Store) (λ t have has. none_made t c.args.rollout.now.number c.args.rollout.now.rollout has c.in_ok-rules.rules.items c.in_ok-rules.ensures.count have told)
+    blamed c.in_ok-rules.ensures.reads c.in_ok-rules.ensures.stays.grows.failures (Err Broken) (λ t have has. none_made t c.args.rollout.now.number c.args.rollout.now.rollout has c.in_ok-rules.rules.items c.in_ok-rules.ensures.count have told)

@@ -1,4 +1,4 @@
-use Rattle.desk_verify.proofs.Common.{◌≡◌, Err, Some, sym, ◌∙◌, Store, blamed, known}
+use Rattle.desk_verify.proofs.Common.{◌≡◌, Err, Some, sym, ◌∙◌, Broken, blamed, known}
 use Rattle.desk_verify.proofs.GroupLemmas.{fails_broken}
 use Rattle.desk_verify.proofs.OfferLemmas.{kept_is}
 use Rattle.desk_verify.proofs.offers.keep_groups.Goals as goal
@@ -9,4 +9,4 @@ returns-then-is_of-clause-reads g c =
     known (λ t kept. (kept c.args.rollout same, kept))
 
 pub returns-in_default-clause-blames : goal.returns-in_default-clause-blames
-returns-in_default-clause-blames g c = blamed (rw c.in_default.is at c.in_ok-groups.ensures.reads) c.in_ok-groups.ensures.stays.grows.failures (Err Store) (λ t is given. absurd (fails_broken t c.args.rollout is given.1.1.0))
+returns-in_default-clause-blames g c = blamed (rw c.in_default.is at c.in_ok-groups.ensures.reads) c.in_ok-groups.ensures.stays.grows.failures (Err Broken) (λ t is given. absurd (fails_broken t c.args.rollout is given.1.1.0))

@@ -1,4 +1,4 @@
-use Rattle.desk_verify.proofs.Common.{◌≡◌, ◌≤◌, ◌+◌, ◌^◌, Err, arith, rules, refl, ap, subst, ◌∙◌, err_from_is_err_and, Store, both_found, finds_as, AreChecked, blamed, within, le_trans}
+use Rattle.desk_verify.proofs.Common.{◌≡◌, ◌≤◌, ◌+◌, ◌^◌, Err, arith, rules, refl, ap, subst, ◌∙◌, err_from_is_err_and, Broken, both_found, finds_as, AreChecked, blamed, within, le_trans}
 use Rattle.desk_verify.proofs.Causes.{blamed_when, listed_many, up_to}
 use Rattle.desk_verify.proofs.RolloutLemmas.{none_yet, one_more}
 use Rattle.desk_verify.proofs.rollouts.check_rollouts.Goals as goal
@@ -44,7 +44,7 @@ pub returns-in-None-clause-blames : goal.returns-in-None-clause-blames
 returns-in-None-clause-blames g c =
     let large : 2 ^ 32 ≤ c.loop-before.listed + c.in-Some.count = grind (arith, c.in-None.ensures) in
     blamed (both_found c.loop-before.invariant.judged (both_found c.in_ok-rollout.ensures.reads (rw c.in-Some.is at c.in_ok-count.ensures.judges)))
-    (le_trans c.loop-before.invariant.stays.grows.failures (le_trans c.in_ok-rollout.ensures.stays.grows.failures c.in_ok-count.ensures.stays.grows.failures)) (Err Store)
+    (le_trans c.loop-before.invariant.stays.grows.failures (le_trans c.in_ok-rollout.ensures.stays.grows.failures c.in_ok-count.ensures.stays.grows.failures)) (Err Broken)
     (λ t is given. listed_many t g.T.ByRollout.table (within g.T.ByRollout.column (c.loop-before.before + 1)) (c.loop-before.listed + c.in-Some.count)
     (one_more g.T.ByRollout.table g.T.ByRollout.column g.T.ByRollout.is_right g.T.ByRollout.is_whole t c.loop-before.before c.loop-before.listed c.in-Some.count (c.loop-before.listed + c.in-Some.count) c.in_ok-rollout.rollout.number
     is.0.1 c.in_ok-rollout.ensures.number (is.1.1 is.1.0) refl).rows.all large)

@@ -20,6 +20,6 @@ returns-clause-shows g c =
 pub returns-in_err-total-clause-fails : goal.returns-in_err-total-clause-fails
 returns-in_err-total-clause-fails g c =
     let out = err_from_is_err_and c.from_residual-in_err-total.result c.from_residual-in_err-total.ensures.1 in
-    never_fails (both_found c.in_ok-read_target.ensures.reads (ledger_found _ c.in_ok-all.ensures.reads)) c.in_err-total.field-0.0 (told c.in_err-total.field-0.0 c.in_err-total.ensures.1)
+    never_fails (both_found c.in_ok-read_target.ensures.reads (ledger_found _ c.in_ok-all.ensures.reads)) c.in_err-total.field-0.0 (told c.in_err-total.field-0.0 c.in_err-total.ensures)
     (λ r is of readable many. listed_few r of (λ it. same_bytes (actor_of r.rollouts it.0) c.args.id) 4294967295 0 c.in_ok-all.all.items is.1 (omega (arith, many, ap length c.deref.ensures.value)))
     c.from_residual-in_err-total.result (out.1 ∙ ap Err out.2)

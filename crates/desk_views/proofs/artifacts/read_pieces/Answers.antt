@@ -20,5 +20,5 @@ loop-bytes-preserved g c = record {
 pub returns-in_err-piece-clause-fails : goal.returns-in_err-piece-clause-fails
 returns-in_err-piece-clause-fails g c =
     let full : IsSome c.in_ok-found.found × (artifact_size_limit ≤ c.loop-bytes.pieces * piece_length) = (c.in_err-piece.ensures.err.1, c.in_err-piece.ensures.err.2) in
-    never_fails (both_found c.loop-bytes.invariant.reads c.in_ok-found.ensures.reads) _ (told _ full)
+    never_fails (both_found c.loop-bytes.invariant.reads c.in_ok-found.ensures.reads) _ (told {Why = IsSome c.in_ok-found.found × (artifact_size_limit ≤ c.loop-bytes.pieces * piece_length)} _ (c.in_err-piece.ensures.err.0, full))
     (λ r is of readable full. none_behind vec_items r of c.args.number c.loop-bytes.pieces c.in_ok-found.found is.1 full.0 full.1) _ (passed _ _ c.from_residual-in_err-piece.ensures.1)

@@ -18,6 +18,6 @@ returns-clause-shows g c =
 pub returns-in_err-total-clause-fails : goal.returns-in_err-total-clause-fails
 returns-in_err-total-clause-fails g c =
     let out = err_from_is_err_and c.from_residual-in_err-total.result c.from_residual-in_err-total.ensures.1 in
-    never_fails (rw c.in-Some.is at (ledger_found _ c.in_ok-found.ensures.reads)) c.in_err-total.field-0.0 (told c.in_err-total.field-0.0 c.in_err-total.ensures.1)
+    never_fails (rw c.in-Some.is at (ledger_found _ c.in_ok-found.ensures.reads)) c.in_err-total.field-0.0 (told c.in_err-total.field-0.0 c.in_err-total.ensures)
     (λ r is of readable large. group_small r of c.args.number c.in-Some.found (group_there r of c.args.number c.args.group c.in-Some.found is) large)
     c.from_residual-in_err-total.result (out.1 ∙ ap Err out.2)

@@ -1,4 +1,4 @@
-use Rattle.desk_views.proofs.Answering.{Err, refl, sym, Store, finds_as, known, same_number, never_with}
+use Rattle.desk_views.proofs.Answering.{Err, refl, sym, Broken, finds_as, known, same_number, never_with}
 use Rattle.desk_views.proofs.FailingRollouts.{entry_seen, few_numbered}
 use Rattle.desk_views.proofs.RolloutViews.{entry_is}
 use Rattle.desk_views.proofs.rollouts.read_entry.Goals as goal
@@ -10,8 +10,8 @@ returns-in-Some-2-clause-reads g c =
 
 pub returns-in_default-clause-fails : goal.returns-in_default-clause-fails
 returns-in_default-clause-fails g c =
-    never_with (known {x = tt {0}} {P = λ r u. Unit {0}} (λ r. tt)) Store (tt {0}) (λ r is of within readable _. few_numbered r of c.args.number c.in_default.ensures within.0 within.1) (Err Store) refl
+    never_with (known {x = tt {0}} {P = λ r u. Unit {0}} (λ r. tt)) Broken (tt {0}) (λ r is of within readable _. few_numbered r of c.args.number c.in_default.ensures within.0 within.1) (Err Broken) refl
 
 pub returns-in-None-clause-fails : goal.returns-in-None-clause-fails
 returns-in-None-clause-fails g c =
-    never_with (rw c.in-None.is at c.in_ok-seen.ensures.reads) Store (tt {0}) (λ r is of within readable _. entry_seen r c.args.number c.in-Some.number (same_number _ _ (sym c.in-Some.ensures)) within.0 within.1 (is of)) (Err Store) refl
+    never_with (rw c.in-None.is at c.in_ok-seen.ensures.reads) Broken (tt {0}) (λ r is of within readable _. entry_seen r c.args.number c.in-Some.number (same_number _ _ (sym c.in-Some.ensures)) within.0 within.1 (is of)) (Err Broken) refl

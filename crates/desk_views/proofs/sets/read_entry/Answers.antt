@@ -1,4 +1,4 @@
-use Rattle.desk_views.proofs.Answering.{Err, refl, sym, finds_as, known, Store, same_number, is_there, set_numbered, never_with}
+use Rattle.desk_views.proofs.Answering.{Err, refl, sym, finds_as, known, Broken, same_number, is_there, set_numbered, never_with}
 use Rattle.desk_views.proofs.SetViews.{entry_is}
 use Rattle.desk_views.proofs.sets.read_entry.Goals as goal
 
@@ -8,9 +8,9 @@ returns-in-Some-2-clause-reads g c =
 
 pub returns-in_default-clause-fails : goal.returns-in_default-clause-fails
 returns-in_default-clause-fails g c =
-    never_with (known {x = tt {0}} {P = λ r u. Unit {0}} (λ r. tt)) Store (tt {0}) (λ r is of within readable _. set_numbered r of c.args.number c.in_default.ensures within.0 within.1) (Err Store) refl
+    never_with (known {x = tt {0}} {P = λ r u. Unit {0}} (λ r. tt)) Broken (tt {0}) (λ r is of within readable _. set_numbered r of c.args.number c.in_default.ensures within.0 within.1) (Err Broken) refl
 
 pub returns-in-None-clause-fails : goal.returns-in-None-clause-fails
 returns-in-None-clause-fails g c =
-    never_with (rw c.in-None.is at c.in_ok-label.ensures.reads) Store (tt {0})
-    (λ r is of within readable _. is_there r.sets c.args.number c.in-Some.number (same_number _ _ (sym c.in-Some.ensures)) within.0 within.1 is) (Err Store) refl
+    never_with (rw c.in-None.is at c.in_ok-label.ensures.reads) Broken (tt {0})
+    (λ r is of within readable _. is_there r.sets c.args.number c.in-Some.number (same_number _ _ (sym c.in-Some.ensures)) within.0 within.1 is) (Err Broken) refl

@@ -12,5 +12,5 @@ returns-clause-reads g c =
 
 pub returns-in_err-modules-clause-fails : goal.returns-in_err-modules-clause-fails
 returns-in_err-modules-clause-fails g c =
-    never_fails (both_found (rw c.in-Some.is at c.in_ok-called.ensures.reads) c.in_ok-numbers.ensures.reads) _ (told _ c.in_err-modules.ensures.1)
+    never_fails (both_found (rw c.in-Some.is at c.in_ok-called.ensures.reads) c.in_ok-numbers.ensures.reads) _ (told _ c.in_err-modules.ensures)
     (λ r is of readable broken. set_listed r of c.args.number _ _ is.0 is.1 broken) _ (passed _ _ c.from_residual-in_err-modules.ensures.1)

@@ -3,8 +3,11 @@ use Rattle.rollout_desk.proofs.ApplyLemmas.{fault_fails, unbegun, accepted, refu
 use Rattle.rollout_machine.specs.Replies.{Refused}
 use Rattle.rollout_model.specs.declared.refusal.Refusal.TheVariants.{StoreFailed}
 use Rattle.desk_commands.specs.Failures.{TakesSteps}
+use Rattle.desk_store.specs.Failing.{ReadableAs}
 use Rattle.rollout_desk.specs.Causes.{FailsByCalls}
 use Rattle.rollout_desk.proofs.CauseLemmas.{told_reply, accepted_never, failed_inside, refused_never, well_inside}
+use Rattle.sql_calls.specs.Calls.{Grows, failures_of}
+use Rattle.rollout_desk.proofs.VerifyLemmas.{failed_call}
 use Rattle.rollout_desk.proofs.change.run_command.Goals as goal
 
 pub returns-in-Err-clause-handles : goal.returns-in-Err-clause-handles
@@ -49,4 +52,9 @@ returns-in-Err-take_step-clause-fails g c =
     let same : c.give_up-in-Err-take_step.new.change.0 ≡ c.store-in-Err-take_step-1.given.0 = search rules in
     subst (λ h. reply_of c.give_up-in-Err-take_step.result ≡ Refused StoreFailed → FailsByCalls g.S.Store c.args.store.now.calls h.calls) same
     (failed_inside g.S.Store c.args.store.now.calls c.in-Ok.change c.take_step.new.change c.give_up-in-Err-take_step.new.change.0.calls c.in-Ok.ensures.begun c.give_up-in-Err-take_step.ensures.ends.wears c.in-Ok.ensures.grows.failures c.in-Err-take_step.ensures.stays.grows.failures c.give_up-in-Err-take_step.ensures.counts
-    TakesSteps c.in-Err-take_step.fault _ (reply_of c.give_up-in-Err-take_step.result) (told_reply _ _ c.reply_of_fault-in-Err-take_step.ensures) c.in-Err-take_step.ensures.fails.to (λ h valid counted. record { of_list = record { list = h; valid = valid; is = refl }; counted = counted }) c.give_up-in-Err-take_step.ensures.fails)
+    (ReadableAs TakesSteps) c.in-Err-take_step.fault _ (reply_of c.give_up-in-Err-take_step.result) (told_reply _ _ c.reply_of_fault-in-Err-take_step.ensures) c.in-Err-take_step.ensures.stays.grows c.in-Err-take_step.ensures.fails.to (λ h valid readable counted. record { readable = readable; given = record { of_list = record { list = h; valid = valid; is = refl }; counted = counted } }) c.give_up-in-Err-take_step.ensures.fails)
+
+pub returns-in-Err-clause-fails : goal.returns-in-Err-clause-fails
+returns-in-Err-clause-fails g c =
+    let grows : Grows (failures_of c.in-Err.fault) c.args.store.now.calls c.begin.follows.lender-at-none.calls = search rules in
+    λ is h clean counted stands. failed_call c.in-Err.fault c.in-Err.ensures.sound grows (told_reply _ _ c.reply_of_fault.ensures is)

@@ -4,8 +4,11 @@ use Rattle.rollout_desk.proofs.SizeLemmas.{refused_kept, refused_sized, shown_ke
 use Rattle.rollout_machine.specs.Replies.{Refused}
 use Rattle.rollout_model.specs.declared.refusal.Refusal.TheVariants.{StoreFailed}
 use Rattle.desk_reads.specs.AtLists.{IsOfList}
+use Rattle.desk_store.specs.Failing.{ReadableAs}
 use Rattle.rollout_desk.specs.Causes.{FailsByCalls}
 use Rattle.rollout_desk.proofs.CauseLemmas.{told_reply, failed_inside, query_never, well_inside}
+use Rattle.sql_calls.specs.Calls.{Grows, failures_of}
+use Rattle.rollout_desk.proofs.VerifyLemmas.{failed_call}
 use Rattle.rollout_desk.proofs.change.run_query.Goals as goal
 
 pub returns-in-Err-clause-handles : goal.returns-in-Err-clause-handles
@@ -67,4 +70,9 @@ returns-in-Err-answer-clause-fails g c =
     let same : c.give_up-in-Err-answer.new.change.0 ≡ c.store-in-Err-answer-1.given.0 = search rules in
     subst (λ h. reply_of c.give_up-in-Err-answer.result ≡ Refused StoreFailed → FailsByCalls g.S.Store c.args.store.now.calls h.calls) same
     (failed_inside g.S.Store c.args.store.now.calls c.in-Ok.change c.answer.new.change c.give_up-in-Err-answer.new.change.0.calls c.in-Ok.ensures.begun c.give_up-in-Err-answer.ensures.ends.wears c.in-Ok.ensures.grows.failures c.in-Err-answer.ensures.stays.grows.failures c.give_up-in-Err-answer.ensures.counts
-    IsOfList c.in-Err-answer.fault _ (reply_of c.give_up-in-Err-answer.result) (told_reply _ _ c.reply_of_fault-in-Err-answer.ensures) c.in-Err-answer.ensures.fails.to (λ h valid counted. record { list = h; valid = valid; is = refl }) c.give_up-in-Err-answer.ensures.fails)
+    (ReadableAs IsOfList) c.in-Err-answer.fault _ (reply_of c.give_up-in-Err-answer.result) (told_reply _ _ c.reply_of_fault-in-Err-answer.ensures) c.in-Err-answer.ensures.stays.grows c.in-Err-answer.ensures.fails.to (λ h valid readable counted. record { readable = readable; given = record { list = h; valid = valid; is = refl } }) c.give_up-in-Err-answer.ensures.fails)
+
+pub returns-in-Err-clause-fails : goal.returns-in-Err-clause-fails
+returns-in-Err-clause-fails g c =
+    let grows : Grows (failures_of c.in-Err.fault) c.args.store.now.calls c.begin.follows.lender-at-none.calls = search rules in
+    λ is h clean counted stands. failed_call c.in-Err.fault c.in-Err.ensures.sound grows (told_reply _ _ c.reply_of_fault.ensures is)

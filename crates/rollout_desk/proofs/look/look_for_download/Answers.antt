@@ -3,8 +3,11 @@ use Rattle.rollout_desk.proofs.DownloadLemmas.{looked_for, looked_in_vain, never
 use Rattle.rollout_machine.specs.Records.{records}
 use Rattle.rollout_model.specs.declared.refusal.Refusal.TheVariants.{StoreFailed}
 use Rattle.desk_reads.specs.AtLists.{IsOfList}
+use Rattle.desk_store.specs.Failing.{ReadableAs}
 use Rattle.rollout_desk.specs.Causes.{FailsByCalls}
 use Rattle.rollout_desk.proofs.CauseLemmas.{failed_inside, told_result, well_inside}
+use Rattle.sql_calls.specs.Calls.{Grows, failures_of}
+use Rattle.rollout_desk.proofs.VerifyLemmas.{failed_call}
 use Rattle.rollout_desk.proofs.look.look_for_download.Goals as goal
 
 pub returns-in-Err-clause-finds : goal.returns-in-Err-clause-finds
@@ -36,4 +39,9 @@ returns-in-Err-find_download-clause-fails g c =
     let same : c.give_up-in-Err-find_download.new.change.0 ≡ c.store-in-Err-find_download-1.given.0 = search rules in
     subst (λ h. c.give_up-in-Err-find_download.result ≡ Err StoreFailed → FailsByCalls g.S.Store c.args.store.now.calls h.calls) same
     (failed_inside g.S.Store c.args.store.now.calls c.in-Ok.change c.find_download.new.change c.give_up-in-Err-find_download.new.change.0.calls c.in-Ok.ensures.begun c.give_up-in-Err-find_download.ensures.ends.wears c.in-Ok.ensures.grows.failures c.in-Err-find_download.ensures.stays.grows.failures c.give_up-in-Err-find_download.ensures.counts
-    IsOfList c.in-Err-find_download.fault _ c.give_up-in-Err-find_download.result (told_result _ _ c.refusal_of-in-Err-find_download.ensures) c.in-Err-find_download.ensures.fails.to (λ h valid counted. record { list = h; valid = valid; is = refl }) c.give_up-in-Err-find_download.ensures.fails)
+    (ReadableAs IsOfList) c.in-Err-find_download.fault _ c.give_up-in-Err-find_download.result (told_result _ _ c.refusal_of-in-Err-find_download.ensures) c.in-Err-find_download.ensures.stays.grows c.in-Err-find_download.ensures.fails.to (λ h valid readable counted. record { readable = readable; given = record { list = h; valid = valid; is = refl } }) c.give_up-in-Err-find_download.ensures.fails)
+
+pub returns-in-Err-clause-fails : goal.returns-in-Err-clause-fails
+returns-in-Err-clause-fails g c =
+    let grows : Grows (failures_of c.in-Err.fault) c.args.store.now.calls c.begin.follows.lender-at-none.calls = search rules in
+    λ is h clean counted stands. failed_call c.in-Err.fault c.in-Err.ensures.sound grows (told_result _ _ c.refusal_of.ensures is)

@@ -1,8 +1,11 @@
 use Rattle.rollout_desk.proofs.Common.{◌≡◌, Ok, Err, subst, rules, state, Keeps, piece_numbered, HoldsLedger, HoldsRecords, Looks, bytes_of}
 use Rattle.rollout_desk.proofs.LookLemmas.{look_failed, looked, read, unbegun}
 use Rattle.rollout_model.specs.declared.refusal.Refusal.TheVariants.{StoreFailed}
+use Rattle.desk_store.specs.Readable.{IsReadable}
 use Rattle.rollout_desk.specs.Causes.{FailsByCalls}
 use Rattle.rollout_desk.proofs.CauseLemmas.{failed_inside, told_result, well_inside}
+use Rattle.sql_calls.specs.Calls.{Grows, failures_of}
+use Rattle.rollout_desk.proofs.VerifyLemmas.{failed_call}
 use Rattle.rollout_desk.proofs.look.read_piece.Goals as goal
 
 pub returns-in-Err-clause-looks : goal.returns-in-Err-clause-looks
@@ -34,4 +37,9 @@ returns-in-Err-read_piece-clause-fails g c =
     let same : c.give_up-in-Err-read_piece.new.change.0 ≡ c.store-in-Err-read_piece-1.given.0 = search rules in
     subst (λ h. c.give_up-in-Err-read_piece.result ≡ Err StoreFailed → FailsByCalls g.S.Store c.args.store.now.calls h.calls) same
     (failed_inside g.S.Store c.args.store.now.calls c.in-Ok.change c.read_piece.new.self c.give_up-in-Err-read_piece.new.change.0.calls c.in-Ok.ensures.begun c.give_up-in-Err-read_piece.ensures.ends.wears c.in-Ok.ensures.grows.failures c.in-Err-read_piece.ensures.stays.grows.failures c.give_up-in-Err-read_piece.ensures.counts
-    (λ l. Unit {0}) c.in-Err-read_piece.fault _ c.give_up-in-Err-read_piece.result (told_result _ _ c.refusal_of-in-Err-read_piece.ensures) c.in-Err-read_piece.ensures.fails.to (λ h valid counted. tt) c.give_up-in-Err-read_piece.ensures.fails)
+    IsReadable c.in-Err-read_piece.fault _ c.give_up-in-Err-read_piece.result (told_result _ _ c.refusal_of-in-Err-read_piece.ensures) c.in-Err-read_piece.ensures.stays.grows c.in-Err-read_piece.ensures.fails.to (λ h valid readable counted. readable) c.give_up-in-Err-read_piece.ensures.fails)
+
+pub returns-in-Err-clause-fails : goal.returns-in-Err-clause-fails
+returns-in-Err-clause-fails g c =
+    let grows : Grows (failures_of c.in-Err.fault) c.args.store.now.calls c.begin.follows.lender-at-none.calls = search rules in
+    λ is h clean counted stands. failed_call c.in-Err.fault c.in-Err.ensures.sound grows (told_result _ _ c.refusal_of.ensures is)

@@ -1,6 +1,8 @@
-use Rattle.rollout_desk.proofs.Common.{◌≡◌, ◌≤◌, Err, subst, arith, rules, state, Keeps, HoldsLedger, HoldsRecords, StoreFailed, Looks, FindsDamage, HasCause, IsNeverDamaged}
+use Rattle.rollout_desk.proofs.Common.{◌≡◌, ◌≤◌, inl, Err, subst, arith, rules, state, Keeps, HoldsLedger, HoldsRecords, StoreFailed, Looks, FindsDamage, HasCause, IsNeverDamaged}
 use Rattle.rollout_desk.proofs.LookLemmas.{look_failed, looked, unbegun}
-use Rattle.rollout_desk.proofs.VerifyLemmas.{judged, never_damaged, none_found, read_in_vain}
+use Rattle.rollout_desk.proofs.VerifyLemmas.{failed_call, judged, never_damaged, none_found, read_in_vain}
+use Rattle.sql_calls.specs.Calls.{Grows, failures_of}
+use Rattle.rollout_desk.proofs.CauseLemmas.{told_result}
 use Rattle.rollout_desk.proofs.verify.look_for_damage.Goals as goal
 
 pub returns-in-Err-clause-looks : goal.returns-in-Err-clause-looks
@@ -39,4 +41,9 @@ returns-in-Err-find_damage-clause-blames g c =
     let grew : c.args.store.now.calls.failures ≤ c.in-Ok.change.store.now.calls.failures = c.in-Ok.ensures.grows.failures in
     subst (λ h. c.give_up-in-Err-find_damage.result ≡ Err StoreFailed → HasCause g.S.Store c.args.store.now.calls h.calls) same
     (read_in_vain g.S.Store c.args.store.now.calls _ _ c.give_up-in-Err-find_damage.new.change.0.calls c.in-Err-find_damage.fault _ c.give_up-in-Err-find_damage.result c.refusal_of-in-Err-find_damage.ensures c.in-Ok.ensures.tables grew c.in-Err-find_damage.ensures.blames
-    c.give_up-in-Err-find_damage.ensures.ends.wears c.give_up-in-Err-find_damage.ensures.counts (omega (arith, grew, c.in-Err-find_damage.ensures.stays.grows.failures)) c.give_up-in-Err-find_damage.ensures.fails)
+    c.give_up-in-Err-find_damage.ensures.ends.wears c.give_up-in-Err-find_damage.ensures.counts c.in-Err-find_damage.ensures.stays.grows c.give_up-in-Err-find_damage.ensures.fails)
+
+pub returns-in-Err-clause-blames : goal.returns-in-Err-clause-blames
+returns-in-Err-clause-blames g c =
+    let grows : Grows (failures_of c.in-Err.fault) c.args.store.now.calls c.begin.follows.lender-at-none.calls = search rules in
+    λ is t clean shown. inl (failed_call c.in-Err.fault c.in-Err.ensures.sound grows (told_result _ _ c.refusal_of.ensures is))

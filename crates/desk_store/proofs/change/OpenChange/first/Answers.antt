@@ -1,4 +1,4 @@
-use Rattle.desk_store.proofs.Answering.{rules, subst, TakesFirst, HoldsLedger, first_frames, in_ledgers, first_keeps, first_sees, call_counts, call_fails}
+use Rattle.desk_store.proofs.Answering.{rules, subst, TakesFirst, HoldsLedger, first_frames, in_ledgers, first_keeps, first_sees, HoldsTables, call_breaks, never_breaks}
 use Rattle.desk_store.proofs.change.OpenChange.first.Goals as goal
 
 pub returns-clause-stays : goal.returns-clause-stays
@@ -7,8 +7,11 @@ returns-clause-stays g c = record { same_reference = search rules; grows = searc
 pub returns-clause-keeps : goal.returns-clause-keeps
 returns-clause-keeps g c = record { to = first_keeps _ _ _ c.requires c.first.result c.first.ensures.takes }
 
-pub returns-clause-fails : goal.returns-clause-fails
-returns-clause-fails g c = call_fails c.first.result c.first.ensures.failures (λ x is. first_sees HoldsLedger _ _ _ (in_ledgers c.requires) x (subst (TakesFirst _ _ _ _) is c.first.ensures.takes))
+pub returns-clause-sound : goal.returns-clause-sound
+returns-clause-sound g c = never_breaks c.first.result c.first.ensures.sound
 
-pub returns-clause-counts : goal.returns-clause-counts
-returns-clause-counts g c = call_counts c.first.result c.first.ensures.failures
+pub returns-clause-fails : goal.returns-clause-fails
+returns-clause-fails g c = call_breaks c.first.result (never_breaks c.first.result c.first.ensures.sound) (λ x is. first_sees HoldsLedger _ _ _ (in_ledgers c.requires) x (subst (TakesFirst _ _ _ _) is c.first.ensures.takes))
+
+pub returns-clause-blames : goal.returns-clause-blames
+returns-clause-blames g c = call_breaks c.first.result (never_breaks c.first.result c.first.ensures.sound) (λ x is. first_sees HoldsTables _ _ _ c.requires x (subst (TakesFirst _ _ _ _) is c.first.ensures.takes))

@@ -1,4 +1,4 @@
-use Rattle.desk_verify.proofs.Common.{◌≡◌, ◌≤◌, ◌^◌, true, false, length, Err, sym, ap, ◌∙◌, arith, finds_as, Store, is_of, Members, blamed, follow}
+use Rattle.desk_verify.proofs.Common.{◌≡◌, ◌≤◌, ◌^◌, true, false, length, Err, sym, ap, ◌∙◌, arith, finds_as, Broken, is_of, Members, blamed, follow}
 use Rattle.desk_verify.proofs.Causes.{listed_many}
 use Rattle.desk_verify.proofs.Follow.{breaks, differs}
 use Rattle.desk_verify.proofs.MemberLemmas.{fits}
@@ -23,4 +23,4 @@ returns-in-Ok-clause-judges g c =
 pub returns-clause-blames : goal.returns-clause-blames
 returns-clause-blames g c =
     let large : 2 ^ 32 ≤ length c.in-Some.members.items = grind (arith, c.in-Err.ensures, c.len.ensures, c.deref.ensures.len, ap length c.deref.ensures.value) in
-    blamed (rw c.in-Some.is at c.in_ok-members.ensures.reads) c.in_ok-members.ensures.stays.grows.failures (Err Store) (λ t is given. listed_many t Members (is_of c.args.rollout.now.number) (length c.in-Some.members.items) is.said.count large)
+    blamed (rw c.in-Some.is at c.in_ok-members.ensures.reads) c.in_ok-members.ensures.stays.grows.failures (Err Broken) (λ t is given. listed_many t Members (is_of c.args.rollout.now.number) (length c.in-Some.members.items) is.said.count large)
