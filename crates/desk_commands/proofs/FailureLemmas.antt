@@ -1,5 +1,5 @@
 -- When a command tells broken rows, by what was read before.
-use Rattle.desk_commands.proofs.Common.{◌≡◌, ◌≤◌, ℕ, Option, Some, Ok, Err, Result, sym, ap, ◌∙◌, subst, arith, IsErrAnd, ok_or, Sees, Wears, CommandList, IsValid, Records, records, HoldsLedger, Ledger, ledger_of, FindsIn, seen_in, FindsLedger, Fault, Ghosts, FailsGiven, HasReason, ReadableAs, IsReadable, OpenChange, IsOfList, CountsIf, FailsWriting}
+use Rattle.desk_commands.proofs.Common.{◌≡◌, Option, Some, Ok, Err, Result, sym, ap, ◌∙◌, subst, arith, IsErrAnd, ok_or, Sees, Wears, CommandList, IsValid, Records, records, HoldsLedger, Ledger, ledger_of, seen_in, Fault, Ghosts, FailsGiven, HasReason, ReadableAs, IsReadable, OpenChange, IsOfList, CountsIf, FailsWriting}
 use Rattle.desk_commands.specs.Failures.{FailsWritingIn}
 use Rattle.sqlite.specs.State.{State}
 use Rattle.sql_calls.specs.Standing.{Finds}

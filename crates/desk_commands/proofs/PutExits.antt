@@ -1,6 +1,6 @@
 -- The ledger behind a row of a put, and between its name and its tags, can be read.
 use Rattle.sqlite.specs.State.{State}
-use Rattle.desk_commands.proofs.Common.{◌≡◌, ◌≤◌, ◌<◌, ◌^◌, ◌&&◌, ℕ, zero, suc, pos, Bool, true, false, cond, inl, inr, List, [], ◌∷◌, take, get_or, length, Option, Some, None, Result, Err, refl, sym, ap, ◌∙◌, subst, arith, true≢false, length-map, list_all, and_parts, HasCleanDisk, HoldsLedger, ledger_of, IsHeld, Sees, Wears, Fault, Refusal, CommandList, ◌▸◌, IsValid, Records, records, records_step, step_records, put_targets, change_target, Bytes, Attribute, TargetRow, PutTargets, Target, check, same_bytes, renamed, with_changed, attribute_rows, tag_rows, target_row, Has, is_digest, is_tag_list, is_text, is_value, is_word, limits_hold, broken_attribute_column, broken_listed_column, broken_target_column, BreaksColumn, IsReadable, second_shown, third_shown, seen_in, OpenChange, Ghosts, FailsWriting, TakesRow, TakesRows, le_trans, has_flat, kept_to}
+use Rattle.desk_commands.proofs.Common.{◌≡◌, ◌≤◌, ◌<◌, ◌^◌, ◌&&◌, ℕ, zero, suc, pos, Bool, true, false, cond, inl, inr, List, [], ◌∷◌, take, get_or, length, Option, Some, None, Result, Err, refl, sym, ap, ◌∙◌, subst, arith, true≢false, length-map, list_all, and_parts, HasCleanDisk, HoldsLedger, ledger_of, IsHeld, Sees, Wears, Fault, Refusal, CommandList, ◌▸◌, IsValid, Records, records, records_step, step_records, put_targets, change_target, Bytes, Attribute, TargetRow, PutTargets, Target, check, same_bytes, renamed, with_changed, attribute_rows, tag_rows, target_row, Has, is_digest, is_tag_list, is_text, is_value, is_word, limits_hold, broken_attribute_column, broken_listed_column, broken_target_column, BreaksColumn, IsReadable, second_shown, third_shown, seen_in, OpenChange, Ghosts, FailsWriting, TakesRow, TakesRows, has_flat, kept_to}
 use Rattle.sqlite_value.specs.Order.{Row}
 use Rattle.sqlite_value.specs.declared.value.Value.TheVariants.{Int, Text}
 use Rattle.sqlite_rules.proofs.ListLemmas.{test_has}

@@ -1,5 +1,5 @@
 -- How a report stands among what its action has heard, by the last number.
-use Rattle.desk_commands.proofs.Common.{◌≡◌, ℕ, suc, Bool, true, false, cond, List, [], ◌∷◌, length, Option, Some, None, option_map, refl, sym, ap, ◌∙◌, subst, nat_eq, nat_lt, ◌&&◌, ◌≤◌, arith, is_none, last_or, list_all, false≢true, nat_tests, item_numbered, Records, records, HistoryEntry, Reported, against, entries_in, same_entry, Standing, ActionRecord, numbered_map, history_of, last_number, numbers_numbered, numbers_of, Ledger, ledger_of, parts_of, PlacedNumber, StandsAgainst, StandsAmong, StandsAt, number_asked, SeenAction, details_kept, IsLastOf}
+use Rattle.desk_commands.proofs.Common.{◌≡◌, ℕ, suc, Bool, true, false, cond, List, [], ◌∷◌, length, Option, Some, None, option_map, refl, sym, ap, ◌∙◌, subst, nat_eq, nat_lt, ◌&&◌, ◌≤◌, arith, is_none, last_or, list_all, nat_tests, item_numbered, Records, records, HistoryEntry, Reported, against, entries_in, same_entry, Standing, ActionRecord, numbered_map, history_of, last_number, numbers_numbered, numbers_of, Ledger, ledger_of, parts_of, PlacedNumber, StandsAgainst, StandsAmong, StandsAt, number_asked, SeenAction, details_kept, IsLastOf}
 use Rattle.rollout_machine.specs.declared.standing.Standing.TheVariants.{Fresh, Again, Old}
 use Rattle.desk_records.specs.declared.number_row.LastNumber.{LastNumber}
 use Rattle.desk_records.proofs.NumberLists.{BearsLast, bears_last}
@@ -56,9 +56,6 @@ module _ (r : Records) (k n : ℕ) (entry : HistoryEntry) where
 
   pub none_at : None ≡ last_number (numbers_numbered (ledger_of r).numbers k) → StandsAt k (record { entry = entry; number = Some n }) r (record { standing = Fresh; numbers = 0 })
   none_at is a at = stands_alone a entry n (ap last_number (sym (numbers_at r k a at)) ∙ sym is)
-
-pub unnumbered_at : (r : Records) (k : ℕ) (entry : HistoryEntry) → StandsAt k (record { entry = entry; number = None }) r (record { standing = Fresh; numbers = 0 })
-unnumbered_at r k entry a at = record { standing = refl; numbers = λ bears. absurd (false≢true bears) }
 
 pub number_given : (o : Option SeenAction) (number : Option ℕ) (n : ℕ) → number_asked o number ≡ Some n → number ≡ Some n
 number_given None number n is = cc

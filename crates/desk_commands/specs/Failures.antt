@@ -1,6 +1,6 @@
 -- When a step of a command is a failed store: where the ledger that is seen can be read, only where a call of the database failed, which is
 -- counted.
-use Rattle.std.specs.Prelude.{◌≡◌, ◌<◌, ◌^◌, ℕ, ◌+◌, true, List, length, Option, Some, option_map, Result, Ok, Err}
+use Rattle.std.specs.Prelude.{◌≡◌, ◌<◌, ◌^◌, ℕ, ◌+◌, true, List, Option, Some, option_map, Result, Ok, Err}
 use Rattle.std.specs.List.{list_all, zip}
 use Rattle.sqlite.specs.Store.{Ghosts}
 use Rattle.sql_calls.specs.declared.fault.Fault.{Fault}

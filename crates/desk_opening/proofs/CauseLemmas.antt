@@ -83,6 +83,3 @@ finds_for A B db Store h = h
 
 pub opens_err : {A B : Type 0} (a z : State) (approval : Bool) (e : OpenFault) → OpensDesk {A = A} a z approval (Err e) → OpensDesk {A = B} a z approval (Err e)
 opens_err {A} {B} a z approval e h = record { wears = h.wears; finds = λ clean. finds_for A B a.now e (h.finds clean); takes = h.takes; takes_at = h.takes_at; makes = h.makes }
-
-pub opens_ok : {A B : Type 0} (a z : State) (approval : Bool) (x : A) (y : B) → OpensDesk a z approval (Ok x) → OpensDesk a z approval (Ok y)
-opens_ok a z approval x y h = record { wears = h.wears; finds = h.finds; takes = h.takes; takes_at = h.takes_at; makes = h.makes }

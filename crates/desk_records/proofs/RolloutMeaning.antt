@@ -12,7 +12,7 @@ use Rattle.sqlite_resolve.specs.Expr.{combine}
 use Rattle.sqlite_resolve.specs.Select.{named, paging}
 use Rattle.sqlite_resolve.specs.Write.{updated}
 use Rattle.sql_calls.proofs.Selects.{simple, by}
-use Rattle.desk_records.specs.declared.rollout_texts.TheConstants.{FIND_ROLLOUT, LAST_ROLLOUT, GET_ROLLOUT, LIST_ROLLOUTS, LIST_MEMBERS, LIST_PLACES, COUNT_MEMBERS, LIST_GROUPS, COUNT_GROUPS, GET_GROUP, HOLDING_GROUP, GROUP_AND_NEXT, PUT_ROLLOUT, SET_ROLLOUT, PUT_MEMBER, PUT_GROUP, SET_GROUP, GET_RULE, LIST_RULES, PUT_RULE}
+use Rattle.desk_records.specs.declared.rollout_texts.TheConstants.{FIND_ROLLOUT, LAST_ROLLOUT, GET_ROLLOUT, LIST_MEMBERS, LIST_PLACES, COUNT_MEMBERS, LIST_GROUPS, COUNT_GROUPS, GET_GROUP, HOLDING_GROUP, GROUP_AND_NEXT, PUT_ROLLOUT, SET_ROLLOUT, PUT_MEMBER, PUT_GROUP, SET_GROUP, GET_RULE, LIST_RULES, PUT_RULE}
 use Rattle.desk_records.specs.Schema.{Rollouts, Members, Groups, Rules}
 use Rattle.desk_records.proofs.MeaningWords.{Asks, Counts, Puts, Changes, at_key, past, at_least, at_most}
 
@@ -39,13 +39,6 @@ rollout_columns = col 1 2 ∷ col 1 3 ∷ col 1 4 ∷ col 1 5 ∷ col 1 6 ∷ co
 pub get_rollout_is : Asks Rollouts GET_ROLLOUT.now (λ tree. simple tree (at_key 0 0 ∷ []) rollout_columns) rollout_names
 unfolding first combine named paging everything
 get_rollout_is = record { queries = λ tree. record { parsed = _; select = _; source = _; page = _; shown = _; read = refl; is = (refl, refl, refl, refl); core = (refl, refl, refl); from = (refl, refl, refl, refl, refl); shows = (tt, (tt, (tt, (tt, (tt, (tt, (tt, (tt, (tt, tt))))))))); filter = ((refl, λ cx how x y. refl), tt, tt); sorts = tt; paged = λ s. refl; named = (refl, refl); becomes = (refl, (refl, refl, refl)) }; shape = λ tree. refl }
-
-abbrev pub list_rollouts_query : ℕ → Query
-list_rollouts_query tree = by (simple tree [] rollout_columns) ((col 1 0, record { descending = false; collation = Binary }) ∷ []) (col 0 0) (col 0 1)
-
-pub list_rollouts_is : Asks Rollouts LIST_ROLLOUTS.now list_rollouts_query rollout_names
-unfolding first combine named paging everything
-list_rollouts_is = record { queries = λ tree. record { parsed = _; select = _; source = _; page = _; shown = _; read = refl; is = (refl, refl, refl, refl); core = (refl, refl, refl); from = (refl, refl, refl, refl, refl); shows = (tt, (tt, (tt, (tt, (tt, (tt, (tt, (tt, (tt, tt))))))))); filter = tt; sorts = (tt, tt); paged = λ s. refl; named = (refl, refl); becomes = (refl, (refl, refl, refl)) }; shape = λ tree. refl }
 
 abbrev pub after_place : List Term
 after_place = at_key 1 0 ∷ past 2 1 ∷ []

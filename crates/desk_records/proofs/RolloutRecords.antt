@@ -4,8 +4,8 @@ use Rattle.sqlite.specs.Effect.{Reads as Shows}
 use Rattle.rollout_machine.specs.StateWords.{group_numbered, group_holding}
 use Rattle.desk_records.proofs.Comparisons.{numbers_above, numbers_equal, numbers_at_least, numbers_at_most, words_equal}
 use Rattle.desk_records.proofs.MeaningWords.{at_key}
-use Rattle.desk_records.proofs.RolloutMeaning.{same_name, last_rollout_query, rollout_columns, list_rollouts_query, of_rollout, group_columns, list_groups_query, of_group, get_group_query, holding, holding_group_query, reaching, group_and_next_query, after_place, list_members_query, list_rules_query, member_columns, rule_columns}
-use Rattle.desk_records.proofs.NumberedReads.{finds, gets, lasts, pages, passes_number}
+use Rattle.desk_records.proofs.RolloutMeaning.{same_name, last_rollout_query, rollout_columns, of_rollout, group_columns, list_groups_query, of_group, get_group_query, holding, holding_group_query, reaching, group_and_next_query, after_place, list_members_query, list_rules_query, member_columns, rule_columns}
+use Rattle.desk_records.proofs.NumberedReads.{finds, gets, lasts, passes_number}
 use Rattle.desk_records.proofs.PartReads.{later_shown, reads_listed, reads_parts, unplaced}
 use Rattle.desk_records.proofs.PlacedParts.{gets_part}
 use Rattle.desk_records.proofs.TargetRecords.{first_row}
@@ -32,10 +32,6 @@ module _ (db : Database) (l : Ledger) (holds : HoldsLedger db l) (names : List (
   pub gets_rollout : (number : ℕ) → 1 ≤ number → (row : Option Row) → ShowsFirst (Select (record { lets = []; body = simple tree (at_key 0 0 ∷ []) rollout_columns }) names) db (Int (pos number) ∷ []) row
       → row ≡ option_map told_rollout (item_numbered xs number)
   gets_rollout = gets rollout_row tree db xs (holds.rows Rollouts) names (λ n x. refl) (at_key 0 0 ∷ []) rollout_columns (passes_number rollout_row (λ n x. refl))
-
-  -- those of a page
-  pub lists_rollouts : (limit offset : ℕ) (rows : List Row) → Shows (Select (record { lets = []; body = list_rollouts_query tree }) names) db (Int (pos limit) ∷ Int (pos offset) ∷ []) rows → rows ≡ map told_rollout (take limit (drop offset xs))
-  lists_rollouts limit offset rows shows = pages rollout_row (λ n x. refl) told_rollout rollout_columns limit offset (λ n x. refl) tree db.trees xs (holds.rows Rollouts) rows (shows.answer Null)
 
 -- ---- groups
 

@@ -5,13 +5,11 @@ use Rattle.sqlite_value.specs.Order.{Row, column}
 use Rattle.rollout_machine.specs.Reports.{HistoryEntry}
 use Rattle.rollout_machine.specs.Commands.{Bytes}
 use Rattle.rollout_machine.specs.declared.records.GroupRecord.{GroupRecord}
-use Rattle.rollout_model.specs.declared.group_rule.GroupRule.{GroupRule}
 use Rattle.rollout_model.specs.declared.rollout.Offer.{Offer}
 use Rattle.desk_records.specs.ArtifactRow.{IsStoredRow, broken_stored_column, has_size, small_number}
 use Rattle.desk_records.specs.Codes.{number_in}
 use Rattle.desk_records.specs.EntryRow.{IsEntryRow}
 use Rattle.desk_records.specs.RolloutRow.{IsActionRow, IsGroupRow, IsOfferRow, IsRolloutRow, broken_group_column}
-use Rattle.desk_records.specs.RuleRow.{IsRuleRow}
 use Rattle.desk_records.specs.TargetRow.{has_word}
 use Rattle.desk_records.specs.declared.artifact_row.StoredArtifact.{StoredArtifact}
 use Rattle.desk_records.specs.declared.rollout_row.StoredAction.{StoredAction}
@@ -73,12 +71,6 @@ pub record IsGroup (row : Row) (rollout : ℕ) (g : GroupRecord) : Type 0 where
   pub rollout_is : number_in (column row 1) ≡ Some rollout
   pub shows : IsGroupRow (group_shown row) g
   pub kept : broken_group_column (group_shown row) ≡ None
-
--- what is said of a group of a rollout
-pub record IsRule (row : Row) (rollout number : ℕ) (it : GroupRule) : Type 0 where
-  pub rollout_is : number_in (column row 1) ≡ Some rollout
-  pub number_is : small_number (column row 2) ≡ Some number
-  pub shows : IsRuleRow (rule_shown row) it
 
 -- The action of a number. Its counts are whole numbers of any size, since nothing limits the entries of a history.
 pub record IsAction (row : Row) (number : ℕ) (a : StoredAction) : Type 0 where

@@ -97,7 +97,6 @@ pub use crate::rollout_texts::LAST_ROLLOUT;
 pub use crate::rollout_texts::LIST_GROUPS;
 pub use crate::rollout_texts::LIST_MEMBERS;
 pub use crate::rollout_texts::LIST_PLACES;
-pub use crate::rollout_texts::LIST_ROLLOUTS;
 pub use crate::rollout_texts::LIST_RULES;
 pub use crate::rollout_texts::PUT_GROUP;
 pub use crate::rollout_texts::PUT_MEMBER;

@@ -9,10 +9,6 @@ pub const LAST_ROLLOUT: &str = "SELECT number FROM rollout ORDER BY number DESC 
 pub const GET_ROLLOUT: &str =
     "SELECT name, dset, filter_text, groups, success, error, approval, started, paused FROM rollout WHERE number = ?1";
 
-/// The rollouts of a page in the order of their numbers: at most as many as the first parameter, after as many as the second.
-pub const LIST_ROLLOUTS: &str =
-    "SELECT name, dset, filter_text, groups, success, error, approval, started, paused FROM rollout ORDER BY number LIMIT ?1 OFFSET ?2";
-
 /// The members of a rollout after a place, in the order of their places: at most as many as the third parameter. A place says how many members
 /// come up to it, so no row before the first of them is read.
 pub const LIST_MEMBERS: &str =

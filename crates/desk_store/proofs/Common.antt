@@ -57,8 +57,8 @@ pub use Rattle.desk_records.proofs.NumberColumns.{is_number_in, number_in_good, 
 pub use Rattle.desk_records.proofs.NumberRecords.{lasts_number, lists_numbers, told_last}
 pub use Rattle.desk_records.proofs.OfferWrites.{drops_offer, offered_params, sets_offer}
 pub use Rattle.desk_records.proofs.PartWrites.{adds_entry, adds_group, adds_member, adds_number, adds_rule, counted_params, cut_params, entry_params, sets_group}
-pub use Rattle.desk_records.proofs.RolloutMeaning.{count_groups_is, count_members_is, find_rollout_is, get_group_is, get_rollout_is, get_rule_is, group_and_next_is, group_columns, group_names, holding_group_is, last_rollout_is, list_groups_is, list_members_is, list_places_is, list_rollouts_is, list_rules_is, of_rollout, placed_columns, placed_names, places_query, put_group_is, put_member_is, put_rollout_is, put_rule_is, rollout_names, rule_names, set_group_is, set_rollout_is}
-pub use Rattle.desk_records.proofs.RolloutRecords.{finds_rollout, gets_group, gets_group_and_next, gets_rollout, gets_rule, holds_group, lasts_rollout, lists_groups, lists_members, lists_rollouts, lists_rules, shown_group}
+pub use Rattle.desk_records.proofs.RolloutMeaning.{count_groups_is, count_members_is, find_rollout_is, get_group_is, get_rollout_is, get_rule_is, group_and_next_is, group_columns, group_names, holding_group_is, last_rollout_is, list_groups_is, list_members_is, list_places_is, list_rules_is, of_rollout, placed_columns, placed_names, places_query, put_group_is, put_member_is, put_rollout_is, put_rule_is, rollout_names, rule_names, set_group_is, set_rollout_is}
+pub use Rattle.desk_records.proofs.RolloutRecords.{finds_rollout, gets_group, gets_group_and_next, gets_rollout, gets_rule, holds_group, lasts_rollout, lists_groups, lists_members, lists_rules, shown_group}
 pub use Rattle.desk_records.proofs.Targets.{tag_row}
 pub use Rattle.desk_records.specs.Actions.{Tally, cancel_code, deployment_code, history_of, kind_code, lines_of, outcome_code, told_entry, word_code}
 pub use Rattle.desk_records.specs.ArtifactRow.{IsArtifactRow, IsStoredRow, StoredBytes, has_bytes, has_size, small_number, stored}
@@ -87,7 +87,7 @@ pub use Rattle.desk_records.specs.declared.number_row.PlacedNumber.{PlacedNumber
 pub use Rattle.desk_records.specs.declared.rollout_row.ListedAction.{ListedAction}
 pub use Rattle.desk_records.specs.declared.rollout_row.StoredAction.{StoredAction}
 pub use Rattle.desk_records.specs.declared.rollout_row.StoredRollout.{StoredRollout}
-pub use Rattle.desk_records.specs.declared.rollout_texts.TheConstants.{FIND_ROLLOUT, GET_GROUP, GET_ROLLOUT, GET_RULE, GROUP_AND_NEXT, HOLDING_GROUP, LAST_ROLLOUT, LIST_GROUPS, LIST_MEMBERS, LIST_PLACES, LIST_ROLLOUTS, LIST_RULES, PUT_GROUP, PUT_MEMBER, PUT_ROLLOUT, PUT_RULE, SET_GROUP, SET_ROLLOUT}
+pub use Rattle.desk_records.specs.declared.rollout_texts.TheConstants.{FIND_ROLLOUT, GET_GROUP, GET_ROLLOUT, GET_RULE, GROUP_AND_NEXT, HOLDING_GROUP, LAST_ROLLOUT, LIST_GROUPS, LIST_MEMBERS, LIST_PLACES, LIST_RULES, PUT_GROUP, PUT_MEMBER, PUT_ROLLOUT, PUT_RULE, SET_GROUP, SET_ROLLOUT}
 pub use Rattle.desk_records.specs.declared.set_texts.TheConstants.{FIND_SET, GET_SET, LAST_SET, LIST_SET_MODULES, MODULE_LOCKED, PUT_SET, PUT_SET_MODULE}
 pub use Rattle.desk_records.specs.declared.target_texts.TheConstants.{COUNT_TARGETS, DROP_TARGET_TAG, GET_TARGET, LIST_TARGETS, LIST_TARGET_ATTRIBUTES, LIST_TARGET_TAGS, PUT_TARGET, PUT_TARGET_ATTRIBUTE, PUT_TARGET_TAG, SET_TARGET, SET_TARGET_ATTRIBUTE}
 pub use Rattle.desk_records.specs.declared.texts.TheConstants.{FIND_MODULE, GET_DESK, GET_MODULE, LAST_MODULE, PUT_MODULE}

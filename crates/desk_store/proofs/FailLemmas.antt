@@ -1,5 +1,5 @@
 -- Why a call over a ledger that can be read is no failed store by itself.
-use Rattle.desk_store.proofs.Common.{Place, ◌≡◌, ◌≤◌, ◌^◌, ◌+◌, ◌-◌, ℕ, Bool, true, false, zero, suc, inl, inr, List, [], ◌∷◌, take, drop, filter, map, Option, Some, None, Ok, Err, Result, IfErr, Vec, refl, sym, ap, subst, ◌∙◌, arith, Global, Row, Query, Output, page, Database, Ghosts, Has, has_filtered, Fault, Memory, Store, AsksFew, AsksText, TakesFirst, ShowsFirst, first_finds, ask_finds, few_finds, IsOrdered, by, ordered_rows, passes, shown_in, shown_of, simple, HoldsLedger, Ledger, HoldsTables, Tables, IfStore, HasBroken, seen_in, OpenChange}
+use Rattle.desk_store.proofs.Common.{Place, ◌≡◌, ◌≤◌, ◌-◌, ℕ, zero, suc, inl, inr, List, [], ◌∷◌, take, drop, filter, map, Option, Some, None, Ok, Err, Result, IfErr, Vec, refl, sym, ap, subst, ◌∙◌, Global, Row, Query, Output, page, Database, Ghosts, Has, has_filtered, Fault, Memory, Store, AsksFew, AsksText, TakesFirst, ShowsFirst, first_finds, ask_finds, few_finds, IsOrdered, by, ordered_rows, passes, shown_in, shown_of, simple, HoldsLedger, Ledger, HoldsTables, Tables, IfStore, HasBroken, seen_in, OpenChange}
 use Rattle.std.specs.Prelude.{◌≢◌}
 use Rattle.sqlite.specs.Effect.{Reads as Shows}
 use Rattle.sql_calls.specs.Standing.{Finds, Sees}

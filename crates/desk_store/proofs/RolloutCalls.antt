@@ -1,8 +1,7 @@
 -- The calls on rollouts and groups.
-use Rattle.desk_store.proofs.Common.{◌≡◌, ◌<◌, ◌≤◌, ℕ, Bool, pos, take, drop, slice_get, arith, [], ◌∷◌, length, map, Option, Some, None, Ok, Err, Result, IfOk, option_map, Vec, vec_items, refl, sym, ap, subst, ◌∙◌, codes, list_any, is_some, Global, Int, Text, Row, column, Database, State, slice_get-map, Fault, AsksFew, AsksText, TakesFirst, Finds, ShowsFirst, few_finds, first_finds, item_numbered, Bytes, group_numbered, group_holding, GroupRecord, Word, GET_DESK, FIND_ROLLOUT, LAST_ROLLOUT, GET_ROLLOUT, LIST_ROLLOUTS, LIST_MEMBERS, LIST_GROUPS, GET_GROUP, HOLDING_GROUP, GROUP_AND_NEXT, GET_RULE, LIST_RULES, StoredRollout, HoldsLedger, Ledger, IsLastRow, IsRolloutRow, IsGroupRow, stored_rollout, is_called, groups_of, members_of, rule_numbered, rules_numbered, that_reach, told_rule, IsRuleRow, GroupRule, flag_in, rollout_names, group_names, find_rollout_is, last_rollout_is, get_rollout_is, list_rollouts_is, list_members_is, list_groups_is, get_group_is, holding_group_is, group_and_next_is, rule_names, get_rule_is, list_rules_is, finds_rollout, lasts_rollout, gets_rollout, lists_rollouts, lists_members, shown_group, lists_groups, gets_group, gets_group_and_next, holds_group, gets_rule, lists_rules, group_and_next, GroupAndNext, AreReadAs, IsApproval, IsReadAs}
+use Rattle.desk_store.proofs.Common.{◌≡◌, ◌<◌, ◌≤◌, ℕ, Bool, pos, take, drop, slice_get, arith, [], ◌∷◌, length, map, Option, Some, None, Ok, Err, Result, IfOk, option_map, Vec, vec_items, refl, ap, subst, ◌∙◌, codes, list_any, is_some, Global, Int, Text, Row, column, Database, State, slice_get-map, Fault, AsksFew, AsksText, TakesFirst, Finds, ShowsFirst, few_finds, first_finds, item_numbered, Bytes, group_numbered, group_holding, GroupRecord, Word, GET_DESK, FIND_ROLLOUT, LAST_ROLLOUT, GET_ROLLOUT, LIST_MEMBERS, LIST_GROUPS, GET_GROUP, HOLDING_GROUP, GROUP_AND_NEXT, GET_RULE, LIST_RULES, StoredRollout, HoldsLedger, Ledger, IsLastRow, IsRolloutRow, IsGroupRow, stored_rollout, is_called, groups_of, members_of, rule_numbered, rules_numbered, that_reach, told_rule, IsRuleRow, GroupRule, flag_in, rollout_names, group_names, find_rollout_is, last_rollout_is, get_rollout_is, list_members_is, list_groups_is, get_group_is, holding_group_is, group_and_next_is, rule_names, get_rule_is, list_rules_is, finds_rollout, lasts_rollout, gets_rollout, lists_members, shown_group, lists_groups, gets_group, gets_group_and_next, holds_group, gets_rule, lists_rules, group_and_next, GroupAndNext, AreReadAs, IsApproval, IsReadAs}
 use Rattle.sqlite.specs.Effect.{Reads as Shows}
 use Rattle.sqlite.proofs.MarkLemmas.{slice_get-take}
-use Rattle.sqlite_keyed.proofs.ListLemmas.{map-map}
 use Rattle.rollout_model.specs.declared.word.TargetKind.{TargetKind}
 use Rattle.desk_records.proofs.DeskRecords.{gets_desk, told_desk}
 use Rattle.desk_records.proofs.Meaning.{get_desk_is}
@@ -41,12 +40,6 @@ pub rollout_read : (number : ℕ) → 1 ≤ number → (old new : State) (row : 
 rollout_read number least old new row =
     takes_one (λ (l : Ledger). l) IsRolloutRow shown_rollout GET_ROLLOUT.now (Int (pos number) ∷ []) old new (known get_rollout_is) (λ l. option_map stored_rollout (item_numbered l.records.rollouts number)) ◌≡◌ refl (λ a b h. ap Some (one_rollout a b h)) (λ db l holds at given. tt) row
     (λ db l holds shown. gets_rollout db l holds rollout_names number least row shown ∙ both_mapped shown_rollout stored_rollout _)
-
-pub rollouts_read : (limit offset : ℕ) (old new : State) (rows : Vec Row Global) → AsksText old new LIST_ROLLOUTS.now (Int (pos limit) ∷ Int (pos offset) ∷ []) (Ok rows) → (out : Result (Vec StoredRollout Global) Fault) → IfOk out (λ found. AreReadAs IsRolloutRow rows.items found.items)
-    → Finds HoldsLedger (λ (l : Ledger). l) old new out (λ l found. found.items ≡ map stored_rollout (take limit (drop offset l.records.rollouts)))
-rollouts_read limit offset old new rows =
-    asks_all (λ (l : Ledger). l) vec_items IsRolloutRow shown_rollout one_rollout LIST_ROLLOUTS.now (Int (pos limit) ∷ Int (pos offset) ∷ []) old new (known list_rollouts_is) (λ l. map stored_rollout (take limit (drop offset l.records.rollouts))) rows
-    (λ db l holds shown. lists_rollouts db l holds rollout_names limit offset rows.items shown ∙ sym (map-map shown_rollout stored_rollout _))
 
 -- ---- members
 

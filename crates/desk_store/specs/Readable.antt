@@ -37,10 +37,6 @@ label_shown row = column row 2 ∷ column row 3 ∷ column row 4 ∷ []
 abbrev pub placed_shown : Row → Row
 placed_shown row = column row 3 ∷ column row 4 ∷ column row 2 ∷ []
 
--- an action with the kind of what is offered of it
-abbrev pub next_shown : Row → Row
-next_shown row = column row 0 ∷ column row 5 ∷ []
-
 -- ---- rows that can't be read
 
 -- the row's own number isn't one of 32 bits

@@ -3,6 +3,3 @@ use Rattle.std.specs.Prelude.{ℕ, List, codes}
 
 abbrev pub begin_text : List ℕ
 begin_text = codes "BEGIN"
-
-abbrev pub rollback_text : List ℕ
-rollback_text = codes "ROLLBACK"

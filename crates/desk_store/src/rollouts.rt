@@ -23,7 +23,7 @@ use crate::from_row::FromRow;
 use crate::reading::{approval_in, last_number, read_all, read_at, read_optional};
 use desk_records::{
     FIND_ROLLOUT, GET_DESK, GET_GROUP, GET_ROLLOUT, GROUP_AND_NEXT, HOLDING_GROUP, LAST_ROLLOUT,
-    LIST_GROUPS, LIST_MEMBERS, LIST_ROLLOUTS, PUT_GROUP, PUT_MEMBER, PUT_ROLLOUT, RowFault,
+    LIST_GROUPS, LIST_MEMBERS, PUT_GROUP, PUT_MEMBER, PUT_ROLLOUT, RowFault,
     SET_GROUP, SET_ROLLOUT, StoredRollout, read_group, read_member, read_stored_rollout,
 };
 use rollout_machine::{Bounds, GroupRecord};
@@ -127,19 +127,6 @@ impl<'a, S: Alter> OpenChange<'a, S> {
         let alloc = self.store.alloc;
         let row = self.first(GET_ROLLOUT, params![number.get()])?;
         read_optional(alloc, row)
-    }
-
-    /// The rollouts of a page, in the order of their numbers. A row that breaks a column's rule is a failed store.
-    pub fn read_rollouts(&mut self, page: Page) -> Result<Vec<StoredRollout>, Fault>
-        ensures stays { StaysIn S.Store self.old self.new result }
-        ensures reads { FindsLedger S.Store self.old self.new result
-            (λ l found. found.items ≡ map stored_rollout (take page.limit (drop page.offset l.records.rollouts))) }
-        ensures fails { FailsIn S.Store self.old self.new result }
-        ensures work { self.new.store.now.calls.work.statements ≤ self.old.store.now.calls.work.statements + 1 }
-    {
-        let alloc = self.store.alloc;
-        let rows = self.ask(LIST_ROLLOUTS, params![page.limit, page.offset])?;
-        read_all(alloc, &rows)
     }
 
     /// The members of a rollout, a page of them in the order of their places; none where there is no such rollout. A row that breaks the

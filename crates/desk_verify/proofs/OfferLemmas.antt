@@ -80,10 +80,6 @@ FindsOffer t id = FindsOne (t Offers) (has_text_at 1 id) (SaysOfferOf id)
 pub no_offer : (t : Tables) (id : Bytes) (number : ℕ) → FindsOffer t id None → Decides (IsOffered t id number) false
 no_offer t id number none it = none it.row it.among (has_id it.row id it.offer it.is)
 
--- nothing is asked of an action that is not due
-pub not_due : (t : Tables) (groups : List GroupRecord) (listed : ListedAction) → is_due groups listed.action ≡ false → IsOfferedIfDue t groups listed
-not_due t groups listed other due = absurd (true≢false (sym due ∙ other))
-
 pub if_due : (t : Tables) (groups : List GroupRecord) (listed : ListedAction) → is_due groups listed.action ≡ true → (offered : Bool) → Decides (IsOffered t listed.action.target listed.number) offered → Decides (IsOfferedIfDue t groups listed) offered
 if_due t groups listed due true offered = λ h. offered
 if_due t groups listed due false none = λ any. none (any due)

@@ -1,7 +1,7 @@
 -- What is found at the places of an artifact, one after the other.
-use Rattle.desk_verify.proofs.Common.{◌≡◌, ◌≤◌, ◌<◌, ◌⊎◌, inl, inr, ◌++◌, ℕ, zero, suc, ◌+◌, ◌-◌, ◌*◌, List, [], ◌∷◌, length, map, slice_get, get_or, min, drop, Vec, vec_items, Some, None, refl, sym, ap, ap₂, subst, ◌∙◌, arith, length-append, Global, Blob, Row, Has, digest_of, piece_count, Bytes, ArePieces, pieces_in, Pieces, Tables, count_pieces, count_whole, nth_piece, one_more, same_contents, HashesPieces, IsHashed, HasPieces, length-drop, length-take, piece_length}
+use Rattle.desk_verify.proofs.Common.{◌≡◌, ◌≤◌, ◌<◌, ◌⊎◌, inl, inr, ◌++◌, ℕ, zero, suc, ◌+◌, ◌-◌, ◌*◌, List, [], ◌∷◌, length, map, slice_get, get_or, min, drop, Vec, vec_items, Some, None, refl, sym, ap, ap₂, subst, ◌∙◌, arith, length-append, Global, Blob, Row, Has, piece_count, Bytes, ArePieces, pieces_in, Pieces, Tables, count_pieces, nth_piece, one_more, same_contents, HashesPieces, IsHashed, HasPieces, length-drop, length-take, piece_length}
 use Rattle.std.proofs.lemmas.Grind.{div_ceil_times}
-use Rattle.std.proofs.lemmas.Option.{slice_get_cases, slice_get_within}
+use Rattle.std.proofs.lemmas.Option.{slice_get_cases}
 use Rattle.sha2.specs.Hashers.{Holds256}
 use Rattle.sha2.specs.declared.Sha256.{Sha256}
 
@@ -49,15 +49,6 @@ pub record IsHashedTo (t : Tables) (number size k : ℕ) (hasher : Sha256) : Typ
   pub count : length (pieces_in contents) ≡ k
   pub pieces : HasPieces t number contents
 
-pub none_hashed : (t : Tables) (number size : ℕ) (hasher : Sha256) → Holds256 hasher [] → IsHashedTo t number size 0 hasher
-none_hashed t number size hasher holds = record {
-  contents = [];
-  holds = holds;
-  long = omega arith;
-  count = count_whole [] 0 refl;
-  pieces = λ k piece is. absurd (let within = slice_get_within (pieces_in []) k piece is in let none = count_whole [] 0 refl in omega (arith, within, none));
-}
-
 pushed : {X : Type 0} (xs : List X) (x : X) (k : ℕ) (y : X) → slice_get (xs ++ x ∷ []) k ≡ Some y → (slice_get xs k ≡ Some y) ⊎ ((k ≡ length xs) × (y ≡ x))
 pushed [] x zero y is = let same : x ≡ y = cc in inr (refl, sym same)
 pushed [] x (suc k) y is = absurd cc
@@ -91,15 +82,6 @@ more_hashed t number size k asked old new few is so_far next = record {
     found at piece (inr last) =
         let here : k + 1 ≡ at + 1 = omega (arith, last.0, so_far.count) in
         subst (λ n. ArePieces (t Pieces) number n (piece ∷ [])) here (subst (λ (b : Bytes). ArePieces (t Pieces) number (k + 1) (b ∷ [])) (sym last.1) next.lies)
-
--- all were hashed
-pub all_hashed : (t : Tables) (number size : ℕ) (hasher : Sha256) (digest : Bytes) → IsHashedTo t number size (piece_count size) hasher → ((contents : Bytes) → Holds256 hasher contents → digest ≡ digest_of contents) → HashesPieces t number size (Some digest)
-all_hashed t number size hasher digest so_far is = record {
-  contents = so_far.contents;
-  long = let bounds = div_ceil_times size piece_length (omega arith) in omega (arith, so_far.long, bounds.0);
-  pieces = so_far.pieces;
-  is = is so_far.contents so_far.holds;
-}
 
 -- contents of this size have a piece at each place, of the length that is asked for
 pub none_fits : (t : Tables) (number size k asked : ℕ) → k < piece_count size → asked ≡ min (size - k * piece_length) piece_length → ((piece : Bytes) → length piece ≡ asked → ArePieces (t Pieces) number (k + 1) (piece ∷ []) → ⊥)

@@ -6,7 +6,6 @@ use Rattle.std.specs.Prelude.{Bool, nat_lt, true, false, ◌^◌}
 use Rattle.std.proofs.lemmas.Bool.Decides.{nat_tests}
 use Rattle.desk_store.specs.Blaming.{Blames, HasFailed}
 use Rattle.desk_store.specs.Changing.{seen_in}
-use Rattle.desk_store.specs.Unreadable.{IsUnreadable}
 use Rattle.desk_verify.specs.Agreement.{IsDamage}
 use Rattle.desk_verify.specs.Promises.{NamesNone}
 use Rattle.desk_verify.specs.declared.damage.CheckedTable.{CheckedTable}

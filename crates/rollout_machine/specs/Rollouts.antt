@@ -7,7 +7,7 @@ use Rattle.rollout_machine.specs.Filters.{matches}
 use Rattle.target_filter.specs.Profile.{filter_of}
 use Rattle.target_filter.specs.Grammar.{Tree}
 use Rattle.rollout_machine.specs.Groups.{size_of_bounds}
-use Rattle.rollout_machine.specs.Groupings.{bounds_by, last_by}
+use Rattle.rollout_machine.specs.Groupings.{bounds_by}
 pub use Rattle.rollout_machine.specs.GroupRules.{success_at, error_at}
 use Rattle.rollout_machine.specs.Targets.{Target, targets}
 use Rattle.rollout_machine.specs.declared.bounds.Bounds.{Bounds}
@@ -37,10 +37,6 @@ rollout_at h r = item_numbered (rollouts h) r
 
 abbrev pub size_of : Rollout → ℕ
 size_of x = length x.members
-
--- where a plan has group i among m members
-abbrev pub last_at : RolloutPlan → ℕ → ℕ → ℕ
-last_at plan m i = last_by plan.groups m i
 
 abbrev pub bounds_at : RolloutPlan → ℕ → ℕ → Bounds
 bounds_at plan m i = bounds_by plan.groups m i

@@ -1,6 +1,6 @@
 -- What CREATE TABLE and CREATE INDEX do, for any schema.
-use Rattle.sql_calls.proofs.Common.{[], ◌≡◌, ℕ, List, false, None, Ok, sym, ap, subst, ◌∙◌, Row, Table, Schema, CreateTable, Index, Tally, lacks_sequence, Database, State, Writes}
-use Rattle.sqlite.specs.Change.{created, indexed, next_tree, KeepsRows}
+use Rattle.sql_calls.proofs.Common.{[], ◌≡◌, ℕ, List, false, None, Ok, sym, ap, subst, ◌∙◌, Row, Table, Schema, CreateTable, Tally, lacks_sequence, Database, State, Writes}
+use Rattle.sqlite.specs.Change.{created, next_tree, KeepsRows}
 use Rattle.sqlite.specs.Compile.{table_defined_by}
 use Rattle.sql_calls.proofs.Inserts.{went, same_value}
 
@@ -27,7 +27,3 @@ creates schema table text defined plain old new has params count w =
     }
 
 -- ---- CREATE INDEX
-
-pub record IndexCreated (schema : Schema) (table : Table) (index : Index) (old new : Database) : Type 0 where
-  pub schema_is : new.schema ≡ indexed schema table index
-  pub others : KeepsRows schema.tables old.trees new.trees

@@ -1,8 +1,6 @@
 -- Connections, one after the other: each leaves a desk that keeps the lists that were kept, followed by what was accepted over it.
-use Rattle.stream_server.proofs.Common.{◌≡◌, ◌≢◌, ◌+◌, ◌++◌, ◌∷◌, ℕ, arith, true, List, [], Option, None, Result, Ok, Err, IfErr, inl, inr, refl, ap, subst, sym, ◌∙◌, append_assoc, append-nil, All, All-head, All-tail, Command, CommandList, followed_by, one, DeskState, StandsFor, StaysStopped, Interface, Served, ServeFault, Headline, HoldsFirstPart, IsRefusedAsStopped, StoppedThroughout, Transcript, Keeps, KeepsOn, StopsAtStore, Exchange, accepted_in}
-use Rattle.std.proofs.Common.{suc}
+use Rattle.stream_server.proofs.Common.{◌≡◌, ◌+◌, ◌++◌, ◌∷◌, ℕ, true, List, [], Option, Result, Ok, Err, IfErr, inl, inr, refl, ap, subst, sym, ◌∙◌, append_assoc, append-nil, All, All-head, All-tail, Command, CommandList, followed_by, one, DeskState, StandsFor, Interface, Served, ServeFault, Headline, IsRefusedAsStopped, StoppedThroughout, Transcript, Keeps, KeepsOn, StopsAtStore, Exchange, accepted_in}
 use Rattle.std.proofs.lemmas.List.Concat.{flat_map-append}
-use Rattle.stream_server.specs.Headline.{EndsInDoubt}
 use Rattle.stream_server.specs.Listening.{AnswersBy, AreServed, ComesToEnd, IsServed, LosesInDoubt, Sockets, Talk, accepted_over}
 use Rattle.stream_server.specs.declared.listening.ListenFault.{ListenFault}
 use Rattle.stream_server.specs.declared.listening.ListenFault.TheVariants as listen_fault
@@ -161,21 +159,6 @@ stops_at_store s outcome (Err listen_fault.Store) store stops =
     subst (λ (o : Result Served ServeFault). IfErr o (λ fault. fault ≡ serve_fault.Store → s.is_stopped ≡ true)) (store refl) stops refl
 
 -- ---- how many connections came
-
--- the one that came was served
-pub one_came : {A : Type 0} (before between after : ℕ → Type 0) (failed : Type 0) (told : Result A ListenFault) → ((n : ℕ) → before n → between (n + 1)) → ((n : ℕ) → between n → after n) → told ≢ Err listen_fault.Net
-    → ComesToEnd before after failed 1 told
-one_came before between after failed (Ok a) came same net = λ n was. same (n + 1) (came n was)
-one_came before between after failed (Err listen_fault.Net) came same net = absurd (net refl)
-one_came before between after failed (Err listen_fault.Store) came same net = tt
-
--- some came, and then one more
-pub one_more_came : {A : Type 0} (before between after : ℕ → Type 0) (failed : Type 0) (count : ℕ) (next : Result A ListenFault) (a : A) → next ≡ Ok a → ((n : ℕ) → before n → between (n + count)) → ComesToEnd between after failed 1 next
-    → (n : ℕ) → before n → after (n + suc count)
-one_more_came before between after failed count next a is first second n was =
-    let one : (m : ℕ) → between m → after (m + 1) = subst (λ (r : Result _ ListenFault). ComesToEnd between after failed 1 r) is second in
-    let sum : (n + count) + 1 ≡ n + suc count = omega arith in
-    subst after sum (one (n + count) (first n was))
 
 -- what ends one connection ends all
 pub ends_all : (A B : Type 0) (before between after : ℕ → Type 0) (failed : Type 0) (count : ℕ) (fault : ListenFault) → ComesToEnd {A = A} between after failed 1 (Err fault) → ComesToEnd {A = B} before after failed count (Err fault)

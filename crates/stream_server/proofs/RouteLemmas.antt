@@ -10,7 +10,6 @@ use Rattle.ddi_api.specs.declared.call.DeviceCall.{DeviceCall}
 use Rattle.ddi_api.specs.Reading.{device_reading}
 use Rattle.ddi_api.specs.Routes.{device_table}
 use Rattle.ddi_api.specs.Table.{device_call}
-use Rattle.mgmt_api.specs.Reading.{manage_reading}
 use Rattle.mgmt_api.specs.Routes.{manage_table}
 
 -- what stands behind the first slash is such a word
@@ -111,6 +110,3 @@ as_of_device m none = by (device_call (path_of m.target)) refl
     by : (o : Option DeviceCall) → device_call (path_of m.target) ≡ o → reading_by o m ≡ device_reading m
     by (Some call) is = refl
     by None is = rw (none, is) refl
-
-pub as_of_management : (m : WireMessage) → device_call (path_of m.target) ≡ None → reading_by (device_call (path_of m.target)) m ≡ manage_reading m
-as_of_management m none = ap (λ (o : Option DeviceCall). reading_by o m) none

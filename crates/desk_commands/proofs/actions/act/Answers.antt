@@ -1,4 +1,4 @@
-use Rattle.desk_commands.proofs.Answering.{makes_three, le_trans, can_end, can_tell, numbers_stay, writes_end, writes_last, acting_parts}
+use Rattle.desk_commands.proofs.Answering.{makes_three, can_end, can_tell, numbers_stay, writes_end, writes_last, acting_parts}
 use Rattle.desk_commands.proofs.actions.act.Goals as goal
 
 pub returns-clause-writes : goal.returns-clause-writes

@@ -1,4 +1,4 @@
-use Rattle.rollout_desk.proofs.Common.{◌≡◌, ◌≤◌, inl, Err, subst, arith, rules, state, Keeps, HoldsLedger, HoldsRecords, StoreFailed, Looks, FindsDamage, HasCause, IsNeverDamaged}
+use Rattle.rollout_desk.proofs.Common.{◌≡◌, ◌≤◌, inl, Err, subst, rules, state, Keeps, HoldsLedger, HoldsRecords, StoreFailed, Looks, FindsDamage, HasCause, IsNeverDamaged}
 use Rattle.rollout_desk.proofs.LookLemmas.{look_failed, looked, unbegun}
 use Rattle.rollout_desk.proofs.VerifyLemmas.{failed_call, judged, never_damaged, none_found, read_in_vain}
 use Rattle.sql_calls.specs.Calls.{Grows, failures_of}
