@@ -19,11 +19,13 @@ more_pieces : (n p : ℕ) (bs : List ℕ) → take p bs ++ take (n * p) (drop p 
 more_pieces n p bs = rw (suc-mul n p) (let e : n * p + p ≡ p + n * p = omega arith in rw e (sym (take-add p (n * p) bs)))
 
 -- the pieces from the k-th on are the bytes from its first on
-first_pieces : (bs : List ℕ) (n k : ℕ) → flat_map (piece_bytes bs) (map (piece_at (length bs)) (range_with_len k n)) ≡ take (n * piece_length) (drop (k * piece_length) bs)
+first_pieces : (bs : List ℕ) (n k : ℕ) → flat_map (piece_bytes bs) (map (piece_at (length bs)) (range_with_len k n))
+    ≡ take (n * piece_length) (drop (k * piece_length) bs)
 first_pieces bs zero k = refl
 first_pieces bs (suc n) k =
     let next : k * piece_length + piece_length ≡ (k + 1) * piece_length = omega arith in
-    let after : drop piece_length (drop (k * piece_length) bs) ≡ drop ((k + 1) * piece_length) bs = drop-drop piece_length (k * piece_length) bs ∙ (rw next refl) in
+    let after : drop piece_length (drop (k * piece_length) bs) ≡ drop ((k + 1) * piece_length) bs = drop-drop piece_length (k * piece_length) bs
+    ∙ (rw next refl) in
     rw (one_piece bs k, first_pieces bs n (k + 1), ← after) (more_pieces n piece_length (drop (k * piece_length) bs))
 
 -- a place before the last has its piece in front of the others
@@ -35,7 +37,8 @@ next_piece total place before =
 pub pieces_make_the_whole : PiecesMakeTheWhole
 pieces_make_the_whole bs =
     let whole : piece_count (length bs) - 0 ≡ piece_count (length bs) = sub-zero (piece_count (length bs)) in
-    rw whole (first_pieces bs (piece_count (length bs)) 0 ∙ take_all (piece_count (length bs) * piece_length) bs (div_ceil_times (length bs) piece_length (omega arith)).0)
+    rw whole (first_pieces bs (piece_count (length bs)) 0
+    ∙ take_all (piece_count (length bs) * piece_length) bs (div_ceil_times (length bs) piece_length (omega arith)).0)
 
 -- it has a byte, and ends within the contents
 abbrev Fits : ℕ → Piece → Type 0
@@ -49,7 +52,8 @@ piece_fits total place before =
 pieces_fit_from : (total n place : ℕ) → place + n ≤ piece_count total → All (Fits total) (map (piece_at total) (range_with_len place n))
 pieces_fit_from total zero place within = All-nil (Fits total)
 pieces_fit_from total (suc n) place within =
-    All-cons (Fits total) (piece_at total place) (map (piece_at total) (range_with_len (place + 1) n)) (piece_fits total place (omega (arith, within))) (pieces_fit_from total n (place + 1) (omega (arith, within)))
+    All-cons (Fits total) (piece_at total place) (map (piece_at total) (range_with_len (place + 1) n)) (piece_fits total place (omega (arith, within)))
+    (pieces_fit_from total n (place + 1) (omega (arith, within)))
 
 pub pieces_fit : PiecesFit
 pieces_fit total = pieces_fit_from total (piece_count total - 0) 0 (omega arith)

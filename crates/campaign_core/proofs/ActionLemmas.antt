@@ -1,5 +1,13 @@
 -- What commands on actions come to, by the views of these actions, over sound records.
-use Rattle.campaign_core.proofs.Common.{◌≡◌, ℕ, Bool, true, false, cond, ◌&&◌, ◌||◌, List, [], ◌∷◌, ◌++◌, refl, sym, ◌∙◌, ap, subst, Option, Some, None, Ok, IfSome, is_none, is_some, map, nat_eq, not, option_map, option_or, unwrap_or, eq-eqb, cancel_standing_said, outcome_given, item_numbered, Bytes, Cancel, Command, action_after, change_rollout, counted, is_same_action, outcome_if_new, own_group, rollout_after, rollouts_after_outcome, act_on, step_action, Records, Reported, is_again, reported_by, ActionRecord, RolloutRecord, group_number_of, has_started, is_for, check, first_refusal, on_action, target_of, Outcome, Effects, Refusal, ClosedAction, NotFound, WrongState, OwnDecides, own_effects, own_view_of, OwnView, AreSound, BothOrNone, ChangesAction, Decides, IsActionView, IsCancelView, MakesCancel, action_for, action_with, cancel_refusal, change_by, change_numbered, ended_by, moved_by, only_if, outcome_forced, rollout_with, rollouts_with, ActionChange, ActionView, CancelView}
+use Rattle.campaign_core.proofs.Common.{◌≡◌, ℕ, Bool, true, false, cond, ◌&&◌, ◌||◌, List, [], ◌∷◌, ◌++◌, refl, sym, ◌∙◌, ap, subst, Option, Some, None, Ok}
+use Rattle.campaign_core.proofs.Common.{IfSome, is_none, is_some, map, nat_eq, not, option_map, option_or, unwrap_or, eq-eqb, cancel_standing_said}
+use Rattle.campaign_core.proofs.Common.{outcome_given, item_numbered, Bytes, Cancel, Command, action_after, change_rollout, counted, is_same_action}
+use Rattle.campaign_core.proofs.Common.{outcome_if_new, own_group, rollout_after, rollouts_after_outcome, act_on, step_action, Records, Reported, is_again}
+use Rattle.campaign_core.proofs.Common.{reported_by, ActionRecord, RolloutRecord, group_number_of, has_started, is_for, check, first_refusal, on_action}
+use Rattle.campaign_core.proofs.Common.{target_of, Outcome, Effects, Refusal, ClosedAction, NotFound, WrongState, OwnDecides, own_effects, own_view_of}
+use Rattle.campaign_core.proofs.Common.{OwnView, AreSound, BothOrNone, ChangesAction, Decides, IsActionView, IsCancelView, MakesCancel, action_for}
+use Rattle.campaign_core.proofs.Common.{action_with, cancel_refusal, change_by, change_numbered, ended_by, moved_by, only_if, outcome_forced, rollout_with}
+use Rattle.campaign_core.proofs.Common.{rollouts_with, ActionChange, ActionView, CancelView}
 use Rattle.rollout_machine.proofs.Actions.{append_none}
 use Rattle.rollout_machine.specs.Targets.{Target}
 use Rattle.campaign_core.specs.declared.rollout_checks.RolloutChange.TheVariants as change
@@ -26,24 +34,30 @@ abbrev set_to : ActionRecord → Option Outcome → Bool → List Reported → A
 set_to a o b es = record a { outcome = o; canceling = b; history = es }
 
 -- an open action after a command that gives it this, or nothing
-open_after : (c : Command) (a : ActionRecord) (v : ActionView) (gives : Option Outcome) (canceling : Bool) → a.outcome ≡ None → outcome_given c a.canceling ≡ gives → unwrap_or (cancel_standing_said c) a.canceling ≡ canceling
+open_after : (c : Command) (a : ActionRecord) (v : ActionView) (gives : Option Outcome) (canceling : Bool) → a.outcome ≡ None → outcome_given c a.canceling
+    ≡ gives → unwrap_or (cancel_standing_said c) a.canceling ≡ canceling
     → action_after c a ≡ record (action_with (change_by v gives canceling) a) { history = a.history ++ reported_by c }
 open_after c a v gives canceling was given said = stepped ∙ go gives
   where
     stepped : action_after c a ≡ set_to a gives (is_none gives && canceling) (a.history ++ reported_by c)
     stepped =
-        ap (λ o. set_to a (option_or o (outcome_given c a.canceling)) (is_none (option_or o (outcome_given c a.canceling)) && unwrap_or (cancel_standing_said c) a.canceling) (a.history ++ cond (is_none o) (reported_by c) [])) was
+        ap (λ o. set_to a (option_or o (outcome_given c a.canceling))
+        (is_none (option_or o (outcome_given c a.canceling)) && unwrap_or (cancel_standing_said c) a.canceling)
+        (a.history ++ cond (is_none o) (reported_by c) [])) was
         ∙ ap (λ g. set_to a g (is_none g && unwrap_or (cancel_standing_said c) a.canceling) (a.history ++ reported_by c)) given
         ∙ ap (λ b. set_to a gives (is_none gives && b) (a.history ++ reported_by c)) said
 
-    go : (g : Option Outcome) → set_to a g (is_none g && canceling) (a.history ++ reported_by c) ≡ record (action_with (change_by v g canceling) a) { history = a.history ++ reported_by c }
+    go : (g : Option Outcome) → set_to a g (is_none g && canceling) (a.history ++ reported_by c)
+        ≡ record (action_with (change_by v g canceling) a) { history = a.history ++ reported_by c }
     go None = ap (λ o. set_to a o canceling (a.history ++ reported_by c)) (sym was)
     go (Some o) = refl
 
 -- one that has its outcome
 closed_after : (c : Command) (a : ActionRecord) (o : Outcome) → a.outcome ≡ Some o → a.canceling ≡ false → action_after c a ≡ a
 closed_after c a o had over =
-    ap (λ p. set_to a (option_or p (outcome_given c a.canceling)) (is_none (option_or p (outcome_given c a.canceling)) && unwrap_or (cancel_standing_said c) a.canceling) (a.history ++ cond (is_none p) (reported_by c) [])) had
+    ap (λ p. set_to a (option_or p (outcome_given c a.canceling))
+    (is_none (option_or p (outcome_given c a.canceling)) && unwrap_or (cancel_standing_said c) a.canceling)
+    (a.history ++ cond (is_none p) (reported_by c) [])) had
     ∙ ap (λ p. set_to a p false (a.history ++ [])) (sym had)
     ∙ ap (λ b. set_to a a.outcome b (a.history ++ [])) (sym over)
     ∙ ap (λ es. set_to a a.outcome a.canceling es) (append_none a.history)
@@ -59,20 +73,23 @@ record HasRollout (v : ActionView) (a : ActionRecord) (rs : Records) : Type 0 wh
 has_rollout : (v : ActionView) (a : ActionRecord) (rs : Records) → IsActionView v a rs → HasRollout v a rs
 has_rollout v a rs is = go (item_numbered rs.rollouts a.rollout) refl is.rollout
   where
-    go : (o : Option RolloutRecord) → item_numbered rs.rollouts a.rollout ≡ o → Some v.rollout ≡ option_map (λ x. own_view_of x (group_number_of x a)) o → HasRollout v a rs
+    go : (o : Option RolloutRecord) → item_numbered rs.rollouts a.rollout ≡ o → Some v.rollout ≡ option_map (λ x. own_view_of x (group_number_of x a)) o
+        → HasRollout v a rs
     go None d e = cc
     go (Some x) d e = record { rollout = x; there = d; is = cc }
 
 abbrev after_as : RolloutRecord → Outcome → Effects → ℕ → RolloutRecord
 after_as x o e i = moved_by e (record x { groups = map (counted o i) x.groups })
 
-rollout_ended : (v : ActionView) (o : Outcome) (x : RolloutRecord) (a : ActionRecord) → OwnDecides x a → v.rollout ≡ own_view_of x (group_number_of x a) → rollout_after o (group_number_of x a) x ≡ rollout_with (ended_by v o) x
+rollout_ended : (v : ActionView) (o : Outcome) (x : RolloutRecord) (a : ActionRecord) → OwnDecides x a → v.rollout ≡ own_view_of x (group_number_of x a)
+    → rollout_after o (group_number_of x a) x ≡ rollout_with (ended_by v o) x
 rollout_ended v o x a decides is =
     let i = group_number_of x a in
     ap (λ e. after_as x o e i) (decides o ∙ ap (λ (w : OwnView). own_effects w o) (sym is))
     ∙ ap (after_as x o (own_effects v.rollout o)) (sym (ap (λ (w : OwnView). w.own.number) is ∙ number_is x i))
 
-rollouts_ended : (rs : Records) → AreSound rs → (k : ℕ) (a : ActionRecord) (v : ActionView) → item_numbered rs.actions k ≡ Some a → IsActionView v a rs → (gives : Option Outcome) (canceling : Bool)
+rollouts_ended : (rs : Records) → AreSound rs → (k : ℕ) (a : ActionRecord) (v : ActionView) → item_numbered rs.actions k ≡ Some a → IsActionView v a rs
+    → (gives : Option Outcome) (canceling : Bool)
     → rollouts_after_outcome gives rs.rollouts a ≡ rollouts_with (change_by v gives canceling) rs.rollouts
 rollouts_ended rs sound k a v at is None canceling = refl
 rollouts_ended rs sound k a v at is (Some o) canceling =
@@ -80,27 +97,35 @@ rollouts_ended rs sound k a v at is (Some o) canceling =
     ap (λ q. change_rollout a.rollout (rollout_after o (own_group q a)) rs.rollouts) it.there
     ∙ rollouts_changed rs sound a.rollout (rollout_after o (group_number_of it.rollout a))
     ∙ changed_same (rollout_after o (group_number_of it.rollout a)) (rollout_with (ended_by v o)) a.rollout rs.rollouts
-    (λ y d. subst (λ z. rollout_after o (group_number_of it.rollout a) z ≡ rollout_with (ended_by v o) z) (same_item (item_numbered rs.rollouts a.rollout) it.rollout y it.there d) (rollout_ended v o it.rollout a (sound.own k a it.rollout at it.there) it.is))
+    (λ y d. subst (λ z. rollout_after o (group_number_of it.rollout a) z ≡ rollout_with (ended_by v o) z)
+    (same_item (item_numbered rs.rollouts a.rollout) it.rollout y it.there d) (rollout_ended v o it.rollout a (sound.own k a it.rollout at it.there) it.is))
     ∙ ap (λ r. change_numbered r (rollout_with (ended_by v o)) rs.rollouts) (sym is.number)
 
 -- ---- the step
 
-both : (rs : Records) (xs ys : List RolloutRecord) (as' bs : List ActionRecord) → xs ≡ ys → as' ≡ bs → record rs { rollouts = xs; actions = as' } ≡ record rs { rollouts = ys; actions = bs }
+both : (rs : Records) (xs ys : List RolloutRecord) (as' bs : List ActionRecord) → xs ≡ ys → as' ≡ bs → record rs { rollouts = xs; actions = as' }
+    ≡ record rs { rollouts = ys; actions = bs }
 both rs xs ys as' bs e d = rw (e, d) refl
 
 -- what the action hears for the first time is acted on
-heard : (rs : Records) (c : Command) (k : ℕ) (a : ActionRecord) → item_numbered rs.actions k ≡ Some a → is_again a.history c ≡ false → step_action rs c (item_numbered rs.actions k) ≡ act_on rs c a
+heard : (rs : Records) (c : Command) (k : ℕ) (a : ActionRecord) → item_numbered rs.actions k ≡ Some a → is_again a.history c ≡ false
+    → step_action rs c (item_numbered rs.actions k) ≡ act_on rs c a
 heard rs c k a at new = ap (step_action rs c) at ∙ ap (λ b. cond b rs (act_on rs c a)) new
 
 -- an open action gets what the command gives it, and its rollout what follows
-pub acts : (rs : Records) → AreSound rs → (c : Command) (k : ℕ) (a : ActionRecord) (v : ActionView) (gives : Option Outcome) (canceling : Bool) → item_numbered rs.actions k ≡ Some a → is_again a.history c ≡ false → v.outcome ≡ None → IsActionView v a rs
-    → outcome_given c a.canceling ≡ gives → unwrap_or (cancel_standing_said c) a.canceling ≡ canceling → ChangesAction (change_by v gives canceling) (reported_by c) k rs (step_action rs c (item_numbered rs.actions k))
+pub acts : (rs : Records) → AreSound rs → (c : Command) (k : ℕ) (a : ActionRecord) (v : ActionView) (gives : Option Outcome) (canceling : Bool)
+    → item_numbered rs.actions k ≡ Some a → is_again a.history c ≡ false → v.outcome ≡ None → IsActionView v a rs
+    → outcome_given c a.canceling ≡ gives → unwrap_or (cancel_standing_said c) a.canceling ≡ canceling
+    → ChangesAction (change_by v gives canceling) (reported_by c) k rs (step_action rs c (item_numbered rs.actions k))
 acts rs sound c k a v gives canceling at new was is given said =
     heard rs c k a at new
     ∙ both rs _ _ _ _
-    (ap (λ p. rollouts_after_outcome (outcome_if_new p (outcome_given c a.canceling)) rs.rollouts a) is_open ∙ ap (λ g. rollouts_after_outcome g rs.rollouts a) given ∙ rollouts_ended rs sound k a v at is gives canceling)
+    (ap (λ p. rollouts_after_outcome (outcome_if_new p (outcome_given c a.canceling)) rs.rollouts a) is_open
+    ∙ ap (λ g. rollouts_after_outcome g rs.rollouts a) given ∙ rollouts_ended rs sound k a v at is gives canceling)
     (actions_changed rs sound k a (action_after c) at
-    ∙ changed_same (action_after c) after k rs.actions (λ b d. subst (λ z. action_after c z ≡ after z) (same_item (item_numbered rs.actions k) a b at d) (open_after c a v gives canceling is_open given said)))
+    ∙ changed_same (action_after c) after k rs.actions
+    (λ b d. subst (λ z. action_after c z ≡ after z) (same_item (item_numbered rs.actions k) a b at d)
+    (open_after c a v gives canceling is_open given said)))
   where
     is_open : a.outcome ≡ None
     is_open = sym is.outcome ∙ was
@@ -109,7 +134,8 @@ acts rs sound c k a v gives canceling at new was is given said =
     after b = record (action_with (change_by v gives canceling) b) { history = b.history ++ reported_by c }
 
 -- one that has its outcome stays as it is, whether it has heard this or not
-pub stays : (rs : Records) → AreSound rs → (c : Command) (k : ℕ) (a : ActionRecord) (o : Outcome) → item_numbered rs.actions k ≡ Some a → a.outcome ≡ Some o → step_action rs c (item_numbered rs.actions k) ≡ rs
+pub stays : (rs : Records) → AreSound rs → (c : Command) (k : ℕ) (a : ActionRecord) (o : Outcome) → item_numbered rs.actions k ≡ Some a → a.outcome ≡ Some o
+    → step_action rs c (item_numbered rs.actions k) ≡ rs
 stays rs sound c k a o at had = ap (step_action rs c) at ∙ go (is_again a.history c)
   where
     go : (b : Bool) → cond b rs (act_on rs c a) ≡ rs
@@ -118,32 +144,39 @@ stays rs sound c k a o at had = ap (step_action rs c) at ∙ go (is_again a.hist
         both rs _ _ _ _
         (ap (λ p. rollouts_after_outcome (outcome_if_new p (outcome_given c a.canceling)) rs.rollouts a) had)
         (actions_changed rs sound k a (action_after c) at
-        ∙ unchanged (action_after c) k rs.actions (λ b d. subst (λ z. action_after c z ≡ z) (same_item (item_numbered rs.actions k) a b at d) (closed_after c a o had (sound.over k a o at had))))
+        ∙ unchanged (action_after c) k rs.actions
+        (λ b d. subst (λ z. action_after c z ≡ z) (same_item (item_numbered rs.actions k) a b at d) (closed_after c a o had (sound.over k a o at had))))
 
 -- ---- cancels
 
 abbrev cancel_tests : Records → Bytes → Bool → Option Target → Option ActionRecord → Option Refusal
 cancel_tests rs t force target o =
-    first_refusal ((is_none target || not (on_action (is_for rs t) o), NotFound) ∷ (on_action (λ a. is_some a.outcome) o, ClosedAction) ∷ (on_action (λ a. not (has_started rs a) || (a.canceling && not force)) o, WrongState) ∷ [])
+    first_refusal ((is_none target || not (on_action (is_for rs t) o), NotFound) ∷ (on_action (λ a. is_some a.outcome) o, ClosedAction)
+    ∷ (on_action (λ a. not (has_started rs a) || (a.canceling && not force)) o, WrongState) ∷ [])
 
 cancel_by : (rs : Records) (t : Bytes) (force : Bool) (a : ActionRecord) (w : CancelView) → IsCancelView w a rs
-    → first_refusal ((is_some a.outcome, ClosedAction) ∷ (not (has_started rs a) || (a.canceling && not force), WrongState) ∷ []) ≡ cancel_refusal (Some w) force
+    → first_refusal ((is_some a.outcome, ClosedAction) ∷ (not (has_started rs a) || (a.canceling && not force), WrongState) ∷ [])
+    ≡ cancel_refusal (Some w) force
 cancel_by rs t force a w is =
     ap (λ p. first_refusal ((is_some p, ClosedAction) ∷ (not (has_started rs a) || (a.canceling && not force), WrongState) ∷ [])) (sym is.action.outcome)
     ∙ ap (λ b. first_refusal ((is_some w.action.outcome, ClosedAction) ∷ (not b || (a.canceling && not force), WrongState) ∷ [])) (sym is.started)
     ∙ ap (λ b. first_refusal ((is_some w.action.outcome, ClosedAction) ∷ (not w.started || (b && not force), WrongState) ∷ [])) (sym is.action.canceling)
 
-pub cancel_row : (rs : Records) (t : Bytes) (k : ℕ) (force : Bool) (v : Option CancelView) → BothOrNone (λ w a. IsCancelView w a rs) v (action_for rs t k) → check rs (Cancel t k force) ≡ cancel_refusal v force
+pub cancel_row : (rs : Records) (t : Bytes) (k : ℕ) (force : Bool) (v : Option CancelView) → BothOrNone (λ w a. IsCancelView w a rs) v (action_for rs t k)
+    → check rs (Cancel t k force) ≡ cancel_refusal v force
 cancel_row rs t k force v is = go (target_of rs t) (item_numbered rs.actions k) v is
   where
     this : (a : ActionRecord) (b : Bool) (v : Option CancelView) → BothOrNone (λ w a. IsCancelView w a rs) v (only_if b (Some a))
-        → first_refusal ((not b, NotFound) ∷ (is_some a.outcome, ClosedAction) ∷ (not (has_started rs a) || (a.canceling && not force), WrongState) ∷ []) ≡ cancel_refusal v force
+        → first_refusal ((not b, NotFound) ∷ (is_some a.outcome, ClosedAction) ∷ (not (has_started rs a) || (a.canceling && not force), WrongState) ∷ [])
+        ≡ cancel_refusal v force
     this a false None is = refl
     this a false (Some w) is = absurd is
     this a true None is = absurd is
     this a true (Some w) is = cancel_by rs t force a w is
 
-    go : (target : Option Target) (o : Option ActionRecord) (v : Option CancelView) → BothOrNone (λ w a. IsCancelView w a rs) v (only_if (is_some target && on_action (is_for rs t) o) o) → cancel_tests rs t force target o ≡ cancel_refusal v force
+    go : (target : Option Target) (o : Option ActionRecord) (v : Option CancelView)
+        → BothOrNone (λ w a. IsCancelView w a rs) v (only_if (is_some target && on_action (is_for rs t) o) o) → cancel_tests rs t force target o
+        ≡ cancel_refusal v force
     go None o None is = refl
     go None o (Some w) is = absurd is
     go (Some x) None None is = refl
@@ -154,17 +187,21 @@ open_if : (o : Option Outcome) (rest : Option Refusal) → cond (is_some o) (Som
 open_if None rest e = refl
 open_if (Some o) rest e = cc
 
-pub cancel_makes : (v : Option CancelView) (force : Bool) (c : ActionChange) → cancel_refusal v force ≡ None → IfSome v (λ w. c ≡ change_by w.action (outcome_forced w.action.canceling force) true) → MakesCancel v force c
+pub cancel_makes : (v : Option CancelView) (force : Bool) (c : ActionChange) → cancel_refusal v force ≡ None
+    → IfSome v (λ w. c ≡ change_by w.action (outcome_forced w.action.canceling force) true) → MakesCancel v force c
 cancel_makes None force c e by = cc
 cancel_makes (Some w) force c e by = (w, refl, e, by)
 
-pub cancels : (v : Option CancelView) (t : Bytes) (k : ℕ) (force : Bool) (c : ActionChange) → cancel_refusal v force ≡ None → IfSome v (λ w. c ≡ change_by w.action (outcome_forced w.action.canceling force) true)
+pub cancels : (v : Option CancelView) (t : Bytes) (k : ℕ) (force : Bool) (c : ActionChange) → cancel_refusal v force ≡ None
+    → IfSome v (λ w. c ≡ change_by w.action (outcome_forced w.action.canceling force) true)
     → Decides (seen.Cancel v) (Cancel t k force) (Ok (change.Cancel c))
 cancels None t k force c e by rs sound is = cc
 cancels (Some w) t k force c e by rs sound is =
     let it : IsFound (λ w a. IsCancelView w a rs) w (action_for rs t k) = found (λ w a. IsCancelView w a rs) (Some w) w (action_for rs t k) refl is in
-    let at : item_numbered rs.actions k ≡ Some it.item = only_found (is_some (target_of rs t) && on_action (is_for rs t) (item_numbered rs.actions k)) (item_numbered rs.actions k) it.item it.there in (
+    let at : item_numbered rs.actions k ≡ Some it.item = only_found (is_some (target_of rs t) && on_action (is_for rs t) (item_numbered rs.actions k))
+    (item_numbered rs.actions k) it.item it.there in (
       cancel_row rs t k force (Some w) is ∙ e,
       subst (λ d. ChangesAction d [] k rs (step_action rs (Cancel t k force) (item_numbered rs.actions k))) (sym by)
-          (acts rs sound (Cancel t k force) k it.item w.action (outcome_forced w.action.canceling force) true at refl (open_if w.action.outcome _ e) it.is.action (ap (λ b. outcome_forced b force) (sym it.is.action.canceling)) refl),
+          (acts rs sound (Cancel t k force) k it.item w.action (outcome_forced w.action.canceling force) true at refl (open_if w.action.outcome _ e)
+          it.is.action (ap (λ b. outcome_forced b force) (sym it.is.action.canceling)) refl),
     )

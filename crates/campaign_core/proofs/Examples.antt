@@ -13,7 +13,16 @@ module_again : module_refusal (record { same = true; count = 1000 }) ≡ Some Ex
 module_again = refl
 
 abbrev seen : (missing locked same wrong : Bool) (module_count count : ℕ) → ArtifactView
-seen missing locked same wrong module_count count = record { misses_module = missing; locked = locked; same = same; module_count = module_count; count = count; wrong_digest = wrong; size = 0; digest = [] }
+seen missing locked same wrong module_count count = record {
+  misses_module = missing;
+  locked = locked;
+  same = same;
+  module_count = module_count;
+  count = count;
+  wrong_digest = wrong;
+  size = 0;
+  digest = [];
+}
 
 artifact_8_of_256 : artifact_refusal (seen false false false false 7 255) ≡ None
 artifact_8_of_256 = refl

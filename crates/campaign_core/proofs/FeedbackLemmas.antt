@@ -1,5 +1,13 @@
 -- What feedback comes to, by their views, over sound records.
-use Rattle.campaign_core.proofs.Common.{◌≡◌, ℕ, Bool, true, false, cond, ◌&&◌, List, [], ◌∷◌, refl, sym, ◌∙◌, ap, subst, Option, Some, None, is_none, is_some, nat_le, not, option_or, unwrap_or, cancel_standing_said, outcome_given, outcome_of_cancel, outcome_of_deployment, item_numbered, CancelFeedback, CancelWord, CanceledCancel, ClosedCancel, Command, Credential, DeploymentWord, Feedback, DeviceFeedback, NotedCancel, RejectedCancel, act_on, step_action, Records, OfCancel, OfDeployment, Reported, Said, is_again, reported, reported_by, says_again, says_old, standing_of, Standing, Again, Fresh, Old, ActionRecord, check, first_refusal, is_device_action, is_known, notes_of, on_action, same_outcome, says_note, Outcome, Refusal, ClosedAction, NotFound, OldNumber, Quota, Unauthorized, WrongState, AreSound, IsFeedbackView, IsDeviceAction, MayChangeAction, canceling_after, change_by, change_if_fresh, device_action, gives_other, is_fresh, is_old, only_if, report_refusal, says_fresh, ActionChange, DeviceAction}
+use Rattle.campaign_core.proofs.Common.{◌≡◌, ℕ, Bool, true, false, cond, ◌&&◌, List, [], ◌∷◌, refl, sym, ◌∙◌, ap, subst, Option, Some, None, is_none, is_some}
+use Rattle.campaign_core.proofs.Common.{nat_le, not, option_or, unwrap_or, cancel_standing_said, outcome_given, outcome_of_cancel, outcome_of_deployment}
+use Rattle.campaign_core.proofs.Common.{item_numbered, CancelFeedback, CancelWord, CanceledCancel, ClosedCancel, Command, Credential, DeploymentWord, Feedback}
+use Rattle.campaign_core.proofs.Common.{DeviceFeedback, NotedCancel, RejectedCancel, act_on, step_action, Records, OfCancel, OfDeployment, Reported, Said}
+use Rattle.campaign_core.proofs.Common.{is_again, reported, reported_by, says_again, says_old, standing_of, Standing, Again, Fresh, Old, ActionRecord, check}
+use Rattle.campaign_core.proofs.Common.{first_refusal, is_device_action, is_known, notes_of, on_action, same_outcome, says_note, Outcome, Refusal}
+use Rattle.campaign_core.proofs.Common.{ClosedAction, NotFound, OldNumber, Quota, Unauthorized, WrongState, AreSound, IsFeedbackView, IsDeviceAction}
+use Rattle.campaign_core.proofs.Common.{MayChangeAction, canceling_after, change_by, change_if_fresh, device_action, gives_other, is_fresh, is_old, only_if}
+use Rattle.campaign_core.proofs.Common.{report_refusal, says_fresh, ActionChange, DeviceAction}
 use Rattle.rollout_machine.specs.Verdicts as row
 use Rattle.rollout_model.specs.Limits.{note_limit}
 use Rattle.campaign_core.specs.declared.rollout_checks.of_devices.FeedbackView.{FeedbackView}
@@ -19,9 +27,11 @@ only_test : {X : Type 0} (b : Bool) (o : Option X) (x : X) → only_if b o ≡ S
 only_test true o x e = refl
 only_test false o x e = cc
 
-own_action : (v : FeedbackView) (w : DeviceAction) (device : Credential) (k : ℕ) (new : Reported) (rs : Records) → v.misses_device ≡ false → v.own_action ≡ Some w → IsFeedbackView v device k new rs → IsOfDevice w device k new rs
+own_action : (v : FeedbackView) (w : DeviceAction) (device : Credential) (k : ℕ) (new : Reported) (rs : Records) → v.misses_device ≡ false → v.own_action
+    ≡ Some w → IsFeedbackView v device k new rs → IsOfDevice w device k new rs
 own_action v w device k new rs misses e is =
-    let it : IsFound (λ w a. IsDeviceAction w a new rs) w (device_action rs device.id k) = found (λ w a. IsDeviceAction w a new rs) v.own_action w (device_action rs device.id k) e is.own_action in
+    let it : IsFound (λ w a. IsDeviceAction w a new rs) w (device_action rs device.id k) =
+    found (λ w a. IsDeviceAction w a new rs) v.own_action w (device_action rs device.id k) e is.own_action in
     record {
       action = it.item;
       numbered = only_found (is_device_action rs device.id (item_numbered rs.actions k)) (item_numbered rs.actions k) it.item it.there;
@@ -38,14 +48,17 @@ past_device b d rest e f = rw (e, f) refl
 -- a row that goes on so, where the action is open and the report isn't sent again
 abbrev machine_row : Option Outcome → Option Outcome → Standing → (Bool → List (Bool × Refusal)) → Option Refusal
 machine_row gives had s more =
-    first_refusal ((is_some had && not (same_outcome gives had), ClosedAction) ∷ (is_none had && says_old s, OldNumber) ∷ more (is_none had && not (says_again s)))
+    first_refusal ((is_some had && not (same_outcome gives had), ClosedAction) ∷ (is_none had && says_old s, OldNumber)
+    ∷ more (is_none had && not (says_again s)))
 
 abbrev view_row : Option Outcome → Option Outcome → Standing → (Bool → List (Bool × Refusal)) → Option Refusal
 view_row gives had s more =
-    option_or (first_refusal ((is_some had && not (same_outcome gives had), ClosedAction) ∷ (is_none had && says_old s, OldNumber) ∷ [])) (first_refusal (more (is_none had && says_fresh s)))
+    option_or (first_refusal ((is_some had && not (same_outcome gives had), ClosedAction) ∷ (is_none had && says_old s, OldNumber) ∷ []))
+    (first_refusal (more (is_none had && says_fresh s)))
 
 -- the view's standing is that of the record where it is asked
-same_row : (gives had : Option Outcome) (s t : Standing) (more : Bool → List (Bool × Refusal)) → (had ≡ None → t ≡ s) → machine_row gives had s more ≡ view_row gives had t more
+same_row : (gives had : Option Outcome) (s t : Standing) (more : Bool → List (Bool × Refusal)) → (had ≡ None → t ≡ s) → machine_row gives had s more
+    ≡ view_row gives had t more
 same_row gives None s t more is = of s ∙ ap (λ u. view_row gives None u more) (sym (is refl))
   where
     of : (s : Standing) → machine_row gives None s more ≡ view_row gives None s more
@@ -54,16 +67,19 @@ same_row gives None s t more is = of s ∙ ap (λ u. view_row gives None u more)
     of Old = refl
 same_row gives (Some o) s t more is = of (same_outcome gives (Some o))
   where
-    of : (b : Bool) → cond (not b) (Some ClosedAction) (first_refusal (more false)) ≡ option_or (cond (not b) (Some ClosedAction) None) (first_refusal (more false))
+    of : (b : Bool) → cond (not b) (Some ClosedAction) (first_refusal (more false))
+        ≡ option_or (cond (not b) (Some ClosedAction) None) (first_refusal (more false))
     of true = refl
     of false = refl
 
 -- What feedback on action k says of it, and the tests that its kind alone has: by the action's notes, whether it is canceling, and whether
 -- it is open and the report isn't sent again.
-pub record IsReport (c : Command) (device : Credential) (k : ℕ) (new : Reported) (gives : Option Outcome) (canceling : Bool → Bool) (tests : ℕ → Bool → Bool → List (Bool × Refusal)) : Type 0 where
+pub record IsReport (c : Command) (device : Credential) (k : ℕ) (new : Reported) (gives : Option Outcome) (canceling : Bool → Bool)
+    (tests : ℕ → Bool → Bool → List (Bool × Refusal)) : Type 0 where
   pub row : Option ActionRecord → Option Refusal
   pub check_is : (rs : Records) → check rs c
-      ≡ cond (not (is_known rs device)) (Some Unauthorized) (cond (not (is_device_action rs device.id (item_numbered rs.actions k))) (Some NotFound) (row (item_numbered rs.actions k)))
+      ≡ cond (not (is_known rs device)) (Some Unauthorized)
+      (cond (not (is_device_action rs device.id (item_numbered rs.actions k))) (Some NotFound) (row (item_numbered rs.actions k)))
   pub row_is : (a : ActionRecord) → row (Some a) ≡ machine_row gives a.outcome (standing_of a.history new) (tests (notes_of a) a.canceling)
   pub again : (reports : List Reported) → is_again reports c ≡ says_again (standing_of reports new)
   pub given : (b : Bool) → outcome_given c b ≡ gives
@@ -72,10 +88,12 @@ pub record IsReport (c : Command) (device : Credential) (k : ℕ) (new : Reporte
 abbrev note_test : Said → ℕ → Bool → Bool × Refusal
 note_test said notes asked = (asked && (says_note said && nat_le note_limit notes), Quota)
 
-pub on_deployment : (feedback : DeviceFeedback DeploymentWord) → IsReport (Feedback feedback) feedback.credential feedback.action (reported OfDeployment feedback) (outcome_of_deployment feedback.word)
+pub on_deployment : (feedback : DeviceFeedback DeploymentWord) → IsReport (Feedback feedback) feedback.credential feedback.action
+    (reported OfDeployment feedback) (outcome_of_deployment feedback.word)
     (λ b. b) (λ notes canceling asked. note_test (OfDeployment feedback.word) notes asked ∷ [])
 on_deployment feedback = let new : Reported = reported OfDeployment feedback in record {
-  row = λ o. first_refusal ((on_action (λ a. is_some a.outcome && not (same_outcome (outcome_of_deployment feedback.word) a.outcome)) o, ClosedAction) ∷ (on_action (row.is_old new) o, OldNumber)
+  row = λ o. first_refusal ((on_action (λ a. is_some a.outcome && not (same_outcome (outcome_of_deployment feedback.word) a.outcome)) o, ClosedAction)
+      ∷ (on_action (row.is_old new) o, OldNumber)
       ∷ (on_action (λ a. row.is_new new a && row.is_beyond new a) o, Quota) ∷ []);
   check_is = λ rs. refl;
   row_is = λ a. refl;
@@ -84,10 +102,12 @@ on_deployment feedback = let new : Reported = reported OfDeployment feedback in 
   said = λ b. refl;
 }
 
-pub on_cancel : (feedback : DeviceFeedback CancelWord) → IsReport (CancelFeedback feedback) feedback.credential feedback.action (reported OfCancel feedback) (outcome_of_cancel feedback.word)
+pub on_cancel : (feedback : DeviceFeedback CancelWord) → IsReport (CancelFeedback feedback) feedback.credential feedback.action (reported OfCancel feedback)
+    (outcome_of_cancel feedback.word)
     (canceling_after feedback.word) (λ notes canceling asked. (asked && not canceling, WrongState) ∷ note_test (OfCancel feedback.word) notes asked ∷ [])
 on_cancel feedback = let new : Reported = reported OfCancel feedback in record {
-  row = λ o. first_refusal ((on_action (λ a. is_some a.outcome && not (same_outcome (outcome_of_cancel feedback.word) a.outcome)) o, ClosedAction) ∷ (on_action (row.is_old new) o, OldNumber)
+  row = λ o. first_refusal ((on_action (λ a. is_some a.outcome && not (same_outcome (outcome_of_cancel feedback.word) a.outcome)) o, ClosedAction)
+      ∷ (on_action (row.is_old new) o, OldNumber)
       ∷ (on_action (λ a. row.is_new new a && not a.canceling) o, WrongState) ∷ (on_action (λ a. row.is_new new a && row.is_beyond new a) o, Quota) ∷ []);
   check_is = λ rs. refl;
   row_is = λ a. refl;
@@ -111,8 +131,10 @@ not_old gives w more accepted = go (gives_other gives w.action) (is_old w) accep
     go false true e = cc
     go false false e = refl
 
-module _ {c : Command} {device : Credential} {k : ℕ} {new : Reported} {gives : Option Outcome} {canceling : Bool → Bool} {tests : ℕ → Bool → Bool → List (Bool × Refusal)}
-    (report : IsReport c device k new gives canceling tests) (v : FeedbackView) (w : DeviceAction) (misses : v.misses_device ≡ false) (there : v.own_action ≡ Some w)
+module _ {c : Command} {device : Credential} {k : ℕ} {new : Reported} {gives : Option Outcome} {canceling : Bool → Bool} {tests : ℕ → Bool → Bool
+    → List (Bool × Refusal)}
+    (report : IsReport c device k new gives canceling tests) (v : FeedbackView) (w : DeviceAction) (misses : v.misses_device ≡ false)
+    (there : v.own_action ≡ Some w)
     (rs : Records) (is : IsFeedbackView v device k new rs) where
   it : IsOfDevice w device k new rs
   it = own_action v w device k new rs misses there is
@@ -120,7 +142,8 @@ module _ {c : Command} {device : Credential} {k : ℕ} {new : Reported} {gives :
   pub report_row : check rs c ≡ option_or (report_refusal gives w) (first_refusal (tests w.notes w.action.canceling (is_fresh w)))
   report_row =
       report.check_is rs
-      ∙ past_device (not (is_known rs device)) (is_device_action rs device.id (item_numbered rs.actions k)) (report.row (item_numbered rs.actions k)) it.known it.own
+      ∙ past_device (not (is_known rs device)) (is_device_action rs device.id (item_numbered rs.actions k)) (report.row (item_numbered rs.actions k)) it.known
+      it.own
       ∙ ap report.row it.numbered
       ∙ report.row_is it.action
       ∙ same_row gives it.action.outcome (standing_of it.action.history new) w.standing (tests (notes_of it.action) it.action.canceling) it.is.standing
@@ -144,7 +167,8 @@ module _ {c : Command} {device : Credential} {k : ℕ} {new : Reported} {gives :
       go : (o : Option Outcome) (s : Standing) → w.action.outcome ≡ o → w.standing ≡ s → (is_none o && says_old s) ≡ false
           → Makes (cond (is_none o && says_fresh s) (Some (change_by w.action gives (canceling w.action.canceling))) None)
       go None Fresh e d f =
-          acts rs sound c k it.action w.action gives (canceling w.action.canceling) it.numbered (sent Fresh e d) e it.is.action (report.given it.action.canceling)
+          acts rs sound c k it.action w.action gives (canceling w.action.canceling) it.numbered (sent Fresh e d) e it.is.action
+          (report.given it.action.canceling)
           (report.said it.action.canceling ∙ ap canceling (sym it.is.action.canceling))
       go None Again e d f = ap (step_action rs c) it.numbered ∙ ap (λ b. cond b rs (act_on rs c it.action)) (sent Again e d)
       go None Old e d f = cc

@@ -1,12 +1,14 @@
 -- Where a test picks the item of a number, what it picks is what is changed.
-use Rattle.campaign_core.proofs.Common.{◌≡◌, ℕ, zero, suc, Bool, true, false, cond, List, [], ◌∷◌, refl, subst, ap, inl, inr, Option, Some, None, map, slice_get, cases_Bool, item_numbered, BothOrNone, change_numbered, only_if}
+use Rattle.campaign_core.proofs.Common.{◌≡◌, ℕ, zero, suc, Bool, true, false, cond, List, [], ◌∷◌, refl, subst, ap, inl, inr, Option, Some, None, map}
+use Rattle.campaign_core.proofs.Common.{slice_get, cases_Bool, item_numbered, BothOrNone, change_numbered, only_if}
 
 -- the test holds of item k alone
 pub record Picks {X : Type 0} (p : X → Bool) (k : ℕ) (xs : List X) : Type 0 where
   pub only : (j : ℕ) (x : X) → item_numbered xs j ≡ Some x → p x ≡ true → j ≡ k
   pub here : (x : X) → item_numbered xs k ≡ Some x → p x ≡ true
 
-none_picked : {X : Type 0} (p : X → Bool) (f : X → X) (xs : List X) → ((i : ℕ) (x : X) → slice_get xs i ≡ Some x → p x ≡ true → ⊥) → map (λ x. cond (p x) (f x) x) xs ≡ xs
+none_picked : {X : Type 0} (p : X → Bool) (f : X → X) (xs : List X) → ((i : ℕ) (x : X) → slice_get xs i ≡ Some x → p x ≡ true → ⊥)
+    → map (λ x. cond (p x) (f x) x) xs ≡ xs
 none_picked p f [] none = refl
 none_picked p f (x ∷ xs) none = elim (cases_Bool (p x)) [
   | inl t ↦ absurd (none 0 x refl t)
@@ -39,7 +41,8 @@ picked {X = X} p f (suc (suc n)) (x ∷ xs) w = elim (cases_Bool (p x)) [
         less e = cc
 
 -- what is done to an item matters there alone
-pub changed_same : {X : Type 0} (f g : X → X) (k : ℕ) (xs : List X) → ((x : X) → item_numbered xs k ≡ Some x → f x ≡ g x) → change_numbered k f xs ≡ change_numbered k g xs
+pub changed_same : {X : Type 0} (f g : X → X) (k : ℕ) (xs : List X) → ((x : X) → item_numbered xs k ≡ Some x → f x ≡ g x) → change_numbered k f xs
+    ≡ change_numbered k g xs
 changed_same f g k [] same = refl
 changed_same f g zero (x ∷ xs) same = refl
 changed_same f g (suc zero) (x ∷ xs) same = ap (λ y. y ∷ xs) (same x refl)

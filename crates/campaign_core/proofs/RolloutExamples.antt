@@ -1,5 +1,9 @@
 -- The rows of the verdicts on rollouts at their borders, by computing.
-use Rattle.campaign_core.proofs.Common.{◌≡◌, ℕ, Bool, true, false, [], ◌∷◌, Option, Some, None, refl, Failed, Noted, Proceeding, Rejected, RejectedCancel, CanceledCancel, NotedCancel, Resumed, PausedRollout, RunningRollout, is_at_pause, is_running, Outcome, Good, Bad, Gone, Standing, Again, Fresh, Old, GroupView, BadFilter, ClosedAction, Exists, NotFound, OldNumber, Quota, TooFewTargets, Unauthorized, WrongState, cancel_feedback_refusal, cancel_refusal, canceling_after, change_if_fresh, device_refusal, feedback_refusal, outcome_forced, plan_refusal, word_refusal, ActionView, CancelView, DeviceAction}
+use Rattle.campaign_core.proofs.Common.{◌≡◌, ℕ, Bool, true, false, [], ◌∷◌, Option, Some, None, refl, Failed, Noted, Proceeding, Rejected, RejectedCancel}
+use Rattle.campaign_core.proofs.Common.{CanceledCancel, NotedCancel, Resumed, PausedRollout, RunningRollout, is_at_pause, is_running, Outcome, Good, Bad, Gone}
+use Rattle.campaign_core.proofs.Common.{Standing, Again, Fresh, Old, GroupView, BadFilter, ClosedAction, Exists, NotFound, OldNumber, Quota, TooFewTargets}
+use Rattle.campaign_core.proofs.Common.{Unauthorized, WrongState, cancel_feedback_refusal, cancel_refusal, canceling_after, change_if_fresh, device_refusal}
+use Rattle.campaign_core.proofs.Common.{feedback_refusal, outcome_forced, plan_refusal, word_refusal, ActionView, CancelView, DeviceAction}
 use Rattle.rollout_model.specs.Groupings.{defined, evenly}
 use Rattle.campaign_core.specs.declared.rollout_checks.plans.PlanView.{PlanView}
 
@@ -18,7 +22,9 @@ rollout_of_two : plan_refusal (planned false false false 2 1000) (evenly 3) ≡ 
 rollout_of_two = refl
 
 -- half of two members, then a tenth, and then nobody is left
-rollout_of_an_empty_group : plan_refusal (planned false false false 2 1000) (defined (record { percentage = 50; success = 1; error = 1 } ∷ record { percentage = 10; success = 1; error = 1 } ∷ record { percentage = 100; success = 1; error = 1 } ∷ [])) ≡ Some TooFewTargets
+rollout_of_an_empty_group : plan_refusal (planned false false false 2 1000)
+    (defined (record { percentage = 50; success = 1; error = 1 } ∷ record { percentage = 10; success = 1; error = 1 }
+    ∷ record { percentage = 100; success = 1; error = 1 } ∷ [])) ≡ Some TooFewTargets
 rollout_of_an_empty_group = refl
 
 rollout_again : plan_refusal (planned false false true 2 1000) (evenly 3) ≡ Some Exists

@@ -1,5 +1,7 @@
 -- The records of accepted commands are sound, so a verdict over sound records is that at a command list.
-use Rattle.campaign_core.proofs.Common.{◌≡◌, ℕ, true, false, ◌&&◌, sym, ◌∙◌, ap, subst, Some, Result, Ok, Err, is_none, nat_eq, and_parts, eqb-true, records_step, ActionPlace, cancel_stands, CommandList, Command, is_same_action, Records, action_in, records, ActionRecord, IsValid, Outcome, Refusal, HasPlace, has_place, AreSound, Decides, Follows, LeadsTo}
+use Rattle.campaign_core.proofs.Common.{◌≡◌, ℕ, true, false, ◌&&◌, sym, ◌∙◌, ap, subst, Some, Result, Ok, Err, is_none, nat_eq, and_parts, eqb-true}
+use Rattle.campaign_core.proofs.Common.{records_step, ActionPlace, cancel_stands, CommandList, Command, is_same_action, Records, action_in, records}
+use Rattle.campaign_core.proofs.Common.{ActionRecord, IsValid, Outcome, Refusal, HasPlace, has_place, AreSound, Decides, Follows, LeadsTo}
 use Rattle.rollout_machine.proofs.Distinct.{one_number}
 use Rattle.campaign_core.proofs.OwnGroups.{own_group_decides}
 use Rattle.rollout_machine.proofs.GroupCounts.{groups_are_counted}
@@ -15,7 +17,8 @@ same_place p q t =
 
 places_apart : (h : CommandList) → IsValid h → (j k : ℕ) (a b : ActionRecord) → HasPlace h j a → HasPlace h k b → is_same_action a b ≡ true → j ≡ k
 places_apart h valid j k a b v w t =
-    let at : is_same_action (action_in h v.place) (action_in h w.place) ≡ true = sym (ap (λ c. is_same_action c (action_in h w.place)) v.is) ∙ sym (ap (λ c. is_same_action a c) w.is) ∙ t in
+    let at : is_same_action (action_in h v.place) (action_in h w.place) ≡ true = sym (ap (λ c. is_same_action c (action_in h w.place)) v.is)
+    ∙ sym (ap (λ c. is_same_action a c) w.is) ∙ t in
     let one : v.place ≡ w.place = same_place v.place w.place at in
     one_number h j k w.place valid (v.numbered ∙ ap (λ p. Some p) one) w.numbered
 

@@ -39,7 +39,8 @@ spelled-no_text low high bs unread = by (is_spelled is_word_letter low high bs) 
     by true is = absurd (unread (spelled_is_utf8 low high bs is))
     by false is = refl
 
-pub unauthorized_first : (m : WireMessage) (call : DeviceCall) → device_call (path_of m.target) ≡ Some call → bytes_eq m.method (method_of call) ≡ true → credential_of m ≡ None → device_reading m ≡ Rejected Unauthorized
+pub unauthorized_first : (m : WireMessage) (call : DeviceCall) → device_call (path_of m.target) ≡ Some call → bytes_eq m.method (method_of call) ≡ true
+    → credential_of m ≡ None → device_reading m ≡ Rejected Unauthorized
 unauthorized_first m call route method nobody = rw (route, method, nobody) refl
 
 pub reply_text-Refused : (refusal : Refusal) → reply_text (Refused refusal) ≡ refusal_text refusal

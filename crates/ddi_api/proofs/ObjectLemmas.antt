@@ -1,5 +1,6 @@
 -- The object of a deployment: its modules as the types of replies hold them, and no float.
-use Rattle.ddi_api.proofs.Common.{◌≡◌, ℕ, List, [], ◌∷◌, false, map, refl, ap, Chunk, Deployment, chunk, artifact_data, chunk_data, deployment_data, shown_chunk}
+use Rattle.ddi_api.proofs.Common.{◌≡◌, ℕ, List, [], ◌∷◌, false, map, refl, ap, Chunk, Deployment, chunk, artifact_data, chunk_data, deployment_data}
+use Rattle.ddi_api.proofs.Common.{shown_chunk}
 use Rattle.serde_json.specs.Written.{has_float}
 use Rattle.mgmt_objects.specs.Floats.{items_have_float-map}
 use Rattle.rollout_model.specs.declared.rollout.Chunk.{Chunk as RustChunk}

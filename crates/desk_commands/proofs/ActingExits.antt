@@ -1,5 +1,11 @@
 -- What a command on an action counts has room, and what it rests on is there.
-use Rattle.desk_commands.proofs.Common.{◌≡◌, ◌≤◌, ◌<◌, ◌^◌, ℕ, zero, suc, ◌+◌, Bool, true, false, cond, List, [], ◌∷◌, ◌++◌, length, Option, Some, None, option_map, Err, refl, sym, ap, ◌∙◌, subst, arith, is_some, length-map, length-set, ok_or, zip, item_numbered, CommandList, Bytes, Reported, entries_in, is_note, notes_of, IsValid, Records, records, Outcome, Good, Bad, Gone, ActionRecord, GroupRecord, RolloutRecord, numbered_map, ActionChange, Ends, Tally, tally_of, borne_at, numbers_from, numbers_of, Ledger, ledger_of, set_numbered, StoredAction, PlacedNumber, Acts, MayAct, TellsAction, FollowsSo, StartsGroupOf, outcomes_in, MayReoffer, CountsNumbers, entries_by, notes_by, SeenAction, Told, Has, limits_hold, Following, Ending, CanEnd, CanEndBy, CanFollow, CanTell, HasNext, Leads, TakesSteps, NumbersActions}
+use Rattle.desk_commands.proofs.Common.{◌≡◌, ◌≤◌, ◌<◌, ◌^◌, ℕ, zero, suc, ◌+◌, Bool, true, false, cond, List, [], ◌∷◌, ◌++◌, length, Option, Some, None}
+use Rattle.desk_commands.proofs.Common.{option_map, Err, refl, sym, ap, ◌∙◌, subst, arith, is_some, length-map, length-set, ok_or, zip, item_numbered}
+use Rattle.desk_commands.proofs.Common.{CommandList, Bytes, Reported, entries_in, is_note, notes_of, IsValid, Records, records, Outcome, Good, Bad, Gone}
+use Rattle.desk_commands.proofs.Common.{ActionRecord, GroupRecord, RolloutRecord, numbered_map, ActionChange, Ends, Tally, tally_of, borne_at, numbers_from}
+use Rattle.desk_commands.proofs.Common.{numbers_of, Ledger, ledger_of, set_numbered, StoredAction, PlacedNumber, Acts, MayAct, TellsAction, FollowsSo}
+use Rattle.desk_commands.proofs.Common.{StartsGroupOf, outcomes_in, MayReoffer, CountsNumbers, entries_by, notes_by, SeenAction, Told, Has, limits_hold}
+use Rattle.desk_commands.proofs.Common.{Following, Ending, CanEnd, CanEndBy, CanFollow, CanTell, HasNext, Leads, TakesSteps, NumbersActions}
 use Rattle.std.proofs.lemmas.List.Sums.{count_by-le-length, length-filter}
 use Rattle.sqlite_rules.proofs.ListLemmas.{has_got}
 use Rattle.desk_commands.proofs.ItemSteps.{zip_map}
@@ -19,13 +25,15 @@ few_numbers : (sequence : ℕ) (history : List Reported) → length (numbers_fro
 few_numbers sequence [] = omega arith
 few_numbers sequence (r ∷ history) = go r.number (few_numbers (sequence + 1) history)
   where
-    go : (number : Option ℕ) → length (numbers_from (sequence + 1) history) ≤ length history → length (borne_at sequence number ++ numbers_from (sequence + 1) history) ≤ suc (length history)
+    go : (number : Option ℕ) → length (numbers_from (sequence + 1) history) ≤ length history
+        → length (borne_at sequence number ++ numbers_from (sequence + 1) history) ≤ suc (length history)
     go None rest = omega (arith, rest)
     go (Some n) rest = omega (arith, rest)
 
 -- .. and no more are notes
 few_notes : (a : ActionRecord) → notes_of a ≤ length a.history
-few_notes a = let size : length (entries_in a.history) ≡ length a.history = length-map a.history (λ (r : Reported). r.entry) in omega (arith, size, length-filter is_note (entries_in a.history), count_by-le-length is_note (entries_in a.history))
+few_notes a = let size : length (entries_in a.history) ≡ length a.history = length-map a.history (λ (r : Reported). r.entry) in
+    omega (arith, size, length-filter is_note (entries_in a.history), count_by-le-length is_note (entries_in a.history))
 
 -- ---- what is told
 
@@ -36,13 +44,16 @@ record IsHeard (l : Ledger) (k : ℕ) (action : ActionRecord × Tally) : Type 0 
   is : action ≡ (a, tally_of a)
   numbers : (its : List PlacedNumber) → item_numbered l.numbers k ≡ Some its → its ≡ numbers_of a
 
-heard : (l : Ledger) → TakesSteps l → (k : ℕ) (action : ActionRecord × Tally) → item_numbered (zip l.records.actions l.tallies) k ≡ Some action → IsHeard l k action
-heard l takes k action there = subst (λ m. item_numbered (zip m.records.actions m.tallies) k ≡ Some action → IsHeard m k action) (sym takes.of_list.is) (at (records takes.of_list.list)) there
+heard : (l : Ledger) → TakesSteps l → (k : ℕ) (action : ActionRecord × Tally) → item_numbered (zip l.records.actions l.tallies) k ≡ Some action
+    → IsHeard l k action
+heard l takes k action there = subst (λ m. item_numbered (zip m.records.actions m.tallies) k ≡ Some action → IsHeard m k action) (sym takes.of_list.is)
+    (at (records takes.of_list.list)) there
   where
     at : (r : Records) → item_numbered (zip r.actions (ledger_of r).tallies) k ≡ Some action → IsHeard (ledger_of r) k action
     at r there = go (item_numbered r.actions k) refl (sym (zip_map tally_of k r.actions) ∙ there)
       where
-        go : (o : Option ActionRecord) → item_numbered r.actions k ≡ o → option_map (λ (a : ActionRecord). (a, tally_of a)) o ≡ Some action → IsHeard (ledger_of r) k action
+        go : (o : Option ActionRecord) → item_numbered r.actions k ≡ o → option_map (λ (a : ActionRecord). (a, tally_of a)) o ≡ Some action
+            → IsHeard (ledger_of r) k action
         go None at is = absurd cc
         go (Some a) at is = record {
           a = a;
@@ -62,10 +73,18 @@ module _ (seen : SeenAction) (after : ActionChange) (told : Option Told) (l : Le
   few = w.takes.counted.few its.a (has_numbered l.records.actions seen.number its.a its.at)
 
   pub can_tell : CanTell seen told
-  can_tell = record { notes = notes told; entries = entries told; numbers = record { numbers = λ it is. record { room = λ number bears. numbered it is number bears } } }
+  can_tell = record {
+    notes = notes told;
+    entries = entries told;
+    numbers =
+        record { numbers = λ it is. record { room = λ number bears. numbered it is number bears } };
+  }
     where
       tally : (seen.action.notes ≡ notes_of its.a) × (seen.action.entries ≡ length its.a.history)
-      tally = (ap (λ (s : StoredAction). s.notes) t.seen_as ∙ ap (λ (x : ActionRecord × Tally). x.1.notes) its.is, ap (λ (s : StoredAction). s.entries) t.seen_as ∙ ap (λ (x : ActionRecord × Tally). x.1.entries) its.is)
+      tally = (
+        ap (λ (s : StoredAction). s.notes) t.seen_as ∙ ap (λ (x : ActionRecord × Tally). x.1.notes) its.is,
+        ap (λ (s : StoredAction). s.entries) t.seen_as ∙ ap (λ (x : ActionRecord × Tally). x.1.entries) its.is,
+      )
 
       notes : (told : Option Told) → notes_by told seen.action.notes < 2 ^ 32
       notes None = omega (arith, few, few_notes its.a, tally.0)
@@ -93,10 +112,12 @@ module _ (seen : SeenAction) (after : ActionChange) (told : Option Told) (l : Le
   })
     where
       of : length l.tallies ≡ length l.records.actions
-      of = subst (λ (m : Ledger). length m.tallies ≡ length m.records.actions) (sym w.takes.of_list.is) (length-map (records w.takes.of_list.list).actions tally_of)
+      of = subst (λ (m : Ledger). length m.tallies ≡ length m.records.actions) (sym w.takes.of_list.is)
+          (length-map (records w.takes.of_list.list).actions tally_of)
 
       limit : length l.records.actions ≤ 10000000
-      limit = subst (λ (m : Ledger). length m.records.actions ≤ 10000000) (sym w.takes.of_list.is) (limits_hold w.takes.of_list.list w.takes.of_list.valid).actions
+      limit = subst (λ (m : Ledger). length m.records.actions ≤ 10000000) (sym w.takes.of_list.is)
+          (limits_hold w.takes.of_list.list w.takes.of_list.valid).actions
 
 -- ---- what follows
 
@@ -114,7 +135,8 @@ next_there seen l next = go seen.next refl
 follows_there : (seen : SeenAction) (so : Following) (l next : Ledger) → FollowsSo seen so l next → CanFollow seen so
 follows_there seen so l next f = record { next = λ starts. next_there seen l next (subst (λ so. FollowsSo seen so l next) starts f) }
 
-few_outcomes : (h : CommandList) → IsValid h → (r : ℕ) (x : RolloutRecord) (i : ℕ) (g : GroupRecord) → item_numbered (records h).rollouts r ≡ Some x → item_numbered x.groups i ≡ Some g → (o : Outcome) → outcomes_in o g ≤ 10000
+few_outcomes : (h : CommandList) → IsValid h → (r : ℕ) (x : RolloutRecord) (i : ℕ) (g : GroupRecord) → item_numbered (records h).rollouts r ≡ Some x
+    → item_numbered x.groups i ≡ Some g → (o : Outcome) → outcomes_in o g ≤ 10000
 few_outcomes h valid r x i g at its o =
     let limits = (limits_hold h valid).each r x at in
     let counts = limits.counts i g its in
@@ -132,8 +154,10 @@ can_end seen after told l w = record { ends = λ e is. go e (subst (λ a. Leads 
     go e w =
         let f = w.changes.follows in
         let of = w.takes.of_list in
-        let stay = rollouts_stay false seen.action.target w.changes.acted w.changes.offered w.changes.offers ∙ ap (λ (m : Ledger). m.records.rollouts) (w.changes.tells.next_is) ∙ ap (λ (m : Ledger). m.records.rollouts) of.is in
-        let at : item_numbered (records of.list).rollouts seen.action.rollout ≡ Some f.rollout = ap (λ xs. item_numbered xs seen.action.rollout) (sym stay) ∙ f.is_its in
+        let stay = rollouts_stay false seen.action.target w.changes.acted w.changes.offered w.changes.offers
+        ∙ ap (λ (m : Ledger). m.records.rollouts) (w.changes.tells.next_is) ∙ ap (λ (m : Ledger). m.records.rollouts) of.is in
+        let at : item_numbered (records of.list).rollouts seen.action.rollout ≡ Some f.rollout = ap (λ xs. item_numbered xs seen.action.rollout) (sym stay)
+        ∙ f.is_its in
         let few = few_outcomes of.list of.valid seen.action.rollout f.rollout seen.own.number seen.own at f.own e.outcome in
         record {
           counts = record { room = omega (arith, few) };
@@ -142,7 +166,8 @@ can_end seen after told l w = record { ends = λ e is. go e (subst (λ a. Leads 
 
 -- ---- the action
 
-pub never_unseen : (seen : Option SeenAction) (after : Option ActionChange) (told : Option Told) (l next : Ledger) (it : ActionChange) {E : Type 0} (e f : E) → after ≡ Some it → Err f ≡ ok_or seen e → MayAct seen after told l next → ⊥
+pub never_unseen : (seen : Option SeenAction) (after : Option ActionChange) (told : Option Told) (l next : Ledger) (it : ActionChange) {E : Type 0} (e f : E)
+    → after ≡ Some it → Err f ≡ ok_or seen e → MayAct seen after told l next → ⊥
 never_unseen None None told l next it e f is missing acts = cc
 never_unseen None (Some a) told l next it e f is missing acts = acts
 never_unseen (Some s) after told l next it e f is missing acts = cc

@@ -1,5 +1,9 @@
 -- An action of a list of accepted commands has its rollout and its group, of which something is said, and no group ends beyond 32 bits.
-use Rattle.desk_commands.proofs.Common.{◌≡◌, ◌≤◌, ℕ, Option, Some, None, length, option_map, refl, sym, ap, ◌∙◌, subst, arith, zip, item_numbered, CommandList, IsValid, GroupRule, rule_at, rollout_in, group_in, records, group_holding, number_of_group, ActionRecord, GroupRecord, RolloutRecord, tally_of, Ledger, ledger_of, stored_action, stored_rollout, group_and_next, GroupAndNext, StoredAction, has_place, of_group, of_rollout, recorded, invariant_of, limits_hold, last_of, size_of, groups_of, rule_numbered, StoredRollout, rule_there, rules_there, IsActionOf, EndsBeyond}
+use Rattle.desk_commands.proofs.Common.{◌≡◌, ◌≤◌, ℕ, Option, Some, None, length, option_map, refl, sym, ap, ◌∙◌, subst, arith, zip, item_numbered, CommandList}
+use Rattle.desk_commands.proofs.Common.{IsValid, GroupRule, rule_at, rollout_in, group_in, records, group_holding, number_of_group, ActionRecord, GroupRecord}
+use Rattle.desk_commands.proofs.Common.{RolloutRecord, tally_of, Ledger, ledger_of, stored_action, stored_rollout, group_and_next, GroupAndNext, StoredAction}
+use Rattle.desk_commands.proofs.Common.{has_place, of_group, of_rollout, recorded, invariant_of, limits_hold, last_of, size_of, groups_of, rule_numbered}
+use Rattle.desk_commands.proofs.Common.{StoredRollout, rule_there, rules_there, IsActionOf, EndsBeyond}
 use Rattle.rollout_machine.proofs.Cuts.{group_of, in_its_group}
 use Rattle.rollout_machine.proofs.Ties.{find_holding}
 use Rattle.desk_commands.proofs.GroupNumbers.{held_stands, numbered_groups, same_groups}
@@ -8,7 +12,8 @@ use Rattle.desk_commands.proofs.KnownActions.{both_read}
 
 -- ---- the groups
 
-module _ (h : CommandList) (valid : IsValid h) (r : ℕ) (y : RolloutRecord) (at : item_numbered (records h).rollouts r ≡ Some y) (i : ℕ) (g : GroupRecord) (its : item_numbered y.groups i ≡ Some g) where
+module _ (h : CommandList) (valid : IsValid h) (r : ℕ) (y : RolloutRecord) (at : item_numbered (records h).rollouts r ≡ Some y) (i : ℕ) (g : GroupRecord)
+    (its : item_numbered y.groups i ≡ Some g) where
   pub group_ends : g.bounds.last ≤ 10000
   group_ends =
       let of = of_rollout h r y at in
@@ -39,51 +44,65 @@ pub record HasGroup (l : Ledger) (action : StoredAction) : Type 0 where
   pub is_said : rule_numbered l.rules action.rollout own.number ≡ Some rule
 
 module _ (h : CommandList) (valid : IsValid h) (k : ℕ) where
-  of_record : (a : ActionRecord) → item_numbered (records h).actions k ≡ Some a → HasGroup (ledger_of (records h)) (stored_action (records h).rollouts (a, tally_of a))
+  of_record : (a : ActionRecord) → item_numbered (records h).actions k ≡ Some a
+      → HasGroup (ledger_of (records h)) (stored_action (records h).rollouts (a, tally_of a))
   of_record a numbered =
       let at = has_place h k a numbered in
       let placed = (invariant_of h valid).placed k at.place at.numbered in
       let y = rollout_in h at.place.rollout placed.rollout in
-      let its : item_numbered (records h).rollouts a.rollout ≡ Some y = ap (λ (b : ActionRecord). item_numbered (records h).rollouts b.rollout) at.is ∙ recorded h at.place.rollout placed.rollout placed.there in
+      let its : item_numbered (records h).rollouts a.rollout ≡ Some y = ap (λ (b : ActionRecord). item_numbered (records h).rollouts b.rollout) at.is
+      ∙ recorded h at.place.rollout placed.rollout placed.there in
       let own = group_in placed.rollout at.place.rollout h (group_of placed.rollout at.place.position) in
       let holds : group_holding a.position y.groups ≡ Some own =
       ap (λ (b : ActionRecord). group_holding b.position y.groups) at.is
-      ∙ find_holding placed.rollout at.place.rollout h (group_of placed.rollout at.place.position) at.place.position placed.sound (in_its_group placed.rollout at.place.position placed.sound placed.low placed.high) in
+      ∙ find_holding placed.rollout at.place.rollout h (group_of placed.rollout at.place.position) at.place.position placed.sound
+      (in_its_group placed.rollout at.place.position placed.sound placed.low placed.high) in
       let numbers = numbered_groups h a.rollout y its in
       let stands : item_numbered y.groups own.number ≡ Some own = held_stands y.groups numbers a.position own holds in
       record {
         rollout = y;
         its = its;
         own = own;
-        held = ap (λ gs. (group_and_next a.position gs).group) (same_groups y.groups numbers) ∙ ap (λ (b : GroupAndNext). b.group) (both_read h valid k a y numbered its) ∙ ap (λ o. item_numbered y.groups (number_of_group o)) holds ∙ stands;
+        held = ap (λ gs. (group_and_next a.position gs).group) (same_groups y.groups numbers)
+            ∙ ap (λ (b : GroupAndNext). b.group) (both_read h valid k a y numbered its) ∙ ap (λ o. item_numbered y.groups (number_of_group o)) holds ∙ stands;
         ends = group_ends h valid a.rollout y its own.number own stands;
         rule = rule_at y.plan own.number;
         is_said = group_ruled h valid a.rollout y its own.number own stands;
       }
 
-  of_stored : (action : StoredAction) → Some action ≡ option_map (stored_action (records h).rollouts) (item_numbered (zip (records h).actions (ledger_of (records h)).tallies) k) → HasGroup (ledger_of (records h)) action
-  of_stored action told = go (item_numbered (records h).actions k) refl (told ∙ ap (option_map (stored_action (records h).rollouts)) (zip_map tally_of k (records h).actions))
+  of_stored : (action : StoredAction) → Some action
+      ≡ option_map (stored_action (records h).rollouts) (item_numbered (zip (records h).actions (ledger_of (records h)).tallies) k)
+      → HasGroup (ledger_of (records h)) action
+  of_stored action told = go (item_numbered (records h).actions k) refl
+      (told ∙ ap (option_map (stored_action (records h).rollouts)) (zip_map tally_of k (records h).actions))
     where
-      go : (o : Option ActionRecord) → item_numbered (records h).actions k ≡ o → Some action ≡ option_map (stored_action (records h).rollouts) (option_map (λ (a : ActionRecord). (a, tally_of a)) o) → HasGroup (ledger_of (records h)) action
+      go : (o : Option ActionRecord) → item_numbered (records h).actions k ≡ o → Some action
+          ≡ option_map (stored_action (records h).rollouts) (option_map (λ (a : ActionRecord). (a, tally_of a)) o) → HasGroup (ledger_of (records h)) action
       go None at is = absurd cc
-      go (Some a) at is = let same : action ≡ stored_action (records h).rollouts (a, tally_of a) = cc in subst (λ s. HasGroup (ledger_of (records h)) s) (sym same) (of_record a at)
+      go (Some a) at is = let same : action ≡ stored_action (records h).rollouts (a, tally_of a) = cc in
+          subst (λ s. HasGroup (ledger_of (records h)) s) (sym same) (of_record a at)
 
 pub has_group : (k : ℕ) (action : StoredAction) (l : Ledger) → IsActionOf k action l → HasGroup l action
 has_group k action l w =
     let of = w.of_list in
     subst (λ m. HasGroup m action) (sym of.is)
-    (of_stored of.list of.valid k action (subst (λ (m : Ledger). Some action ≡ option_map (stored_action m.records.rollouts) (item_numbered (zip m.records.actions m.tallies) k)) of.is w.is_there))
+    (of_stored of.list of.valid k action
+    (subst (λ (m : Ledger). Some action ≡ option_map (stored_action m.records.rollouts) (item_numbered (zip m.records.actions m.tallies) k)) of.is
+    w.is_there))
 
 -- ---- what was read of it
 
 module _ (l : Ledger) (action : StoredAction) (w : HasGroup l action) where
-  pub rollout_is : (x : Option StoredRollout) → x ≡ option_map stored_rollout (item_numbered l.records.rollouts action.rollout) → x ≡ Some (stored_rollout w.rollout)
+  pub rollout_is : (x : Option StoredRollout) → x ≡ option_map stored_rollout (item_numbered l.records.rollouts action.rollout)
+      → x ≡ Some (stored_rollout w.rollout)
   rollout_is x is = is ∙ ap (option_map stored_rollout) w.its
 
-  pub own_is : (both : GroupAndNext) → both ≡ group_and_next action.position (groups_of (item_numbered l.records.rollouts action.rollout)) → both.group ≡ Some w.own
+  pub own_is : (both : GroupAndNext) → both ≡ group_and_next action.position (groups_of (item_numbered l.records.rollouts action.rollout)) → both.group
+      ≡ Some w.own
   own_is both is = ap (λ (b : GroupAndNext). b.group) is ∙ ap (λ o. (group_and_next action.position (groups_of o)).group) w.its ∙ w.held
 
-  module _ (both : GroupAndNext) (is : both ≡ group_and_next action.position (groups_of (item_numbered l.records.rollouts action.rollout))) (own : GroupRecord) (found : both.group ≡ Some own) where
+  module _ (both : GroupAndNext) (is : both ≡ group_and_next action.position (groups_of (item_numbered l.records.rollouts action.rollout))) (own : GroupRecord)
+      (found : both.group ≡ Some own) where
     same_own : w.own ≡ own
     same_own = let one : Some w.own ≡ Some own = sym (own_is both is) ∙ found in cc
 
@@ -91,4 +110,5 @@ module _ (l : Ledger) (action : StoredAction) (w : HasGroup l action) where
     rule_is_there = ap (λ (x : GroupRecord). rule_numbered l.rules action.rollout x.number) (sym same_own) ∙ w.is_said
 
     pub never_beyond : EndsBeyond (Some own) → ⊥
-    never_beyond beyond = let last : w.own.bounds.last ≡ own.bounds.last = ap (λ (x : GroupRecord). x.bounds.last) same_own in omega (arith, last, beyond, w.ends)
+    never_beyond beyond = let last : w.own.bounds.last ≡ own.bounds.last = ap (λ (x : GroupRecord). x.bounds.last) same_own in
+        omega (arith, last, beyond, w.ends)

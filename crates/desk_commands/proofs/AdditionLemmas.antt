@@ -1,5 +1,9 @@
 -- What the reads of an addition say, and what its writes come to.
-use Rattle.desk_commands.proofs.Common.{◌≡◌, ◌≤◌, ◌<◌, ℕ, zero, suc, ◌+◌, nat_le, nat_lt, Bool, true, false, ◌||◌, List, [], ◌∷◌, ◌++◌, length, Some, None, refl, sym, ap, ◌∙◌, arith, append_assoc, append-nil, get_or, drop, take, ◌-◌, subst, nat_tests, length-append, take_all, list_any, list_all, is_none, command_reply, item_numbered, ModuleLabel, SetLabel, AddModule, AddSet, Records, step_records, check, is_named_by_set, reply_of, Exists, NotFound, Quota, is_between, is_module_list, is_number, AddsModules, AddsWhole, LacksModule, and_modules}
+use Rattle.desk_commands.proofs.Common.{◌≡◌, ◌≤◌, ◌<◌, ℕ, zero, suc, ◌+◌, nat_le, nat_lt, Bool, true, false, ◌||◌, List, [], ◌∷◌, ◌++◌, length, Some, None}
+use Rattle.desk_commands.proofs.Common.{refl, sym, ap, ◌∙◌, arith, append_assoc, append-nil, get_or, drop, take, ◌-◌, subst, nat_tests, length-append}
+use Rattle.desk_commands.proofs.Common.{take_all, list_any, list_all, is_none, command_reply, item_numbered, ModuleLabel, SetLabel, AddModule, AddSet, Records}
+use Rattle.desk_commands.proofs.Common.{step_records, check, is_named_by_set, reply_of, Exists, NotFound, Quota, is_between, is_module_list, is_number}
+use Rattle.desk_commands.proofs.Common.{AddsModules, AddsWhole, LacksModule, and_modules}
 use Rattle.desk_records.specs.Modules.{is_same, with_module}
 use Rattle.desk_records.specs.Sets.{is_same_set, with_set, set_named, and_module, AddsSetModule}
 use Rattle.rollout_model.specs.declared.request.Reply.TheVariants as reply
@@ -9,19 +13,23 @@ use Rattle.rollout_model.specs.declared.request.Reply.TheVariants as reply
 pub module_exists : (r : Records) (label : ModuleLabel) → true ≡ list_any (is_same label) r.modules → check r (AddModule label) ≡ Some Exists
 module_exists r label is = rw (sym is) refl
 
-pub modules_full : (r : Records) (label : ModuleLabel) (last : ℕ) → false ≡ list_any (is_same label) r.modules → last ≡ length r.modules → 1000 ≤ last → check r (AddModule label) ≡ Some Quota
+pub modules_full : (r : Records) (label : ModuleLabel) (last : ℕ) → false ≡ list_any (is_same label) r.modules → last ≡ length r.modules → 1000 ≤ last
+    → check r (AddModule label) ≡ Some Quota
 modules_full r label last other size many =
     let at : nat_le 1000 (length r.modules) ≡ true = grind (arith, nat_tests) in
     rw (sym other, at) refl
 
-pub module_accepted : (r : Records) (label : ModuleLabel) (last : ℕ) → false ≡ list_any (is_same label) r.modules → last ≡ length r.modules → last < 1000 → check r (AddModule label) ≡ None
+pub module_accepted : (r : Records) (label : ModuleLabel) (last : ℕ) → false ≡ list_any (is_same label) r.modules → last ≡ length r.modules → last < 1000
+    → check r (AddModule label) ≡ None
 module_accepted r label last other size few =
     let at : nat_le 1000 (length r.modules) ≡ false = grind (arith, nat_tests) in
     rw (sym other, at) refl
 
 -- the module that a command adds is shown with the next number
-pub module_added : (r : Records) (label shown : ModuleLabel) (number : ℕ) (locked : Bool) → number ≡ length r.modules + 1 → locked ≡ is_named_by_set r.sets number → shown ≡ label
-    → reply_of (reply.ModuleAdded (record { number = number; locked = locked; label = shown })) ≡ command_reply (AddModule label) (step_records r (AddModule label))
+pub module_added : (r : Records) (label shown : ModuleLabel) (number : ℕ) (locked : Bool) → number ≡ length r.modules + 1 → locked
+    ≡ is_named_by_set r.sets number → shown ≡ label
+    → reply_of (reply.ModuleAdded (record { number = number; locked = locked; label = shown }))
+    ≡ command_reply (AddModule label) (step_records r (AddModule label))
 module_added r label shown number locked next named same =
     let count : number ≡ length (r.modules ++ label ∷ []) = next ∙ sym (length-append r.modules (label ∷ [])) in
     let lock : locked ≡ is_named_by_set r.sets (length (r.modules ++ label ∷ [])) = named ∙ ap (is_named_by_set r.sets) count in
@@ -49,7 +57,8 @@ both_true false b h = absurd (Rattle.std.proofs.lemmas.Bool.false≢true h)
 least_number : (m : ℕ) → is_number m ≡ true → 1 ≤ m
 least_number m good = grind (arith, nat_tests)
 
-pub past_are_missing : (ms : List ModuleLabel) (numbers : List ℕ) → list_all is_number numbers ≡ true → list_any (λ m. nat_lt (length ms) m) numbers ≡ list_any (λ m. is_none (item_numbered ms m)) numbers
+pub past_are_missing : (ms : List ModuleLabel) (numbers : List ℕ) → list_all is_number numbers ≡ true → list_any (λ m. nat_lt (length ms) m) numbers
+    ≡ list_any (λ m. is_none (item_numbered ms m)) numbers
 past_are_missing ms [] good = refl
 past_are_missing ms (m ∷ numbers) good =
     let parts = both_true (is_number m) (list_all is_number numbers) good in
@@ -58,20 +67,24 @@ past_are_missing ms (m ∷ numbers) good =
 pub set_lacks : (r : Records) (label : SetLabel) → LacksModule label.modules r true → check r (AddSet label) ≡ Some NotFound
 set_lacks r label is = rw (sym is) refl
 
-pub set_exists : (r : Records) (label : SetLabel) → LacksModule label.modules r false → true ≡ list_any (is_same_set label.name label.version) r.sets → check r (AddSet label) ≡ Some Exists
+pub set_exists : (r : Records) (label : SetLabel) → LacksModule label.modules r false → true ≡ list_any (is_same_set label.name label.version) r.sets
+    → check r (AddSet label) ≡ Some Exists
 set_exists r label whole is = rw (sym whole, sym is) refl
 
-pub sets_full : (r : Records) (label : SetLabel) (last : ℕ) → LacksModule label.modules r false → false ≡ list_any (is_same_set label.name label.version) r.sets → last ≡ length r.sets → 1000 ≤ last → check r (AddSet label) ≡ Some Quota
+pub sets_full : (r : Records) (label : SetLabel) (last : ℕ) → LacksModule label.modules r false → false ≡ list_any (is_same_set label.name label.version) r.sets
+    → last ≡ length r.sets → 1000 ≤ last → check r (AddSet label) ≡ Some Quota
 sets_full r label last whole other size many =
     let at : nat_le 1000 (length r.sets) ≡ true = grind (arith, nat_tests) in
     rw (sym whole, sym other, at) refl
 
-pub set_accepted : (r : Records) (label : SetLabel) (last : ℕ) → LacksModule label.modules r false → false ≡ list_any (is_same_set label.name label.version) r.sets → last ≡ length r.sets → last < 1000 → check r (AddSet label) ≡ None
+pub set_accepted : (r : Records) (label : SetLabel) (last : ℕ) → LacksModule label.modules r false
+    → false ≡ list_any (is_same_set label.name label.version) r.sets → last ≡ length r.sets → last < 1000 → check r (AddSet label) ≡ None
 set_accepted r label last whole other size few =
     let at : nat_le 1000 (length r.sets) ≡ false = grind (arith, nat_tests) in
     rw (sym whole, sym other, at) refl
 
-pub set_added : (r : Records) (label shown : SetLabel) (number : ℕ) → number ≡ length r.sets + 1 → shown ≡ label → reply_of (reply.SetAdded (record { number = number; label = shown })) ≡ command_reply (AddSet label) (step_records r (AddSet label))
+pub set_added : (r : Records) (label shown : SetLabel) (number : ℕ) → number ≡ length r.sets + 1 → shown ≡ label
+    → reply_of (reply.SetAdded (record { number = number; label = shown })) ≡ command_reply (AddSet label) (step_records r (AddSet label))
 set_added r label shown number next same =
     let count : number ≡ length (r.sets ++ label ∷ []) = next ∙ sym (length-append r.sets (label ∷ [])) in
     λ i. reply_of (reply.SetAdded (record { number = count i; label = same i }))
@@ -84,7 +97,8 @@ with_sets r sets = record r { sets = sets }
 pub adds_none : (number before : ℕ) (r next : Records) → AddsModules number before [] r next → next ≡ r
 unfolding with_sets
 adds_none number before r next h =
-    let same : h.others ++ and_modules h.set [] ∷ [] ≡ r.sets = ap (λ (ms : List ℕ). h.others ++ (record h.set { modules = ms }) ∷ []) (append-nil h.set.modules) ∙ sym h.last in
+    let same : h.others ++ and_modules h.set [] ∷ [] ≡ r.sets = ap (λ (ms : List ℕ). h.others ++ (record h.set { modules = ms }) ∷ [])
+    (append-nil h.set.modules) ∙ sym h.last in
     h.next_is ∙ ap (with_sets r) same
 
 pub adds_first : (number before m : ℕ) (ms : List ℕ) (r next : Records) → AddsModules number before (m ∷ ms) r next
@@ -100,7 +114,8 @@ adds_first number before m ms r next h =
         last = refl;
         number_is = h.number_is;
         before_is = ap (λ n. n + 1) h.before_is ∙ sym (length-append h.set.modules (m ∷ []));
-        next_is = h.next_is ∙ ap (λ (ns : List ℕ). with_sets r (h.others ++ (record h.set { modules = ns }) ∷ [])) (sym (append_assoc h.set.modules (m ∷ []) ms));
+        next_is = h.next_is ∙ ap (λ (ns : List ℕ). with_sets r (h.others ++ (record h.set { modules = ns }) ∷ []))
+            (sym (append_assoc h.set.modules (m ∷ []) ms));
       },
     )
 
@@ -124,10 +139,12 @@ adds_whole number label r next h = (
 pub whole_is_step : (number : ℕ) (label : SetLabel) (r : Records) → number ≡ length r.sets + 1 → AddsWhole number label r (step_records r (AddSet label))
 whole_is_step number label r next = (next, refl)
 
-pub module_is_step : (number : ℕ) (label : ModuleLabel) (r : Records) → number ≡ length r.modules + 1 → (number ≡ length r.modules + 1) × (step_records r (AddModule label) ≡ with_module r label)
+pub module_is_step : (number : ℕ) (label : ModuleLabel) (r : Records) → number ≡ length r.modules + 1 → (number ≡ length r.modules + 1)
+    × (step_records r (AddModule label) ≡ with_module r label)
 module_is_step number label r next = (next, refl)
 
-pub lacks : (r : Records) (numbers : List ℕ) (last : ℕ) (found : Bool) → is_module_list numbers ≡ true → found ≡ list_any (λ m. nat_lt last m) numbers → last ≡ length r.modules → LacksModule numbers r found
+pub lacks : (r : Records) (numbers : List ℕ) (last : ℕ) (found : Bool) → is_module_list numbers ≡ true → found ≡ list_any (λ m. nat_lt last m) numbers
+    → last ≡ length r.modules → LacksModule numbers r found
 lacks r numbers last found good is size =
     let parts = both_true (is_between 1 8 (length numbers)) _ good in
     let whole = both_true (list_all is_number numbers) _ parts.1 in

@@ -1,5 +1,7 @@
 -- Lists of words in byte order.
-use Rattle.desk_commands.proofs.Common.{◌≡◌, Bool, true, false, cond, ◌||◌, suc, List, [], ◌∷◌, length, refl, sym, ap, ◌∙◌, or_parts, false≢true, same_bytes, bytes_below, contains_word, with_word, Bytes, AllAbove, IsSorted, above_more, below_other, not_above, same_refl, same_true}
+use Rattle.desk_commands.proofs.Common.{◌≡◌, Bool, true, false, cond, ◌||◌, suc, List, [], ◌∷◌, length, refl, sym, ap, ◌∙◌, or_parts, false≢true, same_bytes}
+use Rattle.desk_commands.proofs.Common.{bytes_below, contains_word, with_word, Bytes, AllAbove, IsSorted, above_more, below_other, not_above, same_refl}
+use Rattle.desk_commands.proofs.Common.{same_true}
 
 -- lists in byte order with the same words are the same list
 pub same_words : (xs ys : List Bytes) → IsSorted xs → IsSorted ys → ((w : Bytes) → contains_word w xs ≡ contains_word w ys) → xs ≡ ys

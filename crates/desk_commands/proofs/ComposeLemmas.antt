@@ -1,21 +1,28 @@
 -- A command inside a change, from what was read and what was written.
-use Rattle.desk_commands.proofs.Common.{◌≡◌, true, Some, None, Result, Ok, Err, arith, State, HasCleanDisk, Finds, Makes, Wears, Sees, command_reply, CommandList, Command, Records, records, step_records, IsValid, check, reply_of, Refusal, HoldsLedger, ledger_of, are_sorted}
+use Rattle.desk_commands.proofs.Common.{◌≡◌, true, Some, None, Result, Ok, Err, arith, State, HasCleanDisk, Finds, Makes, Wears, Sees, command_reply}
+use Rattle.desk_commands.proofs.Common.{CommandList, Command, Records, records, step_records, IsValid, check, reply_of, Refusal, HoldsLedger, ledger_of}
+use Rattle.desk_commands.proofs.Common.{are_sorted}
 use Rattle.rollout_model.specs.declared.request.Reply.{Reply}
 use Rattle.desk_commands.specs.Steps.{Steps}
 use Rattle.desk_commands.specs.declared.step.Step.TheVariants as step
 
 module _ {command : Command} {F : Type 0} where
   -- by what the list says too
-  pub refused_at : {A E : Type 0} {a b : State} {x : A} {P : Records → A → Type 0} {refusal : Refusal} → Finds HoldsLedger ledger_of {E = E} a b (Ok x) P → ((h : CommandList) → IsValid h → P (records h) x → check (records h) command ≡ Some refusal)
+  pub refused_at : {A E : Type 0} {a b : State} {x : A} {P : Records → A → Type 0} {refusal : Refusal} → Finds HoldsLedger ledger_of {E = E} a b (Ok x) P
+      → ((h : CommandList) → IsValid h → P (records h) x → check (records h) command ≡ Some refusal)
       → Steps {E = F} a b command (Ok (step.Refused refusal))
   refused_at read means = record { wears = read.wears; steps = λ h valid was clean. means h valid ((read.finds (records h) was).1 clean) }
 
-  pub refused : {A E : Type 0} {a b : State} {x : A} {P : Records → A → Type 0} {refusal : Refusal} → Finds HoldsLedger ledger_of {E = E} a b (Ok x) P → ((r : Records) → P r x → check r command ≡ Some refusal) → Steps {E = F} a b command (Ok (step.Refused refusal))
+  pub refused : {A E : Type 0} {a b : State} {x : A} {P : Records → A → Type 0} {refusal : Refusal} → Finds HoldsLedger ledger_of {E = E} a b (Ok x) P
+      → ((r : Records) → P r x → check r command ≡ Some refusal) → Steps {E = F} a b command (Ok (step.Refused refusal))
   refused read means = refused_at read (λ h valid. means (records h))
 
-  module _ {A E G : Type 0} {a b c : State} {x : A} {P : Records → A → Type 0} (read : Finds HoldsLedger ledger_of {E = E} a b (Ok x) P) (W : Records → Records → Type 0) where
-    pub accepted_at : ((h : CommandList) → IsValid h → P (records h) x → W (records h) (step_records (records h) command)) → Makes HoldsLedger ledger_of {A = Unit {0}} {E = G} b c (Ok tt) W → (reply : Reply)
-        → ((h : CommandList) → IsValid h → P (records h) x → (check (records h) command ≡ None) × (reply_of reply ≡ command_reply command (step_records (records h) command))) → Steps {E = F} a c command (Ok (step.Accepted reply))
+  module _ {A E G : Type 0} {a b c : State} {x : A} {P : Records → A → Type 0} (read : Finds HoldsLedger ledger_of {E = E} a b (Ok x) P)
+      (W : Records → Records → Type 0) where
+    pub accepted_at : ((h : CommandList) → IsValid h → P (records h) x → W (records h) (step_records (records h) command))
+        → Makes HoldsLedger ledger_of {A = Unit {0}} {E = G} b c (Ok tt) W → (reply : Reply)
+        → ((h : CommandList) → IsValid h → P (records h) x → (check (records h) command ≡ None)
+        × (reply_of reply ≡ command_reply command (step_records (records h) command))) → Steps {E = F} a c command (Ok (step.Accepted reply))
     accepted_at writes write reply means = record {
       wears = omega (arith, read.wears, write.wears);
       steps = λ h valid was.
@@ -27,7 +34,8 @@ module _ {command : Command} {F : Type 0} where
     }
 
     pub accepted : ((r : Records) → P r x → W r (step_records r command)) → Makes HoldsLedger ledger_of {A = Unit {0}} {E = G} b c (Ok tt) W → (reply : Reply)
-        → ((r : Records) → P r x → (check r command ≡ None) × (reply_of reply ≡ command_reply command (step_records r command))) → Steps {E = F} a c command (Ok (step.Accepted reply))
+        → ((r : Records) → P r x → (check r command ≡ None) × (reply_of reply ≡ command_reply command (step_records r command)))
+        → Steps {E = F} a c command (Ok (step.Accepted reply))
     accepted writes write reply means = accepted_at (λ h valid. writes (records h)) write reply (λ h valid. means (records h))
 
 -- ---- records keep their targets in byte order
@@ -39,6 +47,8 @@ sorted_now : (a b : State) → HasCleanDisk b → Wears a b → (now : Records) 
 sorted_now a b clean wears now was = (was.sees (omega (arith, clean, wears))).now_holds.sorted
 
 -- a write may take it that the order is kept
-pub in_order : {A E : Type 0} {a b : State} (W : Records → Records → Type 0) (out : Result A E) → Makes HoldsLedger ledger_of a b out (InOrder W) → Makes HoldsLedger ledger_of a b out W
-in_order {a = a} {b = b} W (Ok x) h = record { wears = h.wears; makes = λ now next was change. h.makes now next was (λ clean. (sorted_now a b clean h.wears now was, change clean)) }
+pub in_order : {A E : Type 0} {a b : State} (W : Records → Records → Type 0) (out : Result A E) → Makes HoldsLedger ledger_of a b out (InOrder W)
+    → Makes HoldsLedger ledger_of a b out W
+in_order {a = a} {b = b} W (Ok x) h =
+    record { wears = h.wears; makes = λ now next was change. h.makes now next was (λ clean. (sorted_now a b clean h.wears now was, change clean)) }
 in_order W (Err e) h = record { wears = h.wears; makes = tt }

@@ -1,5 +1,14 @@
 -- The creation of a rollout, from what is read to what is written.
-use Rattle.desk_commands.proofs.Common.{◌≡◌, ◌≤◌, ◌<◌, ℕ, zero, suc, ◌+◌, Bool, true, false, not, cond, nat_eq, nat_lt, List, [], ◌∷◌, ◌++◌, map, filter, get_or, take, drop, length, set, slice_get, Some, None, is_none, refl, sym, ap, subst, ◌∙◌, arith, list_all, IsSomeAnd, and_parts, nat_tests, length-append, length-map, length-take-le, map-append, take_all, added_rollout, command_reply, item_numbered, CommandList, Bytes, CreateRollout, RolloutPlan, GroupRule, rule_at, rules_of, first_offer, RolloutAdded, Records, action_in, rollouts_in, new_group, new_rollout, step_records, bounds_at, chosen, rollouts, RolloutWord, is_finished, rollout_word, Target, IsValid, check, reply_of, Bounds, ActionRecord, RolloutRecord, each_from_more, length_each, numbered_each, Tree, filter_of, IsPlanView, approval_at, plan_refusal, Ledger, ledger_of, AddsGroup, AddsMember, AddsRollout, AddsRule, cut_group, set_numbered, with_rollouts, with_rules, listed_target, are_sorted, same_ledger, target_listed, CreatesRollout, IsChosen, IsWordOf, and_rollout, first_rules, ids_matching, in_part, shown_new, invariant_of, not-true}
+use Rattle.desk_commands.proofs.Common.{◌≡◌, ◌≤◌, ◌<◌, ℕ, zero, suc, ◌+◌, Bool, true, false, not, cond, nat_eq, nat_lt, List, [], ◌∷◌, ◌++◌, map, filter}
+use Rattle.desk_commands.proofs.Common.{get_or, take, drop, length, set, slice_get, Some, None, is_none, refl, sym, ap, subst, ◌∙◌, arith, list_all, IsSomeAnd}
+use Rattle.desk_commands.proofs.Common.{and_parts, nat_tests, length-append, length-map, length-take-le, map-append, take_all, added_rollout, command_reply}
+use Rattle.desk_commands.proofs.Common.{item_numbered, CommandList, Bytes, CreateRollout, RolloutPlan, GroupRule, rule_at, rules_of, first_offer, RolloutAdded}
+use Rattle.desk_commands.proofs.Common.{Records, action_in, rollouts_in, new_group, new_rollout, step_records, bounds_at, chosen, rollouts, RolloutWord}
+use Rattle.desk_commands.proofs.Common.{is_finished, rollout_word, Target, IsValid, check, reply_of, Bounds, ActionRecord, RolloutRecord, each_from_more}
+use Rattle.desk_commands.proofs.Common.{length_each, numbered_each, Tree, filter_of, IsPlanView, approval_at, plan_refusal, Ledger, ledger_of, AddsGroup}
+use Rattle.desk_commands.proofs.Common.{AddsMember, AddsRollout, AddsRule, cut_group, set_numbered, with_rollouts, with_rules, listed_target, are_sorted}
+use Rattle.desk_commands.proofs.Common.{same_ledger, target_listed, CreatesRollout, IsChosen, IsWordOf, and_rollout, first_rules, ids_matching, in_part}
+use Rattle.desk_commands.proofs.Common.{shown_new, invariant_of, not-true}
 use Rattle.rollout_machine.specs.Records.{records}
 use Rattle.std.proofs.lemmas.Option.{slice_get-get_or, slice_get_within}
 use Rattle.rollout_machine.specs.Actions.{ActionPlace, action_places}
@@ -22,7 +31,8 @@ use Rattle.desk_commands.proofs.PutLemmas.{one_more}
 
 -- ---- the members
 
-module _ (r : Records) (f : Tree) (text : Bytes) (t : SeenTarget) (entry : ListedTarget) (is_match : Bool) (computed : IsSomeAnd (filter_of text) (λ tree. is_match ≡ holds tree t)) (tree : filter_of text ≡ Some f) (read : t ≡ target_listed r entry)
+module _ (r : Records) (f : Tree) (text : Bytes) (t : SeenTarget) (entry : ListedTarget) (is_match : Bool)
+    (computed : IsSomeAnd (filter_of text) (λ tree. is_match ≡ holds tree t)) (tree : filter_of text ≡ Some f) (read : t ≡ target_listed r entry)
     (ids : List Bytes) where
   by_tree : is_match ≡ holds f t
   by_tree = rw tree at computed
@@ -42,15 +52,18 @@ ids_grow f [] t = refl
 ids_grow f (x ∷ ts) t = go (holds f x) (ids_grow f ts t)
   where
     go : (b : Bool) → ids_matching f ts ++ ids_matching f (t ∷ []) ≡ ids_matching f (ts ++ t ∷ [])
-        → map (λ (t : SeenTarget). t.id) (cond b (x ∷ filter (holds f) ts) (filter (holds f) ts)) ++ ids_matching f (t ∷ []) ≡ map (λ (t : SeenTarget). t.id) (cond b (x ∷ filter (holds f) (ts ++ t ∷ [])) (filter (holds f) (ts ++ t ∷ [])))
+        → map (λ (t : SeenTarget). t.id) (cond b (x ∷ filter (holds f) ts) (filter (holds f) ts)) ++ ids_matching f (t ∷ [])
+        ≡ map (λ (t : SeenTarget). t.id) (cond b (x ∷ filter (holds f) (ts ++ t ∷ [])) (filter (holds f) (ts ++ t ∷ [])))
     go true rest = ap (λ l. x.id ∷ l) rest
     go false rest = rest
 
 -- of one more
-pub one_more_matched : (r : Records) (f : Tree) (entries : List ListedTarget) (entry : ListedTarget) (items more : List Bytes) → items ≡ ids_matching f (map (target_listed r) entries) → more ≡ items ++ ids_matching f (target_listed r entry ∷ [])
+pub one_more_matched : (r : Records) (f : Tree) (entries : List ListedTarget) (entry : ListedTarget) (items more : List Bytes)
+    → items ≡ ids_matching f (map (target_listed r) entries) → more ≡ items ++ ids_matching f (target_listed r entry ∷ [])
     → more ≡ ids_matching f (map (target_listed r) (entries ++ entry ∷ []))
 one_more_matched r f entries entry items more is one =
-    one ∙ ap (λ l. l ++ ids_matching f (target_listed r entry ∷ [])) is ∙ ids_grow f (map (target_listed r) entries) (target_listed r entry) ∙ ap (ids_matching f) (sym (mapped entries))
+    one ∙ ap (λ l. l ++ ids_matching f (target_listed r entry ∷ [])) is ∙ ids_grow f (map (target_listed r) entries) (target_listed r entry)
+    ∙ ap (ids_matching f) (sym (mapped entries))
   where
     mapped : (es : List ListedTarget) → map (target_listed r) (es ++ entry ∷ []) ≡ map (target_listed r) es ++ target_listed r entry ∷ []
     mapped [] = refl
@@ -61,19 +74,23 @@ ids_seen f [] = refl
 ids_seen f (t ∷ ts) = go (matches f t) (ids_seen f ts)
   where
     go : (b : Bool) → ids_matching f (map seen ts) ≡ chosen (Some f) ts
-        → map (λ (t : SeenTarget). t.id) (cond b (seen t ∷ filter (holds f) (map seen ts)) (filter (holds f) (map seen ts))) ≡ map (λ (t : Target). t.id) (cond b (t ∷ filter (matches f) ts) (filter (matches f) ts))
+        → map (λ (t : SeenTarget). t.id) (cond b (seen t ∷ filter (holds f) (map seen ts)) (filter (holds f) (map seen ts)))
+        ≡ map (λ (t : Target). t.id) (cond b (t ∷ filter (matches f) ts) (filter (matches f) ts))
     go true rest = ap (λ l. t.id ∷ l) rest
     go false rest = rest
 
 -- all targets were listed
-pub all_chosen : (r : Records) → are_sorted r.targets ≡ true → (f : Tree) (count : ℕ) (entries : List ListedTarget) → count ≡ length r.targets → entries ≡ map listed_target (take count (drop 0 r.targets)) → (ids : List Bytes)
+pub all_chosen : (r : Records) → are_sorted r.targets ≡ true → (f : Tree) (count : ℕ) (entries : List ListedTarget) → count ≡ length r.targets → entries
+    ≡ map listed_target (take count (drop 0 r.targets)) → (ids : List Bytes)
     → ids ≡ ids_matching f (map (target_listed r) entries) → ids ≡ chosen (Some f) r.targets
 all_chosen r sorted f count entries size listed ids is =
-    is ∙ ap (λ l. ids_matching f (map (target_listed r) l)) listed ∙ ap (ids_matching f) (part_seen r sorted count 0) ∙ ap (λ l. ids_matching f (map seen l)) (take_all count r.targets (omega (arith, size))) ∙ ids_seen f r.targets
+    is ∙ ap (λ l. ids_matching f (map (target_listed r) l)) listed ∙ ap (ids_matching f) (part_seen r sorted count 0)
+    ∙ ap (λ l. ids_matching f (map seen l)) (take_all count r.targets (omega (arith, size))) ∙ ids_seen f r.targets
 
 -- ---- the verdict
 
-pub by_filter : (text : Bytes) (r : Records) (f : Tree) (found : Chosen) → filter_of text ≡ Some f → found.bad_filter ≡ false → found.members.items ≡ chosen (Some f) r.targets → IsChosen text r found
+pub by_filter : (text : Bytes) (r : Records) (f : Tree) (found : Chosen) → filter_of text ≡ Some f → found.bad_filter ≡ false → found.members.items
+    ≡ chosen (Some f) r.targets → IsChosen text r found
 by_filter text r f found tree good members = record { bad_filter = good ∙ sym (ap is_none tree); members = members ∙ sym (ap (λ o. chosen o r.targets) tree) }
 
 pub set_missing : (r : Records) (number last : ℕ) → 1 ≤ number → last ≡ length r.sets → nat_lt last number ≡ is_none (item_numbered r.sets number)
@@ -104,21 +121,24 @@ module _ (n : NewRollout) (plan : RolloutPlan) (size : ℕ) where
   begins l next h = record { number_is = h.number_is; next_is = h.next_is }
 
   -- the groups before an index, and the one there, of which nothing is said yet
-  pub one_group : (cuts : List Bounds) → cuts ≡ cut_by plan.groups size → (k : ℕ) (d : Bounds) → k < length cuts → (l next : Ledger) → CreatesRollout (in_part n plan size (k + 1) []) (first_rules plan k) l next
+  pub one_group : (cuts : List Bounds) → cuts ≡ cut_by plan.groups size → (k : ℕ) (d : Bounds) → k < length cuts → (l next : Ledger)
+      → CreatesRollout (in_part n plan size (k + 1) []) (first_rules plan k) l next
       → (mid : Ledger) × CreatesRollout (in_part n plan size k []) (first_rules plan k) l mid × AddsGroup n.number (k + 1) (get_or cuts k d) mid next
   one_group cuts are k d within l next h =
       let was = in_part n plan size k [] in
       let xs = l.records.rollouts in
       let bounds = get_or cuts k d in
       let there : slice_get (cut_by plan.groups size) k ≡ Some bounds = ap (λ bs. slice_get bs k) (sym are) ∙ slice_get-get_or cuts k d within in
-      let its : bounds ≡ bounds_at plan size (k + 1) = (numbered_each (bounds_by plan.groups size) plan.groups.count (suc k) bounds there).2 ∙ ap (bounds_at plan size) (omega arith) in (
+      let its : bounds ≡ bounds_at plan size (k + 1) = (numbered_each (bounds_by plan.groups size) plan.groups.count (suc k) bounds there).2
+      ∙ ap (bounds_at plan size) (omega arith) in (
         and_rollout was (first_rules plan k) l,
         record { number_is = h.number_is; ruled = h.ruled; unacted = h.unacted; next_is = refl },
         record {
           rollout = was;
           is_there = numbered_last xs was n.number h.number_is;
           group_is = ap (λ m. m + 1) (sym (length_each (new_group plan size) 1 k));
-          next_is = h.next_is ∙ ap (λ gs. and_rollout (record was { groups = gs }) (first_rules plan k) l) (each_from_more (new_group plan size) 1 k (k + 1) (cut_group (k + 1) bounds) (omega arith) (ap (cut_group (k + 1)) its))
+          next_is = h.next_is ∙ ap (λ gs. and_rollout (record was { groups = gs }) (first_rules plan k) l)
+              (each_from_more (new_group plan size) 1 k (k + 1) (cut_group (k + 1) bounds) (omega arith) (ap (cut_group (k + 1)) its))
               ∙ ap (with_rollouts (and_rollout was (first_rules plan k) l)) (sym (set_last xs was _ n.number h.number_is));
         },
       )
@@ -142,7 +162,8 @@ module _ (n : NewRollout) (plan : RolloutPlan) (size : ℕ) where
       )
 
   -- the members before an index, and the one there
-  pub one_member : (k : ℕ) (rules : List GroupRule) (all : List Bytes) (id : Bytes) (j : ℕ) → j < length all → id ≡ get_or all j id → (l next : Ledger) → CreatesRollout (in_part n plan size k (take (j + 1) all)) rules l next
+  pub one_member : (k : ℕ) (rules : List GroupRule) (all : List Bytes) (id : Bytes) (j : ℕ) → j < length all → id ≡ get_or all j id → (l next : Ledger)
+      → CreatesRollout (in_part n plan size k (take (j + 1) all)) rules l next
       → (mid : Ledger) × CreatesRollout (in_part n plan size k (take j all)) rules l mid × AddsMember n.number (j + 1) id mid next
   one_member k rules all id j within is l next h =
       let was = in_part n plan size k (take j all) in
@@ -154,7 +175,8 @@ module _ (n : NewRollout) (plan : RolloutPlan) (size : ℕ) where
           is_there = numbered_last xs was n.number h.number_is;
           place_is = ap (λ m. m + 1) (sym (length-take-le j all (omega (arith, within))));
           unacted = h.unacted;
-          next_is = h.next_is ∙ ap (λ ids. and_rollout (record was { members = ids }) rules l) (one_more all id j within is) ∙ ap (with_rollouts (and_rollout was rules l)) (sym (set_last xs was _ n.number h.number_is));
+          next_is = h.next_is ∙ ap (λ ids. and_rollout (record was { members = ids }) rules l) (one_more all id j within is)
+              ∙ ap (with_rollouts (and_rollout was rules l)) (sym (set_last xs was _ n.number h.number_is));
         },
       )
 
@@ -168,14 +190,16 @@ behind (y ∷ xs) x (suc zero) apart = refl
 behind (y ∷ xs) x (suc (suc n)) apart = behind xs x (suc n) (let it : nat_eq (suc n) (length xs + 1) ≡ false = grind (arith, nat_tests, apart) in it)
 
 -- so each target keeps its offer
-same_offers : (r : Records) (x : RolloutRecord) (t : Bytes) (k : ℕ) (as' : List ActionRecord) → list_all (λ (a : ActionRecord). not (nat_eq a.rollout (length r.rollouts + 1))) as' ≡ true
+same_offers : (r : Records) (x : RolloutRecord) (t : Bytes) (k : ℕ) (as' : List ActionRecord)
+    → list_all (λ (a : ActionRecord). not (nat_eq a.rollout (length r.rollouts + 1))) as' ≡ true
     → first_offer (record r { rollouts = r.rollouts ++ x ∷ [] }) t k as' ≡ first_offer r t k as'
 same_offers r x t k [] none = refl
 same_offers r x t k (a ∷ more) none =
     let parts = and_parts (not (nat_eq a.rollout (length r.rollouts + 1))) _ none in
     rw (behind r.rollouts x a.rollout (not-true _ parts.0), same_offers r x t (suc k) more parts.1) refl
 
-at_lists : (h : CommandList) (n : ℕ) (ps : List ActionPlace) → ((i : ℕ) (p : ActionPlace) → slice_get ps i ≡ Some p → nat_eq p.rollout n ≡ false) → list_all (λ (a : ActionRecord). not (nat_eq a.rollout n)) (map (action_in h) ps) ≡ true
+at_lists : (h : CommandList) (n : ℕ) (ps : List ActionPlace) → ((i : ℕ) (p : ActionPlace) → slice_get ps i ≡ Some p → nat_eq p.rollout n ≡ false)
+    → list_all (λ (a : ActionRecord). not (nat_eq a.rollout n)) (map (action_in h) ps) ≡ true
 at_lists h n [] none = refl
 at_lists h n (p ∷ ps) none = rw (none 0 p refl) (at_lists h n ps (λ i q at. none (suc i) q at))
 
@@ -216,7 +240,8 @@ module _ (plan : RolloutPlan) (n : NewRollout) (members : List Bytes) where
 
   -- the ledger of the records after it is the one that is written
   pub creates : (h : CommandList) → IsValid h → IsReady plan n members (records h)
-      → CreatesRollout (in_part n plan (length members) plan.groups.count members) (rules_of plan) (ledger_of (records h)) (ledger_of (step_records (records h) (CreateRollout plan)))
+      → CreatesRollout (in_part n plan (length members) plan.groups.count members) (rules_of plan) (ledger_of (records h))
+      (ledger_of (step_records (records h) (CreateRollout plan)))
   creates h valid is =
       let r = records h in
       let none = none_acts h valid in
@@ -224,21 +249,34 @@ module _ (plan : RolloutPlan) (n : NewRollout) (members : List Bytes) where
         number_is = is.number_is;
         ruled = length-map r.rollouts (λ (x : RolloutRecord). rules_of x.plan);
         unacted = ap (λ k. list_all (λ (a : ActionRecord). not (nat_eq a.rollout k)) r.actions) is.number_is ∙ none;
-        next_is = same_ledger _ _ (ap (λ x. record r { rollouts = r.rollouts ++ x ∷ [] }) (same_rollout r is)) refl (λ t. same_offers r (made plan r) t 1 r.actions none) (map-append (λ (x : RolloutRecord). rules_of x.plan) r.rollouts (made plan r ∷ [])) refl;
+        next_is = same_ledger _ _ (ap (λ x. record r { rollouts = r.rollouts ++ x ∷ [] }) (same_rollout r is)) refl
+            (λ t. same_offers r (made plan r) t 1 r.actions none) (map-append (λ (x : RolloutRecord). rules_of x.plan) r.rollouts (made plan r ∷ [])) refl;
       }
 
-  pub shown_added : (r : Records) → IsReady plan n members r → (count : ℕ) → count ≡ length members → (shown : Rollout) → (word : RolloutWord) × IsWordOf n.approval word × (shown ≡ shown_new plan n.number word count)
+  pub shown_added : (r : Records) → IsReady plan n members r → (count : ℕ) → count ≡ length members → (shown : Rollout) → (word : RolloutWord)
+      × IsWordOf n.approval word × (shown ≡ shown_new plan n.number word count)
       → reply_of (reply.RolloutAdded shown) ≡ command_reply (CreateRollout plan) (step_records r (CreateRollout plan))
   shown_added r is count size shown it =
       let x = made plan r in
       let number : n.number ≡ suc (length r.rollouts) = omega (arith, is.number_is) in
       let word : it.0 ≡ rollout_word x = subst (λ a. IsWordOf a it.0) is.approval_is it.1 (is_finished x) false in
       let targets : count ≡ length x.members = size ∙ ap length is.members_are in
-      let same : shown ≡ rollout_shown x = it.2 ∙ (λ i. record { number = number i; name = plan.name; set_number = plan.set_number; filter_text = plan.filter_text; word = word i; groups = plan.groups.count; targets = targets i }) in
+      let same : shown ≡ rollout_shown x = it.2
+      ∙ (λ i. record {
+        number = number i;
+        name = plan.name;
+        set_number = plan.set_number;
+        filter_text = plan.filter_text;
+        word = word i;
+        groups =
+            plan.groups.count;
+        targets = targets i;
+      }) in
       ap RolloutAdded same ∙ sym (ap added_rollout (numbered_last r.rollouts x (length (r.rollouts ++ x ∷ [])) (length-append r.rollouts (x ∷ []))))
 
 -- the view is of the plan, and the verdict lets it pass
-pub ready : (plan : RolloutPlan) (n : NewRollout) (found : Chosen) (view : PlanView) (r : Records) → IsChosen plan.filter_text r found → (IsChosen plan.filter_text r found → IsPlanView view plan r) → plan_refusal view plan.groups ≡ None
+pub ready : (plan : RolloutPlan) (n : NewRollout) (found : Chosen) (view : PlanView) (r : Records) → IsChosen plan.filter_text r found
+    → (IsChosen plan.filter_text r found → IsPlanView view plan r) → plan_refusal view plan.groups ≡ None
     → n ≡ record { number = view.count + 1; approval = approval_at view.approval } → IsReady plan n found.members.items r
 ready plan n found view r chosen sees passes is =
     let seen_as = sees chosen in

@@ -1,5 +1,7 @@
 -- The groups of a rollout stand at their numbers.
-use Rattle.desk_commands.proofs.Common.{◌≡◌, ℕ, zero, suc, ◌+◌, Bool, true, cond, List, [], ◌∷◌, map, set, Some, refl, sym, ap, ◌∙◌, arith, nat_eq, inl, inr, slice_get, find, cases_Bool, eq-eqb, eqb-true, item_numbered, CommandList, records, group_holding, GroupRecord, RolloutRecord, set_numbered, numbered_from}
+use Rattle.desk_commands.proofs.Common.{◌≡◌, ℕ, zero, suc, ◌+◌, Bool, true, cond, List, [], ◌∷◌, map, set, Some, refl, sym, ap, ◌∙◌, arith, nat_eq, inl, inr}
+use Rattle.desk_commands.proofs.Common.{slice_get, find, cases_Bool, eq-eqb, eqb-true, item_numbered, CommandList, records, group_holding, GroupRecord}
+use Rattle.desk_commands.proofs.Common.{RolloutRecord, set_numbered, numbered_from}
 use Rattle.campaign_core.proofs.ItemLemmas.{picked}
 use Rattle.desk_commands.proofs.ItemSteps.{set_is_change}
 use Rattle.desk_commands.proofs.LedgerEnds.{groups_stand}
@@ -44,7 +46,8 @@ same_groups gs numbered = renumbered 1 gs (λ j g at. let it = numbered (suc j) 
 
 -- ---- one of them changes
 
-pub map_at : (f : GroupRecord → GroupRecord) (k : ℕ) (gs : List GroupRecord) (g : GroupRecord) → Numbered gs → item_numbered gs k ≡ Some g → map (λ (x : GroupRecord). cond (nat_eq x.number k) (f x) x) gs ≡ set_numbered gs k (f g)
+pub map_at : (f : GroupRecord → GroupRecord) (k : ℕ) (gs : List GroupRecord) (g : GroupRecord) → Numbered gs → item_numbered gs k ≡ Some g
+    → map (λ (x : GroupRecord). cond (nat_eq x.number k) (f x) x) gs ≡ set_numbered gs k (f g)
 map_at f k gs g numbered at =
     picked (λ (x : GroupRecord). nat_eq x.number k) f k gs (record {
       only = λ j x its same. sym (numbered j x its) ∙ eqb-true x.number k same;
@@ -56,7 +59,8 @@ set_numbered_still gs zero g numbered same j x at = numbered j x at
 set_numbered_still gs (suc k) g numbered same zero x at = cc
 set_numbered_still gs (suc k) g numbered same (suc j) x at = go k gs j (suc k) (suc j) same (numbered (suc j)) (λ e. ap suc e) at
   where
-    go : (k : ℕ) (gs : List GroupRecord) (j m n : ℕ) → g.number ≡ m → ((x : GroupRecord) → slice_get gs j ≡ Some x → x.number ≡ n) → (k ≡ j → m ≡ n) → slice_get (set gs k g) j ≡ Some x → x.number ≡ n
+    go : (k : ℕ) (gs : List GroupRecord) (j m n : ℕ) → g.number ≡ m → ((x : GroupRecord) → slice_get gs j ≡ Some x → x.number ≡ n) → (k ≡ j → m ≡ n)
+        → slice_get (set gs k g) j ≡ Some x → x.number ≡ n
     go k [] j m n own all to at = cc
     go zero (y ∷ ys) zero m n own all to at = let same : g ≡ x = cc in ap (λ (z : GroupRecord). z.number) (sym same) ∙ own ∙ to refl
     go zero (y ∷ ys) (suc j) m n own all to at = all x at

@@ -1,5 +1,13 @@
 -- An action that was seen in the tables of a list of accepted commands, and the views of it.
-use Rattle.desk_commands.proofs.Common.{◌≡◌, ◌+◌, ℕ, Bool, true, false, cond, ◌&&◌, List, Option, Some, None, option_map, refl, sym, ap, ◌∙◌, subst, is_some, is_none, item_numbered, CommandList, Bytes, Credential, rule_at, view_from_group, Records, action_in, records, rollout_in, Reported, standing_of, Standing, group_holding, group_is_started, group_number_of, group_numbered, has_started, is_for, is_started_in, number_of_group, Target, IsValid, target_of, ActionRecord, GroupRecord, RolloutRecord, own_view_of, waits, BothOrNone, IsActionView, IsCancelView, IsFeedbackView, IsDeviceAction, action_for, device_action, only_if, Tally, tally_of, ledger_of, said_of, group_and_next, GroupAndNext, stored_action, stored_rollout, IsSeen, MaySee, SeesIn, SeesFeedback, SeesTarget, action_seen, action_view_seen, cancel_view_seen, only_of, only_started, feedback_view_seen, device_action_seen, seen_if, StandsAt, asked, with_number, SeenAction, SeenFeedback}
+use Rattle.desk_commands.proofs.Common.{◌≡◌, ◌+◌, ℕ, Bool, true, false, cond, ◌&&◌, List, Option, Some, None, option_map, refl, sym, ap, ◌∙◌, subst, is_some}
+use Rattle.desk_commands.proofs.Common.{is_none, item_numbered, CommandList, Bytes, Credential, rule_at, view_from_group, Records, action_in, records}
+use Rattle.desk_commands.proofs.Common.{rollout_in, Reported, standing_of, Standing, group_holding, group_is_started, group_number_of, group_numbered}
+use Rattle.desk_commands.proofs.Common.{has_started, is_for, is_started_in, number_of_group, Target, IsValid, target_of, ActionRecord, GroupRecord}
+use Rattle.desk_commands.proofs.Common.{RolloutRecord, own_view_of, waits, BothOrNone, IsActionView, IsCancelView, IsFeedbackView, IsDeviceAction, action_for}
+use Rattle.desk_commands.proofs.Common.{device_action, only_if, Tally, tally_of, ledger_of, said_of, group_and_next, GroupAndNext, stored_action}
+use Rattle.desk_commands.proofs.Common.{stored_rollout, IsSeen, MaySee, SeesIn, SeesFeedback, SeesTarget, action_seen, action_view_seen, cancel_view_seen}
+use Rattle.desk_commands.proofs.Common.{only_of, only_started, feedback_view_seen, device_action_seen, seen_if, StandsAt, asked, with_number, SeenAction}
+use Rattle.desk_commands.proofs.Common.{SeenFeedback}
 use Rattle.campaign_core.proofs.PlacedActions.{is_members}
 use Rattle.desk_store.proofs.GroupPlaces.{group_and_next_at}
 use Rattle.desk_commands.proofs.GroupNumbers.{Numbered, held_stands, numbered_groups, same_groups}
@@ -20,7 +28,8 @@ pub record IsPlaced (rs : Records) (k : ℕ) : Type 0 where
 
 -- as it is seen then
 abbrev pub seen_at : (rs : Records) (k : ℕ) → IsPlaced rs k → SeenAction
-seen_at rs k w = action_seen k (stored_action rs.rollouts (w.action, tally_of w.action)) (stored_rollout w.rollout) (rule_at w.rollout.plan w.own.number) w.own (item_numbered w.rollout.groups (w.own.number + 1))
+seen_at rs k w = action_seen k (stored_action rs.rollouts (w.action, tally_of w.action)) (stored_rollout w.rollout) (rule_at w.rollout.plan w.own.number) w.own
+    (item_numbered w.rollout.groups (w.own.number + 1))
 
 pub record IsKnown (rs : Records) (k : ℕ) (s : SeenAction) : Type 0 where
   pub placed : IsPlaced rs k
@@ -30,7 +39,8 @@ abbrev paired : ActionRecord → ActionRecord × Tally
 paired a = (a, tally_of a)
 
 -- the first group of two that are read is the one that holds the place
-own_held : (gs : List GroupRecord) → Numbered gs → (j : ℕ) (own : GroupRecord) → item_numbered gs (number_of_group (group_holding j gs)) ≡ Some own → group_holding j gs ≡ Some own
+own_held : (gs : List GroupRecord) → Numbered gs → (j : ℕ) (own : GroupRecord) → item_numbered gs (number_of_group (group_holding j gs)) ≡ Some own
+    → group_holding j gs ≡ Some own
 own_held gs numbered j own = go (group_holding j gs) refl
   where
     go : (o : Option GroupRecord) → group_holding j gs ≡ o → item_numbered gs (number_of_group o) ≡ Some own → o ≡ Some own
@@ -38,26 +48,34 @@ own_held gs numbered j own = go (group_holding j gs) refl
     go (Some g) is at = sym (held_stands gs numbered j g is) ∙ at
 
 -- of an action's place the group that holds it is read, and the group of the next number
-pub both_read : (h : CommandList) → IsValid h → (k : ℕ) (a : ActionRecord) (x : RolloutRecord) → item_numbered (records h).actions k ≡ Some a → item_numbered (records h).rollouts a.rollout ≡ Some x
-    → group_and_next a.position x.groups ≡ record { group = item_numbered x.groups (group_number_of x a); next = item_numbered x.groups (group_number_of x a + 1) }
+pub both_read : (h : CommandList) → IsValid h → (k : ℕ) (a : ActionRecord) (x : RolloutRecord) → item_numbered (records h).actions k ≡ Some a
+    → item_numbered (records h).rollouts a.rollout ≡ Some x
+    → group_and_next a.position x.groups
+    ≡ record { group = item_numbered x.groups (group_number_of x a); next = item_numbered x.groups (group_number_of x a + 1) }
 both_read h valid k a x at there =
     let it = is_members h valid k a x at there in
-    let Read : ActionRecord → RolloutRecord → Type 0 = λ b y. group_and_next b.position y.groups ≡ record { group = item_numbered y.groups (group_number_of y b); next = item_numbered y.groups (group_number_of y b + 1) } in
-    let here : Read (action_in h it.place) (rollout_in h it.place.rollout it.placed.rollout) = group_and_next_at it.placed.rollout it.place.rollout h it.placed.sound it.place.position it.placed.low it.placed.high in
+    let Read : ActionRecord → RolloutRecord → Type 0 = λ b y. group_and_next b.position y.groups
+    ≡ record { group = item_numbered y.groups (group_number_of y b); next = item_numbered y.groups (group_number_of y b + 1) } in
+    let here : Read (action_in h it.place) (rollout_in h it.place.rollout it.placed.rollout) =
+    group_and_next_at it.placed.rollout it.place.rollout h it.placed.sound it.place.position it.placed.low it.placed.high in
     subst (λ b. Read b x) (sym it.is) (subst (λ y. Read (action_in h it.place) y) it.same here)
 
 module _ (h : CommandList) (valid : IsValid h) where
-  place : (k : ℕ) (s : SeenAction) (it : ActionRecord × Tally) → option_map paired (item_numbered (records h).actions k) ≡ Some it → SeesIn (ledger_of (records h)) k (stored_action (records h).rollouts it) s → IsKnown (records h) k s
+  place : (k : ℕ) (s : SeenAction) (it : ActionRecord × Tally) → option_map paired (item_numbered (records h).actions k) ≡ Some it
+      → SeesIn (ledger_of (records h)) k (stored_action (records h).rollouts it) s → IsKnown (records h) k s
   place k s it = go (item_numbered (records h).actions k) refl
     where
-      go : (o : Option ActionRecord) → item_numbered (records h).actions k ≡ o → option_map paired o ≡ Some it → SeesIn (ledger_of (records h)) k (stored_action (records h).rollouts it) s → IsKnown (records h) k s
+      go : (o : Option ActionRecord) → item_numbered (records h).actions k ≡ o → option_map paired o ≡ Some it
+          → SeesIn (ledger_of (records h)) k (stored_action (records h).rollouts it) s → IsKnown (records h) k s
       go None at is w = cc
       go (Some a) at is w =
           let pair : it ≡ (a, tally_of a) = cc in
-          let v : SeesIn (ledger_of (records h)) k (stored_action (records h).rollouts (a, tally_of a)) s = subst (λ (p : ActionRecord × Tally). SeesIn (ledger_of (records h)) k (stored_action (records h).rollouts p) s) pair w in
+          let v : SeesIn (ledger_of (records h)) k (stored_action (records h).rollouts (a, tally_of a)) s =
+          subst (λ (p : ActionRecord × Tally). SeesIn (ledger_of (records h)) k (stored_action (records h).rollouts p) s) pair w in
           let numbered = numbered_groups h a.rollout v.rollout v.is_its in
           let gs = v.rollout.groups in
-          let both : record { group = Some v.own; next = v.next } ≡ record { group = item_numbered gs (group_number_of v.rollout a); next = item_numbered gs (group_number_of v.rollout a + 1) } =
+          let both : record { group = Some v.own; next = v.next }
+          ≡ record { group = item_numbered gs (group_number_of v.rollout a); next = item_numbered gs (group_number_of v.rollout a + 1) } =
           sym v.holds ∙ ap (group_and_next a.position) (same_groups gs numbered) ∙ both_read h valid k a v.rollout at v.is_its in
           let holds : group_holding a.position gs ≡ Some v.own = own_held gs numbered a.position v.own (sym (ap (λ (b : GroupAndNext). b.group) both)) in
           let stood = held_stands gs numbered a.position v.own holds in
@@ -73,8 +91,10 @@ module _ (h : CommandList) (valid : IsValid h) where
               found = groups_stand h a.rollout v.rollout v.is_its v.own.number ∙ stood;
               next = groups_stand h a.rollout v.rollout v.is_its (v.own.number + 1);
             };
-            is = v.seen_is ∙ (λ i. action_seen k (stored_action (records h).rollouts (a, tally_of a)) (stored_rollout v.rollout) (said_of (records h) a.rollout v.own.number v.rollout v.rule v.is_its (sym v.is_said) i) v.own v.next)
-                ∙ ap (action_seen k (stored_action (records h).rollouts (a, tally_of a)) (stored_rollout v.rollout) (rule_at v.rollout.plan v.own.number) v.own) (ap (λ (b : GroupAndNext). b.next) both ∙ ap (λ o. item_numbered gs (number_of_group o + 1)) holds);
+            is = v.seen_is ∙ (λ i. action_seen k (stored_action (records h).rollouts (a, tally_of a)) (stored_rollout v.rollout)
+                (said_of (records h) a.rollout v.own.number v.rollout v.rule v.is_its (sym v.is_said) i) v.own v.next)
+                ∙ ap (action_seen k (stored_action (records h).rollouts (a, tally_of a)) (stored_rollout v.rollout) (rule_at v.rollout.plan v.own.number) v.own)
+                (ap (λ (b : GroupAndNext). b.next) both ∙ ap (λ o. item_numbered gs (number_of_group o + 1)) holds);
           }
 
   pub known : (k : ℕ) (s : SeenAction) → IsSeen (ledger_of (records h)) k s → IsKnown (records h) k s
@@ -97,7 +117,12 @@ module _ (rs : Records) (k : ℕ) (w : IsPlaced rs k) where
     number = refl;
     rollout = sym (ap (option_map (λ (x : RolloutRecord). own_view_of x (group_number_of x w.action))) w.its
         ∙ ap (λ o. Some (own_view_of w.rollout (number_of_group o))) w.held
-        ∙ (λ i. Some (record { paused = w.rollout.paused; own = view_from_group w.rollout.plan w.own.number (w.found i); next_waits = group_is_started (w.found i) && waits (w.next i) })));
+        ∙ (λ i. Some (record {
+          paused = w.rollout.paused;
+          own = view_from_group w.rollout.plan w.own.number (w.found i);
+          next_waits =
+              group_is_started (w.found i) && waits (w.next i);
+        })));
   }
 
   pub started_is : has_started rs w.action ≡ w.own.started
@@ -109,29 +134,39 @@ module _ (rs : Records) (k : ℕ) (w : IsPlaced rs k) where
     Stands seen = seen ≡ Some (seen_at rs k w) → w.action.outcome ≡ None → standing ≡ standing_of w.action.history new
 
     -- its group is started, or not
-    if_started : (b : Bool) → Stands (seen_if b (seen_at rs k w)) → BothOrNone (λ v a. IsDeviceAction v a new rs) (option_map (device_action_seen standing) (seen_if b (seen_at rs k w))) (only_if b (Some w.action))
+    if_started : (b : Bool) → Stands (seen_if b (seen_at rs k w))
+        → BothOrNone (λ v a. IsDeviceAction v a new rs) (option_map (device_action_seen standing) (seen_if b (seen_at rs k w))) (only_if b (Some w.action))
     if_started true stands = record { notes = refl; standing = stands refl; action = view_is }
     if_started false stands = tt
 
     -- it is a device's, or not
     device_action_is : (for : Bool) → Stands (only_started (seen_if for (seen_at rs k w)))
-        → BothOrNone (λ v a. IsDeviceAction v a new rs) (option_map (device_action_seen standing) (only_started (seen_if for (seen_at rs k w)))) (only_if (for && has_started rs w.action) (Some w.action))
-    device_action_is true stands = subst (λ b. BothOrNone (λ v a. IsDeviceAction v a new rs) (option_map (device_action_seen standing) (seen_if w.own.started (seen_at rs k w))) (only_if b (Some w.action))) (sym started_is) (if_started w.own.started stands)
+        → BothOrNone (λ v a. IsDeviceAction v a new rs) (option_map (device_action_seen standing) (only_started (seen_if for (seen_at rs k w))))
+        (only_if (for && has_started rs w.action) (Some w.action))
+    device_action_is true stands =
+        subst (λ b. BothOrNone (λ v a. IsDeviceAction v a new rs) (option_map (device_action_seen standing) (seen_if w.own.started (seen_at rs k w)))
+        (only_if b (Some w.action))) (sym started_is) (if_started w.own.started stands)
     device_action_is false stands = tt
 
     pub its_action : (t : Bytes) → Stands (only_started (only_of t (Some (seen_at rs k w))))
-        → BothOrNone (λ v a. IsDeviceAction v a new rs) (option_map (device_action_seen standing) (only_started (only_of t (Some (seen_at rs k w))))) (device_action rs t k)
+        → BothOrNone (λ v a. IsDeviceAction v a new rs) (option_map (device_action_seen standing) (only_started (only_of t (Some (seen_at rs k w)))))
+        (device_action rs t k)
     its_action t stands = rw w.at (device_action_is (is_for rs t w.action) stands)
 
-  canceled_is : (there for : Bool) → BothOrNone (λ v a. IsCancelView v a rs) (option_map cancel_view_seen (cond there (seen_if for (seen_at rs k w)) None)) (only_if (there && for) (Some w.action))
+  canceled_is : (there for : Bool) → BothOrNone (λ v a. IsCancelView v a rs) (option_map cancel_view_seen (cond there (seen_if for (seen_at rs k w)) None))
+      (only_if (there && for) (Some w.action))
   canceled_is true true = record { started = sym started_is; action = view_is }
   canceled_is true false = tt
   canceled_is false for = tt
 
-  pub its_cancel : (t : Bytes) → BothOrNone (λ v a. IsCancelView v a rs) (option_map cancel_view_seen (cond (is_none (target_of rs t)) None (only_of t (Some (seen_at rs k w))))) (action_for rs t k)
+  pub its_cancel : (t : Bytes)
+      → BothOrNone (λ v a. IsCancelView v a rs) (option_map cancel_view_seen (cond (is_none (target_of rs t)) None (only_of t (Some (seen_at rs k w)))))
+      (action_for rs t k)
   its_cancel t = rw w.at (go (target_of rs t))
     where
-      go : (o : Option Target) → BothOrNone (λ v a. IsCancelView v a rs) (option_map cancel_view_seen (cond (is_none o) None (only_of t (Some (seen_at rs k w))))) (only_if (is_some o && is_for rs t w.action) (Some w.action))
+      go : (o : Option Target) → BothOrNone (λ v a. IsCancelView v a rs)
+          (option_map cancel_view_seen (cond (is_none o) None (only_of t (Some (seen_at rs k w)))))
+          (only_if (is_some o && is_for rs t w.action) (Some w.action))
       go None = tt
       go (Some x) = canceled_is true (is_for rs t w.action)
 
@@ -143,10 +178,12 @@ module _ (h : CommandList) (valid : IsValid h) (k : ℕ) where
   module _ (device : Credential) (new : Reported) (seen : SeenFeedback) (w : SeesFeedback device k new (records h) seen) where
     -- what an open action has heard, all of the report is seen among
     pub heard_whole : (s : SeenAction) → seen.action ≡ Some s → s.action.outcome ≡ None → StandsAt k new (records h) seen.report
-    heard_whole s is open_still = subst (λ (it : Reported). StandsAt k it (records h) seen.report) (asked_whole new seen.action s is open_still) (w.report (record { list = h; valid = valid; are = refl }))
+    heard_whole s is open_still = subst (λ (it : Reported). StandsAt k it (records h) seen.report) (asked_whole new seen.action s is open_still)
+        (w.report (record { list = h; valid = valid; are = refl }))
 
     abbrev Viewed : Option SeenAction → Type 0
-    Viewed action = BothOrNone (λ v a. IsDeviceAction v a new (records h)) (option_map (device_action_seen seen.report.standing) action) (device_action (records h) device.id k)
+    Viewed action = BothOrNone (λ v a. IsDeviceAction v a new (records h)) (option_map (device_action_seen seen.report.standing) action)
+        (device_action (records h) device.id k)
 
     pub feedback_viewed : IsFeedbackView (feedback_view_seen seen) device k new (records h)
     feedback_viewed = record {
@@ -154,7 +191,8 @@ module _ (h : CommandList) (valid : IsValid h) (k : ℕ) where
       own_action = subst Viewed (sym w.action) (go w.found w.sees (λ s is. heard_whole s (w.action ∙ is)));
     }
       where
-        go : (found : Option SeenAction) → MaySee k (ledger_of (records h)) found → ((s : SeenAction) → only_started (only_of device.id found) ≡ Some s → s.action.outcome ≡ None → StandsAt k new (records h) seen.report)
+        go : (found : Option SeenAction) → MaySee k (ledger_of (records h)) found
+            → ((s : SeenAction) → only_started (only_of device.id found) ≡ Some s → s.action.outcome ≡ None → StandsAt k new (records h) seen.report)
             → Viewed (only_started (only_of device.id found))
         go None none heard = rw (none_known h valid k none) tt
         go (Some s) sees heard =
@@ -162,15 +200,21 @@ module _ (h : CommandList) (valid : IsValid h) (k : ℕ) where
             let t = seen_at (records h) k it.placed in
             subst (λ (u : SeenAction). Viewed (only_started (only_of device.id (Some u)))) (sym it.is)
             (its_action (records h) k it.placed new seen.report.standing device.id
-            (λ own open_still. (heard t (ap (λ (u : SeenAction). only_started (only_of device.id (Some u))) it.is ∙ own) open_still it.placed.action it.placed.at).standing))
+            (λ own open_still. (heard t (ap (λ (u : SeenAction). only_started (only_of device.id (Some u))) it.is ∙ own) open_still it.placed.action
+            it.placed.at).standing))
 
-  pub cancel_viewed : (id : Bytes) (seen : Option SeenAction) → SeesTarget id k (records h) seen → BothOrNone (λ v a. IsCancelView v a (records h)) (option_map cancel_view_seen seen) (action_for (records h) id k)
-  cancel_viewed id seen w = subst (λ o. BothOrNone (λ v a. IsCancelView v a (records h)) (option_map cancel_view_seen o) (action_for (records h) id k)) (sym w.action) (go w.found w.sees)
+  pub cancel_viewed : (id : Bytes) (seen : Option SeenAction) → SeesTarget id k (records h) seen
+      → BothOrNone (λ v a. IsCancelView v a (records h)) (option_map cancel_view_seen seen) (action_for (records h) id k)
+  cancel_viewed id seen w = subst (λ o. BothOrNone (λ v a. IsCancelView v a (records h)) (option_map cancel_view_seen o) (action_for (records h) id k))
+      (sym w.action) (go w.found w.sees)
     where
-      lacking : (o : Option Target) → BothOrNone (λ v a. IsCancelView v a (records h)) (option_map cancel_view_seen (cond (is_none o) None (only_of id None))) (only_if (is_some o && false) None)
+      lacking : (o : Option Target) → BothOrNone (λ v a. IsCancelView v a (records h)) (option_map cancel_view_seen (cond (is_none o) None (only_of id None)))
+          (only_if (is_some o && false) None)
       lacking None = tt
       lacking (Some x) = tt
 
-      go : (found : Option SeenAction) → MaySee k (ledger_of (records h)) found → BothOrNone (λ v a. IsCancelView v a (records h)) (option_map cancel_view_seen (cond (is_none (target_of (records h) id)) None (only_of id found))) (action_for (records h) id k)
+      go : (found : Option SeenAction) → MaySee k (ledger_of (records h)) found
+          → BothOrNone (λ v a. IsCancelView v a (records h)) (option_map cancel_view_seen (cond (is_none (target_of (records h) id)) None (only_of id found)))
+          (action_for (records h) id k)
       go None none = rw (none_known h valid k none) (lacking (target_of (records h) id))
       go (Some s) sees = let it = known h valid k s sees in rw it.is (its_cancel (records h) k it.placed id)

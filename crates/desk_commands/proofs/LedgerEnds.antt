@@ -1,5 +1,11 @@
 -- The ledger at the end of a command on rollouts is that of the records after it.
-use Rattle.desk_commands.proofs.Common.{◌≡◌, ◌≤◌, ℕ, zero, suc, ◌+◌, true, false, List, [], ◌∷◌, map, length, set, Option, Some, None, option_map, refl, sym, ap, ◌∙◌, subst, arith, nat_eq, slice_get, eq-eqb, nat_tests, length-map, item_numbered, CommandList, ◌▸◌, IsWellFormed, Bytes, Command, GroupRule, rules_of, offer, each_from, Records, group_in, rollout_in, change_rollout, step_records, Rollout, rollout_at, group_numbered, IsValid, check, Bounds, GroupRecord, RolloutRecord, numbered_map, records_step, change_numbered, records_are_sound, GroupStarts, group_offers, put_offers, offers_before_start, tally_of, numbers_of, Ledger, ledger_of, set_numbered, with_groups, with_rollouts, StartsGroup, started, with_group, StartsNoGroup, Waits, starts_of, no_record}
+use Rattle.desk_commands.proofs.Common.{◌≡◌, ◌≤◌, ℕ, zero, suc, ◌+◌, true, false, List, [], ◌∷◌, map, length, set, Option, Some, None, option_map, refl, sym}
+use Rattle.desk_commands.proofs.Common.{ap, ◌∙◌, subst, arith, nat_eq, slice_get, eq-eqb, nat_tests, length-map, item_numbered, CommandList, ◌▸◌, IsWellFormed}
+use Rattle.desk_commands.proofs.Common.{Bytes, Command, GroupRule, rules_of, offer, each_from, Records, group_in, rollout_in, change_rollout, step_records}
+use Rattle.desk_commands.proofs.Common.{Rollout, rollout_at, group_numbered, IsValid, check, Bounds, GroupRecord, RolloutRecord, numbered_map, records_step}
+use Rattle.desk_commands.proofs.Common.{change_numbered, records_are_sound, GroupStarts, group_offers, put_offers, offers_before_start, tally_of, numbers_of}
+use Rattle.desk_commands.proofs.Common.{Ledger, ledger_of, set_numbered, with_groups, with_rollouts, StartsGroup, started, with_group, StartsNoGroup, Waits}
+use Rattle.desk_commands.proofs.Common.{starts_of, no_record}
 use Rattle.rollout_machine.specs.Records.{records}
 use Rattle.rollout_machine.proofs.Whole.{rollout_numbered}
 use Rattle.campaign_core.proofs.RolloutLemmas.{rollouts_changed}
@@ -61,11 +67,13 @@ module _ (y : Rollout) (r : ℕ) (h : CommandList) where
       let other : nat_eq a 0 ≡ false = grind (arith, nat_tests) in
       rw other (none_at (suc a) n (omega arith))
 
-pub groups_stand : (h : CommandList) (r : ℕ) (x : RolloutRecord) → item_numbered (records h).rollouts r ≡ Some x → (i : ℕ) → group_numbered i x.groups ≡ item_numbered x.groups i
-groups_stand h r x at i = let it = rollout_of h r x at in subst (λ (z : RolloutRecord). group_numbered i z.groups ≡ item_numbered z.groups i) it.same (go it.rollout i) where
-  go : (y : Rollout) (i : ℕ) → group_numbered i (rollout_in h r y).groups ≡ item_numbered (rollout_in h r y).groups i
-  go y zero = none_at y r h 1 y.plan.groups.count (omega arith)
-  go y (suc j) = group_at y r h 1 y.plan.groups.count j (suc j) (omega arith)
+pub groups_stand : (h : CommandList) (r : ℕ) (x : RolloutRecord) → item_numbered (records h).rollouts r ≡ Some x → (i : ℕ) → group_numbered i x.groups
+    ≡ item_numbered x.groups i
+groups_stand h r x at i = let it = rollout_of h r x at in subst (λ (z : RolloutRecord). group_numbered i z.groups ≡ item_numbered z.groups i) it.same
+    (go it.rollout i) where
+      go : (y : Rollout) (i : ℕ) → group_numbered i (rollout_in h r y).groups ≡ item_numbered (rollout_in h r y).groups i
+      go y zero = none_at y r h 1 y.plan.groups.count (omega arith)
+      go y (suc j) = group_at y r h 1 y.plan.groups.count j (suc j) (omega arith)
 
 -- ---- the end
 
@@ -74,7 +82,8 @@ abbrev pub said_in : List RolloutRecord → List (List GroupRule)
 said_in xs = map (λ (x : RolloutRecord). rules_of x.plan) xs
 
 -- .. which stays where a rollout of the same plan is put in place of one
-pub said_stays : (xs : List RolloutRecord) (r : ℕ) (x y : RolloutRecord) → item_numbered xs r ≡ Some x → y.plan ≡ x.plan → said_in (set_numbered xs r y) ≡ said_in xs
+pub said_stays : (xs : List RolloutRecord) (r : ℕ) (x y : RolloutRecord) → item_numbered xs r ≡ Some x → y.plan ≡ x.plan → said_in (set_numbered xs r y)
+    ≡ said_in xs
 said_stays xs r x y there same = same_but_for (λ (z : RolloutRecord). rules_of z.plan) xs r x y there (ap rules_of same)
 
 -- what follows from the records of a ledger, but its offers
@@ -87,19 +96,24 @@ abbrev pub then_started : RolloutRecord → GroupRecord → RolloutRecord
 then_started x g = with_groups x (set_numbered x.groups g.number (started g))
 
 -- no group starts where the same ones are started
-none_starts : (h : CommandList) (c : Command) → StartsNoGroup (records h) (records (h ▸ c)) → (r i : ℕ) (b : Bounds) → GroupStarts (records h) (records (h ▸ c)) r i b → ⊥
+none_starts : (h : CommandList) (c : Command) → StartsNoGroup (records h) (records (h ▸ c)) → (r i : ℕ) (b : Bounds)
+    → GroupStarts (records h) (records (h ▸ c)) r i b → ⊥
 none_starts h c same r i b s =
     let was : item_numbered (starts_of s.rollout) i ≡ Some false = flag h s.rollout s.there s.group s.numbered ∙ ap (λ f. Some f) s.waits in
-    let is : item_numbered (starts_of s.next_rollout) i ≡ Some true = flag (h ▸ c) s.next_rollout s.still_there s.next_group s.still_numbered ∙ ap (λ f. Some f) s.starts in
+    let is : item_numbered (starts_of s.next_rollout) i ≡ Some true = flag (h ▸ c) s.next_rollout s.still_there s.next_group s.still_numbered
+    ∙ ap (λ f. Some f) s.starts in
     let both : Some false ≡ Some true = sym was ∙ sym (ap (λ fs. item_numbered fs i) (same r s.rollout s.next_rollout s.there s.still_there)) ∙ is in
     cc
   where
-    flag : (h : CommandList) (x : RolloutRecord) → item_numbered (records h).rollouts r ≡ Some x → (g : GroupRecord) → group_numbered i x.groups ≡ Some g → item_numbered (starts_of x) i ≡ Some g.started
-    flag h x at g its = numbered_map (λ (g : GroupRecord). g.started) x.groups i ∙ ap (option_map (λ (g : GroupRecord). g.started)) (sym (groups_stand h r x at i) ∙ its)
+    flag : (h : CommandList) (x : RolloutRecord) → item_numbered (records h).rollouts r ≡ Some x → (g : GroupRecord) → group_numbered i x.groups ≡ Some g
+        → item_numbered (starts_of x) i ≡ Some g.started
+    flag h x at g its = numbered_map (λ (g : GroupRecord). g.started) x.groups i
+        ∙ ap (option_map (λ (g : GroupRecord). g.started)) (sym (groups_stand h r x at i) ∙ its)
 
 module _ (h : CommandList) (c : Command) (valid : IsValid (h ▸ c)) where
   -- a group is started last
-  group_last : (r : ℕ) (g : GroupRecord) (mid : Ledger) (x : RolloutRecord) → item_numbered mid.records.rollouts r ≡ Some x → item_numbered x.groups g.number ≡ Some g → Waits (records h) r g
+  group_last : (r : ℕ) (g : GroupRecord) (mid : Ledger) (x : RolloutRecord) → item_numbered mid.records.rollouts r ≡ Some x → item_numbered x.groups g.number
+      ≡ Some g → Waits (records h) r g
       → records (h ▸ c) ≡ (with_group mid r x (started g)).records → FollowsRecords mid → ((t : Bytes) → mid.offers t ≡ offers_before_start h c t)
       → StartsGroup r g mid (ledger_of (records (h ▸ c)))
   group_last r g mid x there its waits after follows offers = record {
@@ -110,7 +124,8 @@ module _ (h : CommandList) (c : Command) (valid : IsValid (h ▸ c)) where
     next_is = λ i. record {
       records = after i;
       tallies = (ap (λ (rs : Records). map tally_of rs.actions) after ∙ sym follows.tallies) i;
-      offers = λ t. (offers_after_group h c r g.number g.bounds t valid starts ∙ ap (λ rs. put_offers (offers_before_start h c) (group_offers rs r g.bounds) t) after
+      offers = λ t. (offers_after_group h c r g.number g.bounds t valid starts ∙ ap (λ rs. put_offers (offers_before_start h c) (group_offers rs r g.bounds) t)
+          after
           ∙ ap (λ f. put_offers f (group_offers (with_group mid r x (started g)).records r g.bounds) t) (sym (λ i. λ u. offers u i))) i;
       rules = (ap (λ (rs : Records). said_in rs.rollouts) after ∙ said_stays mid.records.rollouts r x (then_started x g) there refl ∙ sym follows.rules) i;
       numbers = (ap (λ (rs : Records). map numbers_of rs.actions) after ∙ sym follows.numbers) i;
@@ -136,7 +151,8 @@ module _ (h : CommandList) (c : Command) (valid : IsValid (h ▸ c)) where
       }
 
   -- none is started
-  no_group : (next : Ledger) → records (h ▸ c) ≡ next.records → FollowsRecords next → ((t : Bytes) → next.offers t ≡ offers_before_start h c t) → StartsNoGroup (records h) (records (h ▸ c))
+  no_group : (next : Ledger) → records (h ▸ c) ≡ next.records → FollowsRecords next → ((t : Bytes) → next.offers t ≡ offers_before_start h c t)
+      → StartsNoGroup (records h) (records (h ▸ c))
       → ledger_of (records (h ▸ c)) ≡ next
   no_group next after follows offers none = λ i. record {
     records = after i;
@@ -146,49 +162,69 @@ module _ (h : CommandList) (c : Command) (valid : IsValid (h ▸ c)) where
     numbers = (ap (λ (rs : Records). map numbers_of rs.actions) after ∙ sym follows.numbers) i;
   }
 
--- An accepted command whose last write starts a group, and one that starts none. Before it the records lack that start alone, each action has its numbers, and of all
+-- An accepted command whose last write starts a group, and one that starts none. Before it the records lack that start alone, each action
+-- has its numbers, and of all
 -- targets but the one whose action it is the offers are as they were. Of all groups is said what their plans say.
 module _ (h : CommandList) (c : Command) (valid : IsValid h) (formed : IsWellFormed c) (accepted : check (records h) c ≡ None) where
   is_step : records (h ▸ c) ≡ step_records (records h) c
   is_step = records_step h c valid accepted
 
-  pub ends_with_group : (r : ℕ) (g : GroupRecord) (mid : Ledger) (x : RolloutRecord) → item_numbered mid.records.rollouts r ≡ Some x → item_numbered x.groups g.number ≡ Some g → Waits (records h) r g
+  pub ends_with_group : (r : ℕ) (g : GroupRecord) (mid : Ledger) (x : RolloutRecord) → item_numbered mid.records.rollouts r ≡ Some x
+      → item_numbered x.groups g.number ≡ Some g → Waits (records h) r g
       → step_records (records h) c ≡ (with_group mid r x (started g)).records → FollowsRecords mid → ((t : Bytes) → mid.offers t ≡ offers_before_start h c t)
       → StartsGroup r g mid (ledger_of (step_records (records h) c))
   ends_with_group r g mid x there its waits after follows offers =
-      subst (λ (rs : Records). StartsGroup r g mid (ledger_of rs)) is_step (group_last h c (valid, formed, accepted) r g mid x there its waits (is_step ∙ after) follows offers)
+      subst (λ (rs : Records). StartsGroup r g mid (ledger_of rs)) is_step
+      (group_last h c (valid, formed, accepted) r g mid x there its waits (is_step ∙ after) follows offers)
 
-  pub ends_with_none : (next : Ledger) → step_records (records h) c ≡ next.records → FollowsRecords next → ((t : Bytes) → next.offers t ≡ offers_before_start h c t)
+  pub ends_with_none : (next : Ledger) → step_records (records h) c ≡ next.records → FollowsRecords next
+      → ((t : Bytes) → next.offers t ≡ offers_before_start h c t)
       → StartsNoGroup (records h) (step_records (records h) c) → ledger_of (step_records (records h) c) ≡ next
   ends_with_none next after follows offers none =
-      sym (ap ledger_of is_step) ∙ no_group h c (valid, formed, accepted) next (is_step ∙ after) follows offers (subst (λ (rs : Records). StartsNoGroup (records h) rs) (sym is_step) none)
+      sym (ap ledger_of is_step) ∙ no_group h c (valid, formed, accepted) next (is_step ∙ after) follows offers
+      (subst (λ (rs : Records). StartsNoGroup (records h) rs) (sym is_step) none)
 
 -- ---- commands on one rollout
 
 -- what is done to the rollout of a number is done where it stands
-pub changed_at : (h : CommandList) → IsValid h → (r : ℕ) (f : RolloutRecord → RolloutRecord) (x y : RolloutRecord) → item_numbered (records h).rollouts r ≡ Some x → f x ≡ y → change_rollout r f (records h).rollouts ≡ set_numbered (records h).rollouts r y
-changed_at h valid r f x y there is = rollouts_changed (records h) (records_are_sound h valid) r f ∙ change_is_set r f (records h).rollouts x there ∙ ap (set_numbered (records h).rollouts r) is
+pub changed_at : (h : CommandList) → IsValid h → (r : ℕ) (f : RolloutRecord → RolloutRecord) (x y : RolloutRecord) → item_numbered (records h).rollouts r
+    ≡ Some x → f x ≡ y → change_rollout r f (records h).rollouts ≡ set_numbered (records h).rollouts r y
+changed_at h valid r f x y there is = rollouts_changed (records h) (records_are_sound h valid) r f ∙ change_is_set r f (records h).rollouts x there
+    ∙ ap (set_numbered (records h).rollouts r) is
 
-keeps_starts : (xs ys : List RolloutRecord) → map starts_of ys ≡ map starts_of xs → (r : ℕ) (x y : RolloutRecord) → item_numbered xs r ≡ Some x → item_numbered ys r ≡ Some y → starts_of y ≡ starts_of x
+keeps_starts : (xs ys : List RolloutRecord) → map starts_of ys ≡ map starts_of xs → (r : ℕ) (x y : RolloutRecord) → item_numbered xs r ≡ Some x
+    → item_numbered ys r ≡ Some y → starts_of y ≡ starts_of x
 keeps_starts xs ys same r x y at there =
     let both : Some (starts_of y) ≡ Some (starts_of x) =
-    sym (numbered_map starts_of ys r ∙ ap (option_map starts_of) there) ∙ ap (λ fs. item_numbered fs r) same ∙ numbered_map starts_of xs r ∙ ap (option_map starts_of) at in
+    sym (numbered_map starts_of ys r ∙ ap (option_map starts_of) there) ∙ ap (λ fs. item_numbered fs r) same ∙ numbered_map starts_of xs r
+    ∙ ap (option_map starts_of) at in
     cc
 
 -- An accepted command that makes y of rollout r alone, by the same plan, and is on no action.
-module _ (h : CommandList) (c : Command) (valid : IsValid h) (formed : IsWellFormed c) (accepted : check (records h) c ≡ None) (r : ℕ) (x y : RolloutRecord) (there : item_numbered (records h).rollouts r ≡ Some x)
-    (step : step_records (records h) c ≡ record (records h) { rollouts = set_numbered (records h).rollouts r y }) (planned : y.plan ≡ x.plan) (calm : (t : Bytes) → offer (records h) t ≡ offers_before_start h c t) where
+module _ (h : CommandList) (c : Command) (valid : IsValid h) (formed : IsWellFormed c) (accepted : check (records h) c ≡ None) (r : ℕ) (x y : RolloutRecord)
+    (there : item_numbered (records h).rollouts r ≡ Some x)
+    (step : step_records (records h) c ≡ record (records h) { rollouts = set_numbered (records h).rollouts r y }) (planned : y.plan ≡ x.plan)
+    (calm : (t : Bytes) → offer (records h) t ≡ offers_before_start h c t) where
   -- it starts no group
-  pub sets_alone : starts_of y ≡ starts_of x → ledger_of (step_records (records h) c) ≡ with_rollouts (ledger_of (records h)) (set_numbered (records h).rollouts r y)
+  pub sets_alone : starts_of y ≡ starts_of x → ledger_of (step_records (records h) c)
+      ≡ with_rollouts (ledger_of (records h)) (set_numbered (records h).rollouts r y)
   sets_alone same =
       ends_with_none h c valid formed accepted (with_rollouts (ledger_of (records h)) (set_numbered (records h).rollouts r y)) step
       (record { tallies = refl; rules = sym (said_stays (records h).rollouts r x y there planned); numbers = refl }) calm
-      (λ q x' y' at still. keeps_starts (records h).rollouts (set_numbered (records h).rollouts r y) (same_but_for starts_of (records h).rollouts r x y there same) q x' y' at (sym (ap (λ (rs : Records). item_numbered rs.rollouts q) step) ∙ still))
+      (λ q x' y' at still. keeps_starts (records h).rollouts (set_numbered (records h).rollouts r y)
+      (same_but_for starts_of (records h).rollouts r x y there same) q x' y' at (sym (ap (λ (rs : Records). item_numbered rs.rollouts q) step) ∙ still))
 
   -- it makes z of the rollout, and then starts a group
   pub starts_last : (z : RolloutRecord) (g : GroupRecord) → item_numbered z.groups g.number ≡ Some g → Waits (records h) r g → y ≡ then_started z g
       → StartsGroup r g (with_rollouts (ledger_of (records h)) (set_numbered (records h).rollouts r z)) (ledger_of (step_records (records h) c))
   starts_last z g its waits is =
-      ends_with_group h c valid formed accepted r g (with_rollouts (ledger_of (records h)) (set_numbered (records h).rollouts r z)) z (set_is_there (records h).rollouts r x z there) its waits
-      (step ∙ ap (λ (xs : List RolloutRecord). record (records h) { rollouts = xs }) (ap (set_numbered (records h).rollouts r) is ∙ sym (set_twice r (records h).rollouts z (then_started z g))))
-      (record { tallies = refl; rules = sym (said_stays (records h).rollouts r x z there (sym (ap (λ (w : RolloutRecord). w.plan) is) ∙ planned)); numbers = refl }) calm
+      ends_with_group h c valid formed accepted r g (with_rollouts (ledger_of (records h)) (set_numbered (records h).rollouts r z)) z
+      (set_is_there (records h).rollouts r x z there) its waits
+      (step ∙ ap (λ (xs : List RolloutRecord). record (records h) { rollouts = xs })
+      (ap (set_numbered (records h).rollouts r) is ∙ sym (set_twice r (records h).rollouts z (then_started z g))))
+      (record {
+        tallies = refl;
+        rules = sym (said_stays (records h).rollouts r x z there (sym (ap (λ (w : RolloutRecord). w.plan) is) ∙ planned));
+        numbers =
+            refl;
+      }) calm

@@ -1,5 +1,9 @@
 -- What a target is offered, looked up among its actions.
-use Rattle.desk_commands.proofs.Common.{◌≡◌, ℕ, zero, suc, Bool, true, false, cond, ◌&&◌, List, [], ◌∷◌, length, set, Option, Some, None, refl, sym, ap, ◌∙◌, slice_get, list_any, is_none, item_numbered, same_bytes, CommandList, ◌▸◌, Bytes, Command, Offer, first_offer, offer, has_started, is_for, is_started_in, Reported, Records, IsValid, ActionRecord, RolloutRecord, acted, actor_of, Ledger, SetsOffer, set_numbered, with_offer, any_starts, next_offer, next_offer_from, starts_at, parts_of, Reoffers, and_assoc, and_comm}
+use Rattle.desk_commands.proofs.Common.{◌≡◌, ℕ, zero, suc, Bool, true, false, cond, ◌&&◌, List, [], ◌∷◌, length, set, Option, Some, None, refl, sym, ap, ◌∙◌}
+use Rattle.desk_commands.proofs.Common.{slice_get, list_any, is_none, item_numbered, same_bytes, CommandList, ◌▸◌, Bytes, Command, Offer, first_offer, offer}
+use Rattle.desk_commands.proofs.Common.{has_started, is_for, is_started_in, Reported, Records, IsValid, ActionRecord, RolloutRecord, acted, actor_of, Ledger}
+use Rattle.desk_commands.proofs.Common.{SetsOffer, set_numbered, with_offer, any_starts, next_offer, next_offer_from, starts_at, parts_of, Reoffers, and_assoc}
+use Rattle.desk_commands.proofs.Common.{and_comm}
 use Rattle.offer_laws.proofs.AnyGroup.{started_by_any_then}
 
 -- ---- as the machine says
@@ -9,16 +13,20 @@ module _ (h : CommandList) (c : Command) (valid : IsValid (h ▸ c)) (t : Bytes)
   any_is_its : (k : ℕ) (a : ActionRecord) → item_numbered (acted h c).actions k ≡ Some a → any_starts (acted h c).rollouts a ≡ has_started (acted h c) a
   any_is_its k a at = go (item_numbered (acted h c).rollouts a.rollout) refl
     where
-      go : (o : Option RolloutRecord) → item_numbered (acted h c).rollouts a.rollout ≡ o → list_any (starts_at a.position) (parts_of (λ (x : RolloutRecord). x.groups) o) ≡ is_started_in o a
+      go : (o : Option RolloutRecord) → item_numbered (acted h c).rollouts a.rollout ≡ o
+          → list_any (starts_at a.position) (parts_of (λ (x : RolloutRecord). x.groups) o) ≡ is_started_in o a
       go None is = refl
       go (Some x) is = sym (started_by_any_then h c k a x valid at is) ∙ ap (λ o. is_started_in o a) is
 
-  next_from : (n : ℕ) (as' : List ActionRecord) → ((j : ℕ) (a : ActionRecord) → slice_get as' j ≡ Some a → any_starts (acted h c).rollouts a ≡ has_started (acted h c) a) → next_offer_from (acted h c).rollouts t n as' ≡ first_offer (acted h c) t n as'
+  next_from : (n : ℕ) (as' : List ActionRecord)
+      → ((j : ℕ) (a : ActionRecord) → slice_get as' j ≡ Some a → any_starts (acted h c).rollouts a ≡ has_started (acted h c) a)
+      → next_offer_from (acted h c).rollouts t n as' ≡ first_offer (acted h c) t n as'
   next_from n [] all = refl
   next_from n (a ∷ more) all =
       let its = same_bytes (actor_of (acted h c).rollouts a) t in
       let starts = any_starts (acted h c).rollouts a in
-      let whether = sym (and_assoc its (is_none a.outcome) starts) ∙ ap (λ b. b && starts) (and_comm its (is_none a.outcome)) ∙ and_assoc (is_none a.outcome) its starts ∙ ap (λ b. is_none a.outcome && (is_for (acted h c) t a && b)) (all 0 a refl) in
+      let whether = sym (and_assoc its (is_none a.outcome) starts) ∙ ap (λ b. b && starts) (and_comm its (is_none a.outcome))
+      ∙ and_assoc (is_none a.outcome) its starts ∙ ap (λ b. is_none a.outcome && (is_for (acted h c) t a && b)) (all 0 a refl) in
       λ i. cond (whether i) (Some (record { action = n; canceling = a.canceling })) (next_from (suc n) more (λ j b at. all (suc j) b at) i)
 
   -- any started group that holds the place tells as much as the first group that does
@@ -36,41 +44,56 @@ module _ (id : Bytes) (l next : Ledger) (w : Reoffers id l next) where
 
 -- ---- an offer that is there
 
-first_there : (rs : Records) (t : Bytes) (n j : ℕ) (xs : List ActionRecord) (a : ActionRecord) → slice_get xs j ≡ Some a → (is_none a.outcome && (is_for rs t a && has_started rs a)) ≡ true → (o : Offer) × (first_offer rs t n xs ≡ Some o)
+first_there : (rs : Records) (t : Bytes) (n j : ℕ) (xs : List ActionRecord) (a : ActionRecord) → slice_get xs j ≡ Some a
+    → (is_none a.outcome && (is_for rs t a && has_started rs a)) ≡ true → (o : Offer) × (first_offer rs t n xs ≡ Some o)
 first_there rs t n j [] a at is = cc
 first_there rs t n zero (x ∷ xs) a at is =
-    let same : a ≡ x = cc in
-    (record { action = n; canceling = x.canceling }, ap (λ b. cond b (Some (record { action = n; canceling = x.canceling })) (first_offer rs t (suc n) xs)) (ap (λ (v : ActionRecord). is_none v.outcome && (is_for rs t v && has_started rs v)) (sym same) ∙ is))
+    let same : a ≡ x = cc in (
+      record { action = n; canceling = x.canceling },
+      ap (λ b. cond b (Some (record { action = n; canceling = x.canceling })) (first_offer rs t (suc n) xs))
+          (ap (λ (v : ActionRecord). is_none v.outcome && (is_for rs t v && has_started rs v)) (sym same) ∙ is),
+    )
 first_there rs t n (suc j) (x ∷ xs) a at is = go (is_none x.outcome && (is_for rs t x && has_started rs x)) (first_there rs t (suc n) j xs a at is)
   where
-    go : (b : Bool) → (o : Offer) × (first_offer rs t (suc n) xs ≡ Some o) → (o : Offer) × (cond b (Some (record { action = n; canceling = x.canceling })) (first_offer rs t (suc n) xs) ≡ Some o)
+    go : (b : Bool) → (o : Offer) × (first_offer rs t (suc n) xs ≡ Some o) → (o : Offer)
+        × (cond b (Some (record { action = n; canceling = x.canceling })) (first_offer rs t (suc n) xs) ≡ Some o)
     go true later = (record { action = n; canceling = x.canceling }, refl)
     go false later = later
 
 -- the target of an open action whose group is started is offered something
-pub offer_there : (rs : Records) (t : Bytes) (k : ℕ) (a : ActionRecord) → item_numbered rs.actions k ≡ Some a → (is_none a.outcome && (is_for rs t a && has_started rs a)) ≡ true → (o : Offer) × (offer rs t ≡ Some o)
+pub offer_there : (rs : Records) (t : Bytes) (k : ℕ) (a : ActionRecord) → item_numbered rs.actions k ≡ Some a
+    → (is_none a.outcome && (is_for rs t a && has_started rs a)) ≡ true → (o : Offer) × (offer rs t ≡ Some o)
 offer_there rs t zero a at is = cc
 offer_there rs t (suc k) a at is = first_there rs t 1 k rs.actions a at is
 
 -- ---- an offer that stays
 
-others_offered : (rs : Records) (as' : List ActionRecord) (t : Bytes) (n : ℕ) (xs : List ActionRecord) → first_offer (record rs { actions = as' }) t n xs ≡ first_offer rs t n xs
+others_offered : (rs : Records) (as' : List ActionRecord) (t : Bytes) (n : ℕ) (xs : List ActionRecord) → first_offer (record rs { actions = as' }) t n xs
+    ≡ first_offer rs t n xs
 others_offered rs as' t n [] = refl
-others_offered rs as' t n (x ∷ xs) = ap (λ o. cond (is_none x.outcome && (is_for rs t x && has_started rs x)) (Some (record { action = n; canceling = x.canceling })) o) (others_offered rs as' t (suc n) xs)
+others_offered rs as' t n (x ∷ xs) =
+    ap (λ o. cond (is_none x.outcome && (is_for rs t x && has_started rs x)) (Some (record { action = n; canceling = x.canceling })) o)
+    (others_offered rs as' t (suc n) xs)
 
 started_alike : (o : Option RolloutRecord) (a : ActionRecord) (hs : List Reported) → is_started_in o (record a { history = hs }) ≡ is_started_in o a
 started_alike None a hs = refl
 started_alike (Some x) a hs = refl
 
-still_offered : (rs : Records) (as' : List ActionRecord) (t : Bytes) (hs : List Reported) (a : ActionRecord) (n k : ℕ) (xs : List ActionRecord) → slice_get xs k ≡ Some a → first_offer (record rs { actions = as' }) t n (set xs k (record a { history = hs })) ≡ first_offer rs t n xs
+still_offered : (rs : Records) (as' : List ActionRecord) (t : Bytes) (hs : List Reported) (a : ActionRecord) (n k : ℕ) (xs : List ActionRecord) → slice_get xs k
+    ≡ Some a → first_offer (record rs { actions = as' }) t n (set xs k (record a { history = hs })) ≡ first_offer rs t n xs
 still_offered rs as' t hs a n k [] at = cc
 still_offered rs as' t hs a n zero (x ∷ xs) at =
     let same : a ≡ x = cc in
-    (λ i. cond (is_none a.outcome && (is_for rs t a && started_alike (item_numbered rs.rollouts a.rollout) a hs i)) (Some (record { action = n; canceling = a.canceling })) (others_offered rs as' t (suc n) xs i))
-    ∙ ap (λ (v : ActionRecord). cond (is_none v.outcome && (is_for rs t v && has_started rs v)) (Some (record { action = n; canceling = v.canceling })) (first_offer rs t (suc n) xs)) same
-still_offered rs as' t hs a n (suc k) (x ∷ xs) at = ap (λ o. cond (is_none x.outcome && (is_for rs t x && has_started rs x)) (Some (record { action = n; canceling = x.canceling })) o) (still_offered rs as' t hs a (suc n) k xs at)
+    (λ i. cond (is_none a.outcome && (is_for rs t a && started_alike (item_numbered rs.rollouts a.rollout) a hs i))
+    (Some (record { action = n; canceling = a.canceling })) (others_offered rs as' t (suc n) xs i))
+    ∙ ap (λ (v : ActionRecord). cond (is_none v.outcome && (is_for rs t v && has_started rs v)) (Some (record { action = n; canceling = v.canceling }))
+    (first_offer rs t (suc n) xs)) same
+still_offered rs as' t hs a n (suc k) (x ∷ xs) at =
+    ap (λ o. cond (is_none x.outcome && (is_for rs t x && has_started rs x)) (Some (record { action = n; canceling = x.canceling })) o)
+    (still_offered rs as' t hs a (suc n) k xs at)
 
 -- whatever is told of an action, its target is offered the same
-pub offer_stays : (rs : Records) (k : ℕ) (a : ActionRecord) (hs : List Reported) (t : Bytes) → item_numbered rs.actions k ≡ Some a → offer (record rs { actions = set_numbered rs.actions k (record a { history = hs }) }) t ≡ offer rs t
+pub offer_stays : (rs : Records) (k : ℕ) (a : ActionRecord) (hs : List Reported) (t : Bytes) → item_numbered rs.actions k ≡ Some a
+    → offer (record rs { actions = set_numbered rs.actions k (record a { history = hs }) }) t ≡ offer rs t
 offer_stays rs zero a hs t at = cc
 offer_stays rs (suc k) a hs t at = still_offered rs (set rs.actions k (record a { history = hs })) t hs a 1 k rs.actions at

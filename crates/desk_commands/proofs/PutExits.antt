@@ -1,6 +1,13 @@
 -- The ledger behind a row of a put, and between its name and its tags, can be read.
 use Rattle.sqlite.specs.State.{State}
-use Rattle.desk_commands.proofs.Common.{◌≡◌, ◌≤◌, ◌<◌, ◌^◌, ◌&&◌, ℕ, zero, suc, pos, Bool, true, false, cond, inl, inr, List, [], ◌∷◌, take, get_or, length, Option, Some, None, Result, Err, refl, sym, ap, ◌∙◌, subst, arith, true≢false, length-map, list_all, and_parts, HasCleanDisk, HoldsLedger, ledger_of, IsHeld, Sees, Wears, Fault, Refusal, CommandList, ◌▸◌, IsValid, Records, records, records_step, step_records, put_targets, change_target, Bytes, Attribute, TargetRow, PutTargets, Target, check, same_bytes, renamed, with_changed, attribute_rows, tag_rows, target_row, Has, is_digest, is_tag_list, is_text, is_value, is_word, limits_hold, broken_attribute_column, broken_listed_column, broken_target_column, BreaksColumn, IsReadable, second_shown, third_shown, seen_in, OpenChange, Ghosts, FailsWriting, TakesRow, TakesRows, has_flat, kept_to}
+use Rattle.desk_commands.proofs.Common.{◌≡◌, ◌≤◌, ◌<◌, ◌^◌, ◌&&◌, ℕ, zero, suc, pos, Bool, true, false, cond, inl, inr, List, [], ◌∷◌, take, get_or, length}
+use Rattle.desk_commands.proofs.Common.{Option, Some, None, Result, Err, refl, sym, ap, ◌∙◌, subst, arith, true≢false, length-map, list_all, and_parts}
+use Rattle.desk_commands.proofs.Common.{HasCleanDisk, HoldsLedger, ledger_of, IsHeld, Sees, Wears, Fault, Refusal, CommandList, ◌▸◌, IsValid, Records, records}
+use Rattle.desk_commands.proofs.Common.{records_step, step_records, put_targets, change_target, Bytes, Attribute, TargetRow, PutTargets, Target, check}
+use Rattle.desk_commands.proofs.Common.{same_bytes, renamed, with_changed, attribute_rows, tag_rows, target_row, Has, is_digest, is_tag_list, is_text}
+use Rattle.desk_commands.proofs.Common.{is_value, is_word, limits_hold, broken_attribute_column, broken_listed_column, broken_target_column, BreaksColumn}
+use Rattle.desk_commands.proofs.Common.{IsReadable, second_shown, third_shown, seen_in, OpenChange, Ghosts, FailsWriting, TakesRow, TakesRows, has_flat}
+use Rattle.desk_commands.proofs.Common.{kept_to}
 use Rattle.sqlite_value.specs.Order.{Row}
 use Rattle.sqlite_value.specs.declared.value.Value.TheVariants.{Int, Text}
 use Rattle.sqlite_rules.proofs.ListLemmas.{test_has}
@@ -8,7 +15,8 @@ use Rattle.sql_calls.proofs.Counts.{length_held}
 use Rattle.rollout_model.specs.Pairs.{is_attribute}
 use Rattle.rollout_model.specs.Rows.{is_target_row}
 use Rattle.desk_records.specs.RowFaults.{BreaksRule}
-use Rattle.desk_records.specs.Schema.{Actions, Artifacts, Desk, Feedbacks, Groups, Members, Modules, Numbers, Offers, Pieces, Place, Rollouts, Rules, SetModules, Sets, TargetAttributes, TargetTags, Targets}
+use Rattle.desk_records.specs.Schema.{Actions, Artifacts, Desk, Feedbacks, Groups, Members, Modules, Numbers, Offers, Pieces, Place, Rollouts, Rules}
+use Rattle.desk_records.specs.Schema.{SetModules, Sets, TargetAttributes, TargetTags, Targets}
 use Rattle.desk_records.specs.declared.module_row.Column.{Column}
 use Rattle.desk_records.proofs.HeldTables.{wanted_of}
 use Rattle.desk_records.proofs.Membership.{has_mapped}
@@ -23,32 +31,39 @@ unbroken column none broken = let told : None ≡ Some broken.first = sym none �
 
 module _ (r : Records) (w : IsReadable (ledger_of r)) (ts : List Target) (keep : (x : Target) → Has ts x → KeepsTarget x) (few : length ts < 2 ^ 32) where
   of_target : (n : ℕ) (x : Target) → KeepsTarget x → BreaksColumn Targets (Int (pos n) ∷ target_row x) → ⊥
-  of_target n x keeps (inl broken) = unbroken _ (let is : broken_target_column (third_shown (Int (pos n) ∷ target_row x)) ≡ None = rw (keeps.name, keeps.digest) refl in is) broken
-  of_target n x keeps (inr broken) = unbroken _ (let is : broken_listed_column (second_shown (Int (pos n) ∷ target_row x)) ≡ None = rw (keeps.id, keeps.name) refl in is) broken
+  of_target n x keeps (inl broken) =
+      unbroken _ (let is : broken_target_column (third_shown (Int (pos n) ∷ target_row x)) ≡ None = rw (keeps.name, keeps.digest) refl in is) broken
+  of_target n x keeps (inr broken) =
+      unbroken _ (let is : broken_listed_column (second_shown (Int (pos n) ∷ target_row x)) ≡ None = rw (keeps.id, keeps.name) refl in is) broken
 
   of_tag : (n : ℕ) (x : Target) (tag : Bytes) → KeepsTarget x → Has x.tags tag → BreaksColumn TargetTags (Int (pos n) ∷ Text x.id ∷ Text tag ∷ []) → ⊥
   of_tag n x tag keeps its broken = true≢false (sym (test_has is_word x.tags tag keeps.tags its) ∙ broken)
 
-  of_attribute : (n : ℕ) (x : Target) (a : Attribute) → KeepsTarget x → Has x.attributes a → BreaksColumn TargetAttributes (Int (pos n) ∷ Text x.id ∷ Text a.key ∷ Text a.value ∷ []) → ⊥
+  of_attribute : (n : ℕ) (x : Target) (a : Attribute) → KeepsTarget x → Has x.attributes a
+      → BreaksColumn TargetAttributes (Int (pos n) ∷ Text x.id ∷ Text a.key ∷ Text a.value ∷ []) → ⊥
   of_attribute n x a keeps its broken =
       let parts = and_parts (is_word a.key) (is_value a.value) (test_has is_attribute x.attributes a keeps.attributes its) in
-      unbroken _ (let is : broken_attribute_column (third_shown (Int (pos n) ∷ Text x.id ∷ Text a.key ∷ Text a.value ∷ [])) ≡ None = rw (parts.0, parts.1) refl in is) broken
+      unbroken _ (let is : broken_attribute_column (third_shown (Int (pos n) ∷ Text x.id ∷ Text a.key ∷ Text a.value ∷ [])) ≡ None =
+      rw (parts.0, parts.1) refl in is) broken
 
   keeps : (p : Place) (rows : List Row) → IsHeld (ledger_of (record r { targets = ts })) p rows → (row : Row) → Has rows row → BreaksColumn p row → ⊥
   keeps Targets rows held row among broken =
       let content = wanted_of rows _ row held among in
       let source = has_mapped target_row ts content.1 content.2 in
-      of_target content.0 source.0 (keep source.0 source.1) (subst (BreaksColumn Targets) (content.3 ∙ ap (λ (z : Row). Int (pos content.0) ∷ z) source.2) broken)
+      of_target content.0 source.0 (keep source.0 source.1)
+      (subst (BreaksColumn Targets) (content.3 ∙ ap (λ (z : Row). Int (pos content.0) ∷ z) source.2) broken)
   keeps TargetTags rows held row among broken =
       let content = wanted_of rows _ row held among in
       let its = has_flat tag_rows ts content.1 content.2 in
       let source = has_mapped (λ (tag : Bytes). Text its.0.id ∷ Text tag ∷ []) its.0.tags content.1 its.2 in
-      of_tag content.0 its.0 source.0 (keep its.0 its.1) source.1 (subst (BreaksColumn TargetTags) (content.3 ∙ ap (λ (z : Row). Int (pos content.0) ∷ z) source.2) broken)
+      of_tag content.0 its.0 source.0 (keep its.0 its.1) source.1
+      (subst (BreaksColumn TargetTags) (content.3 ∙ ap (λ (z : Row). Int (pos content.0) ∷ z) source.2) broken)
   keeps TargetAttributes rows held row among broken =
       let content = wanted_of rows _ row held among in
       let its = has_flat attribute_rows ts content.1 content.2 in
       let source = has_mapped (λ (a : Attribute). Text its.0.id ∷ Text a.key ∷ Text a.value ∷ []) its.0.attributes content.1 its.2 in
-      of_attribute content.0 its.0 source.0 (keep its.0 its.1) source.1 (subst (BreaksColumn TargetAttributes) (content.3 ∙ ap (λ (z : Row). Int (pos content.0) ∷ z) source.2) broken)
+      of_attribute content.0 its.0 source.0 (keep its.0 its.1) source.1
+      (subst (BreaksColumn TargetAttributes) (content.3 ∙ ap (λ (z : Row). Int (pos content.0) ∷ z) source.2) broken)
   keeps Desk rows held row among broken = w.keep Desk rows held row among broken
   keeps Modules rows held row among broken = w.keep Modules rows held row among broken
   keeps Sets rows held row among broken = w.keep Sets rows held row among broken
@@ -65,11 +80,15 @@ module _ (r : Records) (w : IsReadable (ledger_of r)) (ts : List Target) (keep :
   keeps Numbers rows held row among broken = w.keep Numbers rows held row among broken
 
   pub readable_with : IsReadable (ledger_of (record r { targets = ts }))
-  readable_with = record { keep = keeps; few = λ rows held. (let size = length_held rows _ held in let mapped = length-map ts target_row in omega (arith, size, mapped, few)) }
+  readable_with = record {
+    keep = keeps;
+    few = λ rows held. (let size = length_held rows _ held in let mapped = length-map ts target_row in omega (arith, size, mapped, few));
+  }
 
 -- ---- between two rows
 
-module _ (h : CommandList) (valid : IsValid h) (rows : List TargetRow) (good : list_all is_target_row rows ≡ true) (few : length (step_records (records h) (PutTargets rows)).targets ≤ 10000) where
+module _ (h : CommandList) (valid : IsValid h) (rows : List TargetRow) (good : list_all is_target_row rows ≡ true)
+    (few : length (step_records (records h) (PutTargets rows)).targets ≤ 10000) where
   accepted : check (records h) (PutTargets rows) ≡ None
   accepted = within_quota (records h) rows few
 
@@ -87,10 +106,12 @@ module _ (h : CommandList) (valid : IsValid h) (rows : List TargetRow) (good : l
 
 -- ---- within a row
 
-pub renamed_readable : (h : CommandList) → IsValid h → (row : TargetRow) → is_target_row row ≡ true → IsReadable (ledger_of (records h)) → IsReadable (ledger_of (with_changed (records h) row.id (renamed row.name row.digest)))
+pub renamed_readable : (h : CommandList) → IsValid h → (row : TargetRow) → is_target_row row ≡ true → IsReadable (ledger_of (records h))
+    → IsReadable (ledger_of (with_changed (records h) row.id (renamed row.name row.digest)))
 renamed_readable h valid row good w =
     readable_with (records h) w (change_target row.id (renamed row.name row.digest) (records h).targets) each
-    (let size = length-map (records h).targets (λ (t : Target). cond (same_bytes t.id row.id) (renamed row.name row.digest t) t) in omega (arith, size, (limits_hold h valid).targets))
+    (let size = length-map (records h).targets (λ (t : Target). cond (same_bytes t.id row.id) (renamed row.name row.digest t) t) in
+    omega (arith, size, (limits_hold h valid).targets))
   where
     parts : (is_text row.name ≡ true) × (is_digest row.digest ≡ true)
     parts =
@@ -114,8 +135,10 @@ good_at p (y ∷ ys) zero x below is all = ap p is ∙ (and_parts (p y) (list_al
 good_at p (y ∷ ys) (suc k) x below is all = good_at p ys k x (omega (arith, below)) is (and_parts (p y) (list_all p ys) all).1
 
 -- behind those that are put before it
-pub rows_end : {S : Type 0} {g : Ghosts S} {was : State} {mid new : OpenChange S} {fault : Fault} (rows : List TargetRow) (row : TargetRow) (k : ℕ) → k < length rows → row ≡ get_or rows k row → (left : Option ℕ) → PutsSoFar was (seen_in g mid) (take k rows) left
-    → Wears (seen_in g mid) (seen_in g new) → FailsWriting g (TakesRow row) {A = Result (Option ℕ) Refusal} mid new (Err fault) → Exits g (TakesRows rows) was new fault
+pub rows_end : {S : Type 0} {g : Ghosts S} {was : State} {mid new : OpenChange S} {fault : Fault} (rows : List TargetRow) (row : TargetRow) (k : ℕ)
+    → k < length rows → row ≡ get_or rows k row → (left : Option ℕ) → PutsSoFar was (seen_in g mid) (take k rows) left
+    → Wears (seen_in g mid) (seen_in g new) → FailsWriting g (TakesRow row) {A = Result (Option ℕ) Refusal} mid new (Err fault)
+    → Exits g (TakesRows rows) was new fault
 rows_end {g = g} {was = was} {mid = mid} rows row k below at left so_far wears w = λ l sees it.
     let of = it.given.of_list in
     let h = of.list in
@@ -129,7 +152,11 @@ rows_end {g = g} {was = was} {mid = mid} rows row k below at left so_far wears w
           (record {
             readable = put_readable h of.valid (take k rows) good few (subst IsReadable of.is it.readable);
             given = record {
-              of_list = record { list = h ▸ PutTargets (take k rows); valid = put_valid h of.valid (take k rows) good few; is = ap ledger_of (put_is h of.valid (take k rows) good few) };
+              of_list = record {
+                list = h ▸ PutTargets (take k rows);
+                valid = put_valid h of.valid (take k rows) good few;
+                is = ap ledger_of (put_is h of.valid (take k rows) good few);
+              };
               row_keeps = good_at is_target_row rows k row below at it.given.rows_keep;
             };
           })).reason is clean;

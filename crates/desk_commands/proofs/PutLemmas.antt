@@ -1,5 +1,11 @@
 -- Rows of targets that are put one after the other, as far as the desk takes them.
-use Rattle.desk_commands.proofs.Common.{◌≡◌, ◌≤◌, ◌<◌, ◌+◌, ◌-◌, ℕ, suc, Bool, true, false, cond, ◌||◌, nat_lt, List, [], ◌∷◌, ◌++◌, length, get_or, take, drop, Option, Some, None, option_map, Ok, Err, refl, sym, ap, ◌∙◌, subst, arith, is_some, nat_tests, map-append, take_more, take_all, take-append-drop, length-map, State, HasCleanDisk, Finds, Makes, Sees, Wears, HoldsLedger, ledger_of, stored_target, are_sorted, ids_of, StoredTarget, same_bytes, bytes_below, contains_word, with_word, with_words, CommandList, Bytes, TargetRow, PutTargets, Records, records, new_target, put_target, put_targets, step_records, Target, IsValid, check, target_of, same_sym, same_true, Refusal, Quota, HasRoom, IsTooMany, LeavesRoom, PutsAll, PutsRow, ids_after, row_ids, with_row, with_there, limits_hold}
+use Rattle.desk_commands.proofs.Common.{◌≡◌, ◌≤◌, ◌<◌, ◌+◌, ◌-◌, ℕ, suc, Bool, true, false, cond, ◌||◌, nat_lt, List, [], ◌∷◌, ◌++◌, length, get_or, take}
+use Rattle.desk_commands.proofs.Common.{drop, Option, Some, None, option_map, Ok, Err, refl, sym, ap, ◌∙◌, subst, arith, is_some, nat_tests, map-append}
+use Rattle.desk_commands.proofs.Common.{take_more, take_all, take-append-drop, length-map, State, HasCleanDisk, Finds, Makes, Sees, Wears, HoldsLedger}
+use Rattle.desk_commands.proofs.Common.{ledger_of, stored_target, are_sorted, ids_of, StoredTarget, same_bytes, bytes_below, contains_word, with_word}
+use Rattle.desk_commands.proofs.Common.{with_words, CommandList, Bytes, TargetRow, PutTargets, Records, records, new_target, put_target, put_targets}
+use Rattle.desk_commands.proofs.Common.{step_records, Target, IsValid, check, target_of, same_sym, same_true, Refusal, Quota, HasRoom, IsTooMany, LeavesRoom}
+use Rattle.desk_commands.proofs.Common.{PutsAll, PutsRow, ids_after, row_ids, with_row, with_there, limits_hold}
 use Rattle.desk_commands.proofs.ByteOrderLemmas.{count_with}
 use Rattle.desk_commands.proofs.TargetLemmas.{found, ids_sorted}
 
@@ -11,7 +17,8 @@ with_targets r ts = record r { targets = ts }
 has_id : (id : Bytes) (ts : List Target) → contains_word id (ids_of ts) ≡ is_some (option_map stored_target (found id ts))
 has_id id [] = refl
 has_id id (t ∷ ts) = ap (λ s. s || contains_word id (ids_of ts)) (same_sym id t.id) ∙ go (same_bytes t.id id) (has_id id ts) where
-  go : (s : Bool) → contains_word id (ids_of ts) ≡ is_some (option_map stored_target (found id ts)) → (s || contains_word id (ids_of ts)) ≡ is_some (option_map stored_target (cond s (Some t) (found id ts)))
+  go : (s : Bool) → contains_word id (ids_of ts) ≡ is_some (option_map stored_target (found id ts)) → (s || contains_word id (ids_of ts))
+      ≡ is_some (option_map stored_target (cond s (Some t) (found id ts)))
   go true rest = refl
   go false rest = rest
 
@@ -19,7 +26,8 @@ put_ids : (row : TargetRow) (ts : List Target) → ids_of (put_target row ts) �
 put_ids row [] = refl
 put_ids row (t ∷ ts) = go (same_bytes row.id t.id) (bytes_below row.id t.id) refl (put_ids row ts) where
   go : (s b : Bool) → same_bytes row.id t.id ≡ s → ids_of (put_target row ts) ≡ with_word row.id (ids_of ts)
-      → ids_of (cond s (record (new_target row) { attributes = t.attributes } ∷ ts) (cond b (new_target row ∷ t ∷ ts) (t ∷ put_target row ts))) ≡ cond s (t.id ∷ ids_of ts) (cond b (row.id ∷ t.id ∷ ids_of ts) (t.id ∷ with_word row.id (ids_of ts)))
+      → ids_of (cond s (record (new_target row) { attributes = t.attributes } ∷ ts) (cond b (new_target row ∷ t ∷ ts) (t ∷ put_target row ts)))
+      ≡ cond s (t.id ∷ ids_of ts) (cond b (row.id ∷ t.id ∷ ids_of ts) (t.id ∷ with_word row.id (ids_of ts)))
   go true b same rest = ap (λ i. i ∷ ids_of ts) (same_true row.id t.id same)
   go false true other rest = refl
   go false false other rest = ap (λ is. t.id ∷ is) rest
@@ -51,13 +59,15 @@ words_then (u ∷ us) ws vs = words_then us ws (with_word u vs)
 -- ---- one row
 
 -- the row of a target that is there adds none
-same_count : (row : TargetRow) (r : Records) (stored : StoredTarget) → are_sorted r.targets ≡ true → Some stored ≡ option_map stored_target (target_of r row.id) → length (put_target row r.targets) ≡ length r.targets
+same_count : (row : TargetRow) (r : Records) (stored : StoredTarget) → are_sorted r.targets ≡ true → Some stored ≡ option_map stored_target (target_of r row.id)
+    → length (put_target row r.targets) ≡ length r.targets
 same_count row r stored sorted is =
     let ts = r.targets in
     let has : contains_word row.id (ids_of ts) ≡ true = has_id row.id ts ∙ ap is_some (sym is) in
     sym (id_count (put_target row ts)) ∙ ap length (put_ids row ts ∙ with_there row.id (ids_of ts) (ids_sorted ts sorted) has) ∙ id_count ts
 
-pub room_kept : (row : TargetRow) (left : Option ℕ) (r : Records) (stored : StoredTarget) → are_sorted r.targets ≡ true → Some stored ≡ option_map stored_target (target_of r row.id) → HasRoom left r → HasRoom left (with_row row r)
+pub room_kept : (row : TargetRow) (left : Option ℕ) (r : Records) (stored : StoredTarget) → are_sorted r.targets ≡ true → Some stored
+    ≡ option_map stored_target (target_of r row.id) → HasRoom left r → HasRoom left (with_row row r)
 room_kept row None r stored sorted is few = let same = same_count row r stored sorted is in omega (arith, same, few)
 room_kept row (Some left) r stored sorted is room = let same = same_count row r stored sorted is in omega (arith, same, room)
 
@@ -67,13 +77,15 @@ one_new row ts is =
     let missing : contains_word row.id (ids_of ts) ≡ false = has_id row.id ts ∙ ap is_some (sym is) in
     count_with row.id (ids_of ts) missing ∙ ap suc (id_count ts)
 
-pub room_taken : (row : TargetRow) (r : Records) (left : ℕ) → 1 ≤ left → None ≡ option_map stored_target (target_of r row.id) → HasRoom (Some left) r → HasRoom (Some (left - 1)) (with_row row r)
+pub room_taken : (row : TargetRow) (r : Records) (left : ℕ) → 1 ≤ left → None ≡ option_map stored_target (target_of r row.id) → HasRoom (Some left) r
+    → HasRoom (Some (left - 1)) (with_row row r)
 room_taken row r left some is room =
     let ts = r.targets in
     let more : length (put_target row ts) ≡ suc (length ts) = sym (id_count (put_target row ts)) ∙ ap length (put_ids row ts) ∙ one_new row ts is in
     omega (arith, more, some, room)
 
-pub too_many : (row : TargetRow) (r : Records) (left : ℕ) → left ≡ 0 → None ≡ option_map stored_target (target_of r row.id) → HasRoom (Some left) r → IsTooMany row r
+pub too_many : (row : TargetRow) (r : Records) (left : ℕ) → left ≡ 0 → None ≡ option_map stored_target (target_of r row.id) → HasRoom (Some left) r
+    → IsTooMany row r
 too_many row r left none is room = (nothing (target_of r row.id) is, omega (arith, none, room)) where
   nothing : (o : Option Target) → None ≡ option_map stored_target o → o ≡ None
   nothing None is = refl
@@ -86,25 +98,30 @@ room_counted count room r size is few = omega (arith, size, is, few)
 
 pub within_quota : (r : Records) (rows : List TargetRow) → length (put_targets rows r.targets) ≤ 10000 → check r (PutTargets rows) ≡ None
 within_quota r rows few =
-    let same : length (ids_after rows r) ≡ length (put_targets rows r.targets) = ap length (sym (all_ids rows r.targets)) ∙ id_count (put_targets rows r.targets) in
+    let same : length (ids_after rows r) ≡ length (put_targets rows r.targets) = ap length (sym (all_ids rows r.targets))
+    ∙ id_count (put_targets rows r.targets) in
     let at_most : length (ids_after rows r) ≤ 10000 = omega (arith, same, few) in
     let at : nat_lt 10000 (length (ids_after rows r)) ≡ false = grind (arith, nat_tests) in
     ap (λ b. cond b (Some Quota) None) at
 
 -- one row that is too many refuses all
-over_quota : (r : Records) (earlier : List TargetRow) (row : TargetRow) (later : List TargetRow) → IsTooMany row (step_records r (PutTargets earlier)) → check r (PutTargets ((earlier ++ row ∷ []) ++ later)) ≡ Some Quota
+over_quota : (r : Records) (earlier : List TargetRow) (row : TargetRow) (later : List TargetRow) → IsTooMany row (step_records r (PutTargets earlier))
+    → check r (PutTargets ((earlier ++ row ∷ []) ++ later)) ≡ Some Quota
 over_quota r earlier row later many =
     let ts = put_targets earlier r.targets in
     let rows = (earlier ++ row ∷ []) ++ later in
     let new : length (with_word row.id (ids_of ts)) ≡ suc (length ts) = one_new row ts (ap (option_map stored_target) (sym many.0)) in
     let first : row_ids rows ≡ (row_ids earlier ++ row.id ∷ []) ++ row_ids later =
-    map-append (λ (x : TargetRow). x.id) (earlier ++ row ∷ []) later ∙ ap (λ us. us ++ row_ids later) (map-append (λ (x : TargetRow). x.id) earlier (row ∷ [])) in
+    map-append (λ (x : TargetRow). x.id) (earlier ++ row ∷ []) later
+    ∙ ap (λ us. us ++ row_ids later) (map-append (λ (x : TargetRow). x.id) earlier (row ∷ [])) in
     let ids : ids_after rows r ≡ with_words (row_ids later) (with_word row.id (ids_of ts)) =
     ap (λ us. with_words us (ids_of r.targets)) first
     ∙ words_then (row_ids earlier ++ row.id ∷ []) (row_ids later) (ids_of r.targets)
-    ∙ ap (with_words (row_ids later)) (words_then (row_ids earlier) (row.id ∷ []) (ids_of r.targets) ∙ ap (with_word row.id) (sym (all_ids earlier r.targets))) in
+    ∙ ap (with_words (row_ids later)) (words_then (row_ids earlier) (row.id ∷ []) (ids_of r.targets)
+    ∙ ap (with_word row.id) (sym (all_ids earlier r.targets))) in
     let size : length (ids_after rows r) ≡ length (with_words (row_ids later) (with_word row.id (ids_of ts))) = ap length ids in
-    let all : length (with_word row.id (ids_of ts)) ≤ length (with_words (row_ids later) (with_word row.id (ids_of ts))) = grows (row_ids later) (with_word row.id (ids_of ts)) in
+    let all : length (with_word row.id (ids_of ts)) ≤ length (with_words (row_ids later) (with_word row.id (ids_of ts))) =
+    grows (row_ids later) (with_word row.id (ids_of ts)) in
     let full : length ts ≡ 10000 = many.1 in
     let over : 10000 < length (ids_after rows r) = omega (arith, size, all, new, full) in
     let at : nat_lt 10000 (length (ids_after rows r)) ≡ true = grind (arith, nat_tests) in
@@ -113,12 +130,15 @@ over_quota r earlier row later many =
 -- ---- one row in a change
 
 module _ {row : TargetRow} {left : Option ℕ} {F : Type 0} where
-  pub row_refused : {A E : Type 0} {a b : State} {x : A} {P : Records → A → Type 0} {refusal : Refusal} → Finds HoldsLedger ledger_of {E = E} a b (Ok x) P → ((r : Records) → P r x → HasRoom left r → (refusal ≡ Quota) × IsTooMany row r)
+  pub row_refused : {A E : Type 0} {a b : State} {x : A} {P : Records → A → Type 0} {refusal : Refusal} → Finds HoldsLedger ledger_of {E = E} a b (Ok x) P
+      → ((r : Records) → P r x → HasRoom left r → (refusal ≡ Quota) × IsTooMany row r)
       → PutsRow {E = F} a b row left (Ok (Err refusal))
   row_refused read means = record { wears = read.wears; puts = λ now was clean. means now ((read.finds now was).1 clean) }
 
-  pub row_put : {A E G : Type 0} {a b c : State} {x : A} {P : Records → A → Type 0} → Finds HoldsLedger ledger_of {E = E} a b (Ok x) P → (W : Records → Records → Type 0) → ((r : Records) → P r x → W r (with_row row r))
-      → (then : Option ℕ) → Makes HoldsLedger ledger_of {A = Unit {0}} {E = G} b c (Ok tt) W → ((r : Records) → P r x → HasRoom left r → HasRoom then (with_row row r)) → PutsRow {E = F} a c row left (Ok (Ok then))
+  pub row_put : {A E G : Type 0} {a b c : State} {x : A} {P : Records → A → Type 0} → Finds HoldsLedger ledger_of {E = E} a b (Ok x) P
+      → (W : Records → Records → Type 0) → ((r : Records) → P r x → W r (with_row row r))
+      → (then : Option ℕ) → Makes HoldsLedger ledger_of {A = Unit {0}} {E = G} b c (Ok tt) W
+      → ((r : Records) → P r x → HasRoom left r → HasRoom then (with_row row r)) → PutsRow {E = F} a c row left (Ok (Ok then))
   row_put read W writes then write means = record {
     wears = omega (arith, read.wears, write.wears);
     puts = λ now was.
@@ -138,7 +158,8 @@ put_more : (earlier : List TargetRow) (row : TargetRow) (ts : List Target) → p
 put_more [] row ts = refl
 put_more (x ∷ earlier) row ts = put_more earlier row (put_target x ts)
 
-then_row : (earlier : List TargetRow) (row : TargetRow) (r : Records) → with_row row (step_records r (PutTargets earlier)) ≡ step_records r (PutTargets (earlier ++ row ∷ []))
+then_row : (earlier : List TargetRow) (row : TargetRow) (r : Records) → with_row row (step_records r (PutTargets earlier))
+    ≡ step_records r (PutTargets (earlier ++ row ∷ []))
 unfolding with_targets
 then_row earlier row r = ap (with_targets r) (sym (put_more earlier row r.targets))
 
@@ -146,19 +167,22 @@ then_row earlier row r = ap (with_targets r) (sym (put_more earlier row r.target
 pub record PutsSoFar (old new : State) (rows : List TargetRow) (left : Option ℕ) : Type 0 where
   pub wears : Wears old new
   pub puts : (h : CommandList) → IsValid h → Sees HoldsLedger old (ledger_of (records h))
-      → Sees HoldsLedger new (ledger_of (step_records (records h) (PutTargets rows))) × (HasCleanDisk new → HasRoom left (step_records (records h) (PutTargets rows)))
+      → Sees HoldsLedger new (ledger_of (step_records (records h) (PutTargets rows)))
+      × (HasCleanDisk new → HasRoom left (step_records (records h) (PutTargets rows)))
 
 pub none_put : (a : State) → PutsSoFar a a [] None
 none_put a = record { wears = omega arith; puts = λ h valid was. (was, λ clean. (limits_hold h valid).targets) }
 
-module _ (a b c : State) (rows : List TargetRow) (row : TargetRow) (k : ℕ) (below : k < length rows) (is : row ≡ get_or rows k row) (left : Option ℕ) (so_far : PutsSoFar a b (take k rows) left) {E : Type 0} where
+module _ (a b c : State) (rows : List TargetRow) (row : TargetRow) (k : ℕ) (below : k < length rows) (is : row ≡ get_or rows k row) (left : Option ℕ)
+    (so_far : PutsSoFar a b (take k rows) left) {E : Type 0} where
   pub row_refuses : (refusal : Refusal) → PutsRow {E = E} b c row left (Ok (Err refusal)) → {F : Type 0} → PutsAll {E = F} a c rows (Ok (Some refusal))
   row_refuses refusal next = record {
     wears = omega (arith, so_far.wears, next.wears);
     puts = λ h valid was clean.
         let it = so_far.puts h valid was in
         let r = records h in
-        let whole : (take k rows ++ row ∷ []) ++ drop (k + 1) rows ≡ rows = ap (λ xs. xs ++ drop (k + 1) rows) (sym (one_more rows row k below is)) ∙ take-append-drop (k + 1) rows in
+        let whole : (take k rows ++ row ∷ []) ++ drop (k + 1) rows ≡ rows = ap (λ xs. xs ++ drop (k + 1) rows) (sym (one_more rows row k below is))
+        ∙ take-append-drop (k + 1) rows in
         let why = next.puts (step_records r (PutTargets (take k rows))) it.0 clean (it.1 (omega (arith, clean, next.wears))) in
         subst (λ l. check r (PutTargets l) ≡ Some refusal) whole (over_quota r (take k rows) row (drop (k + 1) rows) why.1 ∙ ap Some (sym why.0));
   }
@@ -170,7 +194,8 @@ module _ (a b c : State) (rows : List TargetRow) (row : TargetRow) (k : ℕ) (be
         let it = so_far.puts h valid was in
         let r = records h in
         let done = next.puts (step_records r (PutTargets (take k rows))) it.0 in
-        let same : with_row row (step_records r (PutTargets (take k rows))) ≡ step_records r (PutTargets (take (k + 1) rows)) = then_row (take k rows) row r ∙ ap (λ l. step_records r (PutTargets l)) (sym (one_more rows row k below is)) in (
+        let same : with_row row (step_records r (PutTargets (take k rows))) ≡ step_records r (PutTargets (take (k + 1) rows)) = then_row (take k rows) row r
+        ∙ ap (λ l. step_records r (PutTargets l)) (sym (one_more rows row k below is)) in (
           subst (λ (s : Records). Sees HoldsLedger c (ledger_of s)) same done.0,
           λ clean. subst (λ (s : Records). HasRoom then s) same (done.1 clean (it.1 (omega (arith, clean, next.wears)))),
         );
@@ -180,7 +205,8 @@ pub few_left : (left : Option ℕ) (r : Records) → HasRoom left r → length r
 few_left None r few = few
 few_left (Some left) r room = omega (arith, room)
 
-pub all_put : (a b : State) (rows : List TargetRow) (k : ℕ) (left : Option ℕ) → length rows ≤ k → PutsSoFar a b (take k rows) left → {E : Type 0} → PutsAll {E = E} a b rows (Ok None)
+pub all_put : (a b : State) (rows : List TargetRow) (k : ℕ) (left : Option ℕ) → length rows ≤ k → PutsSoFar a b (take k rows) left → {E : Type 0}
+    → PutsAll {E = E} a b rows (Ok None)
 all_put a b rows k left past so_far =
     let all : PutsSoFar a b rows left = subst (λ l. PutsSoFar a b l left) (take_all k rows past) so_far in record {
       wears = all.wears;

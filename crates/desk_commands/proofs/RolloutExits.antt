@@ -1,5 +1,8 @@
 -- What a step on a rollout that is seen rests on is there.
-use Rattle.desk_commands.proofs.Common.{◌≡◌, ◌≤◌, ◌≢◌, ℕ, ◌+◌, Bool, List, Option, Some, None, length, slice_get, refl, sym, ap, ◌∙◌, subst, arith, zip, item_numbered, CommandList, IsValid, GroupRule, rule_at, records, Bytes, last_started, GroupRecord, RolloutRecord, Ledger, ledger_of, SeenRollout, GoesOn, StartsIf, ReadsMembers, of_rollout, invariant_of, limits_hold, at_place, members_of, rule_numbered, rule_there, rules_there, CanStart, HasItem, IsSeenFrom, IsSeenIn, EndsBeyond}
+use Rattle.desk_commands.proofs.Common.{◌≡◌, ◌≤◌, ◌≢◌, ℕ, ◌+◌, Bool, List, Option, Some, None, length, slice_get, refl, sym, ap, ◌∙◌, subst, arith, zip}
+use Rattle.desk_commands.proofs.Common.{item_numbered, CommandList, IsValid, GroupRule, rule_at, records, Bytes, last_started, GroupRecord, RolloutRecord}
+use Rattle.desk_commands.proofs.Common.{Ledger, ledger_of, SeenRollout, GoesOn, StartsIf, ReadsMembers, of_rollout, invariant_of, limits_hold, at_place}
+use Rattle.desk_commands.proofs.Common.{members_of, rule_numbered, rule_there, rules_there, CanStart, HasItem, IsSeenFrom, IsSeenIn, EndsBeyond}
 use Rattle.rollout_machine.proofs.Ties.{last_is}
 use Rattle.desk_commands.proofs.ActionGroups.{group_ends}
 use Rattle.desk_commands.proofs.ProgressLemmas.{groups_count}
@@ -7,7 +10,13 @@ use Rattle.desk_commands.proofs.StandingLemmas.{Found}
 use Rattle.desk_commands.proofs.StartLemmas.{zipped}
 
 pub found_in : (h : CommandList) (r : ℕ) (seen : SeenRollout) → Found h r seen → IsSeenIn r seen (ledger_of (records h))
-found_in h r seen w = record { of_list = record { list = h; valid = w.at.valid; is = refl }; rollout = w.rollout; is_there = w.at.is_there; is_seen = w.at.is_seen }
+found_in h r seen w = record {
+  of_list = record { list = h; valid = w.at.valid; is = refl };
+  rollout = w.rollout;
+  is_there = w.at.is_there;
+  is_seen =
+      w.at.is_seen;
+}
 
 -- where it was seen, at the list
 there_in : (r : ℕ) (seen : SeenRollout) (l : Ledger) → (w : IsSeenIn r seen l) → item_numbered (records w.of_list.list).rollouts r ≡ Some w.rollout
@@ -16,31 +25,39 @@ there_in r seen l w = ap (λ (m : Ledger). item_numbered m.records.rollouts r) (
 -- ---- going on
 
 -- something is said of the last started group
-last_ruled : (h : CommandList) → IsValid h → (r : ℕ) (y : RolloutRecord) → item_numbered (records h).rollouts r ≡ Some y → last_started y.groups ≢ 0 → rule_numbered (ledger_of (records h)).rules r (last_started y.groups) ≡ Some (rule_at y.plan (last_started y.groups))
+last_ruled : (h : CommandList) → IsValid h → (r : ℕ) (y : RolloutRecord) → item_numbered (records h).rollouts r ≡ Some y → last_started y.groups ≢ 0
+    → rule_numbered (ledger_of (records h)).rules r (last_started y.groups) ≡ Some (rule_at y.plan (last_started y.groups))
 last_ruled h valid r y at some =
     let of = of_rollout h r y at in
     let inv = invariant_of h valid in
     let its = (inv.follows r of.rollout of.there).is_last in
     let last : last_started y.groups ≡ inv.last r = ap (λ (z : RolloutRecord). last_started z.groups) of.is ∙ last_is of.rollout r (inv.last r) h its in
     let count : y.plan.groups.count ≡ of.rollout.plan.groups.count = ap (λ (z : RolloutRecord). z.plan.groups.count) of.is in
-    ap (λ rules. item_numbered rules (last_started y.groups)) (rules_there (records h) r y at) ∙ rule_there y.plan (last_started y.groups) (omega (arith, some)) (omega (arith, last, count, its.within))
+    ap (λ rules. item_numbered rules (last_started y.groups)) (rules_there (records h) r y at) ∙ rule_there y.plan (last_started y.groups) (omega (arith, some))
+    (omega (arith, last, count, its.within))
 
-pub last_said : (r : ℕ) (seen : SeenRollout) (last : ℕ) (l : Ledger) → IsSeenFrom r seen last l → last ≢ 0 → (rule : GroupRule) × (rule_numbered l.rules r last ≡ Some rule)
+pub last_said : (r : ℕ) (seen : SeenRollout) (last : ℕ) (l : Ledger) → IsSeenFrom r seen last l → last ≢ 0 → (rule : GroupRule)
+    × (rule_numbered l.rules r last ≡ Some rule)
 last_said r seen last l w some =
     let y = w.sees.rollout in
     let number : last ≡ last_started y.groups = w.last_is ∙ ap last_started w.sees.is_seen.groups in
-    let said = last_ruled w.sees.of_list.list w.sees.of_list.valid r y (there_in r seen l w.sees) (subst (λ n. n ≢ 0) number some) in
-    (rule_at y.plan (last_started y.groups), ap (λ n. rule_numbered l.rules r n) number ∙ ap (λ (m : Ledger). rule_numbered m.rules r (last_started y.groups)) w.sees.of_list.is ∙ said)
+    let said = last_ruled w.sees.of_list.list w.sees.of_list.valid r y (there_in r seen l w.sees) (subst (λ n. n ≢ 0) number some) in (
+      rule_at y.plan (last_started y.groups),
+      ap (λ n. rule_numbered l.rules r n) number ∙ ap (λ (m : Ledger). rule_numbered m.rules r (last_started y.groups))
+          w.sees.of_list.is ∙ said,
+    )
 
 -- no group that is seen ends beyond 32 bits
-pub ends_in : (r : ℕ) (seen : SeenRollout) (l : Ledger) → IsSeenIn r seen l → (i : ℕ) (o : Option GroupRecord) → o ≡ item_numbered seen.groups.items i → EndsBeyond o → ⊥
+pub ends_in : (r : ℕ) (seen : SeenRollout) (l : Ledger) → IsSeenIn r seen l → (i : ℕ) (o : Option GroupRecord) → o ≡ item_numbered seen.groups.items i
+    → EndsBeyond o → ⊥
 ends_in r seen l w i None is beyond = beyond
 ends_in r seen l w i (Some g) is beyond =
     let its : item_numbered w.rollout.groups i ≡ Some g = ap (λ gs. item_numbered gs i) (sym w.is_seen.groups) ∙ sym is in
     omega (arith, beyond, group_ends w.of_list.list w.of_list.valid r w.rollout (there_in r seen l w) i g its)
 
 -- the group that starts is there
-pub can_start : (r : ℕ) (seen : SeenRollout) (paused : Bool) (starts : Option ℕ) (l next : Ledger) → GoesOn r seen paused starts l next → CanStart seen.groups.items starts
+pub can_start : (r : ℕ) (seen : SeenRollout) (paused : Bool) (starts : Option ℕ) (l next : Ledger) → GoesOn r seen paused starts l next
+    → CanStart seen.groups.items starts
 can_start r seen paused starts l next w = record { group = λ i is. it i (subst (λ o. StartsIf r seen.groups.items o w.between next) is w.starts_if) }
   where
     it : (i : ℕ) → StartsIf r seen.groups.items (Some i) w.between next → HasItem seen.groups.items i
@@ -52,11 +69,13 @@ pub first_there : (r : ℕ) (seen : SeenRollout) (l : Ledger) → IsSeenIn r see
 first_there r seen l w =
     let h = w.of_list.list in
     let there = there_in r seen l w in
-    let it = at_place w.rollout.groups 0 (omega (arith, groups_count h r w.rollout there, ((limits_hold h w.of_list.valid).each r w.rollout there).some_groups)) in
+    let it = at_place w.rollout.groups 0
+    (omega (arith, groups_count h r w.rollout there, ((limits_hold h w.of_list.valid).each r w.rollout there).some_groups)) in
     (it.0, ap (λ gs. slice_get gs 0) w.is_seen.groups ∙ it.1)
 
 -- there are numbers for an action of each member
-pub numbers_left : (h : CommandList) → IsValid h → (r : ℕ) (seen : SeenRollout) (w : Found h r seen) (last count : ℕ) (members : List Bytes) → last ≡ length (zip (records h).actions (ledger_of (records h)).tallies) → count ≡ length w.rollout.members
+pub numbers_left : (h : CommandList) → IsValid h → (r : ℕ) (seen : SeenRollout) (w : Found h r seen) (last count : ℕ) (members : List Bytes)
+    → last ≡ length (zip (records h).actions (ledger_of (records h)).tallies) → count ≡ length w.rollout.members
     → ReadsMembers r count (ledger_of (records h)) members → last + length members ≤ 2147483647
 numbers_left h valid r seen w last count members size many read =
     let limits = limits_hold h valid in

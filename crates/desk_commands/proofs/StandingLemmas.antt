@@ -1,5 +1,9 @@
 -- What is said of a rollout as a whole.
-use Rattle.desk_commands.proofs.Common.{◌≡◌, ℕ, true, Option, Some, None, Result, Ok, Err, refl, sym, ap, ◌∙◌, MatchResult, option_map, command_reply, item_numbered, CommandList, IsWellFormed, Bytes, Command, offer, Records, records, change_rollout, step_records, Done, RolloutWord, rollout_word, IsValid, check, RolloutRecord, is_number, Refusal, NotFound, AreSound, BothOrNone, Decides, IsStandingView, IsViewOf, RolloutChange, RolloutCommandView, offers_before_start, ledger_of, turned, IsSeenOf, SeenRollout, IsSeenAt, WritesSaid, approval_after, paused_after, said_by, AreOfList}
+use Rattle.desk_commands.proofs.Common.{◌≡◌, ℕ, true, Option, Some, None, Result, Ok, Err, refl, sym, ap, ◌∙◌, MatchResult, option_map, command_reply}
+use Rattle.desk_commands.proofs.Common.{item_numbered, CommandList, IsWellFormed, Bytes, Command, offer, Records, records, change_rollout, step_records, Done}
+use Rattle.desk_commands.proofs.Common.{RolloutWord, rollout_word, IsValid, check, RolloutRecord, is_number, Refusal, NotFound, AreSound, BothOrNone, Decides}
+use Rattle.desk_commands.proofs.Common.{IsStandingView, IsViewOf, RolloutChange, RolloutCommandView, offers_before_start, ledger_of, turned, IsSeenOf}
+use Rattle.desk_commands.proofs.Common.{SeenRollout, IsSeenAt, WritesSaid, approval_after, paused_after, said_by, AreOfList}
 use Rattle.campaign_core.proofs.ItemLemmas.{IsFound, found}
 use Rattle.desk_commands.specs.declared.standing.Said.{Said}
 use Rattle.desk_commands.specs.declared.standing.Said.TheVariants.{Approved, Denied, Paused}
@@ -8,12 +12,14 @@ use Rattle.desk_commands.proofs.LedgerEnds.{changed_at, sets_alone}
 -- ---- verdicts
 
 -- what a verdict refuses with is what the command is refused with
-pub judged : (v : RolloutCommandView) (c : Command) (verdict : Result RolloutChange Refusal) (result : Option Refusal) → MatchResult verdict (λ change. result ≡ None) (λ refusal. result ≡ Some refusal) → Decides v c verdict
+pub judged : (v : RolloutCommandView) (c : Command) (verdict : Result RolloutChange Refusal) (result : Option Refusal)
+    → MatchResult verdict (λ change. result ≡ None) (λ refusal. result ≡ Some refusal) → Decides v c verdict
     → (rs : Records) → AreSound rs → IsViewOf v c rs → check rs c ≡ result
 judged v c (Ok change) result is decides rs sound view = (decides rs sound view).0 ∙ sym is
 judged v c (Err refusal) result is decides rs sound view = decides rs sound view ∙ sym is
 
-pub standing_view : (h : CommandList) (r : ℕ) (seen : SeenRollout) (x : RolloutRecord) (word : RolloutWord) → ((x : RolloutRecord) → IsSeenOf seen x → word ≡ rollout_word x) → IsSeenAt h r seen x → IsStandingView (record { word = Some word }) r (records h)
+pub standing_view : (h : CommandList) (r : ℕ) (seen : SeenRollout) (x : RolloutRecord) (word : RolloutWord)
+    → ((x : RolloutRecord) → IsSeenOf seen x → word ≡ rollout_word x) → IsSeenAt h r seen x → IsStandingView (record { word = Some word }) r (records h)
 standing_view h r seen x word is at = record { word = ap (λ w. Some w) (is x at.is_seen) ∙ sym (ap (option_map rollout_word) at.is_there) }
 
 -- ---- what was seen at a list
@@ -31,7 +37,8 @@ pub record Found (h : CommandList) (r : ℕ) (seen : SeenRollout) : Type 0 where
 
 pub seen_there : (h : CommandList) → IsValid h → (r : ℕ) (seen : SeenRollout) → Sees (records h) r (Some seen) → Found h r seen
 seen_there h valid r seen sees =
-    let it : IsFound IsSeenOf seen (item_numbered (records h).rollouts r) = found IsSeenOf (Some seen) seen (item_numbered (records h).rollouts r) refl (sees (of_list h valid)) in
+    let it : IsFound IsSeenOf seen (item_numbered (records h).rollouts r) = found IsSeenOf (Some seen) seen (item_numbered (records h).rollouts r) refl
+    (sees (of_list h valid)) in
     record { rollout = it.item; at = record { valid = valid; is_there = it.there; is_seen = it.is } }
 
 pub none_there : (h : CommandList) → IsValid h → (r : ℕ) → Sees (records h) r None → item_numbered (records h).rollouts r ≡ None
@@ -71,7 +78,8 @@ said_calm Denied h r t = refl
 said_calm Paused h r t = refl
 
 -- what is written is the step
-pub said_written : (said : Said) (h : CommandList) (r : ℕ) (seen : SeenRollout) → is_number r ≡ true → Found h r seen → check (records h) (said_by said r) ≡ None → WritesSaid said r seen (ledger_of (records h)) (ledger_of (step_records (records h) (said_by said r)))
+pub said_written : (said : Said) (h : CommandList) (r : ℕ) (seen : SeenRollout) → is_number r ≡ true → Found h r seen → check (records h) (said_by said r)
+    ≡ None → WritesSaid said r seen (ledger_of (records h)) (ledger_of (step_records (records h) (said_by said r)))
 said_written said h r seen number found accepted =
     let x = found.rollout in
     let s = found.at.is_seen in
@@ -82,5 +90,7 @@ said_written said h r seen number found accepted =
       is_there = found.at.is_there;
       next_is =
           sets_alone h (said_by said r) found.at.valid (said_formed said r number) accepted r x y found.at.is_there
-          (said_step said (records h) r ∙ ap (λ xs. record (records h) { rollouts = xs }) (changed_at h found.at.valid r (said_of said) x y found.at.is_there same)) refl (said_calm said h r) refl;
+          (said_step said (records h) r
+          ∙ ap (λ xs. record (records h) { rollouts = xs }) (changed_at h found.at.valid r (said_of said) x y found.at.is_there same)) refl
+          (said_calm said h r) refl;
     }

@@ -1,5 +1,13 @@
 -- The start of a rollout, from what is read to what is written.
-use Rattle.desk_commands.proofs.Common.{◌≡◌, ◌≤◌, ◌<◌, ◌||◌, ℕ, zero, suc, ◌+◌, Bool, true, false, not, cond, nat_eq, List, [], ◌∷◌, ◌++◌, map, get_or, take, drop, length, slice_get, Option, Some, None, refl, sym, ap, subst, ◌∙◌, arith, append-nil, append_assoc, or-false, or-true, zip, unwrap_or, nat_tests, length-append, length-map, map-append, take_all, item_numbered, CommandList, Bytes, Start, each_from, Approval, Denied, Given, Waiting, Records, group_in, records, rollout_in, begin_rollout, change_rollout, new_action, new_actions, start_group, step_records, Rollout, is_finished, word_from, IsValid, check, is_ready, ActionRecord, GroupRecord, RolloutRecord, each_from_more, length_each, is_number, NotFound, WrongState, records_are_sound, actor_of, tally_of, numbers_of, Ledger, ledger_of, AddsAction, SetsRollout, scheduled, set_numbered, turned, with_actions, with_groups, with_numbers, with_rollouts, SeenRollout, StartsGroup, started, AddsActions, ReadsMembers, StartsWhole, and_actions, new_for, never_started, members_of}
+use Rattle.desk_commands.proofs.Common.{◌≡◌, ◌≤◌, ◌<◌, ◌||◌, ℕ, zero, suc, ◌+◌, Bool, true, false, not, cond, nat_eq, List, [], ◌∷◌, ◌++◌, map, get_or, take}
+use Rattle.desk_commands.proofs.Common.{drop, length, slice_get, Option, Some, None, refl, sym, ap, subst, ◌∙◌, arith, append-nil, append_assoc, or-false}
+use Rattle.desk_commands.proofs.Common.{or-true, zip, unwrap_or, nat_tests, length-append, length-map, map-append, take_all, item_numbered, CommandList, Bytes}
+use Rattle.desk_commands.proofs.Common.{Start, each_from, Approval, Denied, Given, Waiting, Records, group_in, records, rollout_in, begin_rollout}
+use Rattle.desk_commands.proofs.Common.{change_rollout, new_action, new_actions, start_group, step_records, Rollout, is_finished, word_from, IsValid, check}
+use Rattle.desk_commands.proofs.Common.{is_ready, ActionRecord, GroupRecord, RolloutRecord, each_from_more, length_each, is_number, NotFound, WrongState}
+use Rattle.desk_commands.proofs.Common.{records_are_sound, actor_of, tally_of, numbers_of, Ledger, ledger_of, AddsAction, SetsRollout, scheduled, set_numbered}
+use Rattle.desk_commands.proofs.Common.{turned, with_actions, with_groups, with_numbers, with_rollouts, SeenRollout, StartsGroup, started, AddsActions}
+use Rattle.desk_commands.proofs.Common.{ReadsMembers, StartsWhole, and_actions, new_for, never_started, members_of}
 use Rattle.std.proofs.lemmas.Option.{slice_get_read}
 use Rattle.rollout_machine.specs.Actions.{places_from}
 use Rattle.desk_commands.proofs.ItemSteps.{set_twice}
@@ -8,18 +16,22 @@ use Rattle.desk_commands.proofs.StandingLemmas.{Found}
 
 -- ---- what is read
 
-pub all_members : (r count : ℕ) (l : Ledger) (members : List Bytes) → members ≡ take count (drop 0 (members_of (item_numbered l.records.rollouts r))) → ReadsMembers r count l members
+pub all_members : (r count : ℕ) (l : Ledger) (members : List Bytes) → members ≡ take count (drop 0 (members_of (item_numbered l.records.rollouts r)))
+    → ReadsMembers r count l members
 all_members r count l members is size = is ∙ take_all count (members_of (item_numbered l.records.rollouts r)) (omega (arith, size))
 
 -- ---- the actions, one by one
 
 pub no_action : (r last : ℕ) (members : List Bytes) (l next : Ledger) → AddsActions r last members 0 l next → next ≡ l
-no_action r last members l next h = h.next_is ∙ (λ i. with_numbers (with_actions l (append-nil l.records.actions i) (append-nil l.tallies i)) (append-nil l.numbers i))
+no_action r last members l next h = h.next_is
+    ∙ (λ i. with_numbers (with_actions l (append-nil l.records.actions i) (append-nil l.tallies i)) (append-nil l.numbers i))
 
-one_behind : {X : Type 0} (f : ActionRecord → X) (xs : List X) (as' : List ActionRecord) (a : ActionRecord) → xs ++ map f (as' ++ a ∷ []) ≡ (xs ++ map f as') ++ f a ∷ []
+one_behind : {X : Type 0} (f : ActionRecord → X) (xs : List X) (as' : List ActionRecord) (a : ActionRecord) → xs ++ map f (as' ++ a ∷ [])
+    ≡ (xs ++ map f as') ++ f a ∷ []
 one_behind f xs as' a = ap (λ ys. xs ++ ys) (map-append f as' (a ∷ [])) ∙ sym (append_assoc xs (map f as') (f a ∷ []))
 
-pub one_action : (r last : ℕ) (members : List Bytes) (id : Bytes) (i number : ℕ) → i < length members → id ≡ get_or members i id → number ≡ last + (i + 1) → (l next : Ledger) → AddsActions r last members (i + 1) l next
+pub one_action : (r last : ℕ) (members : List Bytes) (id : Bytes) (i number : ℕ) → i < length members → id ≡ get_or members i id → number ≡ last + (i + 1)
+    → (l next : Ledger) → AddsActions r last members (i + 1) l next
     → (mid : Ledger) × AddsActions r last members i l mid × AddsAction number r (i + 1) id mid next
 one_action r last members id i number within is numbered l next h =
     let as' = l.records.actions in
@@ -28,11 +40,13 @@ one_action r last members id i number within is numbered l next h =
     let there : slice_get members i ≡ Some id = slice_get_read members (length members) i id refl within is in
     let place : i + 1 ≡ suc i = omega arith in
     let actor : actor_of l.records.rollouts (scheduled r (i + 1)) ≡ id =
-    ap (λ o. member_in o (i + 1)) h.is_there ∙ ap (λ ids. unwrap_or (item_numbered ids (i + 1)) []) (sym h.members_are) ∙ ap (λ k. unwrap_or (item_numbered members k) []) place ∙ ap (λ o. unwrap_or o []) there in (
+    ap (λ o. member_in o (i + 1)) h.is_there ∙ ap (λ ids. unwrap_or (item_numbered ids (i + 1)) []) (sym h.members_are)
+    ∙ ap (λ k. unwrap_or (item_numbered members k) []) place ∙ ap (λ o. unwrap_or o []) there in (
       and_actions l new,
       record { tallied = h.tallied; last_is = h.last_is; rollout = h.rollout; is_there = h.is_there; members_are = h.members_are; next_is = refl },
       record {
-        tallied = length-append l.tallies (map tally_of new) ∙ ap (λ k. length l.tallies + k) (length-map new tally_of) ∙ ap (λ k. k + length new) h.tallied ∙ sym (length-append as' new);
+        tallied = length-append l.tallies (map tally_of new) ∙ ap (λ k. length l.tallies + k) (length-map new tally_of) ∙ ap (λ k. k + length new) h.tallied
+            ∙ sym (length-append as' new);
         number_is =
             let size = length-append as' new in
             let count = length_each (scheduled r) 1 i in
@@ -41,7 +55,8 @@ one_action r last members id i number within is numbered l next h =
         id_is = sym actor;
         next_is =
             h.next_is ∙ ap (and_actions l) more
-            ∙ (λ j. with_numbers (with_actions l (sym (append_assoc as' new (scheduled r (i + 1) ∷ [])) j) (one_behind tally_of l.tallies new (scheduled r (i + 1)) j)) (one_behind numbers_of l.numbers new (scheduled r (i + 1)) j));
+            ∙ (λ j. with_numbers (with_actions l (sym (append_assoc as' new (scheduled r (i + 1) ∷ [])) j)
+            (one_behind tally_of l.tallies new (scheduled r (i + 1)) j)) (one_behind numbers_of l.numbers new (scheduled r (i + 1)) j));
       },
     )
   where
@@ -60,7 +75,8 @@ pub two_parts : (r : ℕ) (seen : SeenRollout) (last : ℕ) (members : List Byte
     → (mid : Ledger) × SetsRollout r seen.approval true seen.paused l mid × AddsActions r last members (length members) mid next
 two_parts r seen last members l next h = (h.begun, h.sets, h.adds)
 
-pub three_parts : (r : ℕ) (seen : SeenRollout) (first : GroupRecord) (last : ℕ) (members : List Bytes) (l next : Ledger) → StartsWhole r seen first last members l next
+pub three_parts : (r : ℕ) (seen : SeenRollout) (first : GroupRecord) (last : ℕ) (members : List Bytes) (l next : Ledger)
+    → StartsWhole r seen first last members l next
     → (mid : Ledger) × StartsFirst r seen last members l mid × StartsGroup r first mid next
 three_parts r seen first last members l next h = (h.acting, record { begun = h.begun; sets = h.sets; adds = h.adds }, h.starts)
 
@@ -72,8 +88,10 @@ record IsFirst (x : RolloutRecord) (g : GroupRecord) : Type 0 where
   waits : x.started ≡ false → g.started ≡ false
   begins : map (start_group (Some 1)) x.groups ≡ set_numbered x.groups 1 (started g)
 
-first_is : (h : CommandList) (r : ℕ) (x : RolloutRecord) → item_numbered (records h).rollouts r ≡ Some x → (g : GroupRecord) → slice_get x.groups 0 ≡ Some g → IsFirst x g
-first_is h r x there g at = let it = rollout_of h r x there in subst (λ (z : RolloutRecord). slice_get z.groups 0 ≡ Some g → IsFirst z g) it.same (go it.rollout it.rollout.plan.groups.count refl) at
+first_is : (h : CommandList) (r : ℕ) (x : RolloutRecord) → item_numbered (records h).rollouts r ≡ Some x → (g : GroupRecord) → slice_get x.groups 0 ≡ Some g
+    → IsFirst x g
+first_is h r x there g at = let it = rollout_of h r x there in subst (λ (z : RolloutRecord). slice_get z.groups 0 ≡ Some g → IsFirst z g) it.same
+    (go it.rollout it.rollout.plan.groups.count refl) at
   where
     others : (y : Rollout) (a n : ℕ) → 2 ≤ a → map (start_group (Some 1)) (each_from (group_in y r h) a n) ≡ each_from (group_in y r h) a n
     others y a zero low = refl
@@ -92,7 +110,8 @@ first_is h r x there g at = let it = rollout_of h r x there in subst (λ (z : Ro
           its = ap (λ k. item_numbered (each_from (group_in y r h) 1 k) 1) some;
           waits = λ off. never_started y r 1 h off;
           begins =
-              ap (λ k. map (start_group (Some 1)) (each_from (group_in y r h) 1 k)) some ∙ (λ i. record (group_in y r h 1) { started = or-true (group_in y r h 1).started i } ∷ others y 2 n (omega arith) i)
+              ap (λ k. map (start_group (Some 1)) (each_from (group_in y r h) 1 k)) some
+              ∙ (λ i. record (group_in y r h 1) { started = or-true (group_in y r h 1).started i } ∷ others y 2 n (omega arith) i)
               ∙ ap (λ k. set_numbered (each_from (group_in y r h) 1 k) 1 (started (group_in y r h 1))) (sym some);
         })
 
@@ -121,8 +140,10 @@ zipped [] = refl
 zipped (a ∷ as') = ap suc (zipped as')
 
 -- what was read of a rollout that is ready is written as the step
-pub starts_whole : (h : CommandList) → IsValid h → (r : ℕ) (seen : SeenRollout) (g : GroupRecord) (last count : ℕ) (members : List Bytes) → is_number r ≡ true → (found : Found h r seen) → check (records h) (Start r) ≡ None
-    → slice_get seen.groups.items 0 ≡ Some g → last ≡ length (zip (records h).actions (map tally_of (records h).actions)) → count ≡ length found.rollout.members → ReadsMembers r count (ledger_of (records h)) members
+pub starts_whole : (h : CommandList) → IsValid h → (r : ℕ) (seen : SeenRollout) (g : GroupRecord) (last count : ℕ) (members : List Bytes) → is_number r ≡ true
+    → (found : Found h r seen) → check (records h) (Start r) ≡ None
+    → slice_get seen.groups.items 0 ≡ Some g → last ≡ length (zip (records h).actions (map tally_of (records h).actions)) → count ≡ length found.rollout.members
+    → ReadsMembers r count (ledger_of (records h)) members
     → StartsWhole r seen g last members (ledger_of (records h)) (ledger_of (step_records (records h) (Start r)))
 starts_whole h valid r seen g last count members number found accepted first size many read = record {
   begun = turned_ledger;
@@ -137,8 +158,16 @@ starts_whole h valid r seen g last count members number found accepted first siz
     next_is = refl;
   };
   starts =
-      ends_with_group h (Start r) valid number accepted r g acting_ledger y (set_is_there rs.rollouts r x y there) (ap (item_numbered x.groups) fg.number ∙ fg.its)
-      (record { rollout = x; is_there = there; group = g; is_its = ap (item_numbered x.groups) fg.number ∙ fg.its; bounds = refl; waits = fg.waits (unstarted rs r x there accepted) })
+      ends_with_group h (Start r) valid number accepted r g acting_ledger y (set_is_there rs.rollouts r x y there)
+      (ap (item_numbered x.groups) fg.number ∙ fg.its)
+      (record {
+        rollout = x;
+        is_there = there;
+        group = g;
+        is_its = ap (item_numbered x.groups) fg.number ∙ fg.its;
+        bounds = refl;
+        waits = fg.waits (unstarted rs r x there accepted);
+      })
       (λ i. record rs { rollouts = rolls i; actions = acts i })
       (record {
         tallies = sym (map-append tally_of rs.actions (new_for r (length members)));
@@ -185,4 +214,5 @@ starts_whole h valid r seen g last count members number found accepted first siz
     acts : rs.actions ++ new_actions (item_numbered rs.rollouts r) ≡ rs.actions ++ new_for r (length members)
     acts =
         let named : x.number ≡ r = (records_are_sound h valid).numbered r x there in
-        ap (λ l. rs.actions ++ l) (ap new_actions there ∙ new_placed x.number 1 (length x.members) ∙ (λ i. each_from (scheduled (named i)) 1 (length (sym all i))))
+        ap (λ l. rs.actions ++ l) (ap new_actions there ∙ new_placed x.number 1 (length x.members)
+        ∙ (λ i. each_from (scheduled (named i)) 1 (length (sym all i))))

@@ -1,5 +1,11 @@
 -- What the writes of a target's tags come to.
-use Rattle.desk_commands.proofs.Common.{◌≡◌, ◌≤◌, ◌<◌, ◌-◌, Bool, true, false, cond, ◌||◌, ◌&&◌, not, nat_eq, List, [], ◌∷◌, length, get_or, take, drop, Option, Some, None, option_map, refl, sym, ap, ◌∙◌, subst, arith, is_some, list_any, pointwise, and_parts, false≢true, take_all, AddsTag, are_sorted, tagged, untagged, with_changed, same_bytes, contains_word, with_word, with_words, without_word, sorted_words, Bytes, Records, Target, target_of, tags_of, IsSorted, sorted_with_all, has_sorted, has_with, has_without, same_pointwise, same_refl, same_sym, same_true, are_distinct_words, is_tag_list, AddsTags, DropsTags, Retags, lacking, retagged, tagged_with, untagged_from, without_words, not-true, or_assoc, or_comm, or_right, and-false}
+use Rattle.desk_commands.proofs.Common.{◌≡◌, ◌≤◌, ◌<◌, ◌-◌, Bool, true, false, cond, ◌||◌, ◌&&◌, not, nat_eq, List, [], ◌∷◌, length, get_or, take, drop}
+use Rattle.desk_commands.proofs.Common.{Option, Some, None, option_map, refl, sym, ap, ◌∙◌, subst, arith, is_some, list_any, pointwise, and_parts, false≢true}
+use Rattle.desk_commands.proofs.Common.{take_all, AddsTag, are_sorted, tagged, untagged, with_changed, same_bytes, contains_word, with_word, with_words}
+use Rattle.desk_commands.proofs.Common.{without_word, sorted_words, Bytes, Records, Target, target_of, tags_of, IsSorted, sorted_with_all, has_sorted}
+use Rattle.desk_commands.proofs.Common.{has_with, has_without, same_pointwise, same_refl, same_sym, same_true, are_distinct_words, is_tag_list, AddsTags}
+use Rattle.desk_commands.proofs.Common.{DropsTags, Retags, lacking, retagged, tagged_with, untagged_from, without_words, not-true, or_assoc, or_comm, or_right}
+use Rattle.desk_commands.proofs.Common.{and-false}
 use Rattle.rollout_machine.proofs.Orders.{sorted_all, sorted_without}
 use Rattle.desk_commands.proofs.ByteOrderLemmas.{same_words}
 use Rattle.desk_commands.proofs.TargetLemmas.{changed_as, change_twice, find_changed, ids_sorted, no_change, tags_sorted}
@@ -8,16 +14,19 @@ use Rattle.desk_commands.proofs.TargetLemmas.{changed_as, change_twice, find_cha
 
 pub has_all : (x : Bytes) (us vs : List Bytes) → contains_word x (with_words us vs) ≡ (contains_word x us || contains_word x vs)
 has_all x [] vs = refl
-has_all x (u ∷ us) vs = has_all x us (with_word u vs) ∙ ap (λ c. contains_word x us || c) (has_with x u vs) ∙ sym (or_assoc (contains_word x us) (same_bytes x u) (contains_word x vs)) ∙ ap (λ c. c || contains_word x vs) (or_comm (contains_word x us) (same_bytes x u))
+has_all x (u ∷ us) vs = has_all x us (with_word u vs) ∙ ap (λ c. contains_word x us || c) (has_with x u vs)
+    ∙ sym (or_assoc (contains_word x us) (same_bytes x u) (contains_word x vs))
+    ∙ ap (λ c. c || contains_word x vs) (or_comm (contains_word x us) (same_bytes x u))
 
 lacks_all : (x : Bytes) (us vs : List Bytes) → contains_word x (without_words us vs) ≡ (not (contains_word x us) && contains_word x vs)
 lacks_all x [] vs = refl
-lacks_all x (u ∷ us) vs = lacks_all x us (without_word u vs) ∙ ap (λ c. not (contains_word x us) && c) (has_without x u vs) ∙ turned (contains_word x us) (same_bytes x u) (contains_word x vs) where
-  turned : (a b c : Bool) → (not a && (not b && c)) ≡ (not (b || a) && c)
-  turned true true c = refl
-  turned true false c = refl
-  turned false true c = refl
-  turned false false c = refl
+lacks_all x (u ∷ us) vs = lacks_all x us (without_word u vs) ∙ ap (λ c. not (contains_word x us) && c) (has_without x u vs)
+    ∙ turned (contains_word x us) (same_bytes x u) (contains_word x vs) where
+      turned : (a b c : Bool) → (not a && (not b && c)) ≡ (not (b || a) && c)
+      turned true true c = refl
+      turned true false c = refl
+      turned false true c = refl
+      turned false false c = refl
 
 has_lacking : (x : Bytes) (us vs : List Bytes) → contains_word x (lacking us vs) ≡ (contains_word x us && not (contains_word x vs))
 has_lacking x [] vs = refl
@@ -79,7 +88,8 @@ pub drops_none : (id : Bytes) (wanted : List Bytes) (r next : Records) → Drops
 drops_none id wanted r next h = h ∙ ap (λ (ts : List Target). record r { targets = ts }) (no_change id r.targets)
 
 -- the first is wanted
-pub keeps_first : (id w : Bytes) (had wanted : List Bytes) → contains_word w wanted ≡ true → (r next : Records) → DropsTags id (w ∷ had) wanted r next → DropsTags id had wanted r next
+pub keeps_first : (id w : Bytes) (had wanted : List Bytes) → contains_word w wanted ≡ true → (r next : Records) → DropsTags id (w ∷ had) wanted r next
+    → DropsTags id had wanted r next
 keeps_first id w had wanted is r next h = h ∙ ap (λ c. with_changed r id (untagged_from (cond (not c) (w ∷ lacking had wanted) (lacking had wanted)))) is
 
 pub drops_first : (id w : Bytes) (had wanted : List Bytes) → contains_word w wanted ≡ false → (r next : Records) → DropsTags id (w ∷ had) wanted r next
@@ -98,7 +108,8 @@ pub adds_none : (id : Bytes) (had : List Bytes) (r next : Records) → AddsTags 
 adds_none id had r next h = h.next_is ∙ ap (λ (ts : List Target). record r { targets = ts }) (no_change id r.targets)
 
 -- the first was had
-pub has_first : (id w : Bytes) (tags had : List Bytes) → contains_word w had ≡ true → (r next : Records) → AddsTags id (w ∷ tags) had r next → AddsTags id tags had r next
+pub has_first : (id w : Bytes) (tags had : List Bytes) → contains_word w had ≡ true → (r next : Records) → AddsTags id (w ∷ tags) had r next
+    → AddsTags id tags had r next
 has_first id w tags had is r next h = record {
   is_there = h.is_there;
   are_distinct = (and_parts _ _ h.are_distinct).1;
@@ -106,7 +117,8 @@ has_first id w tags had is r next h = record {
   next_is = h.next_is ∙ ap (λ c. with_changed r id (tagged_with (cond (not c) (w ∷ lacking tags had) (lacking tags had)))) is;
 }
 
-there_after : (o : Option Target) (w : Bytes) → is_some o ≡ true → (is_some (option_map (tagged w) o) ≡ true) × (tags_of (option_map (tagged w) o) ≡ with_word w (tags_of o))
+there_after : (o : Option Target) (w : Bytes) → is_some o ≡ true → (is_some (option_map (tagged w) o) ≡ true)
+    × (tags_of (option_map (tagged w) o) ≡ with_word w (tags_of o))
 there_after None w is = absurd (false≢true is)
 there_after (Some t) w is = (refl, refl)
 
@@ -141,7 +153,8 @@ adds_first id w tags had is r next h =
 -- ---- all tags
 
 -- the tags that were read are those of the target
-pub retags_parts : (id : Bytes) (words had : List Bytes) → are_distinct_words words ≡ true → (r next : Records) → are_sorted r.targets ≡ true → had ≡ tags_of (target_of r id) → Retags id words r next
+pub retags_parts : (id : Bytes) (words had : List Bytes) → are_distinct_words words ≡ true → (r next : Records) → are_sorted r.targets ≡ true
+    → had ≡ tags_of (target_of r id) → Retags id words r next
     → (mid : Records) × DropsTags id had words r mid × AddsTags id words had mid next
 retags_parts id words had distinct r next sorted read h = go (target_of r id) refl h.0 where
   go : (o : Option Target) → target_of r id ≡ o → is_some o ≡ true → (mid : Records) × DropsTags id had words r mid × AddsTags id words had mid next
@@ -151,7 +164,8 @@ retags_parts id words had distinct r next sorted read h = go (target_of r id) re
       let dropped = untagged_from (lacking had words) in
       let now : target_of (with_changed r id dropped) id ≡ Some (dropped t) = find_changed id dropped (λ u. refl) r.targets ∙ ap (option_map dropped) is in
       let tags : with_words (lacking words had) (without_words (lacking had words) t.tags) ≡ sorted_words words =
-      ap (λ us. with_words (lacking words us) (without_words (lacking us words) t.tags)) had_is ∙ retag_words words t.tags (tags_sorted id r.targets t sorted is) in (
+      ap (λ us. with_words (lacking words us) (without_words (lacking us words) t.tags)) had_is
+      ∙ retag_words words t.tags (tags_sorted id r.targets t sorted is) in (
         with_changed r id dropped,
         refl,
         record {
@@ -165,7 +179,8 @@ retags_parts id words had distinct r next sorted read h = go (target_of r id) re
           next_is = h.1
               ∙ ap (λ (ts : List Target). record r { targets = ts })
               (sym (change_twice id dropped (λ u. refl) (tagged_with (lacking words had)) r.targets
-              ∙ changed_as id (λ u. tagged_with (lacking words had) (dropped u)) (retagged words) r.targets t (ids_sorted r.targets sorted) is (ap (λ (us : List Bytes). record t { tags = us }) tags)));
+              ∙ changed_as id (λ u. tagged_with (lacking words had) (dropped u)) (retagged words) r.targets t (ids_sorted r.targets sorted) is
+              (ap (λ (us : List Bytes). record t { tags = us }) tags)));
         },
       )
 
@@ -184,14 +199,18 @@ abbrev pub is_listed : Bytes → List Bytes → Bool
 is_listed w ws = list_any (λ v. pointwise nat_eq v w) ws
 
 module _ (id w : Bytes) (all others : List Bytes) (some : 1 ≤ length all) (first : w ≡ get_or all 0 w) where
-  pub keeps_front : is_listed w others ≡ true → (r next : Records) → DropsTags id all others r next → DropsTags id (take (length all - 1) (drop 1 all)) others r next
-  keeps_front is r next h = keeps_first id w _ others (sym (any_word w others) ∙ is) r next (subst (λ l. DropsTags id l others r next) (front w all some first) h)
+  pub keeps_front : is_listed w others ≡ true → (r next : Records) → DropsTags id all others r next
+      → DropsTags id (take (length all - 1) (drop 1 all)) others r next
+  keeps_front is r next h = keeps_first id w _ others (sym (any_word w others) ∙ is) r next
+      (subst (λ l. DropsTags id l others r next) (front w all some first) h)
 
   pub drops_front : is_listed w others ≡ false → (r next : Records) → DropsTags id all others r next
       → (mid : Records) × (mid ≡ with_changed r id (untagged w)) × DropsTags id (take (length all - 1) (drop 1 all)) others mid next
-  drops_front is r next h = drops_first id w _ others (sym (any_word w others) ∙ is) r next (subst (λ l. DropsTags id l others r next) (front w all some first) h)
+  drops_front is r next h = drops_first id w _ others (sym (any_word w others) ∙ is) r next
+      (subst (λ l. DropsTags id l others r next) (front w all some first) h)
 
-  pub has_front : is_listed w others ≡ true → (r next : Records) → AddsTags id all others r next → AddsTags id (take (length all - 1) (drop 1 all)) others r next
+  pub has_front : is_listed w others ≡ true → (r next : Records) → AddsTags id all others r next
+      → AddsTags id (take (length all - 1) (drop 1 all)) others r next
   has_front is r next h = has_first id w _ others (sym (any_word w others) ∙ is) r next (subst (λ l. AddsTags id l others r next) (front w all some first) h)
 
   pub adds_front : is_listed w others ≡ false → (r next : Records) → AddsTags id all others r next

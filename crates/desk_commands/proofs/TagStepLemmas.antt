@@ -1,9 +1,12 @@
 -- Giving a target a tag, and taking it.
-use Rattle.desk_commands.proofs.Common.{◌≡◌, ◌≤◌, ◌<◌, Bool, true, false, List, length, Option, Some, None, option_map, is_none, is_some, not, nat_le, refl, sym, ap, ◌∙◌, arith, false≢true, nat_tests, stored_target, StoredTarget, are_sorted, tagged, AddsTag, contains_word, Bytes, Tag, Untag, Records, step_records, Target, check, tags_of, target_of, NotFound, Quota, with_there}
+use Rattle.desk_commands.proofs.Common.{◌≡◌, ◌≤◌, ◌<◌, Bool, true, false, List, length, Option, Some, None, option_map, is_none, is_some, not, nat_le, refl}
+use Rattle.desk_commands.proofs.Common.{sym, ap, ◌∙◌, arith, false≢true, nat_tests, stored_target, StoredTarget, are_sorted, tagged, AddsTag, contains_word}
+use Rattle.desk_commands.proofs.Common.{Bytes, Tag, Untag, Records, step_records, Target, check, tags_of, target_of, NotFound, Quota, with_there}
 use Rattle.desk_commands.proofs.TargetLemmas.{ids_sorted, tags_sorted, unchanged}
 
 -- a target isn't there where nothing is kept of it
-pub lacks_it : (lacks : Bool) (found : Option StoredTarget) (wanted : Option Target) → is_some found ≡ not lacks → found ≡ option_map stored_target wanted → lacks ≡ is_none wanted
+pub lacks_it : (lacks : Bool) (found : Option StoredTarget) (wanted : Option Target) → is_some found ≡ not lacks → found ≡ option_map stored_target wanted
+    → lacks ≡ is_none wanted
 lacks_it true found None some is = refl
 lacks_it false found (Some t) some is = refl
 lacks_it true found (Some t) some is = absurd (false≢true (sym some ∙ ap is_some is))

@@ -1,12 +1,18 @@
 -- What is told of an action and what becomes of it, write by write.
-use Rattle.desk_commands.proofs.Common.{◌≡◌, ℕ, ◌+◌, Bool, true, false, List, [], ◌∷◌, ◌++◌, Option, Some, None, refl, sym, ap, ◌∙◌, subst, is_some, Then, item_numbered, Bytes, Reported, Outcome, ActionRecord, action_with, RolloutChange, ActionChange, StaysOpen, Ends, borne_at, Ledger, AddsEntry, AddsNumber, SetsAction, and_entry, set_numbered, with_actions, with_numbers, PlacedNumber, StoredAction, Acts, ActsBy, Follows, MayAct, TellsAction, action_change_of, canceling_by, outcome_by, stays_offered, MayReoffer, Reoffers, TellsReports, WritesNumber, WritesTold, entries_by, notes_by, numbers_by, tally_by, with_reports, SeenAction, Told}
+use Rattle.desk_commands.proofs.Common.{◌≡◌, ℕ, ◌+◌, Bool, true, false, List, [], ◌∷◌, ◌++◌, Option, Some, None, refl, sym, ap, ◌∙◌, subst, is_some, Then}
+use Rattle.desk_commands.proofs.Common.{item_numbered, Bytes, Reported, Outcome, ActionRecord, action_with, RolloutChange, ActionChange, StaysOpen, Ends}
+use Rattle.desk_commands.proofs.Common.{borne_at, Ledger, AddsEntry, AddsNumber, SetsAction, and_entry, set_numbered, with_actions, with_numbers, PlacedNumber}
+use Rattle.desk_commands.proofs.Common.{StoredAction, Acts, ActsBy, Follows, MayAct, TellsAction, action_change_of, canceling_by, outcome_by, stays_offered}
+use Rattle.desk_commands.proofs.Common.{MayReoffer, Reoffers, TellsReports, WritesNumber, WritesTold, entries_by, notes_by, numbers_by, tally_by, with_reports}
+use Rattle.desk_commands.proofs.Common.{SeenAction, Told}
 use Rattle.desk_records.specs.LedgerSteps.{acted}
 use Rattle.desk_commands.proofs.ItemSteps.{append_none, set_same, set_twice, zip_at, zip_set}
 
 -- ---- the history and its numbers
 
 -- these numbers of an action stay
-numbers_stay : (k : ℕ) (l : Ledger) (numbers : List PlacedNumber) → item_numbered l.numbers k ≡ Some numbers → with_numbers l (set_numbered l.numbers k numbers) ≡ l
+numbers_stay : (k : ℕ) (l : Ledger) (numbers : List PlacedNumber) → item_numbered l.numbers k ≡ Some numbers → with_numbers l (set_numbered l.numbers k numbers)
+    ≡ l
 numbers_stay k l numbers at = ap (with_numbers l) (set_same k l.numbers numbers at)
 
 module _ (k place : ℕ) (told : Told) (l next : Ledger) (w : WritesNumber k place told l next) where
@@ -24,11 +30,13 @@ module _ (k place : ℕ) (told : Told) (l next : Ledger) (w : WritesNumber k pla
       ∙ ap (λ its. with_numbers l (set_numbered l.numbers k its)) (append_none w.numbers) ∙ numbers_stay k l w.numbers w.are_its
 
 -- the entry, and then its number
-pub told_parts : (k place : ℕ) (told : Told) (l next : Ledger) → WritesTold k place (Some told) l next → Then (AddsEntry k place told.entry) (WritesNumber k place told) l next
+pub told_parts : (k place : ℕ) (told : Told) (l next : Ledger) → WritesTold k place (Some told) l next
+    → Then (AddsEntry k place told.entry) (WritesNumber k place told) l next
 told_parts k place told l next w = go w.reports w.tells w.next_is
   where
     go : (reports : List Reported) → TellsReports reports (Some told)
-        → next ≡ with_numbers (with_actions l (set_numbered l.records.actions k (with_reports reports w.action)) l.tallies) (set_numbered l.numbers k (numbers_by place (Some told) w.numbers))
+        → next ≡ with_numbers (with_actions l (set_numbered l.records.actions k (with_reports reports w.action)) l.tallies)
+        (set_numbered l.numbers k (numbers_by place (Some told) w.numbers))
         → Then (AddsEntry k place told.entry) (WritesNumber k place told) l next
     go [] tells is = absurd tells
     go (it ∷ []) tells is = (
@@ -42,24 +50,30 @@ pub none_told : (k place : ℕ) (l next : Ledger) → WritesTold k place None l 
 none_told k place l next w = go w.reports w.tells w.next_is
   where
     go : (reports : List Reported) → TellsReports reports None
-        → next ≡ with_numbers (with_actions l (set_numbered l.records.actions k (with_reports reports w.action)) l.tallies) (set_numbered l.numbers k w.numbers) → next ≡ l
+        → next ≡ with_numbers (with_actions l (set_numbered l.records.actions k (with_reports reports w.action)) l.tallies) (set_numbered l.numbers k w.numbers)
+        → next ≡ l
     go [] tells is =
         is
-        ∙ ap (λ (hs : List Reported). with_numbers (with_actions l (set_numbered l.records.actions k (record w.action { history = hs })) l.tallies) (set_numbered l.numbers k w.numbers)) (append_none w.action.history)
-        ∙ ap (λ (as' : List ActionRecord). with_numbers (with_actions l as' l.tallies) (set_numbered l.numbers k w.numbers)) (set_same k l.records.actions w.action w.is_there)
+        ∙ ap (λ (hs : List Reported). with_numbers (with_actions l (set_numbered l.records.actions k (record w.action { history = hs })) l.tallies)
+        (set_numbered l.numbers k w.numbers)) (append_none w.action.history)
+        ∙ ap (λ (as' : List ActionRecord). with_numbers (with_actions l as' l.tallies) (set_numbered l.numbers k w.numbers))
+        (set_same k l.records.actions w.action w.is_there)
         ∙ numbers_stay k l w.numbers w.are_its
     go (it ∷ []) tells is = absurd tells
     go (it ∷ other ∷ more) tells is = absurd tells
 
 -- ---- the action
 
-acted_with : (reports : List Reported) (had : Option Outcome) (after : ActionChange) (a : ActionRecord) → had ≡ a.outcome → with_reports reports (action_with after a) ≡ acted (canceling_by after) (outcome_by had after) (with_reports reports a)
-acted_with reports had (StaysOpen canceling) a is = λ i. record { rollout = a.rollout; position = a.position; canceling = canceling; outcome = sym is i; history = a.history ++ reports }
+acted_with : (reports : List Reported) (had : Option Outcome) (after : ActionChange) (a : ActionRecord) → had ≡ a.outcome
+    → with_reports reports (action_with after a) ≡ acted (canceling_by after) (outcome_by had after) (with_reports reports a)
+acted_with reports had (StaysOpen canceling) a is =
+    λ i. record { rollout = a.rollout; position = a.position; canceling = canceling; outcome = sym is i; history = a.history ++ reports }
 acted_with reports had (Ends e) a is = refl
 
 pub telling_parts : (seen : SeenAction) (after : ActionChange) (told : Option Told) (l next : Ledger) → TellsAction seen after told l next
     → Then (WritesTold seen.number (entries_by told seen.action.entries) told)
-    (SetsAction seen.number (canceling_by after) (outcome_by seen.action.outcome after) (record { notes = notes_by told seen.action.notes; entries = entries_by told seen.action.entries })) l next
+    (SetsAction seen.number (canceling_by after) (outcome_by seen.action.outcome after)
+    (record { notes = notes_by told seen.action.notes; entries = entries_by told seen.action.entries })) l next
 telling_parts seen after told l next w = (
   with_numbers (with_actions l (set_numbered l.records.actions seen.number heard) l.tallies) numbers,
   record {
@@ -77,7 +91,8 @@ telling_parts seen after told l next w = (
     action = (heard, w.action.1);
     is_there = zip_set seen.number l.records.actions l.tallies w.action heard w.is_there;
     next_is = w.next_is
-        ∙ (λ i. with_numbers (with_actions l (actions_are i) (set_numbered l.tallies seen.number (tally_is i))) (set_numbered l.numbers seen.number (numbers_by (sym entries_are i) told w.numbers)));
+        ∙ (λ i. with_numbers (with_actions l (actions_are i) (set_numbered l.tallies seen.number (tally_is i)))
+        (set_numbered l.numbers seen.number (numbers_by (sym entries_are i) told w.numbers)));
   },
 )
   where
@@ -93,7 +108,8 @@ telling_parts seen after told l next w = (
     actions_are : set_numbered l.records.actions seen.number (with_reports w.reports (action_with after w.action.0))
         ≡ set_numbered (set_numbered l.records.actions seen.number heard) seen.number (acted (canceling_by after) (outcome_by seen.action.outcome after) heard)
     actions_are =
-        ap (set_numbered l.records.actions seen.number) (acted_with w.reports seen.action.outcome after w.action.0 (ap (λ (a : StoredAction). a.outcome) w.seen_as))
+        ap (set_numbered l.records.actions seen.number)
+        (acted_with w.reports seen.action.outcome after w.action.0 (ap (λ (a : StoredAction). a.outcome) w.seen_as))
         ∙ sym (set_twice seen.number l.records.actions heard (acted (canceling_by after) (outcome_by seen.action.outcome after) heard))
 
     tally_is : tally_by told w.action.1 ≡ record { notes = notes_by told seen.action.notes; entries = entries_by told seen.action.entries }
@@ -105,7 +121,8 @@ pub acting_parts : (seen : SeenAction) (after : ActionChange) (told : Option Tol
     → Then (Then (TellsAction seen after told) (MayReoffer (stays_offered seen.action.canceling after) seen.action.target)) (Follows seen after) l next
 acting_parts seen after told l next w = (w.offered, (w.acted, w.tells, w.offers), w.follows)
 
-pub acts_after : (seen : Option SeenAction) (accepted : RolloutChange) (after : Option ActionChange) (told : Option Told) (l next : Ledger) → action_change_of accepted ≡ Some after → ActsBy seen accepted told l next → MayAct seen after told l next
+pub acts_after : (seen : Option SeenAction) (accepted : RolloutChange) (after : Option ActionChange) (told : Option Told) (l next : Ledger)
+    → action_change_of accepted ≡ Some after → ActsBy seen accepted told l next → MayAct seen after told l next
 acts_after seen accepted after told l next is w =
     let both : Some w.after ≡ Some after = sym w.is_its ∙ is in
     subst (λ (o : Option ActionChange). MayAct seen o told l next) (let same : w.after ≡ after = cc in same) w.acts

@@ -1,5 +1,6 @@
 -- What a feedback takes: a new report is told, and of another one no more is read than the entry that bears its number.
-use Rattle.desk_commands.proofs.Common.{◌≡◌, ◌≤◌, ℕ, ◌+◌, Bool, true, false, cond, Option, Some, None, refl, ap, arith, Standing, says_fresh, more_reads, reads_for, if_numbered}
+use Rattle.desk_commands.proofs.Common.{◌≡◌, ◌≤◌, ℕ, ◌+◌, Bool, true, false, cond, Option, Some, None, refl, ap, arith, Standing, says_fresh, more_reads}
+use Rattle.desk_commands.proofs.Common.{reads_for, if_numbered}
 use Rattle.sql_calls.specs.declared.calls.Work.{Work}
 use Rattle.desk_store.specs.Counting.{Adds}
 
@@ -12,7 +13,8 @@ more_within (Some s) = go (says_fresh s)
     go false = omega arith
 
 -- what is seen, and then written, where it is new
-pub taken_within : {a b c : Work} (n : Option ℕ) (s : Standing) (acts : Bool) → (acts ≡ true → says_fresh s ≡ true) → Adds (5 + reads_for n (Some s)) (6 + reads_for n (Some s)) a b → Adds (cond acts (7 + if_numbered n 1) 0) (cond acts 1 0) b c
+pub taken_within : {a b c : Work} (n : Option ℕ) (s : Standing) (acts : Bool) → (acts ≡ true → says_fresh s ≡ true)
+    → Adds (5 + reads_for n (Some s)) (6 + reads_for n (Some s)) a b → Adds (cond acts (7 + if_numbered n 1) 0) (cond acts 1 0) b c
     → Adds (12 + if_numbered n 2) (7 + if_numbered n 1) a c
 taken_within None s true fresh first second = record { run = omega (arith, first.run, second.run); taken = omega (arith, first.taken, second.taken) }
 taken_within None s false fresh first second = record { run = omega (arith, first.run, second.run); taken = omega (arith, first.taken, second.taken) }

@@ -1,5 +1,8 @@
 -- The names of other modules that the proofs here cite, passed on from one place. Declares nothing.
-pub use Rattle.std.proofs.Common.{◌≡◌, ℕ, zero, suc, ◌+◌, ◌*◌, ◌%◌, ◌^◌, ◌<◌, ◌≤◌, Bool, true, false, cond, not, ◌&&◌, ◌||◌, List, [], ◌∷◌, ◌++◌, map, length, get_or, take, replicate, is_none, nat_eq, nat_le, ◌==◌, Some, None, Ok, Err, string_bytes, codes, All, count_by, Option, option_map, option_and_then, nat_cmp, BTreeSet, unwrap_or, sym, refl, ap, ◌∙◌, subst, inl, inr, append_assoc, add-zero, arith, length-append, Bor, rules, below_more, tests}
+pub use Rattle.std.proofs.Common.{◌≡◌, ℕ, zero, suc, ◌+◌, ◌*◌, ◌%◌, ◌^◌, ◌<◌, ◌≤◌, Bool, true, false, cond, not, ◌&&◌, ◌||◌, List, [], ◌∷◌, ◌++◌, map, length}
+pub use Rattle.std.proofs.Common.{get_or, take, replicate, is_none, nat_eq, nat_le, ◌==◌, Some, None, Ok, Err, string_bytes, codes, All, count_by, Option}
+pub use Rattle.std.proofs.Common.{option_map, option_and_then, nat_cmp, BTreeSet, unwrap_or, sym, refl, ap, ◌∙◌, subst, inl, inr, append_assoc, add-zero}
+pub use Rattle.std.proofs.Common.{arith, length-append, Bor, rules, below_more, tests}
 pub use Rattle.std.proofs.lemmas.Bool.{false≢true, true≢false}
 pub use Rattle.std.proofs.lemmas.Bool.Decides.{nat_tests}
 pub use Rattle.std.proofs.lemmas.List.{append-nil, map-append, take_more}
@@ -8,7 +11,8 @@ pub use Rattle.std.specs.List.{ends_with, find, flat_map, list_all, list_any, ra
 pub use Rattle.csv.specs.Records.{fields_of}
 pub use Rattle.csv.specs.declared.reader.Reader.{Reader}
 pub use Rattle.rollout_model.proofs.RuleLemmas.{both, spelled_is_utf8}
-pub use Rattle.rollout_model.specs.Rules.{are_distinct_words, is_between, is_spelled, is_text, is_text_letter, is_token, is_word, is_word_letter, tag_list_of, text_of, token_of, word_of}
+pub use Rattle.rollout_model.specs.Rules.{are_distinct_words, is_between, is_spelled, is_text, is_text_letter, is_token, is_word, is_word_letter, tag_list_of}
+pub use Rattle.rollout_model.specs.Rules.{text_of, token_of, word_of}
 pub use Rattle.rollout_model.specs.declared.target_row.TargetRow.{TargetRow}
 pub use Rattle.desk_files.specs.ImportSteps.{HasIds, Pushes, TakesRow, has_id, if_new, row_behind}
 pub use Rattle.desk_files.specs.Imports.{distinct_rows, each_row, faulty_line, ids_of, import_of, is_header, records_of, rows_of, targets_of}

@@ -1,11 +1,15 @@
 -- Records of four fields, and fields that are no text.
-use Rattle.desk_files.proofs.Common.{◌≡◌, ◌<◌, ◌≤◌, ◌==◌, ℕ, List, [], ◌∷◌, length, Bool, true, false, cond, Option, Some, None, refl, arith, nat_le, count_by, Bor, get_or, map, take, ◌+◌, ◌++◌, sym, ◌∙◌, list_all, slice_split, map-append, take_more, list_all-map, list_all_at, nat_tests, is_spelled, is_text, is_text_letter, is_token, is_word, tag_list_of, text_of, token_of, word_of, both, spelled_is_utf8, tags_of}
+use Rattle.desk_files.proofs.Common.{◌≡◌, ◌<◌, ◌≤◌, ◌==◌, ℕ, List, [], ◌∷◌, length, Bool, true, false, cond, Option, Some, None, refl, arith, nat_le, count_by}
+use Rattle.desk_files.proofs.Common.{Bor, get_or, map, take, ◌+◌, ◌++◌, sym, ◌∙◌, list_all, slice_split, map-append, take_more, list_all-map, list_all_at}
+use Rattle.desk_files.proofs.Common.{nat_tests, is_spelled, is_text, is_text_letter, is_token, is_word, tag_list_of, text_of, token_of, word_of, both}
+use Rattle.desk_files.proofs.Common.{spelled_is_utf8, tags_of}
 use Rattle.std.proofs.lemmas.List.Splits.{length-slice_split}
 use Rattle.std.specs.Str.{IsUtf8, is_utf8}
 use Rattle.std.proofs.lemmas.Str.{IsUtf8-from_is_utf8}
 use Rattle.csv.specs.Records.{field_at}
 
-pub four_are : (fs : List (List ℕ)) (a b c d : List ℕ) → length fs ≡ 4 → Some a ≡ field_at fs 0 → Some b ≡ field_at fs 1 → Some c ≡ field_at fs 2 → Some d ≡ field_at fs 3
+pub four_are : (fs : List (List ℕ)) (a b c d : List ℕ) → length fs ≡ 4 → Some a ≡ field_at fs 0 → Some b ≡ field_at fs 1 → Some c ≡ field_at fs 2 → Some d
+    ≡ field_at fs 3
     → fs ≡ a ∷ b ∷ c ∷ d ∷ []
 unfolding field_at
 four_are [] a b c d four at0 at1 at2 at3 = absurd (omega arith)
@@ -50,9 +54,11 @@ tags_of-many (b ∷ bs) many =
 
 -- ---- the parts of a field
 
-pub no_words : (parts : List (Bor (List ℕ))) (i : ℕ) (d : Bor (List ℕ)) (r : Option (List ℕ)) → i < length parts → r ≡ word_of (get_or parts i d).now → r ≡ None → list_all is_word (map (λ part. part.now) parts) ≡ false
+pub no_words : (parts : List (Bor (List ℕ))) (i : ℕ) (d : Bor (List ℕ)) (r : Option (List ℕ)) → i < length parts → r ≡ word_of (get_or parts i d).now → r ≡ None
+    → list_all is_word (map (λ part. part.now) parts) ≡ false
 no_words parts i d r within read none =
-    list_all-map is_word (λ (part : Bor (List ℕ)). part.now) parts ∙ list_all_at (λ (part : Bor (List ℕ)). is_word part.now) parts i d within (is_word-none (get_or parts i d).now (sym read ∙ none))
+    list_all-map is_word (λ (part : Bor (List ℕ)). part.now) parts ∙ list_all_at (λ (part : Bor (List ℕ)). is_word part.now) parts i d within
+    (is_word-none (get_or parts i d).now (sym read ∙ none))
 
 word_is : (bs w : List ℕ) → Some w ≡ word_of bs → w ≡ bs
 word_is bs w read = by (is_word bs) read
@@ -61,7 +67,8 @@ word_is bs w read = by (is_word bs) read
     by true e = cc e
     by false e = cc e
 
-pub more_words : (parts : List (Bor (List ℕ))) (i : ℕ) (d : Bor (List ℕ)) (ws : List (List ℕ)) (w : List ℕ) → i < length parts → Some w ≡ word_of (get_or parts i d).now → ws ≡ map (λ part. part.now) (take i parts)
+pub more_words : (parts : List (Bor (List ℕ))) (i : ℕ) (d : Bor (List ℕ)) (ws : List (List ℕ)) (w : List ℕ) → i < length parts → Some w
+    ≡ word_of (get_or parts i d).now → ws ≡ map (λ part. part.now) (take i parts)
     → ws ++ w ∷ [] ≡ map (λ part. part.now) (take (i + 1) parts)
 more_words parts i d ws w within read so_far =
     let more : take (i + 1) parts ≡ take i parts ++ get_or parts i d ∷ [] = take_more parts i d within in

@@ -1,5 +1,9 @@
 -- What the records so far say of the whole import.
-use Rattle.desk_files.proofs.Common.{◌≡◌, ◌<◌, ◌≤◌, ◌+◌, ℕ, zero, suc, List, [], ◌∷◌, ◌++◌, length, take, Bool, true, false, Some, None, is_none, unwrap_or, Ok, Err, Bor, refl, sym, ◌∙◌, ap, arith, add-zero, length-append, append_assoc, below_more, codes, nat_eq, ends_with, find, range_with_len, false≢true, true≢false, append-nil, Reader, are_distinct_words, TargetRow, each_row, faulty_line, ids_of, import_of, is_header, records_of, rows_of, targets_of, HasIds, Pushes, row_behind, Gives, GivesNext, Record, ImportedRows}
+use Rattle.desk_files.proofs.Common.{◌≡◌, ◌<◌, ◌≤◌, ◌+◌, ℕ, zero, suc, List, [], ◌∷◌, ◌++◌, length, take, Bool, true, false, Some, None, is_none, unwrap_or}
+use Rattle.desk_files.proofs.Common.{Ok, Err, Bor, refl, sym, ◌∙◌, ap, arith, add-zero, length-append, append_assoc, below_more, codes, nat_eq, ends_with}
+use Rattle.desk_files.proofs.Common.{find, range_with_len, false≢true, true≢false, append-nil, Reader, are_distinct_words, TargetRow, each_row, faulty_line}
+use Rattle.desk_files.proofs.Common.{ids_of, import_of, is_header, records_of, rows_of, targets_of, HasIds, Pushes, row_behind, Gives, GivesNext, Record}
+use Rattle.desk_files.proofs.Common.{ImportedRows}
 use Rattle.desk_files.proofs.StepFacts.{rows_fault, rows_more}
 
 -- the header and the records that were taken, before those that the reader still gives
@@ -27,14 +31,16 @@ pub no_record : (records : List Record) (new : Reader (Bor (List ℕ))) (r : Rec
 no_record [] new r h = refl
 no_record (first ∷ rest) new r h = absurd (false≢true h.0)
 
-pub no_header : (records : List Record) (new : Reader (Bor (List ℕ))) (r : Record) → GivesNext records new true r → is_header r ≡ false → import_of records ≡ Err 1
+pub no_header : (records : List Record) (new : Reader (Bor (List ℕ))) (r : Record) → GivesNext records new true r → is_header r ≡ false → import_of records
+    ≡ Err 1
 no_header [] new r h other = absurd (true≢false h)
 no_header (first ∷ rest) new r h other = rw (rw h.1 at other) refl
 
 only_one : (n : ℕ) → n < 2 → 1 ≤ n → n ≡ 1
 only_one n below least = omega arith
 
-pub begins : (records : List Record) (new : Reader (Bor (List ℕ))) (r : Record) (rows : ImportedRows) → GivesNext records new true r → is_header r ≡ true → rows.rows ≡ [] → HasIds rows → Imported records rows 2 new
+pub begins : (records : List Record) (new : Reader (Bor (List ℕ))) (r : Record) (rows : ImportedRows) → GivesNext records new true r → is_header r ≡ true
+    → rows.rows ≡ [] → HasIds rows → Imported records rows 2 new
 begins [] new r rows h is none ids = absurd (true≢false h)
 begins (first ∷ rest) new r rows h is none ids =
     let header : is_header first ≡ true = rw h.1 at is in
@@ -54,16 +60,19 @@ begins (first ∷ rest) new r rows h is none ids =
 
 -- ---- the end
 
-rows_are : (first : Record) (done : List Record) (rows : List TargetRow) → is_header first ≡ true → each_row done ≡ Some rows → are_distinct_words (ids_of rows) ≡ true → rows_of (first ∷ done) ≡ Some rows
+rows_are : (first : Record) (done : List Record) (rows : List TargetRow) → is_header first ≡ true → each_row done ≡ Some rows → are_distinct_words (ids_of rows)
+    ≡ true → rows_of (first ∷ done) ≡ Some rows
 rows_are first done rows header taken distinct = rw (header, taken, distinct) refl
 
 nothing_more : (more : List Record) (new : Reader (Bor (List ℕ))) (r : Record) → GivesNext more new false r → more ≡ []
 nothing_more [] new r h = refl
 nothing_more (x ∷ more) new r h = absurd (false≢true h.0)
 
-pub ends : (records : List Record) (rows : ImportedRows) (line : ℕ) (old new : Reader (Bor (List ℕ))) (r : Record) (i : Imported records rows line old) → GivesNext i.more new false r → import_of records ≡ Ok rows.rows
+pub ends : (records : List Record) (rows : ImportedRows) (line : ℕ) (old new : Reader (Bor (List ℕ))) (r : Record) (i : Imported records rows line old)
+    → GivesNext i.more new false r → import_of records ≡ Ok rows.rows
 ends records rows line old new r i h =
-    let whole : records ≡ i.first ∷ i.done = i.whole ∙ ap (λ more. i.first ∷ (i.done ++ more)) (nothing_more i.more new r h) ∙ ap (λ done. i.first ∷ done) (append-nil i.done) in
+    let whole : records ≡ i.first ∷ i.done = i.whole ∙ ap (λ more. i.first ∷ (i.done ++ more)) (nothing_more i.more new r h)
+    ∙ ap (λ done. i.first ∷ done) (append-nil i.done) in
     rw (whole, rows_are i.first i.done rows.rows i.header i.taken i.distinct) refl
 
 -- ---- the beginnings
@@ -73,7 +82,8 @@ take-suc_length [] r rest = refl
 take-suc_length (d ∷ done) r rest = ap (λ ds. d ∷ ds) (take-suc_length done r rest)
 
 -- the first records, up to the one at hand
-take_here : (first : Record) (done : List Record) (r : Record) (rest : List Record) (n : ℕ) → n ≡ length done + 2 → take n (first ∷ (done ++ r ∷ rest)) ≡ first ∷ (done ++ r ∷ [])
+take_here : (first : Record) (done : List Record) (r : Record) (rest : List Record) (n : ℕ) → n ≡ length done + 2 → take n (first ∷ (done ++ r ∷ rest))
+    ≡ first ∷ (done ++ r ∷ [])
 take_here first done r rest n e =
     let s : n ≡ suc (suc (length done)) = omega arith in
     rw s (ap (λ ds. first ∷ ds) (take-suc_length done r rest))
@@ -88,16 +98,19 @@ find_least p (suc k) (suc n) a within below here =
     rw (h, ← next k)
     (find_least p k n (a + 1) (omega arith) (λ j lt. ap p (next j) ∙ below (suc j) (omega (arith, lt))) (ap p (next k) ∙ here))
 
-found_line : (p : ℕ → Bool) (n line : ℕ) → 1 ≤ line → line ≤ n → ((j : ℕ) → j < line → 1 ≤ j → p j ≡ false) → p line ≡ true → unwrap_or (find p (range_with_len 1 n)) 1 ≡ line
+found_line : (p : ℕ → Bool) (n line : ℕ) → 1 ≤ line → line ≤ n → ((j : ℕ) → j < line → 1 ≤ j → p j ≡ false) → p line ≡ true
+    → unwrap_or (find p (range_with_len 1 n)) 1 ≡ line
 found_line p n zero least within below here = absurd (omega arith)
 found_line p n (suc k) least within below here =
     let e : 1 + k ≡ suc k = omega arith in
-    let found : find p (range_with_len 1 n) ≡ Some (1 + k) = find_least p k n 1 (omega arith) (λ j lt. below (1 + j) (omega (arith, lt)) (omega arith)) (ap p e ∙ here) in
+    let found : find p (range_with_len 1 n) ≡ Some (1 + k) = find_least p k n 1 (omega arith) (λ j lt. below (1 + j) (omega (arith, lt)) (omega arith))
+    (ap p e ∙ here) in
     rw (found, e) refl
 
 -- ---- a fault
 
-pub faults : (records : List Record) (rows : ImportedRows) (line : ℕ) (old new : Reader (Bor (List ℕ))) (r : Record) (i : Imported records rows line old) → GivesNext i.more new true r → row_behind rows.rows r ≡ None → import_of records ≡ Err line
+pub faults : (records : List Record) (rows : ImportedRows) (line : ℕ) (old new : Reader (Bor (List ℕ))) (r : Record) (i : Imported records rows line old)
+    → GivesNext i.more new true r → row_behind rows.rows r ≡ None → import_of records ≡ Err line
 faults records rows line old new r i h none = by i.more refl h
   where
     by : (more : List Record) → i.more ≡ more → GivesNext more new true r → import_of records ≡ Err line
@@ -109,13 +122,15 @@ faults records rows line old new r i h none = by i.more refl h
         let none_so_far : rows_of (i.first ∷ (i.done ++ x ∷ [])) ≡ None = rw (i.header, rows_fault i.done x [] rows.rows i.taken faulty) refl in
         let here : is_none (rows_of (take line records)) ≡ true = rw (whole, take_here i.first i.done x rest line i.count, none_so_far) refl in
         let size : length records ≡ suc (length i.done + suc (length rest)) = ap length whole ∙ ap suc (length-append i.done (x ∷ rest)) in
-        let told : faulty_line records ≡ line = found_line (λ n. is_none (rows_of (take n records))) (length records) line (omega (arith, i.count)) (omega (arith, i.count, size)) i.clean here in
+        let told : faulty_line records ≡ line = found_line (λ n. is_none (rows_of (take n records))) (length records) line (omega (arith, i.count))
+        (omega (arith, i.count, size)) i.clean here in
         let no : rows_of records ≡ None = ap rows_of whole ∙ no_rows in
         rw (no, told) refl
 
 -- ---- one record more
 
-pub goes_on : (records : List Record) (old_rows rows : ImportedRows) (line : ℕ) (old new : Reader (Bor (List ℕ))) (r : Record) (i : Imported records old_rows line old) (row : TargetRow) → GivesNext i.more new true r → row_behind old_rows.rows r ≡ Some row
+pub goes_on : (records : List Record) (old_rows rows : ImportedRows) (line : ℕ) (old new : Reader (Bor (List ℕ))) (r : Record)
+    (i : Imported records old_rows line old) (row : TargetRow) → GivesNext i.more new true r → row_behind old_rows.rows r ≡ Some row
     → Pushes old_rows rows row → Imported records rows (line + 1) new
 goes_on records old_rows rows line old new r i row h next pushes = by i.more refl h
   where

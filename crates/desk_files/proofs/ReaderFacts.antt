@@ -1,6 +1,8 @@
 -- A read of a record, by the records that the reader has left.
-use Rattle.desk_files.proofs.Common.{◌≡◌, ◌<◌, ◌≤◌, ◌==◌, ◌&&◌, ℕ, zero, suc, List, [], ◌∷◌, ◌++◌, length, Bool, true, false, cond, Option, Some, None, Bor, refl, sym, ◌∙◌, subst, arith, inl, Reader, Gives, GivesNext, known, Record}
-use Rattle.csv.specs.Machine.{Read, after_end, ends_at_end, ends_with, field_after, fields_after, in_field, is_byte, is_end, next_record, start_field, start_record, step}
+use Rattle.desk_files.proofs.Common.{◌≡◌, ◌<◌, ◌≤◌, ◌==◌, ◌&&◌, ℕ, zero, suc, List, [], ◌∷◌, ◌++◌, length, Bool, true, false, cond, Option, Some, None, Bor}
+use Rattle.desk_files.proofs.Common.{refl, sym, ◌∙◌, subst, arith, inl, Reader, Gives, GivesNext, known, Record}
+use Rattle.csv.specs.Machine.{Read, after_end, ends_at_end, ends_with, field_after, fields_after, in_field, is_byte, is_end, next_record, start_field}
+use Rattle.csv.specs.Machine.{start_record, step}
 use Rattle.csv.specs.Reading.{Reached, ReadRecord, Ready, default_config, reader_state, reader_trim, records_from, took_first}
 use Rattle.csv.specs.declared.parser.Action.{Action}
 use Rattle.csv.specs.declared.parser.Action.TheVariants as act
@@ -46,10 +48,12 @@ step_parts cfg st.StartRecord c = start_record_parts cfg c
 step_parts cfg st.StartField c = start_field_parts cfg c
 step_parts cfg st.InField c = in_field_parts cfg c
 step_parts cfg st.InQuoted c =
-    parts_if (cfg.quoting && (c == cfg.quote)) (st.AfterQuote, act.Skip) (cond (cfg.quoting && is_byte cfg.escape c) (st.InEscape, act.Skip) (st.InQuoted, act.Copy)) (λ e. cc)
+    parts_if (cfg.quoting && (c == cfg.quote)) (st.AfterQuote, act.Skip)
+    (cond (cfg.quoting && is_byte cfg.escape c) (st.InEscape, act.Skip) (st.InQuoted, act.Copy)) (λ e. cc)
     (parts_if (cfg.quoting && is_byte cfg.escape c) (st.InEscape, act.Skip) (st.InQuoted, act.Copy) (λ e. cc) (λ e. cc))
 step_parts cfg st.InEscape c = λ e. cc
-step_parts cfg st.AfterQuote c = parts_if (cfg.quoting && cfg.double_quote && (c == cfg.quote)) (st.InQuoted, act.Copy) (in_field cfg c) (λ e. cc) (in_field_parts cfg c)
+step_parts cfg st.AfterQuote c = parts_if (cfg.quoting && cfg.double_quote && (c == cfg.quote)) (st.InQuoted, act.Copy) (in_field cfg c) (λ e. cc)
+    (in_field_parts cfg c)
 step_parts cfg st.InComment c = parts_if (c == 10) (st.StartRecord, act.Skip) (st.InComment, act.Skip) (λ e. cc) (λ e. cc)
 step_parts cfg st.AfterCr c = parts_if (c == 10) (st.StartRecord, act.Skip) (start_record cfg c) (λ e. cc) (start_record_parts cfg c)
 
@@ -61,7 +65,8 @@ at_end : (b : Bool) (r p : Read) → Leaves [] r → cond b (Some r) None ≡ So
 at_end true r p leaves e = let same : r ≡ p = cc e in subst (Leaves []) same leaves
 at_end false r p leaves e = cc e
 
-by_byte : (b : Bool) (r p : Read) (xs : List ℕ) (more : Option Read) → (b ≡ true → Leaves xs r) → (more ≡ Some p → Leaves xs p) → cond b (Some r) more ≡ Some p → Leaves xs p
+by_byte : (b : Bool) (r p : Read) (xs : List ℕ) (more : Option Read) → (b ≡ true → Leaves xs r) → (more ≡ Some p → Leaves xs p) → cond b (Some r) more ≡ Some p
+    → Leaves xs p
 by_byte true r p xs more here later e = let same : r ≡ p = cc e in subst (Leaves xs) same (here refl)
 by_byte false r p xs more here later e = later e
 
@@ -73,15 +78,19 @@ leaves_byte : (cfg : Config) (s : State) (fields : List (List ℕ)) (field : Lis
     → next_record cfg s fields field (c ∷ rest) ≡ Some p → Leaves rest p
 unfolding next_record
 leaves_byte cfg s fields field c rest p later e =
-    by_byte (is_end (step cfg s c).1) (fields_after (step cfg s c).1 fields field, (step cfg s c).0, rest) p rest _ (λ ends. (step_parts cfg s c ends, omega arith)) later e
+    by_byte (is_end (step cfg s c).1) (fields_after (step cfg s c).1 fields field, (step cfg s c).0, rest) p rest _
+    (λ ends. (step_parts cfg s c ends, omega arith)) later e
 
 leaves : (cfg : Config) (s : State) (fields : List (List ℕ)) (field xs : List ℕ) (p : Read) → next_record cfg s fields field xs ≡ Some p → Leaves xs p
 unfolding next_record
 leaves cfg s fields field [] p e = at_end (ends_at_end s) (fields ++ (field ∷ []), st.StartRecord, []) p (refl, omega arith) e
-leaves cfg s fields field (c ∷ rest) p e = longer c rest p (leaves_byte cfg s fields field c rest p (leaves cfg (step cfg s c).0 (fields_after (step cfg s c).1 fields field) (field_after (step cfg s c).1 c field) rest p) e)
+leaves cfg s fields field (c ∷ rest) p e =
+    longer c rest p (leaves_byte cfg s fields field c rest p
+    (leaves cfg (step cfg s c).0 (fields_after (step cfg s c).1 fields field) (field_after (step cfg s c).1 c field) rest p) e)
 
 -- between two records, one takes a byte at least
-pub takes_bytes : (cfg : Config) (s : State) (xs : List ℕ) (p : Read) → ends_at_end s ≡ false → next_record cfg s [] [] xs ≡ Some p → (ends_at_end p.1 ≡ false) × (length p.2 < length xs)
+pub takes_bytes : (cfg : Config) (s : State) (xs : List ℕ) (p : Read) → ends_at_end s ≡ false → next_record cfg s [] [] xs ≡ Some p → (ends_at_end p.1 ≡ false)
+    × (length p.2 < length xs)
 unfolding next_record
 takes_bytes cfg s [] p between e = cc (rw between at e)
 takes_bytes cfg s (c ∷ rest) p between e =
@@ -104,16 +113,20 @@ more_left (suc n) s xs p between enough e =
     (n, rw e refl, omega (arith, h.1), h.0)
 
 -- the end of the records
-pub gives_end : (old new : Reader (Bor (List ℕ))) (fields : List (List ℕ)) → ReadRecord known old new false fields → (records : List Record) → Gives old records → GivesNext records new false fields
+pub gives_end : (old new : Reader (Bor (List ℕ))) (fields : List (List ℕ)) → ReadRecord known old new false fields → (records : List Record) → Gives old records
+    → GivesNext records new false fields
 gives_end old new fields read records g =
-    let none : records ≡ [] = g.left ∙ end_left g.turns (reader_state old) g.rest g.enough (rows-end known old new fields default_config g.rest g.config g.source read) in
+    let none : records ≡ [] = g.left
+    ∙ end_left g.turns (reader_state old) g.rest g.enough (rows-end known old new fields default_config g.rest g.config g.source read) in
     subst (λ rs. GivesNext rs new false fields) (sym none) refl
 
 -- a record, and those that are left behind it
-pub gives_more : (old new : Reader (Bor (List ℕ))) (fields : List (List ℕ)) → took_first new ≡ true → ReadRecord known old new true fields → (records : List Record) → Gives old records → GivesNext records new true fields
+pub gives_more : (old new : Reader (Bor (List ℕ))) (fields : List (List ℕ)) → took_first new ≡ true → ReadRecord known old new true fields
+    → (records : List Record) → Gives old records → GivesNext records new true fields
 unfolding Reached
 gives_more old new fields took read records g =
-    let (z, source, (p, next, same, (state, rest))) = rows-more known old new fields default_config (reader_state old) g.rest g.rest [] g.config g.source (refl, refl) read in
+    let (z, source, (p, next, same, (state, rest))) = rows-more known old new fields default_config (reader_state old) g.rest g.rest [] g.config g.source
+    (refl, refl) read in
     let (m, unrolled, enough, between) = more_left g.turns (reader_state old) g.rest p g.between g.enough next in
     let behind : Gives new (records_from default_config m p.1 p.2) = record {
       trim = read.3 ∙ g.trim;
@@ -129,7 +142,8 @@ gives_more old new fields took read records g =
     subst (λ rs. GivesNext rs new true fields) (sym (g.left ∙ unrolled)) (refl, same, behind)
 
 -- a read, by the records that the reader had left
-pub next_gives : (old new : Reader (Bor (List ℕ))) (found : Bool) (fields : List (List ℕ)) → (reader_trim old ≡ trim.None → took_first new ≡ true) → (reader_trim old ≡ trim.None → Ready old → ReadRecord known old new found fields)
+pub next_gives : (old new : Reader (Bor (List ℕ))) (found : Bool) (fields : List (List ℕ)) → (reader_trim old ≡ trim.None → took_first new ≡ true)
+    → (reader_trim old ≡ trim.None → Ready old → ReadRecord known old new found fields)
     → (records : List Record) → Gives old records → GivesNext records new found fields
 next_gives old new true fields took reads records g = gives_more old new fields (took g.trim) (reads g.trim g.ready) records g
 next_gives old new false fields took reads records g = gives_end old new fields (reads g.trim g.ready) records g

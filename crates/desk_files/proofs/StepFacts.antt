@@ -1,5 +1,8 @@
 -- How the rows and their ids go on by one record.
-use Rattle.desk_files.proofs.Common.{◌≡◌, ◌&&◌, ◌||◌, ℕ, List, [], ◌∷◌, ◌++◌, Bool, true, false, not, cond, nat_eq, nat_cmp, Option, Some, None, option_map, option_and_then, BTreeSet, refl, sym, ◌∙◌, ap, list_any, false≢true, true≢false, map-append, list_any-append, are_distinct_words, TargetRow, distinct_rows, each_row, ids_of, HasIds, Pushes, TakesRow, has_id, if_new, row_behind, Record, row_of, ImportedRows}
+use Rattle.desk_files.proofs.Common.{◌≡◌, ◌&&◌, ◌||◌, ℕ, List, [], ◌∷◌, ◌++◌, Bool, true, false, not, cond, nat_eq, nat_cmp, Option, Some, None, option_map}
+use Rattle.desk_files.proofs.Common.{option_and_then, BTreeSet, refl, sym, ◌∙◌, ap, list_any, false≢true, true≢false, map-append, list_any-append}
+use Rattle.desk_files.proofs.Common.{are_distinct_words, TargetRow, distinct_rows, each_row, ids_of, HasIds, Pushes, TakesRow, has_id, if_new, row_behind}
+use Rattle.desk_files.proofs.Common.{Record, row_of, ImportedRows}
 use Rattle.std.specs.Option.{MatchOption}
 use Rattle.std.specs.BTreeMap.{is_at}
 use Rattle.std.specs.BTreeSet.{contains}
@@ -32,7 +35,8 @@ pub was_absent : (added had : Bool) → added ≡ true → added ≡ not had →
 was_absent added true so e = cc (sym so ∙ e)
 was_absent added false so e = refl
 
-pub takes_new : (old new : ImportedRows) (r : Record) (row : TargetRow) → row_of r ≡ Some row → has_id row.id old.rows ≡ false → new.rows ≡ old.rows ++ row ∷ [] → HasIds new → TakesRow old new r true
+pub takes_new : (old new : ImportedRows) (r : Record) (row : TargetRow) → row_of r ≡ Some row → has_id row.id old.rows ≡ false → new.rows ≡ old.rows ++ row ∷ []
+    → HasIds new → TakesRow old new r true
 takes_new old new r row read fresh pushed ids = rw (read, fresh) (refl, record { pushed = pushed; ids = ids })
 
 -- ---- what a taken record says
@@ -47,13 +51,15 @@ not_taken old new r h = by (row_behind old.rows r) h
 pub taken : (old new : ImportedRows) (r : Record) → TakesRow old new r true → (row : TargetRow) × (row_behind old.rows r ≡ Some row) × Pushes old new row
 taken old new r h = by (row_behind old.rows r) h
   where
-    by : (o : Option TargetRow) → MatchOption o (true ≡ false) (λ row. (true ≡ true) × Pushes old new row) → (row : TargetRow) × (o ≡ Some row) × Pushes old new row
+    by : (o : Option TargetRow) → MatchOption o (true ≡ false) (λ row. (true ≡ true) × Pushes old new row) → (row : TargetRow) × (o ≡ Some row)
+        × Pushes old new row
     by None t = absurd (true≢false t)
     by (Some row) t = (row, refl, t.1)
 
 -- ---- rows of records
 
-rows_go : (o : Option TargetRow) (m n : Option (List TargetRow)) (xs ys : List TargetRow) → option_and_then (λ row. option_map (λ rows. row ∷ rows) m) o ≡ Some xs → ((zs : List TargetRow) → m ≡ Some zs → n ≡ Some (zs ++ ys))
+rows_go : (o : Option TargetRow) (m n : Option (List TargetRow)) (xs ys : List TargetRow) → option_and_then (λ row. option_map (λ rows. row ∷ rows) m) o
+    ≡ Some xs → ((zs : List TargetRow) → m ≡ Some zs → n ≡ Some (zs ++ ys))
     → option_and_then (λ row. option_map (λ rows. row ∷ rows) n) o ≡ Some (xs ++ ys)
 rows_go None m n xs ys e later = cc e
 rows_go (Some row) None n xs ys e later = cc e
@@ -86,7 +92,8 @@ and_parts true b e = (refl, e)
 and_parts false b e = cc e
 
 -- a word that is not among distinct ones
-distinct_more : (ws : List (List ℕ)) (w : List ℕ) → are_distinct_words ws ≡ true → list_any (λ v. pointwise nat_eq v w) ws ≡ false → are_distinct_words (ws ++ w ∷ []) ≡ true
+distinct_more : (ws : List (List ℕ)) (w : List ℕ) → are_distinct_words ws ≡ true → list_any (λ v. pointwise nat_eq v w) ws ≡ false
+    → are_distinct_words (ws ++ w ∷ []) ≡ true
 distinct_more [] w so fresh = refl
 distinct_more (x ∷ ws) w so fresh =
     let was = and_parts (not (list_any (λ v. pointwise nat_eq v x) ws)) (are_distinct_words ws) so in
@@ -99,7 +106,8 @@ distinct_more (x ∷ ws) w so fresh =
     still false n = refl
 
 -- a word that stands twice
-distinct_twice : (ws : List (List ℕ)) (w : List ℕ) (more : List (List ℕ)) → list_any (λ v. pointwise nat_eq v w) ws ≡ true → are_distinct_words (ws ++ w ∷ more) ≡ false
+distinct_twice : (ws : List (List ℕ)) (w : List ℕ) (more : List (List ℕ)) → list_any (λ v. pointwise nat_eq v w) ws ≡ true → are_distinct_words (ws ++ w ∷ more)
+    ≡ false
 distinct_twice [] w more there = cc there
 distinct_twice (x ∷ ws) w more there = by (pointwise nat_eq x w) refl (list_any-append (λ v. pointwise nat_eq v x) ws (w ∷ more)) (distinct_twice ws w more)
   where
@@ -111,7 +119,8 @@ distinct_twice (x ∷ ws) w more there = by (pointwise nat_eq x w) refl (list_an
     and_false true = refl
     and_false false = refl
 
-    by : (b : Bool) → pointwise nat_eq x w ≡ b → list_any (λ v. pointwise nat_eq v x) (ws ++ w ∷ more) ≡ list_any (λ v. pointwise nat_eq v x) ws || list_any (λ v. pointwise nat_eq v x) (w ∷ more)
+    by : (b : Bool) → pointwise nat_eq x w ≡ b → list_any (λ v. pointwise nat_eq v x) (ws ++ w ∷ more)
+        ≡ list_any (λ v. pointwise nat_eq v x) ws || list_any (λ v. pointwise nat_eq v x) (w ∷ more)
         → (list_any (λ v. pointwise nat_eq v w) ws ≡ true → are_distinct_words (ws ++ w ∷ more) ≡ false) → are_distinct_words ((x ∷ ws) ++ w ∷ more) ≡ false
     by true same joined later =
         let w_x : pointwise nat_eq w x ≡ true = flipped w x ∙ same in
@@ -121,7 +130,8 @@ distinct_twice (x ∷ ws) w more there = by (pointwise nat_eq x w) refl (list_an
 
 -- ---- one record more
 
-new_parts : (rows : List TargetRow) (o : Option TargetRow) (row : TargetRow) → option_and_then (if_new rows) o ≡ Some row → (o ≡ Some row) × (has_id row.id rows ≡ false)
+new_parts : (rows : List TargetRow) (o : Option TargetRow) (row : TargetRow) → option_and_then (if_new rows) o ≡ Some row → (o ≡ Some row)
+    × (has_id row.id rows ≡ false)
 new_parts rows None row e = cc e
 new_parts rows (Some x) row e = by (has_id x.id rows) refl e
   where
@@ -130,7 +140,8 @@ new_parts rows (Some x) row e = by (has_id x.id rows) refl e
     by false h f = let same : x ≡ row = cc f in (f, ap (λ (r : TargetRow). has_id r.id rows) (sym same) ∙ h)
 
 -- the rows of distinct ids, and one behind them
-pub rows_more : (done : List Record) (r : Record) (rows : List TargetRow) (row : TargetRow) → each_row done ≡ Some rows → are_distinct_words (ids_of rows) ≡ true → row_behind rows r ≡ Some row
+pub rows_more : (done : List Record) (r : Record) (rows : List TargetRow) (row : TargetRow) → each_row done ≡ Some rows → are_distinct_words (ids_of rows)
+    ≡ true → row_behind rows r ≡ Some row
     → (each_row (done ++ r ∷ []) ≡ Some (rows ++ row ∷ [])) × (are_distinct_words (ids_of (rows ++ row ∷ [])) ≡ true)
 rows_more done r rows row so distinct next =
     let parts = new_parts rows (row_of r) row next in
@@ -147,14 +158,17 @@ old_id rows row e = by (has_id row.id rows) e
     by false f = cc f
 
 -- a faulty record, whatever follows
-pub rows_fault : (done : List Record) (r : Record) (rest : List Record) (rows : List TargetRow) → each_row done ≡ Some rows → row_behind rows r ≡ None → option_and_then distinct_rows (each_row (done ++ r ∷ rest)) ≡ None
+pub rows_fault : (done : List Record) (r : Record) (rest : List Record) (rows : List TargetRow) → each_row done ≡ Some rows → row_behind rows r ≡ None
+    → option_and_then distinct_rows (each_row (done ++ r ∷ rest)) ≡ None
 rows_fault done r rest rows so none = by (row_of r) (each_row rest) refl refl none
   where
-    by : (o : Option TargetRow) (m : Option (List TargetRow)) → row_of r ≡ o → each_row rest ≡ m → option_and_then (if_new rows) o ≡ None → option_and_then distinct_rows (each_row (done ++ r ∷ rest)) ≡ None
+    by : (o : Option TargetRow) (m : Option (List TargetRow)) → row_of r ≡ o → each_row rest ≡ m → option_and_then (if_new rows) o ≡ None
+        → option_and_then distinct_rows (each_row (done ++ r ∷ rest)) ≡ None
     by None m read others e = let no : each_row (r ∷ rest) ≡ None = rw read refl in rw (each_row-none done (r ∷ rest) no) refl
     by (Some row) None read others e = let no : each_row (r ∷ rest) ≡ None = rw (read, others) refl in rw (each_row-none done (r ∷ rest) no) refl
     by (Some row) (Some more) read others e =
         let all : each_row (r ∷ rest) ≡ Some (row ∷ more) = rw (read, others) refl in
         let twice : are_distinct_words (ids_of (rows ++ row ∷ more)) ≡ false =
-        ap are_distinct_words (map-append (λ (x : TargetRow). x.id) rows (row ∷ more)) ∙ distinct_twice (ids_of rows) row.id (ids_of more) (old_id rows row e) in
+        ap are_distinct_words (map-append (λ (x : TargetRow). x.id) rows (row ∷ more))
+        ∙ distinct_twice (ids_of rows) row.id (ids_of more) (old_id rows row e) in
         rw (each_row-append done (r ∷ rest) rows (row ∷ more) so all, twice) refl

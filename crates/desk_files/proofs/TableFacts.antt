@@ -1,5 +1,6 @@
 -- No field of a table of actions needs quotes.
-use Rattle.desk_files.proofs.Common.{◌≡◌, ◌<◌, ◌^◌, ◌+◌, ◌%◌, ℕ, List, [], ◌∷◌, ◌++◌, true, false, All, codes, map, refl, sym, ◌∙◌, ap, arith, append_assoc, length, flat_map, list_all, nat_tests, append-nil, list_any-append, both, is_between, is_word, is_word_letter}
+use Rattle.desk_files.proofs.Common.{◌≡◌, ◌<◌, ◌^◌, ◌+◌, ◌%◌, ℕ, List, [], ◌∷◌, ◌++◌, true, false, All, codes, map, refl, sym, ◌∙◌, ap, arith, append_assoc}
+use Rattle.desk_files.proofs.Common.{length, flat_map, list_all, nat_tests, append-nil, list_any-append, both, is_between, is_word, is_word_letter}
 use Rattle.std.specs.Fmt.{decimal}
 use Rattle.std.proofs.lemmas.Fmt.{decimal_by_steps}
 use Rattle.std.proofs.lemmas.List.Elements.{All-head, All-tail}
@@ -47,7 +48,8 @@ text_is_plain word.Running = refl
 row_is_line : (a : Action) → IsAction a → row_text default_writer (action_record a) ≡ action_line a
 unfolding fields_text is_blank
 row_is_line a is =
-    rw (decimal_is_plain a.number is.number, word_is_plain a.target is.target, decimal_is_plain a.group is.group, text_is_plain a.word) (simp (append_assoc, append-nil))
+    rw (decimal_is_plain a.number is.number, word_is_plain a.target is.target, decimal_is_plain a.group is.group, text_is_plain a.word)
+    (simp (append_assoc, append-nil))
 
 rows_are_lines : (actions : List Action) → All IsAction actions → flat_map (row_text default_writer) (map action_record actions) ≡ flat_map action_line actions
 rows_are_lines [] are = refl

@@ -1,5 +1,8 @@
 -- What was read is taken over.
-use Rattle.desk_opening.proofs.Common.{◌≡◌, inl, inr, Ok, Err, Result, IfErr, IsTrue, sym, subst, arith, Trees, Database, State, HasCleanDisk, StandsSomewhere, HoldIn, IsAtRest, Rests, still_holds, Wears, Records, desk_table, HoldsRecords, HoldsAt, HoldsReadable, newest, Version, from_newest, newest_is_readable, OpenFault, NotDesk, NewerVersion, Memory, Store, HoldsFrom, Migrates, MigratesTo, Adopts, HasDeskAt, HasRow, IsDeskRow, IsFailure, IsSettled, Keeps, TellsVersion}
+use Rattle.desk_opening.proofs.Common.{◌≡◌, inl, inr, Ok, Err, Result, IfErr, IsTrue, sym, subst, arith, Trees, Database, State, HasCleanDisk, StandsSomewhere}
+use Rattle.desk_opening.proofs.Common.{HoldIn, IsAtRest, Rests, still_holds, Wears, Records, desk_table, HoldsRecords, HoldsAt, HoldsReadable, newest, Version}
+use Rattle.desk_opening.proofs.Common.{from_newest, newest_is_readable, OpenFault, NotDesk, NewerVersion, Memory, Store, HoldsFrom, Migrates, MigratesTo}
+use Rattle.desk_opening.proofs.Common.{Adopts, HasDeskAt, HasRow, IsDeskRow, IsFailure, IsSettled, Keeps, TellsVersion}
 use Rattle.desk_opening.specs.Opening.{TakesTo}
 use Rattle.desk_opening.proofs.HeldLemmas.{same_version}
 use Rattle.desk_opening.proofs.Steps.{rests_as}
@@ -10,20 +13,38 @@ at_row : (db : Database) (r : Records) (v : Version) → HasRow db (IsDeskRow v)
 at_row db r v row (w, holds) = subst (λ u. HoldsAt u db r) (sym (same_version db r w holds v row)) holds
 
 -- while a connection is open, every crash leaves the last commit, and so that version
-rest_at : (s : State) → IsSettled s → IsTrue s.is_open → (v : Version) → HasRow s.now (IsDeskRow v) → (r : Records) → IsAtRest HoldsReadable s r → IsAtRest (HoldsAt v) s r
+rest_at : (s : State) → IsSettled s → IsTrue s.is_open → (v : Version) → HasRow s.now (IsDeskRow v) → (r : Records) → IsAtRest HoldsReadable s r
+    → IsAtRest (HoldsAt v) s r
 rest_at s settled on v row r was =
-    let held : HoldsAt v s.committed r = at_row s.committed r v (subst (λ d. HasRow d (IsDeskRow v)) (was.held.ended was.mode on) row) (was.held.kept_holds on) in
-    record { mode = was.mode; held = record { ended = was.held.ended; kept_holds = λ _. held; crash = λ db left. subst (λ t. HoldIn (HoldsAt v) t r) (sym (settled db on left)) (s.committed.schema, held) } }
+    let held : HoldsAt v s.committed r = at_row s.committed r v (subst (λ d. HasRow d (IsDeskRow v)) (was.held.ended was.mode on) row)
+    (was.held.kept_holds on) in
+    record {
+      mode = was.mode;
+      held = record {
+        ended = was.held.ended;
+        kept_holds = λ _. held;
+        crash = λ db left. subst (λ t. HoldIn (HoldsAt v) t r) (sym (settled db on left))
+            (s.committed.schema, held);
+      };
+    }
 
 -- ---- what is made of older tables
 
 pub stays_newest : {E : Type 0} (v : Version) → v ≡ newest → (s : State) → Migrates {A = Unit {0}} {E = E} v s s (Ok tt)
-stays_newest v is s = record { wears = omega arith; migrates = λ r. rests_as (HoldsAt v) HoldsRecords r r (λ db held. from_newest db r (subst (λ u. HoldsAt u db r) is held)) s }
+stays_newest v is s = record {
+  wears = omega arith;
+  migrates =
+      λ r. rests_as (HoldsAt v) HoldsRecords r r (λ db held. from_newest db r (subst (λ u. HoldsAt u db r) is held)) s;
+}
 
 -- the tables were looked at again
 pub looked_at : {E F : Type 0} (v : Version) (a z : State) → Migrates {A = Unit {0}} {E = F} v a z (Ok tt) → (out : Result (Unit {0}) E) → Migrates v a z out
 looked_at v a z h (Ok x) = record { wears = h.wears; migrates = h.migrates }
-looked_at v a z h (Err e) = record { wears = h.wears; migrates = λ r was clean db left. let found = (h.migrates r was clean).held.crash db left in (found.0, inr found.1) }
+looked_at v a z h (Err e) = record {
+  wears = h.wears;
+  migrates = λ r was clean db left. let found = (h.migrates r was clean).held.crash db left in
+      (found.0, inr found.1);
+}
 
 -- in the one version or the other
 pub one_or_other : (v : Version) (r : Records) (db : Trees) → HoldIn (HoldsFrom v) db r → HoldIn HoldsReadable db r
@@ -33,7 +54,8 @@ one_or_other v r db (s, inr h) = (s, newest_is_readable _ r h)
 -- ---- the whole
 
 -- a desk of this version was found, and its tables become those of the newest
-module _ (old mid : State) (table : StandsSomewhere old.now.schema (desk_table 0)) (v : Version) (k : Keeps {E = OpenFault} old mid (Ok v)) (tells : HasCleanDisk mid → TellsVersion old.now (Ok v)) (settled : IsSettled old) (new : State) where
+module _ (old mid : State) (table : StandsSomewhere old.now.schema (desk_table 0)) (v : Version) (k : Keeps {E = OpenFault} old mid (Ok v))
+    (tells : HasCleanDisk mid → TellsVersion old.now (Ok v)) (settled : IsSettled old) (new : State) where
   found : HasCleanDisk mid → HasDeskAt old.now v
   found clean = tells clean table
 
@@ -57,7 +79,8 @@ module _ (old mid : State) (table : StandsSomewhere old.now.schema (desk_table 0
   still m r was clean db left = one_or_other v r db (m.migrates r (stood m.wears clean r was) clean db left)
 
   still_at : {A : Type 0} (w : Version) {e : OpenFault} → Migrates {A = A} v mid new (Err e) → MigratesTo {A = A} w old new (Err e)
-  still_at w m r was clean db left = subst (λ u. HoldIn (HoldsFrom u) db r) (moved_at w m.wears clean r was) (m.migrates r (stood_at w m.wears clean r was) clean db left)
+  still_at w m r was clean db left = subst (λ u. HoldIn (HoldsFrom u) db r) (moved_at w m.wears clean r was)
+      (m.migrates r (stood_at w m.wears clean r was) clean db left)
 
   pub adopts_renewed : {A : Type 0} (out : Result A OpenFault) → Migrates v mid new out → IfErr out IsFailure → Adopts old new out
   adopts_renewed (Ok x) m fails = record {

@@ -1,5 +1,8 @@
 -- Files that hold nothing are opened to empty trees.
-use Rattle.desk_opening.proofs.Common.{◌≡◌, ◌≤◌, ◌<◌, ◌-◌, ◌*◌, ℕ, List, [], ◌∷◌, ◌++◌, codes, min, true, false, length, take, slice_index, Option, Some, unwrap_or, inl, inr, refl, sym, ap, subst, ◌∙◌, zero-add, arith, get_or-take, AllZip, length-take, ∥∥₁_elim, Schema, Trees, Image, AreFoundIn, IsNothing, IsTableRow, IsIndexRow, IsViewRow, AreListed, stored_size, used_size, LeavesFree, desk_names, UsesNoName}
+use Rattle.desk_opening.proofs.Common.{◌≡◌, ◌≤◌, ◌<◌, ◌-◌, ◌*◌, ℕ, List, [], ◌∷◌, ◌++◌, codes, min, true, false, length, take, slice_index, Option, Some}
+use Rattle.desk_opening.proofs.Common.{unwrap_or, inl, inr, refl, sym, ap, subst, ◌∙◌, zero-add, arith, get_or-take, AllZip, length-take, ∥∥₁_elim, Schema}
+use Rattle.desk_opening.proofs.Common.{Trees, Image, AreFoundIn, IsNothing, IsTableRow, IsIndexRow, IsViewRow, AreListed, stored_size, used_size, LeavesFree}
+use Rattle.desk_opening.proofs.Common.{desk_names, UsesNoName}
 use Rattle.sqlite_trees.specs.Objects.{catalog_tree}
 use Rattle.sqlite_wal.specs.Format.{part}
 use Rattle.sqlite_wal.specs.Recovery.{Pages, pages_after}
@@ -14,7 +17,8 @@ use Rattle.sqlite_pool.proofs.ProbeLemmas.{first_byte}
 
 shorter : (n m size : ℕ) (xs wanted : List ℕ) → take n (take m (take size xs)) ≡ wanted → length wanted ≡ n → n ≤ size
 shorter n m size xs wanted is len =
-    let least : min n (min m (min size (length xs))) ≡ n = sym (length-take n (take m (take size xs)) ∙ ap (min n) (length-take m (take size xs) ∙ ap (min m) (length-take size xs))) ∙ ap length is ∙ len in
+    let least : min n (min m (min size (length xs))) ≡ n =
+    sym (length-take n (take m (take size xs)) ∙ ap (min n) (length-take m (take size xs) ∙ ap (min m) (length-take size xs))) ∙ ap length is ∙ len in
     grind (arith, least)
 
 -- ---- files that recover to a sound file are not blank
@@ -26,17 +30,22 @@ module _ (size : ℕ) (image : Image) (pages : Pages) (found : Adopts size image
       let whole = stored_size size in
       let raw = found.found in
       let (page, is) = some_value (found.stored 1) found.whole.first in
-      let alone : pages_after whole image.log image.db 0 1 ≡ Some page = ap (λ (p : Pages). p 1) (ap (pages_after whole image.log image.db) (sym none) ∙ raw.gives) ∙ is in
+      let alone : pages_after whole image.log image.db 0 1 ≡ Some page =
+      ap (λ (p : Pages). p 1) (ap (pages_after whole image.log image.db) (sym none) ∙ raw.gives) ∙ is in
       let start : (1 - 1) * whole ≡ 0 = omega arith in
-      let front : part image.db 0 whole ≡ page = ap (λ (at : ℕ). part image.db at whole) (sym start) ∙ (page_from_pages whole image.log image.db 0 1 page alone).0 in
+      let front : part image.db 0 whole ≡ page = ap (λ (at : ℕ). part image.db at whole) (sym start)
+      ∙ (page_from_pages whole image.log image.db 0 1 page alone).0 in
       let used : pages 1 ≡ Some (take size page) = ap (λ (p : Pages). p 1) (sym found.shows) ∙ trimmed_some size _ 1 page is in
-      let head : header_in pages ≡ take 100 (take size (part image.db 0 whole)) = ap (λ (o : Option (List ℕ)). take 100 (unwrap_or o [])) used ∙ ap (λ (b : List ℕ). take 100 (take size b)) (sym front) in
+      let head : header_in pages ≡ take 100 (take size (part image.db 0 whole)) = ap (λ (o : Option (List ℕ)). take 100 (unwrap_or o [])) used
+      ∙ ap (λ (b : List ℕ). take 100 (take size b)) (sym front) in
       let named : take 16 (take 100 (take size (part image.db 0 whole))) ≡ codes "SQLite format 3" ++ 0 ∷ [] = ap (take 16) (sym head) ∙ sound.header.0.magic in
       let long : 16 ≤ size = shorter 16 100 size (part image.db 0 whole) (codes "SQLite format 3" ++ 0 ∷ []) named (omega arith) in
       let long' = part_within image.db 0 whole (omega (arith, long)) (ap length front ∙ found.whole.sized 1 page is) in (
         omega (arith, long'),
         long,
-        sym (ap (slice_index image.db) (zero-add 0)) ∙ sym (slice_index-part image.db 0 whole 0 (omega (arith, long))) ∙ sym (get_or-take size (part image.db 0 whole) 0 0 (omega (arith, long))) ∙ sym (get_or-take 100 (take size (part image.db 0 whole)) 0 0 (omega arith))
+        sym (ap (slice_index image.db) (zero-add 0)) ∙ sym (slice_index-part image.db 0 whole 0 (omega (arith, long)))
+            ∙ sym (get_or-take size (part image.db 0 whole) 0 0 (omega (arith, long)))
+            ∙ sym (get_or-take 100 (take size (part image.db 0 whole)) 0 0 (omega arith))
             ∙ sym (get_or-take 16 (take 100 (take size (part image.db 0 whole))) 0 0 (omega arith)) ∙ ap (λ (b : List ℕ). slice_index b 0) named,
       )
 
@@ -81,5 +90,6 @@ empty_is_unused db none s sound =
     nothing_is_used s tables indexes views desk_names
 
 pub nothing_is_unused : (image : Image) (db : Trees) → IsNothing image → AreFoundIn image db → UsesNoName db
-nothing_is_unused image db nothing (inl found) = absurd (∥∥₁_elim found.4 (λ x. absurd x) (λ ours. not_nothing found.0 image found.1 found.3 ours.file.sound nothing))
+nothing_is_unused image db nothing (inl found) =
+    absurd (∥∥₁_elim found.4 (λ x. absurd x) (λ ours. not_nothing found.0 image found.1 found.3 ours.file.sound nothing))
 nothing_is_unused image db nothing (inr found) = empty_is_unused db found.1.1

@@ -1,5 +1,8 @@
 -- What is known of each version by its cases.
-use Rattle.desk_opening.proofs.Common.{◌≡◌, ℕ, ◌+◌, List, [], ◌∷◌, map, true, None, refl, ap, subst, AllByRecursion, take-append-drop, Row, Records, RolloutRecord, Content, Ordered, Unordered, Offered, content_at, ledger_of, rule_row, rules_from, Place, Offers, places, IsTellable, IsUnnumbered, later_than, places_at, table_count_of, Version, One, Two, Three, among, is_among, of_all, bare_ledger, no_rules, all_both}
+use Rattle.desk_opening.proofs.Common.{◌≡◌, ℕ, ◌+◌, List, [], ◌∷◌, map, true, None, refl, ap, subst, AllByRecursion, take-append-drop, Row, Records}
+use Rattle.desk_opening.proofs.Common.{RolloutRecord, Content, Ordered, Unordered, Offered, content_at, ledger_of, rule_row, rules_from, Place, Offers, places}
+use Rattle.desk_opening.proofs.Common.{IsTellable, IsUnnumbered, later_than, places_at, table_count_of, Version, One, Two, Three, among, is_among, of_all}
+use Rattle.desk_opening.proofs.Common.{bare_ledger, no_rules, all_both}
 use Rattle.rollout_machine.specs.declared.records.ActionRecord.{ActionRecord}
 use Rattle.desk_records.specs.Parts.{parts_from}
 use Rattle.desk_records.specs.FeedbackNumbers.{number_row, number_rows, numbers_of}
@@ -24,7 +27,8 @@ older_held Two r = refl
 older_held Three r = refl
 
 -- records without parts have no rows of them
-no_part_rows : {X Y : Type 0} (f : ℕ → ℕ → Y → Row) (parts : X → List Y) (n : ℕ) (xs : List X) → AllByRecursion (λ x. parts x ≡ []) xs → parts_from f (λ (its : List Y). its) n (map parts xs) ≡ []
+no_part_rows : {X Y : Type 0} (f : ℕ → ℕ → Y → Row) (parts : X → List Y) (n : ℕ) (xs : List X) → AllByRecursion (λ x. parts x ≡ []) xs
+    → parts_from f (λ (its : List Y). its) n (map parts xs) ≡ []
 no_part_rows f parts n [] none = refl
 no_part_rows f parts n (x ∷ xs) none = rw none.0 (no_part_rows f parts (n + 1) xs none.1)
 
@@ -42,7 +46,8 @@ no_number_rows : (as' : List ActionRecord) → AllByRecursion IsUnnumbered as' �
 no_number_rows = no_part_rows number_row numbers_of 1
 
 -- later ones hold nothing
-pub later_held : (v : Version) (r : Records) → IsTellable v r → AllByRecursion (λ t. content_at v (bare_ledger v r) t ≡ nothing (content_at v (bare_ledger v r) t)) (later_than v)
+pub later_held : (v : Version) (r : Records) → IsTellable v r
+    → AllByRecursion (λ t. content_at v (bare_ledger v r) t ≡ nothing (content_at v (bare_ledger v r) t)) (later_than v)
 later_held One r told = (ap Unordered (no_rule_rows r.rollouts), (ap Unordered (no_number_rows r.actions told.1), tt))
 later_held Two r told = (ap Unordered (no_number_rows r.actions told), tt)
 later_held Three r told = tt

@@ -1,5 +1,8 @@
 -- Why a migration of records that can be read is no failed store by itself.
-use Rattle.desk_opening.proofs.Common.{◌≡◌, ◌<◌, ◌≤◌, ◌^◌, ℕ, suc, [], ◌∷◌, length, codes, pos, Option, Some, None, option_map, Ok, Err, Result, IfErr, refl, sym, ap, subst, ◌∙◌, arith, Int, Row, state, HasCleanDisk, Fault, TakesFirst, all-slice_get, Wears, RolloutRecord, HoldsLedger, Ledger, told_rollout, One, Version, GET_ROLLOUT, LAST_ROLLOUT, FindsLedger, MakesLedger, WritesUpTo, bare_ledger, no_rules, rules_up_to}
+use Rattle.desk_opening.proofs.Common.{◌≡◌, ◌<◌, ◌≤◌, ◌^◌, ℕ, suc, [], ◌∷◌, length, codes, pos, Option, Some, None, option_map, Ok, Err, Result, IfErr, refl}
+use Rattle.desk_opening.proofs.Common.{sym, ap, subst, ◌∙◌, arith, Int, Row, state, HasCleanDisk, Fault, TakesFirst, all-slice_get, Wears, RolloutRecord}
+use Rattle.desk_opening.proofs.Common.{HoldsLedger, Ledger, told_rollout, One, Version, GET_ROLLOUT, LAST_ROLLOUT, FindsLedger, MakesLedger, WritesUpTo}
+use Rattle.desk_opening.proofs.Common.{bare_ledger, no_rules, rules_up_to}
 use Rattle.sqlite.specs.Store.{Ghosts}
 use Rattle.sql_calls.specs.Standing.{Sees}
 use Rattle.sql_calls.specs.declared.calls.Calls.{Calls}
@@ -36,9 +39,13 @@ module _ {S : Type 0} {g : Ghosts S} {old new : Calls S} where
   last_fails row h counts (Err Memory) why = record { to = λ failed was l sees few clean. record { before = counts.to failed was; call = never_memory } }
   last_fails row h counts (Err Store) why = absurd why
   last_fails row h counts (Err Broken) why =
-      let found = first_finds HoldsLedger (λ (l : Ledger). l) LAST_ROLLOUT.now [] (state g old.conn) (state g new.conn) (λ l (u : Unit {0}). IsLastRow (length l.records.rollouts) row) ending (λ db r holds at given. tt) row h done
+      let found = first_finds HoldsLedger (λ (l : Ledger). l) LAST_ROLLOUT.now [] (state g old.conn) (state g new.conn)
+      (λ l (u : Unit {0}). IsLastRow (length l.records.rollouts) row) ending (λ db r holds at given. tt) row h done
       (λ db l holds shown. lasts_rollout db l holds (codes "number" ∷ []) row shown) in
-      record { to = λ failed was l sees few clean. record { before = counts.to failed was; call = λ is. absurd (number_kept row (length l.records.rollouts) few ((found.finds l sees).1 clean) why) } }
+      record {
+        to = λ failed was l sees few clean.
+            record { before = counts.to failed was; call = λ is. absurd (number_kept row (length l.records.rollouts) few ((found.finds l sees).1 clean) why) };
+      }
 
 -- ---- a rollout
 
@@ -49,13 +56,15 @@ row_kept row x is readable lacks =
     absurd cc
 
 module _ {S : Type 0} {g : Ghosts S} {old new : Calls S} (number : ℕ) (least : 1 ≤ number) where
-  pub rollout_fails : (row : Option Row) → TakesFirst (state g old.conn) (state g new.conn) GET_ROLLOUT.now (Int (pos number) ∷ []) (Ok row) → Counts {A = Option Row} old new (Ok row)
+  pub rollout_fails : (row : Option Row) → TakesFirst (state g old.conn) (state g new.conn) GET_ROLLOUT.now (Int (pos number) ∷ []) (Ok row)
+      → Counts {A = Option Row} old new (Ok row)
       → (out : Result StoredRollout Fault) → IfErr out (λ fault. IfStore fault (LacksRollout row)) → FailsGiven g (HasReadable number) old new out
   rollout_fails row h counts (Ok x) why = record { to = counts.to }
   rollout_fails row h counts (Err Memory) why = record { to = λ failed was l sees given clean. record { before = counts.to failed was; call = never_memory } }
   rollout_fails row h counts (Err Store) why = absurd why
   rollout_fails row h counts (Err Broken) why =
-      let found = first_finds HoldsLedger (λ (l : Ledger). l) GET_ROLLOUT.now (Int (pos number) ∷ []) (state g old.conn) (state g new.conn) (λ l (u : Unit {0}). row ≡ option_map told_rollout (item_numbered l.records.rollouts number)) getting
+      let found = first_finds HoldsLedger (λ (l : Ledger). l) GET_ROLLOUT.now (Int (pos number) ∷ []) (state g old.conn) (state g new.conn)
+      (λ l (u : Unit {0}). row ≡ option_map told_rollout (item_numbered l.records.rollouts number)) getting
       (λ db r holds at given. tt) row h done (λ db l holds shown. gets_rollout db l holds rollout_names number least row shown) in
       record {
         to = λ failed was l sees given clean. record {
@@ -68,8 +77,10 @@ module _ {S : Type 0} {g : Ghosts S} {old new : Calls S} (number : ℕ) (least :
 
 -- behind the number of the last, and the first k rollouts
 module _ {S : Type 0} {g : Ghosts S} {a b m z : Calls S} (k last n : ℕ) (low : k < last) (next : n ≡ suc k) where
-  pub rules_fail : FindsLedger {E = Fault} (state g a.conn) (state g b.conn) (Ok last) (λ l last. last ≡ length l.records.rollouts) → FailsGiven g (λ l. length l.records.rollouts < 2 ^ 32) {A = ℕ} a b (Ok last)
-      → MakesLedger {A = Unit {0}} {E = Fault} (state g b.conn) (state g m.conn) (Ok tt) (WritesUpTo k) → Counts {A = Unit {0}} b m (Ok tt) → Wears (state g m.conn) (state g z.conn)
+  pub rules_fail : FindsLedger {E = Fault} (state g a.conn) (state g b.conn) (Ok last) (λ l last. last ≡ length l.records.rollouts)
+      → FailsGiven g (λ l. length l.records.rollouts < 2 ^ 32) {A = ℕ} a b (Ok last)
+      → MakesLedger {A = Unit {0}} {E = Fault} (state g b.conn) (state g m.conn) (Ok tt) (WritesUpTo k) → Counts {A = Unit {0}} b m (Ok tt)
+      → Wears (state g m.conn) (state g z.conn)
       → (fault : Fault) → FailsGiven g (HasReadable n) {A = Unit {0}} m z (Err fault) → FailsGiven g GivenRules {A = Unit {0}} a z (Err fault)
   rules_fail read before made counts wears fault h = record {
     to = λ failed was l sees given clean.
@@ -79,9 +90,11 @@ module _ {S : Type 0} {g : Ghosts S} {a b m z : Calls S} (k last n : ℕ) (low :
         let first : HasCleanDisk (state g b.conn) = omega (arith, between, made.wears) in
         let count = seen.1 first in
         let mid = with_rules l (rules_up_to k xs) in
-        let now : Sees HoldsLedger (state g m.conn) mid = made.makes l mid seen.0 (λ known. record { none = given.none; within = omega (arith, low, count); next_is = refl }) in
+        let now : Sees HoldsLedger (state g m.conn) mid =
+        made.makes l mid seen.0 (λ known. record { none = given.none; within = omega (arith, low, count); next_is = refl }) in
         let it = within k xs (omega (arith, low, count)) in
-        let there : HasReadable (suc k) mid = record { rollout = it.0; is_there = it.1; readable = all-slice_get IsReadable xs k it.0 it.1 given.readable.keep } in
+        let there : HasReadable (suc k) mid =
+        record { rollout = it.0; is_there = it.1; readable = all-slice_get IsReadable xs k it.0 it.1 given.readable.keep } in
         h.to failed (counts.to failed (before.to failed was)) mid now (subst (λ i. HasReadable i mid) (sym next) there) clean;
   }
 

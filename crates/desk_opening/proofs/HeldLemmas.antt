@@ -1,5 +1,9 @@
 -- A database that holds the records of a desk, or uses no name of one, is refused for a failure alone.
-use Rattle.desk_opening.proofs.Common.{◌≡◌, ◌<ℤ◌, inl, inr, ℤ, false, [], ◌∷◌, codes, pos, Some, Err, slice_get, refl, sym, ap, subst, ◌∙◌, arith, AllByRecursion, true≢false, both_ways, Int, Text, Row, column, Table, Database, has_rowid, Has, is_used, LeavesFree, StandsSomewhere, Records, Desk, table_at, desk_table, desk_names, desk_row, HoldsAt, HoldsPlace, newest, number_of, places_at, Version, has_desk, is_known, one_numbered, flag, OpenFault, NotDesk, NewerVersion, Memory, Store, FindsTo, HasDeskTables, HasNoRow, HasRow, IsDeskRow, IsFailure, IsNewerRow, IsOtherRow, LacksDesk, same_some}
+use Rattle.desk_opening.proofs.Common.{◌≡◌, ◌<ℤ◌, inl, inr, ℤ, false, [], ◌∷◌, codes, pos, Some, Err, slice_get, refl, sym, ap, subst, ◌∙◌, arith}
+use Rattle.desk_opening.proofs.Common.{AllByRecursion, true≢false, both_ways, Int, Text, Row, column, Table, Database, has_rowid, Has, is_used, LeavesFree}
+use Rattle.desk_opening.proofs.Common.{StandsSomewhere, Records, Desk, table_at, desk_table, desk_names, desk_row, HoldsAt, HoldsPlace, newest, number_of}
+use Rattle.desk_opening.proofs.Common.{places_at, Version, has_desk, is_known, one_numbered, flag, OpenFault, NotDesk, NewerVersion, Memory, Store, FindsTo}
+use Rattle.desk_opening.proofs.Common.{HasDeskTables, HasNoRow, HasRow, IsDeskRow, IsFailure, IsNewerRow, IsOtherRow, LacksDesk, same_some}
 use Rattle.std.proofs.lemmas.Int.{ints}
 use Rattle.sqlite_value.specs.Order.{value_cmp}
 use Rattle.desk_opening.proofs.VersionLemmas.{used_at}
@@ -49,7 +53,11 @@ module _ (db : Database) (r : Records) (v : Version) (holds : HoldsAt v db r) wh
   table_stands = let spot = holds.spot Desk in record { at = spot.at; tree = spot.tree; stands = desk_held.0 }
 
   pub has_tables : HasDeskTables v db.schema
-  has_tables = record { stands = all_kept _ (λ t. StandsSomewhere db.schema (table_at t 0)) (λ t held. let spot = holds.spot t in record { at = spot.at; tree = spot.tree; stands = held.0 }) (places_at v) holds.tables; free = holds.free }
+  has_tables = record {
+    stands = all_kept _ (λ t. StandsSomewhere db.schema (table_at t 0))
+        (λ t held. let spot = holds.spot t in record { at = spot.at; tree = spot.tree; stands = held.0 }) (places_at v) holds.tables;
+    free = holds.free;
+  }
 
   -- the row names the version that it is held in
   pub same_version : (w : Version) → HasRow db (IsDeskRow w) → w ≡ v

@@ -1,5 +1,6 @@
 -- What the text of a table has to be.
-use Rattle.desk_opening.proofs.Common.{◌≡◌, refl, ℕ, false, Option, List, [], ◌++◌, codes, Ok, Err, Result, Order, text_of, same_name, table_defined_by, first, IsBareTable, HaveNullDefaults, Place, table_at, name_of, create_text_of}
+use Rattle.desk_opening.proofs.Common.{◌≡◌, refl, ℕ, false, Option, List, [], ◌++◌, codes, Ok, Err, Result, Order, text_of, same_name, table_defined_by, first}
+use Rattle.desk_opening.proofs.Common.{IsBareTable, HaveNullDefaults, Place, table_at, name_of, create_text_of}
 use Rattle.sqlite_schema.specs.declared.schema.Column.{Column}
 use Rattle.sqlite_syntax.specs.declared.statement.Parsed.{Parsed}
 use Rattle.sqlite_resolve.specs.declared.error.CompileError.{CompileError}
@@ -11,7 +12,8 @@ text_at (Ok p) sql = text_of sql (with_create p)
 text_at (Err e) sql = []
 
 -- a table of columns without a default is no more than its columns and keys
-pub bare_of : {name : List ℕ} {tree : ℕ} {columns : List Column} {key : Option ℕ} {primary : List ℕ} {uniques : List (List ℕ)} {orders : List Order} → HaveNullDefaults columns → IsBareTable (table_of name tree columns key primary uniques orders)
+pub bare_of : {name : List ℕ} {tree : ℕ} {columns : List Column} {key : Option ℕ} {primary : List ℕ} {uniques : List (List ℕ)} {orders : List Order}
+    → HaveNullDefaults columns → IsBareTable (table_of name tree columns key primary uniques orders)
 bare_of defaults = record { checks = refl; references = refl; computed = refl; stamps = refl; uncounted = refl; defaults = defaults }
 
 -- the text is a whole statement, which makes the table of the place, and nothing else bears its name

@@ -1,5 +1,8 @@
 -- The row of `desk` is read in a change that is given up.
-use Rattle.desk_opening.proofs.Common.{inl, inr, [], codes, Option, Ok, Err, Result, subst, arith, Trees, Begin, Select, Database, State, HasCleanDisk, Fault, RunsText, TakesFirst, Wears, HoldIn, Rests, Spoiled, Knows, runs_plain, begin_is, rollback_is, begins, fails_to_begin, gives_up, Records, Desk, HoldsAt, HoldsPlace, HoldsReadable, Version, has_desk, GET_DESK, desk_query, get_desk_is, OpenFault, Keeps, TakesRow, TellsVersion, asked_at}
+use Rattle.desk_opening.proofs.Common.{inl, inr, [], codes, Option, Ok, Err, Result, subst, arith, Trees, Begin, Select, Database, State, HasCleanDisk, Fault}
+use Rattle.desk_opening.proofs.Common.{RunsText, TakesFirst, Wears, HoldIn, Rests, Spoiled, Knows, runs_plain, begin_is, rollback_is, begins, fails_to_begin}
+use Rattle.desk_opening.proofs.Common.{gives_up, Records, Desk, HoldsAt, HoldsPlace, HoldsReadable, Version, has_desk, GET_DESK, desk_query, get_desk_is}
+use Rattle.desk_opening.proofs.Common.{OpenFault, Keeps, TakesRow, TellsVersion, asked_at}
 use Rattle.sqlite.specs.Order.{Row}
 use Rattle.sql_calls.specs.Standing.{FrameTo, Opens}
 use Rattle.sql_calls.proofs.Framing.{first_frames}
@@ -27,7 +30,9 @@ module _ (Holds : Database → Records → Type 0) (knows : Knows Holds GET_DESK
           go (Err fault) frame = frame r (began r was)
 
       end_leaves : (fault : Fault) → RunsText c d (codes "ROLLBACK") [] (Err fault) → LeavesAll Holds a d
-      end_leaves fault h r was clean db left = elim (((gives_up Holds (codes "ROLLBACK") c d (rollback_is c.now.schema) (Err fault) h).gives_up r (taken r was) clean).crash db left) [ inl one ↦ one | inr other ↦ other ]
+      end_leaves fault h r was clean db left =
+          elim (((gives_up Holds (codes "ROLLBACK") c d (rollback_is c.now.schema) (Err fault) h).gives_up r (taken r was) clean).crash db left)
+          [ inl one ↦ one | inr other ↦ other ]
 
       end_keeps : RunsText c d (codes "ROLLBACK") [] (Ok tt) → (r : Records) → Rests Holds a r → Rests Holds d r
       end_keeps h r was = (gives_up Holds (codes "ROLLBACK") c d (rollback_is c.now.schema) (Ok tt) h).gives_up r (taken r was)
@@ -37,21 +42,35 @@ module _ (Holds : Database → Records → Type 0) (knows : Knows Holds GET_DESK
 knows_at : (v : Version) → Knows (HoldsAt v) GET_DESK.now
 knows_at v db r holds =
     let spot = holds.spot Desk in
-    record { command = Select (record { lets = []; body = desk_query spot.tree }) _; means = (asked_at get_desk_is).at db.schema spot.at spot.tree (has_desk v (λ t. HoldsPlace v db r (holds.spot t) t) holds.tables).0 }
+    record {
+      command = Select (record { lets = []; body = desk_query spot.tree }) _;
+      means = (asked_at get_desk_is).at db.schema spot.at spot.tree (has_desk v (λ t. HoldsPlace v db r (holds.spot t) t) holds.tables).0;
+    }
 
 knows_any : Knows HoldsReadable GET_DESK.now
 knows_any db r (v, holds) = knows_at v db r holds
 
 module _ (a b : State) where
   pub not_begun : {A E : Type 0} (fault : Fault) (e : E) → RunsText a b (codes "BEGIN") [] (Err fault) → Keeps {A = A} a b (Err e)
-  not_begun fault e h = record { wears = h.survives.clean; keeps = begin_leaves HoldsReadable knows_any a b fault h; keeps_at = λ v. begin_leaves (HoldsAt v) (knows_at v) a b fault h; opened = tt }
+  not_begun fault e h = record {
+    wears = h.survives.clean;
+    keeps = begin_leaves HoldsReadable knows_any a b fault h;
+    keeps_at =
+        λ v. begin_leaves (HoldsAt v) (knows_at v) a b fault h;
+    opened = tt;
+  }
 
   module _ (first : RunsText a b (codes "BEGIN") [] (Ok tt)) (c : State) (row : TakesRow b c) (d : State) where
     wears : Wears c d → Wears a d
     wears last = omega (arith, first.survives.clean, row.takes.survives.clean, last)
 
     pub not_ended : {A E : Type 0} (fault : Fault) (e : E) → RunsText c d (codes "ROLLBACK") [] (Err fault) → Keeps {A = A} a d (Err e)
-    not_ended fault e h = record { wears = wears h.survives.clean; keeps = end_leaves HoldsReadable knows_any a b first c row.took row.takes d fault h; keeps_at = λ v. end_leaves (HoldsAt v) (knows_at v) a b first c row.took row.takes d fault h; opened = tt }
+    not_ended fault e h = record {
+      wears = wears h.survives.clean;
+      keeps = end_leaves HoldsReadable knows_any a b first c row.took row.takes d fault h;
+      keeps_at = λ v. end_leaves (HoldsAt v) (knows_at v) a b first c row.took row.takes d fault h;
+      opened = tt;
+    }
 
     -- whatever was found
     pub ended : {A E : Type 0} (out : Result A E) → RunsText c d (codes "ROLLBACK") [] (Ok tt) → Keeps a d out
@@ -59,7 +78,8 @@ module _ (a b : State) where
       wears = wears h.survives.clean;
       keeps = end_keeps HoldsReadable knows_any a b first c row.took row.takes d h;
       keeps_at = λ v. end_keeps (HoldsAt v) (knows_at v) a b first c row.took row.takes d h;
-      opened = λ clean. let done = first.runs (omega (arith, clean, row.takes.survives.clean, h.survives.clean)) in (runs_plain (codes "BEGIN") Begin [] a b (begin_is a.now.schema) done.0 done.1).1.was_open;
+      opened = λ clean. let done = first.runs (omega (arith, clean, row.takes.survives.clean, h.survives.clean)) in
+          (runs_plain (codes "BEGIN") Begin [] a b (begin_is a.now.schema) done.0 done.1).1.was_open;
     }
     ended (Err e) h = record {
       wears = wears h.survives.clean;

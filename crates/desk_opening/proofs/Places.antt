@@ -1,5 +1,7 @@
 -- What the texts of all tables make.
-use Rattle.desk_opening.proofs.Common.{◌≡◌, refl, sym, ap, ◌∙◌, arith, ◌||◌, ℕ, zero, suc, ◌+◌, ◌<◌, Bool, false, List, [], ◌∷◌, ◌++◌, length, map, take, drop, get_or, list_any, or_parts, drop_more, length-map, take_more, Schema, Table, CreateTable, statement_of, IsAscending, first, is_used, none_from_any, Means, Place, places, table_at, name_of, means_of, DeskTable, place_of, create_text_of}
+use Rattle.desk_opening.proofs.Common.{◌≡◌, refl, sym, ap, ◌∙◌, arith, ◌||◌, ℕ, zero, suc, ◌+◌, ◌<◌, Bool, false, List, [], ◌∷◌, ◌++◌, length, map, take, drop}
+use Rattle.desk_opening.proofs.Common.{get_or, list_any, or_parts, drop_more, length-map, take_more, Schema, Table, CreateTable, statement_of, IsAscending}
+use Rattle.desk_opening.proofs.Common.{first, is_used, none_from_any, Means, Place, places, table_at, name_of, means_of, DeskTable, place_of, create_text_of}
 use Rattle.std.proofs.Math.ListN.{get_or-map}
 use Rattle.sqlite.specs.Listing.{understood}
 use Rattle.sqlite_schema.specs.Names.{same_name}
@@ -40,11 +42,13 @@ names_apart = each_apart places refl
 
 -- ---- the texts
 
-text_made : (sql name : List ℕ) (table : Table) (m : Makes sql name table) (s : Schema) → is_used s name ≡ false → text_at (first sql) sql ≡ sql → statement_of sql (understood s sql) ≡ sql
+text_made : (sql name : List ℕ) (table : Table) (m : Makes sql name table) (s : Schema) → is_used s name ≡ false → text_at (first sql) sql ≡ sql
+    → statement_of sql (understood s sql) ≡ sql
 unfolding understood
 text_made sql name table m s free whole = rw (makes_known sql name table m s free) (ap (λ r. text_at r sql) (sym m.read) ∙ whole)
 
-pub create_text : (t : Place) (s : Schema) → is_used s (name_of t) ≡ false → statement_of (create_text_of t) (understood s (create_text_of t)) ≡ create_text_of t
+pub create_text : (t : Place) (s : Schema) → is_used s (name_of t) ≡ false → statement_of (create_text_of t) (understood s (create_text_of t))
+    ≡ create_text_of t
 create_text t s free = text_made (create_text_of t) (name_of t) (table_at t 0) (is_place t).makes s free (is_place t).whole
 
 -- ---- the places behind so many

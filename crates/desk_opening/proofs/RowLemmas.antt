@@ -1,5 +1,10 @@
 -- What the query of the row of `desk` reads.
-use Rattle.desk_opening.proofs.Common.{◌≡◌, ◌≢◌, ◌<◌, ◌⊎◌, inl, inr, ℕ, zero, suc, length, pos, Bool, true, false, List, [], ◌∷◌, cond, map, filter, Option, Some, None, Ok, Err, Result, refl, sym, ap, subst, ◌∙◌, arith, Value, Null, Int, Real, Text, Blob, Row, column, has_rowid, Has, AllByRecursion, length-map, Term, col, lit, Database, Schema, State, HasCleanDisk, StandsSomewhere, TakesFirst, first_shown, first_unchanged, none_shown, shows_as, passes, shown_of, simple_rows, desk_table, GET_DESK, is_equal, get_desk_is, OpenFault, NotDesk, NewerVersion, Memory, Store, Version, HasDeskAt, HasNoRow, HasRow, IsWholeAt, LacksAt, LacksTables, Tells, TellsVersion, IsDeskRow, IsNewerRow, IsOtherRow, and-true, nil_from_length, asked_at}
+use Rattle.desk_opening.proofs.Common.{◌≡◌, ◌≢◌, ◌<◌, ◌⊎◌, inl, inr, ℕ, zero, suc, length, pos, Bool, true, false, List, [], ◌∷◌, cond, map, filter, Option}
+use Rattle.desk_opening.proofs.Common.{Some, None, Ok, Err, Result, refl, sym, ap, subst, ◌∙◌, arith, Value, Null, Int, Real, Text, Blob, Row, column}
+use Rattle.desk_opening.proofs.Common.{has_rowid, Has, AllByRecursion, length-map, Term, col, lit, Database, Schema, State, HasCleanDisk, StandsSomewhere}
+use Rattle.desk_opening.proofs.Common.{TakesFirst, first_shown, first_unchanged, none_shown, shows_as, passes, shown_of, simple_rows, desk_table, GET_DESK}
+use Rattle.desk_opening.proofs.Common.{is_equal, get_desk_is, OpenFault, NotDesk, NewerVersion, Memory, Store, Version, HasDeskAt, HasNoRow, HasRow, IsWholeAt}
+use Rattle.desk_opening.proofs.Common.{LacksAt, LacksTables, Tells, TellsVersion, IsDeskRow, IsNewerRow, IsOtherRow, and-true, nil_from_length, asked_at}
 use Rattle.sqlite_value.specs.Order.{value_cmp}
 use Rattle.sqlite_trees.proofs.ListLemmas.{all-permutation}
 use Rattle.std.proofs.lemmas.List.Sorted.{length_permutation}
@@ -33,12 +38,14 @@ IsShownOf rows shown = (row : Row) × Has rows row × (has_rowid (pos 1) row ≡
 abbrev is_first : Row → Bool
 is_first = passes (is_equal (col 1 0) (lit (Int (pos 1))) ∷ []) []
 
-all_shown : (whole rows : List Row) → ((r : Row) → Has rows r → Has whole r) → AllByRecursion (IsShownOf whole) (map (shown_of columns []) (filter is_first rows))
+all_shown : (whole rows : List Row) → ((r : Row) → Has rows r → Has whole r)
+    → AllByRecursion (IsShownOf whole) (map (shown_of columns []) (filter is_first rows))
 unfolding IsShownOf
 all_shown whole [] within = tt
 all_shown whole (r ∷ rows) within = go (is_first r) refl (all_shown whole rows (λ x has. within x (inr has)))
   where
-    go : (b : Bool) → is_first r ≡ b → AllByRecursion (IsShownOf whole) (map (shown_of columns []) (filter is_first rows)) → AllByRecursion (IsShownOf whole) (map (shown_of columns []) (cond b (r ∷ filter is_first rows) (filter is_first rows)))
+    go : (b : Bool) → is_first r ≡ b → AllByRecursion (IsShownOf whole) (map (shown_of columns []) (filter is_first rows))
+        → AllByRecursion (IsShownOf whole) (map (shown_of columns []) (cond b (r ∷ filter is_first rows) (filter is_first rows)))
     go true is more = ((r, within r (inl refl), sym (passes_number r) ∙ is, refl), more)
     go false is more = more
 
@@ -50,7 +57,8 @@ module _ (b c : State) (row : Row) (second : TakesFirst b c GET_DESK.now [] (Ok 
       let shown = first_shown GET_DESK.now _ [] b c means (λ _ _. tt) row (second.answers clean) in
       let answer = (shows_as GET_DESK.now _ [] b c means (row ∷ shown.0) shown.1).answer in
       let same = simple_rows at.tree (is_equal (col 1 0) (lit (Int (pos 1))) ∷ []) columns [] b.now.trees (row ∷ shown.0) (answer Null) in
-      let it = (all-permutation (IsShownOf (b.now.trees at.tree)) _ (row ∷ shown.0) same (all_shown (b.now.trees at.tree) (b.now.trees at.tree) (λ r has. has))).0 in
+      let it = (all-permutation (IsShownOf (b.now.trees at.tree)) _ (row ∷ shown.0) same
+      (all_shown (b.now.trees at.tree) (b.now.trees at.tree) (λ r has. has))).0 in
       record { table = at; row = it.0; among = it.1; number = it.2; says = it.3 }
 
   -- a read leaves the schema
@@ -65,7 +73,8 @@ none_left : (rows : List Row) → filter is_first rows ≡ [] → AllByRecursion
 none_left [] none = tt
 none_left (r ∷ rows) none = go (is_first r) refl none (none_left rows)
   where
-    go : (b : Bool) → is_first r ≡ b → cond b (r ∷ filter is_first rows) (filter is_first rows) ≡ [] → (filter is_first rows ≡ [] → AllByRecursion (λ row. has_rowid (pos 1) row ≡ false) rows)
+    go : (b : Bool) → is_first r ≡ b → cond b (r ∷ filter is_first rows) (filter is_first rows) ≡ []
+        → (filter is_first rows ≡ [] → AllByRecursion (λ row. has_rowid (pos 1) row ≡ false) rows)
         → AllByRecursion (λ row. has_rowid (pos 1) row ≡ false) (r ∷ rows)
     go true is h more = absurd (cc)
     go false is h more = (sym (passes_number r) ∙ is, more h)
@@ -83,22 +92,36 @@ module _ (b c : State) (second : TakesFirst b c GET_DESK.now [] (Ok None)) (clea
 
 -- ---- what the answers tell of it
 
-tells_row : (db : Database) (row : Row) (out : Result Version OpenFault) → HasRow db (λ shown. row ≡ shown) → Tells (IsWholeAt row db.schema) (λ Says. Says row) (LacksAt row db.schema) out → Tells (HasDeskAt db) (HasRow db) (HasNoRow db ⊎ LacksTables db) out
-tells_row db row (Ok v) h told = record { tables = told.tables; row = record { table = h.table; row = h.row; among = h.among; number = h.number; says = subst (IsDeskRow v) h.says told.row_is } }
-tells_row db row (Err NotDesk) h (inl told) = inl (record { table = h.table; row = h.row; among = h.among; number = h.number; says = subst IsOtherRow h.says told })
-tells_row db row (Err NotDesk) h (inr it) = inr (inr (record { version = it.version; row = record { table = h.table; row = h.row; among = h.among; number = h.number; says = subst (IsDeskRow it.version) h.says it.row_is }; lacks = it.lacks }))
+tells_row : (db : Database) (row : Row) (out : Result Version OpenFault) → HasRow db (λ shown. row ≡ shown)
+    → Tells (IsWholeAt row db.schema) (λ Says. Says row) (LacksAt row db.schema) out → Tells (HasDeskAt db) (HasRow db) (HasNoRow db ⊎ LacksTables db) out
+tells_row db row (Ok v) h told =
+    record {
+      tables = told.tables;
+      row = record { table = h.table; row = h.row; among = h.among; number = h.number; says = subst (IsDeskRow v) h.says told.row_is };
+    }
+tells_row db row (Err NotDesk) h (inl told) =
+    inl (record { table = h.table; row = h.row; among = h.among; number = h.number; says = subst IsOtherRow h.says told })
+tells_row db row (Err NotDesk) h (inr it) =
+    inr (inr (record {
+      version = it.version;
+      row = record { table = h.table; row = h.row; among = h.among; number = h.number; says = subst (IsDeskRow it.version) h.says it.row_is };
+      lacks = it.lacks;
+    }))
 tells_row db row (Err NewerVersion) h told = record { table = h.table; row = h.row; among = h.among; number = h.number; says = subst IsNewerRow h.says told }
 tells_row db row (Err Memory) h told = tt
 tells_row db row (Err Store) h told = tt
 
 -- of a row, and of the schema behind the read
-pub tells_seen : (b c : State) (found : Option Row) (row : Row) (schema : Schema) (out : Result Version OpenFault) → found ≡ Some row → TakesFirst b c GET_DESK.now [] (Ok found) → schema ≡ c.now.schema
+pub tells_seen : (b c : State) (found : Option Row) (row : Row) (schema : Schema) (out : Result Version OpenFault) → found ≡ Some row
+    → TakesFirst b c GET_DESK.now [] (Ok found) → schema ≡ c.now.schema
     → Tells (IsWholeAt row schema) (λ Says. Says row) (LacksAt row schema) out → HasCleanDisk c → TellsVersion b.now out
 tells_seen b c found row schema out is took here told clean table =
     let second : TakesFirst b c GET_DESK.now [] (Ok (Some row)) = subst (λ o. TakesFirst b c GET_DESK.now [] (Ok o)) is took in
-    tells_row b.now row out (reads_row b c row second clean table) (subst (λ s. Tells (IsWholeAt row s) (λ Says. Says row) (LacksAt row s) out) (here ∙ same_schema b c row second clean table) told)
+    tells_row b.now row out (reads_row b c row second clean table)
+    (subst (λ s. Tells (IsWholeAt row s) (λ Says. Says row) (LacksAt row s) out) (here ∙ same_schema b c row second clean table) told)
 
-pub tells_none : (b c : State) (found : Option Row) → found ≡ None → TakesFirst b c GET_DESK.now [] (Ok found) → HasCleanDisk c → TellsVersion b.now (Err NotDesk)
+pub tells_none : (b c : State) (found : Option Row) → found ≡ None → TakesFirst b c GET_DESK.now [] (Ok found) → HasCleanDisk c
+    → TellsVersion b.now (Err NotDesk)
 tells_none b c found is took clean table = inr (inl (reads_none b c (subst (λ o. TakesFirst b c GET_DESK.now [] (Ok o)) is took) clean table))
 
 -- ---- what a row says

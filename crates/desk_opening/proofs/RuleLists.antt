@@ -1,5 +1,6 @@
 -- What is said of groups, in lists alone.
-use Rattle.desk_opening.proofs.Common.{◌≡◌, ℕ, zero, suc, List, [], ◌∷◌, length, map, set, slice_get, Some, refl, ap, ap₂, sym, AllByRecursion, even_rules, rules_of, RolloutRecord, IsEven, no_rules, rules_up_to}
+use Rattle.desk_opening.proofs.Common.{◌≡◌, ℕ, zero, suc, List, [], ◌∷◌, length, map, set, slice_get, Some, refl, ap, ap₂, sym, AllByRecursion, even_rules}
+use Rattle.desk_opening.proofs.Common.{rules_of, RolloutRecord, IsEven, no_rules, rules_up_to}
 
 -- ---- one in place of another
 
@@ -29,7 +30,8 @@ none_yet k [] x there = absurd cc
 none_yet zero (y ∷ xs) x there = refl
 none_yet (suc k) (y ∷ xs) x there = none_yet k xs x there
 
-pub one_more : (k : ℕ) (xs : List RolloutRecord) (x : RolloutRecord) → slice_get xs k ≡ Some x → set (rules_up_to k xs) k (even_rules x.plan) ≡ rules_up_to (suc k) xs
+pub one_more : (k : ℕ) (xs : List RolloutRecord) (x : RolloutRecord) → slice_get xs k ≡ Some x → set (rules_up_to k xs) k (even_rules x.plan)
+    ≡ rules_up_to (suc k) xs
 one_more k [] x there = absurd cc
 one_more zero (y ∷ xs) x there = let is : x ≡ y = cc in ap (λ (z : RolloutRecord). even_rules z.plan ∷ rules_up_to zero xs) is
 one_more (suc k) (y ∷ xs) x there = ap (λ l. even_rules y.plan ∷ l) (one_more k xs x there)
@@ -39,6 +41,7 @@ all_said [] = refl
 all_said (x ∷ xs) = ap (λ l. even_rules x.plan ∷ l) (all_said xs)
 
 -- where no plan says anything of single groups
-pub all_even : (xs : List RolloutRecord) → AllByRecursion IsEven xs → map (λ (x : RolloutRecord). even_rules x.plan) xs ≡ map (λ (x : RolloutRecord). rules_of x.plan) xs
+pub all_even : (xs : List RolloutRecord) → AllByRecursion IsEven xs → map (λ (x : RolloutRecord). even_rules x.plan) xs
+    ≡ map (λ (x : RolloutRecord). rules_of x.plan) xs
 all_even [] even = refl
 all_even (x ∷ xs) even = ap₂ ◌∷◌ (sym even.0) (all_even xs even.1)

@@ -1,18 +1,36 @@
 -- One statement of a change in which tables are made, where only what the change sees is known to understand it.
-use Rattle.desk_opening.proofs.Common.{◌≡◌, ℕ, true, List, [], Option, Some, None, Ok, Err, sym, subst, ◌∙◌, arith, both_ways, Trees, Database, State, HasCleanDisk, IsUnchanged, Survives, Runs, Writes, CommitsBy, CommitsShowing, statement_of, Fault, RunsText, TakesFirst, TakesTo, Known, HoldIn, Rests, stays_inside, never_commits_inside, never_shows_inside, crash_kept, first_unchanged, none_shown, runs_plain, unchanged_by, Leaves, Stage, HoldsStage, Changes}
+use Rattle.desk_opening.proofs.Common.{◌≡◌, ℕ, true, List, [], Option, Some, None, Ok, Err, sym, subst, ◌∙◌, arith, both_ways, Trees, Database, State}
+use Rattle.desk_opening.proofs.Common.{HasCleanDisk, IsUnchanged, Survives, Runs, Writes, CommitsBy, CommitsShowing, statement_of, Fault, RunsText, TakesFirst}
+use Rattle.desk_opening.proofs.Common.{TakesTo, Known, HoldIn, Rests, stays_inside, never_commits_inside, never_shows_inside, crash_kept, first_unchanged}
+use Rattle.desk_opening.proofs.Common.{none_shown, runs_plain, unchanged_by, Leaves, Stage, HoldsStage, Changes}
 use Rattle.sqlite.specs.Order.{Row}
 use Rattle.sqlite.specs.Listing.{understood}
 
 -- ---- one thing as another
 
-pub rests_as : {R Q : Type 0} (H : Database → R → Type 0) (K : Database → Q → Type 0) (r : R) (q : Q) → ((db : Database) → H db r → K db q) → (s : State) → Rests H s r → Rests K s q
+pub rests_as : {R Q : Type 0} (H : Database → R → Type 0) (K : Database → Q → Type 0) (r : R) (q : Q) → ((db : Database) → H db r → K db q) → (s : State)
+    → Rests H s r → Rests K s q
 rests_as H K r q so s was clean =
     let it = was clean in
-    record { mode = it.mode; held = record { ended = it.held.ended; kept_holds = λ on. so s.committed (it.held.kept_holds on); crash = λ db left. let found = it.held.crash db left in (found.0, so _ found.1) } }
+    record {
+      mode = it.mode;
+      held = record {
+        ended = it.held.ended;
+        kept_holds = λ on. so s.committed (it.held.kept_holds on);
+        crash = λ db left. let found =
+            it.held.crash db left in (found.0, so _ found.1);
+      };
+    }
 
 module _ (s : State) (now next kept : Stage) where
   pub changes_as : ((db : Database) → HoldsStage db now → HoldsStage db next) → Changes s now kept → Changes s next kept
-  changes_as so was = record { sees = record { sees = λ clean. let first = was.sees.sees clean in record { mode = first.mode; is_open = first.is_open; now_holds = so s.now first.now_holds } }; spoiled = was.spoiled }
+  changes_as so was = record {
+    sees =
+        record {
+          sees = λ clean. let first = was.sees.sees clean in record { mode = first.mode; is_open = first.is_open; now_holds = so s.now first.now_holds };
+        };
+    spoiled = was.spoiled;
+  }
 
 pub leaves_of : (s : State) (now kept : Stage) → Changes s now kept → Leaves s kept
 leaves_of s now kept was = record { crash = λ clean. (was.spoiled.spoiled clean).crash }
@@ -23,7 +41,8 @@ module _ (sql : List ℕ) (params : Row) (old new : State) (now kept : Stage) (w
   read_kept : HasCleanDisk new → Survives old new (CommitsShowing sql params old) → (db : Trees) → new.may_leave db → HoldIn HoldsStage db kept
   read_kept clean survives db left =
       let before : HasCleanDisk old = omega (arith, clean, survives.clean) in
-      (was.spoiled.spoiled before).crash db (crash_kept old new _ clean (λ db. never_shows_inside sql params old db (was.sees.sees before).mode) survives db left)
+      (was.spoiled.spoiled before).crash db (crash_kept old new _ clean (λ db. never_shows_inside sql params old db (was.sees.sees before).mode) survives db
+      left)
 
   pub read_fails : (fault : Fault) → TakesFirst old new sql params (Err fault) → Leaves new kept
   read_fails fault h = record { crash = λ clean. read_kept clean h.survives }
@@ -56,22 +75,28 @@ module _ (sql : List ℕ) (params : Row) (old new : State) (now kept : Stage) (w
 
 -- ---- a statement that is no query
 
-module _ (sql : List ℕ) (params : Row) (old new : State) (now kept : Stage) (was : Changes old now kept) (knows : HoldsStage old.now now → Known old.now.schema sql)
+module _ (sql : List ℕ) (params : Row) (old new : State) (now kept : Stage) (was : Changes old now kept)
+    (knows : HoldsStage old.now now → Known old.now.schema sql)
     (stays : (holds : HoldsStage old.now now) → stays_inside (knows holds).command ≡ true) where
   kept_inside : HasCleanDisk new → Survives old new (CommitsBy sql params old) → (db : Trees) → new.may_leave db → HoldIn HoldsStage db kept
   kept_inside clean survives db left =
       let before : HasCleanDisk old = omega (arith, clean, survives.clean) in
       let first = was.sees.sees before in
       let known = knows first.now_holds in
-      (was.spoiled.spoiled before).crash db (crash_kept old new _ clean (λ db. never_commits_inside sql known.command params old new known.means db first.mode (stays first.now_holds)) survives db left)
+      (was.spoiled.spoiled before).crash db
+      (crash_kept old new _ clean (λ db. never_commits_inside sql known.command params old new known.means db first.mode (stays first.now_holds)) survives
+      db left)
 
   pub step_fails : (fault : Fault) → RunsText old new sql params (Err fault) → HasCleanDisk new → (db : Trees) → new.may_leave db → HoldIn HoldsStage db kept
   step_fails fault h clean = kept_inside clean h.survives
 
   module _ (next : Stage) (h : RunsText old new sql params (Ok tt))
-      (effect : (holds : HoldsStage old.now now) (count : ℕ) → Runs old new None (knows holds).command (statement_of sql (understood old.now.schema sql)) params count
+      (effect : (holds : HoldsStage old.now now) (count : ℕ) → Runs old new None (knows holds).command (statement_of sql (understood old.now.schema sql)) params
+      count
       → (w : Writes old new None (knows holds).command (statement_of sql (understood old.now.schema sql)) params count) × HoldsStage new.now next) where
-    ran : (clean : HasCleanDisk new) (before : HasCleanDisk old) → (count : ℕ) × (w : Writes old new None (knows (was.sees.sees before).now_holds).command (statement_of sql (understood old.now.schema sql)) params count) × HoldsStage new.now next
+    ran : (clean : HasCleanDisk new) (before : HasCleanDisk old) → (count : ℕ)
+        × (w : Writes old new None (knows (was.sees.sees before).now_holds).command (statement_of sql (understood old.now.schema sql)) params count)
+        × HoldsStage new.now next
     ran clean before =
         let first = was.sees.sees before in
         let known = knows first.now_holds in

@@ -1,5 +1,14 @@
 -- What each text of the making does.
-use Rattle.desk_opening.proofs.Common.{◌≡◌, ◌≢◌, inl, inr, ℕ, zero, suc, slice_index_or, ◌+◌, ◌<◌, ◌^◌, ◌==◌, Bool, true, false, List, [], ◌∷◌, ◌++◌, length, codes, pos, map, drop, Some, None, Ok, find, if◌then◌else◌, refl, sym, ap, subst, ◌∙◌, arith, AllZip, AllByRecursion, position_from, true≢false, and_parts, eqb-true, Value, Null, Int, Real, Text, Blob, Order, column, Schema, Table, Database, IsDatabase, CreateTable, Insert, Values, State, Writes, Has, same_name, next_tree, is_used, automatics, IsTableRow, IsIndexRow, IsDefined, all-slice_get, IsPermutation-same, table_defined_by, Stands, LeavesFree, HasNoForeignKey, ComparesBytes, Inserted, inserts, uncounted, given_rows, cast_int, cast_null, Place, Desk, Offers, places, table_at, name_of, desk_table, offer_table, newest, number_of, places_at, HoldsPlace, AreRowsOf, Content, HoldsRecords, Offered, Ordered, Spot, IsHeld, Unordered, content_at, content_of, desk_row, ledger_of, desk_terms, create_text_of, Before, HoldsBefore, HoldsPartly, IsEmptyTable, Nothing, Older, first_records, each_place, place_or_other, same_elsewhere, same_places}
+use Rattle.desk_opening.proofs.Common.{◌≡◌, ◌≢◌, inl, inr, ℕ, zero, suc, slice_index_or, ◌+◌, ◌<◌, ◌^◌, ◌==◌, Bool, true, false, List, [], ◌∷◌, ◌++◌, length}
+use Rattle.desk_opening.proofs.Common.{codes, pos, map, drop, Some, None, Ok, find, if◌then◌else◌, refl, sym, ap, subst, ◌∙◌, arith, AllZip, AllByRecursion}
+use Rattle.desk_opening.proofs.Common.{position_from, true≢false, and_parts, eqb-true, Value, Null, Int, Real, Text, Blob, Order, column, Schema, Table}
+use Rattle.desk_opening.proofs.Common.{Database, IsDatabase, CreateTable, Insert, Values, State, Writes, Has, same_name, next_tree, is_used, automatics}
+use Rattle.desk_opening.proofs.Common.{IsTableRow, IsIndexRow, IsDefined, all-slice_get, IsPermutation-same, table_defined_by, Stands, LeavesFree}
+use Rattle.desk_opening.proofs.Common.{HasNoForeignKey, ComparesBytes, Inserted, inserts, uncounted, given_rows, cast_int, cast_null, Place, Desk, Offers}
+use Rattle.desk_opening.proofs.Common.{places, table_at, name_of, desk_table, offer_table, newest, number_of, places_at, HoldsPlace, AreRowsOf, Content}
+use Rattle.desk_opening.proofs.Common.{HoldsRecords, Offered, Ordered, Spot, IsHeld, Unordered, content_at, content_of, desk_row, ledger_of, desk_terms}
+use Rattle.desk_opening.proofs.Common.{create_text_of, Before, HoldsBefore, HoldsPartly, IsEmptyTable, Nothing, Older, first_records, each_place}
+use Rattle.desk_opening.proofs.Common.{place_or_other, same_elsewhere, same_places}
 use Rattle.sqlite_value.specs.declared.keys.Collation.TheVariants.{Binary}
 use Rattle.sqlite_value.specs.Keys.{plain, first_key}
 use Rattle.sqlite.specs.Order.{Row}
@@ -32,7 +41,8 @@ has_middle [] more t = inl refl
 has_middle (x ∷ front) more t = inr (has_middle front more t)
 
 low_tree : (db : Database) (front more : List Table) (t : Table) → IsDatabase db → db.schema.tables ≡ front ++ t ∷ more → t.tree < 2 ^ 31
-low_tree db front more t sound grown = let low = zip_low _ db.schema.tables sound.lists.listed.tables t (rw grown (has_middle front more t)) in omega (arith, low)
+low_tree db front more t sound grown = let low = zip_low _ db.schema.tables sound.lists.listed.tables t (rw grown (has_middle front more t)) in
+    omega (arith, low)
 
 -- ---- the indexes of a table
 
@@ -63,7 +73,8 @@ all_plain [] = tt
 all_plain (x ∷ xs) = (refl, all_plain xs)
 
 plain_orders : (t : Place) → AreInPlainOrder (table_at t 0).orders
-plain_orders t = subst AreInPlainOrder (sym (same_places (λ k. (table_at k 0).orders) (λ k. map (λ u. plain) (table_at k 0).uniques) refl t)) (all_plain (table_at t 0).uniques)
+plain_orders t = subst AreInPlainOrder (sym (same_places (λ k. (table_at k 0).orders) (λ k. map (λ u. plain) (table_at k 0).uniques) refl t))
+    (all_plain (table_at t 0).uniques)
 
 first_plain : (first_key plain).collation ≡ Binary
 unfolding first_key
@@ -80,12 +91,14 @@ all_last P [] x h k = (k, tt)
 all_last P (y ∷ xs) x h k = (h.0, all_last P xs x h.1 k)
 
 -- no index that SQLite makes for a UNIQUE has such a name
-unindexed : (name : List ℕ) → ((rest : List ℕ) → same_name (codes "sqlite_autoindex_" ++ rest) name ≡ false) → (table : Table) (at next i : ℕ) (keys : List (List ℕ))
+unindexed : (name : List ℕ) → ((rest : List ℕ) → same_name (codes "sqlite_autoindex_" ++ rest) name ≡ false)
+    → (table : Table) (at next i : ℕ) (keys : List (List ℕ))
     → position_from (λ (x : Index). same_name x.name name) i (automatics table at next keys) ≡ None
 unindexed name apart table at next i [] = refl
 unindexed name apart table at next i (key ∷ keys) = rw (apart _) (unindexed name apart table (at + 1) (next + 1) (i + 1) keys)
 
-module _ (t : Place) (before : Before) (made left : List Place) (apart : AllByRecursion (HaveNamesApart t) left) (old new : State) (count : ℕ) (was : HoldsPartly old.now before made (t ∷ left))
+module _ (t : Place) (before : Before) (made left : List Place) (apart : AllByRecursion (HaveNamesApart t) left) (old new : State) (count : ℕ)
+    (was : HoldsPartly old.now before made (t ∷ left))
     (w : Writes old new None CreateTable (create_text_of t) [] count) where
   abbrev s : Schema
   s = old.now.schema
@@ -116,7 +129,8 @@ module _ (t : Place) (before : Before) (made left : List Place) (apart : AllByRe
     same_indexes : (index : Index) → Has new.now.schema.indexes index → index.table ≡ tree → Has s.indexes index
     same_indexes index h on = elim (g.indexes index h) [
       | inl there ↦ there
-      | inr own ↦ absurd (let low = table_below s (table_at u tree) (has_got s.tables at (table_at u tree) stands.got) in let its = own.its in omega (arith, on, its, low))
+      | inr own ↦ absurd (let low = table_below s (table_at u tree) (has_got s.tables at (table_at u tree) stands.got) in let its = own.its in
+          omega (arith, on, its, low))
     ]
 
   still_empty : (u : Place) → IsEmptyTable old.now u → IsEmptyTable new.now u
@@ -135,10 +149,16 @@ module _ (t : Place) (before : Before) (made left : List Place) (apart : AllByRe
       record {
         spot = h.spot;
         tables = all_kept (λ u. HoldsPlace v old.now r (h.spot u) u) (λ u. HoldsPlace v new.now r (h.spot u) u)
-            (λ u it. (still_stands u (h.spot u).at (h.spot u).tree it.0, subst (AreRowsOf (content_at v (ledger_of r) u)) (sym (same_rows u (h.spot u).at (h.spot u).tree it.0)) it.1)) (places_at v) h.tables;
+            (λ u it. (
+              still_stands u (h.spot u).at (h.spot u).tree it.0,
+              subst (AreRowsOf (content_at v (ledger_of r) u))
+                  (sym (same_rows u (h.spot u).at (h.spot u).tree it.0)) it.1,
+            )) (places_at v) h.tables;
         tellable = h.tellable;
         sorted = h.sorted;
-        keyed = λ index there guarding on. h.keyed index (same_indexes Offers (h.spot Offers).at (h.spot Offers).tree offers.0 index there (eqb-true index.table (h.spot Offers).tree (and_parts _ _ guarding).1)) guarding on;
+        keyed = λ index there guarding on. h.keyed index
+            (same_indexes Offers (h.spot Offers).at (h.spot Offers).tree offers.0 index there
+            (eqb-true index.table (h.spot Offers).tree (and_parts _ _ guarding).1)) guarding on;
       }
 
   own_order : (index : Index) → Has new.now.schema.indexes index → index.table ≡ next_tree s → index.order ≡ plain
@@ -148,7 +168,9 @@ module _ (t : Place) (before : Before) (made left : List Place) (apart : AllByRe
   ]
 
   spared : (u : Place) → same_name (table_at t 0).name (name_of u) ≡ false → is_used s (name_of u) ≡ false → is_used new.now.schema (name_of u) ≡ false
-  spared u other unused = g.free (name_of u) unused other (λ tree next i. unindexed (name_of u) (is_place u).unindexed (record (table_at t 0) { tree = tree }) 0 next i (table_at t 0).uniques) (is_place u).unsequenced
+  spared u other unused = g.free (name_of u) unused other
+      (λ tree next i. unindexed (name_of u) (is_place u).unindexed (record (table_at t 0) { tree = tree }) 0 next i (table_at t 0).uniques)
+      (is_place u).unsequenced
 
   still_free : (us : List Place) → AllByRecursion (HaveNamesApart t) us → LeavesFree s (map name_of us) → LeavesFree new.now.schema (map name_of us)
   still_free [] h k = tt
@@ -158,18 +180,23 @@ module _ (t : Place) (before : Before) (made left : List Place) (apart : AllByRe
   table_made = record {
     sound = w.sound;
     kept = still_kept before was.kept;
-    stand = all_last (IsEmptyTable new.now) made t (all_kept (IsEmptyTable old.now) (IsEmptyTable new.now) still_empty made was.stand) (record { at = length s.tables; tree = next_tree s; stands = made_last; empty = g.empty; plainly = own_order });
+    stand = all_last (IsEmptyTable new.now) made t (all_kept (IsEmptyTable old.now) (IsEmptyTable new.now) still_empty made was.stand)
+        (record { at = length s.tables; tree = next_tree s; stands = made_last; empty = g.empty; plainly = own_order });
     free = still_free left apart was.free.1;
   }
 
 -- ---- the row of `desk`
 
-only_row : (approval : Bool) (tree : ℕ) → put_all [] (numbered Chosen [] (map (λ s. cast_row (uncounted (desk_table tree)) (drop 0 s)) (given_rows (uncounted (desk_table tree)) (Int (if approval then pos 1 else pos 0) ∷ []) desk_terms 5))) ≡ desk_row newest approval ∷ []
+only_row : (approval : Bool) (tree : ℕ)
+    → put_all [] (numbered Chosen []
+    (map (λ s. cast_row (uncounted (desk_table tree)) (drop 0 s))
+    (given_rows (uncounted (desk_table tree)) (Int (if approval then pos 1 else pos 0) ∷ []) desk_terms 5))) ≡ desk_row newest approval ∷ []
 only_row true tree = rw (cast_int 1, cast_int (number_of newest), cast_null)
 only_row false tree = rw (cast_int 1, cast_int (number_of newest), cast_int 0, cast_null)
 
 -- a table of another name is in another tree
-in_another : (s : Schema) (desk other : Place) (m n : ℕ) → find (λ (x : Table). x.tree == m) s.tables ≡ Some (table_at desk m) → find (λ (x : Table). x.tree == n) s.tables ≡ Some (table_at other n)
+in_another : (s : Schema) (desk other : Place) (m n : ℕ) → find (λ (x : Table). x.tree == m) s.tables ≡ Some (table_at desk m)
+    → find (λ (x : Table). x.tree == n) s.tables ≡ Some (table_at other n)
     → HaveNamesApart desk other → n ≢ m
 in_another s desk other m n here there apart same =
     let both : Some (table_at other n) ≡ Some (table_at desk m) = sym there ∙ ap (λ tree. find (λ (x : Table). x.tree == tree) s.tables) same ∙ here in
@@ -179,7 +206,11 @@ in_another s desk other m n here there apart same =
 
 -- the names of all other tables are apart from that of `desk`
 beside_desk : (t : Place) → t ≢ Desk → HaveNamesApart Desk t
-beside_desk = each_place (λ t. t ≢ Desk → HaveNamesApart Desk t) ((λ other. absurd (other refl)), all_kept (HaveNamesApart Desk) (λ t. t ≢ Desk → HaveNamesApart Desk t) (λ t apart other. apart) (drop 1 places) names_apart.0)
+beside_desk = each_place (λ t. t ≢ Desk → HaveNamesApart Desk t) (
+  (λ other. absurd (other refl)),
+  all_kept (HaveNamesApart Desk) (λ t. t ≢ Desk → HaveNamesApart Desk t) (λ t apart other. apart) (drop 1 places)
+      names_apart.0,
+)
 
 none_held : (rows : List Row) → rows ≡ [] → IsHeldBy rows []
 none_held rows empty = subst (λ l. IsHeldBy l []) (sym empty) (record { order = []; rising = tt; same = IsPermutation-same [] [] refl })
@@ -190,10 +221,13 @@ no_rows (Unordered wanted) rows empty = none_held rows empty
 no_rows (Offered offers) rows empty = record { listed = []; held = none_held rows empty; its = λ id. refl }
 
 -- of no records every table but `desk` holds nothing
-nothing_held : (approval : Bool) (t : Place) → t ≢ Desk → content_of (ledger_of (no_records approval)) t ≡ nothing (content_of (ledger_of (no_records approval)) t)
-nothing_held approval = same_elsewhere (content_of (ledger_of (no_records approval))) (λ t. nothing (content_of (ledger_of (no_records approval)) t)) (λ t. t ≢ Desk) (Desk ∷ []) refl ((λ other. absurd (other refl)), tt)
+nothing_held : (approval : Bool) (t : Place) → t ≢ Desk → content_of (ledger_of (no_records approval)) t
+    ≡ nothing (content_of (ledger_of (no_records approval)) t)
+nothing_held approval = same_elsewhere (content_of (ledger_of (no_records approval))) (λ t. nothing (content_of (ledger_of (no_records approval)) t))
+    (λ t. t ≢ Desk) (Desk ∷ []) refl ((λ other. absurd (other refl)), tt)
 
-module _ (approval : Bool) (old new : State) (text : List ℕ) (count : ℕ) (was : HoldsPartly old.now Nothing places []) (w : Writes old new None (Insert was.stand.0.at (Values desk_terms 5)) text (Int (if approval then pos 1 else pos 0) ∷ []) count) where
+module _ (approval : Bool) (old new : State) (text : List ℕ) (count : ℕ) (was : HoldsPartly old.now Nothing places [])
+    (w : Writes old new None (Insert was.stand.0.at (Values desk_terms 5)) text (Int (if approval then pos 1 else pos 0) ∷ []) count) where
   abbrev here : Schema
   here = old.now.schema
 
@@ -203,8 +237,10 @@ module _ (approval : Bool) (old new : State) (text : List ℕ) (count : ℕ) (wa
   abbrev spot_of : Place → Spot
   spot_of t = record { at = (at_place t).at; tree = (at_place t).tree }
 
-  made : Inserted here (uncounted (desk_table was.stand.0.tree)) (given_rows (uncounted (desk_table was.stand.0.tree)) (Int (if approval then pos 1 else pos 0) ∷ []) desk_terms 5) old.now new.now
-  made = inserts here was.stand.0.at (desk_table was.stand.0.tree) desk_terms 5 was.stand.0.stands.got old new refl text (Int (if approval then pos 1 else pos 0) ∷ []) count w
+  made : Inserted here (uncounted (desk_table was.stand.0.tree))
+      (given_rows (uncounted (desk_table was.stand.0.tree)) (Int (if approval then pos 1 else pos 0) ∷ []) desk_terms 5) old.now new.now
+  made = inserts here was.stand.0.at (desk_table was.stand.0.tree) desk_terms 5 was.stand.0.stands.got old new refl text
+      (Int (if approval then pos 1 else pos 0) ∷ []) count w
 
   desk_rows : new.now.trees was.stand.0.tree ≡ desk_row newest approval ∷ []
   desk_rows = made.applies.rows ∙ rw (was.stand.0.empty) (only_row approval was.stand.0.tree)
@@ -216,13 +252,15 @@ module _ (approval : Bool) (old new : State) (text : List ℕ) (count : ℕ) (wa
   stay_empty t other =
       let e = at_place t in
       let kept : e.tree ≢ was.stand.0.tree → new.now.trees e.tree ≡ old.now.trees e.tree =
-      all-slice_get (λ (x : Table). HasNoForeignKey here x.tree → x.tree ≢ was.stand.0.tree → new.now.trees x.tree ≡ old.now.trees x.tree) here.tables e.at (table_at t e.tree) e.stands.got made.applies.tables e.stands.keyless in
+      all-slice_get (λ (x : Table). HasNoForeignKey here x.tree → x.tree ≢ was.stand.0.tree → new.now.trees x.tree ≡ old.now.trees x.tree) here.tables e.at
+      (table_at t e.tree) e.stands.got made.applies.tables e.stands.keyless in
       kept (in_another here Desk t was.stand.0.tree e.tree was.stand.0.stands.found (found_at t) (beside_desk t other)) ∙ e.empty
 
   rows : (t : Place) → IsHeld (ledger_of (no_records approval)) t (new.now.trees (spot_of t).tree)
   rows t = elim (place_or_other t Desk) [
     | inl is ↦ subst (λ x. IsHeld (ledger_of (no_records approval)) x (new.now.trees (spot_of x).tree)) (sym is) desk_rows
-    | inr other ↦ subst (λ c. AreRowsOf c (new.now.trees (spot_of t).tree)) (sym (nothing_held approval t other)) (no_rows (content_of (ledger_of (no_records approval)) t) (new.now.trees (spot_of t).tree) (stay_empty t other))
+    | inr other ↦ subst (λ c. AreRowsOf c (new.now.trees (spot_of t).tree)) (sym (nothing_held approval t other))
+        (no_rows (content_of (ledger_of (no_records approval)) t) (new.now.trees (spot_of t).tree) (stay_empty t other))
   ]
 
   keyed : ComparesBytes new.now.schema (offer_table (spot_of Offers).tree) 1

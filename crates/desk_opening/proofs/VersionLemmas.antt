@@ -1,5 +1,7 @@
 -- The tables of a version, as the code lists them.
-use Rattle.desk_opening.proofs.Common.{◌≡◌, ◌<◌, ◌≤◌, ℕ, zero, suc, Bool, true, false, not, IsTrue, sym, List, [], ◌∷◌, map, length, take, get_or, Some, refl, subst, arith, AllByRecursion, list_any, true≢false, take_all, Schema, table_named, none_from_any, is_used, LeavesFree, Place, name_of, DeskTable, place_of}
+use Rattle.desk_opening.proofs.Common.{◌≡◌, ◌<◌, ◌≤◌, ℕ, zero, suc, Bool, true, false, not, IsTrue, sym, List, [], ◌∷◌, map, length, take, get_or, Some, refl}
+use Rattle.desk_opening.proofs.Common.{subst, arith, AllByRecursion, list_any, true≢false, take_all, Schema, table_named, none_from_any, is_used, LeavesFree}
+use Rattle.desk_opening.proofs.Common.{Place, name_of, DeskTable, place_of}
 
 all_mapped : {X Y : Type 0} (P : Y → Type 0) (f : X → Y) (xs : List X) → AllByRecursion (λ x. P (f x)) xs → AllByRecursion P (map f xs)
 all_mapped P f [] all = tt
@@ -29,7 +31,8 @@ module _ (ds : List DeskTable) (places : List Place) (same : map place_of ds ≡
   pub none_used : (s : Schema) → list_any (λ d. is_used s (name_of (place_of d))) ds ≡ false → LeavesFree s (map name_of places)
   none_used s none =
       let each = none_from_any (λ d. is_used s (name_of (place_of d))) ds none in
-      all_mapped (λ name. is_used s name ≡ false) name_of places (subst (AllByRecursion (λ t. is_used s (name_of t) ≡ false)) same (all_mapped (λ t. is_used s (name_of t) ≡ false) place_of ds each))
+      all_mapped (λ name. is_used s name ≡ false) name_of places
+      (subst (AllByRecursion (λ t. is_used s (name_of t) ≡ false)) same (all_mapped (λ t. is_used s (name_of t) ≡ false) place_of ds each))
 
 pub not_used : (used : Bool) → IsTrue (not used) → used ≡ false
 not_used true h = absurd (true≢false (sym h))

@@ -1,5 +1,7 @@
 -- The names of other modules that the proofs here cite, passed on from one place. Declares nothing.
-pub use Rattle.std.proofs.Common.{◌≡◌, ℕ, zero, suc, ◌+◌, ◌-◌, ◌<◌, ◌≤◌, Bool, true, false, cond, not, ◌&&◌, ◌||◌, ◌⊎◌, List, [], ◌∷◌, map, length, take, drop, is_none, nat_eq, nat_le, slice_get, Some, None, Ok, Err, filter, Option, Result, find, sym, refl, ap, ◌∙◌, subst, inl, inr, true≢false, add-one, arith}
+pub use Rattle.std.proofs.Common.{◌≡◌, ℕ, zero, suc, ◌+◌, ◌-◌, ◌<◌, ◌≤◌, Bool, true, false, cond, not, ◌&&◌, ◌||◌, ◌⊎◌, List, [], ◌∷◌, map, length, take, drop}
+pub use Rattle.std.proofs.Common.{is_none, nat_eq, nat_le, slice_get, Some, None, Ok, Err, filter, Option, Result, find, sym, refl, ap, ◌∙◌, subst, inl, inr}
+pub use Rattle.std.proofs.Common.{true≢false, add-one, arith}
 pub use Rattle.std.proofs.lemmas.Bool.{and_from, and_parts, le-leb, leb-false, leb-true, or_parts}
 pub use Rattle.std.specs.Cmp.Lexicographic.{pointwise}
 pub use Rattle.std.specs.List.{list_all, list_any}
@@ -15,10 +17,12 @@ pub use Rattle.rollout_machine.proofs.Valid.{NoneHolds, none_holds}
 pub use Rattle.rollout_machine.specs.ByteStrings.{bytes_below, contains_word, item_numbered, same_bytes, sorted_words, with_word, with_words, without_word}
 pub use Rattle.rollout_machine.specs.CommandList.{CommandList, Make, ◌▸◌}
 pub use Rattle.rollout_machine.specs.CommandRules.{IsWellFormed, is_credential, is_device_feedback, is_set_label}
-pub use Rattle.rollout_machine.specs.Commands.{AddModule, AddSet, Attribute, Bytes, CancelFeedback, Command, CreateRollout, Credential, DeviceFeedback, Feedback, ModuleLabel, PutAttributes, PutTargets, RolloutPlan, SetLabel, Tag, TargetRow, Untag}
+pub use Rattle.rollout_machine.specs.Commands.{AddModule, AddSet, Attribute, Bytes, CancelFeedback, Command, CreateRollout, Credential, DeviceFeedback}
+pub use Rattle.rollout_machine.specs.Commands.{Feedback, ModuleLabel, PutAttributes, PutTargets, RolloutPlan, SetLabel, Tag, TargetRow, Untag}
 pub use Rattle.rollout_machine.specs.Records.{Records, action_in, added_modules, added_sets, group_in, modules, records, rollout_in, rollouts_in, sets}
 pub use Rattle.rollout_machine.specs.Rollouts.{Rollout, chosen, created, first_of, rollout_at, rollouts, size_in, size_of}
-pub use Rattle.rollout_machine.specs.Targets.{Target, attributes_in, import_rows_of, last_row_for, last_row_of, tags_by_row, tags_in, target_ids, target_in, targets, with_attribute, with_attributes}
+pub use Rattle.rollout_machine.specs.Targets.{Target, attributes_in, import_rows_of, last_row_for, last_row_of, tags_by_row, tags_in, target_ids, target_in}
+pub use Rattle.rollout_machine.specs.Targets.{targets, with_attribute, with_attributes}
 pub use Rattle.rollout_machine.specs.Validity.{IsValid}
 pub use Rattle.rollout_machine.specs.Verdicts.{is_known, tags_of, target_of, verdict, verdict_row}
 pub use Rattle.rollout_machine.specs.declared.records.RolloutRecord.{RolloutRecord}

@@ -1,5 +1,7 @@
 -- The details in the histories of accepted commands keep their rule.
-use Rattle.desk_reads.proofs.Common.{◌≡◌, ℕ, Bool, true, false, cond, [], Option, Some, None, refl, ap, ◌∙◌, list_all, option_map, and_parts, item_numbered, CommandList, Make, ◌▸◌, Records, action_in, IsValid, AreOfList, IsWellFormed, is_credential, is_device_feedback, Command, DeviceFeedback, Feedback, CancelFeedback, are_details, is_number}
+use Rattle.desk_reads.proofs.Common.{◌≡◌, ℕ, Bool, true, false, cond, [], Option, Some, None, refl, ap, ◌∙◌, list_all, option_map, and_parts, item_numbered}
+use Rattle.desk_reads.proofs.Common.{CommandList, Make, ◌▸◌, Records, action_in, IsValid, AreOfList, IsWellFormed, is_credential, is_device_feedback, Command}
+use Rattle.desk_reads.proofs.Common.{DeviceFeedback, Feedback, CancelFeedback, are_details, is_number}
 use Rattle.rollout_machine.specs.Records.{records}
 use Rattle.std.proofs.lemmas.List.Folds.{list_all-append}
 use Rattle.rollout_machine.specs.Actions.{ActionPlace, action_place, action_places, history}
@@ -19,7 +21,8 @@ one_keeps _ formed = refl
 
 history_keeps : (h : CommandList) → IsValid h → (r j : ℕ) → list_all keeps_details (entries_in (history h r j)) ≡ true
 history_keeps (Make approval) valid r j = refl
-history_keeps (h ▸ c) valid r j = ap (list_all keeps_details) (entries_both (history h r j) _) ∙ list_all-append keeps_details (entries_in (history h r j)) _ ∙ rw (history_keeps h valid.0 r j) (if_added _ (one_keeps c valid.1))
+history_keeps (h ▸ c) valid r j = ap (list_all keeps_details) (entries_both (history h r j) _) ∙ list_all-append keeps_details (entries_in (history h r j)) _
+    ∙ rw (history_keeps h valid.0 r j) (if_added _ (one_keeps c valid.1))
   where
     if_added : (b : Bool) → list_all keeps_details (entries_in (reported_by c)) ≡ true → list_all keeps_details (entries_in (cond b (reported_by c) [])) ≡ true
     if_added true all = all

@@ -1,5 +1,8 @@
 -- Whether a device is known, by the target of its id.
-use Rattle.desk_reads.proofs.Common.{◌≡◌, Bool, true, false, cond, ◌&&◌, ◌||◌, nat_eq, List, [], ◌∷◌, find, Some, None, refl, sym, ap, ◌∙◌, or_parts, and_parts, option_map, sorted_from, has_id, are_sorted, ids_of, in_byte_order, IsSorted, not_above, contains_word, same_bytes, Records, Target, is_known, target_of, pointwise, list_any, same_pointwise, same_sym, same_true, Credential, or-false}
+use Rattle.desk_reads.proofs.Common.{◌≡◌, Bool, true, false, cond, ◌&&◌, ◌||◌, nat_eq, List, [], ◌∷◌, find, Some, None, refl, sym, ap, ◌∙◌, or_parts}
+use Rattle.desk_reads.proofs.Common.{and_parts, option_map, sorted_from, has_id, are_sorted, ids_of, in_byte_order, IsSorted, not_above, contains_word}
+use Rattle.desk_reads.proofs.Common.{same_bytes, Records, Target, is_known, target_of, pointwise, list_any, same_pointwise, same_sym, same_true, Credential}
+use Rattle.desk_reads.proofs.Common.{or-false}
 use Rattle.desk_records.specs.TargetRow.{stored_target}
 use Rattle.desk_records.specs.declared.target_row.StoredTarget.{StoredTarget}
 
@@ -18,25 +21,31 @@ module _ (device : Credential) where
       let others = none_known ts parts.1 in
       λ i. (other i && same_bytes t.digest device.digest) || others i
 
-  pub known_by : (stored : StoredTarget) (r : Records) → are_sorted r.targets ≡ true → Some stored ≡ option_map stored_target (target_of r device.id) → pointwise nat_eq stored.digest device.digest ≡ is_known r device
-  known_by stored r sorted read = same_pointwise stored.digest device.digest ∙ go r.targets (sorted_from (ids_of r.targets) (and_parts (in_byte_order (ids_of r.targets)) _ sorted).0) read where
-    go : (ts : List Target) → IsSorted (ids_of ts) → Some stored ≡ option_map stored_target (find (has_id device.id) ts) → same_bytes stored.digest device.digest ≡ list_any (is_of device) ts
-    go [] order is = absurd cc
-    go (t ∷ ts) order is = first (same_bytes t.id device.id) refl is (go ts order.1) where
-      first : (s : Bool) → same_bytes t.id device.id ≡ s → Some stored ≡ option_map stored_target (cond s (Some t) (find (has_id device.id) ts))
-          → (Some stored ≡ option_map stored_target (find (has_id device.id) ts) → same_bytes stored.digest device.digest ≡ list_any (is_of device) ts) → same_bytes stored.digest device.digest ≡ ((s && same_bytes t.digest device.digest) || list_any (is_of device) ts)
-      first true same here rest =
-          let this : stored ≡ stored_target t = cc in
-          let none = none_known ts (ap (λ k. contains_word k (ids_of ts)) (sym (same_true t.id device.id same)) ∙ not_above t.id (ids_of ts) order.0) in
-          ap (λ (s : StoredTarget). same_bytes s.digest device.digest) this ∙ sym (or-false (same_bytes t.digest device.digest)) ∙ ap (λ b. same_bytes t.digest device.digest || b) (sym none)
-      first false apart later rest = rest later
+  pub known_by : (stored : StoredTarget) (r : Records) → are_sorted r.targets ≡ true → Some stored ≡ option_map stored_target (target_of r device.id)
+      → pointwise nat_eq stored.digest device.digest ≡ is_known r device
+  known_by stored r sorted read = same_pointwise stored.digest device.digest
+      ∙ go r.targets (sorted_from (ids_of r.targets) (and_parts (in_byte_order (ids_of r.targets)) _ sorted).0) read where
+        go : (ts : List Target) → IsSorted (ids_of ts) → Some stored ≡ option_map stored_target (find (has_id device.id) ts)
+            → same_bytes stored.digest device.digest ≡ list_any (is_of device) ts
+        go [] order is = absurd cc
+        go (t ∷ ts) order is = first (same_bytes t.id device.id) refl is (go ts order.1) where
+          first : (s : Bool) → same_bytes t.id device.id ≡ s → Some stored ≡ option_map stored_target (cond s (Some t) (find (has_id device.id) ts))
+              → (Some stored ≡ option_map stored_target (find (has_id device.id) ts) → same_bytes stored.digest device.digest ≡ list_any (is_of device) ts)
+              → same_bytes stored.digest device.digest ≡ ((s && same_bytes t.digest device.digest) || list_any (is_of device) ts)
+          first true same here rest =
+              let this : stored ≡ stored_target t = cc in
+              let none = none_known ts (ap (λ k. contains_word k (ids_of ts)) (sym (same_true t.id device.id same)) ∙ not_above t.id (ids_of ts) order.0) in
+              ap (λ (s : StoredTarget). same_bytes s.digest device.digest) this ∙ sym (or-false (same_bytes t.digest device.digest))
+              ∙ ap (λ b. same_bytes t.digest device.digest || b) (sym none)
+          first false apart later rest = rest later
 
   pub unknown : (r : Records) → None ≡ option_map stored_target (target_of r device.id) → false ≡ is_known r device
   unknown r read = go r.targets read where
     go : (ts : List Target) → None ≡ option_map stored_target (find (has_id device.id) ts) → false ≡ list_any (is_of device) ts
     go [] is = refl
     go (t ∷ ts) is = first (same_bytes t.id device.id) is (go ts) where
-      first : (s : Bool) → None ≡ option_map stored_target (cond s (Some t) (find (has_id device.id) ts)) → (None ≡ option_map stored_target (find (has_id device.id) ts) → false ≡ list_any (is_of device) ts)
+      first : (s : Bool) → None ≡ option_map stored_target (cond s (Some t) (find (has_id device.id) ts))
+          → (None ≡ option_map stored_target (find (has_id device.id) ts) → false ≡ list_any (is_of device) ts)
           → false ≡ ((s && same_bytes t.digest device.digest) || list_any (is_of device) ts)
       first true here rest = absurd cc
       first false later rest = rest later

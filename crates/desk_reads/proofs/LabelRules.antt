@@ -1,5 +1,7 @@
 -- The modules and sets of accepted commands keep their rules, and are no more than their limits.
-use Rattle.desk_reads.proofs.Common.{◌≡◌, inl, inr, ◌+◌, ◌≤◌, ◌<◌, Bool, true, ◌&&◌, length, None, ap, arith, ◌∙◌, CommandList, Make, ◌▸◌, IsValid, leb-false, has_either, Has, NoneHolds, none_holds, IsWellFormed, is_set_label, AddModule, AddSet, Command, ModuleLabel, SetLabel, added_modules, added_sets, modules, sets, verdict, verdict_row, is_text}
+use Rattle.desk_reads.proofs.Common.{◌≡◌, inl, inr, ◌+◌, ◌≤◌, ◌<◌, Bool, true, ◌&&◌, length, None, ap, arith, ◌∙◌, CommandList, Make, ◌▸◌, IsValid, leb-false}
+use Rattle.desk_reads.proofs.Common.{has_either, Has, NoneHolds, none_holds, IsWellFormed, is_set_label, AddModule, AddSet, Command, ModuleLabel, SetLabel}
+use Rattle.desk_reads.proofs.Common.{added_modules, added_sets, modules, sets, verdict, verdict_row, is_text}
 use Rattle.std.proofs.lemmas.List.{length-append}
 use Rattle.rollout_machine.specs.Records.{records}
 use Rattle.rollout_model.specs.Limits.{module_limit, set_limit}

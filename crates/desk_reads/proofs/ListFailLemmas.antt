@@ -9,6 +9,13 @@ use Rattle.desk_store.specs.declared.change.OpenChange.{OpenChange}
 
 module _ {S A B : Type 0} {g : Ghosts S} {old new : OpenChange S} {x : A} {P : Records → A → Type 0} where
   -- where no call failed: what was found at such a list leaves no such fault
-  pub fails_never_at : FindsIn g {E = Fault} old new (Ok x) P → (out : Result B Fault) → IsErr out → ((h : CommandList) → IsValid h → P (records h) x → ⊥) → FailsAtListsIn g old new out
+  pub fails_never_at : FindsIn g {E = Fault} old new (Ok x) P → (out : Result B Fault) → IsErr out → ((h : CommandList) → IsValid h → P (records h) x → ⊥)
+      → FailsAtListsIn g old new out
   fails_never_at read (Ok y) failed why = absurd cc
-  fails_never_at read (Err fault) failed why = record { to = λ l sees readable. let it = readable.given in record { reason = λ is clean. absurd (why it.list it.valid ((read.finds (records it.list) (subst (Sees HoldsLedger (seen_in g old)) it.is sees)).1 clean)) } }
+  fails_never_at read (Err fault) failed why =
+      record {
+        to = λ l sees readable. let it = readable.given in
+            record {
+              reason = λ is clean. absurd (why it.list it.valid ((read.finds (records it.list) (subst (Sees HoldsLedger (seen_in g old)) it.is sees)).1 clean));
+            };
+      }

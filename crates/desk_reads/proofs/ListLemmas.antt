@@ -1,5 +1,8 @@
 -- What the records of a list of accepted commands have.
-use Rattle.desk_reads.proofs.Common.{◌≡◌, ◌≤◌, ◌<◌, ◌-◌, ℕ, zero, suc, ◌+◌, nat_eq, Bool, true, false, cond, ◌∷◌, length, Option, Some, None, Result, Ok, Err, refl, sym, ap, subst, ◌∙◌, arith, add-one, slice_get, finds_as, item_numbered, CommandList, Records, group_in, rollout_in, rollouts_in, IsValid, RolloutRecord, each_there, length_each, HoldsLedger, ledger_of, parts_of, groups_of, numbered_from, AreOfList, last_in, last_place, Rollout, first_of, rollout_at, rollouts, size_in, size_of}
+use Rattle.desk_reads.proofs.Common.{◌≡◌, ◌≤◌, ◌<◌, ◌-◌, ℕ, zero, suc, ◌+◌, nat_eq, Bool, true, false, cond, ◌∷◌, length, Option, Some, None, Result, Ok, Err}
+use Rattle.desk_reads.proofs.Common.{refl, sym, ap, subst, ◌∙◌, arith, add-one, slice_get, finds_as, item_numbered, CommandList, Records, group_in, rollout_in}
+use Rattle.desk_reads.proofs.Common.{rollouts_in, IsValid, RolloutRecord, each_there, length_each, HoldsLedger, ledger_of, parts_of, groups_of, numbered_from}
+use Rattle.desk_reads.proofs.Common.{AreOfList, last_in, last_place, Rollout, first_of, rollout_at, rollouts, size_in, size_of}
 use Rattle.sqlite.specs.State.{State}
 use Rattle.sql_calls.specs.Standing.{Finds}
 use Rattle.rollout_machine.specs.Records.{records}
@@ -11,7 +14,8 @@ use Rattle.rollout_machine.proofs.Induction.{invariant_of, no_record}
 use Rattle.rollout_machine.proofs.Whole.{rollout_numbered}
 
 -- what answers for all records answers at lists
-pub at_lists : {A E : Type 0} {a b : State} {P : Records → A → Type 0} → (out : Result A E) → Finds HoldsLedger ledger_of a b out P → Finds HoldsLedger ledger_of a b out (λ r it. AreOfList r → P r it)
+pub at_lists : {A E : Type 0} {a b : State} {P : Records → A → Type 0} → (out : Result A E) → Finds HoldsLedger ledger_of a b out P
+    → Finds HoldsLedger ledger_of a b out (λ r it. AreOfList r → P r it)
 at_lists (Ok x) read = finds_as read (λ r is of. is)
 at_lists (Err e) read = record { wears = read.wears; finds = tt }
 
@@ -28,7 +32,8 @@ made_at : (h : CommandList) (r : ℕ) (valid : IsValid h) (x : RolloutRecord) �
 made_at h r valid x e = go (rollout_at h r) refl where
   go : (o : Option Rollout) → rollout_at h r ≡ o → IsMade h r x
   go None none = let no : None ≡ Some x = sym (no_record h r none) ∙ e in absurd (cc)
-  go (Some y) some = let same : Some (rollout_in h r y) ≡ Some x = sym (rollout_numbered h r y some) ∙ e in record { made = y; there = some; sound = ((invariant_of h valid).follows r y some).sound; is = sym (cc) }
+  go (Some y) some = let same : Some (rollout_in h r y) ≡ Some x = sym (rollout_numbered h r y some) ∙ e in
+      record { made = y; there = some; sound = ((invariant_of h valid).follows r y some).sound; is = sym (cc) }
 
 pub made : (rs : Records) (of : AreOfList rs) (r : ℕ) (x : RolloutRecord) → item_numbered rs.rollouts r ≡ Some x → IsMade of.list r x
 unfolding records
@@ -42,10 +47,12 @@ numbered_so rs of r x e = ap (λ (q : RolloutRecord). q.number) (made rs of r x 
 
 same_numbers : (y : Rollout) (r : ℕ) (h : CommandList) (a n : ℕ) → numbered_from a (each_from (group_in y r h) a n) ≡ each_from (group_in y r h) a n
 same_numbers y r h a zero = refl
-same_numbers y r h a (suc n) = ap (λ gs. group_in y r h a ∷ gs) (ap (λ k. numbered_from k (each_from (group_in y r h) (suc a) n)) (add-one a) ∙ same_numbers y r h (suc a) n)
+same_numbers y r h a (suc n) = ap (λ gs. group_in y r h a ∷ gs) (ap (λ k. numbered_from k (each_from (group_in y r h) (suc a) n)) (add-one a)
+    ∙ same_numbers y r h (suc a) n)
 
 -- their numbers are their places
-pub groups_are : (rs : Records) → AreOfList rs → (r : ℕ) → groups_of (item_numbered rs.rollouts r) ≡ parts_of (λ (x : RolloutRecord). x.groups) (item_numbered rs.rollouts r)
+pub groups_are : (rs : Records) → AreOfList rs → (r : ℕ) → groups_of (item_numbered rs.rollouts r)
+    ≡ parts_of (λ (x : RolloutRecord). x.groups) (item_numbered rs.rollouts r)
 groups_are rs of r = go (item_numbered rs.rollouts r) refl where
   go : (o : Option RolloutRecord) → item_numbered rs.rollouts r ≡ o → groups_of o ≡ parts_of (λ (x : RolloutRecord). x.groups) o
   go None e = refl
@@ -55,16 +62,19 @@ groups_are rs of r = go (item_numbered rs.rollouts r) refl where
 found_each : (f : ℕ → GroupRecord) (i a n : ℕ) (g : GroupRecord) → Some g ≡ group_numbered i (each_from f a n) → (k : ℕ) × (a ≤ k) × (k < a + n) × (g ≡ f k)
 found_each f i a zero g is = absurd cc
 found_each f i a (suc n) g is = go (nat_eq (f a).number i) is (found_each f i (suc a) n g) where
-  go : (b : Bool) → Some g ≡ cond b (Some (f a)) (group_numbered i (each_from f (suc a) n)) → (Some g ≡ group_numbered i (each_from f (suc a) n) → (k : ℕ) × (suc a ≤ k) × (k < suc a + n) × (g ≡ f k))
+  go : (b : Bool) → Some g ≡ cond b (Some (f a)) (group_numbered i (each_from f (suc a) n))
+      → (Some g ≡ group_numbered i (each_from f (suc a) n) → (k : ℕ) × (suc a ≤ k) × (k < suc a + n) × (g ≡ f k))
       → (k : ℕ) × (a ≤ k) × (k < a + suc n) × (g ≡ f k)
   go true one rest = let same : g ≡ f a = cc in (a, omega arith, omega arith, same)
   go false other rest = let it = rest other in (it.0, omega (arith, it.1), omega (arith, it.2), it.3)
 
 within : (y : Rollout) (k : ℕ) → HasSoundPlan y → 1 ≤ k → k < 1 + y.plan.groups.count → (first_of y k - 1) + size_in y k ≤ size_of y
-within y k sound least most = omega (arith, sound.cut.rises k y.plan.groups.count (omega (arith, most)), sound.cut.whole, sound.cut.rises (k - 1) k (omega arith))
+within y k sound least most =
+    omega (arith, sound.cut.rises k y.plan.groups.count (omega (arith, most)), sound.cut.whole, sound.cut.rises (k - 1) k (omega arith))
 
 -- its members are some of the rollout's
-pub group_within : (rs : Records) → AreOfList rs → (r : ℕ) (x : RolloutRecord) → item_numbered rs.rollouts r ≡ Some x → (i : ℕ) (g : GroupRecord) → Some g ≡ group_numbered i x.groups → (g.bounds.first - 1) + size_of_group g ≤ length x.members
+pub group_within : (rs : Records) → AreOfList rs → (r : ℕ) (x : RolloutRecord) → item_numbered rs.rollouts r ≡ Some x → (i : ℕ) (g : GroupRecord) → Some g
+    ≡ group_numbered i x.groups → (g.bounds.first - 1) + size_of_group g ≤ length x.members
 group_within rs of r x e i g is =
     let it = made rs of r x e in
     let found = found_each (group_in it.made r of.list) i 1 it.made.plan.groups.count g (is ∙ ap (λ (q : RolloutRecord). group_numbered i q.groups) it.is) in

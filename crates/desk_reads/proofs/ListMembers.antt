@@ -1,5 +1,9 @@
 -- The members of the rollouts of a list of accepted commands are ids.
-use Rattle.desk_reads.proofs.Common.{◌≡◌, ◌⊎◌, inl, inr, ℕ, suc, Bool, true, false, cond, List, [], ◌∷◌, map, filter, Option, Some, None, refl, sym, ap, subst, ◌∙◌, and_parts, same_bytes, bytes_below, with_word, with_words, CommandList, Make, ◌▸◌, rollouts_in, IsValid, RolloutRecord, Target, import_rows_of, target_ids, target_in, targets, has_either, has_filtered, test_has, Has, is_target_row, is_word, IsWellFormed, Bytes, Command, CreateRollout, PutTargets, TargetRow, Rollout, chosen, created, rollouts, has_mapped}
+use Rattle.desk_reads.proofs.Common.{◌≡◌, ◌⊎◌, inl, inr, ℕ, suc, Bool, true, false, cond, List, [], ◌∷◌, map, filter, Option, Some, None, refl, sym, ap, subst}
+use Rattle.desk_reads.proofs.Common.{◌∙◌, and_parts, same_bytes, bytes_below, with_word, with_words, CommandList, Make, ◌▸◌, rollouts_in, IsValid}
+use Rattle.desk_reads.proofs.Common.{RolloutRecord, Target, import_rows_of, target_ids, target_in, targets, has_either, has_filtered, test_has, Has}
+use Rattle.desk_reads.proofs.Common.{is_target_row, is_word, IsWellFormed, Bytes, Command, CreateRollout, PutTargets, TargetRow, Rollout, chosen, created}
+use Rattle.desk_reads.proofs.Common.{rollouts, has_mapped}
 use Rattle.rollout_machine.specs.Records.{records}
 use Rattle.rollout_machine.specs.Filters.{matches}
 use Rattle.target_filter.specs.Grammar.{Tree}
@@ -12,7 +16,8 @@ with_word_has w [] x (inl same) = inl same
 with_word_has w [] x (inr none) = absurd none
 with_word_has w (v ∷ vs) x among = go (same_bytes w v) (bytes_below w v) (with_word_has w vs x) among
   where
-    go : (same below : Bool) → (Has (with_word w vs) x → (x ≡ w) ⊎ Has vs x) → Has (cond same (v ∷ vs) (cond below (w ∷ v ∷ vs) (v ∷ with_word w vs))) x → (x ≡ w) ⊎ Has (v ∷ vs) x
+    go : (same below : Bool) → (Has (with_word w vs) x → (x ≡ w) ⊎ Has vs x) → Has (cond same (v ∷ vs) (cond below (w ∷ v ∷ vs) (v ∷ with_word w vs))) x
+        → (x ≡ w) ⊎ Has (v ∷ vs) x
     go true below later it = inr it
     go false true later (inl is) = inl is
     go false true later (inr it) = inr it

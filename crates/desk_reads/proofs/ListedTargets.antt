@@ -1,5 +1,7 @@
 -- Targets as they are listed, and then read by their ids.
-use Rattle.desk_reads.proofs.Common.{◌≡◌, ℕ, ◌-◌, true, false, List, [], ◌∷◌, map, find, take, drop, Option, Some, None, refl, sym, ap, ◌∙◌, and_parts, or_parts, contains_word, same_bytes, Records, Target, IsSorted, not_above, are_sorted, ids_of, in_byte_order, attributes_of, sorted_from, has_id, tags_of, target_of, Bytes, Attribute, same_refl}
+use Rattle.desk_reads.proofs.Common.{◌≡◌, ℕ, ◌-◌, true, false, List, [], ◌∷◌, map, find, take, drop, Option, Some, None, refl, sym, ap, ◌∙◌, and_parts}
+use Rattle.desk_reads.proofs.Common.{or_parts, contains_word, same_bytes, Records, Target, IsSorted, not_above, are_sorted, ids_of, in_byte_order}
+use Rattle.desk_reads.proofs.Common.{attributes_of, sorted_from, has_id, tags_of, target_of, Bytes, Attribute, same_refl}
 use Rattle.std.proofs.IntoIterSteps.{All-taken}
 use Rattle.std.proofs.lemmas.List.{drop-map, take-map}
 use Rattle.std.specs.Iterator.{Yields}
@@ -14,7 +16,8 @@ use Rattle.desk_reads.specs.Targets.{target_listed}
 -- ---- a list that is gone through
 
 -- once nothing is left, all of it was given
-pub all_given : {X A : Type 0} (s t u : IntoIter X A) (xs all : List X) → into_iter_items s ≡ all → Yields into_iter_steps s xs t → into_iter_steps t None u → xs ≡ all
+pub all_given : {X A : Type 0} (s t u : IntoIter X A) (xs all : List X) → into_iter_items s ≡ all → Yields into_iter_steps s xs t → into_iter_steps t None u
+    → xs ≡ all
 all_given s t u xs all is given none = All-taken s xs (u, (t, given, none)) ∙ is
 
 -- ---- what is found by its id
@@ -51,14 +54,17 @@ module _ (r : Records) where
       λ i. here i ∷ rest i
 
   -- a part of the targets, listed and then read by their ids
-  pub part_seen : are_sorted r.targets ≡ true → (n m : ℕ) → map (target_listed r) (map listed_target (take n (drop m r.targets))) ≡ map seen (take n (drop m r.targets))
+  pub part_seen : are_sorted r.targets ≡ true → (n m : ℕ) → map (target_listed r) (map listed_target (take n (drop m r.targets)))
+      ≡ map seen (take n (drop m r.targets))
   part_seen sorted n m =
       let ordered = (and_parts (in_byte_order (ids_of r.targets)) _ sorted).0 in
       let all = finds_all r.targets (sorted_from (ids_of r.targets) ordered) in
       all_seen (take n (drop m r.targets))
-      (sym (take-map (found r.targets) n (drop m r.targets)) ∙ ap (take n) (sym (drop-map (found r.targets) m r.targets) ∙ ap (drop m) all ∙ drop-map Some m r.targets) ∙ take-map Some n (drop m r.targets))
+      (sym (take-map (found r.targets) n (drop m r.targets))
+      ∙ ap (take n) (sym (drop-map (found r.targets) m r.targets) ∙ ap (drop m) all ∙ drop-map Some m r.targets) ∙ take-map Some n (drop m r.targets))
 
 -- a target that was listed, with what was read of its id
-pub listed_is : (r : Records) (listed : ListedTarget) (tags : List Bytes) (attributes : List Attribute) → tags ≡ tags_of (target_of r listed.id) → attributes ≡ attributes_of (target_of r listed.id)
+pub listed_is : (r : Records) (listed : ListedTarget) (tags : List Bytes) (attributes : List Attribute) → tags ≡ tags_of (target_of r listed.id) → attributes
+    ≡ attributes_of (target_of r listed.id)
     → record { id = listed.id; name = listed.name; tags = tags; attributes = attributes } ≡ target_listed r listed
 listed_is r listed tags attributes tagged attributed = λ i. record { id = listed.id; name = listed.name; tags = tagged i; attributes = attributed i }

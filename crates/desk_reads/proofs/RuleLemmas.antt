@@ -1,10 +1,12 @@
 -- What is said of the groups of a rollout, as it is read.
-use Rattle.desk_reads.proofs.Common.{◌≡◌, ◌≤◌, ℕ, zero, suc, Some, refl, sym, ap, ◌∙◌, arith, item_numbered, Records, RolloutRecord, each_there, numbered_each, ledger_of, rule_numbered, rules_numbered, RolloutPlan, number_of, is_number, Bool, true, false, None}
+use Rattle.desk_reads.proofs.Common.{◌≡◌, ◌≤◌, ℕ, zero, suc, Some, refl, sym, ap, ◌∙◌, arith, item_numbered, Records, RolloutRecord, each_there, numbered_each}
+use Rattle.desk_reads.proofs.Common.{ledger_of, rule_numbered, rules_numbered, RolloutPlan, number_of, is_number, Bool, true, false, None}
 use Rattle.std.proofs.lemmas.Option.{slice_get-map}
 use Rattle.rollout_machine.specs.GroupRules.{GroupRule, rule_at, rules_of}
 
 -- those of a rollout that is there are its plan's
-pub rules_there : (r : Records) (number : ℕ) (x : RolloutRecord) → item_numbered r.rollouts number ≡ Some x → rules_numbered (ledger_of r).rules number ≡ rules_of x.plan
+pub rules_there : (r : Records) (number : ℕ) (x : RolloutRecord) → item_numbered r.rollouts number ≡ Some x → rules_numbered (ledger_of r).rules number
+    ≡ rules_of x.plan
 rules_there r zero x there = absurd cc
 rules_there r (suc k) x there = rw (slice_get-map (λ (y : RolloutRecord). rules_of y.plan) r.rollouts k, there) refl
 
@@ -18,7 +20,8 @@ rule_there plan zero least most = absurd (omega (arith, least))
 rule_there plan (suc k) least most = each_there (rule_at plan) 1 plan.groups.count k (suc k) (omega (arith, most)) (omega arith)
 
 -- what is said of a group of a rollout that is there
-pub said_of : (r : Records) (number i : ℕ) (x : RolloutRecord) (rule : GroupRule) → item_numbered r.rollouts number ≡ Some x → Some rule ≡ rule_numbered (ledger_of r).rules number i → rule ≡ rule_at x.plan i
+pub said_of : (r : Records) (number i : ℕ) (x : RolloutRecord) (rule : GroupRule) → item_numbered r.rollouts number ≡ Some x → Some rule
+    ≡ rule_numbered (ledger_of r).rules number i → rule ≡ rule_at x.plan i
 said_of r number i x rule there found = rule_is x.plan i rule (ap (λ its. item_numbered its i) (sym (rules_there r number x there)) ∙ sym found)
 
 -- a number in its range is itself

@@ -1,5 +1,6 @@
 -- Rollouts as they are read.
-use Rattle.desk_reads.proofs.Common.{◌≡◌, ℕ, Option, Some, None, refl, sym, ap, ◌∙◌, option_map, item_numbered, Records, RolloutRecord, parts_of, groups_of, IsSeenOf, AreOfList}
+use Rattle.desk_reads.proofs.Common.{◌≡◌, ℕ, Option, Some, None, refl, sym, ap, ◌∙◌, option_map, item_numbered, Records, RolloutRecord, parts_of, groups_of}
+use Rattle.desk_reads.proofs.Common.{IsSeenOf, AreOfList}
 use Rattle.campaign_core.specs.RolloutChecks.{BothOrNone}
 use Rattle.desk_records.specs.RolloutRow.{stored_rollout}
 use Rattle.desk_records.specs.declared.rollout_row.StoredRollout.{StoredRollout}
@@ -9,8 +10,10 @@ use Rattle.desk_reads.proofs.ListLemmas.{groups_are, last_is_count, numbered_so}
 -- ---- what is seen
 
 -- what was read of it is stored, and its groups were read
-pub seen_is : (rs : Records) (of : AreOfList rs) (r : ℕ) (seen : SeenRollout) (stored : StoredRollout) → seen.number ≡ r → seen.plan ≡ stored.plan → seen.approval ≡ stored.approval → seen.started ≡ stored.started → seen.paused ≡ stored.paused
-    → seen.groups.items ≡ groups_of (item_numbered rs.rollouts r) → (x : RolloutRecord) → item_numbered rs.rollouts r ≡ Some x → stored ≡ stored_rollout x → IsSeenOf seen x
+pub seen_is : (rs : Records) (of : AreOfList rs) (r : ℕ) (seen : SeenRollout) (stored : StoredRollout) → seen.number ≡ r → seen.plan ≡ stored.plan
+    → seen.approval ≡ stored.approval → seen.started ≡ stored.started → seen.paused ≡ stored.paused
+    → seen.groups.items ≡ groups_of (item_numbered rs.rollouts r) → (x : RolloutRecord) → item_numbered rs.rollouts r ≡ Some x → stored ≡ stored_rollout x
+    → IsSeenOf seen x
 seen_is rs of r seen stored number plan approval started paused groups x there is = record {
   number = number ∙ sym (numbered_so rs of r x there);
   plan = plan ∙ ap (λ (s : StoredRollout). s.plan) is;
@@ -25,6 +28,7 @@ pub none_seen : (o : Option RolloutRecord) → None ≡ option_map stored_rollou
 none_seen None is = tt
 none_seen (Some x) is = absurd cc
 
-pub one_seen : (seen : SeenRollout) (stored : StoredRollout) (o : Option RolloutRecord) → Some stored ≡ option_map stored_rollout o → ((x : RolloutRecord) → o ≡ Some x → stored ≡ stored_rollout x → IsSeenOf seen x) → BothOrNone IsSeenOf (Some seen) o
+pub one_seen : (seen : SeenRollout) (stored : StoredRollout) (o : Option RolloutRecord) → Some stored ≡ option_map stored_rollout o
+    → ((x : RolloutRecord) → o ≡ Some x → stored ≡ stored_rollout x → IsSeenOf seen x) → BothOrNone IsSeenOf (Some seen) o
 one_seen seen stored None is so = absurd cc
 one_seen seen stored (Some x) is so = so x refl (let same : stored ≡ stored_rollout x = cc in same)

@@ -1,5 +1,12 @@
 -- The targets of accepted commands keep their rules: of their tags, that they are few words and none stands twice.
-use Rattle.desk_reads.proofs.Common.{◌≡◌, ◌⊎◌, inl, inr, ◌≤◌, ◌<◌, suc, Bool, true, false, cond, ◌&&◌, ◌||◌, not, nat_eq, nat_le, List, [], ◌∷◌, length, map, find, is_none, Option, Some, None, refl, sym, ap, subst, ◌∙◌, arith, true≢false, and_parts, and_from, le-leb, leb-false, leb-true, contains_word, same_bytes, bytes_below, sorted_words, with_word, without_word, CommandList, Make, ◌▸◌, Target, attributes_in, import_rows_of, last_row_for, last_row_of, tags_by_row, tags_in, target_ids, target_in, with_attribute, with_attributes, IsSorted, AllAbove, below_apart, sorted_with, with_there, IsValid, tags_of, target_of, verdict, verdict_row, pointwise, list_all, list_any, is_some, option_or, unwrap_or, Has, same_by, same_pointwise, same_sym, same_true, NoneHolds, none_holds, IsWellFormed, is_credential, Attribute, Bytes, Command, PutAttributes, PutTargets, Tag, TargetRow, Untag, is_target_row, are_distinct_words, is_digest, is_tag_list, is_text, is_word, has_mapped}
+use Rattle.desk_reads.proofs.Common.{◌≡◌, ◌⊎◌, inl, inr, ◌≤◌, ◌<◌, suc, Bool, true, false, cond, ◌&&◌, ◌||◌, not, nat_eq, nat_le, List, [], ◌∷◌, length, map}
+use Rattle.desk_reads.proofs.Common.{find, is_none, Option, Some, None, refl, sym, ap, subst, ◌∙◌, arith, true≢false, and_parts, and_from, le-leb, leb-false}
+use Rattle.desk_reads.proofs.Common.{leb-true, contains_word, same_bytes, bytes_below, sorted_words, with_word, without_word, CommandList, Make, ◌▸◌, Target}
+use Rattle.desk_reads.proofs.Common.{attributes_in, import_rows_of, last_row_for, last_row_of, tags_by_row, tags_in, target_ids, target_in, with_attribute}
+use Rattle.desk_reads.proofs.Common.{with_attributes, IsSorted, AllAbove, below_apart, sorted_with, with_there, IsValid, tags_of, target_of, verdict}
+use Rattle.desk_reads.proofs.Common.{verdict_row, pointwise, list_all, list_any, is_some, option_or, unwrap_or, Has, same_by, same_pointwise, same_sym}
+use Rattle.desk_reads.proofs.Common.{same_true, NoneHolds, none_holds, IsWellFormed, is_credential, Attribute, Bytes, Command, PutAttributes, PutTargets, Tag}
+use Rattle.desk_reads.proofs.Common.{TargetRow, Untag, is_target_row, are_distinct_words, is_digest, is_tag_list, is_text, is_word, has_mapped}
 use Rattle.rollout_machine.proofs.Orders.{sorted_all, sorted_without}
 use Rattle.rollout_machine.proofs.TargetMeanings.{targets_are_named}
 use Rattle.rollout_machine.specs.Records.{records}
@@ -19,9 +26,11 @@ distinct (w ∷ ws) sorted = rw (none_again w ws sorted.0) (distinct ws sorted.1
 
 words_with : (w : Bytes) (vs : List Bytes) → is_word w ≡ true → list_all is_word vs ≡ true → list_all is_word (with_word w vs) ≡ true
 words_with w [] one all = and_from (is_word w) true one refl
-words_with w (v ∷ vs) one all = let parts = and_parts (is_word v) (list_all is_word vs) all in go (same_bytes w v) (bytes_below w v) parts.0 parts.1 (words_with w vs one parts.1)
+words_with w (v ∷ vs) one all = let parts = and_parts (is_word v) (list_all is_word vs) all in
+    go (same_bytes w v) (bytes_below w v) parts.0 parts.1 (words_with w vs one parts.1)
   where
-    go : (same below : Bool) → is_word v ≡ true → list_all is_word vs ≡ true → list_all is_word (with_word w vs) ≡ true → list_all is_word (cond same (v ∷ vs) (cond below (w ∷ v ∷ vs) (v ∷ with_word w vs))) ≡ true
+    go : (same below : Bool) → is_word v ≡ true → list_all is_word vs ≡ true → list_all is_word (with_word w vs) ≡ true
+        → list_all is_word (cond same (v ∷ vs) (cond below (w ∷ v ∷ vs) (v ∷ with_word w vs))) ≡ true
     go true below first rest later = and_from (is_word v) (list_all is_word vs) first rest
     go false true first rest later = and_from (is_word w) _ one (and_from (is_word v) (list_all is_word vs) first rest)
     go false false first rest later = and_from (is_word v) (list_all is_word (with_word w vs)) first later
@@ -30,7 +39,8 @@ words_without : (w : Bytes) (vs : List Bytes) → list_all is_word vs ≡ true �
 words_without w [] all = refl
 words_without w (v ∷ vs) all = let parts = and_parts (is_word v) (list_all is_word vs) all in go (same_bytes w v) parts.0 (words_without w vs parts.1)
   where
-    go : (same : Bool) → is_word v ≡ true → list_all is_word (without_word w vs) ≡ true → list_all is_word (cond same (without_word w vs) (v ∷ without_word w vs)) ≡ true
+    go : (same : Bool) → is_word v ≡ true → list_all is_word (without_word w vs) ≡ true
+        → list_all is_word (cond same (without_word w vs) (v ∷ without_word w vs)) ≡ true
     go true first later = later
     go false first later = and_from (is_word v) (list_all is_word (without_word w vs)) first later
 
@@ -42,7 +52,8 @@ length_with : (w : Bytes) (vs : List Bytes) → length (with_word w vs) ≤ suc 
 length_with w [] = omega arith
 length_with w (v ∷ vs) = go (same_bytes w v) (bytes_below w v) (length_with w vs)
   where
-    go : (same below : Bool) → length (with_word w vs) ≤ suc (length vs) → length (cond same (v ∷ vs) (cond below (w ∷ v ∷ vs) (v ∷ with_word w vs))) ≤ suc (suc (length vs))
+    go : (same below : Bool) → length (with_word w vs) ≤ suc (length vs) → length (cond same (v ∷ vs) (cond below (w ∷ v ∷ vs) (v ∷ with_word w vs)))
+        ≤ suc (suc (length vs))
     go true below more = omega arith
     go false true more = omega arith
     go false false more = omega (arith, more)
@@ -67,7 +78,8 @@ pub record KeepsTags (ws : List Bytes) : Type 0 where
   pub sorted : IsSorted ws
 
 pub tags_are_list : (ws : List Bytes) → KeepsTags ws → is_tag_list ws ≡ true
-tags_are_list ws keeps = and_from _ _ (le-leb (length ws) tag_limit keeps.few) (and_from (list_all is_word ws) (are_distinct_words ws) keeps.words (distinct ws keeps.sorted))
+tags_are_list ws keeps = and_from _ _ (le-leb (length ws) tag_limit keeps.few)
+    (and_from (list_all is_word ws) (are_distinct_words ws) keeps.words (distinct ws keeps.sorted))
 
 -- the tags of a row that keeps its rule
 row_tags : (row : TargetRow) → is_target_row row ≡ true → KeepsTags (sorted_words row.tags)
@@ -79,11 +91,14 @@ row_tags row good =
     record { few = omega (arith, few, fewer); words = words_sorted row.tags (and_parts (list_all is_word row.tags) _ parts.1).0; sorted = sorted_all row.tags }
 
 -- the last row that names a target is one of them
-pub row_for : (t : Bytes) (rows : List TargetRow) → list_all is_target_row rows ≡ true → (row : TargetRow) → last_row_for t rows ≡ Some row → is_target_row row ≡ true
+pub row_for : (t : Bytes) (rows : List TargetRow) → list_all is_target_row rows ≡ true → (row : TargetRow) → last_row_for t rows ≡ Some row → is_target_row row
+    ≡ true
 row_for t [] good row is = absurd cc
-row_for t (r ∷ rows) good row is = let parts = and_parts (is_target_row r) (list_all is_target_row rows) good in go (last_row_for t rows) (same_bytes r.id t) parts.0 is (row_for t rows parts.1 row)
+row_for t (r ∷ rows) good row is = let parts = and_parts (is_target_row r) (list_all is_target_row rows) good in
+    go (last_row_for t rows) (same_bytes r.id t) parts.0 is (row_for t rows parts.1 row)
   where
-    go : (later : Option TargetRow) (same : Bool) → is_target_row r ≡ true → option_or later (cond same (Some r) None) ≡ Some row → (later ≡ Some row → is_target_row row ≡ true) → is_target_row row ≡ true
+    go : (later : Option TargetRow) (same : Bool) → is_target_row r ≡ true → option_or later (cond same (Some r) None) ≡ Some row
+        → (later ≡ Some row → is_target_row row ≡ true) → is_target_row row ≡ true
     go (Some x) same own is rest = rest is
     go None true own is rest = let here : r ≡ row = cc in ap is_target_row (sym here) ∙ own
     go None false own is rest = absurd cc
@@ -100,14 +115,16 @@ with_tag x ws keeps word room = go (contains_word x ws) refl
 
 -- ---- what is found of a target
 
-pub found_target : (h : CommandList) (t : Bytes) (ids : List Bytes) → (find (λ (x : Target). same_bytes x.id t) (map (target_in h) ids) ≡ None) ⊎ (find (λ (x : Target). same_bytes x.id t) (map (target_in h) ids) ≡ Some (target_in h t))
+pub found_target : (h : CommandList) (t : Bytes) (ids : List Bytes) → (find (λ (x : Target). same_bytes x.id t) (map (target_in h) ids) ≡ None)
+    ⊎ (find (λ (x : Target). same_bytes x.id t) (map (target_in h) ids) ≡ Some (target_in h t))
 found_target h t [] = inl refl
 found_target h t (u ∷ ids) = go (same_bytes u t) refl (found_target h t ids)
   where
     rest : Option Target
     rest = find (λ (x : Target). same_bytes x.id t) (map (target_in h) ids)
 
-    go : (same : Bool) → same_bytes u t ≡ same → (rest ≡ None) ⊎ (rest ≡ Some (target_in h t)) → (cond same (Some (target_in h u)) rest ≡ None) ⊎ (cond same (Some (target_in h u)) rest ≡ Some (target_in h t))
+    go : (same : Bool) → same_bytes u t ≡ same → (rest ≡ None) ⊎ (rest ≡ Some (target_in h t)) → (cond same (Some (target_in h u)) rest ≡ None)
+        ⊎ (cond same (Some (target_in h u)) rest ≡ Some (target_in h t))
     go true is later = inr (ap (λ (w : Bytes). Some (target_in h w)) (same_true u t is))
     go false is later = later
 
@@ -119,7 +136,8 @@ room h u x accepted new =
     elim (found_target h u (target_ids h)) [
       | inl none ↦ absurd (true≢false (sym (ap is_none none) ∙ row.0))
       | inr some ↦ (
-          let there : (not (contains_word x (tags_in u h)) && nat_le tag_limit (length (tags_in u h))) ≡ false = sym (ap (λ o. not (contains_word x (tags_of o)) && nat_le tag_limit (length (tags_of o))) some) ∙ row.1.0 in
+          let there : (not (contains_word x (tags_in u h)) && nat_le tag_limit (length (tags_in u h))) ≡ false =
+          sym (ap (λ o. not (contains_word x (tags_of o)) && nat_le tag_limit (length (tags_of o))) some) ∙ row.1.0 in
           let full : nat_le tag_limit (length (tags_in u h)) ≡ false = ap (λ b. not b && nat_le tag_limit (length (tags_in u h))) (sym new) ∙ there in
           leb-false tag_limit (length (tags_in u h)) full
           )
@@ -127,7 +145,8 @@ room h u x accepted new =
 
 -- ---- the law
 
-by_row : (found : Option TargetRow) (ws : List Bytes) → ((row : TargetRow) → found ≡ Some row → is_target_row row ≡ true) → KeepsTags ws → KeepsTags (tags_by_row found ws)
+by_row : (found : Option TargetRow) (ws : List Bytes) → ((row : TargetRow) → found ≡ Some row → is_target_row row ≡ true) → KeepsTags ws
+    → KeepsTags (tags_by_row found ws)
 by_row None ws good keeps = keeps
 by_row (Some row) ws good keeps = row_tags row (good row refl)
 
@@ -141,7 +160,8 @@ keeps_tags (h ▸ Tag u x) valid t = go (same_bytes t u) refl (keeps_tags h vali
 
     go : (same : Bool) → same_bytes t u ≡ same → KeepsTags (tags_in t h) → KeepsTags (cond same (with_word x (tags_in t h)) (tags_in t h))
     go false is keeps = keeps
-    go true is keeps = with_tag x (tags_in t h) keeps word (subst (λ w. contains_word x (tags_in w h) ≡ false → length (tags_in w h) < tag_limit) (sym (same_true t u is)) (room h u x valid.2))
+    go true is keeps = with_tag x (tags_in t h) keeps word
+        (subst (λ w. contains_word x (tags_in w h) ≡ false → length (tags_in w h) < tag_limit) (sym (same_true t u is)) (room h u x valid.2))
 keeps_tags (h ▸ Untag u x) valid t = go (same_bytes t u) (keeps_tags h valid.0 t)
   where
     go : (same : Bool) → KeepsTags (tags_in t h) → KeepsTags (cond same (without_word x (tags_in t h)) (tags_in t h))
@@ -169,7 +189,8 @@ last_keeps : (h : CommandList) → IsValid h → (t : Bytes) (row : TargetRow) �
 last_keeps (Make approval) valid t row is = absurd cc
 last_keeps (h ▸ c) valid t row is = go (last_row_for t (import_rows_of c)) is (row_in c valid.1 t row) (last_keeps h valid.0 t row)
   where
-    go : (now : Option TargetRow) → option_or now (last_row_of t h) ≡ Some row → (now ≡ Some row → is_target_row row ≡ true) → (last_row_of t h ≡ Some row → is_target_row row ≡ true) → is_target_row row ≡ true
+    go : (now : Option TargetRow) → option_or now (last_row_of t h) ≡ Some row → (now ≡ Some row → is_target_row row ≡ true)
+        → (last_row_of t h ≡ Some row → is_target_row row ≡ true) → is_target_row row ≡ true
     go None is new old = old is
     go (Some x) is new old = new is
 
@@ -190,18 +211,23 @@ has_last h t among = go (last_row_of t h) refl (sym (targets_are_named t h) ∙ 
     go None is there = absurd (true≢false (sym there))
     go (Some row) is there = (row, is)
 
-attributes_with : (a : Attribute) (bs : List Attribute) → is_attribute a ≡ true → list_all is_attribute bs ≡ true → list_all is_attribute (with_attribute a bs) ≡ true
+attributes_with : (a : Attribute) (bs : List Attribute) → is_attribute a ≡ true → list_all is_attribute bs ≡ true → list_all is_attribute (with_attribute a bs)
+    ≡ true
 attributes_with a [] one all = and_from (is_attribute a) true one refl
-attributes_with a (b ∷ bs) one all = let parts = and_parts (is_attribute b) (list_all is_attribute bs) all in go (same_bytes a.key b.key) (bytes_below a.key b.key) parts.0 parts.1 (attributes_with a bs one parts.1)
+attributes_with a (b ∷ bs) one all = let parts = and_parts (is_attribute b) (list_all is_attribute bs) all in
+    go (same_bytes a.key b.key) (bytes_below a.key b.key) parts.0 parts.1 (attributes_with a bs one parts.1)
   where
-    go : (same below : Bool) → is_attribute b ≡ true → list_all is_attribute bs ≡ true → list_all is_attribute (with_attribute a bs) ≡ true → list_all is_attribute (cond same (a ∷ bs) (cond below (a ∷ b ∷ bs) (b ∷ with_attribute a bs))) ≡ true
+    go : (same below : Bool) → is_attribute b ≡ true → list_all is_attribute bs ≡ true → list_all is_attribute (with_attribute a bs) ≡ true
+        → list_all is_attribute (cond same (a ∷ bs) (cond below (a ∷ b ∷ bs) (b ∷ with_attribute a bs))) ≡ true
     go true below first rest later = and_from (is_attribute a) (list_all is_attribute bs) one rest
     go false true first rest later = and_from (is_attribute a) _ one (and_from (is_attribute b) (list_all is_attribute bs) first rest)
     go false false first rest later = and_from (is_attribute b) (list_all is_attribute (with_attribute a bs)) first later
 
-all_attributes_with : (new bs : List Attribute) → list_all is_attribute new ≡ true → list_all is_attribute bs ≡ true → list_all is_attribute (with_attributes new bs) ≡ true
+all_attributes_with : (new bs : List Attribute) → list_all is_attribute new ≡ true → list_all is_attribute bs ≡ true
+    → list_all is_attribute (with_attributes new bs) ≡ true
 all_attributes_with [] bs good all = all
-all_attributes_with (a ∷ more) bs good all = let parts = and_parts (is_attribute a) (list_all is_attribute more) good in all_attributes_with more (with_attribute a bs) parts.1 (attributes_with a bs parts.0 all)
+all_attributes_with (a ∷ more) bs good all = let parts = and_parts (is_attribute a) (list_all is_attribute more) good in
+    all_attributes_with more (with_attribute a bs) parts.1 (attributes_with a bs parts.0 all)
 
 attributes_keep : (h : CommandList) → IsValid h → (t : Bytes) → list_all is_attribute (attributes_in t h) ≡ true
 attributes_keep (Make approval) valid t = refl
@@ -210,7 +236,8 @@ attributes_keep (h ▸ PutAttributes device new) valid t = go (same_bytes t devi
     good : list_all is_attribute new ≡ true
     good = (and_parts (nat_le (length new) attribute_limit) (list_all is_attribute new) (and_parts (is_credential device) _ valid.1).1).1
 
-    go : (same : Bool) → list_all is_attribute (attributes_in t h) ≡ true → list_all is_attribute (cond same (with_attributes new (attributes_in t h)) (attributes_in t h)) ≡ true
+    go : (same : Bool) → list_all is_attribute (attributes_in t h) ≡ true
+        → list_all is_attribute (cond same (with_attributes new (attributes_in t h)) (attributes_in t h)) ≡ true
     go true all = all_attributes_with new (attributes_in t h) good all
     go false all = all
 attributes_keep (h ▸ _) valid t = attributes_keep h valid.0 t
@@ -225,16 +252,19 @@ pub record KeepsTarget (x : Target) : Type 0 where
 target_keeps : (h : CommandList) → IsValid h → (t : Bytes) → Has (target_ids h) t → KeepsTarget (target_in h t)
 target_keeps h valid t among =
     let last = has_last h t among in
-    let parts = and_parts (is_word last.0.id) (is_text last.0.name && (is_digest last.0.digest && is_tag_list last.0.tags)) (last_keeps h valid t last.0 last.1) in
+    let parts = and_parts (is_word last.0.id) (is_text last.0.name && (is_digest last.0.digest && is_tag_list last.0.tags))
+    (last_keeps h valid t last.0 last.1) in
     let rest = and_parts (is_text last.0.name) (is_digest last.0.digest && is_tag_list last.0.tags) parts.1 in
     record {
       id = target_words h valid t among;
       name = ap (λ (o : Option TargetRow). is_text (unwrap_or (elim o [ None ↦ None | Some row ↦ Some row.name ]) [])) last.1 ∙ rest.0;
-      digest = ap (λ (o : Option TargetRow). is_digest (unwrap_or (elim o [ None ↦ None | Some row ↦ Some row.digest ]) [])) last.1 ∙ (and_parts (is_digest last.0.digest) (is_tag_list last.0.tags) rest.1).0;
+      digest = ap (λ (o : Option TargetRow). is_digest (unwrap_or (elim o [ None ↦ None | Some row ↦ Some row.digest ]) [])) last.1
+          ∙ (and_parts (is_digest last.0.digest) (is_tag_list last.0.tags) rest.1).0;
       tags = (keeps_tags h valid t).words;
       attributes = attributes_keep h valid t;
     }
 
 pub targets_keep : (h : CommandList) → IsValid h → (x : Target) → Has (records h).targets x → KeepsTarget x
 unfolding records
-targets_keep h valid x among = let source = has_mapped (target_in h) (target_ids h) x among in subst KeepsTarget (sym source.2) (target_keeps h valid source.0 source.1)
+targets_keep h valid x among = let source = has_mapped (target_in h) (target_ids h) x among in
+    subst KeepsTarget (sym source.2) (target_keeps h valid source.0 source.1)

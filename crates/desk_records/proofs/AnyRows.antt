@@ -1,11 +1,19 @@
 -- What a statement on one table shows, whatever rows the table has: those that pass, in its order.
-use Rattle.desk_records.proofs.Common.{◌≡◌, inl, ◌≤◌, ◌<◌, ℕ, ◌+◌, ◌&&◌, pos, Bool, true, false, List, [], ◌∷◌, map, filter, length, get_or, true≢false, refl, sym, ap, subst, ◌∙◌, arith, IsPermutation, AllZip, list_all, is_lt, nat_tests, ints, length-map, Contains-get_or, length_permutation, IsPermutation-sym, IsNonDecreasingBy-from_all_adjacent, Int, Row, column, value_cmp, value_cmp-Int, then-Equal, Binary, Query, IsAnswer, Output, output_cmp, page, Term, col, Trees, overlay, Has, has_contained, has_filtered, has_kept, fails_has, simple, by, passes, shown_of, shown_in, ordered_rows, IsOrdered, AreBroken, AreSaid, IsAmong, IsOnly, IsSaid}
+use Rattle.desk_records.proofs.Common.{◌≡◌, inl, ◌≤◌, ◌<◌, ℕ, ◌+◌, ◌&&◌, pos, Bool, true, false, List, [], ◌∷◌, map, filter, length, get_or, true≢false, refl}
+use Rattle.desk_records.proofs.Common.{sym, ap, subst, ◌∙◌, arith, IsPermutation, AllZip, list_all, is_lt, nat_tests, ints, length-map, Contains-get_or}
+use Rattle.desk_records.proofs.Common.{length_permutation, IsPermutation-sym, IsNonDecreasingBy-from_all_adjacent, Int, Row, column, value_cmp, value_cmp-Int}
+use Rattle.desk_records.proofs.Common.{then-Equal, Binary, Query, IsAnswer, Output, output_cmp, page, Term, col, Trees, overlay, Has, has_contained}
+use Rattle.desk_records.proofs.Common.{has_filtered, has_kept, fails_has, simple, by, passes, shown_of, shown_in, ordered_rows, IsOrdered, AreBroken, AreSaid}
+use Rattle.desk_records.proofs.Common.{IsAmong, IsOnly, IsSaid}
 use Rattle.std.specs.List.Sorted.{IsNonDecreasingBy}
 use Rattle.sqlite_value.specs.declared.keys.Key.{Key}
-use Rattle.desk_records.proofs.Membership.{has_alone, has_mapped, has_permuted, map_has, mapped_at, mapped_pass, both_pass, permuted_pass, same_kept, zip_at, zip_left, zip_length, zip_right}
+use Rattle.desk_records.proofs.Membership.{has_alone, has_mapped, has_permuted, map_has, mapped_at, mapped_pass, both_pass, permuted_pass, same_kept, zip_at}
+use Rattle.desk_records.proofs.Membership.{zip_left, zip_length, zip_right}
 
-module _ (tree : ℕ) (test columns : List Term) (order : List (Term × Key)) (limit offset : Term) (params : Row) (db : Trees) (rows : List Row) (are : rows ≡ db tree)
-    (whole : (xs : List Row) → page (by (simple tree test columns) order limit offset) params xs ≡ xs) (p : Row → Bool) (judged : (row : Row) → Has rows row → passes test params row ≡ p row)
+module _ (tree : ℕ) (test columns : List Term) (order : List (Term × Key)) (limit offset : Term) (params : Row) (db : Trees) (rows : List Row)
+    (are : rows ≡ db tree)
+    (whole : (xs : List Row) → page (by (simple tree test columns) order limit offset) params xs ≡ xs) (p : Row → Bool)
+    (judged : (row : Row) → Has rows row → passes test params row ≡ p row)
     (shown : List Row) (answer : IsAnswer (by (simple tree test columns) order limit offset) (overlay db []) params shown) where
   abbrev q : Query
   q = by (simple tree test columns) order limit offset
@@ -49,7 +57,8 @@ module _ (tree : ℕ) (test columns : List Term) (order : List (Term × Key)) (l
   pub is_shown : (row : Row) → Has rows row → p row ≡ true → Has shown (shown_of columns params row)
   is_shown row among passes_it =
       subst (λ l. Has l (shown_of columns params row)) (sym shown_is)
-      (map_has (λ (o : Output). o.1) it.ordered (shown_in q params row) (has_permuted _ _ _ same (map_has (shown_in q params) its row (has_kept p rows row among passes_it))))
+      (map_has (λ (o : Output). o.1) it.ordered (shown_in q params row)
+      (has_permuted _ _ _ same (map_has (shown_in q params) its row (has_kept p rows row among passes_it))))
 
   pub count_shown : length shown ≡ length its
   count_shown = ap length shown_is ∙ length-map it.ordered (λ (o : Output). o.1) ∙ length_permutation _ _ same ∙ length-map its (shown_in q params)
@@ -62,11 +71,13 @@ module _ (tree : ℕ) (test columns : List Term) (order : List (Term × Key)) (l
 
   -- ---- what is read of the only one
 
-  module _ {A : Type 0} (is : Row → A → Type 0) (says : Row → A → Type 0) (means : (row : Row) → Has rows row → p row ≡ true → (a : A) → is (shown_of columns params row) a → says row a)
+  module _ {A : Type 0} (is : Row → A → Type 0) (says : Row → A → Type 0) (means : (row : Row) → Has rows row → p row ≡ true → (a : A)
+      → is (shown_of columns params row) a → says row a)
       (x : Row) (alone : shown ≡ x ∷ []) (a : A) (reads : is x a) where
     each_says : (row : Row) → Has rows row → p row ≡ true → says row a
     each_says row among passes_it =
-        means row among passes_it a (subst (λ y. is y a) (sym (has_alone x _ (subst (λ l. Has l (shown_of columns params row)) alone (is_shown row among passes_it)))) reads)
+        means row among passes_it a
+        (subst (λ y. is y a) (sym (has_alone x _ (subst (λ l. Has l (shown_of columns params row)) alone (is_shown row among passes_it)))) reads)
 
     pub is_only : IsOnly rows p says a
     is_only =
@@ -79,7 +90,8 @@ module _ (tree : ℕ) (test columns : List Term) (order : List (Term × Key)) (l
 
   -- ---- what is read of them
 
-  module _ {A : Type 0} (is : Row → A → Type 0) (says : Row → A → Type 0) (means : (row : Row) → Has rows row → p row ≡ true → (a : A) → is (shown_of columns params row) a → says row a)
+  module _ {A : Type 0} (is : Row → A → Type 0) (says : Row → A → Type 0) (means : (row : Row) → Has rows row → p row ≡ true → (a : A)
+      → is (shown_of columns params row) a → says row a)
       (found : List A) (reads : AllZip is shown found) where
     sound : (a : A) → Has found a → IsSaid rows p says a
     sound a among =
@@ -96,7 +108,8 @@ module _ (tree : ℕ) (test columns : List Term) (order : List (Term × Key)) (l
     are_said = record { sound = sound; complete = complete; count = zip_length is shown found reads ∙ count_shown }
 
     -- in the order of a number
-    module _ (key : A → ℕ) (in_order : (low high : Row) (a b : A) → says low a → says high b → is_lt (output_cmp q (shown_in q params high) (shown_in q params low)) ≡ false → key a ≤ key b) where
+    module _ (key : A → ℕ) (in_order : (low high : Row) (a b : A) → says low a → says high b
+        → is_lt (output_cmp q (shown_in q params high) (shown_in q params low)) ≡ false → key a ≤ key b) where
       counts : length found ≡ length it.ordered
       counts = zip_length is shown found reads ∙ ap length shown_is ∙ length-map it.ordered (λ (o : Output). o.1)
 
@@ -118,7 +131,8 @@ module _ (tree : ℕ) (test columns : List Term) (order : List (Term × Key)) (l
           let low : k < length it.ordered = omega (arith, few, counts) in
           let high : k + 1 < length it.ordered = omega (arith, few, counts) in
           let up = it.sorted k none (omega arith) high in
-          in_order (from_place k low).row (from_place (k + 1) high).row (get_or found k d) (get_or found (k + 1) d) (said_at k d (omega (arith, few)) low) (said_at (k + 1) d few high)
+          in_order (from_place k low).row (from_place (k + 1) high).row (get_or found k d) (get_or found (k + 1) d) (said_at k d (omega (arith, few)) low)
+          (said_at (k + 1) d few high)
           (subst (λ (x : Output). is_lt (output_cmp q (shown_in q params (from_place (k + 1) high).row) x) ≡ false) (from_place k low).shows
           (subst (λ (x : Output). is_lt (output_cmp q x (get_or it.ordered k none)) ≡ false) (from_place (k + 1) high).shows up))
 
@@ -126,17 +140,27 @@ module _ (tree : ℕ) (test columns : List Term) (order : List (Term × Key)) (l
       rise = IsNonDecreasingBy-from_all_adjacent key found adjacent
 
   -- one that breaks a rule
-  pub broken : {A : Type 0} (says : Row → A → Type 0) (keeps : Row → Bool) → ((row : Row) → Has rows row → (a : A) → says row a → keeps (shown_of columns params row) ≡ true) → list_all keeps shown ≡ false → AreBroken rows p says
+  pub broken : {A : Type 0} (says : Row → A → Type 0) (keeps : Row → Bool)
+      → ((row : Row) → Has rows row → (a : A) → says row a → keeps (shown_of columns params row) ≡ true) → list_all keeps shown ≡ false → AreBroken rows p says
   broken says keeps kept_by fails =
       let x = fails_has keeps shown fails in
       let from = from_shown x.0 x.1 in
-      record { row = from.0; among = from.1; passes = from.2; breaks = λ a said. absurd (true≢false (sym (kept_by from.0 from.1 a said) ∙ ap keeps (sym from.3) ∙ x.2)) }
+      record {
+        row = from.0;
+        among = from.1;
+        passes = from.2;
+        breaks =
+            λ a said. absurd (true≢false (sym (kept_by from.0 from.1 a said) ∙ ap keeps (sym from.3) ∙ x.2));
+      }
 
 -- the order of a column with numbers
-pub number_order : (tree : ℕ) (test columns : List Term) (limit offset : Term) (params : Row) (place : ℕ) (low high : Row) (m n : ℕ) → column low place ≡ Int (pos m) → column high place ≡ Int (pos n)
-    → (let q = by (simple tree test columns) ((col 1 place, record { descending = false; collation = Binary }) ∷ []) limit offset in is_lt (output_cmp q (shown_in q params high) (shown_in q params low)) ≡ false) → m ≤ n
+pub number_order : (tree : ℕ) (test columns : List Term) (limit offset : Term) (params : Row) (place : ℕ) (low high : Row) (m n : ℕ) → column low place
+    ≡ Int (pos m) → column high place ≡ Int (pos n)
+    → (let q = by (simple tree test columns) ((col 1 place, record { descending = false; collation = Binary }) ∷ []) limit offset in
+    is_lt (output_cmp q (shown_in q params high) (shown_in q params low)) ≡ false) → m ≤ n
 number_order tree test columns limit offset params place low high m n is_m is_n up =
-    let told : is_lt (value_cmp (column high place) (column low place)) ≡ false = ap is_lt (sym (then-Equal (value_cmp (column high place) (column low place)))) ∙ up in
+    let told : is_lt (value_cmp (column high place) (column low place)) ≡ false = ap is_lt (sym (then-Equal (value_cmp (column high place) (column low place))))
+    ∙ up in
     below (rw (is_m, is_n) at told)
   where
     below : is_lt (value_cmp (Int (pos n)) (Int (pos m))) ≡ false → m ≤ n

@@ -1,17 +1,22 @@
 -- Texts of details: each line ended by a line feed.
-use Rattle.desk_records.proofs.Common.{◌≡◌, ◌≢◌, ◌≤◌, ◌<◌, ℕ, suc, Bool, true, false, not, nat_eq, nat_le, List, [], ◌∷◌, ◌++◌, length, get_or, Option, Some, None, IfNone, refl, sym, ap, ap₂, subst, ◌∙◌, arith, append-nil, append_assoc, length-append, if◌then◌else◌, list_all, IsUtf8, is_utf8, and_parts, nat_tests, list_all-append, IsUtf8-append, IsUtf8-from_ascii, IsUtf8-from_is_utf8, IsUtf8-nil, Value, Text, Bytes, are_details, detail_of, details_of, is_detail, is_text_letter, lines_of}
+use Rattle.desk_records.proofs.Common.{◌≡◌, ◌≢◌, ◌≤◌, ◌<◌, ℕ, suc, Bool, true, false, not, nat_eq, nat_le, List, [], ◌∷◌, ◌++◌, length, get_or, Option, Some}
+use Rattle.desk_records.proofs.Common.{None, IfNone, refl, sym, ap, ap₂, subst, ◌∙◌, arith, append-nil, append_assoc, length-append, if◌then◌else◌, list_all}
+use Rattle.desk_records.proofs.Common.{IsUtf8, is_utf8, and_parts, nat_tests, list_all-append, IsUtf8-append, IsUtf8-from_ascii, IsUtf8-from_is_utf8}
+use Rattle.desk_records.proofs.Common.{IsUtf8-nil, Value, Text, Bytes, are_details, detail_of, details_of, is_detail, is_text_letter, lines_of}
 use Rattle.std.proofs.lemmas.Str.Ascii.{IsAscii-cons, IsAscii-nil}
 use Rattle.desk_records.specs.EntryRow.{HasNoDetails}
 
 -- ---- what a text says
 
 -- one line more
-pub line_more : (text rest line more : Bytes) (lines : List Bytes) → text ≡ lines_of lines ++ rest → rest ≡ line ++ 10 ∷ more → text ≡ lines_of (lines ++ line ∷ []) ++ more
+pub line_more : (text rest line more : Bytes) (lines : List Bytes) → text ≡ lines_of lines ++ rest → rest ≡ line ++ 10 ∷ more
+    → text ≡ lines_of (lines ++ line ∷ []) ++ more
 line_more text rest line more lines is next = is ∙ ap (λ r. lines_of lines ++ r) next ∙ go lines
   where
     go : (ls : List Bytes) → lines_of ls ++ (line ++ 10 ∷ more) ≡ lines_of (ls ++ line ∷ []) ++ more
     go [] = sym (append_assoc line (10 ∷ []) more) ∙ ap (λ l. l ++ more) (sym (append-nil (line ++ 10 ∷ [])))
-    go (l ∷ ls) = append_assoc (l ++ 10 ∷ []) (lines_of ls) (line ++ 10 ∷ more) ∙ ap (λ r. (l ++ 10 ∷ []) ++ r) (go ls) ∙ sym (append_assoc (l ++ 10 ∷ []) (lines_of (ls ++ line ∷ [])) more)
+    go (l ∷ ls) = append_assoc (l ++ 10 ∷ []) (lines_of ls) (line ++ 10 ∷ more) ∙ ap (λ r. (l ++ 10 ∷ []) ++ r) (go ls)
+        ∙ sym (append_assoc (l ++ 10 ∷ []) (lines_of (ls ++ line ∷ [])) more)
 
 pub detail_is : (line d : Bytes) → detail_of line ≡ Some d → (d ≡ line) × (is_detail d ≡ true)
 detail_is line d is = go (is_detail line) refl is
@@ -78,7 +83,8 @@ begins (l ∷ ls) [] rest good fine is =
 begins (l ∷ ls) (m ∷ ms) rest good fine is =
     let here = and_parts (is_detail l) (list_all is_detail ls) good in
     let there = and_parts (is_detail m) (list_all is_detail ms) fine in
-    let it = one_line l m (lines_of ls ++ rest) (lines_of ms) (feedless l here.0) (feedless m there.0) (sym (append_assoc (l ++ 10 ∷ []) (lines_of ls) rest ∙ append_assoc l (10 ∷ []) (lines_of ls ++ rest)) ∙ is ∙ append_assoc m (10 ∷ []) (lines_of ms)) in
+    let it = one_line l m (lines_of ls ++ rest) (lines_of ms) (feedless l here.0) (feedless m there.0)
+    (sym (append_assoc (l ++ 10 ∷ []) (lines_of ls) rest ∙ append_assoc l (10 ∷ []) (lines_of ls ++ rest)) ∙ is ∙ append_assoc m (10 ∷ []) (lines_of ms)) in
     let go = begins ls ms rest here.1 there.1 it.1 in
     (go.0, ap₂ ◌∷◌ (sym it.0) go.1, go.2, go.3)
 
@@ -117,7 +123,8 @@ feed_within (b ∷ m) rest h = feed_within m rest (and_parts (not (nat_eq b 10))
 -- the lines are all that there is, or they don't say the text
 pub all_or_none : (text rest : Bytes) (lines : List Bytes) (found : Option (List Bytes)) → found ≡ (if nat_eq (length rest) 0 then details_of lines else None)
     → text ≡ lines_of lines ++ rest → list_all is_detail lines ≡ true → length lines ≤ 8
-    → (rest ≢ [] → (more : List Bytes) → list_all is_detail more ≡ true → length (lines ++ more) ≤ 8 → rest ≢ lines_of more) → IfNone found (HasNoDetails (Text text))
+    → (rest ≢ [] → (more : List Bytes) → list_all is_detail more ≡ true → length (lines ++ more) ≤ 8 → rest ≢ lines_of more)
+    → IfNone found (HasNoDetails (Text text))
 all_or_none text [] lines found is said good few ends =
     let few_told : nat_le (length lines) 8 ≡ true = grind (arith, nat_tests, few) in
     let fine : are_details lines ≡ true = rw few_told good in
@@ -134,7 +141,8 @@ all_or_none text (b ∷ rest) lines found is said good few ends =
 -- no line ends in the rest
 pub ends_nowhere : (rest : Bytes) → rest ≢ [] → ((i : ℕ) → i < length rest → get_or rest i 0 ≢ 10) → (more : List Bytes) → rest ≢ lines_of more
 ends_nowhere rest some none [] is = some is
-ends_nowhere rest some none (m ∷ ms) is = feed_within m (lines_of ms) (subst (λ bs. no_feed bs ≡ true) (is ∙ append_assoc m (10 ∷ []) (lines_of ms)) (no_feed_in rest none))
+ends_nowhere rest some none (m ∷ ms) is =
+    feed_within m (lines_of ms) (subst (λ bs. no_feed bs ≡ true) (is ∙ append_assoc m (10 ∷ []) (lines_of ms)) (no_feed_in rest none))
 
 -- the line that comes next is no detail
 pub begins_badly : (rest line more : Bytes) → rest ≡ line ++ 10 ∷ more → ((i : ℕ) → i < length line → get_or line i 0 ≢ 10) → is_detail line ≡ false
@@ -155,7 +163,9 @@ lines_are_utf8 : (ls : List Bytes) → list_all is_detail ls ≡ true → IsUtf8
 lines_are_utf8 [] good = IsUtf8-nil
 lines_are_utf8 (l ∷ ls) good =
     let here = and_parts (is_detail l) (list_all is_detail ls) good in
-    IsUtf8-append (l ++ 10 ∷ []) (lines_of ls) (IsUtf8-append l (10 ∷ []) (IsUtf8-from_is_utf8 l (and_parts _ (is_utf8 l) here.0).1) (IsUtf8-from_ascii (10 ∷ []) (IsAscii-cons 10 [] (omega arith) IsAscii-nil))) (lines_are_utf8 ls here.1)
+    IsUtf8-append (l ++ 10 ∷ []) (lines_of ls)
+    (IsUtf8-append l (10 ∷ []) (IsUtf8-from_is_utf8 l (and_parts _ (is_utf8 l) here.0).1)
+    (IsUtf8-from_ascii (10 ∷ []) (IsAscii-cons 10 [] (omega arith) IsAscii-nil))) (lines_are_utf8 ls here.1)
 
 -- what is no UTF-8
 pub unread_details : (v : Value) (text : Bytes) → v ≡ Text text → (IsUtf8 text → ⊥) → HasNoDetails v

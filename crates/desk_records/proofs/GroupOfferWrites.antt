@@ -1,5 +1,9 @@
 -- The statement that offers the actions of a group, in ledgers.
-use Rattle.desk_records.proofs.Common.{◌≡◌, ℕ, suc, ◌+◌, pos, Bool, true, false, cond, ◌&&◌, nat_le, nat_eq, List, [], ◌∷◌, map, filter, length, None, Some, refl, sym, ap, subst, ◌∙◌, arith, Ok, zip, Null, Int, Row, lit, Database, State, Writes, all_from, key_at, rows_from, numbered_in_order, passes, shown_of, PutsEach, each_keeps, uncollated, upserts_from, holds_position, TargetOffer, Records, Bounds, ActionRecord, group_offers, member_of, offers_from, put_offers, Tally, action_row, HoldsLedger, Ledger, OffersGroup, Actions, Offers, offer_table}
+use Rattle.desk_records.proofs.Common.{◌≡◌, ℕ, suc, ◌+◌, pos, Bool, true, false, cond, ◌&&◌, nat_le, nat_eq, List, [], ◌∷◌, map, filter, length, None, Some}
+use Rattle.desk_records.proofs.Common.{refl, sym, ap, subst, ◌∙◌, arith, Ok, zip, Null, Int, Row, lit, Database, State, Writes, all_from, key_at, rows_from}
+use Rattle.desk_records.proofs.Common.{numbered_in_order, passes, shown_of, PutsEach, each_keeps, uncollated, upserts_from, holds_position, TargetOffer}
+use Rattle.desk_records.proofs.Common.{Records, Bounds, ActionRecord, group_offers, member_of, offers_from, put_offers, Tally, action_row, HoldsLedger, Ledger}
+use Rattle.desk_records.proofs.Common.{OffersGroup, Actions, Offers, offer_table}
 use Rattle.sqlite.specs.Source.TheVariants.{Query as Queried}
 use Rattle.sql_front.proofs.Upsert.{key_found}
 use Rattle.sql_calls.proofs.KeyConflicts.{HasKeyIndex, key_index, key_only}
@@ -15,7 +19,8 @@ key_of db l holds = key_index db.schema db.trees (holds.spot Offers).at (offer_t
 
 -- the statement's target is the key
 pub offers_keyed : (db : Database) (l : Ledger) (holds : HoldsLedger db l) → key_at db.schema (offer_table (holds.spot Offers).tree) (1 ∷ []) ≡ Ok (1 ∷ [])
-offers_keyed db l holds = let key = key_of db l holds in key_found db.schema (offer_table (holds.spot Offers).tree) 1 refl key.index key.listed key.unique key.its key.columns
+offers_keyed db l holds = let key = key_of db l holds in key_found db.schema (offer_table (holds.spot Offers).tree) 1 refl key.index key.listed key.unique
+    key.its key.columns
 
 -- ---- the rows of the source
 
@@ -35,8 +40,10 @@ module _ (rs : Records) (number : ℕ) (bounds : Bounds) where
   abbrev offered : ℕ → ActionRecord → TargetOffer
   offered n a = record { target = member_of rs a; offer = record { action = n; canceling = false } }
 
-  selected : (n : ℕ) (it : ActionRecord × Tally) → passes in_group (group_params number bounds) (row n it) ≡ (nat_eq it.0.rollout number && holds_position it.0.position bounds)
-  selected n it = rw (numbers_equal it.0.rollout number, numbers_at_least it.0.position bounds.first, numbers_at_most it.0.position bounds.last) (grouped (nat_eq it.0.rollout number) (nat_le bounds.first it.0.position) (nat_le it.0.position bounds.last))
+  selected : (n : ℕ) (it : ActionRecord × Tally) → passes in_group (group_params number bounds) (row n it)
+      ≡ (nat_eq it.0.rollout number && holds_position it.0.position bounds)
+  selected n it = rw (numbers_equal it.0.rollout number, numbers_at_least it.0.position bounds.first, numbers_at_most it.0.position bounds.last)
+      (grouped (nat_eq it.0.rollout number) (nat_le bounds.first it.0.position) (nat_le it.0.position bounds.last))
     where
       grouped : (x y z : Bool) → (x && (y && (z && true))) ≡ (x && (y && z))
       grouped true true true = refl
@@ -50,17 +57,21 @@ module _ (rs : Records) (number : ℕ) (bounds : Bounds) where
   shows_offers n (a ∷ actions) [] long = absurd (omega (arith, long))
   shows_offers n (a ∷ actions) (t ∷ tallies) long =
       let next : n + 1 ≡ suc n = omega arith in
-      rw (selected n (a, t)) (go (nat_eq a.rollout number && holds_position a.position bounds) (ap (λ m. shown (chosen (rows_from row m (zip actions tallies)))) next ∙ shows_offers (suc n) actions tallies (omega (arith, long))))
+      rw (selected n (a, t)) (go (nat_eq a.rollout number && holds_position a.position bounds)
+      (ap (λ m. shown (chosen (rows_from row m (zip actions tallies)))) next ∙ shows_offers (suc n) actions tallies (omega (arith, long))))
     where
       go : (x : Bool) → shown (chosen (rows_from row (n + 1) (zip actions tallies))) ≡ map source_of (offers_from rs number bounds (suc n) actions)
-          → shown (cond x (row n (a, t) ∷ chosen (rows_from row (n + 1) (zip actions tallies))) (chosen (rows_from row (n + 1) (zip actions tallies)))) ≡ map source_of (cond x (offered n a ∷ offers_from rs number bounds (suc n) actions) (offers_from rs number bounds (suc n) actions))
+          → shown (cond x (row n (a, t) ∷ chosen (rows_from row (n + 1) (zip actions tallies))) (chosen (rows_from row (n + 1) (zip actions tallies))))
+          ≡ map source_of (cond x (offered n a ∷ offers_from rs number bounds (suc n) actions) (offers_from rs number bounds (suc n) actions))
       go true h = ap (λ more. source_of (offered n a) ∷ more) h
       go false h = h
 
 -- ---- the statement
 
-pub offers_group : (number : ℕ) (bounds : Bounds) (old new : State) (text : List ℕ) (count : ℕ) (l next : Ledger) (holds : HoldsLedger old.now l) → OffersGroup number bounds l next
-    → (w : Writes old new None (put_group_offers_command (holds.spot Offers).at (holds.spot Offers).tree (holds.spot Actions).tree) text (group_params number bounds) count) → HoldsLedger new.now next
+pub offers_group : (number : ℕ) (bounds : Bounds) (old new : State) (text : List ℕ) (count : ℕ) (l next : Ledger) (holds : HoldsLedger old.now l)
+    → OffersGroup number bounds l next
+    → (w : Writes old new None (put_group_offers_command (holds.spot Offers).at (holds.spot Offers).tree (holds.spot Actions).tree) text
+    (group_params number bounds) count) → HoldsLedger new.now next
 offers_group number bounds old new text count l next holds change w =
     let spot = holds.spot Offers in
     let stands = holds.stands Offers in
@@ -69,12 +80,19 @@ offers_group number bounds old new text count l next holds change w =
     let params = group_params number bounds in
     let zs = zip l.records.actions l.tallies in
     let key = key_only old.now.schema table 1 refl (key_of old.now l holds) holds.keyed in
-    let made = upserts_from old.now.schema spot.at table (Queried (record { lets = []; body = group_query from })) (Some (1 ∷ [])) (Some (record { lets = []; body = taking_query spot.tree })) stands.got stands.keyless old new refl text params count w in
+    let made = upserts_from old.now.schema spot.at table (Queried (record { lets = []; body = group_query from })) (Some (1 ∷ []))
+    (Some (record { lets = []; body = taking_query spot.tree })) stands.got stands.keyless old new refl text params count w in
     let answer = uncollated from in_group group_columns _ (lit (Int _)) (lit (Int (pos 0))) _ _ params made.sources (made.is_source.answer Null) in
     let sources : made.sources ≡ map source_of (group_offers l.records number bounds) =
-    numbered_in_order (action_row l.records.rollouts) (λ n x. refl) from in_group group_columns (lit (Int _)) (lit (Int (pos 0))) params old.now.trees zs (holds.rows Actions) made.sources answer
+    numbered_in_order (action_row l.records.rollouts) (λ n x. refl) from in_group group_columns (lit (Int _)) (lit (Int (pos 0))) params old.now.trees zs
+    (holds.rows Actions) made.sources answer
     ∙ shows_offers l.records number bounds 1 l.records.actions l.tallies change.tallied in
     let held = puts_all old.now.schema spot.tree key _ _ _ (group_offers l.records number bounds) l.offers old.now.trees new.now.trees (holds.rows Offers)
-    (subst (λ rs. PutsEach old.now.schema table params (Some (1 ∷ [])) (Some (record { lets = []; body = taking_query spot.tree })) rs old.now.trees new.now.trees) sources made.puts) in
-    let others = all_from _ old.now.schema.tables (λ s listed free apart. each_keeps old.now.schema table params (Some (1 ∷ [])) (Some (record { lets = []; body = taking_query spot.tree })) made.sources old.now.trees new.now.trees made.puts s listed free apart) in
-    subst (HoldsLedger new.now) (sym change.next_is) (offers_after l (put_offers l.offers (group_offers l.records number bounds)) old.now new.now holds (record { schema = made.schema_is; sound = w.sound; others = others }) held)
+    (subst (λ rs. PutsEach old.now.schema table params (Some (1 ∷ [])) (Some (record { lets = []; body = taking_query spot.tree })) rs old.now.trees
+    new.now.trees) sources made.puts) in
+    let others = all_from _ old.now.schema.tables
+    (λ s listed free apart. each_keeps old.now.schema table params (Some (1 ∷ [])) (Some (record { lets = []; body = taking_query spot.tree })) made.sources
+    old.now.trees new.now.trees made.puts s listed free apart) in
+    subst (HoldsLedger new.now) (sym change.next_is)
+    (offers_after l (put_offers l.offers (group_offers l.records number bounds)) old.now new.now holds
+    (record { schema = made.schema_is; sound = w.sound; others = others }) held)

@@ -1,5 +1,6 @@
 -- What the text means that offers the actions of a group, wherever its two tables stand.
-use Rattle.desk_records.proofs.Common.{◌≡◌, refl, List, [], ◌∷◌, ℕ, codes, Ok, pos, negsuc, false, Binary, Schema, Command, InsertOr, Query, Term, lit, col, op2, Compare, Lt, key_at, Stands, Means, simple, by, action_table, offer_table}
+use Rattle.desk_records.proofs.Common.{◌≡◌, refl, List, [], ◌∷◌, ℕ, codes, Ok, pos, negsuc, false, Binary, Schema, Command, InsertOr, Query, Term, lit, col}
+use Rattle.desk_records.proofs.Common.{op2, Compare, Lt, key_at, Stands, Means, simple, by, action_table, offer_table}
 use Rattle.sqlite.specs.declared.types.Value.TheVariants.{Null, Int}
 use Rattle.sqlite.specs.Source.TheVariants.{Query as Queried}
 use Rattle.sqlite_schema.specs.declared.command.Conflict.TheVariants.{Abort}
@@ -21,7 +22,8 @@ abbrev pub group_columns : List Term
 group_columns = lit Null ∷ col 1 4 ∷ col 1 0 ∷ lit (Int (pos 0)) ∷ []
 
 abbrev pub group_query : ℕ → Query
-group_query tree = record (by (simple tree in_group group_columns) ((col 1 0, record { descending = false; collation = Binary }) ∷ []) (lit (Int (negsuc 0))) (lit (Int (pos 0)))) { collations = Binary ∷ Binary ∷ Binary ∷ Binary ∷ [] }
+group_query tree = record (by (simple tree in_group group_columns) ((col 1 0, record { descending = false; collation = Binary }) ∷ []) (lit (Int (negsuc 0)))
+    (lit (Int (pos 0)))) { collations = Binary ∷ Binary ∷ Binary ∷ Binary ∷ [] }
 
 -- the row that has the key, if the new action is less
 abbrev pub takes_lesser : List Term
@@ -34,9 +36,11 @@ abbrev pub taking_query : ℕ → Query
 taking_query tree = simple tree takes_lesser (col 1 0 ∷ col 1 0 ∷ taken_columns)
 
 abbrev pub put_group_offers_command : ℕ → ℕ → ℕ → Command
-put_group_offers_command at tree from = InsertOr at Abort (Queried (record { lets = []; body = group_query from })) (upsert_of (1 ∷ []) (taking_query tree) ∷ [])
+put_group_offers_command at tree from = InsertOr at Abort (Queried (record { lets = []; body = group_query from }))
+    (upsert_of (1 ∷ []) (taking_query tree) ∷ [])
 
-put_group_offers_upserts : (tree from : ℕ) → Upserts PUT_GROUP_OFFERS.now (codes "offer") (offer_table tree) (codes "action") (action_table from) (group_query from) (1 ∷ []) (taking_query tree)
+put_group_offers_upserts : (tree from : ℕ) → Upserts PUT_GROUP_OFFERS.now (codes "offer") (offer_table tree) (codes "action") (action_table from)
+    (group_query from) (1 ∷ []) (taking_query tree)
 unfolding first combine named paging places as_row updated_in everything
 put_group_offers_upserts tree from = record {
   parsed = _;
@@ -61,7 +65,11 @@ put_group_offers_upserts tree from = record {
     group = refl;
     having = refl;
     shown = (tt, (tt, (tt, tt)));
-    filter = ((refl, λ cx how x y. refl), ((refl, λ cx how x y. refl), ((refl, λ cx how x y. refl), tt, tt), ((refl, λ cx how x y. refl), tt, tt)), ((refl, λ cx how x y. refl), tt, tt));
+    filter = (
+      (refl, λ cx how x y. refl),
+      ((refl, λ cx how x y. refl), ((refl, λ cx how x y. refl), tt, tt), ((refl, λ cx how x y. refl), tt, tt)),
+      ((refl, λ cx how x y. refl), tt, tt),
+    );
     sorts = (tt, tt);
   };
   paged = λ s. refl;
@@ -87,6 +95,9 @@ put_group_offers_upserts tree from = record {
   setter_fits = refl;
 }
 
-pub put_group_offers_is : (s : Schema) (at tree there from : ℕ) → Stands s (codes "offer") at (offer_table tree) → Stands s (codes "action") there (action_table from) → key_at s (offer_table tree) (1 ∷ []) ≡ Ok (1 ∷ [])
+pub put_group_offers_is : (s : Schema) (at tree there from : ℕ) → Stands s (codes "offer") at (offer_table tree)
+    → Stands s (codes "action") there (action_table from) → key_at s (offer_table tree) (1 ∷ []) ≡ Ok (1 ∷ [])
     → Means s PUT_GROUP_OFFERS.now (put_group_offers_command at tree from)
-put_group_offers_is s at tree there from stands stands_there key = means_of s PUT_GROUP_OFFERS.now _ (upserts_known _ _ (offer_table tree) _ _ _ _ _ (put_group_offers_upserts tree from) s at there stands stands_there key) refl refl
+put_group_offers_is s at tree there from stands stands_there key =
+    means_of s PUT_GROUP_OFFERS.now _ (upserts_known _ _ (offer_table tree) _ _ _ _ _ (put_group_offers_upserts tree from) s at there stands stands_there key)
+    refl refl

@@ -1,5 +1,7 @@
 -- Where the rows of numbered records and of their parts are, and how many are of one record.
-use Rattle.desk_records.proofs.Common.{◌≡◌, inl, inr, ◌<◌, ℕ, zero, suc, ◌+◌, pos, Bool, true, false, cond, List, [], ◌∷◌, ◌++◌, filter, length, slice_get, nat_eq, Some, refl, sym, ap, subst, ◌∙◌, arith, nat_tests, Int, Row, Has, has_left, has_right, AreIn, IsHeldBy, rows_from, has_at, part_row, parts_from}
+use Rattle.desk_records.proofs.Common.{◌≡◌, inl, inr, ◌<◌, ℕ, zero, suc, ◌+◌, pos, Bool, true, false, cond, List, [], ◌∷◌, ◌++◌, filter, length, slice_get}
+use Rattle.desk_records.proofs.Common.{nat_eq, Some, refl, sym, ap, subst, ◌∙◌, arith, nat_tests, Int, Row, Has, has_left, has_right, AreIn, IsHeldBy}
+use Rattle.desk_records.proofs.Common.{rows_from, has_at, part_row, parts_from}
 use Rattle.desk_records.proofs.Membership.{permuted_pass}
 
 -- ---- places in a list
@@ -29,7 +31,8 @@ item_row f k n (suc d) (z ∷ ys) y number e = inr (item_row f (k + 1) n d ys y 
 -- ---- rows of parts
 
 module _ {X Y : Type 0} (f : ℕ → ℕ → Y → Row) (items : X → List Y) where
-  pub part_among : (n at d : ℕ) (xs : List X) (x : X) (row : Row) → at ≡ n + d → slice_get xs d ≡ Some x → Has (rows_from (f at) 1 (items x)) row → Has (parts_from f items n xs) row
+  pub part_among : (n at d : ℕ) (xs : List X) (x : X) (row : Row) → at ≡ n + d → slice_get xs d ≡ Some x → Has (rows_from (f at) 1 (items x)) row
+      → Has (parts_from f items n xs) row
   part_among n at d [] x row number e among = absurd cc
   part_among n at zero (y ∷ xs) x row number e among =
       let same : x ≡ y = cc in
@@ -43,12 +46,14 @@ passing_joined : (p : Row → Bool) (xs ys : List Row) → length (filter p (xs 
 passing_joined p [] ys = omega arith
 passing_joined p (x ∷ xs) ys = go (p x) (passing_joined p xs ys)
   where
-    go : (b : Bool) → length (filter p (xs ++ ys)) ≡ length (filter p xs) + length (filter p ys) → length (cond b (x ∷ filter p (xs ++ ys)) (filter p (xs ++ ys))) ≡ length (cond b (x ∷ filter p xs) (filter p xs)) + length (filter p ys)
+    go : (b : Bool) → length (filter p (xs ++ ys)) ≡ length (filter p xs) + length (filter p ys)
+        → length (cond b (x ∷ filter p (xs ++ ys)) (filter p (xs ++ ys))) ≡ length (cond b (x ∷ filter p xs) (filter p xs)) + length (filter p ys)
     go true more = omega (arith, more)
     go false more = more
 
 -- of rows whose numbers nobody knows, by a test that doesn't see the number
-pub held_passing : (p q : Row → Bool) → ((n : ℕ) (x : Row) → p (Int (pos n) ∷ x) ≡ q x) → (rows wanted : List Row) → IsHeldBy rows wanted → length (filter p rows) ≡ length (filter q wanted)
+pub held_passing : (p q : Row → Bool) → ((n : ℕ) (x : Row) → p (Int (pos n) ∷ x) ≡ q x) → (rows wanted : List Row) → IsHeldBy rows wanted
+    → length (filter p rows) ≡ length (filter q wanted)
 held_passing p q blind rows wanted held = in_order 1 rows held.order held.rising ∙ permuted_pass q wanted held.order held.same
   where
     in_order : (low : ℕ) (rows xs : List Row) → AreIn low rows xs → length (filter p rows) ≡ length (filter q xs)
@@ -57,7 +62,8 @@ held_passing p q blind rows wanted held = in_order 1 rows held.order held.rising
     in_order low (r ∷ rows) [] are = absurd are
     in_order low (r ∷ rows) (x ∷ xs) are = go (q x) (ap p are.2 ∙ blind are.0 x) refl (in_order (are.0 + 1) rows xs are.3)
       where
-        go : (b : Bool) → p r ≡ b → q x ≡ b → length (filter p rows) ≡ length (filter q xs) → length (cond (p r) (r ∷ filter p rows) (filter p rows)) ≡ length (cond (q x) (x ∷ filter q xs) (filter q xs))
+        go : (b : Bool) → p r ≡ b → q x ≡ b → length (filter p rows) ≡ length (filter q xs) → length (cond (p r) (r ∷ filter p rows) (filter p rows))
+            ≡ length (cond (q x) (x ∷ filter q xs) (filter q xs))
         go true e f more = rw (e, f) (ap suc more)
         go false e f more = rw (e, f) more
 
@@ -79,13 +85,15 @@ module _ {X Y : Type 0} (rest : Y → Row) (items : X → List Y) where
       omega (arith, joined, front, behind)
 
   -- the rows of one record are as many as its parts
-  pub own_parts : (n r d : ℕ) (xs : List X) (x : X) → r ≡ n + d → slice_get xs d ≡ Some x → length (filter (has_at 0 r) (parts_from (part_row rest) items n xs)) ≡ length (items x)
+  pub own_parts : (n r d : ℕ) (xs : List X) (x : X) → r ≡ n + d → slice_get xs d ≡ Some x → length (filter (has_at 0 r) (parts_from (part_row rest) items n xs))
+      ≡ length (items x)
   own_parts n r d [] x number e = absurd cc
   own_parts n r zero (y ∷ xs) x number e =
       let same : y ≡ x = cc in
       let joined = passing_joined (has_at 0 r) (rows_from (part_row rest n) 1 (items y)) (parts_from (part_row rest) items (n + 1) xs) in
       let own : r ≡ n = omega (arith, number) in
-      let front : length (filter (has_at 0 r) (rows_from (part_row rest n) 1 (items y))) ≡ length (items y) = subst (λ k. length (filter (has_at 0 k) (rows_from (part_row rest n) 1 (items y))) ≡ length (items y)) (sym own) (own_rows n 1 (items y)) in
+      let front : length (filter (has_at 0 r) (rows_from (part_row rest n) 1 (items y))) ≡ length (items y) =
+      subst (λ k. length (filter (has_at 0 k) (rows_from (part_row rest n) 1 (items y))) ≡ length (items y)) (sym own) (own_rows n 1 (items y)) in
       let behind = later_parts (n + 1) r xs (omega (arith, own)) in
       omega (arith, joined, front, behind) ∙ ap (λ z. length (items z)) same
   own_parts n r (suc d) (y ∷ xs) x number e =

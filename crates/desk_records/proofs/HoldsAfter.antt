@@ -1,5 +1,8 @@
 -- One table changes, and the others keep their rows.
-use Rattle.desk_records.proofs.Common.{◌≡◌, ◌≢◌, inl, inr, ℕ, suc, true, List, [], ◌∷◌, Some, refl, sym, ap, subst, ◌∙◌, find, ◌==◌, map, cond, AllByRecursion, cases_eq, Table, Database, IsDatabase, all-slice_get, Bytes, Records, ActionRecord, Stands, Place, Offers, places, offer_table, table_at, name_of, are_sorted, AreRowsOf, HoldsLedger, HoldsRecords, IsHeld, Ledger, Offered, content_of, ledger_of}
+use Rattle.desk_records.proofs.Common.{◌≡◌, ◌≢◌, inl, inr, ℕ, suc, true, List, [], ◌∷◌, Some, refl, sym, ap, subst, ◌∙◌, find, ◌==◌, map, cond, AllByRecursion}
+use Rattle.desk_records.proofs.Common.{cases_eq, Table, Database, IsDatabase, all-slice_get, Bytes, Records, ActionRecord, Stands, Place, Offers, places}
+use Rattle.desk_records.proofs.Common.{offer_table, table_at, name_of, are_sorted, AreRowsOf, HoldsLedger, HoldsRecords, IsHeld, Ledger, Offered, content_of}
+use Rattle.desk_records.proofs.Common.{ledger_of}
 use Rattle.rollout_machine.specs.Offers.{first_offer, offer}
 use Rattle.sql_calls.specs.Apart.{HasNoForeignKey}
 use Rattle.sql_calls.specs.KeyIndexes.{ComparesBytes}
@@ -18,13 +21,15 @@ module _ (k : Place) (now next : Ledger) (old new : Database) (was : HoldsLedger
   -- a tree is that of one table alone
   one_place : (t : Place) → (was.spot t).tree ≡ (was.spot k).tree → t ≡ k
   one_place t same =
-      let both : Some (table_at t (was.spot t).tree) ≡ Some (table_at k (was.spot k).tree) = sym (was.stands t).found ∙ ap (λ tree. find (λ (x : Table). x.tree == tree) old.schema.tables) same ∙ (was.stands k).found in
+      let both : Some (table_at t (was.spot t).tree) ≡ Some (table_at k (was.spot k).tree) = sym (was.stands t).found
+      ∙ ap (λ tree. find (λ (x : Table). x.tree == tree) old.schema.tables) same ∙ (was.stands k).found in
       let tables : table_at t (was.spot t).tree ≡ table_at k (was.spot k).tree = cc in
       let named : Some t ≡ Some k = sym (is_named t) ∙ ap (λ (x : Table). place_named x.name) tables ∙ is_named k in
       cc
 
   -- One place holds the new ledger, and the others, whose contents stay, hold it too.
-  pub ledger_after : Leaves old new (was.spot k).tree → IsHeld next k (new.trees (was.spot k).tree) → ChangesOnly k now next → are_sorted next.records.targets ≡ true → HoldsLedger new next
+  pub ledger_after : Leaves old new (was.spot k).tree → IsHeld next k (new.trees (was.spot k).tree) → ChangesOnly k now next → are_sorted next.records.targets
+      ≡ true → HoldsLedger new next
   ledger_after left there same sorted = record {
     sound = left.sound;
     spot = was.spot;
@@ -35,22 +40,26 @@ module _ (k : Place) (now next : Ledger) (old new : Database) (was : HoldsLedger
   }
     where
       kept : (t : Place) → (was.spot t).tree ≢ (was.spot k).tree → new.trees (was.spot t).tree ≡ old.trees (was.spot t).tree
-      kept t apart = all-slice_get (λ (s : Table). HasNoForeignKey old.schema s.tree → s.tree ≢ (was.spot k).tree → new.trees s.tree ≡ old.trees s.tree) old.schema.tables (was.spot t).at (table_at t (was.spot t).tree) (was.stands t).got left.others (was.stands t).keyless apart
+      kept t apart = all-slice_get (λ (s : Table). HasNoForeignKey old.schema s.tree → s.tree ≢ (was.spot k).tree → new.trees s.tree ≡ old.trees s.tree)
+          old.schema.tables (was.spot t).at (table_at t (was.spot t).tree) (was.stands t).got left.others (was.stands t).keyless apart
 
       rows : (t : Place) → IsHeld next t (new.trees (was.spot t).tree)
       rows t = elim (cases_eq (was.spot t).tree (was.spot k).tree) [
         | inl is ↦ let here : t ≡ k = one_place t is in subst (λ x. IsHeld next x (new.trees (was.spot x).tree)) (sym here) there
-        | inr apart ↦ subst (IsHeld next t) (sym (kept t apart)) (subst (λ c. AreRowsOf c (old.trees (was.spot t).tree)) (sym (same t (λ e. apart (ap (λ x. (was.spot x).tree) e)))) (was.rows t))
+        | inr apart ↦ subst (IsHeld next t) (sym (kept t apart))
+            (subst (λ c. AreRowsOf c (old.trees (was.spot t).tree)) (sym (same t (λ e. apart (ap (λ x. (was.spot x).tree) e)))) (was.rows t))
       ]
 
 -- The contents of all places but some compute to the same, and those of these are proved to be the same, but for one.
-pub contents_differ : (k : Place) (now next : Ledger) (touched : List Place) → map (content_of next) places ≡ map (λ t. cond (is_among touched t) (content_of next t) (content_of now t)) places
+pub contents_differ : (k : Place) (now next : Ledger) (touched : List Place) → map (content_of next) places
+    ≡ map (λ t. cond (is_among touched t) (content_of next t) (content_of now t)) places
     → AllByRecursion (λ t. t ≢ k → content_of next t ≡ content_of now t) touched → ChangesOnly k now next
 contents_differ k now next touched = same_elsewhere (content_of next) (content_of now) (λ t. t ≢ k) touched
 
 -- ---- records whose rollouts and actions stay
 
-same_first : (now next : Records) → next.rollouts ≡ now.rollouts → (id : Bytes) (k : ℕ) (actions : List ActionRecord) → first_offer next id k actions ≡ first_offer now id k actions
+same_first : (now next : Records) → next.rollouts ≡ now.rollouts → (id : Bytes) (k : ℕ) (actions : List ActionRecord) → first_offer next id k actions
+    ≡ first_offer now id k actions
 same_first now next same id k [] = refl
 same_first now next same id k (a ∷ more) = rw (same_first now next same id (suc k) more, same) refl
 
@@ -59,11 +68,14 @@ same_offer now next rollouts actions id = ap (first_offer next id 1) actions ∙
 
 -- they leave the offers too
 pub records_differ : (k : Place) (now next : Records) → next.rollouts ≡ now.rollouts → next.actions ≡ now.actions → (touched : List Place)
-    → map (content_of (ledger_of next)) places ≡ map (λ t. cond (is_among (Offers ∷ touched) t) (content_of (ledger_of next) t) (content_of (ledger_of now) t)) places
+    → map (content_of (ledger_of next)) places ≡ map (λ t. cond (is_among (Offers ∷ touched) t) (content_of (ledger_of next) t) (content_of (ledger_of now) t))
+    places
     → AllByRecursion (λ t. t ≢ k → content_of (ledger_of next) t ≡ content_of (ledger_of now) t) touched → ChangesOnly k (ledger_of now) (ledger_of next)
-records_differ k now next rollouts actions touched same proved = contents_differ k (ledger_of now) (ledger_of next) (Offers ∷ touched) same ((λ apart. ap Offered (λ i. λ id. same_offer now next rollouts actions id i)), proved)
+records_differ k now next rollouts actions touched same proved = contents_differ k (ledger_of now) (ledger_of next) (Offers ∷ touched) same
+    ((λ apart. ap Offered (λ i. λ id. same_offer now next rollouts actions id i)), proved)
 
 -- of records
-pub holds_after : (k : Place) (now next : Records) (old new : Database) (was : HoldsRecords old now) → Leaves old new (was.spot k).tree → IsHeld (ledger_of next) k (new.trees (was.spot k).tree) → ChangesOnly k (ledger_of now) (ledger_of next)
+pub holds_after : (k : Place) (now next : Records) (old new : Database) (was : HoldsRecords old now) → Leaves old new (was.spot k).tree
+    → IsHeld (ledger_of next) k (new.trees (was.spot k).tree) → ChangesOnly k (ledger_of now) (ledger_of next)
     → are_sorted next.targets ≡ true → HoldsRecords new next
 holds_after k now next = ledger_after k (ledger_of now) (ledger_of next)

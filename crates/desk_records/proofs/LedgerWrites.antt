@@ -1,5 +1,13 @@
 -- The statements on rollouts, actions and offers that write, in ledgers.
-use Rattle.desk_records.proofs.Common.{◌≡◌, ◌≢◌, ◌∷◌, ◌++◌, ℕ, zero, suc, ◌+◌, pos, List, [], Bool, set, length, slice_get, Option, Some, None, refl, sym, ap, subst, ◌∙◌, arith, zip, Int, Text, Row, Term, col, Insert, Update, Values, Database, State, Writes, Table, cast_all, put_row, rowid, rows_from, inserts, put_next, cast_int, cast_null, has_number, sets_at, simple, shown_of, updates, Updated, Bytes, RolloutPlan, Outcome, ActionRecord, RolloutRecord, GroupRule, Tally, action_row, entries_of, entry_row, outcome_code, number_row, number_rows, HoldsLedger, Ledger, Ordered, Unordered, AddsRollout, AddsAction, SetsRollout, SetsAction, acted, created, no_tally, scheduled, turned, with_actions, with_numbers, with_rollouts, with_rules, listed_parts, parts_from, approval_code, flag, group_row, groups_from, member_row, members_from, rollout_row, rule_row, rules_from, Place, Rollouts, Members, Groups, Actions, Feedbacks, Rules, Numbers, action_table, rollout_table, PlacedNumber}
+use Rattle.desk_records.proofs.Common.{◌≡◌, ◌≢◌, ◌∷◌, ◌++◌, ℕ, zero, suc, ◌+◌, pos, List, [], Bool, set, length, slice_get, Option, Some, None, refl, sym, ap}
+use Rattle.desk_records.proofs.Common.{subst, ◌∙◌, arith, zip, Int, Text, Row, Term, col, Insert, Update, Values, Database, State, Writes, Table, cast_all}
+use Rattle.desk_records.proofs.Common.{put_row, rowid, rows_from, inserts, put_next, cast_int, cast_null, has_number, sets_at, simple, shown_of, updates}
+use Rattle.desk_records.proofs.Common.{Updated, Bytes, RolloutPlan, Outcome, ActionRecord, RolloutRecord, GroupRule, Tally, action_row, entries_of, entry_row}
+use Rattle.desk_records.proofs.Common.{outcome_code, number_row, number_rows, HoldsLedger, Ledger, Ordered, Unordered, AddsRollout, AddsAction, SetsRollout}
+use Rattle.desk_records.proofs.Common.{SetsAction, acted, created, no_tally, scheduled, turned, with_actions, with_numbers, with_rollouts, with_rules}
+use Rattle.desk_records.proofs.Common.{listed_parts, parts_from, approval_code, flag, group_row, groups_from, member_row, members_from, rollout_row, rule_row}
+use Rattle.desk_records.proofs.Common.{rules_from, Place, Rollouts, Members, Groups, Actions, Feedbacks, Rules, Numbers, action_table, rollout_table}
+use Rattle.desk_records.proofs.Common.{PlacedNumber}
 use Rattle.std.proofs.lemmas.Option.{slice_get_within}
 use Rattle.rollout_model.specs.declared.approval.Approval.{Approval}
 use Rattle.desk_records.proofs.ActionMeaning.{action_terms, action_values, set_action_query}
@@ -13,17 +21,24 @@ use Rattle.desk_records.proofs.RolloutMeaning.{rollout_terms, rollout_values, se
 -- ---- what stays
 
 -- other rollouts, where the rows of all tables but one don't tell of it
-pub rollouts_differ : (l : Ledger) (ys : List RolloutRecord) (k : Place) → (Rollouts ≢ k → rows_from rollout_row 1 ys ≡ rows_from rollout_row 1 l.records.rollouts) → (Members ≢ k → members_from 1 ys ≡ members_from 1 l.records.rollouts)
-    → (Groups ≢ k → groups_from 1 ys ≡ groups_from 1 l.records.rollouts) → rows_from (action_row ys) 1 (zip l.records.actions l.tallies) ≡ rows_from (action_row l.records.rollouts) 1 (zip l.records.actions l.tallies)
+pub rollouts_differ : (l : Ledger) (ys : List RolloutRecord) (k : Place)
+    → (Rollouts ≢ k → rows_from rollout_row 1 ys ≡ rows_from rollout_row 1 l.records.rollouts)
+    → (Members ≢ k → members_from 1 ys ≡ members_from 1 l.records.rollouts)
+    → (Groups ≢ k → groups_from 1 ys ≡ groups_from 1 l.records.rollouts) → rows_from (action_row ys) 1 (zip l.records.actions l.tallies)
+    ≡ rows_from (action_row l.records.rollouts) 1 (zip l.records.actions l.tallies)
     → ChangesOnly k l (with_rollouts l ys)
-rollouts_differ l ys k rollouts members groups actors = contents_differ k l (with_rollouts l ys) (Rollouts ∷ Members ∷ Groups ∷ Actions ∷ []) refl
-    ((λ apart. ap Ordered (rollouts apart)), ((λ apart. ap Unordered (members apart)), ((λ apart. ap Unordered (groups apart)), ((λ apart. ap Ordered actors), tt))))
+rollouts_differ l ys k rollouts members groups actors = contents_differ k l (with_rollouts l ys) (Rollouts ∷ Members ∷ Groups ∷ Actions ∷ []) refl (
+  (λ apart. ap Ordered (rollouts apart)),
+  ((λ apart. ap Unordered (members apart)), ((λ apart. ap Unordered (groups apart)), ((λ apart. ap Ordered actors), tt))),
+)
 
 -- what is said of groups, and the numbers of actions
-pub rules_differ : (l : Ledger) (rules : List (List GroupRule)) (k : Place) → (Rules ≢ k → rules_from rules ≡ rules_from l.rules) → ChangesOnly k l (with_rules l rules)
+pub rules_differ : (l : Ledger) (rules : List (List GroupRule)) (k : Place) → (Rules ≢ k → rules_from rules ≡ rules_from l.rules)
+    → ChangesOnly k l (with_rules l rules)
 rules_differ l rules k same = contents_differ k l (with_rules l rules) (Rules ∷ []) refl ((λ apart. ap Unordered (same apart)), tt)
 
-pub numbers_differ : (l : Ledger) (numbers : List (List PlacedNumber)) (k : Place) → (Numbers ≢ k → number_rows numbers ≡ number_rows l.numbers) → ChangesOnly k l (with_numbers l numbers)
+pub numbers_differ : (l : Ledger) (numbers : List (List PlacedNumber)) (k : Place) → (Numbers ≢ k → number_rows numbers ≡ number_rows l.numbers)
+    → ChangesOnly k l (with_numbers l numbers)
 numbers_differ l numbers k same = contents_differ k l (with_numbers l numbers) (Numbers ∷ []) refl ((λ apart. ap Unordered (same apart)), tt)
 
 -- a record is kept as no part yet
@@ -34,16 +49,19 @@ abbrev pub histories_from : ℕ → List ActionRecord → List Row
 histories_from n as' = parts_from entry_row entries_of n as'
 
 -- other actions
-pub actions_differ : (l : Ledger) (as' : List ActionRecord) (ts : List Tally) (k : Place) → (Actions ≢ k → rows_from (action_row l.records.rollouts) 1 (zip as' ts) ≡ rows_from (action_row l.records.rollouts) 1 (zip l.records.actions l.tallies))
+pub actions_differ : (l : Ledger) (as' : List ActionRecord) (ts : List Tally) (k : Place)
+    → (Actions ≢ k → rows_from (action_row l.records.rollouts) 1 (zip as' ts) ≡ rows_from (action_row l.records.rollouts) 1 (zip l.records.actions l.tallies))
     → (Feedbacks ≢ k → histories_from 1 as' ≡ histories_from 1 l.records.actions) → ChangesOnly k l (with_actions l as' ts)
-actions_differ l as' ts k actions histories = contents_differ k l (with_actions l as' ts) (Actions ∷ Feedbacks ∷ []) refl ((λ apart. ap Ordered (actions apart)), ((λ apart. ap Unordered (histories apart)), tt))
+actions_differ l as' ts k actions histories = contents_differ k l (with_actions l as' ts) (Actions ∷ Feedbacks ∷ []) refl
+    ((λ apart. ap Ordered (actions apart)), ((λ apart. ap Unordered (histories apart)), tt))
 
 -- ---- UPDATE .. WHERE number = ?1, of a row that is there
 
 module _ {X : Type 0} (f : ℕ → X → Row) (ids : (n : ℕ) (x : X) → rowid (f n x) ≡ Int (pos n)) where
   numbered_set : (k : ℕ) (table : Table) (values : List Term) (more : Row) (old new : Database) (xs : List X) (x y : X) → slice_get xs k ≡ Some x
       → ((n : ℕ) → Int (pos n) ∷ cast_all table.columns (shown_of values (Int (pos (suc k)) ∷ more) (f n x)) ≡ f n y) → old.trees table.tree ≡ rows_from f 1 xs
-      → Updated old.schema table (record { lets = []; body = simple table.tree (at_key 0 0 ∷ []) (col 1 0 ∷ col 1 0 ∷ values) }) (Int (pos (suc k)) ∷ more) old new → new.trees table.tree ≡ rows_from f 1 (set xs k y)
+      → Updated old.schema table (record { lets = []; body = simple table.tree (at_key 0 0 ∷ []) (col 1 0 ∷ col 1 0 ∷ values) }) (Int (pos (suc k)) ∷ more) old
+      new → new.trees table.tree ≡ rows_from f 1 (set xs k y)
   numbered_set k table values more old new xs x y there becomes was made =
       let next : 1 + k ≡ suc k = omega arith in
       sets_at f ids old.schema table (at_key 0 0 ∷ []) values (Int (pos (suc k)) ∷ more) old new k xs x y there (slice_get_within xs k x there)
@@ -52,31 +70,51 @@ module _ {X : Type 0} (f : ℕ → X → Row) (ids : (n : ℕ) (x : X) → rowid
 -- ---- a new rollout
 
 abbrev pub created_params : ℕ → RolloutPlan → Approval → Row
-created_params number plan approval = Int (pos number) ∷ Text plan.name ∷ Int (pos plan.set_number) ∷ Text plan.filter_text ∷ Int (pos plan.groups.count) ∷ Int (pos plan.success) ∷ Int (pos plan.error) ∷ Int (pos (approval_code approval)) ∷ []
+created_params number plan approval = Int (pos number) ∷ Text plan.name ∷ Int (pos plan.set_number) ∷ Text plan.filter_text ∷ Int (pos plan.groups.count)
+    ∷ Int (pos plan.success) ∷ Int (pos plan.error) ∷ Int (pos (approval_code approval)) ∷ []
 
-pub adds_rollout : (number : ℕ) (plan : RolloutPlan) (approval : Approval) (old new : State) (text : List ℕ) (count : ℕ) (l next : Ledger) (holds : HoldsLedger old.now l) → AddsRollout number plan approval l next
-    → (w : Writes old new None (Insert (holds.spot Rollouts).at (Values rollout_terms 11)) text (created_params number plan approval) count) → HoldsLedger new.now next
+pub adds_rollout : (number : ℕ) (plan : RolloutPlan) (approval : Approval) (old new : State) (text : List ℕ) (count : ℕ) (l next : Ledger)
+    (holds : HoldsLedger old.now l) → AddsRollout number plan approval l next
+    → (w : Writes old new None (Insert (holds.spot Rollouts).at (Values rollout_terms 11)) text (created_params number plan approval) count)
+    → HoldsLedger new.now next
 adds_rollout number plan approval old new text count l next holds change w =
     let spot = holds.spot Rollouts in
     let xs = l.records.rollouts in
     let x = created number plan approval in
     let after = with_rollouts l (xs ++ x ∷ []) in
-    let made = inserts old.now.schema spot.at (rollout_table spot.tree) rollout_terms 11 (holds.stands Rollouts).got old new refl text (created_params number plan approval) count w in
+    let made = inserts old.now.schema spot.at (rollout_table spot.tree) rollout_terms 11 (holds.stands Rollouts).got old new refl text
+    (created_params number plan approval) count w in
     let at : number ≡ 1 + length xs = omega (arith, change.number_is) in
     let table : new.now.trees spot.tree ≡ rows_from rollout_row 1 (xs ++ x ∷ []) =
-    made.applies.rows ∙ rw (cast_int number, cast_null, cast_int plan.set_number, cast_int plan.groups.count, cast_int plan.success, cast_int plan.error, cast_int (approval_code approval), cast_int 0, holds.rows Rollouts)
+    made.applies.rows ∙ rw (
+      cast_int number,
+      cast_null,
+      cast_int plan.set_number,
+      cast_int plan.groups.count,
+      cast_int plan.success,
+      cast_int plan.error,
+      cast_int (approval_code approval),
+      cast_int 0,
+      holds.rows Rollouts,
+    )
     (ap (λ m. put_row (rollout_row m x) (rows_from rollout_row 1 xs)) at ∙ put_next rollout_row (λ n x. refl) 1 xs x) in
-    subst (HoldsLedger new.now) (sym change.next_is) (ledger_after Rollouts l (with_rules after (l.rules ++ [] ∷ [])) old.now new.now holds (record { schema = made.schema_is; sound = w.sound; others = made.applies.tables }) table
+    subst (HoldsLedger new.now) (sym change.next_is)
+    (ledger_after Rollouts l (with_rules after (l.rules ++ [] ∷ [])) old.now new.now holds
+    (record { schema = made.schema_is; sound = w.sound; others = made.applies.tables }) table
     (λ t apart. rules_differ after (l.rules ++ [] ∷ []) Rollouts (λ other. none_listed rule_row l.rules) t apart
-    ∙ rollouts_differ l (xs ++ x ∷ []) Rollouts (λ apart. absurd (apart refl)) (λ apart. no_parts member_row (λ (y : RolloutRecord). y.members) x refl 1 xs) (λ apart. no_parts group_row (λ (y : RolloutRecord). y.groups) x refl 1 xs) (actions_stay xs (xs ++ x ∷ []) (actors_of_more x refl xs) 1 _) t apart) holds.sorted)
+    ∙ rollouts_differ l (xs ++ x ∷ []) Rollouts (λ apart. absurd (apart refl)) (λ apart. no_parts member_row (λ (y : RolloutRecord). y.members) x refl 1 xs)
+    (λ apart. no_parts group_row (λ (y : RolloutRecord). y.groups) x refl 1 xs) (actions_stay xs (xs ++ x ∷ []) (actors_of_more x refl xs) 1 _) t apart)
+    holds.sorted)
 
 -- ---- a rollout's approval, started and paused
 
 abbrev pub turned_params : ℕ → Approval → Bool → Bool → Row
 turned_params number approval started paused = Int (pos number) ∷ Int (pos (approval_code approval)) ∷ Int (pos (flag started)) ∷ Int (pos (flag paused)) ∷ []
 
-pub sets_rollout : (number : ℕ) (approval : Approval) (started paused : Bool) (old new : State) (text : List ℕ) (count : ℕ) (l next : Ledger) (holds : HoldsLedger old.now l) → SetsRollout number approval started paused l next
-    → (w : Writes old new None (Update (holds.spot Rollouts).at (record { lets = []; body = set_rollout_query (holds.spot Rollouts).tree })) text (turned_params number approval started paused) count) → HoldsLedger new.now next
+pub sets_rollout : (number : ℕ) (approval : Approval) (started paused : Bool) (old new : State) (text : List ℕ) (count : ℕ) (l next : Ledger)
+    (holds : HoldsLedger old.now l) → SetsRollout number approval started paused l next
+    → (w : Writes old new None (Update (holds.spot Rollouts).at (record { lets = []; body = set_rollout_query (holds.spot Rollouts).tree })) text
+    (turned_params number approval started paused) count) → HoldsLedger new.now next
 sets_rollout zero approval started paused old new text count l next holds change w = absurd (let none = change.is_there in cc)
 sets_rollout (suc k) approval started paused old new text count l next holds change w =
     let spot = holds.spot Rollouts in
@@ -84,45 +122,67 @@ sets_rollout (suc k) approval started paused old new text count l next holds cha
     let xs = l.records.rollouts in
     let x = change.rollout in
     let y = turned approval started paused x in
-    let made = updates old.now.schema spot.at (rollout_table spot.tree) (record { lets = []; body = set_rollout_query spot.tree }) stands.got stands.keyless old new refl text (turned_params (suc k) approval started paused) count w in
+    let made = updates old.now.schema spot.at (rollout_table spot.tree) (record { lets = []; body = set_rollout_query spot.tree }) stands.got stands.keyless old
+    new refl text (turned_params (suc k) approval started paused) count w in
     let table : new.now.trees spot.tree ≡ rows_from rollout_row 1 (set xs k y) =
     numbered_set rollout_row (λ n x. refl) k (rollout_table spot.tree) rollout_values _ old.now new.now xs x y change.is_there
-    (λ n. rw (cast_null, cast_int x.plan.set_number, cast_int x.plan.groups.count, cast_int x.plan.success, cast_int x.plan.error, cast_int (approval_code approval), cast_int (flag started), cast_int (flag paused)) refl)
+    (λ n. rw (
+      cast_null,
+      cast_int x.plan.set_number,
+      cast_int x.plan.groups.count,
+      cast_int x.plan.success,
+      cast_int x.plan.error,
+      cast_int (approval_code approval),
+      cast_int (flag started),
+      cast_int (flag paused),
+    ) refl)
     (holds.rows Rollouts) made in
-    subst (HoldsLedger new.now) (sym change.next_is) (ledger_after Rollouts l (with_rollouts l (set xs k y)) old.now new.now holds (record { schema = made.schema_is; sound = w.sound; others = made.applies.tables }) table
-    (rollouts_differ l (set xs k y) Rollouts (λ apart. absurd (apart refl)) (λ apart. parts_stay x y member_row (λ (z : RolloutRecord). z.members) refl 1 k xs change.is_there)
-    (λ apart. parts_stay x y group_row (λ (z : RolloutRecord). z.groups) refl 1 k xs change.is_there) (actions_stay xs (set xs k y) (actors_stay x y refl k xs change.is_there) 1 _)) holds.sorted)
+    subst (HoldsLedger new.now) (sym change.next_is)
+    (ledger_after Rollouts l (with_rollouts l (set xs k y)) old.now new.now holds
+    (record { schema = made.schema_is; sound = w.sound; others = made.applies.tables }) table
+    (rollouts_differ l (set xs k y) Rollouts (λ apart. absurd (apart refl))
+    (λ apart. parts_stay x y member_row (λ (z : RolloutRecord). z.members) refl 1 k xs change.is_there)
+    (λ apart. parts_stay x y group_row (λ (z : RolloutRecord). z.groups) refl 1 k xs change.is_there)
+    (actions_stay xs (set xs k y) (actors_stay x y refl k xs change.is_there) 1 _)) holds.sorted)
 
 -- ---- a new action
 
 abbrev pub scheduled_params : ℕ → ℕ → ℕ → Bytes → Row
 scheduled_params number rollout place id = Int (pos number) ∷ Int (pos rollout) ∷ Int (pos place) ∷ Text id ∷ []
 
-pub adds_action : (number rollout place : ℕ) (id : Bytes) (old new : State) (text : List ℕ) (count : ℕ) (l next : Ledger) (holds : HoldsLedger old.now l) → AddsAction number rollout place id l next
-    → (w : Writes old new None (Insert (holds.spot Actions).at (Values action_terms 9)) text (scheduled_params number rollout place id) count) → HoldsLedger new.now next
+pub adds_action : (number rollout place : ℕ) (id : Bytes) (old new : State) (text : List ℕ) (count : ℕ) (l next : Ledger) (holds : HoldsLedger old.now l)
+    → AddsAction number rollout place id l next
+    → (w : Writes old new None (Insert (holds.spot Actions).at (Values action_terms 9)) text (scheduled_params number rollout place id) count)
+    → HoldsLedger new.now next
 adds_action number rollout place id old new text count l next holds change w =
     let spot = holds.spot Actions in
     let row = action_row l.records.rollouts in
     let zs = zip l.records.actions l.tallies in
     let a = scheduled rollout place in
     let after = with_actions l (l.records.actions ++ a ∷ []) (l.tallies ++ no_tally ∷ []) in
-    let made = inserts old.now.schema spot.at (action_table spot.tree) action_terms 9 (holds.stands Actions).got old new refl text (scheduled_params number rollout place id) count w in
+    let made = inserts old.now.schema spot.at (action_table spot.tree) action_terms 9 (holds.stands Actions).got old new refl text
+    (scheduled_params number rollout place id) count w in
     let at : number ≡ 1 + length zs = omega (arith, change.number_is, length_zip l.records.actions l.tallies change.tallied) in
     let table : new.now.trees spot.tree ≡ rows_from row 1 (zip (l.records.actions ++ a ∷ []) (l.tallies ++ no_tally ∷ [])) =
     made.applies.rows ∙ rw (cast_int number, cast_null, cast_int rollout, cast_int place, cast_int 0, holds.rows Actions, change.id_is)
-    (ap (λ m. put_row (row m (a, no_tally)) (rows_from row 1 zs)) at ∙ put_next row (λ n x. refl) 1 zs (a, no_tally)) ∙ ap (rows_from row 1) (sym (zip_more l.records.actions l.tallies a no_tally change.tallied)) in
+    (ap (λ m. put_row (row m (a, no_tally)) (rows_from row 1 zs)) at ∙ put_next row (λ n x. refl) 1 zs (a, no_tally))
+    ∙ ap (rows_from row 1) (sym (zip_more l.records.actions l.tallies a no_tally change.tallied)) in
     subst (HoldsLedger new.now) (sym change.next_is) (ledger_after Actions l (with_numbers after (l.numbers ++ [] ∷ [])) old.now new.now holds
     (record { schema = made.schema_is; sound = w.sound; others = made.applies.tables }) table
     (λ t apart. numbers_differ after (l.numbers ++ [] ∷ []) Actions (λ other. none_listed number_row l.numbers) t apart
-    ∙ actions_differ l (l.records.actions ++ a ∷ []) (l.tallies ++ no_tally ∷ []) Actions (λ apart. absurd (apart refl)) (λ apart. no_parts entry_row entries_of a refl 1 l.records.actions) t apart) holds.sorted)
+    ∙ actions_differ l (l.records.actions ++ a ∷ []) (l.tallies ++ no_tally ∷ []) Actions (λ apart. absurd (apart refl))
+    (λ apart. no_parts entry_row entries_of a refl 1 l.records.actions) t apart) holds.sorted)
 
 -- ---- an action's cancel, outcome and numbers
 
 abbrev pub acted_params : ℕ → Bool → Option Outcome → Tally → Row
-acted_params number canceling outcome tally = Int (pos number) ∷ Int (pos (flag canceling)) ∷ Int (pos (outcome_code outcome)) ∷ Int (pos tally.notes) ∷ Int (pos tally.entries) ∷ []
+acted_params number canceling outcome tally = Int (pos number) ∷ Int (pos (flag canceling)) ∷ Int (pos (outcome_code outcome)) ∷ Int (pos tally.notes)
+    ∷ Int (pos tally.entries) ∷ []
 
-pub sets_action : (number : ℕ) (canceling : Bool) (outcome : Option Outcome) (tally : Tally) (old new : State) (text : List ℕ) (count : ℕ) (l next : Ledger) (holds : HoldsLedger old.now l) → SetsAction number canceling outcome tally l next
-    → (w : Writes old new None (Update (holds.spot Actions).at (record { lets = []; body = set_action_query (holds.spot Actions).tree })) text (acted_params number canceling outcome tally) count) → HoldsLedger new.now next
+pub sets_action : (number : ℕ) (canceling : Bool) (outcome : Option Outcome) (tally : Tally) (old new : State) (text : List ℕ) (count : ℕ) (l next : Ledger)
+    (holds : HoldsLedger old.now l) → SetsAction number canceling outcome tally l next
+    → (w : Writes old new None (Update (holds.spot Actions).at (record { lets = []; body = set_action_query (holds.spot Actions).tree })) text
+    (acted_params number canceling outcome tally) count) → HoldsLedger new.now next
 sets_action zero canceling outcome tally old new text count l next holds change w = absurd (let none = change.is_there in cc)
 sets_action (suc k) canceling outcome tally old new text count l next holds change w =
     let spot = holds.spot Actions in
@@ -131,11 +191,21 @@ sets_action (suc k) canceling outcome tally old new text count l next holds chan
     let as' = l.records.actions in
     let it = change.action in
     let a = acted canceling outcome it.0 in
-    let made = updates old.now.schema spot.at (action_table spot.tree) (record { lets = []; body = set_action_query spot.tree }) stands.got stands.keyless old new refl text (acted_params (suc k) canceling outcome tally) count w in
+    let made = updates old.now.schema spot.at (action_table spot.tree) (record { lets = []; body = set_action_query spot.tree }) stands.got stands.keyless old
+    new refl text (acted_params (suc k) canceling outcome tally) count w in
     let table : new.now.trees spot.tree ≡ rows_from row 1 (zip (set as' k a) (set l.tallies k tally)) =
     numbered_set row (λ n x. refl) k (action_table spot.tree) action_values _ old.now new.now (zip as' l.tallies) it (a, tally) change.is_there
-    (λ n. rw (cast_null, cast_int it.0.rollout, cast_int it.0.position, cast_int (flag canceling), cast_int (outcome_code outcome), cast_int tally.notes, cast_int tally.entries) refl) (holds.rows Actions) made
+    (λ n. rw (
+      cast_null,
+      cast_int it.0.rollout,
+      cast_int it.0.position,
+      cast_int (flag canceling),
+      cast_int (outcome_code outcome),
+      cast_int tally.notes,
+      cast_int tally.entries,
+    ) refl) (holds.rows Actions) made
     ∙ ap (rows_from row 1) (sym (zip_set as' l.tallies k a tally)) in
     subst (HoldsLedger new.now) (sym change.next_is) (ledger_after Actions l (with_actions l (set as' k a) (set l.tallies k tally)) old.now new.now holds
     (record { schema = made.schema_is; sound = w.sound; others = made.applies.tables }) table
-    (actions_differ l (set as' k a) (set l.tallies k tally) Actions (λ apart. absurd (apart refl)) (λ apart. parts_stay it.0 a entry_row entries_of refl 1 k as' (first_of as' l.tallies k it change.is_there))) holds.sorted)
+    (actions_differ l (set as' k a) (set l.tallies k tally) Actions (λ apart. absurd (apart refl))
+    (λ apart. parts_stay it.0 a entry_row entries_of refl 1 k as' (first_of as' l.tallies k it change.is_there))) holds.sorted)

@@ -1,5 +1,6 @@
 -- The words in which the meanings of texts are written.
-use Rattle.desk_records.proofs.Common.{◌≡◌, refl, List, [], ◌∷◌, ℕ, codes, Ok, None, Binary, Schema, Command, Select, Insert, Update, Delete, Term, col, op2, Compare, Eq, Le, Ge, Gt, Query, Stands, Means, simple, by, count_query}
+use Rattle.desk_records.proofs.Common.{◌≡◌, refl, List, [], ◌∷◌, ℕ, codes, Ok, None, Binary, Schema, Command, Select, Insert, Update, Delete, Term, col, op2}
+use Rattle.desk_records.proofs.Common.{Compare, Eq, Le, Ge, Gt, Query, Stands, Means, simple, by, count_query}
 use Rattle.sqlite.specs.Listing.{understood}
 use Rattle.sqlite_resolve.specs.declared.compiled.Compiled.{Compiled}
 use Rattle.sqlite_resolve.specs.Compile.{compiled}
@@ -39,7 +40,8 @@ module _ (p : Place) (sql : List ℕ) where
     pub removes : (tree : ℕ) → Removes sql (name_of p) (table_at p tree) (query tree)
 
 module _ {p : Place} {sql : List ℕ} where
-  pub asked_at : {query : ℕ → Query} {names : List Name} → Asks p sql query names → MeansAt p sql (λ at tree. Select (record { lets = []; body = query tree }) names)
+  pub asked_at : {query : ℕ → Query} {names : List Name} → Asks p sql query names
+      → MeansAt p sql (λ at tree. Select (record { lets = []; body = query tree }) names)
   asked_at text = record { at = λ s at tree stands. means_of s sql _ (queries_known _ _ _ _ _ (text.queries tree) s at stands) refl refl }
 
   pub counted_at : Counts p sql → MeansAt p sql (λ at tree. Select (record { lets = []; body = count_query tree }) (codes "count(*)" ∷ []))

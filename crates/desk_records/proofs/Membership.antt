@@ -1,5 +1,7 @@
 -- Membership in lists that are mapped, zipped or put in another order, and how many pass a test.
-use Rattle.desk_records.proofs.Common.{◌≡◌, ◌⊎◌, inl, inr, ◌≤◌, ℕ, zero, suc, ◌<◌, ◌&&◌, Option, Some, None, filter_map, List, [], ◌∷◌, map, filter, length, Bool, true, false, cond, refl, sym, ap, subst, ◌∙◌, arith, IsPermutation, get_or, AllZip, cons_option, Contains-permutation, sum_by-IsPermutation, Has, has_contained, contains_had, has_either, flat_map}
+use Rattle.desk_records.proofs.Common.{◌≡◌, ◌⊎◌, inl, inr, ◌≤◌, ℕ, zero, suc, ◌<◌, ◌&&◌, Option, Some, None, filter_map, List, [], ◌∷◌, map, filter, length}
+use Rattle.desk_records.proofs.Common.{Bool, true, false, cond, refl, sym, ap, subst, ◌∙◌, arith, IsPermutation, get_or, AllZip, cons_option}
+use Rattle.desk_records.proofs.Common.{Contains-permutation, sum_by-IsPermutation, Has, has_contained, contains_had, has_either, flat_map}
 use Rattle.std.proofs.lemmas.List.Sums.{length-filter}
 
 pub has_permuted : {X : Type 0} (xs ys : List X) (x : X) → IsPermutation xs ys → Has xs x → Has ys x
@@ -48,13 +50,15 @@ same_kept p q (x ∷ xs) agree = rw (agree x (inl refl), same_kept p q xs (λ y 
 
 pub few_pass : {X : Type 0} (p : X → Bool) (xs : List X) → length (filter p xs) ≤ length xs
 few_pass p [] = omega arith
-few_pass p (x ∷ xs) = let more = few_pass p xs in elim (p x) as (λ b. length (cond b (x ∷ filter p xs) (filter p xs)) ≤ suc (length xs)) [ true ↦ omega (arith, more) | false ↦ omega (arith, more) ]
+few_pass p (x ∷ xs) = let more = few_pass p xs in elim (p x) as (λ b. length (cond b (x ∷ filter p xs) (filter p xs)) ≤ suc (length xs))
+    [ true ↦ omega (arith, more) | false ↦ omega (arith, more) ]
 
 pub all_pass : {X : Type 0} (p : X → Bool) (xs : List X) → length (filter p xs) ≡ length xs → (x : X) → Has xs x → p x ≡ true
 all_pass p [] same x among = absurd among
 all_pass p (y ∷ xs) same x among = go (p y) refl same (λ fewer it. all_pass p xs fewer x it) among
   where
-    go : (b : Bool) → p y ≡ b → length (cond b (y ∷ filter p xs) (filter p xs)) ≡ suc (length xs) → (length (filter p xs) ≡ length xs → Has xs x → p x ≡ true) → (x ≡ y) ⊎ Has xs x → p x ≡ true
+    go : (b : Bool) → p y ≡ b → length (cond b (y ∷ filter p xs) (filter p xs)) ≡ suc (length xs) → (length (filter p xs) ≡ length xs → Has xs x → p x ≡ true)
+        → (x ≡ y) ⊎ Has xs x → p x ≡ true
     go true is all later (inl it) = ap p it ∙ is
     go true is all later (inr it) = later (omega (arith, all)) it
     go false is all later it = absurd (omega (arith, all, few_pass p xs))
@@ -66,7 +70,9 @@ each_passes p (x ∷ xs) each = rw (each x (inl refl)) (ap suc (each_passes p xs
 -- of mapped ones
 pub mapped_pass : {X Y : Type 0} (f : X → Y) (p : Y → Bool) (xs : List X) → length (filter p (map f xs)) ≡ length (filter (λ x. p (f x)) xs)
 mapped_pass f p [] = refl
-mapped_pass f p (x ∷ xs) = let more = mapped_pass f p xs in elim (p (f x)) as (λ b. length (cond b (f x ∷ filter p (map f xs)) (filter p (map f xs))) ≡ length (cond b (x ∷ filter (λ y. p (f y)) xs) (filter (λ y. p (f y)) xs))) [ true ↦ ap suc more | false ↦ more ]
+mapped_pass f p (x ∷ xs) = let more = mapped_pass f p xs in
+    elim (p (f x)) as (λ b. length (cond b (f x ∷ filter p (map f xs)) (filter p (map f xs)))
+    ≡ length (cond b (x ∷ filter (λ y. p (f y)) xs) (filter (λ y. p (f y)) xs))) [ true ↦ ap suc more | false ↦ more ]
 
 -- of those that passed another test
 pub both_pass : {X : Type 0} (p q : X → Bool) (xs : List X) → length (filter q (filter p xs)) ≡ length (filter (λ x. p x && q x) xs)
@@ -74,22 +80,26 @@ both_pass p q [] = refl
 both_pass p q (x ∷ xs) = go (p x) (q x) refl refl (both_pass p q xs)
   where
     go : (a b : Bool) → p x ≡ a → q x ≡ b → length (filter q (filter p xs)) ≡ length (filter (λ y. p y && q y) xs)
-        → length (filter q (cond (p x) (x ∷ filter p xs) (filter p xs))) ≡ length (cond (p x && q x) (x ∷ filter (λ y. p y && q y) xs) (filter (λ y. p y && q y) xs))
+        → length (filter q (cond (p x) (x ∷ filter p xs) (filter p xs)))
+        ≡ length (cond (p x && q x) (x ∷ filter (λ y. p y && q y) xs) (filter (λ y. p y && q y) xs))
     go true true is its more = rw (is, its) (ap suc more)
     go true false is its more = rw (is, its) more
     go false b is its more = rw is more
 
 -- of what is found in them
-pub picked_pass : {X Y : Type 0} (f : X → Option Y) (p : Y → Bool) (q : X → Bool) → ((x : X) (y : Y) → f x ≡ Some y → q x ≡ p y) → ((x : X) → f x ≡ None → q x ≡ false)
+pub picked_pass : {X Y : Type 0} (f : X → Option Y) (p : Y → Bool) (q : X → Bool) → ((x : X) (y : Y) → f x ≡ Some y → q x ≡ p y)
+    → ((x : X) → f x ≡ None → q x ≡ false)
     → (xs : List X) → length (filter p (filter_map f xs)) ≡ length (filter q xs)
 picked_pass f p q some none [] = refl
 picked_pass {Y = Y} f p q some none (x ∷ xs) = go (f x) refl (picked_pass f p q some none xs)
   where
-    go : (o : Option Y) → f x ≡ o → length (filter p (filter_map f xs)) ≡ length (filter q xs) → length (filter p (cons_option (f x) (filter_map f xs))) ≡ length (cond (q x) (x ∷ filter q xs) (filter q xs))
+    go : (o : Option Y) → f x ≡ o → length (filter p (filter_map f xs)) ≡ length (filter q xs) → length (filter p (cons_option (f x) (filter_map f xs)))
+        ≡ length (cond (q x) (x ∷ filter q xs) (filter q xs))
     go None is more = rw (is, none x is) more
     go (Some y) is more = rw (is, some x y is) (pushed (p y) more)
       where
-        pushed : (b : Bool) → length (filter p (filter_map f xs)) ≡ length (filter q xs) → length (cond b (y ∷ filter p (filter_map f xs)) (filter p (filter_map f xs))) ≡ length (cond b (x ∷ filter q xs) (filter q xs))
+        pushed : (b : Bool) → length (filter p (filter_map f xs)) ≡ length (filter q xs)
+            → length (cond b (y ∷ filter p (filter_map f xs)) (filter p (filter_map f xs))) ≡ length (cond b (x ∷ filter q xs) (filter q xs))
         pushed true same = ap suc same
         pushed false same = same
 
@@ -99,7 +109,8 @@ permuted_pass p xs ys same = length-filter p ys ∙ sum_by-IsPermutation (λ x. 
 
 -- ---- by places
 
-pub zip_at : {A B : Type 0} (R : A → B → Type 0) (xs : List A) (ys : List B) (k : ℕ) (d : A) (e : B) → AllZip R xs ys → k < length xs → R (get_or xs k d) (get_or ys k e)
+pub zip_at : {A B : Type 0} (R : A → B → Type 0) (xs : List A) (ys : List B) (k : ℕ) (d : A) (e : B) → AllZip R xs ys → k < length xs
+    → R (get_or xs k d) (get_or ys k e)
 zip_at R [] [] k d e all within = absurd (omega (arith, within))
 zip_at R [] (y ∷ ys) k d e all within = absurd all
 zip_at R (x ∷ xs) [] k d e all within = absurd all

@@ -1,5 +1,9 @@
 -- What is read of the next offer, where a ledger is held.
-use Rattle.desk_records.proofs.Common.{◌≡◌, ◌<◌, ℕ, zero, suc, ◌+◌, pos, List, [], ◌∷◌, map, filter, take, length, slice_get, Bool, true, false, cond, ◌&&◌, ◌||◌, Option, Some, None, option_map, refl, ap, ap₂, ◌∙◌, arith, nat_eq, nat_le, list_any, zip, is_none, nat_tests, list_any-append, Null, Int, Text, Row, lit, eval_all, Select, Database, rows_from, ShowsFirst, on_content, item_numbered, Bytes, Outcome, ActionRecord, GroupRecord, RolloutRecord, Tally, action_row, actor_of, outcome_code, HoldsLedger, Ledger, parts_from, parts_of, flag, group_row, groups_from, Actions, Groups, and-true, and_assoc, sym}
+use Rattle.desk_records.proofs.Common.{◌≡◌, ◌<◌, ℕ, zero, suc, ◌+◌, pos, List, [], ◌∷◌, map, filter, take, length, slice_get, Bool, true, false, cond, ◌&&◌}
+use Rattle.desk_records.proofs.Common.{◌||◌, Option, Some, None, option_map, refl, ap, ap₂, ◌∙◌, arith, nat_eq, nat_le, list_any, zip, is_none, nat_tests}
+use Rattle.desk_records.proofs.Common.{list_any-append, Null, Int, Text, Row, lit, eval_all, Select, Database, rows_from, ShowsFirst, on_content}
+use Rattle.desk_records.proofs.Common.{item_numbered, Bytes, Outcome, ActionRecord, GroupRecord, RolloutRecord, Tally, action_row, actor_of, outcome_code}
+use Rattle.desk_records.proofs.Common.{HoldsLedger, Ledger, parts_from, parts_of, flag, group_row, groups_from, Actions, Groups, and-true, and_assoc, sym}
 use Rattle.std.proofs.Math.Bool.{or-false}
 use Rattle.sql_calls.proofs.NumberedWithin.{counts_any, held_any, is_beside, passes_within, seen, within_in_order}
 use Rattle.rollout_machine.specs.declared.outcome.Outcome.TheVariants.{Good, Bad, Gone}
@@ -11,7 +15,8 @@ use Rattle.desk_records.proofs.TargetRecords.{first_row}
 
 -- ---- whether any part of one numbered record passes
 
-module _ {X Y : Type 0} (f : ℕ → ℕ → Y → Row) (parts : X → List Y) (p : Row → Bool) (number : ℕ) (q : Y → Bool) (is : (n place : ℕ) (y : Y) → p (f n place y) ≡ (nat_eq n number && q y)) where
+module _ {X Y : Type 0} (f : ℕ → ℕ → Y → Row) (parts : X → List Y) (p : Row → Bool) (number : ℕ) (q : Y → Bool)
+    (is : (n place : ℕ) (y : Y) → p (f n place y) ≡ (nat_eq n number && q y)) where
   any_here : (n place : ℕ) (ys : List Y) (b : Bool) → nat_eq n number ≡ b → list_any p (rows_from (f n) place ys) ≡ (b && list_any q ys)
   any_here n place [] true at = refl
   any_here n place [] false at = refl
@@ -22,18 +27,22 @@ module _ {X Y : Type 0} (f : ℕ → ℕ → Y → Row) (parts : X → List Y) (
   none_past n [] h = refl
   none_past n (x ∷ xs) h =
       let apart : nat_eq n number ≡ false = grind (arith, nat_tests, h) in
-      list_any-append p (rows_from (f n) 1 (parts x)) (parts_from f parts (n + 1) xs) ∙ ap₂ ◌||◌ (any_here n 1 (parts x) false apart) (none_past (n + 1) xs (omega (arith, h)))
+      list_any-append p (rows_from (f n) 1 (parts x)) (parts_from f parts (n + 1) xs)
+      ∙ ap₂ ◌||◌ (any_here n 1 (parts x) false apart) (none_past (n + 1) xs (omega (arith, h)))
 
   any_at : (n k : ℕ) (xs : List X) → n + k ≡ number → list_any p (parts_from f parts n xs) ≡ list_any q (parts_of parts (slice_get xs k))
   any_at n k [] h = refl
   any_at n zero (x ∷ xs) h =
       let at : nat_eq n number ≡ true = grind (arith, nat_tests, h) in
-      list_any-append p (rows_from (f n) 1 (parts x)) (parts_from f parts (n + 1) xs) ∙ ap₂ ◌||◌ (any_here n 1 (parts x) true at) (none_past (n + 1) xs (omega (arith, h))) ∙ or-false _
+      list_any-append p (rows_from (f n) 1 (parts x)) (parts_from f parts (n + 1) xs)
+      ∙ ap₂ ◌||◌ (any_here n 1 (parts x) true at) (none_past (n + 1) xs (omega (arith, h))) ∙ or-false _
   any_at n (suc k) (x ∷ xs) h =
       let apart : nat_eq n number ≡ false = grind (arith, nat_tests, h) in
-      list_any-append p (rows_from (f n) 1 (parts x)) (parts_from f parts (n + 1) xs) ∙ ap₂ ◌||◌ (any_here n 1 (parts x) false apart) (any_at (n + 1) k xs (omega (arith, h)))
+      list_any-append p (rows_from (f n) 1 (parts x)) (parts_from f parts (n + 1) xs)
+      ∙ ap₂ ◌||◌ (any_here n 1 (parts x) false apart) (any_at (n + 1) k xs (omega (arith, h)))
 
-any_numbered : {X Y : Type 0} (f : ℕ → ℕ → Y → Row) (parts : X → List Y) (p : Row → Bool) (number : ℕ) (q : Y → Bool) → ((n place : ℕ) (y : Y) → p (f n place y) ≡ (nat_eq n number && q y)) → (xs : List X)
+any_numbered : {X Y : Type 0} (f : ℕ → ℕ → Y → Row) (parts : X → List Y) (p : Row → Bool) (number : ℕ) (q : Y → Bool)
+    → ((n place : ℕ) (y : Y) → p (f n place y) ≡ (nat_eq n number && q y)) → (xs : List X)
     → list_any p (parts_from f parts 1 xs) ≡ list_any q (parts_of parts (item_numbered xs number))
 any_numbered f parts p zero q is xs = none_past f parts p zero q is 1 xs (omega arith)
 any_numbered f parts p (suc k) q is xs = any_at f parts p (suc k) q is 1 k xs (omega arith)
@@ -66,34 +75,55 @@ module _ (db : Database) (l : Ledger) (holds : HoldsLedger db l) (names : List (
   abbrev params : Row
   params = Text id ∷ []
 
-  beside_it : (n : ℕ) (it : ActionRecord × Tally) (m place : ℕ) (g : GroupRecord) → on_content (is_beside next_group params (row n it)) (group_row m place g) ≡ (nat_eq m it.0.rollout && starts_at it.0.position g)
+  beside_it : (n : ℕ) (it : ActionRecord × Tally) (m place : ℕ) (g : GroupRecord) → on_content (is_beside next_group params (row n it)) (group_row m place g)
+      ≡ (nat_eq m it.0.rollout && starts_at it.0.position g)
   beside_it n it m place g =
-      rw (numbers_equal m it.0.rollout, numbers_at_most g.bounds.first it.0.position, numbers_at_least g.bounds.last it.0.position, numbers_equal (flag g.started) 1, is_started g.started, and-true g.started)
+      rw (
+        numbers_equal m it.0.rollout,
+        numbers_at_most g.bounds.first it.0.position,
+        numbers_at_least g.bounds.last it.0.position,
+        numbers_equal (flag g.started) 1,
+        is_started g.started,
+        and-true g.started,
+      )
       (ap (λ b. nat_eq m it.0.rollout && b) (sym (and_assoc (nat_le g.bounds.first it.0.position) (nat_le it.0.position g.bounds.last) g.started)))
 
   any_beside : (n : ℕ) (it : ActionRecord × Tally) → list_any (is_beside next_group params (row n it)) (db.trees other) ≡ any_starts rollouts it.0
   any_beside n it =
       held_any (is_beside next_group params (row n it)) (λ v x. refl) (db.trees other) (groups_from 1 rollouts) (holds.rows Groups)
-      ∙ any_numbered group_row (λ (x : RolloutRecord). x.groups) (on_content (is_beside next_group params (row n it))) it.0.rollout (starts_at it.0.position) (beside_it n it) rollouts
+      ∙ any_numbered group_row (λ (x : RolloutRecord). x.groups) (on_content (is_beside next_group params (row n it))) it.0.rollout (starts_at it.0.position)
+      (beside_it n it) rollouts
 
   abbrev passes : Row → Bool
   passes = passes_within row (λ n x. refl) tree other next_group next_action next_columns (lit (Int (pos 1))) (lit (Int (pos 0))) params (db.trees other)
 
   abbrev show : Row → Row
-  show r = eval_all next_columns (seen row (λ n x. refl) tree other next_group next_action next_columns (lit (Int (pos 1))) (lit (Int (pos 0))) params (db.trees other) r)
+  show r = eval_all next_columns (seen row (λ n x. refl) tree other next_group next_action next_columns (lit (Int (pos 1))) (lit (Int (pos 0))) params
+      (db.trees other) r)
 
   passes_is : (n : ℕ) (it : ActionRecord × Tally) → passes (row n it) ≡ is_next rollouts id it.0
   passes_is n it =
-      rw (words_equal (actor_of rollouts it.0) id, numbers_equal (outcome_code it.0.outcome) 0, is_open it.0.outcome, counts_any next_group params (row n it) (db.trees other), any_beside n it, and-true (any_starts rollouts it.0)) refl
+      rw (
+        words_equal (actor_of rollouts it.0) id,
+        numbers_equal (outcome_code it.0.outcome) 0,
+        is_open it.0.outcome,
+        counts_any next_group params (row n it) (db.trees other),
+        any_beside n it,
+        and-true (any_starts rollouts it.0),
+      ) refl
 
-  first_next : (n : ℕ) (as' : List ActionRecord) (ts : List Tally) → length ts ≡ length as' → slice_get (map show (filter passes (rows_from row n (zip as' ts)))) 0 ≡ option_map told_offer (next_offer_from rollouts id n as')
+  first_next : (n : ℕ) (as' : List ActionRecord) (ts : List Tally) → length ts ≡ length as'
+      → slice_get (map show (filter passes (rows_from row n (zip as' ts)))) 0 ≡ option_map told_offer (next_offer_from rollouts id n as')
   first_next n [] ts same = refl
   first_next n (a ∷ as') [] same = absurd (omega (arith, same))
   first_next n (a ∷ as') (t ∷ ts) same =
-      rw (passes_is n (a, t)) (go (is_next rollouts id a) (first_next (n + 1) as' ts (omega (arith, same)) ∙ ap (λ k. option_map told_offer (next_offer_from rollouts id k as')) (let next : n + 1 ≡ suc n = omega arith in next)))
+      rw (passes_is n (a, t)) (go (is_next rollouts id a) (first_next (n + 1) as' ts (omega (arith, same))
+      ∙ ap (λ k. option_map told_offer (next_offer_from rollouts id k as')) (let next : n + 1 ≡ suc n = omega arith in next)))
     where
-      go : (b : Bool) → slice_get (map show (filter passes (rows_from row (n + 1) (zip as' ts)))) 0 ≡ option_map told_offer (next_offer_from rollouts id (suc n) as')
-          → slice_get (map show (cond b (row n (a, t) ∷ filter passes (rows_from row (n + 1) (zip as' ts))) (filter passes (rows_from row (n + 1) (zip as' ts))))) 0
+      go : (b : Bool) → slice_get (map show (filter passes (rows_from row (n + 1) (zip as' ts)))) 0
+          ≡ option_map told_offer (next_offer_from rollouts id (suc n) as')
+          → slice_get (map show (cond b (row n (a, t) ∷ filter passes (rows_from row (n + 1) (zip as' ts)))
+          (filter passes (rows_from row (n + 1) (zip as' ts))))) 0
           ≡ option_map told_offer (cond b (Some (record { action = n; canceling = a.canceling })) (next_offer_from rollouts id (suc n) as'))
       go true rest = refl
       go false rest = rest
@@ -103,8 +133,11 @@ module _ (db : Database) (l : Ledger) (holds : HoldsLedger db l) (names : List (
   first_of (r ∷ rows) = refl
 
   -- what a target is offered next
-  pub gets_next_offer : length l.tallies ≡ length l.records.actions → (found : Option Row) → ShowsFirst (Select (record { lets = []; body = next_offer_query tree other }) names) db params found → found ≡ option_map told_offer (next_offer l.records id)
+  pub gets_next_offer : length l.tallies ≡ length l.records.actions → (found : Option Row)
+      → ShowsFirst (Select (record { lets = []; body = next_offer_query tree other }) names) db params found
+      → found ≡ option_map told_offer (next_offer l.records id)
   gets_next_offer tallied found shown =
       first_row (Select (record { lets = []; body = next_offer_query tree other }) names) db params _ (λ rows shows. ap (λ (r : List Row). slice_get r 0)
-      (within_in_order row (λ n x. refl) tree other next_group next_action next_columns (lit (Int (pos 1))) (lit (Int (pos 0))) params db.trees (zip l.records.actions l.tallies) (holds.rows Actions) rows (shows.answer Null))
+      (within_in_order row (λ n x. refl) tree other next_group next_action next_columns (lit (Int (pos 1))) (lit (Int (pos 0))) params db.trees
+      (zip l.records.actions l.tallies) (holds.rows Actions) rows (shows.answer Null))
       ∙ first_of (map show (filter passes (rows_from row 1 (zip l.records.actions l.tallies)))) ∙ first_next 1 l.records.actions l.tallies tallied) found shown

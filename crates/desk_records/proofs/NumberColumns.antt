@@ -1,5 +1,8 @@
 -- What columns with a number say of it.
-use Rattle.desk_records.proofs.Common.{◌≡◌, ◌<◌, ◌≤◌, ◌^◌, ◌&&◌, [], ◌∷◌, ℕ, ℤ, pos, negsuc, Bool, true, false, cond, Option, Some, None, true≢false, refl, sym, ap, ap₂, ◌∙◌, arith, nat_eq, nat_lt, nat_le, is_eq, int_cmp, if◌then◌else◌, option_and_then, and_parts, nat_tests, ints, Value, Null, Int, Real, Text, Blob, Row, column, value_cmp, value_cmp-Int, value_cmp-Null, has_rowid, rowid, is_true, Compare, Eq, Binary, passes, number_limit, is_number, has_at, is_number_of, and-true}
+use Rattle.desk_records.proofs.Common.{◌≡◌, ◌<◌, ◌≤◌, ◌^◌, ◌&&◌, [], ◌∷◌, ℕ, ℤ, pos, negsuc, Bool, true, false, cond, Option, Some, None, true≢false, refl}
+use Rattle.desk_records.proofs.Common.{sym, ap, ap₂, ◌∙◌, arith, nat_eq, nat_lt, nat_le, is_eq, int_cmp, if◌then◌else◌, option_and_then, and_parts, nat_tests}
+use Rattle.desk_records.proofs.Common.{ints, Value, Null, Int, Real, Text, Blob, Row, column, value_cmp, value_cmp-Int, value_cmp-Null, has_rowid, rowid}
+use Rattle.desk_records.proofs.Common.{is_true, Compare, Eq, Binary, passes, number_limit, is_number, has_at, is_number_of, and-true}
 use Rattle.sqlite_sql.specs.Ops.{binary}
 use Rattle.rollout_model.specs.Rules.{number_of}
 use Rattle.desk_records.specs.ArtifactRow.{small_number}
@@ -68,11 +71,13 @@ one_number v m n e f = let same : Int (pos m) ≡ Int (pos n) = sym e ∙ f in c
 
 numbers_equal : (v : ℤ) (n : ℕ) → is_true (binary (Compare Eq Binary) (Int v) (Int (pos n))) ≡ is_number_of n (Int v)
 unfolding binary
-numbers_equal (pos m) n = let same : is_eq (int_cmp (pos m) (pos n)) ≡ nat_eq m n = grind (arith, ints, nat_tests) in rw value_cmp-Int (rw same (judged (nat_eq m n)))
+numbers_equal (pos m) n = let same : is_eq (int_cmp (pos m) (pos n)) ≡ nat_eq m n = grind (arith, ints, nat_tests) in
+    rw value_cmp-Int (rw same (judged (nat_eq m n)))
 numbers_equal (negsuc m) n = let never : is_eq (int_cmp (negsuc m) (pos n)) ≡ false = grind (arith, ints, nat_tests) in rw value_cmp-Int (rw never refl)
 
 -- of a column that is a whole number, whatever parameters follow
-pub passes_first : (row more : Row) (place n : ℕ) (v : ℤ) → column row place ≡ Int v → (passes (at_key place 0 ∷ []) (Int (pos n) ∷ more) row) ≡ has_at place n row
+pub passes_first : (row more : Row) (place n : ℕ) (v : ℤ) → column row place ≡ Int v → (passes (at_key place 0 ∷ []) (Int (pos n) ∷ more) row)
+    ≡ has_at place n row
 passes_first row more place n v is = and-true _ ∙ rw is (numbers_equal v n)
 
 -- of two such columns

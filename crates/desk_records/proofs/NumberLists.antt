@@ -1,9 +1,11 @@
 -- The numbers of a history, one more, and the last of them.
-use Rattle.desk_records.proofs.Common.{◌≡◌, ◌++◌, ℕ, suc, ◌+◌, List, [], ◌∷◌, length, slice_get, Option, Some, None, refl, sym, ap, subst, ◌∙◌, arith, append_assoc, append-nil, last_or, option_or, Reported, bearing, borne_at, numbers_from, PlacedNumber}
+use Rattle.desk_records.proofs.Common.{◌≡◌, ◌++◌, ℕ, suc, ◌+◌, List, [], ◌∷◌, length, slice_get, Option, Some, None, refl, sym, ap, subst, ◌∙◌, arith}
+use Rattle.desk_records.proofs.Common.{append_assoc, append-nil, last_or, option_or, Reported, bearing, borne_at, numbers_from, PlacedNumber}
 use Rattle.desk_records.proofs.NumberRecords.{last_joined}
 
 -- one more entry
-pub numbers_more : (sequence : ℕ) (history : List Reported) (r : Reported) → numbers_from sequence (history ++ r ∷ []) ≡ numbers_from sequence history ++ borne_at (sequence + length history) r.number
+pub numbers_more : (sequence : ℕ) (history : List Reported) (r : Reported) → numbers_from sequence (history ++ r ∷ [])
+    ≡ numbers_from sequence history ++ borne_at (sequence + length history) r.number
 numbers_more sequence [] r = let at : sequence ≡ sequence + 0 = omega arith in append-nil (borne_at sequence r.number) ∙ ap (λ n. borne_at n r.number) at
 numbers_more sequence (x ∷ history) r =
     let at : (sequence + 1) + length history ≡ sequence + suc (length history) = omega arith in
@@ -33,10 +35,13 @@ last_append (x ∷ xs) ys o = last_append xs ys (Some x)
 pub bears_last : (sequence : ℕ) (history : List Reported) → BearsLast sequence history (last_or None (numbers_from sequence history))
 bears_last sequence [] = refl
 bears_last sequence (r ∷ history) =
-    subst (BearsLast sequence (r ∷ history)) (sym (last_append (borne_at sequence r.number) (numbers_from (sequence + 1) history) None ∙ last_joined (last_or None (borne_at sequence r.number)) (numbers_from (sequence + 1) history)))
+    subst (BearsLast sequence (r ∷ history))
+    (sym (last_append (borne_at sequence r.number) (numbers_from (sequence + 1) history) None
+    ∙ last_joined (last_or None (borne_at sequence r.number)) (numbers_from (sequence + 1) history)))
     (go r.number refl (last_or None (numbers_from (sequence + 1) history)) (bears_last (sequence + 1) history))
   where
-    go : (n : Option ℕ) → r.number ≡ n → (last : Option PlacedNumber) → BearsLast (sequence + 1) history last → BearsLast sequence (r ∷ history) (option_or last (last_or None (borne_at sequence n)))
+    go : (n : Option ℕ) → r.number ≡ n → (last : Option PlacedNumber) → BearsLast (sequence + 1) history last
+        → BearsLast sequence (r ∷ history) (option_or last (last_or None (borne_at sequence n)))
     go n is (Some it) later = record {
       index = suc later.index;
       reported = later.reported;

@@ -1,5 +1,7 @@
 -- What is read of the numbers of an action, where a ledger is held.
-use Rattle.desk_records.proofs.Common.{◌≡◌, ◌≤◌, ℕ, suc, ◌+◌, pos, negsuc, true, false, List, [], ◌∷◌, ◌++◌, map, take, length, reverse, slice_get, Option, Some, None, option_map, refl, sym, ap, ◌∙◌, arith, last_or, option_or, reverse_onto, Null, Int, Row, Select, Database, lit, first_taken, rows_from, ShowsFirst, numbers_numbered, told_number, HoldsLedger, Ledger, Numbers, PlacedNumber}
+use Rattle.desk_records.proofs.Common.{◌≡◌, ◌≤◌, ℕ, suc, ◌+◌, pos, negsuc, true, false, List, [], ◌∷◌, ◌++◌, map, take, length, reverse, slice_get, Option}
+use Rattle.desk_records.proofs.Common.{Some, None, option_map, refl, sym, ap, ◌∙◌, arith, last_or, option_or, reverse_onto, Null, Int, Row, Select, Database}
+use Rattle.desk_records.proofs.Common.{lit, first_taken, rows_from, ShowsFirst, numbers_numbered, told_number, HoldsLedger, Ledger, Numbers, PlacedNumber}
 use Rattle.sqlite.specs.Effect.{Reads as Shows}
 use Rattle.desk_records.specs.FeedbackNumbers.{last_number}
 use Rattle.desk_records.specs.declared.number_row.LastNumber.{LastNumber}
@@ -23,11 +25,14 @@ first_or_last (y ∷ xs) x = refl
 
 first_turned : {X : Type 0} (xs : List X) → slice_get (reverse xs) 0 ≡ last_or None xs
 first_turned [] = refl
-first_turned (x ∷ xs) = ap (λ l. slice_get l 0) (reverse_onto xs x []) ∙ first_or_last (reverse xs) x ∙ ap (λ o. option_or o (Some x)) (first_turned xs) ∙ sym (last_joined (Some x) xs)
+first_turned (x ∷ xs) = ap (λ l. slice_get l 0) (reverse_onto xs x []) ∙ first_or_last (reverse xs) x ∙ ap (λ o. option_or o (Some x)) (first_turned xs)
+    ∙ sym (last_joined (Some x) xs)
 
-last_row : {Y : Type 0} (f : ℕ → Y → Row) (n : ℕ) (y : Y) (ys : List Y) → last_or (Some (f n y)) (rows_from f (n + 1) ys) ≡ option_map (f (n + length ys)) (last_or (Some y) ys)
+last_row : {Y : Type 0} (f : ℕ → Y → Row) (n : ℕ) (y : Y) (ys : List Y) → last_or (Some (f n y)) (rows_from f (n + 1) ys)
+    ≡ option_map (f (n + length ys)) (last_or (Some y) ys)
 last_row f n y [] = let at : n ≡ n + 0 = omega arith in ap (λ m. Some (f m y)) at
-last_row f n y (z ∷ ys) = let at : (n + 1) + length ys ≡ n + suc (length ys) = omega arith in last_row f (n + 1) z ys ∙ ap (λ m. option_map (f m) (last_or (Some z) ys)) at
+last_row f n y (z ∷ ys) = let at : (n + 1) + length ys ≡ n + suc (length ys) = omega arith in last_row f (n + 1) z ys
+    ∙ ap (λ m. option_map (f m) (last_or (Some z) ys)) at
 
 -- ---- what is shown
 
@@ -47,21 +52,27 @@ last_told its = first_taken _ ∙ first_turned (rows_from told_at 1 its) ∙ go 
 
     go : (l : List PlacedNumber) → last_or None (rows_from told_at 1 l) ≡ option_map told_last (last_number l)
     go [] = refl
-    go (it ∷ more) = let at : 1 + length more ≡ suc (length more) = omega arith in last_row told_at 1 it more ∙ ap (λ n. option_map (told_at n) (last_or (Some it) more)) at ∙ told (suc (length more)) (last_or (Some it) more)
+    go (it ∷ more) = let at : 1 + length more ≡ suc (length more) = omega arith in last_row told_at 1 it more
+        ∙ ap (λ n. option_map (told_at n) (last_or (Some it) more)) at ∙ told (suc (length more)) (last_or (Some it) more)
 
 module _ (db : Database) (l : Ledger) (holds : HoldsLedger db l) (names : List (List ℕ)) where
   abbrev tree : ℕ
   tree = (holds.spot Numbers).tree
 
   -- in the order of their places
-  pub lists_numbers : (number : ℕ) → 1 ≤ number → (rows : List Row) → Shows (Select (record { lets = []; body = list_numbers_query tree }) names) db (Int (pos number) ∷ []) rows → rows ≡ map told_number (numbers_numbered l.numbers number)
+  pub lists_numbers : (number : ℕ) → 1 ≤ number → (rows : List Row) → Shows (Select (record { lets = []; body = list_numbers_query tree }) names) db
+      (Int (pos number) ∷ []) rows → rows ≡ map told_number (numbers_numbered l.numbers number)
   lists_numbers number least rows shows =
-      reads_listed told_number tree number_columns (lit (Int (negsuc 0))) (lit (Int (pos 0))) number false least (λ id x. refl) (λ place. told_number) (λ place it. refl) db.trees l.numbers (holds.rows Numbers) rows (shows.answer Null)
+      reads_listed told_number tree number_columns (lit (Int (negsuc 0))) (lit (Int (pos 0))) number false least (λ id x. refl) (λ place. told_number)
+      (λ place it. refl) db.trees l.numbers (holds.rows Numbers) rows (shows.answer Null)
       ∙ unplaced told_number 1 (numbers_numbered l.numbers number)
 
   -- the last one
-  pub lasts_number : (number : ℕ) → 1 ≤ number → (row : Option Row) → ShowsFirst (Select (record { lets = []; body = last_number_query tree }) names) db (Int (pos number) ∷ []) row → row ≡ option_map told_last (last_number (numbers_numbered l.numbers number))
+  pub lasts_number : (number : ℕ) → 1 ≤ number → (row : Option Row) → ShowsFirst (Select (record { lets = []; body = last_number_query tree }) names) db
+      (Int (pos number) ∷ []) row → row ≡ option_map told_last (last_number (numbers_numbered l.numbers number))
   lasts_number number least row shown =
-      first_row (Select (record { lets = []; body = last_number_query tree }) names) db (Int (pos number) ∷ []) _ (λ rows shows. ap (λ (r : List Row). slice_get r 0)
-      (reads_listed told_number tree last_number_columns (lit (Int (pos 1))) (lit (Int (pos 0))) number true least (λ id x. refl) told_at (λ place it. refl) db.trees l.numbers (holds.rows Numbers) rows (shows.answer Null))
+      first_row (Select (record { lets = []; body = last_number_query tree }) names) db (Int (pos number) ∷ []) _
+      (λ rows shows. ap (λ (r : List Row). slice_get r 0)
+      (reads_listed told_number tree last_number_columns (lit (Int (pos 1))) (lit (Int (pos 0))) number true least (λ id x. refl) told_at (λ place it. refl)
+      db.trees l.numbers (holds.rows Numbers) rows (shows.answer Null))
       ∙ last_told (numbers_numbered l.numbers number)) row shown

@@ -1,5 +1,11 @@
 -- What the usual reads of a table show whose k-th row has number k: one that passes a test, the last number, one by its number.
-use Rattle.desk_records.proofs.Common.{◌≡◌, ◌≤◌, ◌==◌, ◌||◌, ◌&&◌, ℕ, zero, suc, ◌+◌, pos, List, [], ◌∷◌, map, filter, take, drop, length, slice_get, Bool, true, not, Option, Some, None, option_map, refl, sym, ap, ap₂, subst, ◌∙◌, arith, IsPermutation, list_any, is_some, option_to_list, nat_tests, length-map, take-map, drop-map, length_permutation, Null, Int, Row, column, value_cmp, rowid, Term, col, Trees, IsAnswer, overlay, Command, Select, Database, one_permutation, all_of, filter_all, none_counted, rows_from, ShowsFirst, simple, passes, shown_of, simple_rows, number_query, numbered_in_order, has_number, filter_numbered, at_number, row_of, last_query, last_number, last_of, item_numbered, is_eq, Binary, Compare, Eq, is_true, IsLastRow, and-true, not-not}
+use Rattle.desk_records.proofs.Common.{◌≡◌, ◌≤◌, ◌==◌, ◌||◌, ◌&&◌, ℕ, zero, suc, ◌+◌, pos, List, [], ◌∷◌, map, filter, take, drop, length, slice_get, Bool}
+use Rattle.desk_records.proofs.Common.{true, not, Option, Some, None, option_map, refl, sym, ap, ap₂, subst, ◌∙◌, arith, IsPermutation, list_any, is_some}
+use Rattle.desk_records.proofs.Common.{option_to_list, nat_tests, length-map, take-map, drop-map, length_permutation, Null, Int, Row, column, value_cmp, rowid}
+use Rattle.desk_records.proofs.Common.{Term, col, Trees, IsAnswer, overlay, Command, Select, Database, one_permutation, all_of, filter_all, none_counted}
+use Rattle.desk_records.proofs.Common.{rows_from, ShowsFirst, simple, passes, shown_of, simple_rows, number_query, numbered_in_order, has_number}
+use Rattle.desk_records.proofs.Common.{filter_numbered, at_number, row_of, last_query, last_number, last_of, item_numbered, is_eq, Binary, Compare, Eq}
+use Rattle.desk_records.proofs.Common.{is_true, IsLastRow, and-true, not-not}
 use Rattle.sqlite.specs.Effect.{Reads as Shows}
 use Rattle.sqlite_sql.specs.Ops.{binary}
 use Rattle.desk_records.proofs.Comparisons.{judged}
@@ -20,11 +26,13 @@ module _ {X : Type 0} (g : Row → Row) (f : X → Row) where
   none_found None alike = refl
   none_found (Some x) alike = absurd (omega (arith, length_permutation _ _ alike))
 
-  one_found : (found : Option X) (row : Row) (tail : List Row) → IsPermutation (map g (option_to_list (option_map f found))) (row ∷ tail) → Some row ≡ option_map (λ x. g (f x)) found
+  one_found : (found : Option X) (row : Row) (tail : List Row) → IsPermutation (map g (option_to_list (option_map f found))) (row ∷ tail) → Some row
+      ≡ option_map (λ x. g (f x)) found
   one_found None row tail alike = absurd (omega (arith, length_permutation _ _ alike))
   one_found (Some x) row tail alike = let all : row ∷ tail ≡ g (f x) ∷ [] = one_permutation (g (f x)) _ alike in let it : row ≡ g (f x) = cc in ap Some it
 
-  pub first_found : (command : Command) (db : Database) (params : Row) (found : Option X) → ((rows : List Row) → Shows command db params rows → IsPermutation (map g (option_to_list (option_map f found))) rows)
+  pub first_found : (command : Command) (db : Database) (params : Row) (found : Option X)
+      → ((rows : List Row) → Shows command db params rows → IsPermutation (map g (option_to_list (option_map f found))) rows)
       → (row : Option Row) → ShowsFirst command db params row → row ≡ option_map (λ x. g (f x)) found
   first_found command db params found alike None shown = none_found found (alike [] shown)
   first_found command db params found alike (Some row) shown = one_found found row shown.0 (alike (row ∷ shown.0) shown.1)
@@ -39,20 +47,24 @@ module _ {X : Type 0} (f : ℕ → X → Row) where
   module _ (tree : ℕ) (db : Database) (xs : List X) (has : db.trees tree ≡ rows_from f 1 xs) (names : List (List ℕ)) where
     -- SELECT .. WHERE: there is a row where some x passes
     module _ (test shows : List Term) (params : Row) (q : X → Bool) (same : (n : ℕ) (x : X) → passes test params (f n x) ≡ q x) where
-      searched : (rows : List Row) → Shows (Select (record { lets = []; body = simple tree test shows }) names) db params rows → not (length rows == 0) ≡ list_any q xs
+      searched : (rows : List Row) → Shows (Select (record { lets = []; body = simple tree test shows }) names) db params rows → not (length rows == 0)
+          ≡ list_any q xs
       searched rows shown =
           let p = passes test params in
           let alike = simple_rows tree test shows params db.trees rows (shown.answer Null) in
-          let count : length rows ≡ length (filter p (db.trees tree)) = length_permutation _ rows alike ∙ length-map (filter p (db.trees tree)) (shown_of shows params) in
+          let count : length rows ≡ length (filter p (db.trees tree)) = length_permutation _ rows alike
+          ∙ length-map (filter p (db.trees tree)) (shown_of shows params) in
           rw count (some_pass p (db.trees tree)) ∙ ap (list_any p) has ∙ any_row p q same 1 xs
 
-      pub finds : (row : Option Row) → ShowsFirst (Select (record { lets = []; body = simple tree test shows }) names) db params row → is_some row ≡ list_any q xs
+      pub finds : (row : Option Row) → ShowsFirst (Select (record { lets = []; body = simple tree test shows }) names) db params row → is_some row
+          ≡ list_any q xs
       finds None shown = searched [] shown
       finds (Some row) shown = sym (some_row row shown.0) ∙ searched (row ∷ shown.0) shown.1
 
     module _ (ids : (n : ℕ) (x : X) → rowid (f n x) ≡ Int (pos n)) where
       -- SELECT number .. ORDER BY number DESC LIMIT 1
-      last_rows : (rows : List Row) → Shows (Select (record { lets = []; body = last_query f ids tree }) names) db [] rows → rows ≡ last_of f ids tree (length xs)
+      last_rows : (rows : List Row) → Shows (Select (record { lets = []; body = last_query f ids tree }) names) db [] rows
+          → rows ≡ last_of f ids tree (length xs)
       last_rows rows shown = last_number f ids tree [] db.trees xs has rows (shown.answer Null)
 
       no_last : (n : ℕ) → [] ≡ last_of f ids tree n → n ≡ 0
@@ -79,7 +91,8 @@ module _ {X : Type 0} (f : ℕ → X → Row) where
             let alike = simple_rows tree test shows params db.trees rows (shown.answer Null) in
             let next : 1 + k ≡ suc k = omega arith in
             let found : filter (passes test params) (db.trees tree) ≡ row_of f ids (suc k) (slice_get xs k) =
-            ap (filter (passes test params)) has ∙ filter_numbered f ids (passes test params) (suc k) 1 xs (λ n x. same (suc k) n x) ∙ ap (λ n. filter (has_number f ids n) (rows_from f 1 xs)) (sym next)
+            ap (filter (passes test params)) has ∙ filter_numbered f ids (passes test params) (suc k) 1 xs (λ n x. same (suc k) n x)
+            ∙ ap (λ n. filter (has_number f ids n) (rows_from f 1 xs)) (sym next)
             ∙ at_number f ids 1 k xs ∙ ap (λ n. row_of f ids n (slice_get xs k)) next in
             subst (λ l. IsPermutation (map (shown_of shows params) l) rows) found alike
 
@@ -88,19 +101,25 @@ module _ {X : Type 0} (f : ℕ → X → Row) where
         shown_at number x = shown_of shows (Int (pos number) ∷ []) (f number x)
 
         -- the record of this number
-        pub gets : (number : ℕ) → 1 ≤ number → (row : Option Row) → ShowsFirst (Select (record { lets = []; body = simple tree test shows }) names) db (Int (pos number) ∷ []) row → row ≡ option_map (shown_at number) (item_numbered xs number)
+        pub gets : (number : ℕ) → 1 ≤ number → (row : Option Row) → ShowsFirst (Select (record { lets = []; body = simple tree test shows }) names) db
+            (Int (pos number) ∷ []) row → row ≡ option_map (shown_at number) (item_numbered xs number)
         gets zero least row shown = absurd (omega (arith, least))
-        gets (suc k) least row shown = first_found (shown_of shows (Int (pos (suc k)) ∷ [])) (f (suc k)) (Select (record { lets = []; body = simple tree test shows }) names) db (Int (pos (suc k)) ∷ []) (slice_get xs k) (numbered_rows k) row shown
+        gets (suc k) least row shown = first_found (shown_of shows (Int (pos (suc k)) ∷ [])) (f (suc k))
+            (Select (record { lets = []; body = simple tree test shows }) names) db (Int (pos (suc k)) ∷ []) (slice_get xs k) (numbered_rows k) row shown
 
 -- WHERE number = ?1
-pub passes_number : {X : Type 0} (f : ℕ → X → Row) (ids : (n : ℕ) (x : X) → rowid (f n x) ≡ Int (pos n)) (number n : ℕ) (x : X) → passes (at_key 0 0 ∷ []) (Int (pos number) ∷ []) (f n x) ≡ has_number f ids number (f n x)
+pub passes_number : {X : Type 0} (f : ℕ → X → Row) (ids : (n : ℕ) (x : X) → rowid (f n x) ≡ Int (pos n)) (number n : ℕ) (x : X)
+    → passes (at_key 0 0 ∷ []) (Int (pos number) ∷ []) (f n x) ≡ has_number f ids number (f n x)
 unfolding binary
 passes_number f ids number n x =
-    ap (λ v. is_true (binary (Compare Eq Binary) v (Int (pos number))) && true) (ids n x) ∙ and-true _ ∙ judged _ ∙ sym (ap (λ v. is_eq (value_cmp v (Int (pos number)))) (ids n x))
+    ap (λ v. is_true (binary (Compare Eq Binary) v (Int (pos number))) && true) (ids n x) ∙ and-true _ ∙ judged _
+    ∙ sym (ap (λ v. is_eq (value_cmp v (Int (pos number)))) (ids n x))
 
 -- the rows of a page, in the order of their numbers
-pub pages : {X : Type 0} (f : ℕ → X → Row) (ids : (n : ℕ) (x : X) → rowid (f n x) ≡ Int (pos n)) (told : X → Row) (shows : List Term) (limit offset : ℕ) → ((n : ℕ) (x : X) → shown_of shows (Int (pos limit) ∷ Int (pos offset) ∷ []) (f n x) ≡ told x)
-    → (tree : ℕ) (db : Trees) (xs : List X) → db tree ≡ rows_from f 1 xs → (rows : List Row) → IsAnswer (number_query f ids tree [] shows (col 0 0) (col 0 1)) (overlay db []) (Int (pos limit) ∷ Int (pos offset) ∷ []) rows
+pub pages : {X : Type 0} (f : ℕ → X → Row) (ids : (n : ℕ) (x : X) → rowid (f n x) ≡ Int (pos n)) (told : X → Row) (shows : List Term) (limit offset : ℕ)
+    → ((n : ℕ) (x : X) → shown_of shows (Int (pos limit) ∷ Int (pos offset) ∷ []) (f n x) ≡ told x)
+    → (tree : ℕ) (db : Trees) (xs : List X) → db tree ≡ rows_from f 1 xs → (rows : List Row) → IsAnswer (number_query f ids tree [] shows (col 0 0) (col 0 1))
+    (overlay db []) (Int (pos limit) ∷ Int (pos offset) ∷ []) rows
     → rows ≡ map told (take limit (drop offset xs))
 pages {X = X} f ids told shows limit offset is tree db xs has rows answer =
     numbered_in_order f ids tree [] shows (col 0 0) (col 0 1) (Int (pos limit) ∷ Int (pos offset) ∷ []) db xs has rows answer

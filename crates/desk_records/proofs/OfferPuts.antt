@@ -1,5 +1,11 @@
 -- Offers that go in one after the other, as rows: each where its target has none, or else in place of one of a greater action.
-use Rattle.desk_records.proofs.Common.{◌≡◌, ◌⊎◌, inl, inr, ℕ, pos, Bool, true, false, cond, ◌&&◌, nat_lt, List, [], ◌∷◌, ◌++◌, map, filter, drop, Option, Some, None, refl, sym, ap, ap₂, ◌∙◌, subst, arith, IsPermutation, is_eq, cases_Bool, Value, Int, Null, Text, Row, value_cmp, column, Trees, rowid, put_row, without_rowid, Table, Schema, Has, cast, cast_all, cast_row, next_rowid, edit_of, with_rowid, Applies, col, Integer, is_true, Compare, Eq, Lt, Binary, IsHeldBy, IsBlind, on_content, held_added, held_seen, held_changed, next_is, found_id, none_passes, is_among, only_one, one_written, written, cast_int, cast_null, passes, shown_of, simple_rows, PutsEach, same_bytes, Bytes, TargetOffer, offer_to, same_true, Offer, OffersById, lesser, put_offer, put_offers, flag, offer_table, HoldsOffers, offer_row, and-true, short}
+use Rattle.desk_records.proofs.Common.{◌≡◌, ◌⊎◌, inl, inr, ℕ, pos, Bool, true, false, cond, ◌&&◌, nat_lt, List, [], ◌∷◌, ◌++◌, map, filter, drop, Option, Some}
+use Rattle.desk_records.proofs.Common.{None, refl, sym, ap, ap₂, ◌∙◌, subst, arith, IsPermutation, is_eq, cases_Bool, Value, Int, Null, Text, Row, value_cmp}
+use Rattle.desk_records.proofs.Common.{column, Trees, rowid, put_row, without_rowid, Table, Schema, Has, cast, cast_all, cast_row, next_rowid, edit_of}
+use Rattle.desk_records.proofs.Common.{with_rowid, Applies, col, Integer, is_true, Compare, Eq, Lt, Binary, IsHeldBy, IsBlind, on_content, held_added}
+use Rattle.desk_records.proofs.Common.{held_seen, held_changed, next_is, found_id, none_passes, is_among, only_one, one_written, written, cast_int, cast_null}
+use Rattle.desk_records.proofs.Common.{passes, shown_of, simple_rows, PutsEach, same_bytes, Bytes, TargetOffer, offer_to, same_true, Offer, OffersById, lesser}
+use Rattle.desk_records.proofs.Common.{put_offer, put_offers, flag, offer_table, HoldsOffers, offer_row, and-true, short}
 use Rattle.sqlite_schema.specs.declared.program.Program.{Program}
 use Rattle.sqlite_schema.specs.declared.schema.Keys.TheVariants.{Enforced}
 use Rattle.sqlite_rules.specs.Keys.{conflicts, AreConflicts}
@@ -32,7 +38,8 @@ filter_both a b [] = refl
 filter_both a b (r ∷ rows) = go (a r) (b r) refl (filter_both a b rows)
   where
     go : (x y : Bool) → a r ≡ x → filter (λ s. a s && (b s && true)) rows ≡ filter a (filter b rows)
-        → cond (x && (y && true)) (r ∷ filter (λ s. a s && (b s && true)) rows) (filter (λ s. a s && (b s && true)) rows) ≡ filter a (cond y (r ∷ filter b rows) (filter b rows))
+        → cond (x && (y && true)) (r ∷ filter (λ s. a s && (b s && true)) rows) (filter (λ s. a s && (b s && true)) rows)
+        ≡ filter a (cond y (r ∷ filter b rows) (filter b rows))
     go true true e ih = rw e (ap (λ l. r ∷ l) ih)
     go true false e ih = ih
     go false true e ih = rw e ih
@@ -49,7 +56,8 @@ module _ (id : Bytes) where
 
   -- no row has the id, or one has, which is that of its offer
   abbrev Finds : List Row → OffersById → Type 0
-  Finds rows offers = ((filter p rows ≡ []) × (offers id ≡ None)) ⊎ ((found : Row) × (y : Offer) × (filter p rows ≡ found ∷ []) × (offers id ≡ Some y) × (drop 1 found ≡ offer_row (record { target = id; offer = y })))
+  Finds rows offers = ((filter p rows ≡ []) × (offers id ≡ None))
+      ⊎ ((found : Row) × (y : Offer) × (filter p rows ≡ found ∷ []) × (offers id ≡ Some y) × (drop 1 found ≡ offer_row (record { target = id; offer = y })))
 
   finds : (rows : List Row) (offers : OffersById) (h : HoldsOffers rows offers) → Finds rows offers
   finds rows offers h = go (offers id) refl
@@ -63,17 +71,24 @@ module _ (id : Bytes) where
       go : (o : Option Offer) → offers id ≡ o → Finds rows offers
       go None e =
           let none : filter (on_content p) (map offer_row h.listed) ≡ [] = its ∙ ap (λ o. map offer_row (offer_to id o)) e in
-          inl (map_none (drop 1) _ (short [] _ (subst (λ l. IsPermutation (map (on_content (drop 1)) l) (map (drop 1) (filter p rows))) none seen) (omega arith)), e)
+          inl (
+            map_none (drop 1) _ (short [] _ (subst (λ l. IsPermutation (map (on_content (drop 1)) l) (map (drop 1) (filter p rows))) none seen)
+                (omega arith)),
+            e,
+          )
       go (Some y) e =
           let c : Row = offer_row (record { target = id; offer = y }) in
           let one : filter (on_content p) (map offer_row h.listed) ≡ c ∷ [] = its ∙ ap (λ o. map offer_row (offer_to id o)) e in
-          let it : (r : Row) × (filter p rows ≡ r ∷ []) × (drop 1 r ≡ c) = map_one (drop 1) _ c (short (c ∷ []) _ (subst (λ l. IsPermutation (map (on_content (drop 1)) l) (map (drop 1) (filter p rows))) one seen) (omega arith)) in
+          let it : (r : Row) × (filter p rows ≡ r ∷ []) × (drop 1 r ≡ c) =
+          map_one (drop 1) _ c (short (c ∷ []) _ (subst (λ l. IsPermutation (map (on_content (drop 1)) l) (map (drop 1) (filter p rows))) one seen)
+          (omega arith)) in
           inr (it.0, y, it.1, e, it.2)
 
 -- ---- the offer of an id
 
 -- it goes in
-put_is : (new : TargetOffer) (offers : OffersById) (o : Option Offer) → offers new.target ≡ o → lesser o (Some new.offer) ≡ Some new.offer → (t : Bytes) → cond (same_bytes new.target t) (Some new.offer) (offers t) ≡ put_offer offers new t
+put_is : (new : TargetOffer) (offers : OffersById) (o : Option Offer) → offers new.target ≡ o → lesser o (Some new.offer) ≡ Some new.offer → (t : Bytes)
+    → cond (same_bytes new.target t) (Some new.offer) (offers t) ≡ put_offer offers new t
 put_is new offers o there less t = go (same_bytes new.target t) refl
   where
     go : (b : Bool) → same_bytes new.target t ≡ b → cond b (Some new.offer) (offers t) ≡ cond b (lesser (offers t) (Some new.offer)) (offers t)
@@ -81,7 +96,8 @@ put_is new offers o there less t = go (same_bytes new.target t) refl
     go true e = sym (ap (λ x. lesser x (Some new.offer)) (ap offers (sym (same_true new.target t e)) ∙ there) ∙ less)
 
 -- it doesn't
-kept_is : (new : TargetOffer) (offers : OffersById) (y : Offer) → offers new.target ≡ Some y → nat_lt new.offer.action y.action ≡ false → (t : Bytes) → put_offer offers new t ≡ offers t
+kept_is : (new : TargetOffer) (offers : OffersById) (y : Offer) → offers new.target ≡ Some y → nat_lt new.offer.action y.action ≡ false → (t : Bytes)
+    → put_offer offers new t ≡ offers t
 kept_is new offers y there greater t = go (same_bytes new.target t) refl
   where
     go : (b : Bool) → same_bytes new.target t ≡ b → cond b (lesser (offers t) (Some new.offer)) (offers t) ≡ offers t
@@ -99,7 +115,8 @@ names_it : (n i : ℕ) → is_true (binary (Compare Eq Binary) (Int (pos i)) (In
 unfolding binary
 names_it n i = judged _
 
-module _ (schema : Schema) (tree : ℕ) (key : IsKeyOnly schema (offer_table tree) 1) (a b c : Value) (new : TargetOffer) (offers : OffersById) (db : Trees) (h : HoldsOffers (db tree) offers) where
+module _ (schema : Schema) (tree : ℕ) (key : IsKeyOnly schema (offer_table tree) 1) (a b c : Value) (new : TargetOffer) (offers : OffersById) (db : Trees)
+    (h : HoldsOffers (db tree) offers) where
   abbrev table : Table
   table = offer_table tree
 
@@ -131,7 +148,8 @@ module _ (schema : Schema) (tree : ℕ) (key : IsKeyOnly schema (offer_table tre
   meets r = key row r ∙ sym (and-true _)
 
   -- it goes in
-  added : (next : Trees) → AreConflicts target schema.indexes table rows row [] → Applies schema Enforced db (edit_of db table [] Given 0 (row ∷ [])) next → HoldsOffers (next tree) (put_offer offers new)
+  added : (next : Trees) → AreConflicts target schema.indexes table rows row [] → Applies schema Enforced db (edit_of db table [] Given 0 (row ∷ [])) next
+      → HoldsOffers (next tree) (put_offer offers new)
   added next met applies =
       let none : filter its rows ≡ [] = none_passes its rows (λ r there e. met.complete r there (meets r ∙ e)) in
       let id = next_is rows wanted h.held in
@@ -155,7 +173,8 @@ module _ (schema : Schema) (tree : ℕ) (key : IsKeyOnly schema (offer_table tre
   f x = cast_all table.columns (values_for x)
 
   -- it meets the row of its id, which becomes another where the new action is less
-  became : (next : Trees) (found : Row) (y : Offer) → filter its rows ≡ found ∷ [] → offers new.target ≡ Some y → drop 1 found ≡ offer_row (record { target = new.target; offer = y })
+  became : (next : Trees) (found : Row) (y : Offer) → filter its rows ≡ found ∷ [] → offers new.target ≡ Some y → drop 1 found
+      ≡ offer_row (record { target = new.target; offer = y })
       → (there : Row) → there ≡ rowid found ∷ [] → Resolved schema table params update there row db next → HoldsOffers (next tree) (put_offer offers new)
   became next found y one some content there at res =
       let id = found_id its 1 rows h.held.order h.held.rising found one in
@@ -166,30 +185,43 @@ module _ (schema : Schema) (tree : ℕ) (key : IsKeyOnly schema (offer_table tre
       let alone : filter named rows ≡ found ∷ [] = id.4 named (λ i x. names_it id.0 i) in
       let tested : filter (passes takes_lesser given) rows ≡ cond (less found) (found ∷ []) [] = filter_both less named rows ∙ ap (filter less) alone in
       let its_content : id.2 ≡ offer_row (record { target = new.target; offer = y }) = sym (ap (drop 1) id.3) ∙ content in
-      let lower : less found ≡ nat_lt new.offer.action y.action = ap less id.3 ∙ ap (λ x. less (Int (pos id.0) ∷ x)) its_content ∙ numbers_below new.offer.action y.action in
+      let lower : less found ≡ nat_lt new.offer.action y.action = ap less id.3 ∙ ap (λ x. less (Int (pos id.0) ∷ x)) its_content
+      ∙ numbers_below new.offer.action y.action in
       let shows = shown_of (col 1 0 ∷ col 1 0 ∷ taken_columns) given in
       let answer = simple_rows tree takes_lesser (col 1 0 ∷ col 1 0 ∷ taken_columns) given db is.0 (is.1.answer Null) in
       elim (cases_Bool (nat_lt new.offer.action y.action)) [
         | inl lt ↦
-            let rows_are : is.0 ≡ shows found ∷ [] = short (shows found ∷ []) is.0 (subst (λ l. IsPermutation (map shows l) is.0) (tested ∙ ap (λ b. cond b (found ∷ []) []) (lower ∙ lt)) answer) (omega arith) in
+            let rows_are : is.0 ≡ shows found ∷ [] =
+            short (shows found ∷ []) is.0 (subst (λ l. IsPermutation (map shows l) is.0) (tested ∙ ap (λ b. cond b (found ∷ []) []) (lower ∙ lt)) answer)
+            (omega arith) in
             let made = held_changed its (blind new.target) f rows wanted h.held found one in
             let shown_found : shows found ≡ Int (pos made.0) ∷ Int (pos made.0) ∷ values_for made.1 = ap shows made.2 in
             let all : next tree ≡ put_row (Int (pos made.0) ∷ f made.1) (without_rowid (pos made.0) rows) =
             is.2.rows ∙ ap (written table rows f) (rows_are ∙ ap (λ l. l ∷ []) shown_found) ∙ one_written table rows f made.0 (values_for made.1) in
-            let set = rows_set new.target new.offer (on_content its) f (names_offer new.target []) (λ o. settled tree (record o { offer = new.offer })) h.listed in
+            let set = rows_set new.target new.offer (on_content its) f (names_offer new.target []) (λ o. settled tree (record o { offer = new.offer }))
+            h.listed in
             let less_is : lesser (Some y) (Some new.offer) ≡ Some new.offer = ap (λ b. Some (cond b new.offer y)) lt in
             record {
               listed = map (other_offer new.target new.offer) h.listed;
-              held = subst (λ l. IsHeldBy l (map offer_row (map (other_offer new.target new.offer) h.listed))) (sym all) (subst (IsHeldBy (put_row (Int (pos made.0) ∷ f made.1) (without_rowid (pos made.0) rows))) set made.3);
-              its = λ t. its_set new.target t new.offer h.listed ∙ ap (map (other_offer new.target new.offer)) (h.its t) ∙ offers_set new.target t new.offer y offers some ∙ ap (offer_to t) (put_is new offers (Some y) some less_is t);
+              held = subst (λ l. IsHeldBy l (map offer_row (map (other_offer new.target new.offer) h.listed))) (sym all)
+                  (subst (IsHeldBy (put_row (Int (pos made.0) ∷ f made.1) (without_rowid (pos made.0) rows))) set made.3);
+              its = λ t. its_set new.target t new.offer h.listed ∙ ap (map (other_offer new.target new.offer)) (h.its t)
+                  ∙ offers_set new.target t new.offer y offers some ∙ ap (offer_to t) (put_is new offers (Some y) some less_is t);
             }
         | inr ge ↦
-            let rows_are : is.0 ≡ [] = short [] is.0 (subst (λ l. IsPermutation (map shows l) is.0) (tested ∙ ap (λ b. cond b (found ∷ []) []) (lower ∙ ge)) answer) (omega arith) in
+            let rows_are : is.0 ≡ [] =
+            short [] is.0 (subst (λ l. IsPermutation (map shows l) is.0) (tested ∙ ap (λ b. cond b (found ∷ []) []) (lower ∙ ge)) answer) (omega arith) in
             let all : next tree ≡ rows = is.2.rows ∙ ap (written table rows f) rows_are in
-            record { listed = h.listed; held = subst (λ l. IsHeldBy l wanted) (sym all) h.held; its = λ t. h.its t ∙ ap (offer_to t) (sym (kept_is new offers y some ge t)) }
+            record {
+              listed = h.listed;
+              held = subst (λ l. IsHeldBy l wanted) (sym all) h.held;
+              its = λ t. h.its t
+                  ∙ ap (offer_to t) (sym (kept_is new offers y some ge t));
+            }
       ]
 
-  resolved : (next : Trees) (there : Row) (more : List Row) → AreConflicts target schema.indexes table rows row (there ∷ more) → Resolved schema table params update there row db next → HoldsOffers (next tree) (put_offer offers new)
+  resolved : (next : Trees) (there : Row) (more : List Row) → AreConflicts target schema.indexes table rows row (there ∷ more)
+      → Resolved schema table params update there row db next → HoldsOffers (next tree) (put_offer offers new)
   resolved next there more met res =
       let it = met.sound there (inl refl) in
       by it.0 (is_among its rows it.0 it.1 (sym (meets it.0) ∙ it.2)) it.3 (finds new.target rows offers h)
@@ -200,7 +232,8 @@ module _ (schema : Schema) (tree : ℕ) (key : IsKeyOnly schema (offer_table tre
           let same : r ≡ one.0 = only_one one.0 r (subst (λ l. Has l r) one.2 here) in
           became next one.0 one.1 one.2 one.3 one.4 there (is ∙ ap (λ (x : Row). rowid x ∷ []) same) res
 
-  puts_one : (next : Trees) → Puts schema table params target update (with_rowid Chosen rows (cast_row table (Null ∷ offer_row new))) db next → HoldsOffers (next tree) (put_offer offers new)
+  puts_one : (next : Trees) → Puts schema table params target update (with_rowid Chosen rows (cast_row table (Null ∷ offer_row new))) db next
+      → HoldsOffers (next tree) (put_offer offers new)
   puts_one next puts = elim (subst (λ (r : Row). Puts schema table params target update r db next) row_is puts) [
     | inl it ↦ added next it.0 it.1
     | inr it ↦ resolved next it.0 it.1 it.2 it.3
@@ -212,8 +245,10 @@ module _ (schema : Schema) (tree : ℕ) (key : IsKeyOnly schema (offer_table tre
 abbrev pub source_of : TargetOffer → Row
 source_of o = Null ∷ offer_row o
 
-pub puts_all : (schema : Schema) (tree : ℕ) → IsKeyOnly schema (offer_table tree) 1 → (a b c : Value) (os : List TargetOffer) (offers : OffersById) (db next : Trees) → HoldsOffers (db tree) offers
-    → PutsEach schema (offer_table tree) (a ∷ b ∷ c ∷ []) (Some (1 ∷ [])) (Some (record { lets = []; body = taking_query tree })) (map source_of os) db next → HoldsOffers (next tree) (put_offers offers os)
+pub puts_all : (schema : Schema) (tree : ℕ) → IsKeyOnly schema (offer_table tree) 1
+    → (a b c : Value) (os : List TargetOffer) (offers : OffersById) (db next : Trees) → HoldsOffers (db tree) offers
+    → PutsEach schema (offer_table tree) (a ∷ b ∷ c ∷ []) (Some (1 ∷ [])) (Some (record { lets = []; body = taking_query tree })) (map source_of os) db next
+    → HoldsOffers (next tree) (put_offers offers os)
 puts_all schema tree key a b c [] offers db next h each = subst (λ (d : Trees). HoldsOffers (d tree) offers) (sym each) h
 puts_all schema tree key a b c (o ∷ os) offers db next h each =
     puts_all schema tree key a b c os (put_offer offers o) each.0 next (puts_one schema tree key a b c o offers db h each.0 each.1) each.2

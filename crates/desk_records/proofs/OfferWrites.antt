@@ -1,5 +1,9 @@
 -- The statements on offers that write, in ledgers.
-use Rattle.desk_records.proofs.Common.{◌≡◌, ℕ, pos, List, [], ◌∷◌, Bool, true, false, not, cond, map, filter, Option, Some, None, refl, sym, ap, ap₂, subst, ◌∙◌, Null, Int, Text, Row, Update, Delete, Database, State, Writes, cast_all, IsHeldBy, on_content, changed, changes_key, drops, keys_apart, cast_int, passes, shown_of, deletes, updates, same_bytes, Bytes, TargetOffer, offer_to, same_sym, same_true, Offer, HoldsLedger, Ledger, SetsOffer, with_offer, HoldsOffers, is_to, offer_row, flag, Offers, offer_table}
+use Rattle.desk_records.proofs.Common.{◌≡◌, ℕ, pos, List, [], ◌∷◌, Bool, true, false, not, cond, map, filter, Option, Some, None, refl, sym, ap, ap₂, subst}
+use Rattle.desk_records.proofs.Common.{◌∙◌, Null, Int, Text, Row, Update, Delete, Database, State, Writes, cast_all, IsHeldBy, on_content, changed}
+use Rattle.desk_records.proofs.Common.{changes_key, drops, keys_apart, cast_int, passes, shown_of, deletes, updates, same_bytes, Bytes, TargetOffer, offer_to}
+use Rattle.desk_records.proofs.Common.{same_sym, same_true, Offer, HoldsLedger, Ledger, SetsOffer, with_offer, HoldsOffers, is_to, offer_row, flag, Offers}
+use Rattle.desk_records.proofs.Common.{offer_table}
 use Rattle.desk_records.proofs.ActionMeaning.{drop_offer_query, of_controller, offer_values, set_offer_query}
 use Rattle.desk_records.proofs.ActionRecords.{names_offer, offer_keyed}
 use Rattle.desk_records.proofs.HoldsAfter.{Leaves, contents_differ, ledger_after}
@@ -9,10 +13,12 @@ use Rattle.desk_records.proofs.HoldsAfter.{Leaves, contents_differ, ledger_after
 abbrev pub new_offer : Bytes → Offer → TargetOffer
 new_offer id o = record { target = id; offer = o }
 
-pub its_more : (id t : Bytes) (o : Offer) (offers : Bytes → Option Offer) (listed : List TargetOffer) → offers id ≡ None → filter (is_to t) listed ≡ offer_to t (offers t) → filter (is_to t) (new_offer id o ∷ listed) ≡ offer_to t (cond (same_bytes id t) (Some o) (offers t))
+pub its_more : (id t : Bytes) (o : Offer) (offers : Bytes → Option Offer) (listed : List TargetOffer) → offers id ≡ None → filter (is_to t) listed
+    ≡ offer_to t (offers t) → filter (is_to t) (new_offer id o ∷ listed) ≡ offer_to t (cond (same_bytes id t) (Some o) (offers t))
 its_more id t o offers listed none its = go (same_bytes id t) refl
   where
-    go : (b : Bool) → same_bytes id t ≡ b → cond b (new_offer id o ∷ filter (is_to t) listed) (filter (is_to t) listed) ≡ offer_to t (cond b (Some o) (offers t))
+    go : (b : Bool) → same_bytes id t ≡ b → cond b (new_offer id o ∷ filter (is_to t) listed) (filter (is_to t) listed)
+        ≡ offer_to t (cond b (Some o) (offers t))
     go true e =
         let is : id ≡ t = same_true id t e in
         ap₂ (λ i l. new_offer i o ∷ l) is (its ∙ ap (λ i. offer_to t (offers i)) (sym is) ∙ ap (offer_to t) none)
@@ -21,7 +27,8 @@ its_more id t o offers listed none its = go (same_bytes id t) refl
 abbrev pub other_offer : Bytes → Offer → TargetOffer → TargetOffer
 other_offer id o it = cond (is_to id it) (record it { offer = o }) it
 
-pub its_set : (id t : Bytes) (o : Offer) (listed : List TargetOffer) → filter (is_to t) (map (other_offer id o) listed) ≡ map (other_offer id o) (filter (is_to t) listed)
+pub its_set : (id t : Bytes) (o : Offer) (listed : List TargetOffer) → filter (is_to t) (map (other_offer id o) listed)
+    ≡ map (other_offer id o) (filter (is_to t) listed)
 its_set id t o [] = refl
 its_set id t o (it ∷ listed) = rw (target (same_bytes it.target id)) (go (same_bytes it.target t) (its_set id t o listed))
   where
@@ -30,14 +37,17 @@ its_set id t o (it ∷ listed) = rw (target (same_bytes it.target id)) (go (same
     target false = refl
 
     go : (b : Bool) → filter (is_to t) (map (other_offer id o) listed) ≡ map (other_offer id o) (filter (is_to t) listed)
-        → cond b (other_offer id o it ∷ filter (is_to t) (map (other_offer id o) listed)) (filter (is_to t) (map (other_offer id o) listed)) ≡ map (other_offer id o) (cond b (it ∷ filter (is_to t) listed) (filter (is_to t) listed))
+        → cond b (other_offer id o it ∷ filter (is_to t) (map (other_offer id o) listed)) (filter (is_to t) (map (other_offer id o) listed))
+        ≡ map (other_offer id o) (cond b (it ∷ filter (is_to t) listed) (filter (is_to t) listed))
     go true rest = ap (λ l. other_offer id o it ∷ l) rest
     go false rest = rest
 
-pub offers_set : (id t : Bytes) (o was : Offer) (offers : Bytes → Option Offer) → offers id ≡ Some was → map (other_offer id o) (offer_to t (offers t)) ≡ offer_to t (cond (same_bytes id t) (Some o) (offers t))
+pub offers_set : (id t : Bytes) (o was : Offer) (offers : Bytes → Option Offer) → offers id ≡ Some was → map (other_offer id o) (offer_to t (offers t))
+    ≡ offer_to t (cond (same_bytes id t) (Some o) (offers t))
 offers_set id t o was offers there = go (same_bytes id t) refl
   where
-    each : (b : Bool) → same_bytes t id ≡ b → (found : Option Offer) → map (other_offer id o) (offer_to t found) ≡ cond b (map (λ (it : TargetOffer). record it { offer = o }) (offer_to t found)) (offer_to t found)
+    each : (b : Bool) → same_bytes t id ≡ b → (found : Option Offer) → map (other_offer id o) (offer_to t found)
+        ≡ cond b (map (λ (it : TargetOffer). record it { offer = o }) (offer_to t found)) (offer_to t found)
     each true e None = refl
     each false e None = refl
     each true e (Some w) = rw e refl
@@ -46,7 +56,8 @@ offers_set id t o was offers there = go (same_bytes id t) refl
     go : (b : Bool) → same_bytes id t ≡ b → map (other_offer id o) (offer_to t (offers t)) ≡ offer_to t (cond b (Some o) (offers t))
     go true e =
         let is : id ≡ t = same_true id t e in
-        each true (same_sym t id ∙ e) (offers t) ∙ ap (λ i. map (λ (it : TargetOffer). record it { offer = o }) (offer_to t (offers i))) (sym is) ∙ ap (λ found. map (λ (it : TargetOffer). record it { offer = o }) (offer_to t found)) there
+        each true (same_sym t id ∙ e) (offers t) ∙ ap (λ i. map (λ (it : TargetOffer). record it { offer = o }) (offer_to t (offers i))) (sym is)
+        ∙ ap (λ found. map (λ (it : TargetOffer). record it { offer = o }) (offer_to t found)) there
     go false e = each false (same_sym t id ∙ e) (offers t)
 
 abbrev not_to : Bytes → TargetOffer → Bool
@@ -55,13 +66,16 @@ not_to id it = not (is_to id it)
 its_left : (id t : Bytes) (listed : List TargetOffer) → filter (is_to t) (filter (not_to id) listed) ≡ cond (same_bytes id t) [] (filter (is_to t) listed)
 its_left id t listed = go (same_bytes id t) refl listed
   where
-    one : (b : Bool) → same_bytes id t ≡ b → (o : TargetOffer) (rest left : List TargetOffer) → filter (is_to t) left ≡ cond b [] (filter (is_to t) rest) → (s : Bool) → same_bytes o.target id ≡ s
+    one : (b : Bool) → same_bytes id t ≡ b → (o : TargetOffer) (rest left : List TargetOffer) → filter (is_to t) left ≡ cond b [] (filter (is_to t) rest)
+        → (s : Bool) → same_bytes o.target id ≡ s
         → filter (is_to t) (cond (not s) (o ∷ left) left) ≡ cond b [] (filter (is_to t) (o ∷ rest))
     one true e o rest left ih true d = ih
     one false e o rest left ih true d =
-        let apart : same_bytes o.target t ≡ false = ap (λ (i : Bytes). same_bytes i t) (same_true o.target id d) ∙ e in ih ∙ sym (ap (λ b. cond b (o ∷ filter (is_to t) rest) (filter (is_to t) rest)) apart)
+        let apart : same_bytes o.target t ≡ false = ap (λ (i : Bytes). same_bytes i t) (same_true o.target id d) ∙ e in ih
+        ∙ sym (ap (λ b. cond b (o ∷ filter (is_to t) rest) (filter (is_to t) rest)) apart)
     one true e o rest left ih false d =
-        let apart : same_bytes o.target t ≡ false = ap (same_bytes o.target) (sym (same_true id t e)) ∙ d in ap (λ b. cond b (o ∷ filter (is_to t) left) (filter (is_to t) left)) apart ∙ ih
+        let apart : same_bytes o.target t ≡ false = ap (same_bytes o.target) (sym (same_true id t e)) ∙ d in
+        ap (λ b. cond b (o ∷ filter (is_to t) left) (filter (is_to t) left)) apart ∙ ih
     one false e o rest left ih false d = ap (λ l. cond (same_bytes o.target t) (o ∷ l) l) ih
 
     go : (b : Bool) → same_bytes id t ≡ b → (xs : List TargetOffer) → filter (is_to t) (filter (not_to id) xs) ≡ cond b [] (filter (is_to t) xs)
@@ -71,16 +85,19 @@ its_left id t listed = go (same_bytes id t) refl listed
 
 -- ---- their rows
 
-rows_left : (id : Bytes) (p : Row → Bool) → ((o : TargetOffer) → p (offer_row o) ≡ is_to id o) → (listed : List TargetOffer) → filter (λ x. not (p x)) (map offer_row listed) ≡ map offer_row (filter (not_to id) listed)
+rows_left : (id : Bytes) (p : Row → Bool) → ((o : TargetOffer) → p (offer_row o) ≡ is_to id o) → (listed : List TargetOffer)
+    → filter (λ x. not (p x)) (map offer_row listed) ≡ map offer_row (filter (not_to id) listed)
 rows_left id p is [] = refl
 rows_left id p is (o ∷ listed) = rw (is o) (go (same_bytes o.target id) (rows_left id p is listed))
   where
     go : (b : Bool) → filter (λ x. not (p x)) (map offer_row listed) ≡ map offer_row (filter (not_to id) listed)
-        → cond (not b) (offer_row o ∷ filter (λ x. not (p x)) (map offer_row listed)) (filter (λ x. not (p x)) (map offer_row listed)) ≡ map offer_row (cond (not b) (o ∷ filter (not_to id) listed) (filter (not_to id) listed))
+        → cond (not b) (offer_row o ∷ filter (λ x. not (p x)) (map offer_row listed)) (filter (λ x. not (p x)) (map offer_row listed))
+        ≡ map offer_row (cond (not b) (o ∷ filter (not_to id) listed) (filter (not_to id) listed))
     go true ih = ih
     go false ih = ap (λ l. offer_row o ∷ l) ih
 
-pub rows_set : (id : Bytes) (o : Offer) (p : Row → Bool) (g : Row → Row) → ((it : TargetOffer) → p (offer_row it) ≡ is_to id it) → ((it : TargetOffer) → g (offer_row it) ≡ offer_row (record it { offer = o })) → (listed : List TargetOffer)
+pub rows_set : (id : Bytes) (o : Offer) (p : Row → Bool) (g : Row → Row) → ((it : TargetOffer) → p (offer_row it) ≡ is_to id it)
+    → ((it : TargetOffer) → g (offer_row it) ≡ offer_row (record it { offer = o })) → (listed : List TargetOffer)
     → changed p g (map offer_row listed) ≡ map offer_row (map (other_offer id o) listed)
 rows_set id o p g is becomes [] = refl
 rows_set id o p g is becomes (it ∷ listed) = ap₂ ◌∷◌ (rw (is it) (go (same_bytes it.target id))) (rows_set id o p g is becomes listed)
@@ -92,45 +109,59 @@ rows_set id o p g is becomes (it ∷ listed) = ap₂ ◌∷◌ (rw (is it) (go (
 -- ---- the statements
 
 -- the rows of offers change, and nothing else
-pub offers_after : (l : Ledger) (offers : Bytes → Option Offer) (old new : Database) (holds : HoldsLedger old l) → Leaves old new (holds.spot Offers).tree → HoldsOffers (new.trees (holds.spot Offers).tree) offers
+pub offers_after : (l : Ledger) (offers : Bytes → Option Offer) (old new : Database) (holds : HoldsLedger old l) → Leaves old new (holds.spot Offers).tree
+    → HoldsOffers (new.trees (holds.spot Offers).tree) offers
     → HoldsLedger new (record l { offers = offers })
-offers_after l offers old new holds left held = ledger_after Offers l (record l { offers = offers }) old new holds left held (contents_differ Offers l (record l { offers = offers }) (Offers ∷ []) refl ((λ apart. absurd (apart refl)), tt)) holds.sorted
+offers_after l offers old new holds left held = ledger_after Offers l (record l { offers = offers }) old new holds left held
+    (contents_differ Offers l (record l { offers = offers }) (Offers ∷ []) refl ((λ apart. absurd (apart refl)), tt)) holds.sorted
 
 abbrev pub offered_params : Bytes → Offer → Row
 offered_params id o = Text id ∷ Int (pos o.action) ∷ Int (pos (flag o.canceling)) ∷ []
 
-pub sets_offer : (id : Bytes) (o : Offer) (old new : State) (text : List ℕ) (count : ℕ) (l next : Ledger) (holds : HoldsLedger old.now l) → SetsOffer id o l next
-    → (w : Writes old new None (Update (holds.spot Offers).at (record { lets = []; body = set_offer_query (holds.spot Offers).tree })) text (offered_params id o) count) → HoldsLedger new.now next
+pub sets_offer : (id : Bytes) (o : Offer) (old new : State) (text : List ℕ) (count : ℕ) (l next : Ledger) (holds : HoldsLedger old.now l)
+    → SetsOffer id o l next
+    → (w : Writes old new None (Update (holds.spot Offers).at (record { lets = []; body = set_offer_query (holds.spot Offers).tree })) text
+    (offered_params id o) count) → HoldsLedger new.now next
 sets_offer id o old new text count l next holds change w =
     let spot = holds.spot Offers in
     let had = holds.rows Offers in
     let table = offer_table spot.tree in
     let params = offered_params id o in
-    let made = updates old.now.schema spot.at table (record { lets = []; body = set_offer_query spot.tree }) (holds.stands Offers).got (holds.stands Offers).keyless old new refl text params count w in
-    let set = changes_key old.now.schema table (1 ∷ []) of_controller params (λ i x. refl) (0 ∷ []) (offer_keyed params) offer_values (λ i x. refl) old.now new.now (map offer_row had.listed)
+    let made = updates old.now.schema spot.at table (record { lets = []; body = set_offer_query spot.tree }) (holds.stands Offers).got
+    (holds.stands Offers).keyless old new refl text params count w in
+    let set = changes_key old.now.schema table (1 ∷ []) of_controller params (λ i x. refl) (0 ∷ []) (offer_keyed params) offer_values (λ i x. refl) old.now
+    new.now (map offer_row had.listed)
     (keys_apart old.now.schema old.now.trees spot.at table 0 (1 ∷ []) holds.sound (holds.stands Offers).got refl refl) had.held made in
-    let is = rows_set id o (on_content (passes of_controller params)) (λ x. cast_all table.columns (on_content (shown_of offer_values params) x)) (names_offer id (Int (pos o.action) ∷ Int (pos (flag o.canceling)) ∷ []))
+    let is = rows_set id o (on_content (passes of_controller params)) (λ x. cast_all table.columns (on_content (shown_of offer_values params) x))
+    (names_offer id (Int (pos o.action) ∷ Int (pos (flag o.canceling)) ∷ []))
     (λ it. rw (cast_int o.action, cast_int (flag o.canceling)) refl) had.listed in
-    subst (HoldsLedger new.now) (sym change.next_is) (offers_after l (with_offer l id (Some o)).offers old.now new.now holds (record { schema = made.schema_is; sound = w.sound; others = made.applies.tables }) (record {
+    subst (HoldsLedger new.now) (sym change.next_is)
+    (offers_after l (with_offer l id (Some o)).offers old.now new.now holds
+    (record { schema = made.schema_is; sound = w.sound; others = made.applies.tables }) (record {
       listed = map (other_offer id o) had.listed;
       held = subst (IsHeldBy (new.now.trees spot.tree)) is set;
       its = λ t. its_set id t o had.listed ∙ ap (map (other_offer id o)) (had.its t) ∙ offers_set id t o change.was l.offers change.is_there;
     }))
 
 pub drops_offer : (id : Bytes) (old new : State) (text : List ℕ) (count : ℕ) (l : Ledger) (holds : HoldsLedger old.now l)
-    → (w : Writes old new None (Delete (holds.spot Offers).at (record { lets = []; body = drop_offer_query (holds.spot Offers).tree })) text (Text id ∷ []) count) → HoldsLedger new.now (with_offer l id None)
+    → (w : Writes old new None (Delete (holds.spot Offers).at (record { lets = []; body = drop_offer_query (holds.spot Offers).tree })) text (Text id ∷ [])
+    count) → HoldsLedger new.now (with_offer l id None)
 drops_offer id old new text count l holds w =
     let spot = holds.spot Offers in
     let had = holds.rows Offers in
     let table = offer_table spot.tree in
-    let made = deletes old.now.schema spot.at table (record { lets = []; body = drop_offer_query spot.tree }) (holds.stands Offers).got (holds.stands Offers).keyless old new refl text (Text id ∷ []) count w in
+    let made = deletes old.now.schema spot.at table (record { lets = []; body = drop_offer_query spot.tree }) (holds.stands Offers).got
+    (holds.stands Offers).keyless old new refl text (Text id ∷ []) count w in
     let left = drops old.now.schema table (1 ∷ []) of_controller (Text id ∷ []) (λ i x. refl) old.now new.now (map offer_row had.listed) had.held made in
-    offers_after l (with_offer l id None).offers old.now new.now holds (record { schema = made.schema_is; sound = w.sound; others = made.applies.tables }) (record {
+    offers_after l (with_offer l id None).offers old.now new.now holds (record { schema = made.schema_is; sound = w.sound; others = made.applies.tables })
+    (record {
       listed = filter (not_to id) had.listed;
-      held = subst (IsHeldBy (new.now.trees spot.tree)) (rows_left id (λ x. passes of_controller (Text id ∷ []) (Null ∷ x)) (names_offer id []) had.listed) left;
+      held = subst (IsHeldBy (new.now.trees spot.tree)) (rows_left id (λ x. passes of_controller (Text id ∷ []) (Null ∷ x)) (names_offer id []) had.listed)
+          left;
       its = λ t. its_left id t had.listed ∙ ends t (same_bytes id t) (had.its t);
     })
   where
-    ends : (t : Bytes) (b : Bool) → filter (is_to t) (holds.rows Offers).listed ≡ offer_to t (l.offers t) → cond b [] (filter (is_to t) (holds.rows Offers).listed) ≡ offer_to t (cond b None (l.offers t))
+    ends : (t : Bytes) (b : Bool) → filter (is_to t) (holds.rows Offers).listed ≡ offer_to t (l.offers t)
+        → cond b [] (filter (is_to t) (holds.rows Offers).listed) ≡ offer_to t (cond b None (l.offers t))
     ends t true e = refl
     ends t false e = e

@@ -1,5 +1,10 @@
 -- What is read of the parts of one numbered record, in the order of their places.
-use Rattle.desk_records.proofs.Common.{◌≡◌, ◌<◌, ◌≤◌, ℕ, zero, suc, ◌+◌, ◌-◌, pos, List, [], ◌∷◌, ◌++◌, map, filter, drop, slice_get, Bool, true, false, cond, reverse, refl, sym, ap, subst, ◌∙◌, arith, Less, IsPermutation, nat_eq, nat_lt, AllByRecursion, ints, nat_tests, reverse_onto, map-append, IsPermutation-reverse, IsPermutation-sym, IsPermutation-trans, Int, Row, value_cmp, value_cmp-Int, IsAscending, Binary, Term, col, Trees, Query, Output, output_cmp, page, IsAnswer, overlay, output_cmp_total, sorted_unique, map-map, rows_from, IsHeldBy, IsBlind, on_content, held_seen, simple, by, passes, shown_of, shown_in, ordered_rows, item_numbered, listed_parts, part_row, parts_from, parts_numbered, parts_of, and-true}
+use Rattle.desk_records.proofs.Common.{◌≡◌, ◌<◌, ◌≤◌, ℕ, zero, suc, ◌+◌, ◌-◌, pos, List, [], ◌∷◌, ◌++◌, map, filter, drop, slice_get, Bool, true, false, cond}
+use Rattle.desk_records.proofs.Common.{reverse, refl, sym, ap, subst, ◌∙◌, arith, Less, IsPermutation, nat_eq, nat_lt, AllByRecursion, ints, nat_tests}
+use Rattle.desk_records.proofs.Common.{reverse_onto, map-append, IsPermutation-reverse, IsPermutation-sym, IsPermutation-trans, Int, Row, value_cmp}
+use Rattle.desk_records.proofs.Common.{value_cmp-Int, IsAscending, Binary, Term, col, Trees, Query, Output, output_cmp, page, IsAnswer, overlay}
+use Rattle.desk_records.proofs.Common.{output_cmp_total, sorted_unique, map-map, rows_from, IsHeldBy, IsBlind, on_content, held_seen, simple, by, passes}
+use Rattle.desk_records.proofs.Common.{shown_of, shown_in, ordered_rows, item_numbered, listed_parts, part_row, parts_from, parts_numbered, parts_of, and-true}
 use Rattle.std.proofs.Math.Seq.{drop-nil}
 use Rattle.sqlite_exec.proofs.ScanLemmas.{ascending-reverse}
 use Rattle.desk_records.proofs.Comparisons.{numbers_equal}
@@ -14,7 +19,8 @@ turned falling xs = cond falling (reverse xs) xs
 
 pub map_reverse : {A B : Type 0} (f : A → B) (xs : List A) → map f (reverse xs) ≡ reverse (map f xs)
 map_reverse f [] = refl
-map_reverse f (x ∷ xs) = ap (map f) (reverse_onto xs x []) ∙ map-append f (reverse xs) (x ∷ []) ∙ ap (λ l. l ++ f x ∷ []) (map_reverse f xs) ∙ sym (reverse_onto (map f xs) (f x) [])
+map_reverse f (x ∷ xs) = ap (map f) (reverse_onto xs x []) ∙ map-append f (reverse xs) (x ∷ []) ∙ ap (λ l. l ++ f x ∷ []) (map_reverse f xs)
+    ∙ sym (reverse_onto (map f xs) (f x) [])
 
 map_turned : {A B : Type 0} (f : A → B) (falling : Bool) (xs : List A) → map f (turned falling xs) ≡ turned falling (map f xs)
 map_turned f false xs = refl
@@ -35,7 +41,8 @@ module _ {X Y : Type 0} (rest : Y → Row) (parts : X → List Y) (tree : ℕ) (
   abbrev ahead : Bool → Output → Output → Type 0
   ahead falling a b = cond falling (output_cmp (place_query falling) b a) (output_cmp (place_query falling) a b) ≡ Less
 
-  turned_ascends : (falling : Bool) (os : List Output) → IsAscending (ahead falling) os → IsAscending (λ a b. output_cmp (place_query falling) a b ≡ Less) (turned falling os)
+  turned_ascends : (falling : Bool) (os : List Output) → IsAscending (ahead falling) os → IsAscending (λ a b. output_cmp (place_query falling) a b ≡ Less)
+      (turned falling os)
   turned_ascends false os rise = rise
   turned_ascends true os rise = ascending-reverse (ahead true) os rise
 
@@ -56,61 +63,79 @@ module _ {X Y : Type 0} (rest : Y → Row) (parts : X → List Y) (tree : ℕ) (
     earlier false low high y z h = rw (lower low high h) refl
     earlier true low high y z h = rw (lower low high h) refl
 
-    all_earlier : (falling : Bool) (low high : ℕ) (y : Y) (ys : List Y) → low < high → AllByRecursion (ahead falling (shown falling (row low y))) (map (shown falling) (filter passing (rows_from row high ys)))
+    all_earlier : (falling : Bool) (low high : ℕ) (y : Y) (ys : List Y) → low < high
+        → AllByRecursion (ahead falling (shown falling (row low y))) (map (shown falling) (filter passing (rows_from row high ys)))
     all_earlier falling low high y [] h = tt
     all_earlier falling low high y (z ∷ ys) h =
         let later = all_earlier falling low (high + 1) y ys (omega (arith, h)) in
-        elim (passing (row high z)) as (λ b. AllByRecursion (ahead falling (shown falling (row low y))) (map (shown falling) (cond b (row high z ∷ filter passing (rows_from row (high + 1) ys)) (filter passing (rows_from row (high + 1) ys)))))
+        elim (passing (row high z)) as (λ b. AllByRecursion (ahead falling (shown falling (row low y)))
+        (map (shown falling) (cond b (row high z ∷ filter passing (rows_from row (high + 1) ys)) (filter passing (rows_from row (high + 1) ys)))))
         [ true ↦ (earlier falling low high y z h, later) | false ↦ later ]
 
     in_order : (falling : Bool) (place : ℕ) (ys : List Y) → IsAscending (ahead falling) (map (shown falling) (filter passing (rows_from row place ys)))
     in_order falling place [] = tt
     in_order falling place (y ∷ ys) =
         let later = in_order falling (place + 1) ys in
-        elim (passing (row place y)) as (λ b. IsAscending (ahead falling) (map (shown falling) (cond b (row place y ∷ filter passing (rows_from row (place + 1) ys)) (filter passing (rows_from row (place + 1) ys)))))
+        elim (passing (row place y)) as (λ b. IsAscending (ahead falling)
+        (map (shown falling) (cond b (row place y ∷ filter passing (rows_from row (place + 1) ys)) (filter passing (rows_from row (place + 1) ys)))))
         [ true ↦ (all_earlier falling place (place + 1) y ys (omega arith), later) | false ↦ later ]
 
   -- of a test that only the parts of the record of this number pass
-  pub reads_parts : (falling : Bool) (number : ℕ) → 1 ≤ number → IsBlind (passes test params) → IsBlind (shown_in (place_query falling) params) → ((n place : ℕ) (y : Y) → nat_eq n number ≡ false → passing (part_row rest n place y) ≡ false)
-      → (db : Trees) (xs : List X) → IsHeldBy (db tree) (parts_from (part_row rest) parts 1 xs) → (rows : List Row) → IsAnswer (place_query falling) (overlay db []) params rows
-      → rows ≡ page (place_query falling) params (turned falling (map (on_content (shown_of shows params)) (filter passing (rows_from (part_row rest number) 1 (parts_of parts (item_numbered xs number))))))
+  pub reads_parts : (falling : Bool) (number : ℕ) → 1 ≤ number → IsBlind (passes test params) → IsBlind (shown_in (place_query falling) params)
+      → ((n place : ℕ) (y : Y) → nat_eq n number ≡ false → passing (part_row rest n place y) ≡ false)
+      → (db : Trees) (xs : List X) → IsHeldBy (db tree) (parts_from (part_row rest) parts 1 xs) → (rows : List Row)
+      → IsAnswer (place_query falling) (overlay db []) params rows
+      → rows ≡ page (place_query falling) params
+      (turned falling (map (on_content (shown_of shows params))
+      (filter passing (rows_from (part_row rest number) 1 (parts_of parts (item_numbered xs number))))))
   reads_parts falling zero least blind fair others db xs held rows answer = absurd (omega (arith, least))
   reads_parts falling (suc k) least blind fair others db xs held rows answer =
       let q = place_query falling in
       let kept = filter passing (rows_from (part_row rest (suc k)) 1 (parts_of parts (slice_get xs k))) in
       let it = ordered_rows tree test shows q.order limit offset params db rows answer in
       let seen = held_seen (passes test params) blind (shown_in q params) fair (db tree) (parts_from (part_row rest) parts 1 xs) held in
-      let its : filter passing (parts_from (part_row rest) parts 1 xs) ≡ kept = its_parts (part_row rest) parts passing (suc k) others (parts_of parts) refl (λ x. refl) 1 k (omega arith) xs in
-      let all : IsPermutation (map (shown falling) kept) it.ordered = subst (λ l. IsPermutation (map (shown falling) l) it.ordered) its (IsPermutation-trans _ _ _ seen it.same) in
+      let its : filter passing (parts_from (part_row rest) parts 1 xs) ≡ kept = its_parts (part_row rest) parts passing (suc k) others (parts_of parts) refl
+      (λ x. refl) 1 k (omega arith) xs in
+      let all : IsPermutation (map (shown falling) kept) it.ordered = subst (λ l. IsPermutation (map (shown falling) l) it.ordered) its
+      (IsPermutation-trans _ _ _ seen it.same) in
       let rise = turned_ascends falling _ (in_order (suc k) falling 1 (parts_of parts (slice_get xs k))) in
-      it.is ∙ ap (λ l. page q params (map (λ (o : Output). o.1) l)) (sorted_unique (output_cmp q) (output_cmp_total q) _ it.ordered rise (turned_same falling _ it.ordered all) it.sorted)
-      ∙ ap (page q params) (map_turned (λ (o : Output). o.1) falling (map (shown falling) kept) ∙ ap (turned falling) (map-map (λ (o : Output). o.1) (shown falling) kept))
+      it.is ∙ ap (λ l. page q params (map (λ (o : Output). o.1) l))
+      (sorted_unique (output_cmp q) (output_cmp_total q) _ it.ordered rise (turned_same falling _ it.ordered all) it.sorted)
+      ∙ ap (page q params) (map_turned (λ (o : Output). o.1) falling (map (shown falling) kept)
+      ∙ ap (turned falling) (map-map (λ (o : Output). o.1) (shown falling) kept))
 
 -- of all parts of the record, by a test that each of them passes
-pub all_placed : {Y : Type 0} (rest : Y → Row) (told : ℕ → Y → Row) (number : ℕ) (test shows : List Term) (params : Row) → ((place : ℕ) (y : Y) → on_content (passes test params) (part_row rest number place y) ≡ true)
+pub all_placed : {Y : Type 0} (rest : Y → Row) (told : ℕ → Y → Row) (number : ℕ) (test shows : List Term) (params : Row)
+    → ((place : ℕ) (y : Y) → on_content (passes test params) (part_row rest number place y) ≡ true)
     → ((place : ℕ) (y : Y) → on_content (shown_of shows params) (part_row rest number place y) ≡ told place y) → (place : ℕ) (ys : List Y)
     → map (on_content (shown_of shows params)) (filter (on_content (passes test params)) (rows_from (part_row rest number) place ys)) ≡ rows_from told place ys
 all_placed rest told number test shows params all is place [] = refl
-all_placed rest told number test shows params all is place (y ∷ ys) = rw (all place y, is place y) (ap (λ more. told place y ∷ more) (all_placed rest told number test shows params all is (place + 1) ys))
+all_placed rest told number test shows params all is place (y ∷ ys) =
+    rw (all place y, is place y) (ap (λ more. told place y ∷ more) (all_placed rest told number test shows params all is (place + 1) ys))
 
 -- .. where what is shown doesn't tell the place
 pub unplaced : {Y : Type 0} (told : Y → Row) (place : ℕ) (ys : List Y) → rows_from (λ n. told) place ys ≡ map told ys
 unplaced told place [] = refl
 unplaced told place (y ∷ ys) = ap (λ more. told y ∷ more) (unplaced told (place + 1) ys)
 
-pub all_shown : {Y : Type 0} (rest told : Y → Row) (number : ℕ) (test shows : List Term) (params : Row) → ((place : ℕ) (y : Y) → on_content (passes test params) (part_row rest number place y) ≡ true)
+pub all_shown : {Y : Type 0} (rest told : Y → Row) (number : ℕ) (test shows : List Term) (params : Row)
+    → ((place : ℕ) (y : Y) → on_content (passes test params) (part_row rest number place y) ≡ true)
     → ((place : ℕ) (y : Y) → on_content (shown_of shows params) (part_row rest number place y) ≡ told y) → (place : ℕ) (ys : List Y)
     → map (on_content (shown_of shows params)) (filter (on_content (passes test params)) (rows_from (part_row rest number) place ys)) ≡ map told ys
 all_shown rest told number test shows params all is place ys = all_placed rest (λ n. told) number test shows params all is place ys ∙ unplaced told place ys
 
 -- of the parts after so many, of which some are left before the first that passes
-pub later_shown : {Y : Type 0} (rest told : Y → Row) (number : ℕ) (test shows : List Term) (params : Row) (offset : ℕ) → ((place : ℕ) (y : Y) → on_content (passes test params) (part_row rest number place y) ≡ nat_lt offset place)
-    → ((place : ℕ) (y : Y) → on_content (shown_of shows params) (part_row rest number place y) ≡ told y) → (before left : ℕ) → left ≡ offset - before → (ys : List Y)
-    → map (on_content (shown_of shows params)) (filter (on_content (passes test params)) (rows_from (part_row rest number) (before + 1) ys)) ≡ map told (drop left ys)
+pub later_shown : {Y : Type 0} (rest told : Y → Row) (number : ℕ) (test shows : List Term) (params : Row) (offset : ℕ)
+    → ((place : ℕ) (y : Y) → on_content (passes test params) (part_row rest number place y) ≡ nat_lt offset place)
+    → ((place : ℕ) (y : Y) → on_content (shown_of shows params) (part_row rest number place y) ≡ told y) → (before left : ℕ) → left ≡ offset - before
+    → (ys : List Y)
+    → map (on_content (shown_of shows params)) (filter (on_content (passes test params)) (rows_from (part_row rest number) (before + 1) ys))
+    ≡ map told (drop left ys)
 later_shown rest told number test shows params offset past is before left so_many [] = sym (ap (map told) (drop-nil left))
 later_shown rest told number test shows params offset past is before zero none (y ∷ ys) =
     let kept : nat_lt offset (before + 1) ≡ true = grind (arith, nat_tests, none) in
-    rw (past (before + 1) y, kept, is (before + 1) y) (ap (λ more. told y ∷ more) (later_shown rest told number test shows params offset past is (before + 1) zero (omega (arith, none)) ys))
+    rw (past (before + 1) y, kept, is (before + 1) y)
+    (ap (λ more. told y ∷ more) (later_shown rest told number test shows params offset past is (before + 1) zero (omega (arith, none)) ys))
 later_shown rest told number test shows params offset past is before (suc left) so_many (y ∷ ys) =
     let skipped : nat_lt offset (before + 1) ≡ false = grind (arith, nat_tests, so_many) in
     rw (past (before + 1) y, skipped) (later_shown rest told number test shows params offset past is (before + 1) left (omega (arith, so_many)) ys)
@@ -128,12 +153,16 @@ module _ {Y : Type 0} (rest : Y → Row) (tree : ℕ) (shows : List Term) (limit
   abbrev asked : Bool → Query
   asked = place_query rest (λ (its : List Y). its) tree of_number shows limit offset given
 
-  pub reads_listed : (falling : Bool) → 1 ≤ number → IsBlind (shown_in (asked falling) given) → (told : ℕ → Y → Row) → ((place : ℕ) (y : Y) → on_content (shown_of shows given) (part_row rest number place y) ≡ told place y)
-      → (db : Trees) (all : List (List Y)) → IsHeldBy (db tree) (listed_parts (part_row rest) all) → (rows : List Row) → IsAnswer (asked falling) (overlay db []) given rows
+  pub reads_listed : (falling : Bool) → 1 ≤ number → IsBlind (shown_in (asked falling) given) → (told : ℕ → Y → Row)
+      → ((place : ℕ) (y : Y) → on_content (shown_of shows given) (part_row rest number place y) ≡ told place y)
+      → (db : Trees) (all : List (List Y)) → IsHeldBy (db tree) (listed_parts (part_row rest) all) → (rows : List Row)
+      → IsAnswer (asked falling) (overlay db []) given rows
       → rows ≡ page (asked falling) given (turned falling (rows_from told 1 (parts_numbered all number)))
   reads_listed falling least fair told is db all held rows answer =
-      reads_parts rest (λ (its : List Y). its) tree of_number shows limit offset given falling number least (λ id x. refl) fair (λ n place y apart. and-true _ ∙ numbers_equal n number ∙ apart) db all held rows answer
-      ∙ ap (λ l. page (asked falling) given (turned falling l)) (all_placed rest told number of_number shows given (λ place y. and-true _ ∙ numbers_equal number number ∙ own) is 1 (parts_numbered all number))
+      reads_parts rest (λ (its : List Y). its) tree of_number shows limit offset given falling number least (λ id x. refl) fair
+      (λ n place y apart. and-true _ ∙ numbers_equal n number ∙ apart) db all held rows answer
+      ∙ ap (λ l. page (asked falling) given (turned falling l))
+      (all_placed rest told number of_number shows given (λ place y. and-true _ ∙ numbers_equal number number ∙ own) is 1 (parts_numbered all number))
     where
       own : nat_eq number number ≡ true
       own = grind (arith, nat_tests)

@@ -1,5 +1,14 @@
 -- The statements on members, groups and histories that write, in ledgers.
-use Rattle.desk_records.proofs.Common.{◌≡◌, ◌∷◌, ◌++◌, ◌&&◌, ℕ, zero, suc, ◌+◌, pos, List, [], Bool, true, length, set, slice_get, string_bytes, Option, Some, None, refl, sym, ap, subst, ◌∙◌, arith, nat_eq, length-map, map-append, Int, Text, plain, Row, agree, Insert, Update, Values, Database, State, Writes, Integer, cast, cast_all, IsHeldBy, inserts, on_content, adds_row, changes_key, keys_apart, cast_int, cast_null, passes, shown_of, updates, GroupRule, Bytes, Reported, entries_in, Bounds, GroupRecord, RolloutRecord, entries_of, entry_row, PlacedNumber, number_row, number_rows, told_number, AreRowsOf, HoldsLedger, Ledger, Unordered, content_of, AddsMember, AddsGroup, AddsRule, AddsNumber, SetsGroup, AddsEntry, and_member, and_group, and_entry, counted, cut_group, with_actions, with_groups, with_numbers, with_rollouts, with_rules, listed_parts, part_row, flag, group_row, groups_from, member_row, members_from, rollout_row, rule_row, rules_from, told_group, told_rule, Place, Members, Groups, Feedbacks, Rules, Numbers, feedback_table, group_table, member_table, number_table, rule_table, are_sorted, and-true}
+use Rattle.desk_records.proofs.Common.{◌≡◌, ◌∷◌, ◌++◌, ◌&&◌, ℕ, zero, suc, ◌+◌, pos, List, [], Bool, true, length, set, slice_get, string_bytes, Option, Some}
+use Rattle.desk_records.proofs.Common.{None, refl, sym, ap, subst, ◌∙◌, arith, nat_eq, length-map, map-append, Int, Text, plain, Row, agree, Insert, Update}
+use Rattle.desk_records.proofs.Common.{Values, Database, State, Writes, Integer, cast, cast_all, IsHeldBy, inserts, on_content, adds_row, changes_key}
+use Rattle.desk_records.proofs.Common.{keys_apart, cast_int, cast_null, passes, shown_of, updates, GroupRule, Bytes, Reported, entries_in, Bounds, GroupRecord}
+use Rattle.desk_records.proofs.Common.{RolloutRecord, entries_of, entry_row, PlacedNumber, number_row, number_rows, told_number, AreRowsOf, HoldsLedger}
+use Rattle.desk_records.proofs.Common.{Ledger, Unordered, content_of, AddsMember, AddsGroup, AddsRule, AddsNumber, SetsGroup, AddsEntry, and_member, and_group}
+use Rattle.desk_records.proofs.Common.{and_entry, counted, cut_group, with_actions, with_groups, with_numbers, with_rollouts, with_rules, listed_parts}
+use Rattle.desk_records.proofs.Common.{part_row, flag, group_row, groups_from, member_row, members_from, rollout_row, rule_row, rules_from, told_group}
+use Rattle.desk_records.proofs.Common.{told_rule, Place, Members, Groups, Feedbacks, Rules, Numbers, feedback_table, group_table, member_table, number_table}
+use Rattle.desk_records.proofs.Common.{rule_table, are_sorted, and-true}
 use Rattle.sqlite_value.specs.Keys.{first_key}
 use Rattle.sqlite.specs.Values.{or_null}
 use Rattle.desk_records.specs.declared.new_entry.NewEntry.{NewEntry}
@@ -12,7 +21,8 @@ use Rattle.desk_records.proofs.RolloutMeaning.{group_terms, group_values, member
 
 -- ---- a new member
 
-pub adds_member : (number place : ℕ) (id : Bytes) (old new : State) (text : List ℕ) (count : ℕ) (l next : Ledger) (holds : HoldsLedger old.now l) → AddsMember number place id l next
+pub adds_member : (number place : ℕ) (id : Bytes) (old new : State) (text : List ℕ) (count : ℕ) (l next : Ledger) (holds : HoldsLedger old.now l)
+    → AddsMember number place id l next
     → (w : Writes old new None (Insert (holds.spot Members).at (Values member_terms 4)) text (member_row number place id) count) → HoldsLedger new.now next
 adds_member zero place id old new text count l next holds change w = absurd (let none = change.is_there in cc)
 adds_member (suc k) place id old new text count l next holds change w =
@@ -25,27 +35,35 @@ adds_member (suc k) place id old new text count l next holds change w =
     let made = inserts old.now.schema spot.at table member_terms 4 (holds.stands Members).got old new refl text given count w in
     let more = adds_row old.now.schema table (1 ∷ 2 ∷ []) given member_terms 4 given refl old.now new.now (members_from 1 xs) (holds.rows Members) made in
     let cast : cast_all table.columns given ≡ given = rw (cast_int (suc k), cast_int place) refl in
-    let held = part_held member_row (λ (z : RolloutRecord). z.members) x y id refl k place xs (new.now.trees spot.tree) change.is_there change.place_is (subst (λ r. IsHeldBy (new.now.trees spot.tree) (r ∷ members_from 1 xs)) cast more) in
-    subst (HoldsLedger new.now) (sym change.next_is) (ledger_after Members l (with_rollouts l (set xs k y)) old.now new.now holds (record { schema = made.schema_is; sound = w.sound; others = made.applies.tables }) held
+    let held = part_held member_row (λ (z : RolloutRecord). z.members) x y id refl k place xs (new.now.trees spot.tree) change.is_there change.place_is
+    (subst (λ r. IsHeldBy (new.now.trees spot.tree) (r ∷ members_from 1 xs)) cast more) in
+    subst (HoldsLedger new.now) (sym change.next_is)
+    (ledger_after Members l (with_rollouts l (set xs k y)) old.now new.now holds
+    (record { schema = made.schema_is; sound = w.sound; others = made.applies.tables }) held
     (rollouts_differ l (set xs k y) Members (λ apart. rows_stay x y rollout_row (λ n. refl) 1 k xs change.is_there) (λ apart. absurd (apart refl))
-    (λ apart. parts_stay x y group_row (λ (z : RolloutRecord). z.groups) refl 1 k xs change.is_there) (actions_of_others xs k y 1 l.records.actions l.tallies change.unacted)) holds.sorted)
+    (λ apart. parts_stay x y group_row (λ (z : RolloutRecord). z.groups) refl 1 k xs change.is_there)
+    (actions_of_others xs k y 1 l.records.actions l.tallies change.unacted)) holds.sorted)
 
 -- ---- groups
 
 -- of a change of groups alone
-groups_change : (k : ℕ) (gs : List GroupRecord) (old new : Database) (l : Ledger) (holds : HoldsLedger old l) (x : RolloutRecord) → slice_get l.records.rollouts k ≡ Some x → Leaves old new (holds.spot Groups).tree
-    → IsHeldBy (new.trees (holds.spot Groups).tree) (groups_from 1 (set l.records.rollouts k (with_groups x gs))) → HoldsLedger new (with_rollouts l (set l.records.rollouts k (with_groups x gs)))
+groups_change : (k : ℕ) (gs : List GroupRecord) (old new : Database) (l : Ledger) (holds : HoldsLedger old l) (x : RolloutRecord)
+    → slice_get l.records.rollouts k ≡ Some x → Leaves old new (holds.spot Groups).tree
+    → IsHeldBy (new.trees (holds.spot Groups).tree) (groups_from 1 (set l.records.rollouts k (with_groups x gs)))
+    → HoldsLedger new (with_rollouts l (set l.records.rollouts k (with_groups x gs)))
 groups_change k gs old new l holds x there left held =
     let xs = l.records.rollouts in
     let y = with_groups x gs in
     ledger_after Groups l (with_rollouts l (set xs k y)) old new holds left held
-    (rollouts_differ l (set xs k y) Groups (λ apart. rows_stay x y rollout_row (λ n. refl) 1 k xs there) (λ apart. parts_stay x y member_row (λ (z : RolloutRecord). z.members) refl 1 k xs there)
+    (rollouts_differ l (set xs k y) Groups (λ apart. rows_stay x y rollout_row (λ n. refl) 1 k xs there)
+    (λ apart. parts_stay x y member_row (λ (z : RolloutRecord). z.members) refl 1 k xs there)
     (λ apart. absurd (apart refl)) (actions_stay xs (set xs k y) (actors_stay x y refl k xs there) 1 _)) holds.sorted
 
 abbrev pub cut_params : ℕ → ℕ → Bounds → Row
 cut_params number group bounds = Int (pos number) ∷ Int (pos group) ∷ Int (pos bounds.first) ∷ Int (pos bounds.last) ∷ []
 
-pub adds_group : (number group : ℕ) (bounds : Bounds) (old new : State) (text : List ℕ) (count : ℕ) (l next : Ledger) (holds : HoldsLedger old.now l) → AddsGroup number group bounds l next
+pub adds_group : (number group : ℕ) (bounds : Bounds) (old new : State) (text : List ℕ) (count : ℕ) (l next : Ledger) (holds : HoldsLedger old.now l)
+    → AddsGroup number group bounds l next
     → (w : Writes old new None (Insert (holds.spot Groups).at (Values group_terms 9)) text (cut_params number group bounds) count) → HoldsLedger new.now next
 adds_group zero group bounds old new text count l next holds change w = absurd (let none = change.is_there in cc)
 adds_group (suc k) group bounds old new text count l next holds change w =
@@ -56,20 +74,27 @@ adds_group (suc k) group bounds old new text count l next holds change w =
     let g = cut_group group bounds in
     let row = group_row (suc k) group g in
     let made = inserts old.now.schema spot.at table group_terms 9 (holds.stands Groups).got old new refl text (cut_params (suc k) group bounds) count w in
-    let more = adds_row old.now.schema table (1 ∷ 2 ∷ []) (cut_params (suc k) group bounds) group_terms 9 row refl old.now new.now (groups_from 1 xs) (holds.rows Groups) made in
+    let more = adds_row old.now.schema table (1 ∷ 2 ∷ []) (cut_params (suc k) group bounds) group_terms 9 row refl old.now new.now (groups_from 1 xs)
+    (holds.rows Groups) made in
     let cast : cast_all table.columns row ≡ row = rw (cast_int (suc k), cast_int group, cast_int bounds.first, cast_int bounds.last, cast_int 0) refl in
-    let held = part_held group_row (λ (z : RolloutRecord). z.groups) x (and_group x g) g refl k group xs (new.now.trees spot.tree) change.is_there change.group_is (subst (λ r. IsHeldBy (new.now.trees spot.tree) (r ∷ groups_from 1 xs)) cast more) in
-    subst (HoldsLedger new.now) (sym change.next_is) (groups_change k (x.groups ++ g ∷ []) old.now new.now l holds x change.is_there (record { schema = made.schema_is; sound = w.sound; others = made.applies.tables }) held)
+    let held = part_held group_row (λ (z : RolloutRecord). z.groups) x (and_group x g) g refl k group xs (new.now.trees spot.tree) change.is_there
+    change.group_is (subst (λ r. IsHeldBy (new.now.trees spot.tree) (r ∷ groups_from 1 xs)) cast more) in
+    subst (HoldsLedger new.now) (sym change.next_is)
+    (groups_change k (x.groups ++ g ∷ []) old.now new.now l holds x change.is_there
+    (record { schema = made.schema_is; sound = w.sound; others = made.applies.tables }) held)
 
 abbrev pub counted_params : ℕ → ℕ → Bool → ℕ → ℕ → ℕ → Row
-counted_params number group started ok bad gone = Int (pos number) ∷ Int (pos group) ∷ Int (pos (flag started)) ∷ Int (pos ok) ∷ Int (pos bad) ∷ Int (pos gone) ∷ []
+counted_params number group started ok bad gone = Int (pos number) ∷ Int (pos group) ∷ Int (pos (flag started)) ∷ Int (pos ok) ∷ Int (pos bad) ∷ Int (pos gone)
+    ∷ []
 
 group_keyed : (given r : Row) → passes of_group given r ≡ true → agree plain (1 ∷ 2 ∷ []) r (0 ∷ 1 ∷ []) given ≡ true
 unfolding first_key
 group_keyed given r h = h
 
-pub sets_group : (number group : ℕ) (started : Bool) (ok bad gone : ℕ) (old new : State) (text : List ℕ) (count : ℕ) (l next : Ledger) (holds : HoldsLedger old.now l) → SetsGroup number group started ok bad gone l next
-    → (w : Writes old new None (Update (holds.spot Groups).at (record { lets = []; body = set_group_query (holds.spot Groups).tree })) text (counted_params number group started ok bad gone) count) → HoldsLedger new.now next
+pub sets_group : (number group : ℕ) (started : Bool) (ok bad gone : ℕ) (old new : State) (text : List ℕ) (count : ℕ) (l next : Ledger)
+    (holds : HoldsLedger old.now l) → SetsGroup number group started ok bad gone l next
+    → (w : Writes old new None (Update (holds.spot Groups).at (record { lets = []; body = set_group_query (holds.spot Groups).tree })) text
+    (counted_params number group started ok bad gone) count) → HoldsLedger new.now next
 sets_group zero group started ok bad gone old new text count l next holds change w = absurd (let none = change.is_there in cc)
 sets_group (suc k) zero started ok bad gone old new text count l next holds change w = absurd (let none = change.is_its in cc)
 sets_group (suc k) (suc j) started ok bad gone old new text count l next holds change w =
@@ -82,15 +107,22 @@ sets_group (suc k) (suc j) started ok bad gone old new text count l next holds c
     let after = counted started ok bad gone g in
     let params = counted_params (suc k) (suc j) started ok bad gone in
     let values = λ (row : Row). cast_all table.columns (on_content (shown_of group_values params) row) in
-    let made = updates old.now.schema spot.at table (record { lets = []; body = set_group_query spot.tree }) stands.got stands.keyless old new refl text params count w in
-    let changed_rows = changes_key old.now.schema table (1 ∷ 2 ∷ []) of_group params (λ i r. refl) (0 ∷ 1 ∷ []) (group_keyed params) group_values (λ i r. refl) old.now new.now (groups_from 1 xs)
+    let made = updates old.now.schema spot.at table (record { lets = []; body = set_group_query spot.tree }) stands.got stands.keyless old new refl text params
+    count w in
+    let changed_rows = changes_key old.now.schema table (1 ∷ 2 ∷ []) of_group params (λ i r. refl) (0 ∷ 1 ∷ []) (group_keyed params) group_values (λ i r. refl)
+    old.now new.now (groups_from 1 xs)
     (keys_apart old.now.schema old.now.trees spot.at table 0 (1 ∷ 2 ∷ []) holds.sound stands.got refl refl) (holds.rows Groups) made in
-    let is = part_set told_group (λ (z : RolloutRecord). z.groups) (on_content (passes of_group params)) values x (with_groups x (set x.groups j after)) (suc k) (suc j) g after named
-    (λ n m. rw (cast_int n, cast_int m, cast_int g.bounds.first, cast_int g.bounds.last, cast_int (flag started), cast_int ok, cast_int bad, cast_int gone) refl) 1 k j xs (omega arith) (omega arith) change.is_there change.is_its refl in
-    subst (HoldsLedger new.now) (sym change.next_is) (groups_change k (set x.groups j after) old.now new.now l holds x change.is_there (record { schema = made.schema_is; sound = w.sound; others = made.applies.tables })
+    let is = part_set told_group (λ (z : RolloutRecord). z.groups) (on_content (passes of_group params)) values x (with_groups x (set x.groups j after)) (suc k)
+    (suc j) g after named
+    (λ n m. rw (cast_int n, cast_int m, cast_int g.bounds.first, cast_int g.bounds.last, cast_int (flag started), cast_int ok, cast_int bad, cast_int gone)
+    refl) 1 k j xs (omega arith) (omega arith) change.is_there change.is_its refl in
+    subst (HoldsLedger new.now) (sym change.next_is)
+    (groups_change k (set x.groups j after) old.now new.now l holds x change.is_there
+    (record { schema = made.schema_is; sound = w.sound; others = made.applies.tables })
     (subst (IsHeldBy (new.now.trees spot.tree)) is changed_rows))
   where
-    named : (n m : ℕ) (z : GroupRecord) → on_content (passes of_group (counted_params (suc k) (suc j) started ok bad gone)) (group_row n m z) ≡ (nat_eq n (suc k) && nat_eq m (suc j))
+    named : (n m : ℕ) (z : GroupRecord) → on_content (passes of_group (counted_params (suc k) (suc j) started ok bad gone)) (group_row n m z)
+        ≡ (nat_eq n (suc k) && nat_eq m (suc j))
     named n m z = rw (numbers_equal n (suc k), numbers_equal m (suc j), and-true (nat_eq m (suc j))) refl
 
 -- ---- what is said of groups
@@ -100,15 +132,23 @@ cast_or_null None = cast_null
 cast_or_null (Some n) = cast_int n
 
 -- one more part of a record that is kept as the list of its parts
-module _ {Y : Type 0} (rest : Y → Row) (t : Place) (lists : Ledger → List (List Y)) (kept : (l : Ledger) → content_of l t ≡ Unordered (listed_parts (part_row rest) (lists l))) where
-  listed_more : (k place : ℕ) (its : List Y) (it : Y) (l next : Ledger) (old new : Database) (holds : HoldsLedger old l) → slice_get (lists l) k ≡ Some its → place ≡ length its + 1 → lists next ≡ set (lists l) k (its ++ it ∷ [])
-      → Leaves old new (holds.spot t).tree → IsHeldBy (new.trees (holds.spot t).tree) (part_row rest (suc k) place it ∷ listed_parts (part_row rest) (lists l)) → ChangesOnly t l next → next.records.targets ≡ l.records.targets → HoldsLedger new next
+module _ {Y : Type 0} (rest : Y → Row) (t : Place) (lists : Ledger → List (List Y))
+    (kept : (l : Ledger) → content_of l t ≡ Unordered (listed_parts (part_row rest) (lists l))) where
+  listed_more : (k place : ℕ) (its : List Y) (it : Y) (l next : Ledger) (old new : Database) (holds : HoldsLedger old l) → slice_get (lists l) k ≡ Some its
+      → place ≡ length its + 1 → lists next ≡ set (lists l) k (its ++ it ∷ [])
+      → Leaves old new (holds.spot t).tree → IsHeldBy (new.trees (holds.spot t).tree) (part_row rest (suc k) place it ∷ listed_parts (part_row rest) (lists l))
+      → ChangesOnly t l next → next.records.targets ≡ l.records.targets → HoldsLedger new next
   listed_more k place its it l next old new holds there at made left more only targets =
-      let held = part_held (part_row rest) (λ (own : List Y). own) its (its ++ it ∷ []) it refl k place (lists l) (new.trees (holds.spot t).tree) there at more in
-      let all : listed_parts (part_row rest) (set (lists l) k (its ++ it ∷ [])) ≡ listed_parts (part_row rest) (lists next) = ap (listed_parts (part_row rest)) (sym made) in
-      ledger_after t l next old new holds left (subst (λ c. AreRowsOf c (new.trees (holds.spot t).tree)) (sym (kept next)) (subst (IsHeldBy (new.trees (holds.spot t).tree)) all held)) only (ap are_sorted targets ∙ holds.sorted)
+      let held = part_held (part_row rest) (λ (own : List Y). own) its (its ++ it ∷ []) it refl k place (lists l) (new.trees (holds.spot t).tree)
+      there at more in
+      let all : listed_parts (part_row rest) (set (lists l) k (its ++ it ∷ [])) ≡ listed_parts (part_row rest) (lists next) =
+      ap (listed_parts (part_row rest)) (sym made) in
+      ledger_after t l next old new holds left
+      (subst (λ c. AreRowsOf c (new.trees (holds.spot t).tree)) (sym (kept next)) (subst (IsHeldBy (new.trees (holds.spot t).tree)) all held)) only
+      (ap are_sorted targets ∙ holds.sorted)
 
-pub adds_rule : (number group : ℕ) (rule : GroupRule) (old new : State) (text : List ℕ) (count : ℕ) (l next : Ledger) (holds : HoldsLedger old.now l) → AddsRule number group rule l next
+pub adds_rule : (number group : ℕ) (rule : GroupRule) (old new : State) (text : List ℕ) (count : ℕ) (l next : Ledger) (holds : HoldsLedger old.now l)
+    → AddsRule number group rule l next
     → (w : Writes old new None (Insert (holds.spot Rules).at (Values rule_terms 6)) text (rule_row number group rule) count) → HoldsLedger new.now next
 adds_rule zero group rule old new text count l next holds change w = absurd (let none = change.is_there in cc)
 adds_rule (suc k) group rule old new text count l next holds change w =
@@ -116,14 +156,19 @@ adds_rule (suc k) group rule old new text count l next holds change w =
     let given = rule_row (suc k) group rule in
     let made = inserts old.now.schema (holds.spot Rules).at table rule_terms 6 (holds.stands Rules).got old new refl text given count w in
     let more = adds_row old.now.schema table (1 ∷ 2 ∷ []) given rule_terms 6 given refl old.now new.now (rules_from l.rules) (holds.rows Rules) made in
-    let cast : cast_all table.columns given ≡ given = rw (cast_int (suc k), cast_int group, cast_or_null rule.percentage, cast_int rule.success, cast_int rule.error) refl in
+    let cast : cast_all table.columns given ≡ given =
+    rw (cast_int (suc k), cast_int group, cast_or_null rule.percentage, cast_int rule.success, cast_int rule.error) refl in
     let after = set l.rules k (change.its ++ rule ∷ []) in
-    subst (HoldsLedger new.now) (sym change.next_is) (listed_more told_rule Rules (λ (m : Ledger). m.rules) (λ m. refl) k group change.its rule l (with_rules l after) old.now new.now holds change.is_there change.group_is refl
-    (record { schema = made.schema_is; sound = w.sound; others = made.applies.tables }) (subst (λ r. IsHeldBy (new.now.trees table.tree) (r ∷ rules_from l.rules)) cast more) (rules_differ l after Rules (λ apart. absurd (apart refl))) refl)
+    subst (HoldsLedger new.now) (sym change.next_is)
+    (listed_more told_rule Rules (λ (m : Ledger). m.rules) (λ m. refl) k group change.its rule l (with_rules l after) old.now new.now holds change.is_there
+    change.group_is refl
+    (record { schema = made.schema_is; sound = w.sound; others = made.applies.tables })
+    (subst (λ r. IsHeldBy (new.now.trees table.tree) (r ∷ rules_from l.rules)) cast more) (rules_differ l after Rules (λ apart. absurd (apart refl))) refl)
 
 -- ---- the numbers of actions
 
-pub adds_number : (number place : ℕ) (it : PlacedNumber) (old new : State) (text : List ℕ) (count : ℕ) (l next : Ledger) (holds : HoldsLedger old.now l) → AddsNumber number place it l next
+pub adds_number : (number place : ℕ) (it : PlacedNumber) (old new : State) (text : List ℕ) (count : ℕ) (l next : Ledger) (holds : HoldsLedger old.now l)
+    → AddsNumber number place it l next
     → (w : Writes old new None (Insert (holds.spot Numbers).at (Values number_terms 5)) text (number_row number place it) count) → HoldsLedger new.now next
 adds_number zero place it old new text count l next holds change w = absurd (let none = change.is_there in cc)
 adds_number (suc k) place it old new text count l next holds change w =
@@ -133,16 +178,23 @@ adds_number (suc k) place it old new text count l next holds change w =
     let more = adds_row old.now.schema table (1 ∷ 2 ∷ []) given number_terms 5 given refl old.now new.now (number_rows l.numbers) (holds.rows Numbers) made in
     let cast : cast_all table.columns given ≡ given = rw (cast_int (suc k), cast_int place, cast_int it.sequence, cast_int it.number) refl in
     let after = set l.numbers k (change.its ++ it ∷ []) in
-    subst (HoldsLedger new.now) (sym change.next_is) (listed_more told_number Numbers (λ (m : Ledger). m.numbers) (λ m. refl) k place change.its it l (with_numbers l after) old.now new.now holds change.is_there change.place_is refl
-    (record { schema = made.schema_is; sound = w.sound; others = made.applies.tables }) (subst (λ r. IsHeldBy (new.now.trees table.tree) (r ∷ number_rows l.numbers)) cast more) (numbers_differ l after Numbers (λ apart. absurd (apart refl))) refl)
+    subst (HoldsLedger new.now) (sym change.next_is)
+    (listed_more told_number Numbers (λ (m : Ledger). m.numbers) (λ m. refl) k place change.its it l (with_numbers l after) old.now new.now holds
+    change.is_there change.place_is refl
+    (record { schema = made.schema_is; sound = w.sound; others = made.applies.tables })
+    (subst (λ r. IsHeldBy (new.now.trees table.tree) (r ∷ number_rows l.numbers)) cast more) (numbers_differ l after Numbers (λ apart. absurd (apart refl)))
+    refl)
 
 -- ---- histories
 
 abbrev pub entry_params : ℕ → ℕ → NewEntry → Row
-entry_params number sequence entry = Int (pos number) ∷ Int (pos sequence) ∷ Int (pos entry.kind) ∷ Int (pos entry.word) ∷ Text (string_bytes entry.details) ∷ []
+entry_params number sequence entry = Int (pos number) ∷ Int (pos sequence) ∷ Int (pos entry.kind) ∷ Int (pos entry.word) ∷ Text (string_bytes entry.details)
+    ∷ []
 
-pub adds_entry : (number sequence : ℕ) (entry : NewEntry) (old new : State) (text : List ℕ) (count : ℕ) (l next : Ledger) (holds : HoldsLedger old.now l) → AddsEntry number sequence entry l next
-    → (w : Writes old new None (Insert (holds.spot Feedbacks).at (Values feedback_terms 6)) text (entry_params number sequence entry) count) → HoldsLedger new.now next
+pub adds_entry : (number sequence : ℕ) (entry : NewEntry) (old new : State) (text : List ℕ) (count : ℕ) (l next : Ledger) (holds : HoldsLedger old.now l)
+    → AddsEntry number sequence entry l next
+    → (w : Writes old new None (Insert (holds.spot Feedbacks).at (Values feedback_terms 6)) text (entry_params number sequence entry) count)
+    → HoldsLedger new.now next
 adds_entry zero sequence entry old new text count l next holds change w = absurd (let none = change.is_there in cc)
 adds_entry (suc k) sequence entry old new text count l next holds change w =
     let spot = holds.spot Feedbacks in
@@ -150,13 +202,20 @@ adds_entry (suc k) sequence entry old new text count l next holds change w =
     let as' = l.records.actions in
     let a = change.action in
     let after = and_entry a change.reported in
-    let entries : entries_in (a.history ++ change.reported ∷ []) ≡ entries_in a.history ++ change.reported.entry ∷ [] = map-append (λ (it : Reported). it.entry) a.history (change.reported ∷ []) in
+    let entries : entries_in (a.history ++ change.reported ∷ []) ≡ entries_in a.history ++ change.reported.entry ∷ [] =
+    map-append (λ (it : Reported). it.entry) a.history (change.reported ∷ []) in
     let at : sequence ≡ length (entries_in a.history) + 1 = change.sequence_is ∙ ap (λ n. n + 1) (sym (length-map a.history (λ (it : Reported). it.entry))) in
     let given = entry_params (suc k) sequence entry in
     let made = inserts old.now.schema spot.at table feedback_terms 6 (holds.stands Feedbacks).got old new refl text given count w in
-    let more = adds_row old.now.schema table (1 ∷ 2 ∷ []) given feedback_terms 6 given refl old.now new.now (histories_from 1 as') (holds.rows Feedbacks) made in
+    let more = adds_row old.now.schema table (1 ∷ 2 ∷ []) given feedback_terms 6 given refl old.now new.now (histories_from 1 as') (holds.rows Feedbacks)
+    made in
     let cast : cast_all table.columns given ≡ given = rw (cast_int (suc k), cast_int sequence, cast_int entry.kind, cast_int entry.word) refl in
-    let row : cast_all table.columns given ≡ entry_row (suc k) sequence change.reported.entry = cast ∙ ap (λ told. Int (pos (suc k)) ∷ Int (pos sequence) ∷ told) (sym change.told.row) in
-    let held = part_held entry_row entries_of a after change.reported.entry entries k sequence as' (new.now.trees spot.tree) change.is_there at (subst (λ r. IsHeldBy (new.now.trees spot.tree) (r ∷ histories_from 1 as')) row more) in
-    subst (HoldsLedger new.now) (sym change.next_is) (ledger_after Feedbacks l (with_actions l (set as' k after) l.tallies) old.now new.now holds (record { schema = made.schema_is; sound = w.sound; others = made.applies.tables }) held
-    (actions_differ l (set as' k after) l.tallies Feedbacks (λ apart. acts_stay l.records.rollouts a after (λ n t. refl) 1 k as' l.tallies change.is_there) (λ apart. absurd (apart refl))) holds.sorted)
+    let row : cast_all table.columns given ≡ entry_row (suc k) sequence change.reported.entry = cast
+    ∙ ap (λ told. Int (pos (suc k)) ∷ Int (pos sequence) ∷ told) (sym change.told.row) in
+    let held = part_held entry_row entries_of a after change.reported.entry entries k sequence as' (new.now.trees spot.tree)
+    change.is_there at (subst (λ r. IsHeldBy (new.now.trees spot.tree) (r ∷ histories_from 1 as')) row more) in
+    subst (HoldsLedger new.now) (sym change.next_is)
+    (ledger_after Feedbacks l (with_actions l (set as' k after) l.tallies) old.now new.now holds
+    (record { schema = made.schema_is; sound = w.sound; others = made.applies.tables }) held
+    (actions_differ l (set as' k after) l.tallies Feedbacks (λ apart. acts_stay l.records.rollouts a after (λ n t. refl) 1 k as' l.tallies change.is_there)
+    (λ apart. absurd (apart refl))) holds.sorted)

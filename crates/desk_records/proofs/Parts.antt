@@ -1,8 +1,12 @@
 -- The rows of the parts of numbered records, in lists alone.
-use Rattle.desk_records.proofs.Common.{◌≡◌, ◌<◌, ◌++◌, ℕ, zero, suc, ◌+◌, List, [], ◌∷◌, filter, length, slice_get, Bool, true, false, Option, Some, None, option_map, refl, sym, ap, ap₂, subst, ◌∙◌, arith, IsPermutation, nat_eq, append_assoc, append-nil, option_to_list, nat_tests, filter-append, IsPermutation-trans, IsPermutation-to_front, Int, Row, put_row, next_rowid, rows_from, IsHeldBy, held_added, parts_from}
+use Rattle.desk_records.proofs.Common.{◌≡◌, ◌<◌, ◌++◌, ℕ, zero, suc, ◌+◌, List, [], ◌∷◌, filter, length, slice_get, Bool, true, false, Option, Some, None}
+use Rattle.desk_records.proofs.Common.{option_map, refl, sym, ap, ap₂, subst, ◌∙◌, arith, IsPermutation, nat_eq, append_assoc, append-nil, option_to_list}
+use Rattle.desk_records.proofs.Common.{nat_tests, filter-append, IsPermutation-trans, IsPermutation-to_front, Int, Row, put_row, next_rowid, rows_from}
+use Rattle.desk_records.proofs.Common.{IsHeldBy, held_added, parts_from}
 
 -- a changed last record whose row is the same
-pub same_rows : {X : Type 0} (f : ℕ → X → Row) (x y : X) → ((n : ℕ) → f n y ≡ f n x) → (n : ℕ) (before : List X) → rows_from f n (before ++ y ∷ []) ≡ rows_from f n (before ++ x ∷ [])
+pub same_rows : {X : Type 0} (f : ℕ → X → Row) (x y : X) → ((n : ℕ) → f n y ≡ f n x) → (n : ℕ) (before : List X) → rows_from f n (before ++ y ∷ [])
+    ≡ rows_from f n (before ++ x ∷ [])
 same_rows f x y same n [] = ap (λ r. r ∷ []) (same n)
 same_rows f x y same n (first ∷ before) = ap (λ l. f n first ∷ l) (same_rows f x y same (n + 1) before)
 
@@ -17,14 +21,16 @@ module _ {Y : Type 0} (f : ℕ → Y → Row) (p : Row → Bool) where
   all_pass passes place [] = refl
   all_pass passes place (y ∷ ys) = rw (passes place y) (ap (λ l. f place y ∷ l) (all_pass passes (place + 1) ys))
 
-  pub none_after : (wanted : ℕ) → ((place : ℕ) (y : Y) → p (f place y) ≡ nat_eq place wanted) → (place : ℕ) (ys : List Y) → wanted < place → filter p (rows_from f place ys) ≡ []
+  pub none_after : (wanted : ℕ) → ((place : ℕ) (y : Y) → p (f place y) ≡ nat_eq place wanted) → (place : ℕ) (ys : List Y) → wanted < place
+      → filter p (rows_from f place ys) ≡ []
   none_after wanted is place [] later = refl
   none_after wanted is place (y ∷ ys) later =
       let apart : p (f place y) ≡ false = is place y ∙ grind (arith, nat_tests) in
       rw apart (none_after wanted is (place + 1) ys (omega (arith, later)))
 
   -- the one at a place
-  pub at_place : (first k : ℕ) → ((place : ℕ) (y : Y) → p (f place y) ≡ nat_eq place (first + k)) → (ys : List Y) → filter p (rows_from f first ys) ≡ option_to_list (option_map (f (first + k)) (slice_get ys k))
+  pub at_place : (first k : ℕ) → ((place : ℕ) (y : Y) → p (f place y) ≡ nat_eq place (first + k)) → (ys : List Y) → filter p (rows_from f first ys)
+      ≡ option_to_list (option_map (f (first + k)) (slice_get ys k))
   at_place first k is [] = refl
   at_place first zero is (y ∷ ys) =
       let at : first ≡ first + zero = omega arith in
@@ -33,9 +39,11 @@ module _ {Y : Type 0} (f : ℕ → Y → Row) (p : Row → Bool) where
   at_place first (suc k) is (y ∷ ys) =
       let at : (first + 1) + k ≡ first + suc k = omega arith in
       let apart : p (f first y) ≡ false = is first y ∙ grind (arith, nat_tests) in
-      rw apart (at_place (first + 1) k (λ place z. is place z ∙ ap (nat_eq place) (sym at)) ys ∙ ap (λ n. option_to_list (option_map (f n) (slice_get ys k))) at)
+      rw apart (at_place (first + 1) k (λ place z. is place z ∙ ap (nat_eq place) (sym at)) ys
+      ∙ ap (λ n. option_to_list (option_map (f n) (slice_get ys k))) at)
 
-pub next_place : {Y : Type 0} (f : ℕ → Y → Row) (place : ℕ) (ys : List Y) (y : Y) → rows_from f place (ys ++ y ∷ []) ≡ rows_from f place ys ++ f (place + length ys) y ∷ []
+pub next_place : {Y : Type 0} (f : ℕ → Y → Row) (place : ℕ) (ys : List Y) (y : Y) → rows_from f place (ys ++ y ∷ [])
+    ≡ rows_from f place ys ++ f (place + length ys) y ∷ []
 next_place f place [] y = let at : place ≡ place + 0 = omega arith in ap (λ n. f n y ∷ []) at
 next_place f place (z ∷ ys) y =
     let at : (place + 1) + length ys ≡ place + length (z ∷ ys) = omega arith in
@@ -75,17 +83,20 @@ module _ {X Y : Type 0} (f : ℕ → ℕ → Y → Row) (parts : X → List Y) w
   -- ---- a further part of the last record
 
   module _ (x changed : X) (y : Y) (more : parts changed ≡ parts x ++ y ∷ []) where
-    last_part : (n : ℕ) (before : List X) → parts_from f parts n (before ++ changed ∷ []) ≡ parts_from f parts n (before ++ x ∷ []) ++ f (n + length before) (1 + length (parts x)) y ∷ []
+    last_part : (n : ℕ) (before : List X) → parts_from f parts n (before ++ changed ∷ []) ≡ parts_from f parts n (before ++ x ∷ []) ++ f (n + length before)
+        (1 + length (parts x)) y ∷ []
     last_part n [] =
         let at : n ≡ n + 0 = omega arith in
         append-nil (rows_from (f n) 1 (parts changed)) ∙ ap (rows_from (f n) 1) more ∙ next_place (f n) 1 (parts x) y
         ∙ ap₂ (λ l number. l ++ f number (1 + length (parts x)) y ∷ []) (sym (append-nil (rows_from (f n) 1 (parts x)))) at
     last_part n (first ∷ before) =
         let at : (n + 1) + length before ≡ n + length (first ∷ before) = omega arith in
-        ap (λ l. rows_from (f n) 1 (parts first) ++ l) (last_part (n + 1) before ∙ ap (λ number. parts_from f parts (n + 1) (before ++ x ∷ []) ++ f number (1 + length (parts x)) y ∷ []) at)
+        ap (λ l. rows_from (f n) 1 (parts first) ++ l)
+        (last_part (n + 1) before ∙ ap (λ number. parts_from f parts (n + 1) (before ++ x ∷ []) ++ f number (1 + length (parts x)) y ∷ []) at)
         ∙ sym (append_assoc (rows_from (f n) 1 (parts first)) (parts_from f parts (n + 1) (before ++ x ∷ [])) _)
 
-    pub part_added : (number place : ℕ) (before : List X) (rows : List Row) → IsHeldBy rows (parts_from f parts 1 (before ++ x ∷ [])) → number ≡ length before + 1 → place ≡ length (parts x) + 1
+    pub part_added : (number place : ℕ) (before : List X) (rows : List Row) → IsHeldBy rows (parts_from f parts 1 (before ++ x ∷ [])) → number
+        ≡ length before + 1 → place ≡ length (parts x) + 1
         → IsHeldBy (put_row (Int (next_rowid rows) ∷ f number place y) rows) (parts_from f parts 1 (before ++ changed ∷ []))
     part_added number place before rows held last next =
         let wanted = parts_from f parts 1 (before ++ x ∷ []) in
@@ -93,4 +104,8 @@ module _ {X Y : Type 0} (f : ℕ → ℕ → Y → Row) (parts : X → List Y) w
         let it : IsHeldBy (put_row (Int (next_rowid rows) ∷ new) rows) (new ∷ wanted) = held_added rows wanted held new in
         let here : new ≡ f (1 + length before) (1 + length (parts x)) y = ap₂ (λ n k. f n k y) (omega (arith, last)) (omega (arith, next)) in
         let all : parts_from f parts 1 (before ++ changed ∷ []) ≡ wanted ++ new ∷ [] = last_part 1 before ∙ ap (λ r. wanted ++ r ∷ []) (sym here) in
-        record { order = it.order; rising = it.rising; same = IsPermutation-trans _ _ _ (subst (λ l. IsPermutation l (new ∷ wanted)) (sym all) (IsPermutation-to_front wanted new)) it.same }
+        record {
+          order = it.order;
+          rising = it.rising;
+          same = IsPermutation-trans _ _ _ (subst (λ l. IsPermutation l (new ∷ wanted)) (sym all) (IsPermutation-to_front wanted new)) it.same;
+        }

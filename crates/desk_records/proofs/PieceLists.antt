@@ -1,5 +1,7 @@
 -- Contents in pieces, and what one more piece makes of them.
-use Rattle.desk_records.proofs.Common.{◌≡◌, ◌≤◌, ◌++◌, ℕ, zero, suc, ◌+◌, ◌*◌, List, [], ◌∷◌, map, take, drop, length, Option, Some, None, refl, sym, ap, ap₂, ◌∙◌, arith, length-append, slice_get, flat_map, range_with_len, option_map, div_ceil_times, length-drop, take_all, take-append-le, drop-append-le, map-map, map_same, Bytes, piece_length, pieces_in}
+use Rattle.desk_records.proofs.Common.{◌≡◌, ◌≤◌, ◌++◌, ℕ, zero, suc, ◌+◌, ◌*◌, List, [], ◌∷◌, map, take, drop, length, Option, Some, None, refl, sym, ap, ap₂}
+use Rattle.desk_records.proofs.Common.{◌∙◌, arith, length-append, slice_get, flat_map, range_with_len, option_map, div_ceil_times, length-drop, take_all}
+use Rattle.desk_records.proofs.Common.{take-append-le, drop-append-le, map-map, map_same, Bytes, piece_length, pieces_in}
 use Rattle.std.proofs.Math.Nat.{sub-zero}
 use Rattle.std.proofs.Math.Seq.{drop-append_seam}
 use Rattle.std.proofs.lemmas.Option.{slice_get-map}
@@ -20,7 +22,8 @@ piece contents k = take piece_length (drop (k * piece_length) contents)
 
 by_place : (contents : Bytes) (n : ℕ) → piece_count (length contents) ≡ n → pieces_in contents ≡ map (piece contents) (range_with_len 0 n)
 by_place contents n count =
-    map-map (piece_bytes contents) (piece_at (length contents)) _ ∙ map_same _ (piece contents) (λ k. one_piece contents k) _ ∙ ap (λ m. map (piece contents) (range_with_len 0 m)) (sub-zero (piece_count (length contents)) ∙ count)
+    map-map (piece_bytes contents) (piece_at (length contents)) _ ∙ map_same _ (piece contents) (λ k. one_piece contents k) _
+    ∙ ap (λ m. map (piece contents) (range_with_len 0 m)) (sub-zero (piece_count (length contents)) ∙ count)
 
 -- further bytes leave whole pieces as they are
 same_piece : (contents bytes : Bytes) (k : ℕ) → (k + 1) * piece_length ≤ length contents → piece (contents ++ bytes) k ≡ piece contents k
@@ -28,16 +31,20 @@ same_piece contents bytes k within =
     ap (take piece_length) (drop-append-le (k * piece_length) contents bytes (omega (arith, within)))
     ∙ take-append-le piece_length (drop (k * piece_length) contents) bytes (omega (arith, length-drop (k * piece_length) contents, within))
 
-same_pieces : (contents bytes : Bytes) (from n : ℕ) → (from + n) * piece_length ≤ length contents → map (piece (contents ++ bytes)) (range_with_len from n) ≡ map (piece contents) (range_with_len from n)
+same_pieces : (contents bytes : Bytes) (from n : ℕ) → (from + n) * piece_length ≤ length contents → map (piece (contents ++ bytes)) (range_with_len from n)
+    ≡ map (piece contents) (range_with_len from n)
 same_pieces contents bytes from zero within = refl
-same_pieces contents bytes from (suc n) within = ap₂ ◌∷◌ (same_piece contents bytes from (omega (arith, within))) (same_pieces contents bytes (from + 1) n (omega (arith, within)))
+same_pieces contents bytes from (suc n) within = ap₂ ◌∷◌ (same_piece contents bytes from (omega (arith, within)))
+    (same_pieces contents bytes (from + 1) n (omega (arith, within)))
 
 last_piece : (contents bytes : Bytes) (k : ℕ) → length contents ≡ k * piece_length → length bytes ≤ piece_length → piece (contents ++ bytes) k ≡ bytes
-last_piece contents bytes k whole limit = ap (λ n. take piece_length (drop n (contents ++ bytes))) (sym whole) ∙ ap (take piece_length) (drop-append_seam contents bytes) ∙ take_all piece_length bytes limit
+last_piece contents bytes k whole limit = ap (λ n. take piece_length (drop n (contents ++ bytes))) (sym whole)
+    ∙ ap (take piece_length) (drop-append_seam contents bytes) ∙ take_all piece_length bytes limit
 
 -- how many there are
 pub count_pieces : (contents : Bytes) → length (pieces_in contents) ≡ piece_count (length contents)
-count_pieces contents = ap length (by_place contents (piece_count (length contents)) refl) ∙ length-map-range_with_len (piece contents) 0 (piece_count (length contents))
+count_pieces contents = ap length (by_place contents (piece_count (length contents)) refl)
+    ∙ length-map-range_with_len (piece contents) 0 (piece_count (length contents))
 
 nth_in_row : (a n k x : ℕ) → slice_get (range_with_len a n) k ≡ Some x → x ≡ a + k
 nth_in_row a zero k x is = absurd cc
@@ -46,7 +53,9 @@ nth_in_row a (suc n) (suc k) x is = omega (arith, nth_in_row (a + 1) n k x is)
 
 -- the piece at a place
 pub nth_piece : (contents bytes : Bytes) (k : ℕ) → slice_get (pieces_in contents) k ≡ Some bytes → bytes ≡ piece contents k
-nth_piece contents bytes k is = go (slice_get row k) refl (sym (slice_get-map (piece contents) row k) ∙ ap (λ l. slice_get l k) (sym (by_place contents (piece_count (length contents)) refl)) ∙ is)
+nth_piece contents bytes k is =
+    go (slice_get row k) refl
+    (sym (slice_get-map (piece contents) row k) ∙ ap (λ l. slice_get l k) (sym (by_place contents (piece_count (length contents)) refl)) ∙ is)
   where
     row : List ℕ
     row = range_with_len 0 (piece_count (length contents))
@@ -75,9 +84,11 @@ pub count_whole : (contents : Bytes) (k : ℕ) → length contents ≡ k * piece
 count_whole contents k whole = ap length (by_place contents k (whole_count (length contents) k whole)) ∙ length-map-range_with_len (piece contents) 0 k
 
 -- one more piece after whole ones
-pub one_more : (contents bytes : Bytes) (k : ℕ) → length contents ≡ k * piece_length → 1 ≤ length bytes → length bytes ≤ piece_length → pieces_in (contents ++ bytes) ≡ pieces_in contents ++ bytes ∷ []
+pub one_more : (contents bytes : Bytes) (k : ℕ) → length contents ≡ k * piece_length → 1 ≤ length bytes → length bytes ≤ piece_length
+    → pieces_in (contents ++ bytes) ≡ pieces_in contents ++ bytes ∷ []
 one_more contents bytes k whole least limit =
     let total : length (contents ++ bytes) ≡ k * piece_length + length bytes = omega (arith, length-append contents bytes, whole) in
     by_place (contents ++ bytes) (k + 1) (next_count (length (contents ++ bytes)) k (length bytes) total least limit)
     ∙ map-range_with_len_more (piece (contents ++ bytes)) 0 k k (omega arith)
-    ∙ ap₂ ◌++◌ (same_pieces contents bytes 0 k (omega (arith, whole)) ∙ sym (by_place contents k (whole_count (length contents) k whole))) (ap (λ b. b ∷ []) (last_piece contents bytes k whole limit))
+    ∙ ap₂ ◌++◌ (same_pieces contents bytes 0 k (omega (arith, whole)) ∙ sym (by_place contents k (whole_count (length contents) k whole)))
+    (ap (λ b. b ∷ []) (last_piece contents bytes k whole limit))

@@ -1,5 +1,6 @@
 -- What GET_PIECE shows, whatever rows the table of pieces has.
-use Rattle.desk_records.proofs.Common.{◌≡◌, ℕ, pos, true, List, [], ◌∷◌, refl, AllZip, and_parts, Null, Int, Row, column, Select, Database, Query, col, Has, passes, simple, Bytes, ArePieces, lies_at, has_at, Pieces, IsPiece, HoldsTables, Tables}
+use Rattle.desk_records.proofs.Common.{◌≡◌, ℕ, pos, true, List, [], ◌∷◌, refl, AllZip, and_parts, Null, Int, Row, column, Select, Database, Query, col, Has}
+use Rattle.desk_records.proofs.Common.{passes, simple, Bytes, ArePieces, lies_at, has_at, Pieces, IsPiece, HoldsTables, Tables}
 use Rattle.sqlite.specs.Effect.{Reads as Shows}
 use Rattle.desk_records.specs.ArtifactRow.{StoredBytes}
 use Rattle.desk_records.proofs.AnyRows.{are_said}
@@ -8,20 +9,25 @@ use Rattle.desk_records.proofs.NumberColumns.{number_is}
 use Rattle.desk_records.proofs.TableColumns.{passes_part}
 
 module _ (db : Database) (t : Tables) (holds : HoldsTables db t) (names : List (List ℕ)) where
-  module _ (number place : ℕ) (shown : List Row) (shows : Shows (Select (record { lets = []; body = simple (holds.spot Pieces).tree at_piece (col 1 3 ∷ []) }) names) db (Int (pos number) ∷ Int (pos place) ∷ []) shown) where
+  module _ (number place : ℕ) (shown : List Row)
+      (shows : Shows (Select (record { lets = []; body = simple (holds.spot Pieces).tree at_piece (col 1 3 ∷ []) }) names) db
+      (Int (pos number) ∷ Int (pos place) ∷ []) shown) where
     abbrev its : Query
     its = simple (holds.spot Pieces).tree at_piece (col 1 3 ∷ [])
 
     judged : (row : Row) → Has (t Pieces) row → passes at_piece (Int (pos number) ∷ Int (pos place) ∷ []) row ≡ lies_at number place row
     judged row among =
-        passes_part db t holds Pieces row among (record { c = _; there = refl; kind_is = refl; strict = refl; filled = refl; apart = refl }) (record { c = _; there = refl; kind_is = refl; strict = refl; filled = refl; apart = refl }) number place
+        passes_part db t holds Pieces row among (record { c = _; there = refl; kind_is = refl; strict = refl; filled = refl; apart = refl })
+        (record { c = _; there = refl; kind_is = refl; strict = refl; filled = refl; apart = refl }) number place
 
-    means : (row : Row) → Has (t Pieces) row → lies_at number place row ≡ true → (bytes : Bytes) → column row 3 ≡ StoredBytes bytes → IsPiece row number place bytes
+    means : (row : Row) → Has (t Pieces) row → lies_at number place row ≡ true → (bytes : Bytes) → column row 3 ≡ StoredBytes bytes
+        → IsPiece row number place bytes
     means row among lies bytes is =
         let parts = and_parts (has_at 1 number row) (has_at 2 place row) lies in
         record { number_is = number_is (column row 1) number parts.0; sequence_is = number_is (column row 2) place parts.1; bytes_are = is }
 
     pub lists_pieces : (pieces : List Bytes) → AllZip (λ row bytes. column row 0 ≡ StoredBytes bytes) shown pieces → ArePieces (t Pieces) number place pieces
     lists_pieces pieces reads =
-        are_said (holds.spot Pieces).tree at_piece (col 1 3 ∷ []) its.order its.limit its.offset (Int (pos number) ∷ Int (pos place) ∷ []) db.trees (t Pieces) (holds.rows Pieces) (λ xs. refl) (lies_at number place) judged shown (shows.answer Null)
+        are_said (holds.spot Pieces).tree at_piece (col 1 3 ∷ []) its.order its.limit its.offset (Int (pos number) ∷ Int (pos place) ∷ []) db.trees (t Pieces)
+        (holds.rows Pieces) (λ xs. refl) (lies_at number place) judged shown (shows.answer Null)
         (λ row bytes. column row 0 ≡ StoredBytes bytes) (λ row bytes. IsPiece row number place bytes) means pieces reads

@@ -1,5 +1,6 @@
 -- What is known of every place at once.
-use Rattle.desk_records.proofs.Common.{◌≡◌, ◌≢◌, ◌⊎◌, inl, inr, ℕ, Bool, true, false, cond, List, [], ◌∷◌, map, Option, Some, find, bytes_eq, refl, sym, ap, subst, ◌∙◌, AllByRecursion, list_any, or_cases, cases_Bool, true≢false, Place, places, name_of}
+use Rattle.desk_records.proofs.Common.{◌≡◌, ◌≢◌, ◌⊎◌, inl, inr, ℕ, Bool, true, false, cond, List, [], ◌∷◌, map, Option, Some, find, bytes_eq, refl, sym, ap}
+use Rattle.desk_records.proofs.Common.{subst, ◌∙◌, AllByRecursion, list_any, or_cases, cases_Bool, true≢false, Place, places, name_of}
 use Rattle.std.proofs.lemmas.Slice.Eq.{bytes_eq-Decides}
 use Rattle.desk_records.proofs.EachPlace.{each_place}
 
@@ -44,7 +45,8 @@ among Q (k ∷ ks) t all there = elim (or_cases (bytes_eq (name_of t) (name_of k
 ]
 
 -- What computes to the same at each place but some, and is proved to be the same at those, is the same at every place.
-pub same_elsewhere : {X : Type 0} (f g : Place → X) (P : Place → Type 0) (some : List Place) → map f places ≡ map (λ t. cond (is_among some t) (f t) (g t)) places → AllByRecursion (λ t. P t → f t ≡ g t) some → (t : Place) → P t → f t ≡ g t
+pub same_elsewhere : {X : Type 0} (f g : Place → X) (P : Place → Type 0) (some : List Place) → map f places
+    ≡ map (λ t. cond (is_among some t) (f t) (g t)) places → AllByRecursion (λ t. P t → f t ≡ g t) some → (t : Place) → P t → f t ≡ g t
 same_elsewhere f g P some same proved t holds = same_places f (λ t. cond (is_among some t) (f t) (g t)) same t ∙ go (is_among some t) refl
   where
     go : (b : Bool) → is_among some t ≡ b → cond b (f t) (g t) ≡ g t

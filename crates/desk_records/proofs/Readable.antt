@@ -1,5 +1,6 @@
 -- The tables of the newest version hold records as the program keeps them.
-use Rattle.desk_records.proofs.Common.{◌≡◌, ◌≤◌, ℕ, List, [], ◌∷◌, Option, Some, if◌then◌else◌, nat_eq, refl, sym, ap, ◌∙◌, arith, AllByRecursion, Database, Records, Place, Desk, places, HoldsRecords, newest, number_of, places_at}
+use Rattle.desk_records.proofs.Common.{◌≡◌, ◌≤◌, ℕ, List, [], ◌∷◌, Option, Some, if◌then◌else◌, nat_eq, refl, sym, ap, ◌∙◌, arith, AllByRecursion, Database}
+use Rattle.desk_records.proofs.Common.{Records, Place, Desk, places, HoldsRecords, newest, number_of, places_at}
 use Rattle.desk_records.specs.Readable.{HoldsAt, HoldsPlace, HoldsReadable}
 use Rattle.desk_records.specs.declared.version.Version.{Version}
 use Rattle.desk_records.specs.declared.version.Version.TheVariants.{One, Two, Three}

@@ -1,10 +1,17 @@
 -- What is read of rollouts and groups, where a ledger is held.
-use Rattle.desk_records.proofs.Common.{◌≡◌, ◌≤◌, ◌&&◌, ℕ, ◌+◌, pos, negsuc, List, [], ◌∷◌, map, filter, take, drop, find, length, slice_get, Bool, true, false, cond, Option, Some, option_map, refl, ap, ◌∙◌, arith, nat_eq, nat_le, nat_lt, list_any, is_some, take-map, nat_tests, Null, Int, Text, Row, Term, lit, col, Select, Database, rows_from, ShowsFirst, on_content, simple, passes, shown_of, GroupRule, item_numbered, Bytes, holds_position, GroupRecord, RolloutRecord, IsLastRow, Rollouts, Groups, Members, Rules, parts_of, is_called, rollout_row, told_rollout, group_row, told_group, numbered_from, groups_of, member_row, members_of, rule_numbered, rules_numbered, that_reach, told_rule, HoldsLedger, Ledger, and-true}
+use Rattle.desk_records.proofs.Common.{◌≡◌, ◌≤◌, ◌&&◌, ℕ, ◌+◌, pos, negsuc, List, [], ◌∷◌, map, filter, take, drop, find, length, slice_get, Bool, true, false}
+use Rattle.desk_records.proofs.Common.{cond, Option, Some, option_map, refl, ap, ◌∙◌, arith, nat_eq, nat_le, nat_lt, list_any, is_some, take-map, nat_tests}
+use Rattle.desk_records.proofs.Common.{Null, Int, Text, Row, Term, lit, col, Select, Database, rows_from, ShowsFirst, on_content, simple, passes, shown_of}
+use Rattle.desk_records.proofs.Common.{GroupRule, item_numbered, Bytes, holds_position, GroupRecord, RolloutRecord, IsLastRow, Rollouts, Groups, Members}
+use Rattle.desk_records.proofs.Common.{Rules, parts_of, is_called, rollout_row, told_rollout, group_row, told_group, numbered_from, groups_of, member_row}
+use Rattle.desk_records.proofs.Common.{members_of, rule_numbered, rules_numbered, that_reach, told_rule, HoldsLedger, Ledger, and-true}
 use Rattle.sqlite.specs.Effect.{Reads as Shows}
 use Rattle.rollout_machine.specs.StateWords.{group_numbered, group_holding}
 use Rattle.desk_records.proofs.Comparisons.{numbers_above, numbers_equal, numbers_at_least, numbers_at_most, words_equal}
 use Rattle.desk_records.proofs.MeaningWords.{at_key}
-use Rattle.desk_records.proofs.RolloutMeaning.{same_name, last_rollout_query, rollout_columns, of_rollout, group_columns, list_groups_query, of_group, get_group_query, holding, holding_group_query, reaching, group_and_next_query, after_place, list_members_query, list_rules_query, member_columns, rule_columns}
+use Rattle.desk_records.proofs.RolloutMeaning.{same_name, last_rollout_query, rollout_columns, of_rollout, group_columns, list_groups_query, of_group}
+use Rattle.desk_records.proofs.RolloutMeaning.{get_group_query, holding, holding_group_query, reaching, group_and_next_query, after_place, list_members_query}
+use Rattle.desk_records.proofs.RolloutMeaning.{list_rules_query, member_columns, rule_columns}
 use Rattle.desk_records.proofs.NumberedReads.{finds, gets, lasts, passes_number}
 use Rattle.desk_records.proofs.PartReads.{later_shown, reads_listed, reads_parts, unplaced}
 use Rattle.desk_records.proofs.PlacedParts.{gets_part}
@@ -21,17 +28,22 @@ module _ (db : Database) (l : Ledger) (holds : HoldsLedger db l) (names : List (
   xs = l.records.rollouts
 
   -- whether a name is taken
-  pub finds_rollout : (name : Bytes) (row : Option Row) → ShowsFirst (Select (record { lets = []; body = simple tree same_name (col 1 0 ∷ []) }) names) db (Text name ∷ []) row → is_some row ≡ list_any (is_called name) xs
-  finds_rollout name = finds rollout_row tree db xs (holds.rows Rollouts) names same_name (col 1 0 ∷ []) (Text name ∷ []) (is_called name) (λ n x. and-true _ ∙ words_equal x.plan.name name)
+  pub finds_rollout : (name : Bytes) (row : Option Row) → ShowsFirst (Select (record { lets = []; body = simple tree same_name (col 1 0 ∷ []) }) names) db
+      (Text name ∷ []) row → is_some row ≡ list_any (is_called name) xs
+  finds_rollout name = finds rollout_row tree db xs (holds.rows Rollouts) names same_name (col 1 0 ∷ []) (Text name ∷ []) (is_called name)
+      (λ n x. and-true _ ∙ words_equal x.plan.name name)
 
   -- the last number
-  pub lasts_rollout : (row : Option Row) → ShowsFirst (Select (record { lets = []; body = last_rollout_query tree }) names) db [] row → IsLastRow (length xs) row
+  pub lasts_rollout : (row : Option Row) → ShowsFirst (Select (record { lets = []; body = last_rollout_query tree }) names) db [] row
+      → IsLastRow (length xs) row
   lasts_rollout = lasts rollout_row tree db xs (holds.rows Rollouts) names (λ n x. refl)
 
   -- a rollout by its number
-  pub gets_rollout : (number : ℕ) → 1 ≤ number → (row : Option Row) → ShowsFirst (Select (record { lets = []; body = simple tree (at_key 0 0 ∷ []) rollout_columns }) names) db (Int (pos number) ∷ []) row
+  pub gets_rollout : (number : ℕ) → 1 ≤ number → (row : Option Row)
+      → ShowsFirst (Select (record { lets = []; body = simple tree (at_key 0 0 ∷ []) rollout_columns }) names) db (Int (pos number) ∷ []) row
       → row ≡ option_map told_rollout (item_numbered xs number)
-  gets_rollout = gets rollout_row tree db xs (holds.rows Rollouts) names (λ n x. refl) (at_key 0 0 ∷ []) rollout_columns (passes_number rollout_row (λ n x. refl))
+  gets_rollout = gets rollout_row tree db xs (holds.rows Rollouts) names (λ n x. refl) (at_key 0 0 ∷ []) rollout_columns
+      (passes_number rollout_row (λ n x. refl))
 
 -- ---- groups
 
@@ -39,13 +51,20 @@ module _ (db : Database) (l : Ledger) (holds : HoldsLedger db l) (names : List (
 abbrev pub shown_group : GroupRecord → Row
 shown_group g = Int (pos g.number) ∷ told_group g
 
-shown_groups : (rollout : ℕ) (test : List Term) (params : Row) (wanted : GroupRecord → Bool) → ((place : ℕ) (g : GroupRecord) → on_content (passes test params) (group_row rollout place g) ≡ wanted (record g { number = place })) → (n : ℕ) (gs : List GroupRecord)
-    → map (on_content (shown_of group_columns params)) (filter (on_content (passes test params)) (rows_from (group_row rollout) n gs)) ≡ map shown_group (filter wanted (numbered_from n gs))
+shown_groups : (rollout : ℕ) (test : List Term) (params : Row) (wanted : GroupRecord → Bool)
+    → ((place : ℕ) (g : GroupRecord) → on_content (passes test params) (group_row rollout place g) ≡ wanted (record g { number = place }))
+    → (n : ℕ) (gs : List GroupRecord)
+    → map (on_content (shown_of group_columns params)) (filter (on_content (passes test params)) (rows_from (group_row rollout) n gs))
+    ≡ map shown_group (filter wanted (numbered_from n gs))
 shown_groups rollout test params wanted is n [] = refl
-shown_groups rollout test params wanted is n (g ∷ gs) = rw (is n g) (go (wanted (record g { number = n })) (shown_groups rollout test params wanted is (n + 1) gs))
+shown_groups rollout test params wanted is n (g ∷ gs) =
+    rw (is n g) (go (wanted (record g { number = n })) (shown_groups rollout test params wanted is (n + 1) gs))
   where
-    go : (b : Bool) → map (on_content (shown_of group_columns params)) (filter (on_content (passes test params)) (rows_from (group_row rollout) (n + 1) gs)) ≡ map shown_group (filter wanted (numbered_from (n + 1) gs))
-        → map (on_content (shown_of group_columns params)) (cond b (group_row rollout n g ∷ filter (on_content (passes test params)) (rows_from (group_row rollout) (n + 1) gs)) (filter (on_content (passes test params)) (rows_from (group_row rollout) (n + 1) gs)))
+    go : (b : Bool) → map (on_content (shown_of group_columns params)) (filter (on_content (passes test params)) (rows_from (group_row rollout) (n + 1) gs))
+        ≡ map shown_group (filter wanted (numbered_from (n + 1) gs))
+        → map (on_content (shown_of group_columns params))
+        (cond b (group_row rollout n g ∷ filter (on_content (passes test params)) (rows_from (group_row rollout) (n + 1) gs))
+        (filter (on_content (passes test params)) (rows_from (group_row rollout) (n + 1) gs)))
         ≡ map shown_group (cond b (record g { number = n } ∷ filter wanted (numbered_from (n + 1) gs)) (filter wanted (numbered_from (n + 1) gs)))
     go true rest = ap (λ l. shown_group (record g { number = n }) ∷ l) rest
     go false rest = rest
@@ -58,7 +77,8 @@ first_kept : (wanted : GroupRecord → Bool) (gs : List GroupRecord) → slice_g
 first_kept wanted [] = refl
 first_kept wanted (g ∷ gs) = go (wanted g) (first_kept wanted gs)
   where
-    go : (b : Bool) → slice_get (map shown_group (filter wanted gs)) 0 ≡ option_map shown_group (find wanted gs) → slice_get (map shown_group (cond b (g ∷ filter wanted gs) (filter wanted gs))) 0 ≡ option_map shown_group (cond b (Some g) (find wanted gs))
+    go : (b : Bool) → slice_get (map shown_group (filter wanted gs)) 0 ≡ option_map shown_group (find wanted gs)
+        → slice_get (map shown_group (cond b (g ∷ filter wanted gs) (filter wanted gs))) 0 ≡ option_map shown_group (cond b (Some g) (find wanted gs))
     go true rest = refl
     go false rest = rest
 
@@ -70,53 +90,75 @@ module _ (db : Database) (l : Ledger) (holds : HoldsLedger db l) (names : List (
   found number = groups_of (item_numbered l.records.rollouts number)
 
   -- in the order of their numbers
-  pub lists_groups : (number : ℕ) → 1 ≤ number → (rows : List Row) → Shows (Select (record { lets = []; body = list_groups_query at }) names) db (Int (pos number) ∷ []) rows → rows ≡ map shown_group (found number)
+  pub lists_groups : (number : ℕ) → 1 ≤ number → (rows : List Row) → Shows (Select (record { lets = []; body = list_groups_query at }) names) db
+      (Int (pos number) ∷ []) rows → rows ≡ map shown_group (found number)
   lists_groups number least rows shows =
       let params = Int (pos number) ∷ [] in
-      reads_parts told_group (λ (x : RolloutRecord). x.groups) at of_rollout group_columns (lit (Int (negsuc 0))) (lit (Int (pos 0))) params false number least (λ id x. refl) (λ id x. refl) (λ n place g apart. and-true _ ∙ numbers_equal n number ∙ apart)
+      reads_parts told_group (λ (x : RolloutRecord). x.groups) at of_rollout group_columns (lit (Int (negsuc 0))) (lit (Int (pos 0))) params false number least
+      (λ id x. refl) (λ id x. refl) (λ n place g apart. and-true _ ∙ numbers_equal n number ∙ apart)
       db.trees l.records.rollouts (holds.rows Groups) rows (shows.answer Null)
-      ∙ shown_groups number of_rollout params (λ g. true) (λ place g. and-true _ ∙ numbers_equal number number ∙ same number) 1 (parts_of (λ (x : RolloutRecord). x.groups) (item_numbered l.records.rollouts number))
+      ∙ shown_groups number of_rollout params (λ g. true) (λ place g. and-true _ ∙ numbers_equal number number ∙ same number) 1
+      (parts_of (λ (x : RolloutRecord). x.groups) (item_numbered l.records.rollouts number))
       ∙ ap (map shown_group) (all_kept _)
 
   -- the group of a number
-  pub gets_group : (number place : ℕ) → 1 ≤ number → (row : Option Row) → ShowsFirst (Select (record { lets = []; body = get_group_query at }) names) db (Int (pos number) ∷ Int (pos place) ∷ []) row
+  pub gets_group : (number place : ℕ) → 1 ≤ number → (row : Option Row) → ShowsFirst (Select (record { lets = []; body = get_group_query at }) names) db
+      (Int (pos number) ∷ Int (pos place) ∷ []) row
       → row ≡ option_map shown_group (group_numbered place (found number))
   gets_group number place least row shown =
       let params = Int (pos number) ∷ Int (pos place) ∷ [] in
       first_row (Select (record { lets = []; body = get_group_query at }) names) db params _ (λ rows shows. ap (λ (l : List Row). slice_get l 0)
-      (reads_parts told_group (λ (x : RolloutRecord). x.groups) at of_group group_columns (lit (Int (negsuc 0))) (lit (Int (pos 0))) params false number least (λ id x. refl) (λ id x. refl) (λ n k g apart. is_group n k g ∙ ap (λ b. b && nat_eq k place) apart)
+      (reads_parts told_group (λ (x : RolloutRecord). x.groups) at of_group group_columns (lit (Int (negsuc 0))) (lit (Int (pos 0))) params false number least
+      (λ id x. refl) (λ id x. refl) (λ n k g apart. is_group n k g ∙ ap (λ b. b && nat_eq k place) apart)
       db.trees l.records.rollouts (holds.rows Groups) rows (shows.answer Null)
-      ∙ shown_groups number of_group params (λ g. nat_eq g.number place) (λ k g. is_group number k g ∙ ap (λ b. b && nat_eq k place) (same number)) 1 (parts_of (λ (x : RolloutRecord). x.groups) (item_numbered l.records.rollouts number)))
+      ∙ shown_groups number of_group params (λ g. nat_eq g.number place) (λ k g. is_group number k g ∙ ap (λ b. b && nat_eq k place) (same number)) 1
+      (parts_of (λ (x : RolloutRecord). x.groups) (item_numbered l.records.rollouts number)))
       ∙ first_kept (λ g. nat_eq g.number place) (found number)) row shown
     where
-      is_group : (n k : ℕ) (g : GroupRecord) → on_content (passes of_group (Int (pos number) ∷ Int (pos place) ∷ [])) (group_row n k g) ≡ (nat_eq n number && nat_eq k place)
+      is_group : (n k : ℕ) (g : GroupRecord) → on_content (passes of_group (Int (pos number) ∷ Int (pos place) ∷ [])) (group_row n k g)
+          ≡ (nat_eq n number && nat_eq k place)
       is_group n k g = rw (numbers_equal n number, numbers_equal k place, and-true (nat_eq k place)) refl
 
   -- the group that has a place
-  pub holds_group : (number place : ℕ) → 1 ≤ number → (row : Option Row) → ShowsFirst (Select (record { lets = []; body = holding_group_query at }) names) db (Int (pos number) ∷ Int (pos place) ∷ []) row
+  pub holds_group : (number place : ℕ) → 1 ≤ number → (row : Option Row) → ShowsFirst (Select (record { lets = []; body = holding_group_query at }) names) db
+      (Int (pos number) ∷ Int (pos place) ∷ []) row
       → row ≡ option_map shown_group (group_holding place (found number))
   holds_group number place least row shown =
       let params = Int (pos number) ∷ Int (pos place) ∷ [] in
       first_row (Select (record { lets = []; body = holding_group_query at }) names) db params _ (λ rows shows. ap (λ (l : List Row). slice_get l 0)
-      (reads_parts told_group (λ (x : RolloutRecord). x.groups) at holding group_columns (lit (Int (negsuc 0))) (lit (Int (pos 0))) params false number least (λ id x. refl) (λ id x. refl) (λ n k g apart. is_holding n k g ∙ ap (λ b. b && holds_position place g.bounds) apart)
+      (reads_parts told_group (λ (x : RolloutRecord). x.groups) at holding group_columns (lit (Int (negsuc 0))) (lit (Int (pos 0))) params false number least
+      (λ id x. refl) (λ id x. refl) (λ n k g apart. is_holding n k g ∙ ap (λ b. b && holds_position place g.bounds) apart)
       db.trees l.records.rollouts (holds.rows Groups) rows (shows.answer Null)
-      ∙ shown_groups number holding params (λ g. holds_position place g.bounds) (λ k g. is_holding number k g ∙ ap (λ b. b && holds_position place g.bounds) (same number)) 1 (parts_of (λ (x : RolloutRecord). x.groups) (item_numbered l.records.rollouts number)))
+      ∙ shown_groups number holding params (λ g. holds_position place g.bounds)
+      (λ k g. is_holding number k g ∙ ap (λ b. b && holds_position place g.bounds) (same number)) 1
+      (parts_of (λ (x : RolloutRecord). x.groups) (item_numbered l.records.rollouts number)))
       ∙ first_kept (λ g. holds_position place g.bounds) (found number)) row shown
     where
-      is_holding : (n k : ℕ) (g : GroupRecord) → on_content (passes holding (Int (pos number) ∷ Int (pos place) ∷ [])) (group_row n k g) ≡ (nat_eq n number && holds_position place g.bounds)
-      is_holding n k g = rw (numbers_equal n number, numbers_at_most g.bounds.first place, numbers_at_least g.bounds.last place, and-true (nat_le place g.bounds.last)) refl
+      is_holding : (n k : ℕ) (g : GroupRecord) → on_content (passes holding (Int (pos number) ∷ Int (pos place) ∷ [])) (group_row n k g)
+          ≡ (nat_eq n number && holds_position place g.bounds)
+      is_holding n k g = rw (
+        numbers_equal n number,
+        numbers_at_most g.bounds.first place,
+        numbers_at_least g.bounds.last place,
+        and-true (nat_le place g.bounds.last),
+      ) refl
 
   -- the first two groups that reach a place
-  pub gets_group_and_next : (number place : ℕ) → 1 ≤ number → (rows : List Row) → Shows (Select (record { lets = []; body = group_and_next_query at }) names) db (Int (pos number) ∷ Int (pos place) ∷ []) rows
+  pub gets_group_and_next : (number place : ℕ) → 1 ≤ number → (rows : List Row) → Shows (Select (record { lets = []; body = group_and_next_query at }) names) db
+      (Int (pos number) ∷ Int (pos place) ∷ []) rows
       → rows ≡ map shown_group (take 2 (that_reach place (found number)))
   gets_group_and_next number place least rows shows =
       let params = Int (pos number) ∷ Int (pos place) ∷ [] in
-      reads_parts told_group (λ (x : RolloutRecord). x.groups) at reaching group_columns (lit (Int (pos 2))) (lit (Int (pos 0))) params false number least (λ id x. refl) (λ id x. refl) (λ n k g apart. is_reaching n k g ∙ ap (λ b. b && nat_le place g.bounds.last) apart)
+      reads_parts told_group (λ (x : RolloutRecord). x.groups) at reaching group_columns (lit (Int (pos 2))) (lit (Int (pos 0))) params false number least
+      (λ id x. refl) (λ id x. refl) (λ n k g apart. is_reaching n k g ∙ ap (λ b. b && nat_le place g.bounds.last) apart)
       db.trees l.records.rollouts (holds.rows Groups) rows (shows.answer Null)
-      ∙ ap (take 2) (shown_groups number reaching params (λ g. nat_le place g.bounds.last) (λ k g. is_reaching number k g ∙ ap (λ b. b && nat_le place g.bounds.last) (same number)) 1 (parts_of (λ (x : RolloutRecord). x.groups) (item_numbered l.records.rollouts number)))
+      ∙ ap (take 2) (shown_groups number reaching params (λ g. nat_le place g.bounds.last)
+      (λ k g. is_reaching number k g ∙ ap (λ b. b && nat_le place g.bounds.last) (same number)) 1
+      (parts_of (λ (x : RolloutRecord). x.groups) (item_numbered l.records.rollouts number)))
       ∙ take-map shown_group 2 (that_reach place (found number))
     where
-      is_reaching : (n k : ℕ) (g : GroupRecord) → on_content (passes reaching (Int (pos number) ∷ Int (pos place) ∷ [])) (group_row n k g) ≡ (nat_eq n number && nat_le place g.bounds.last)
+      is_reaching : (n k : ℕ) (g : GroupRecord) → on_content (passes reaching (Int (pos number) ∷ Int (pos place) ∷ [])) (group_row n k g)
+          ≡ (nat_eq n number && nat_le place g.bounds.last)
       is_reaching n k g = rw (numbers_equal n number, numbers_at_least g.bounds.last place, and-true (nat_le place g.bounds.last)) refl
 
 -- ---- members
@@ -124,30 +166,39 @@ module _ (db : Database) (l : Ledger) (holds : HoldsLedger db l) (names : List (
 module _ (db : Database) (l : Ledger) (holds : HoldsLedger db l) (names : List (List ℕ)) where
   -- a page of them in the order of their places
   pub lists_members : (number offset limit : ℕ) → 1 ≤ number → (rows : List Row)
-      → Shows (Select (record { lets = []; body = list_members_query (holds.spot Members).tree }) names) db (Int (pos number) ∷ Int (pos offset) ∷ Int (pos limit) ∷ []) rows
+      → Shows (Select (record { lets = []; body = list_members_query (holds.spot Members).tree }) names) db
+      (Int (pos number) ∷ Int (pos offset) ∷ Int (pos limit) ∷ []) rows
       → rows ≡ map (λ (id : Bytes). Text id ∷ []) (take limit (drop offset (members_of (item_numbered l.records.rollouts number))))
   lists_members number offset limit least rows shows =
       let params = Int (pos number) ∷ Int (pos offset) ∷ Int (pos limit) ∷ [] in
       let told = λ (id : Bytes). Text id ∷ [] in
       let all = members_of (item_numbered l.records.rollouts number) in
-      reads_parts told (λ (x : RolloutRecord). x.members) (holds.spot Members).tree after_place member_columns (col 0 2) (lit (Int (pos 0))) params false number least (λ id x. refl) (λ id x. refl) (λ n place id apart. is_after n place id ∙ ap (λ b. b && nat_lt offset place) apart)
+      reads_parts told (λ (x : RolloutRecord). x.members) (holds.spot Members).tree after_place member_columns (col 0 2) (lit (Int (pos 0))) params false number
+      least (λ id x. refl) (λ id x. refl) (λ n place id apart. is_after n place id ∙ ap (λ b. b && nat_lt offset place) apart)
       db.trees l.records.rollouts (holds.rows Members) rows (shows.answer Null)
-      ∙ ap (take limit) (later_shown told told number after_place member_columns params offset (λ place id. is_after number place id ∙ ap (λ b. b && nat_lt offset place) (same number)) (λ place id. refl) 0 offset (omega arith) all)
+      ∙ ap (take limit) (later_shown told told number after_place member_columns params offset
+      (λ place id. is_after number place id ∙ ap (λ b. b && nat_lt offset place) (same number)) (λ place id. refl) 0 offset (omega arith) all)
       ∙ take-map told limit (drop offset all)
     where
-      is_after : (n place : ℕ) (id : Bytes) → on_content (passes after_place (Int (pos number) ∷ Int (pos offset) ∷ Int (pos limit) ∷ [])) (member_row n place id) ≡ (nat_eq n number && nat_lt offset place)
+      is_after : (n place : ℕ) (id : Bytes) → on_content (passes after_place (Int (pos number) ∷ Int (pos offset) ∷ Int (pos limit) ∷ []))
+          (member_row n place id) ≡ (nat_eq n number && nat_lt offset place)
       is_after n place id = rw (numbers_equal n number, numbers_above place offset, and-true (nat_lt offset place)) refl
 
 -- ---- what is said of groups
 
 module _ (db : Database) (l : Ledger) (holds : HoldsLedger db l) (names : List (List ℕ)) where
   -- of the group of a number
-  pub gets_rule : (number group : ℕ) → 1 ≤ number → (row : Option Row) → ShowsFirst (Select (record { lets = []; body = simple (holds.spot Rules).tree of_group rule_columns }) names) db (Int (pos number) ∷ Int (pos group) ∷ []) row
+  pub gets_rule : (number group : ℕ) → 1 ≤ number → (row : Option Row)
+      → ShowsFirst (Select (record { lets = []; body = simple (holds.spot Rules).tree of_group rule_columns }) names) db
+      (Int (pos number) ∷ Int (pos group) ∷ []) row
       → row ≡ option_map told_rule (rule_numbered l.rules number group)
-  gets_rule number group least = gets_part told_rule (λ (its : List GroupRule). its) (parts_of (λ (its : List GroupRule). its)) refl (λ its. refl) (holds.spot Rules).tree db l.rules (holds.rows Rules) names rule_columns number group least (λ id x. refl)
+  gets_rule number group least = gets_part told_rule (λ (its : List GroupRule). its) (parts_of (λ (its : List GroupRule). its)) refl (λ its. refl)
+      (holds.spot Rules).tree db l.rules (holds.rows Rules) names rule_columns number group least (λ id x. refl)
 
   -- in the order of their numbers
-  pub lists_rules : (number : ℕ) → 1 ≤ number → (rows : List Row) → Shows (Select (record { lets = []; body = list_rules_query (holds.spot Rules).tree }) names) db (Int (pos number) ∷ []) rows → rows ≡ map told_rule (rules_numbered l.rules number)
+  pub lists_rules : (number : ℕ) → 1 ≤ number → (rows : List Row) → Shows (Select (record { lets = []; body = list_rules_query (holds.spot Rules).tree }) names)
+      db (Int (pos number) ∷ []) rows → rows ≡ map told_rule (rules_numbered l.rules number)
   lists_rules number least rows shows =
-      reads_listed told_rule (holds.spot Rules).tree rule_columns (lit (Int (negsuc 0))) (lit (Int (pos 0))) number false least (λ id x. refl) (λ place. told_rule) (λ place rule. refl) db.trees l.rules (holds.rows Rules) rows (shows.answer Null)
+      reads_listed told_rule (holds.spot Rules).tree rule_columns (lit (Int (negsuc 0))) (lit (Int (pos 0))) number false least (λ id x. refl)
+      (λ place. told_rule) (λ place rule. refl) db.trees l.rules (holds.rows Rules) rows (shows.answer Null)
       ∙ unplaced told_rule 1 (rules_numbered l.rules number)

@@ -1,5 +1,9 @@
 -- What LAST_ROLLOUT shows, whatever rows the table of rollouts has.
-use Rattle.desk_records.proofs.Common.{◌≡◌, ◌≤◌, inl, inr, ℕ, pos, true, false, List, [], ◌∷◌, map, filter, get_or, take, Option, Some, None, true≢false, refl, sym, ap, subst, ◌∙◌, arith, Ordering, Less, Equal, Greater, int_cmp, is_eq, IsPermutation, is_lt, ordering_reverse, ints, nat_tests, IsPermutation-sym, ranks_by, sorted_far, Value, Null, Int, Row, column, value_cmp, value_cmp-Int, value_cmp_total, then-Equal, rowid, Select, Database, Query, Output, output_cmp, col, output_cmp_total, Has, contains_had, ShowsFirst, IsOrdered, ordered_rows, passes, shown_in, IsLast, IsLastRow, Rollouts, HoldsTables, Tables}
+use Rattle.desk_records.proofs.Common.{◌≡◌, ◌≤◌, inl, inr, ℕ, pos, true, false, List, [], ◌∷◌, map, filter, get_or, take, Option, Some, None, true≢false, refl}
+use Rattle.desk_records.proofs.Common.{sym, ap, subst, ◌∙◌, arith, Ordering, Less, Equal, Greater, int_cmp, is_eq, IsPermutation, is_lt, ordering_reverse}
+use Rattle.desk_records.proofs.Common.{ints, nat_tests, IsPermutation-sym, ranks_by, sorted_far, Value, Null, Int, Row, column, value_cmp, value_cmp-Int}
+use Rattle.desk_records.proofs.Common.{value_cmp_total, then-Equal, rowid, Select, Database, Query, Output, output_cmp, col, output_cmp_total, Has}
+use Rattle.desk_records.proofs.Common.{contains_had, ShowsFirst, IsOrdered, ordered_rows, passes, shown_in, IsLast, IsLastRow, Rollouts, HoldsTables, Tables}
 use Rattle.sqlite.specs.Effect.{Reads as Shows}
 use Rattle.desk_records.proofs.Membership.{has_mapped, has_permuted, map_has}
 use Rattle.desk_records.proofs.NumberColumns.{has_own_number}
@@ -16,7 +20,8 @@ equal Greater h = absurd (true≢false (sym h))
 at_least : (v : Value) (n last : ℕ) → is_eq (value_cmp v (Int (pos n))) ≡ true → is_lt (value_cmp (Int (pos last)) v) ≡ false → n ≤ last
 at_least v n last numbered least =
     let turned : value_cmp (Int (pos last)) v ≡ value_cmp (Int (pos last)) (Int (pos n)) =
-    value_cmp_total.antisymm (Int (pos last)) v ∙ ap ordering_reverse (value_cmp_total.congr v (Int (pos n)) (Int (pos last)) (equal _ numbered)) ∙ sym (value_cmp_total.antisymm (Int (pos last)) (Int (pos n))) in
+    value_cmp_total.antisymm (Int (pos last)) v ∙ ap ordering_reverse (value_cmp_total.congr v (Int (pos n)) (Int (pos last)) (equal _ numbered))
+    ∙ sym (value_cmp_total.antisymm (Int (pos last)) (Int (pos n))) in
     let h : is_lt (int_cmp (pos last) (pos n)) ≡ false = ap is_lt (sym (value_cmp-Int (pos last) (pos n))) ∙ ap is_lt (sym turned) ∙ least in
     grind (arith, ints, nat_tests, h)
 
@@ -45,12 +50,15 @@ module _ (db : Database) (t : Tables) (holds : HoldsTables db t) (names : List (
     from_ordered o among = has_mapped (shown_in q []) (t Rollouts) o (has_permuted _ _ o (IsPermutation-sym _ _ same) among)
 
     -- none before the first one
-    least : (first : Output) (rest : List Output) → it.ordered ≡ first ∷ rest → (row : Row) → Has (t Rollouts) row → is_lt (output_cmp q (shown_in q [] row) first) ≡ false
+    least : (first : Output) (rest : List Output) → it.ordered ≡ first ∷ rest → (row : Row) → Has (t Rollouts) row
+        → is_lt (output_cmp q (shown_in q [] row) first) ≡ false
     least first rest is row among =
         let at = contains_had it.ordered (shown_in q [] row) (is_ordered row among) in
-        let far = sorted_far (λ a b. is_lt (output_cmp q a b)) (ranks_by (output_cmp_total q) (λ o. o)) it.ordered it.sorted 0 at.0 (shown_in q [] row) (omega arith) at.1 in
+        let far = sorted_far (λ a b. is_lt (output_cmp q a b)) (ranks_by (output_cmp_total q) (λ o. o)) it.ordered it.sorted 0 at.0 (shown_in q [] row)
+        (omega arith) at.1 in
         let head : get_or it.ordered 0 (shown_in q [] row) ≡ first = ap (λ l. get_or l 0 (shown_in q [] row)) is in
-        subst (λ o. is_lt (output_cmp q (shown_in q [] row) o) ≡ false) head (subst (λ o. is_lt (output_cmp q o (get_or it.ordered 0 (shown_in q [] row))) ≡ false) at.2 far)
+        subst (λ o. is_lt (output_cmp q (shown_in q [] row) o) ≡ false) head
+        (subst (λ o. is_lt (output_cmp q o (get_or it.ordered 0 (shown_in q [] row))) ≡ false) at.2 far)
 
     pub shown_last : (row : Row) (tail : List Row) → shown ≡ row ∷ tail → (n : ℕ) → column row 0 ≡ Int (pos n) → IsLast (t Rollouts) n
     shown_last row tail is n number = go it.ordered refl (sym is ∙ it.is)

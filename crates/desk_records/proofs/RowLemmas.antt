@@ -1,5 +1,7 @@
 -- A column that is not read breaks its rule.
-use Rattle.desk_records.proofs.Common.{◌≡◌, ◌≢◌, ◌⊎◌, inl, inr, ◌<◌, ℕ, Bool, false, List, refl, ap, ◌∙◌, length, arith, nat_lt, IsUtf8, is_utf8, cases_Bool, and_parts, IsUtf8-from_is_utf8, nat_tests, get_or_past, Value, Null, Int, Real, Text, Blob, Row, column, is_text, is_value, has_text, fault_at, has_value, has_filter}
+use Rattle.desk_records.proofs.Common.{◌≡◌, ◌≢◌, ◌⊎◌, inl, inr, ◌<◌, ℕ, Bool, false, List, refl, ap, ◌∙◌, length, arith, nat_lt, IsUtf8, is_utf8, cases_Bool}
+use Rattle.desk_records.proofs.Common.{and_parts, IsUtf8-from_is_utf8, nat_tests, get_or_past, Value, Null, Int, Real, Text, Blob, Row, column, is_text}
+use Rattle.desk_records.proofs.Common.{is_value, has_text, fault_at, has_value, has_filter}
 use Rattle.sqlite.specs.declared.error.Error.{Error}
 use Rattle.sqlite.specs.declared.error.Error.TheVariants.{SqliteFailure}
 use Rattle.sqlite.specs.declared.error.ErrorCode.{ErrorCode}
@@ -40,7 +42,8 @@ unread_filter (Real x) h = refl
 unread_filter (Text t) h = elim (cases_Bool (is_utf8 t)) [ inl kept ↦ absurd (h (t, refl, IsUtf8-from_is_utf8 t kept)) | inr broken ↦ broken ]
 unread_filter (Blob b) h = refl
 
-code_told : (code : ErrorCode) (c : Column) → (fault_at (SqliteFailure code) c ≡ Memory) ⊎ ((fault_at (SqliteFailure code) c ≡ Broken c) × (SqliteFailure code ≢ SqliteFailure OutOfMemory))
+code_told : (code : ErrorCode) (c : Column) → (fault_at (SqliteFailure code) c ≡ Memory)
+    ⊎ ((fault_at (SqliteFailure code) c ≡ Broken c) × (SqliteFailure code ≢ SqliteFailure OutOfMemory))
 code_told OutOfMemory c = inl refl
 code_told _ c = inr (refl, λ e. cc)
 
@@ -49,8 +52,10 @@ told (SqliteFailure code) c = code_told code c
 told _ c = inr (refl, λ e. cc)
 
 -- the fault of a column that was not read, where only a text can keep the rule
-pub fails_at : (keeps : Value → Bool) → ((v : Value) → ((s : List ℕ) × (v ≡ Text s) × IsUtf8 s → ⊥) → keeps v ≡ false) → (row : Row) (at : ℕ) (e : Error) (c : Column)
-    → (e ≢ SqliteFailure OutOfMemory → at < length row → (s : List ℕ) × (column row at ≡ Text s) × IsUtf8 s → ⊥) → (fault_at e c ≡ Memory) ⊎ ((fault_at e c ≡ Broken c) × (keeps (column row at) ≡ false))
+pub fails_at : (keeps : Value → Bool) → ((v : Value) → ((s : List ℕ) × (v ≡ Text s) × IsUtf8 s → ⊥) → keeps v ≡ false)
+    → (row : Row) (at : ℕ) (e : Error) (c : Column)
+    → (e ≢ SqliteFailure OutOfMemory → at < length row → (s : List ℕ) × (column row at ≡ Text s) × IsUtf8 s → ⊥) → (fault_at e c ≡ Memory)
+    ⊎ ((fault_at e c ≡ Broken c) × (keeps (column row at) ≡ false))
 fails_at keeps fails row at e c kind = elim (told e c) [
   | inl memory ↦ inl memory
   | inr it ↦ inr (

@@ -1,5 +1,8 @@
 -- The columns of the tables of a desk are of their kinds, in each sound database.
-use Rattle.desk_records.proofs.Common.{◌≡◌, ℕ, zero, suc, ◌+◌, ℤ, true, false, pos, List, [], ◌∷◌, drop, slice_get, Option, Some, true≢false, refl, sym, ap, subst, ◌∙◌, arith, if◌then◌else◌, and_parts, Value, Null, Int, Real, Text, Blob, Row, column, is_null, is_of, suits, are_typed, are_present, Has, all_has, all-slice_get, Database, passes, lies_at, has_at, Place, table_at, table_by, HoldsTables, Tables, is_there}
+use Rattle.desk_records.proofs.Common.{◌≡◌, ℕ, zero, suc, ◌+◌, ℤ, true, false, pos, List, [], ◌∷◌, drop, slice_get, Option, Some, true≢false, refl, sym, ap}
+use Rattle.desk_records.proofs.Common.{subst, ◌∙◌, arith, if◌then◌else◌, and_parts, Value, Null, Int, Real, Text, Blob, Row, column, is_null, is_of, suits}
+use Rattle.desk_records.proofs.Common.{are_typed, are_present, Has, all_has, all-slice_get, Database, passes, lies_at, has_at, Place, table_at, table_by}
+use Rattle.desk_records.proofs.Common.{HoldsTables, Tables, is_there}
 use Rattle.sqlite_schema.specs.declared.schema.Kind.TheVariants as kind
 use Rattle.sqlite_schema.specs.declared.schema.Column.{Column}
 use Rattle.sqlite_schema.specs.declared.schema.Constraint.TheVariants.{Datatype, NotNull}
@@ -9,7 +12,8 @@ use Rattle.desk_records.proofs.NumberColumns.{passes_first, passes_two}
 use Rattle.desk_records.proofs.PlacedParts.{at_part}
 
 -- a value of each column that is there and isn't the rowid
-typed_from : (key : Option ℕ) (at : ℕ) (columns : List Column) (vs : Row) (k : ℕ) (c : Column) → slice_get columns k ≡ Some c → c.is_strict ≡ true → is_key key (at + k) ≡ false
+typed_from : (key : Option ℕ) (at : ℕ) (columns : List Column) (vs : Row) (k : ℕ) (c : Column) → slice_get columns k ≡ Some c → c.is_strict ≡ true
+    → is_key key (at + k) ≡ false
     → are_typed key at columns vs ≡ true → is_of c.kind (column vs k) ≡ true
 typed_from key at [] vs k c there strict apart typed = absurd cc
 typed_from key at (x ∷ columns) [] zero c there strict apart typed = refl
@@ -25,7 +29,8 @@ typed_from key at (x ∷ columns) (v ∷ vs) zero c there strict apart typed =
 typed_from key at (x ∷ columns) (v ∷ vs) (suc k) c there strict apart typed =
     typed_from key (at + 1) columns vs k c there strict (subst (λ n. is_key key n ≡ false) {y = at + 1 + k} (omega arith) apart) (and_parts _ _ typed).1
 
-present_from : (key : Option ℕ) (at : ℕ) (columns : List Column) (row : Row) (k : ℕ) (c : Column) → slice_get columns k ≡ Some c → c.not_null ≡ true → is_key key (at + k) ≡ false
+present_from : (key : Option ℕ) (at : ℕ) (columns : List Column) (row : Row) (k : ℕ) (c : Column) → slice_get columns k ≡ Some c → c.not_null ≡ true
+    → is_key key (at + k) ≡ false
     → are_present key at columns row ≡ true → is_null (column row (at + k + 1)) ≡ false
 present_from key at [] row k c there filled apart h = absurd cc
 present_from key at (x ∷ columns) row zero c there filled apart h =
@@ -64,17 +69,21 @@ module _ (db : Database) (t : Tables) (holds : HoldsTables db t) (p : Place) (ro
 
   typed : are_typed (table_by p).key 0 (table_by p).columns (drop 1 row) ≡ true
   typed =
-      (and_parts _ _ (all_has _ _ row (all-slice_get _ db.schema.tables (holds.spot p).at (table_at p (holds.spot p).tree) (holds.stands p).got (holds.sound.obeys.rules Datatype)) here)).0
+      (and_parts _ _ (all_has _ _ row
+      (all-slice_get _ db.schema.tables (holds.spot p).at (table_at p (holds.spot p).tree) (holds.stands p).got (holds.sound.obeys.rules Datatype)) here)).0
 
   present : are_present (table_by p).key 0 (table_by p).columns row ≡ true
-  present = all_has _ _ row (all-slice_get _ db.schema.tables (holds.spot p).at (table_at p (holds.spot p).tree) (holds.stands p).got (holds.sound.obeys.rules NotNull)) here
+  present = all_has _ _ row
+      (all-slice_get _ db.schema.tables (holds.spot p).at (table_at p (holds.spot p).tree) (holds.stands p).got (holds.sound.obeys.rules NotNull)) here
 
   pub integer_at : (k : ℕ) → IsInteger p k → (n : ℤ) × (column row (suc k) ≡ Int n)
   integer_at k it =
       let apart : is_key (table_by p).key (0 + k) ≡ false = subst (λ n. is_key (table_by p).key n ≡ false) {x = k} (omega arith) it.apart in
       let next : 0 + k + 1 ≡ suc k = omega arith in
-      let kept : is_of it.c.kind (column row (suc k)) ≡ true = ap (is_of it.c.kind) (sym (behind row k)) ∙ typed_from (table_by p).key 0 (table_by p).columns (drop 1 row) k it.c it.there it.strict apart typed in
-      let given : is_null (column row (suc k)) ≡ false = ap (λ n. is_null (column row n)) (sym next) ∙ present_from (table_by p).key 0 (table_by p).columns row k it.c it.there it.filled apart present in
+      let kept : is_of it.c.kind (column row (suc k)) ≡ true = ap (is_of it.c.kind) (sym (behind row k))
+      ∙ typed_from (table_by p).key 0 (table_by p).columns (drop 1 row) k it.c it.there it.strict apart typed in
+      let given : is_null (column row (suc k)) ≡ false = ap (λ n. is_null (column row n)) (sym next)
+      ∙ present_from (table_by p).key 0 (table_by p).columns row k it.c it.there it.filled apart present in
       number_there (column row (suc k)) given (ap (λ kind. is_of kind (column row (suc k))) (sym it.kind_is) ∙ kept)
 
   -- WHERE column = ?1, whatever parameters follow
@@ -83,4 +92,5 @@ module _ (db : Database) (t : Tables) (holds : HoldsTables db t) (p : Place) (ro
 
   -- .. and of the first two columns, which say where a part lies
   pub passes_part : IsInteger p 0 → IsInteger p 1 → (number place : ℕ) → passes at_part (Int (pos number) ∷ Int (pos place) ∷ []) row ≡ lies_at number place row
-  passes_part first second number place = let one = integer_at 0 first in let two = integer_at 1 second in passes_two row 1 2 number place one.0 two.0 one.1 two.1
+  passes_part first second number place = let one = integer_at 0 first in let two = integer_at 1 second in
+      passes_two row 1 2 number place one.0 two.0 one.1 two.1

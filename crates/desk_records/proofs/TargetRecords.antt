@@ -1,14 +1,24 @@
 -- The statements on targets and their tags, in records.
-use Rattle.desk_records.proofs.Common.{◌≡◌, ◌∷◌, ◌&&◌, ℕ, min, pos, negsuc, List, [], Bool, true, false, cond, not, map, filter, take, drop, flat_map, length, slice_get, Option, Some, None, option_map, refl, sym, ap, ap₂, subst, ◌∙◌, codes, IsPermutation, list_all, and_parts, length-map, take-map, drop-map, IsPermutation-map, IsPermutation-trans, Null, Int, Text, Blob, Row, plain, agree, filter_all, all_of, map-map, cast_all, lit, col, Command, Select, Insert, Update, Delete, Values, Database, State, Writes, IsHeldBy, Rise, strict, ShowsFirst, inserts, on_content, changed, keys_apart, are_whole, reads_key, changes_key, drops, adds_row, reads_risen, simple, passes, shown_of, updates, deletes, same_bytes, with_word, without_word, Bytes, TargetRow, change_target, Records, Target, tags_of, target_of, Targets, TargetTags, TargetAttributes, target_table, target_tag_table, target_row, tag_rows, attribute_rows, in_byte_order, ids_of, keys_of, is_sorted, renamed, tagged, untagged, with_target, with_changed, AddsTarget, AddsTag, HoldsRecords, IsHeld, ledger_of, Unordered, and-true}
+use Rattle.desk_records.proofs.Common.{◌≡◌, ◌∷◌, ◌&&◌, ℕ, min, pos, negsuc, List, [], Bool, true, false, cond, not, map, filter, take, drop, flat_map, length}
+use Rattle.desk_records.proofs.Common.{slice_get, Option, Some, None, option_map, refl, sym, ap, ap₂, subst, ◌∙◌, codes, IsPermutation, list_all, and_parts}
+use Rattle.desk_records.proofs.Common.{length-map, take-map, drop-map, IsPermutation-map, IsPermutation-trans, Null, Int, Text, Blob, Row, plain, agree}
+use Rattle.desk_records.proofs.Common.{filter_all, all_of, map-map, cast_all, lit, col, Command, Select, Insert, Update, Delete, Values, Database, State}
+use Rattle.desk_records.proofs.Common.{Writes, IsHeldBy, Rise, strict, ShowsFirst, inserts, on_content, changed, keys_apart, are_whole, reads_key, changes_key}
+use Rattle.desk_records.proofs.Common.{drops, adds_row, reads_risen, simple, passes, shown_of, updates, deletes, same_bytes, with_word, without_word, Bytes}
+use Rattle.desk_records.proofs.Common.{TargetRow, change_target, Records, Target, tags_of, target_of, Targets, TargetTags, TargetAttributes, target_table}
+use Rattle.desk_records.proofs.Common.{target_tag_table, target_row, tag_rows, attribute_rows, in_byte_order, ids_of, keys_of, is_sorted, renamed, tagged}
+use Rattle.desk_records.proofs.Common.{untagged, with_target, with_changed, AddsTarget, AddsTag, HoldsRecords, IsHeld, ledger_of, Unordered, and-true}
 use Rattle.sqlite_value.specs.Keys.{first_key}
 use Rattle.sqlite.specs.Kind.TheVariants as kind
 use Rattle.sqlite.specs.Effect.{Reads as Shows}
 use Rattle.sql_calls.proofs.Counts.{count_query, count_rows, length_held}
 use Rattle.desk_records.proofs.HoldsAfter.{ChangesOnly, holds_after, records_differ}
-use Rattle.desk_records.proofs.TargetMeaning.{of_target, target_columns, target_terms, new_values, set_target_query, targets_query, tags_query, tag_terms, of_tag, drop_tag_query}
+use Rattle.desk_records.proofs.TargetMeaning.{of_target, target_columns, target_terms, new_values, set_target_query, targets_query, tags_query, tag_terms}
+use Rattle.desk_records.proofs.TargetMeaning.{of_tag, drop_tag_query}
 use Rattle.desk_records.proofs.Comparisons.{words_equal}
 use Rattle.desk_records.proofs.ByteOrder.{sorted_from, in_order_with, in_order_without}
-use Rattle.desk_records.proofs.Targets.{has_id, first_found, changed_map, changed_rows, changed_sorted, rows_of, its_rows, put_is_more, put_rows, put_sorted, targets_rise, tag_row, tags_rise, tags_sorted, tag_is_more, tag_is_less}
+use Rattle.desk_records.proofs.Targets.{has_id, first_found, changed_map, changed_rows, changed_sorted, rows_of, its_rows, put_is_more, put_rows, put_sorted}
+use Rattle.desk_records.proofs.Targets.{targets_rise, tag_row, tags_rise, tags_sorted, tag_is_more, tag_is_less}
 
 -- ---- which rows a statement names
 
@@ -47,7 +57,8 @@ listed_row t = Text t.id ∷ Text t.name ∷ []
 abbrev pub shown_tags : List Bytes → List Row
 shown_tags ws = map (λ (w : Bytes). Text w ∷ []) ws
 
-pub first_row : (command : Command) (db : Database) (params : Row) (is : Option Row) → ((rows : List Row) → Shows command db params rows → slice_get rows 0 ≡ is) → (row : Option Row) → ShowsFirst command db params row → row ≡ is
+pub first_row : (command : Command) (db : Database) (params : Row) (is : Option Row)
+    → ((rows : List Row) → Shows command db params rows → slice_get rows 0 ≡ is) → (row : Option Row) → ShowsFirst command db params row → row ≡ is
 first_row command db params is all None shown = all [] shown
 first_row command db params is all (Some row) shown = all (row ∷ shown.0) shown.1
 
@@ -73,27 +84,34 @@ module _ (id : Bytes) where
 
 module _ (db : Database) (now : Records) (holds : HoldsRecords db now) (names : List (List ℕ)) where
   -- a target by its id
-  pub gets_target : (id : Bytes) (row : Option Row) → ShowsFirst (Select (record { lets = []; body = simple (holds.spot Targets).tree of_target target_columns }) names) db (Text id ∷ []) row
+  pub gets_target : (id : Bytes) (row : Option Row)
+      → ShowsFirst (Select (record { lets = []; body = simple (holds.spot Targets).tree of_target target_columns }) names) db (Text id ∷ []) row
       → row ≡ option_map told_target (target_of now id)
   gets_target id row shown =
       let spot = holds.spot Targets in
       let params = Text id ∷ [] in
       let table = target_table spot.tree in
       first_row (Select (record { lets = []; body = simple spot.tree of_target target_columns }) names) db params _ (λ rows shows.
-      ap (λ (l : List Row). slice_get l 0) (reads_key db.schema table (1 ∷ []) of_target params (λ i x. refl) (0 ∷ []) (first_fixed params) target_columns (λ i x. refl) db.trees (map target_row now.targets)
+      ap (λ (l : List Row). slice_get l 0)
+      (reads_key db.schema table (1 ∷ []) of_target params (λ i x. refl) (0 ∷ []) (first_fixed params) target_columns (λ i x. refl) db.trees
+      (map target_row now.targets)
       (keys_apart db.schema db.trees spot.at table 0 (1 ∷ []) holds.sound (holds.stands Targets).got refl refl) (holds.rows Targets) rows (shows.answer Null))
-      ∙ first_found target_row (is_of id) (on_content (shown_of target_columns params)) (has_id id) (λ t. names_it id t.id (Text t.name ∷ Blob t.digest ∷ []) []) now.targets) row shown
+      ∙ first_found target_row (is_of id) (on_content (shown_of target_columns params)) (has_id id)
+      (λ t. names_it id t.id (Text t.name ∷ Blob t.digest ∷ []) []) now.targets) row shown
 
   -- how many there are
-  pub counts_targets : (row : Option Row) → ShowsFirst (Select (record { lets = []; body = count_query (holds.spot Targets).tree }) names) db [] row → row ≡ Some (Int (pos (min (length now.targets) 9223372036854775807)) ∷ [])
+  pub counts_targets : (row : Option Row) → ShowsFirst (Select (record { lets = []; body = count_query (holds.spot Targets).tree }) names) db [] row
+      → row ≡ Some (Int (pos (min (length now.targets) 9223372036854775807)) ∷ [])
   counts_targets row shown =
       let spot = holds.spot Targets in
       let size : length (db.trees spot.tree) ≡ length now.targets = length_held _ _ (holds.rows Targets) ∙ length-map now.targets target_row in
       first_row (Select (record { lets = []; body = count_query spot.tree }) names) db [] _ (λ rows shows.
-      ap (λ (l : List Row). slice_get l 0) (count_rows spot.tree [] db.trees rows (shows.answer Null)) ∙ ap (λ n. Some (Int (pos (min n 9223372036854775807)) ∷ [])) size) row shown
+      ap (λ (l : List Row). slice_get l 0) (count_rows spot.tree [] db.trees rows (shows.answer Null))
+      ∙ ap (λ n. Some (Int (pos (min n 9223372036854775807)) ∷ [])) size) row shown
 
   -- the targets of a page, in byte order of their ids
-  pub lists_targets : (limit offset : ℕ) (rows : List Row) → Shows (Select (record { lets = []; body = targets_query (holds.spot Targets).tree }) names) db (Int (pos limit) ∷ Int (pos offset) ∷ []) rows
+  pub lists_targets : (limit offset : ℕ) (rows : List Row) → Shows (Select (record { lets = []; body = targets_query (holds.spot Targets).tree }) names) db
+      (Int (pos limit) ∷ Int (pos offset) ∷ []) rows
       → rows ≡ map listed_row (take limit (drop offset now.targets))
   lists_targets limit offset rows shows =
       let spot = holds.spot Targets in
@@ -102,15 +120,18 @@ module _ (db : Database) (now : Records) (holds : HoldsRecords db now) (names : 
       let ts = now.targets in
       let all : filter (on_content (passes [] params)) (map target_row ts) ≡ map target_row ts = filter_all _ _ (all_of _ (λ x. refl) _) in
       let rise = subst (Rise 0) (sym all) (targets_rise ts (ids_sorted db now holds)) in
-      reads_risen db.schema table [] 0 (strict (codes "controller") kind.Text true) refl refl refl [] params (λ i x. refl) [] (λ r h. refl) (col 1 1 ∷ col 1 2 ∷ []) (λ i x. refl) (col 0 0) (col 0 1)
-      db.trees (map target_row ts) (keys_apart db.schema db.trees spot.at table 0 (1 ∷ []) holds.sound (holds.stands Targets).got refl refl) (are_whole db.schema db.trees spot.at table holds.sound (holds.stands Targets).got) (holds.rows Targets) rise
+      reads_risen db.schema table [] 0 (strict (codes "controller") kind.Text true) refl refl refl [] params (λ i x. refl) [] (λ r h. refl)
+      (col 1 1 ∷ col 1 2 ∷ []) (λ i x. refl) (col 0 0) (col 0 1)
+      db.trees (map target_row ts) (keys_apart db.schema db.trees spot.at table 0 (1 ∷ []) holds.sound (holds.stands Targets).got refl refl)
+      (are_whole db.schema db.trees spot.at table holds.sound (holds.stands Targets).got) (holds.rows Targets) rise
       rows (shows.answer Null)
       ∙ ap (λ l. take limit (drop offset (map (on_content (shown_of (col 1 1 ∷ col 1 2 ∷ []) params)) l))) all
       ∙ ap (λ l. take limit (drop offset l)) (map-map (on_content (shown_of (col 1 1 ∷ col 1 2 ∷ []) params)) target_row ts)
       ∙ ap (take limit) (drop-map listed_row offset ts) ∙ take-map listed_row limit (drop offset ts)
 
   -- the tags of a target, in byte order
-  pub lists_target_tags : (id : Bytes) (rows : List Row) → Shows (Select (record { lets = []; body = tags_query (holds.spot TargetTags).tree }) names) db (Text id ∷ []) rows → rows ≡ shown_tags (tags_of (target_of now id))
+  pub lists_target_tags : (id : Bytes) (rows : List Row) → Shows (Select (record { lets = []; body = tags_query (holds.spot TargetTags).tree }) names) db
+      (Text id ∷ []) rows → rows ≡ shown_tags (tags_of (target_of now id))
   lists_target_tags id rows shows =
       let spot = holds.spot TargetTags in
       let params = Text id ∷ [] in
@@ -118,90 +139,135 @@ module _ (db : Database) (now : Records) (holds : HoldsRecords db now) (names : 
       let wanted = flat_map tag_rows now.targets in
       let found = target_of now id in
       let its : filter (is_of id) wanted ≡ rows_of tag_rows found =
-      its_rows tag_rows (is_of id) id (λ t. its_tags id t.id (same_bytes t.id id) refl t.tags) now.targets (sorted_from (ids_of now.targets) (ids_sorted db now holds)) in
+      its_rows tag_rows (is_of id) id (λ t. its_tags id t.id (same_bytes t.id id) refl t.tags) now.targets
+      (sorted_from (ids_of now.targets) (ids_sorted db now holds)) in
       let rise = subst (Rise 1) (sym its) (found_rise id found (tags_sorted id now.targets (each_sorted db now holds))) in
-      reads_risen db.schema table (1 ∷ []) 1 (strict (codes "tag") kind.Text true) refl refl refl of_target params (λ i x. refl) (0 ∷ []) (first_fixed params) (col 1 2 ∷ []) (λ i x. refl) (lit (Int (negsuc 0))) (lit (Int (pos 0)))
-      db.trees wanted (keys_apart db.schema db.trees spot.at table 0 (1 ∷ 2 ∷ []) holds.sound (holds.stands TargetTags).got refl refl) (are_whole db.schema db.trees spot.at table holds.sound (holds.stands TargetTags).got) (holds.rows TargetTags) rise
+      reads_risen db.schema table (1 ∷ []) 1 (strict (codes "tag") kind.Text true) refl refl refl of_target params (λ i x. refl) (0 ∷ []) (first_fixed params)
+      (col 1 2 ∷ []) (λ i x. refl) (lit (Int (negsuc 0))) (lit (Int (pos 0)))
+      db.trees wanted (keys_apart db.schema db.trees spot.at table 0 (1 ∷ 2 ∷ []) holds.sound (holds.stands TargetTags).got refl refl)
+      (are_whole db.schema db.trees spot.at table holds.sound (holds.stands TargetTags).got) (holds.rows TargetTags) rise
       rows (shows.answer Null)
       ∙ ap (map (on_content (shown_of (col 1 2 ∷ []) params))) its ∙ tags_shown id found
 
 -- ---- a new target
 
-pub adds_target : (id name digest : Bytes) (old new : State) (text : List ℕ) (count : ℕ) (now next : Records) (holds : HoldsRecords old.now now) → AddsTarget id name digest now next
-    → (w : Writes old new None (Insert (holds.spot Targets).at (Values target_terms 4)) text (Text id ∷ Text name ∷ Blob digest ∷ []) count) → HoldsRecords new.now next
+pub adds_target : (id name digest : Bytes) (old new : State) (text : List ℕ) (count : ℕ) (now next : Records) (holds : HoldsRecords old.now now)
+    → AddsTarget id name digest now next
+    → (w : Writes old new None (Insert (holds.spot Targets).at (Values target_terms 4)) text (Text id ∷ Text name ∷ Blob digest ∷ []) count)
+    → HoldsRecords new.now next
 adds_target id name digest old new text count now next holds change w =
     let spot = holds.spot Targets in
     let params = Text id ∷ Text name ∷ Blob digest ∷ [] in
     let made = inserts old.now.schema spot.at (target_table spot.tree) target_terms 4 (holds.stands Targets).got old new refl text params count w in
-    let more = adds_row old.now.schema (target_table spot.tree) (1 ∷ []) params target_terms 4 params refl old.now new.now (map target_row now.targets) (holds.rows Targets) made in
-    let table : IsHeld (ledger_of (with_target now id name digest)) Targets (new.now.trees spot.tree) = held_as _ _ _ more (IsPermutation-map target_row _ _ (put_is_more row now.targets change.is_new)) in
+    let more = adds_row old.now.schema (target_table spot.tree) (1 ∷ []) params target_terms 4 params refl old.now new.now (map target_row now.targets)
+    (holds.rows Targets) made in
+    let table : IsHeld (ledger_of (with_target now id name digest)) Targets (new.now.trees spot.tree) =
+    held_as _ _ _ more (IsPermutation-map target_row _ _ (put_is_more row now.targets change.is_new)) in
     subst (HoldsRecords new.now) (sym change.next_is)
-    (holds_after Targets now (with_target now id name digest) old.now new.now holds (record { schema = made.schema_is; sound = w.sound; others = made.applies.tables }) table only (put_sorted row refl now.targets change.is_new holds.sorted)
+    (holds_after Targets now (with_target now id name digest) old.now new.now holds
+    (record { schema = made.schema_is; sound = w.sound; others = made.applies.tables }) table only
+    (put_sorted row refl now.targets change.is_new holds.sorted)
     )
   where
     row : TargetRow
     row = record { id = id; name = name; digest = digest; tags = [] }
 
     only : ChangesOnly Targets (ledger_of now) (ledger_of (with_target now id name digest))
-    only = records_differ Targets now (with_target now id name digest) refl refl (Targets ∷ TargetTags ∷ TargetAttributes ∷ []) refl ((λ apart. absurd (apart refl)), ((λ apart. ap Unordered (put_rows row tag_rows refl now.targets change.is_new)), ((λ apart. ap Unordered (put_rows row attribute_rows refl now.targets change.is_new)), tt)))
+    only = records_differ Targets now (with_target now id name digest) refl refl (Targets ∷ TargetTags ∷ TargetAttributes ∷ []) refl (
+      (λ apart. absurd (apart refl)),
+      (
+        (λ apart. ap Unordered (put_rows row tag_rows refl now.targets change.is_new)),
+        ((λ apart. ap Unordered (put_rows row attribute_rows refl now.targets change.is_new)), tt),
+      ),
+    )
 
 -- ---- another name and digest
 
-changed_targets : (p : Row → Bool) (g : Row → Row) (id : Bytes) (f : Target → Target) → ((t : Target) → p (target_row t) ≡ same_bytes t.id id) → ((t : Target) → g (target_row t) ≡ target_row (f t))
+changed_targets : (p : Row → Bool) (g : Row → Row) (id : Bytes) (f : Target → Target) → ((t : Target) → p (target_row t) ≡ same_bytes t.id id)
+    → ((t : Target) → g (target_row t) ≡ target_row (f t))
     → (ts : List Target) → changed p g (map target_row ts) ≡ map target_row (change_target id f ts)
 changed_targets p g id f same becomes [] = refl
 changed_targets p g id f same becomes (t ∷ ts) =
-    ap₂ ◌∷◌ (ap (λ b. cond b (g (target_row t)) (target_row t)) (same t) ∙ elim (same_bytes t.id id) as (λ b. cond b (g (target_row t)) (target_row t) ≡ target_row (cond b (f t) t)) [ true ↦ becomes t | false ↦ refl ])
+    ap₂ ◌∷◌ (ap (λ b. cond b (g (target_row t)) (target_row t)) (same t)
+    ∙ elim (same_bytes t.id id) as (λ b. cond b (g (target_row t)) (target_row t) ≡ target_row (cond b (f t) t)) [ true ↦ becomes t | false ↦ refl ])
     (changed_targets p g id f same becomes ts)
 
 pub sets_target : (id name digest : Bytes) (old new : State) (text : List ℕ) (count : ℕ) (now : Records) (holds : HoldsRecords old.now now)
-    → (w : Writes old new None (Update (holds.spot Targets).at (record { lets = []; body = set_target_query (holds.spot Targets).tree })) text (Text id ∷ Text name ∷ Blob digest ∷ []) count)
+    → (w : Writes old new None (Update (holds.spot Targets).at (record { lets = []; body = set_target_query (holds.spot Targets).tree })) text
+    (Text id ∷ Text name ∷ Blob digest ∷ []) count)
     → HoldsRecords new.now (with_changed now id (renamed name digest))
 sets_target id name digest old new text count now holds w =
     let spot = holds.spot Targets in
     let params = Text id ∷ Text name ∷ Blob digest ∷ [] in
     let table = target_table spot.tree in
-    let made = updates old.now.schema spot.at table (record { lets = []; body = set_target_query spot.tree }) (holds.stands Targets).got (holds.stands Targets).keyless old new refl text params count w in
-    let set = changes_key old.now.schema table (1 ∷ []) of_target params (λ i x. refl) (0 ∷ []) (first_fixed params) new_values (λ i x. refl) old.now new.now (map target_row now.targets)
+    let made = updates old.now.schema spot.at table (record { lets = []; body = set_target_query spot.tree }) (holds.stands Targets).got
+    (holds.stands Targets).keyless old new refl text params count w in
+    let set = changes_key old.now.schema table (1 ∷ []) of_target params (λ i x. refl) (0 ∷ []) (first_fixed params) new_values (λ i x. refl) old.now new.now
+    (map target_row now.targets)
     (keys_apart old.now.schema old.now.trees spot.at table 0 (1 ∷ []) holds.sound (holds.stands Targets).got refl refl) (holds.rows Targets) made in
-    let is = changed_targets (on_content (passes of_target params)) (λ x. cast_all table.columns (on_content (shown_of new_values params) x)) id (renamed name digest) (λ t. names_it id t.id (Text t.name ∷ Blob t.digest ∷ []) (Text name ∷ Blob digest ∷ [])) (λ t. refl) now.targets in
-    holds_after Targets now (with_changed now id (renamed name digest)) old.now new.now holds (record { schema = made.schema_is; sound = w.sound; others = made.applies.tables }) (subst (IsHeldBy (new.now.trees spot.tree)) is set) only
+    let is = changed_targets (on_content (passes of_target params)) (λ x. cast_all table.columns (on_content (shown_of new_values params) x)) id
+    (renamed name digest) (λ t. names_it id t.id (Text t.name ∷ Blob t.digest ∷ []) (Text name ∷ Blob digest ∷ [])) (λ t. refl) now.targets in
+    holds_after Targets now (with_changed now id (renamed name digest)) old.now new.now holds
+    (record { schema = made.schema_is; sound = w.sound; others = made.applies.tables }) (subst (IsHeldBy (new.now.trees spot.tree)) is set) only
     (changed_sorted id (renamed name digest) (λ t. refl) (λ t sorted. sorted) now.targets holds.sorted)
   where
     only : ChangesOnly Targets (ledger_of now) (ledger_of (with_changed now id (renamed name digest)))
-    only = records_differ Targets now (with_changed now id (renamed name digest)) refl refl (Targets ∷ TargetTags ∷ TargetAttributes ∷ []) refl ((λ apart. absurd (apart refl)), ((λ apart. ap Unordered (changed_rows id (renamed name digest) tag_rows (λ t. refl) now.targets)), ((λ apart. ap Unordered (changed_rows id (renamed name digest) attribute_rows (λ t. refl) now.targets)), tt)))
+    only = records_differ Targets now (with_changed now id (renamed name digest)) refl refl (Targets ∷ TargetTags ∷ TargetAttributes ∷ []) refl (
+      (λ apart. absurd (apart refl)),
+      (
+        (λ apart. ap Unordered (changed_rows id (renamed name digest) tag_rows (λ t. refl) now.targets)),
+        ((λ apart. ap Unordered (changed_rows id (renamed name digest) attribute_rows (λ t. refl) now.targets)), tt),
+      ),
+    )
 
 -- ---- tags
 
 -- a change of tags alone leaves the other tables
-only_tags : (now : Records) (id : Bytes) (tags : List Bytes → List Bytes) → ChangesOnly TargetTags (ledger_of now) (ledger_of (with_changed now id (λ (it : Target). record it { tags = tags it.tags })))
-only_tags now id tags = records_differ TargetTags now (with_changed now id (λ (it : Target). record it { tags = tags it.tags })) refl refl (Targets ∷ TargetTags ∷ TargetAttributes ∷ []) refl
-    ((λ apart. ap Unordered (changed_map id (λ (it : Target). record it { tags = tags it.tags }) target_row (λ t. refl) now.targets)), ((λ apart. absurd (apart refl)), ((λ apart. ap Unordered (changed_rows id (λ (it : Target). record it { tags = tags it.tags }) attribute_rows (λ t. refl) now.targets)), tt)))
+only_tags : (now : Records) (id : Bytes) (tags : List Bytes → List Bytes)
+    → ChangesOnly TargetTags (ledger_of now) (ledger_of (with_changed now id (λ (it : Target). record it { tags = tags it.tags })))
+only_tags now id tags = records_differ TargetTags now (with_changed now id (λ (it : Target). record it { tags = tags it.tags })) refl refl
+    (Targets ∷ TargetTags ∷ TargetAttributes ∷ []) refl (
+      (λ apart. ap Unordered (changed_map id (λ (it : Target). record it { tags = tags it.tags }) target_row (λ t. refl) now.targets)),
+      (
+        (λ apart. absurd (apart refl)),
+        ((λ apart. ap Unordered (changed_rows id (λ (it : Target). record it { tags = tags it.tags }) attribute_rows (λ t. refl) now.targets)), tt),
+      ),
+    )
 
-tags_keep : (tags : List Bytes → List Bytes) → ((ws : List Bytes) → in_byte_order ws ≡ true → in_byte_order (tags ws) ≡ true) → (t : Target) → is_sorted t ≡ true → is_sorted (record t { tags = tags t.tags }) ≡ true
+tags_keep : (tags : List Bytes → List Bytes) → ((ws : List Bytes) → in_byte_order ws ≡ true → in_byte_order (tags ws) ≡ true) → (t : Target) → is_sorted t
+    ≡ true → is_sorted (record t { tags = tags t.tags }) ≡ true
 tags_keep tags keeps t sorted = let parts = and_parts (in_byte_order t.tags) (in_byte_order (keys_of t.attributes)) sorted in rw (keeps t.tags parts.0) parts.1
 
 pub adds_tag : (id w : Bytes) (old new : State) (text : List ℕ) (count : ℕ) (now next : Records) (holds : HoldsRecords old.now now) → AddsTag id w now next
     → (done : Writes old new None (Insert (holds.spot TargetTags).at (Values tag_terms 3)) text (tag_row id w) count) → HoldsRecords new.now next
 adds_tag id w old new text count now next holds change done =
     let spot = holds.spot TargetTags in
-    let made = inserts old.now.schema spot.at (target_tag_table spot.tree) tag_terms 3 (holds.stands TargetTags).got old new refl text (tag_row id w) count done in
-    let more = adds_row old.now.schema (target_tag_table spot.tree) (1 ∷ 2 ∷ []) (tag_row id w) tag_terms 3 (tag_row id w) refl old.now new.now (flat_map tag_rows now.targets) (holds.rows TargetTags) made in
-    let table : IsHeld (ledger_of (with_changed now id (tagged w))) TargetTags (new.now.trees spot.tree) = held_as _ _ _ more (tag_is_more id w now.targets (sorted_from (ids_of now.targets) (ids_sorted old.now now holds)) change.is_there change.is_new) in
+    let made = inserts old.now.schema spot.at (target_tag_table spot.tree) tag_terms 3 (holds.stands TargetTags).got old new refl text (tag_row id w) count
+    done in
+    let more = adds_row old.now.schema (target_tag_table spot.tree) (1 ∷ 2 ∷ []) (tag_row id w) tag_terms 3 (tag_row id w) refl old.now new.now
+    (flat_map tag_rows now.targets) (holds.rows TargetTags) made in
+    let table : IsHeld (ledger_of (with_changed now id (tagged w))) TargetTags (new.now.trees spot.tree) =
+    held_as _ _ _ more (tag_is_more id w now.targets (sorted_from (ids_of now.targets) (ids_sorted old.now now holds)) change.is_there change.is_new) in
     subst (HoldsRecords new.now) (sym change.next_is)
-    (holds_after TargetTags now (with_changed now id (tagged w)) old.now new.now holds (record { schema = made.schema_is; sound = done.sound; others = made.applies.tables }) table (only_tags now id (with_word w))
+    (holds_after TargetTags now (with_changed now id (tagged w)) old.now new.now holds
+    (record { schema = made.schema_is; sound = done.sound; others = made.applies.tables }) table (only_tags now id (with_word w))
     (changed_sorted id (tagged w) (λ t. refl) (tags_keep (with_word w) (in_order_with w)) now.targets holds.sorted))
 
 names_tag : (id w i v : Bytes) → not (passes of_tag (tag_row id w) (Null ∷ tag_row i v)) ≡ not (same_bytes i id && same_bytes v w)
 names_tag id w i v = ap not (rw (words_equal i id, words_equal v w) (ap (λ b. same_bytes i id && b) (and-true (same_bytes v w))))
 
 pub drops_tag : (id w : Bytes) (old new : State) (text : List ℕ) (count : ℕ) (now : Records) (holds : HoldsRecords old.now now)
-    → (done : Writes old new None (Delete (holds.spot TargetTags).at (record { lets = []; body = drop_tag_query (holds.spot TargetTags).tree })) text (tag_row id w) count) → HoldsRecords new.now (with_changed now id (untagged w))
+    → (done : Writes old new None (Delete (holds.spot TargetTags).at (record { lets = []; body = drop_tag_query (holds.spot TargetTags).tree })) text
+    (tag_row id w) count) → HoldsRecords new.now (with_changed now id (untagged w))
 drops_tag id w old new text count now holds done =
     let spot = holds.spot TargetTags in
     let table = target_tag_table spot.tree in
-    let made = deletes old.now.schema spot.at table (record { lets = []; body = drop_tag_query spot.tree }) (holds.stands TargetTags).got (holds.stands TargetTags).keyless old new refl text (tag_row id w) count done in
-    let left = drops old.now.schema table (1 ∷ 2 ∷ []) of_tag (tag_row id w) (λ i x. refl) old.now new.now (flat_map tag_rows now.targets) (holds.rows TargetTags) made in
+    let made = deletes old.now.schema spot.at table (record { lets = []; body = drop_tag_query spot.tree }) (holds.stands TargetTags).got
+    (holds.stands TargetTags).keyless old new refl text (tag_row id w) count done in
+    let left = drops old.now.schema table (1 ∷ 2 ∷ []) of_tag (tag_row id w) (λ i x. refl) old.now new.now (flat_map tag_rows now.targets)
+    (holds.rows TargetTags) made in
     let is = tag_is_less id w (λ x. not (passes of_tag (tag_row id w) (Null ∷ x))) (names_tag id w) now.targets in
-    holds_after TargetTags now (with_changed now id (untagged w)) old.now new.now holds (record { schema = made.schema_is; sound = done.sound; others = made.applies.tables }) (subst (IsHeldBy (new.now.trees spot.tree)) is left) (only_tags now id (without_word w))
+    holds_after TargetTags now (with_changed now id (untagged w)) old.now new.now holds
+    (record { schema = made.schema_is; sound = done.sound; others = made.applies.tables }) (subst (IsHeldBy (new.now.trees spot.tree)) is left)
+    (only_tags now id (without_word w))
     (changed_sorted id (untagged w) (λ t. refl) (tags_keep (without_word w) (in_order_without w)) now.targets holds.sorted)

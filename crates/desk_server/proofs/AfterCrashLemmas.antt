@@ -7,7 +7,8 @@ use Rattle.rollout_machine.specs.Standing.{DeskState}
 use Rattle.rollout_desk.specs.Openings.{AllHold, GoesOnOver}
 use Rattle.desk_server.specs.AfterCrash.{KeepsHeadline}
 
-pub keeps_headline : (images : Image → Type 0) (served reopened : DeskState Trees) → (AllHold served → GoesOnOver images served reopened) → KeepsHeadline images served reopened
+pub keeps_headline : (images : Image → Type 0) (served reopened : DeskState Trees) → (AllHold served → GoesOnOver images served reopened)
+    → KeepsHeadline images served reopened
 keeps_headline images served reopened goes_on interface h stream unread out out_new result exit image may approval reopens clean =
     let all : AllHold served = λ file left. let part = exit.crash file left in (followed_by h part.kept, part.holds) in
     ∥∥₁_map (goes_on all image may approval reopens clean) (λ on.

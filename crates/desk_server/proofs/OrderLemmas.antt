@@ -16,7 +16,8 @@ pub no_value : {A : Type 0} (found : Option A) (value : A) → None ≡ found �
 no_value found value none some = let missed : None ≡ Some value = none ∙ some in cc
 
 -- the interface is none that is served
-pub unknown_interface : (rows : List Row) (word : Text) → Some word ≡ first_of (codes "interface") rows → ((interface : Interface) → word ≢ interface_word interface) → ¬ NamesSetup rows
+pub unknown_interface : (rows : List Row) (word : Text) → Some word ≡ first_of (codes "interface") rows
+    → ((interface : Interface) → word ≢ interface_word interface) → ¬ NamesSetup rows
 unknown_interface rows word given other (setup, is) =
     let same : Some word ≡ Some (interface_word setup.interface) = given ∙ is.interface_is in
     let word_is : word ≡ interface_word setup.interface = cc in
@@ -43,7 +44,8 @@ other_name name other rows more apart same = not_from_Decides (bytes_eq name oth
 -- the connections are no number in the range
 pub no_connections : (rows : List Row) → None ≡ number_given 1 1000000 (first_of (codes "connections") rows) → ¬ NamesOrder (Some (codes "serve", rows))
 no_connections rows none (Serve setup port connections, serve) =
-    no_value _ connections none (ap (λ found. number_given 1 1000000 (first_of (codes "connections") (values_of found))) serve.subcommand ∙ serve.connections_is)
+    no_value _ connections none (ap (λ found. number_given 1 1000000 (first_of (codes "connections") (values_of found))) serve.subcommand
+    ∙ serve.connections_is)
 no_connections rows none (Run setup, is) = other_name (codes "serve") (codes "run") rows is.rows refl is.subcommand
 no_connections rows none (Import db file, is) = other_name (codes "serve") (codes "import") rows is.rows refl is.subcommand
 no_connections rows none (Report db rollout, is) = other_name (codes "serve") (codes "report") rows is.rows refl is.subcommand
@@ -58,7 +60,8 @@ no_import rows never (Report db rollout, is) = other_name (codes "import") (code
 no_import rows never (Verify db, is) = other_name (codes "import") (codes "verify") rows is.rows refl is.subcommand
 
 -- the values of `report` name no order where they aren't a database and a rollout's number
-pub no_report : (rows : List Row) → ((db : Text) (rollout : ℕ) → ¬ IsReport (Some (codes "report", rows)) db rollout) → ¬ NamesOrder (Some (codes "report", rows))
+pub no_report : (rows : List Row) → ((db : Text) (rollout : ℕ) → ¬ IsReport (Some (codes "report", rows)) db rollout)
+    → ¬ NamesOrder (Some (codes "report", rows))
 no_report rows never (Report db rollout, is) = never db.now rollout is
 no_report rows never (Run setup, is) = other_name (codes "report") (codes "run") rows is.rows refl is.subcommand
 no_report rows never (Serve setup port connections, is) = other_name (codes "report") (codes "serve") rows is.rows refl is.subcommand

@@ -1,5 +1,12 @@
 -- The calls on artifacts and their pieces.
-use Rattle.desk_store.proofs.Common.{◌≡◌, ◌≤◌, ℕ, ◌+◌, pos, [], ◌∷◌, length, Bool, Option, Some, Ok, Result, IfOk, option_map, Vec, vec_items, refl, sym, ap, subst, codes, list_any, Global, is_some, Int, Text, Blob, Row, column, State, Fault, RunsText, AsksText, TakesFirst, Finds, Makes, first_finds, run_makes, item_numbered, Bytes, ArtifactRecord, Records, Artifact, FIND_ARTIFACT, LAST_ARTIFACT, GET_ARTIFACT, LIST_ARTIFACTS, GET_PIECE, PUT_ARTIFACT, PUT_PIECE, StoredArtifact, HoldsLedger, HoldsRecords, ledger_of, IsLastRow, told_of, piece_row, is_same_artifact, file_of, piece_numbered, artifact_filed, with_artifact, AddsPiece, IsStoredRow, IsArtifactRow, StoredBytes, stored, told_names, shown_names, find_artifact_is, last_artifact_is, get_artifact_is, list_artifacts_is, get_piece_is, put_artifact_is, put_piece_is, AreReadAs, IsReadAs, put_at}
+use Rattle.desk_store.proofs.Common.{◌≡◌, ◌≤◌, ℕ, ◌+◌, pos, [], ◌∷◌, length, Bool, Option, Some, Ok, Result, IfOk, option_map, Vec, vec_items, refl, sym, ap}
+use Rattle.desk_store.proofs.Common.{subst, codes, list_any, Global, is_some, Int, Text, Blob, Row, column, State, Fault, RunsText, AsksText, TakesFirst}
+use Rattle.desk_store.proofs.Common.{Finds, Makes, first_finds, run_makes, item_numbered, Bytes, ArtifactRecord, Records, Artifact, FIND_ARTIFACT}
+use Rattle.desk_store.proofs.Common.{LAST_ARTIFACT, GET_ARTIFACT, LIST_ARTIFACTS, GET_PIECE, PUT_ARTIFACT, PUT_PIECE, StoredArtifact, HoldsLedger}
+use Rattle.desk_store.proofs.Common.{HoldsRecords, ledger_of, IsLastRow, told_of, piece_row, is_same_artifact, file_of, piece_numbered, artifact_filed}
+use Rattle.desk_store.proofs.Common.{with_artifact, AddsPiece, IsStoredRow, IsArtifactRow, StoredBytes, stored, told_names, shown_names, find_artifact_is}
+use Rattle.desk_store.proofs.Common.{last_artifact_is, get_artifact_is, list_artifacts_is, get_piece_is, put_artifact_is, put_piece_is, AreReadAs, IsReadAs}
+use Rattle.desk_store.proofs.Common.{put_at}
 use Rattle.rollout_machine.specs.Objects.{artifacts_shown}
 use Rattle.desk_records.proofs.ArtifactRecords.{finds_artifact, lasts_artifact, gets_artifact, lists_artifacts, gets_piece, adds_artifact, adds_piece}
 use Rattle.desk_store.proofs.ReadLemmas.{asks_all, takes_last, takes_one}
@@ -12,14 +19,18 @@ use Rattle.desk_store.proofs.Known.{in_ledgers, known, tables_know}
 abbrev pub FindsSame : ℕ → Bytes → Records → Bool → Type 0
 FindsSame m filename r found = found ≡ list_any (is_same_artifact m filename) r.artifacts
 
-pub found : {E : Type 0} (m : ℕ) (filename : Bytes) (old new : State) (row : Option Row) → TakesFirst old new FIND_ARTIFACT.now (file_of m filename) (Ok row) → Finds HoldsLedger ledger_of {E = E} old new (Ok (is_some row)) (FindsSame m filename)
+pub found : {E : Type 0} (m : ℕ) (filename : Bytes) (old new : State) (row : Option Row) → TakesFirst old new FIND_ARTIFACT.now (file_of m filename) (Ok row)
+    → Finds HoldsLedger ledger_of {E = E} old new (Ok (is_some row)) (FindsSame m filename)
 found m filename old new row h =
-    first_finds HoldsLedger ledger_of FIND_ARTIFACT.now (file_of m filename) old new (FindsSame m filename) (in_ledgers (known find_artifact_is)) (λ db r holds at given. tt) row h (Ok (is_some row)) (λ db now holds shown. finds_artifact db now holds (codes "number" ∷ []) m filename row shown)
+    first_finds HoldsLedger ledger_of FIND_ARTIFACT.now (file_of m filename) old new (FindsSame m filename) (in_ledgers (known find_artifact_is))
+    (λ db r holds at given. tt) row h (Ok (is_some row)) (λ db now holds shown. finds_artifact db now holds (codes "number" ∷ []) m filename row shown)
 
 -- ---- the last number
 
-pub last_read : (old new : State) (row : Option Row) → TakesFirst old new LAST_ARTIFACT.now [] (Ok row) → (out : Result ℕ Fault) → IfOk out (λ n. IsLastRow n row) → Finds HoldsLedger ledger_of old new out (λ r last. last ≡ length r.artifacts)
-last_read old new row = takes_last ledger_of LAST_ARTIFACT.now old new (known last_artifact_is) (λ r. length r.artifacts) (λ db l holds at given. tt) row (λ db r holds. lasts_artifact db r holds (codes "number" ∷ []) row)
+pub last_read : (old new : State) (row : Option Row) → TakesFirst old new LAST_ARTIFACT.now [] (Ok row) → (out : Result ℕ Fault)
+    → IfOk out (λ n. IsLastRow n row) → Finds HoldsLedger ledger_of old new out (λ r last. last ≡ length r.artifacts)
+last_read old new row = takes_last ledger_of LAST_ARTIFACT.now old new (known last_artifact_is) (λ r. length r.artifacts) (λ db l holds at given. tt) row
+    (λ db r holds. lasts_artifact db r holds (codes "number" ∷ []) row)
 
 -- ---- an artifact by its number
 
@@ -39,10 +50,12 @@ one_told told a h =
     let digest : told.digest ≡ a.digest = cc in
     λ i. record { module_number = m i; filename = name i; size = size i; digest = digest i }
 
-pub artifact_read : (number : ℕ) → 1 ≤ number → (old new : State) (row : Option Row) → TakesFirst old new GET_ARTIFACT.now (Int (pos number) ∷ []) (Ok row) → (out : Result (Option StoredArtifact) Fault)
+pub artifact_read : (number : ℕ) → 1 ≤ number → (old new : State) (row : Option Row) → TakesFirst old new GET_ARTIFACT.now (Int (pos number) ∷ []) (Ok row)
+    → (out : Result (Option StoredArtifact) Fault)
     → IfOk out (λ found. IsReadAs IsStoredRow found row) → Finds HoldsLedger ledger_of old new out (Gets number)
 artifact_read number least old new row =
-    takes_one ledger_of IsStoredRow told_of GET_ARTIFACT.now (Int (pos number) ∷ []) old new (known get_artifact_is) (λ r. item_numbered r.artifacts number) (λ found a. found ≡ option_map stored a) refl (λ told a h. ap Some (one_told told a h)) (λ db r holds at given. tt) row
+    takes_one ledger_of IsStoredRow told_of GET_ARTIFACT.now (Int (pos number) ∷ []) old new (known get_artifact_is) (λ r. item_numbered r.artifacts number)
+    (λ found a. found ≡ option_map stored a) refl (λ told a h. ap Some (one_told told a h)) (λ db r holds at given. tt) row
     (λ db now holds. gets_artifact db now holds told_names number least row)
 
 -- ---- the artifacts of a module
@@ -66,10 +79,12 @@ one_shown a b h =
     let digest : a.digest ≡ b.digest = cc in
     λ i. record { number = number i; filename = name i; size = size i; digest = digest i }
 
-pub artifacts_read : (m : ℕ) (old new : State) (rows : Vec Row Global) → AsksText old new LIST_ARTIFACTS.now (Int (pos m) ∷ []) (Ok rows) → (out : Result (Vec Artifact Global) Fault)
+pub artifacts_read : (m : ℕ) (old new : State) (rows : Vec Row Global) → AsksText old new LIST_ARTIFACTS.now (Int (pos m) ∷ []) (Ok rows)
+    → (out : Result (Vec Artifact Global) Fault)
     → IfOk out (λ artifacts. AreReadAs IsArtifactRow rows.items artifacts.items) → Finds HoldsLedger ledger_of old new out (Lists m)
 artifacts_read m old new rows =
-    asks_all ledger_of vec_items IsArtifactRow shown_row one_shown LIST_ARTIFACTS.now (Int (pos m) ∷ []) old new (known list_artifacts_is) (λ r. artifacts_shown m 1 r.artifacts) rows (λ db now holds. lists_artifacts db now holds shown_names m rows.items)
+    asks_all ledger_of vec_items IsArtifactRow shown_row one_shown LIST_ARTIFACTS.now (Int (pos m) ∷ []) old new (known list_artifacts_is)
+    (λ r. artifacts_shown m 1 r.artifacts) rows (λ db now holds. lists_artifacts db now holds shown_names m rows.items)
 
 -- ---- a piece
 
@@ -83,23 +98,31 @@ IsPieceRow row bytes = column row 0 ≡ StoredBytes bytes.items
 one_piece : (a : Vec ℕ Global) (b : Bytes) → IsPieceRow (Blob b ∷ []) a → a.items ≡ b
 one_piece a b h = let same : Blob b ≡ Blob a.items = h in cc
 
-pub piece_read : (number sequence : ℕ) → 1 ≤ number → (old new : State) (row : Option Row) → TakesFirst old new GET_PIECE.now (Int (pos number) ∷ Int (pos sequence) ∷ []) (Ok row) → (out : Result (Option (Vec ℕ Global)) Fault)
+pub piece_read : (number sequence : ℕ) → 1 ≤ number → (old new : State) (row : Option Row)
+    → TakesFirst old new GET_PIECE.now (Int (pos number) ∷ Int (pos sequence) ∷ []) (Ok row) → (out : Result (Option (Vec ℕ Global)) Fault)
     → IfOk out (λ found. IsReadAs IsPieceRow found row) → Finds HoldsLedger ledger_of old new out (Takes number sequence)
 piece_read number sequence least old new row =
-    takes_one ledger_of IsPieceRow (λ bytes. Blob bytes ∷ []) GET_PIECE.now (Int (pos number) ∷ Int (pos sequence) ∷ []) old new (known get_piece_is) (λ r. piece_numbered r.artifacts number sequence) (λ found bytes. option_map vec_items found ≡ bytes) refl
-    (λ a b h. ap Some (one_piece a b h)) (λ db r holds at given. tt) row (λ db now holds. gets_piece db now holds (codes "bytes" ∷ []) number sequence least row)
+    takes_one ledger_of IsPieceRow (λ bytes. Blob bytes ∷ []) GET_PIECE.now (Int (pos number) ∷ Int (pos sequence) ∷ []) old new (known get_piece_is)
+    (λ r. piece_numbered r.artifacts number sequence) (λ found bytes. option_map vec_items found ≡ bytes) refl
+    (λ a b h. ap Some (one_piece a b h)) (λ db r holds at given. tt) row
+    (λ db now holds. gets_piece db now holds (codes "bytes" ∷ []) number sequence least row)
 
 -- ---- a new artifact, and a further piece of it
 
 abbrev pub Puts : ℕ → ℕ → Bytes → ℕ → Bytes → Records → Records → Type 0
 Puts number m filename size digest r next = (number ≡ length r.artifacts + 1) × (next ≡ with_artifact r m filename size digest)
 
-pub artifact_written : (number m : ℕ) (filename : Bytes) (size : ℕ) (digest : Bytes) (old new : State) (out : Result (Unit {0}) Fault) → RunsText old new PUT_ARTIFACT.now (Int (pos number) ∷ told_of (artifact_filed m filename size digest)) out
+pub artifact_written : (number m : ℕ) (filename : Bytes) (size : ℕ) (digest : Bytes) (old new : State) (out : Result (Unit {0}) Fault)
+    → RunsText old new PUT_ARTIFACT.now (Int (pos number) ∷ told_of (artifact_filed m filename size digest)) out
     → Makes HoldsLedger ledger_of old new out (Puts number m filename size digest)
 artifact_written number m filename size digest old new out h =
-    run_makes HoldsLedger ledger_of PUT_ARTIFACT.now (Int (pos number) ∷ told_of (artifact_filed m filename size digest)) old new (Puts number m filename size digest) (in_ledgers (tables_know (put_at put_artifact_is))) out h
-    (λ now next change holds count w. (w, subst (HoldsRecords new.now) (sym change.1) (adds_artifact m filename size digest number old new _ count now holds change.0 w)))
+    run_makes HoldsLedger ledger_of PUT_ARTIFACT.now (Int (pos number) ∷ told_of (artifact_filed m filename size digest)) old new
+    (Puts number m filename size digest) (in_ledgers (tables_know (put_at put_artifact_is))) out h
+    (λ now next change holds count w.
+    (w, subst (HoldsRecords new.now) (sym change.1) (adds_artifact m filename size digest number old new _ count now holds change.0 w)))
 
-pub piece_written : (number sequence : ℕ) (bytes : Bytes) (old new : State) (out : Result (Unit {0}) Fault) → RunsText old new PUT_PIECE.now (piece_row number sequence bytes) out → Makes HoldsLedger ledger_of old new out (AddsPiece number sequence bytes)
-piece_written number sequence bytes old new out h = run_makes HoldsLedger ledger_of PUT_PIECE.now (piece_row number sequence bytes) old new (AddsPiece number sequence bytes) (in_ledgers (tables_know (put_at put_piece_is))) out h
+pub piece_written : (number sequence : ℕ) (bytes : Bytes) (old new : State) (out : Result (Unit {0}) Fault)
+    → RunsText old new PUT_PIECE.now (piece_row number sequence bytes) out → Makes HoldsLedger ledger_of old new out (AddsPiece number sequence bytes)
+piece_written number sequence bytes old new out h = run_makes HoldsLedger ledger_of PUT_PIECE.now (piece_row number sequence bytes) old new
+    (AddsPiece number sequence bytes) (in_ledgers (tables_know (put_at put_piece_is))) out h
     (λ now next change holds count w. (w, adds_piece number sequence bytes old new _ count now next holds change w))

@@ -1,5 +1,8 @@
 -- The calls on attributes of targets.
-use Rattle.desk_store.proofs.Common.{◌≡◌, List, [], ◌∷◌, Ok, Result, IfOk, Vec, codes, Global, Text, Row, State, Fault, RunsText, AsksText, Finds, Makes, run_makes, Bytes, Attribute, Records, target_of, LIST_TARGET_ATTRIBUTES, PUT_TARGET_ATTRIBUTE, SET_TARGET_ATTRIBUTE, HoldsLedger, ledger_of, IsAttributeRow, attribute_row, AreReadAs, put_target_attribute_is, set_target_attribute_is, changed_at, put_at}
+use Rattle.desk_store.proofs.Common.{◌≡◌, List, [], ◌∷◌, Ok, Result, IfOk, Vec, codes, Global, Text, Row, State, Fault, RunsText, AsksText, Finds, Makes}
+use Rattle.desk_store.proofs.Common.{run_makes, Bytes, Attribute, Records, target_of, LIST_TARGET_ATTRIBUTES, PUT_TARGET_ATTRIBUTE, SET_TARGET_ATTRIBUTE}
+use Rattle.desk_store.proofs.Common.{HoldsLedger, ledger_of, IsAttributeRow, attribute_row, AreReadAs, put_target_attribute_is, set_target_attribute_is}
+use Rattle.desk_store.proofs.Common.{changed_at, put_at}
 use Rattle.desk_records.specs.Targets.{attributes_of, AddsAttribute, SetsAttribute}
 use Rattle.desk_records.proofs.TargetMeaning.{list_target_attributes_is, put_target_attribute_is, set_target_attribute_is}
 use Rattle.desk_records.proofs.AttributeRecords.{lists_target_attributes, adds_attribute, sets_attribute}
@@ -25,17 +28,23 @@ one_shown a b h =
     let value : a.value ≡ b.value = cc in
     λ i. record { key = key i; value = value i }
 
-pub attributes_read : (id : Bytes) (old new : State) (rows : Vec Row Global) → AsksText old new LIST_TARGET_ATTRIBUTES.now (Text id ∷ []) (Ok rows) → (out : Result (List Attribute) Fault) → IfOk out (AreReadAs IsAttributeRow rows.items)
+pub attributes_read : (id : Bytes) (old new : State) (rows : Vec Row Global) → AsksText old new LIST_TARGET_ATTRIBUTES.now (Text id ∷ []) (Ok rows)
+    → (out : Result (List Attribute) Fault) → IfOk out (AreReadAs IsAttributeRow rows.items)
     → Finds HoldsLedger ledger_of old new out (Lists id)
 attributes_read id old new rows =
-    asks_all ledger_of (λ l. l) IsAttributeRow shown_row one_shown LIST_TARGET_ATTRIBUTES.now (Text id ∷ []) old new (known list_target_attributes_is) (λ r. attributes_of (target_of r id)) rows (λ db now holds. lists_target_attributes db now holds (codes "key" ∷ codes "value" ∷ []) id rows.items)
+    asks_all ledger_of (λ l. l) IsAttributeRow shown_row one_shown LIST_TARGET_ATTRIBUTES.now (Text id ∷ []) old new (known list_target_attributes_is)
+    (λ r. attributes_of (target_of r id)) rows (λ db now holds. lists_target_attributes db now holds (codes "key" ∷ codes "value" ∷ []) id rows.items)
 
 -- ---- what is written
 
-pub attribute_written : (id : Bytes) (a : Attribute) (old new : State) (out : Result (Unit {0}) Fault) → RunsText old new PUT_TARGET_ATTRIBUTE.now (attribute_row id a) out → Makes HoldsLedger ledger_of old new out (AddsAttribute id a)
-attribute_written id a old new out h = run_makes HoldsLedger ledger_of PUT_TARGET_ATTRIBUTE.now (attribute_row id a) old new (AddsAttribute id a) (in_ledgers (tables_know (put_at put_target_attribute_is))) out h
+pub attribute_written : (id : Bytes) (a : Attribute) (old new : State) (out : Result (Unit {0}) Fault)
+    → RunsText old new PUT_TARGET_ATTRIBUTE.now (attribute_row id a) out → Makes HoldsLedger ledger_of old new out (AddsAttribute id a)
+attribute_written id a old new out h = run_makes HoldsLedger ledger_of PUT_TARGET_ATTRIBUTE.now (attribute_row id a) old new (AddsAttribute id a)
+    (in_ledgers (tables_know (put_at put_target_attribute_is))) out h
     (λ now next change holds count done. (done, adds_attribute id a old new _ count now next holds change done))
 
-pub attribute_set : (id : Bytes) (a : Attribute) (old new : State) (out : Result (Unit {0}) Fault) → RunsText old new SET_TARGET_ATTRIBUTE.now (attribute_row id a) out → Makes HoldsLedger ledger_of old new out (SetsAttribute id a)
-attribute_set id a old new out h = run_makes HoldsLedger ledger_of SET_TARGET_ATTRIBUTE.now (attribute_row id a) old new (SetsAttribute id a) (in_ledgers (tables_know (changed_at set_target_attribute_is))) out h
+pub attribute_set : (id : Bytes) (a : Attribute) (old new : State) (out : Result (Unit {0}) Fault)
+    → RunsText old new SET_TARGET_ATTRIBUTE.now (attribute_row id a) out → Makes HoldsLedger ledger_of old new out (SetsAttribute id a)
+attribute_set id a old new out h = run_makes HoldsLedger ledger_of SET_TARGET_ATTRIBUTE.now (attribute_row id a) old new (SetsAttribute id a)
+    (in_ledgers (tables_know (changed_at set_target_attribute_is))) out h
     (λ now next change holds count done. (done, sets_attribute id a old new _ count now next holds change done))

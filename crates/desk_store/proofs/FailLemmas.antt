@@ -1,5 +1,8 @@
 -- Why a call over a ledger that can be read is no failed store by itself.
-use Rattle.desk_store.proofs.Common.{Place, ◌≡◌, ◌≤◌, ◌-◌, ℕ, zero, suc, inl, inr, List, [], ◌∷◌, take, drop, filter, map, Option, Some, None, Ok, Err, Result, IfErr, Vec, refl, sym, ap, subst, ◌∙◌, Global, Row, Query, Output, page, Database, Ghosts, Has, has_filtered, Fault, Memory, Store, AsksFew, AsksText, TakesFirst, ShowsFirst, first_finds, ask_finds, few_finds, IsOrdered, by, ordered_rows, passes, shown_in, shown_of, simple, HoldsLedger, Ledger, HoldsTables, Tables, IfStore, HasBroken, seen_in, OpenChange}
+use Rattle.desk_store.proofs.Common.{Place, ◌≡◌, ◌≤◌, ◌-◌, ℕ, zero, suc, inl, inr, List, [], ◌∷◌, take, drop, filter, map, Option, Some, None, Ok, Err, Result}
+use Rattle.desk_store.proofs.Common.{IfErr, Vec, refl, sym, ap, subst, ◌∙◌, Global, Row, Query, Output, page, Database, Ghosts, Has, has_filtered, Fault}
+use Rattle.desk_store.proofs.Common.{Memory, Store, AsksFew, AsksText, TakesFirst, ShowsFirst, first_finds, ask_finds, few_finds, IsOrdered, by, ordered_rows}
+use Rattle.desk_store.proofs.Common.{passes, shown_in, shown_of, simple, HoldsLedger, Ledger, HoldsTables, Tables, IfStore, HasBroken, seen_in, OpenChange}
 use Rattle.std.specs.Prelude.{◌≢◌}
 use Rattle.sqlite.specs.Effect.{Reads as Shows}
 use Rattle.sql_calls.specs.Standing.{Finds, Sees}
@@ -28,7 +31,8 @@ never_breaks (Err fault) sound = record { to = record { reason = λ is clean. so
 module _ {S : Type 0} {g : Ghosts S} {old new : OpenChange S} where
   module _ {R : Type 0} {Holds : Database → R → Type 0} {Given Why : R → Type 0} where
     -- a query that leaves what is seen as it is
-    pub call_breaks : {A : Type 0} (out : Result A Fault) → NeverBreaks g new out → ((x : A) → out ≡ Ok x → (r : R) → Sees Holds (seen_in g old) r → Sees Holds (seen_in g new) r) → BreaksOnly g Holds Given Why old new out
+    pub call_breaks : {A : Type 0} (out : Result A Fault) → NeverBreaks g new out
+        → ((x : A) → out ≡ Ok x → (r : R) → Sees Holds (seen_in g old) r → Sees Holds (seen_in g new) r) → BreaksOnly g Holds Given Why old new out
     call_breaks (Ok x) sound keeps = record { to = keeps x refl }
     call_breaks (Err fault) sound keeps = record { to = λ r seen given. record { reason = λ is clean. absurd (sound.to.reason is clean) } }
 
@@ -36,14 +40,16 @@ module _ {S : Type 0} {g : Ghosts S} {old new : OpenChange S} where
 
 module _ {S A B R : Type 0} {g : Ghosts S} {Holds : Database → R → Type 0} {Given Why : R → Type 0} {old new : OpenChange S} {x : A} {P : R → A → Type 0} where
   -- what was found leaves no broken row but for this
-  pub breaks_by : Finds Holds (λ (r : R). r) {E = Fault} (seen_in g old) (seen_in g new) (Ok x) P → (out : Result B Fault) → IfErr out (λ fault. IfStore fault ((r : R) → P r x → Given r → Why r)) → BreaksOnly g Holds Given Why old new out
+  pub breaks_by : Finds Holds (λ (r : R). r) {E = Fault} (seen_in g old) (seen_in g new) (Ok x) P → (out : Result B Fault)
+      → IfErr out (λ fault. IfStore fault ((r : R) → P r x → Given r → Why r)) → BreaksOnly g Holds Given Why old new out
   breaks_by read (Ok y) why = record { to = λ r seen. (read.finds r seen).0 }
   breaks_by read (Err Memory) why = record { to = λ r seen given. record { reason = λ is clean. absurd cc } }
   breaks_by read (Err Store) why = absurd why
   breaks_by read (Err Broken) why = record { to = λ r seen given. record { reason = λ is clean. why r ((read.finds r seen).1 clean) given } }
 
 -- the same at a ledger that can be read
-pub told_never : {B : Type 0} (Why : Type 0) (out : Result B Fault) → IfErr out (λ fault. IfStore fault Why) → IfErr out (λ fault. IfStore fault ((l : Ledger) → (IsReadable l → Why → ⊥) → IsReadable l → ⊥))
+pub told_never : {B : Type 0} (Why : Type 0) (out : Result B Fault) → IfErr out (λ fault. IfStore fault Why)
+    → IfErr out (λ fault. IfStore fault ((l : Ledger) → (IsReadable l → Why → ⊥) → IsReadable l → ⊥))
 told_never Why (Ok y) is = tt
 told_never Why (Err Memory) is = tt
 told_never Why (Err Store) is = is
@@ -76,12 +82,18 @@ has_page q params xs x among =
 
 module _ {p : Place} {sql : List ℕ} {query : ℕ → Query} {names : List (List ℕ)} (text : Asks p sql query names) where
   -- each row that is shown is one of the table
-  pub from_table : (params : Row) (db : Database) (t : Tables) (holds : HoldsTables db t) (shown : List Row) → Shows (known text db t holds).command db params shown → (x : Row) → Has shown x
+  pub from_table : (params : Row) (db : Database) (t : Tables) (holds : HoldsTables db t) (shown : List Row)
+      → Shows (known text db t holds).command db params shown → (x : Row) → Has shown x
       → (row : Row) × Has (t p) row × (x ≡ shown_of (query 0).project params row)
   from_table params db t holds shown shows x among =
-      let output = has_mapped (λ (o : Output). o.1) it.ordered x (has_page q params (map (λ (o : Output). o.1) it.ordered) x (subst (λ l. Has l x) it.is among)) in
-      let source = has_mapped (shown_in q params) _ output.0 (has_permuted _ _ output.0 (IsPermutation-sym _ _ it.same) output.1) in
-      (source.0, subst (λ l. Has l source.0) (sym (holds.rows p)) (has_filtered (passes q.filter params) (db.trees tree) source.0 source.1).0, output.2 ∙ ap (λ (o : Output). o.1) source.2)
+      let output = has_mapped (λ (o : Output). o.1) it.ordered x
+      (has_page q params (map (λ (o : Output). o.1) it.ordered) x (subst (λ l. Has l x) it.is among)) in
+      let source = has_mapped (shown_in q params) _ output.0 (has_permuted _ _ output.0 (IsPermutation-sym _ _ it.same) output.1) in (
+        source.0,
+        subst (λ l. Has l source.0) (sym (holds.rows p)) (has_filtered (passes q.filter params) (db.trees tree) source.0 source.1).0,
+        output.2
+            ∙ ap (λ (o : Output). o.1) source.2,
+      )
     where
       tree : ℕ
       tree = (holds.spot p).tree
@@ -90,23 +102,29 @@ module _ {p : Place} {sql : List ℕ} {query : ℕ → Query} {names : List (Lis
       q = by (simple tree (query 0).filter (query 0).project) (query 0).order (query 0).limit (query 0).offset
 
       it : IsOrdered q params (filter (passes (query 0).filter params) (db.trees tree)) shown
-      it = ordered_rows tree (query 0).filter (query 0).project (query 0).order (query 0).limit (query 0).offset params db.trees shown (answer_of text holds shows)
+      it = ordered_rows tree (query 0).filter (query 0).project (query 0).order (query 0).limit (query 0).offset params db.trees shown
+          (answer_of text holds shows)
 
   -- .. which can be read
-  module _ (is_broken : Row → Type 0) (rule : (params row : Row) → (BreaksColumn p row → ⊥) → is_broken (shown_of (query 0).project params row) → ⊥) (params : Row) where
-    kept : (db : Database) (l : Ledger) (holds : HoldsLedger db l) (shown : List Row) → Shows (in_ledgers (known text) db l holds).command db params shown → IsReadable l → (x : Row) → Has shown x → is_broken x → ⊥
+  module _ (is_broken : Row → Type 0) (rule : (params row : Row) → (BreaksColumn p row → ⊥) → is_broken (shown_of (query 0).project params row) → ⊥)
+      (params : Row) where
+    kept : (db : Database) (l : Ledger) (holds : HoldsLedger db l) (shown : List Row) → Shows (in_ledgers (known text) db l holds).command db params shown
+        → IsReadable l → (x : Row) → Has shown x → is_broken x → ⊥
     kept db l holds shown shows readable x among broken =
         let its = from_table params db (rows_of db l holds) (tables_of db l holds) shown shows x among in
         rule params its.0 (readable.keep p (db.trees (holds.spot p).tree) (holds.rows p) its.0 its.1) (subst is_broken its.2 broken)
 
     module _ {S B : Type 0} {g : Ghosts S} {old new : OpenChange S} (grows : old.store.now.calls.failures ≤ new.store.now.calls.failures) where
       -- the first row
-      pub first_fails : (row : Option Row) → TakesFirst (seen_in g old) (seen_in g new) sql params (Ok row) → (out : Result B Fault) → IfErr out (λ fault. IfStore fault (IsBroken is_broken row)) → FailsIn g old new out
+      pub first_fails : (row : Option Row) → TakesFirst (seen_in g old) (seen_in g new) sql params (Ok row) → (out : Result B Fault)
+          → IfErr out (λ fault. IfStore fault (IsBroken is_broken row)) → FailsIn g old new out
       first_fails row h out broken =
-          breaks_by (first_finds HoldsLedger (λ (l : Ledger). l) sql params (seen_in g old) (seen_in g new) (λ l u. IsReadable l → IsBroken is_broken row → ⊥) (in_ledgers (known text)) (λ db l holds at given. tt) row h (Ok (tt {0})) (λ db l holds shown. go db l holds row shown)) out
+          breaks_by (first_finds HoldsLedger (λ (l : Ledger). l) sql params (seen_in g old) (seen_in g new) (λ l u. IsReadable l → IsBroken is_broken row → ⊥)
+          (in_ledgers (known text)) (λ db l holds at given. tt) row h (Ok (tt {0})) (λ db l holds shown. go db l holds row shown)) out
           (told_never _ out broken)
         where
-          go : (db : Database) (l : Ledger) (holds : HoldsLedger db l) (row : Option Row) → ShowsFirst (in_ledgers (known text) db l holds).command db params row → IsReadable l → IsBroken is_broken row → ⊥
+          go : (db : Database) (l : Ledger) (holds : HoldsLedger db l) (row : Option Row) → ShowsFirst (in_ledgers (known text) db l holds).command db params
+              row → IsReadable l → IsBroken is_broken row → ⊥
           go db l holds None shown readable b = b
           go db l holds (Some x) shown readable b = kept db l holds (x ∷ shown.0) shown.1 readable x (inl refl) b
 
@@ -116,7 +134,9 @@ module _ {p : Place} {sql : List ℕ} {query : ℕ → Query} {names : List (Lis
 
         -- each row
         pub all_fails : AsksText (seen_in g old) (seen_in g new) sql params (Ok rows) → FailsIn g old new out
-        all_fails h = found (ask_finds HoldsLedger (λ (l : Ledger). l) sql params (seen_in g old) (seen_in g new) _ (in_ledgers (known text)) rows h (Ok (tt {0})) (λ db l holds shown readable b. kept db l holds rows.items shown readable b.row b.among b.broken))
+        all_fails h = found (ask_finds HoldsLedger (λ (l : Ledger). l) sql params (seen_in g old) (seen_in g new) _ (in_ledgers (known text)) rows h
+            (Ok (tt {0})) (λ db l holds shown readable b. kept db l holds rows.items shown readable b.row b.among b.broken))
 
         pub few_fails : (most : ℕ) → AsksFew (seen_in g old) (seen_in g new) sql params most (Ok rows) → FailsIn g old new out
-        few_fails most h = found (few_finds HoldsLedger (λ (l : Ledger). l) sql params (seen_in g old) (seen_in g new) _ (in_ledgers (known text)) most rows h (Ok (tt {0})) (λ db l holds shown readable b. kept db l holds rows.items shown readable b.row b.among b.broken))
+        few_fails most h = found (few_finds HoldsLedger (λ (l : Ledger). l) sql params (seen_in g old) (seen_in g new) _ (in_ledgers (known text)) most rows h
+            (Ok (tt {0})) (λ db l holds shown readable b. kept db l holds rows.items shown readable b.row b.among b.broken))

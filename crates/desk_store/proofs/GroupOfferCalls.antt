@@ -1,5 +1,6 @@
 -- The write of a group's offers.
-use Rattle.desk_store.proofs.Common.{ℕ, Result, refl, State, Fault, RunsText, Makes, KnowsWrite, run_makes, Bounds, PUT_GROUP_OFFERS, HoldsLedger, Ledger, Actions, Offers, group_params, offers_group, offers_keyed}
+use Rattle.desk_store.proofs.Common.{ℕ, Result, refl, State, Fault, RunsText, Makes, KnowsWrite, run_makes, Bounds, PUT_GROUP_OFFERS, HoldsLedger, Ledger}
+use Rattle.desk_store.proofs.Common.{Actions, Offers, group_params, offers_group, offers_keyed}
 use Rattle.desk_records.specs.LedgerSteps.{OffersGroup}
 use Rattle.desk_records.proofs.GroupOffersMeaning.{put_group_offers_command, put_group_offers_is}
 
@@ -13,5 +14,8 @@ knows_put_group_offers = record {
   rows = λ db l holds. refl;
 }
 
-pub group_offers_written : (number : ℕ) (bounds : Bounds) (old new : State) (out : Result (Unit {0}) Fault) → RunsText old new PUT_GROUP_OFFERS.now (group_params number bounds) out → Makes HoldsLedger (λ (l : Ledger). l) old new out (OffersGroup number bounds)
-group_offers_written number bounds old new out h = run_makes HoldsLedger (λ (l : Ledger). l) PUT_GROUP_OFFERS.now (group_params number bounds) old new (OffersGroup number bounds) knows_put_group_offers.knows out h (λ now next change holds count w. (w, offers_group number bounds old new _ count now next holds change w))
+pub group_offers_written : (number : ℕ) (bounds : Bounds) (old new : State) (out : Result (Unit {0}) Fault)
+    → RunsText old new PUT_GROUP_OFFERS.now (group_params number bounds) out → Makes HoldsLedger (λ (l : Ledger). l) old new out (OffersGroup number bounds)
+group_offers_written number bounds old new out h = run_makes HoldsLedger (λ (l : Ledger). l) PUT_GROUP_OFFERS.now (group_params number bounds) old new
+    (OffersGroup number bounds) knows_put_group_offers.knows out h
+    (λ now next change holds count w. (w, offers_group number bounds old new _ count now next holds change w))

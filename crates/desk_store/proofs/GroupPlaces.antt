@@ -1,5 +1,7 @@
 -- The groups of a rollout that reach a member's place: the one that holds it, and all behind it.
-use Rattle.desk_store.proofs.Common.{◌≡◌, ◌<◌, ◌≤◌, ℕ, zero, suc, ◌+◌, ◌-◌, List, [], ◌∷◌, drop, slice_get, refl, sym, ap, subst, ◌∙◌, arith, le-leb, lt-leb, item_numbered, group_in, rollout_in, group_holding, number_of_group, GroupRecord, that_reach, group_and_next, GroupAndNext}
+use Rattle.desk_store.proofs.Common.{◌≡◌, ◌<◌, ◌≤◌, ℕ, zero, suc, ◌+◌, ◌-◌, List, [], ◌∷◌, drop, slice_get, refl, sym, ap, subst, ◌∙◌, arith, le-leb, lt-leb}
+use Rattle.desk_store.proofs.Common.{item_numbered, group_in, rollout_in, group_holding, number_of_group, GroupRecord, that_reach, group_and_next}
+use Rattle.desk_store.proofs.Common.{GroupAndNext}
 use Rattle.rollout_machine.proofs.Cuts.{group_of, in_its_group}
 use Rattle.rollout_machine.proofs.Ties.{find_holding}
 use Rattle.rollout_machine.specs.CommandList.{CommandList}
@@ -30,10 +32,12 @@ module _ (x : Rollout) (r : ℕ) (h : CommandList) (sound : HasSoundPlan x) wher
 
   all_reach : (a n j : ℕ) → j ≤ last_of x a → that_reach j (groups_from a n) ≡ groups_from a n
   all_reach a zero j within = refl
-  all_reach a (suc n) j within = rw (le-leb _ _ within) (ap (λ gs. group_in x r h a ∷ gs) (all_reach (suc a) n j (omega (arith, within, sound.cut.rises a (suc a) (omega arith)))))
+  all_reach a (suc n) j within =
+      rw (le-leb _ _ within) (ap (λ gs. group_in x r h a ∷ gs) (all_reach (suc a) n j (omega (arith, within, sound.cut.rises a (suc a) (omega arith)))))
 
   rest_reach : (d a n g j : ℕ) → d ≤ n → a + d ≡ g → IsInGroup x g j → that_reach j (groups_from a n) ≡ drop d (groups_from a n)
-  rest_reach zero a n g j within at it = let same : g ≡ a = omega (arith, at) in all_reach a n j (subst (λ i. j ≤ last_of x i) same (omega (arith, it.low, it.high)))
+  rest_reach zero a n g j within at it = let same : g ≡ a = omega (arith, at) in
+      all_reach a n j (subst (λ i. j ≤ last_of x i) same (omega (arith, it.low, it.high)))
   rest_reach (suc d) a zero g j within at it = absurd (omega (arith, within))
   rest_reach (suc d) a (suc n) g j within at it =
       let past : last_of x a < j = omega (arith, it.low, sound.cut.rises a (g - 1) (omega (arith, at))) in
@@ -41,7 +45,11 @@ module _ (x : Rollout) (r : ℕ) (h : CommandList) (sound : HasSoundPlan x) wher
 
   -- the two that are read are the group that holds the place, and the group of the next number
   pub group_and_next_at : (j : ℕ) → 1 ≤ j → j ≤ size_of x
-      → group_and_next j (rollout_in h r x).groups ≡ record { group = item_numbered (rollout_in h r x).groups (number_of_group (group_holding j (rollout_in h r x).groups)); next = item_numbered (rollout_in h r x).groups (number_of_group (group_holding j (rollout_in h r x).groups) + 1) }
+      → group_and_next j (rollout_in h r x).groups
+      ≡ record {
+        group = item_numbered (rollout_in h r x).groups (number_of_group (group_holding j (rollout_in h r x).groups));
+        next = item_numbered (rollout_in h r x).groups (number_of_group (group_holding j (rollout_in h r x).groups) + 1);
+      }
   group_and_next_at j low high =
       let g = group_of x j in
       let own = in_its_group x j sound low high in

@@ -1,5 +1,6 @@
 -- What a text on one table means where tables are held, whatever rows they have, and so where a ledger is.
-use Rattle.desk_store.proofs.Common.{◌≡◌, ℕ, true, List, [], refl, subst, Null, Row, Database, Command, Query, simple, by, Knows, KnowsWrite, writes_rows, Place, HoldsLedger, HoldsTables, Tables}
+use Rattle.desk_store.proofs.Common.{◌≡◌, ℕ, true, List, [], refl, subst, Null, Row, Database, Command, Query, simple, by, Knows, KnowsWrite, writes_rows}
+use Rattle.desk_store.proofs.Common.{Place, HoldsLedger, HoldsTables, Tables}
 use Rattle.sqlite.specs.Effect.{Reads as Shows}
 use Rattle.sqlite.specs.Program.{overlay}
 use Rattle.sqlite.specs.Query.{IsAnswer}
@@ -13,7 +14,8 @@ in_ledgers knows db l holds = knows db (rows_of db l holds) (record { sound = ho
 module _ {p : Place} {sql : List ℕ} {command : ℕ → ℕ → Command} (means : MeansAt p sql command) where
   -- wherever the table stands
   abbrev pub tables_know : Knows HoldsTables sql
-  tables_know db tables holds = record { command = command (holds.spot p).at (holds.spot p).tree; means = means.at db.schema (holds.spot p).at (holds.spot p).tree (holds.stands p) }
+  tables_know db tables holds =
+      record { command = command (holds.spot p).at (holds.spot p).tree; means = means.at db.schema (holds.spot p).at (holds.spot p).tree (holds.stands p) }
 
   -- .. as a text that writes rows
   abbrev pub ledger_writes : ((at tree : ℕ) → writes_rows (command at tree) ≡ true) → KnowsWrite HoldsLedger sql
@@ -26,5 +28,6 @@ module _ {p : Place} {sql : List ℕ} {query : ℕ → Query} {names : List (Lis
 
   -- what it shows is an answer to the query over the rows there
   pub answer_of : {db : Database} {t : Tables} (holds : HoldsTables db t) {params : Row} {shown : List Row} → Shows (known db t holds).command db params shown
-      → IsAnswer (by (simple (holds.spot p).tree (query 0).filter (query 0).project) (query 0).order (query 0).limit (query 0).offset) (overlay db.trees []) params shown
+      → IsAnswer (by (simple (holds.spot p).tree (query 0).filter (query 0).project) (query 0).order (query 0).limit (query 0).offset) (overlay db.trees [])
+      params shown
   answer_of {db} holds {params} {shown} shows = subst (λ b. IsAnswer b (overlay db.trees []) params shown) (text.shape (holds.spot p).tree) (shows.answer Null)

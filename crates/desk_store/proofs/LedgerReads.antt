@@ -1,5 +1,14 @@
 -- What rows of rollouts, groups, actions and offers tell of the ledger that they show.
-use Rattle.desk_store.proofs.Common.{◌≡◌, ℕ, pos, List, [], ◌∷◌, map, Bool, true, false, Option, Some, None, option_map, refl, sym, ◌∙◌, ap, ap₂, if◌then◌else◌, nat_eq, nat_lt, list_all, and_parts, option_and_then, Int, Text, Row, HistoryEntry, Said, OfDeployment, OfCancel, DeploymentWord, CancelWord, Proceeding, Scheduled, Resumed, Succeeded, Failed, Rejected, Noted, ClosedCancel, CanceledCancel, RejectedCancel, NotedCancel, Outcome, GroupRecord, is_number, is_feedback_number, is_group_count, is_percentage, Approval, Offer, ListedAction, StoredAction, StoredRollout, cancel_code, deployment_code, kind_code, lines_of, outcome_code, told_entry, word_code, IsEntryRow, cancel_from, cancel_in, deployment_from, deployment_in, keeps_details, said_in, or_null, coded_in, flag_of, approval_from, outcome_from, place_from, flag_in, approval_in, outcome_in, place_in, percentage_in, percentage_or_none_in, told_number, IsLastNumberRow, IsNumberRow, LastNumber, PlacedNumber, IsRolloutRow, IsGroupRow, IsActionRow, IsListedActionRow, IsOfferRow, approval_code, flag, told_rule, IsRuleRow, GroupRule, shown_group, shown_action, told_listed, told_offer, ranged_is, told_last, AreReadAs}
+use Rattle.desk_store.proofs.Common.{◌≡◌, ℕ, pos, List, [], ◌∷◌, map, Bool, true, false, Option, Some, None, option_map, refl, sym, ◌∙◌, ap, ap₂}
+use Rattle.desk_store.proofs.Common.{if◌then◌else◌, nat_eq, nat_lt, list_all, and_parts, option_and_then, Int, Text, Row, HistoryEntry, Said, OfDeployment}
+use Rattle.desk_store.proofs.Common.{OfCancel, DeploymentWord, CancelWord, Proceeding, Scheduled, Resumed, Succeeded, Failed, Rejected, Noted, ClosedCancel}
+use Rattle.desk_store.proofs.Common.{CanceledCancel, RejectedCancel, NotedCancel, Outcome, GroupRecord, is_number, is_feedback_number, is_group_count}
+use Rattle.desk_store.proofs.Common.{is_percentage, Approval, Offer, ListedAction, StoredAction, StoredRollout, cancel_code, deployment_code, kind_code}
+use Rattle.desk_store.proofs.Common.{lines_of, outcome_code, told_entry, word_code, IsEntryRow, cancel_from, cancel_in, deployment_from, deployment_in}
+use Rattle.desk_store.proofs.Common.{keeps_details, said_in, or_null, coded_in, flag_of, approval_from, outcome_from, place_from, flag_in, approval_in}
+use Rattle.desk_store.proofs.Common.{outcome_in, place_in, percentage_in, percentage_or_none_in, told_number, IsLastNumberRow, IsNumberRow, LastNumber}
+use Rattle.desk_store.proofs.Common.{PlacedNumber, IsRolloutRow, IsGroupRow, IsActionRow, IsListedActionRow, IsOfferRow, approval_code, flag, told_rule}
+use Rattle.desk_store.proofs.Common.{IsRuleRow, GroupRule, shown_group, shown_action, told_listed, told_offer, ranged_is, told_last, AreReadAs}
 use Rattle.rollout_machine.specs.declared.outcome.Outcome.TheVariants.{Good, Bad, Gone}
 use Rattle.rollout_model.specs.declared.approval.Approval.TheVariants.{Waiting, Denied, Given}
 use Rattle.desk_records.proofs.DetailLines.{same_details}
@@ -53,7 +62,8 @@ kept_outcome (Some Gone) c h = let e : Some (Some Gone) ≡ Some c = coded outco
 -- ---- rows
 
 abbrev pub shown_rollout : StoredRollout → Row
-shown_rollout x = Text x.plan.name ∷ Int (pos x.plan.set_number) ∷ Text x.plan.filter_text ∷ Int (pos x.plan.groups) ∷ Int (pos x.plan.success) ∷ Int (pos x.plan.error)
+shown_rollout x = Text x.plan.name ∷ Int (pos x.plan.set_number) ∷ Text x.plan.filter_text ∷ Int (pos x.plan.groups) ∷ Int (pos x.plan.success)
+    ∷ Int (pos x.plan.error)
     ∷ Int (pos (approval_code x.approval)) ∷ Int (pos (flag x.started)) ∷ Int (pos (flag x.paused)) ∷ []
 
 pub one_rollout : (a b : StoredRollout) → IsRolloutRow (shown_rollout b) a → a ≡ b
@@ -67,7 +77,19 @@ one_rollout a b h =
     let approval = kept_approval b.approval a.approval h.approval in
     let started = kept_flag b.started a.started h.started in
     let paused = kept_flag b.paused a.paused h.paused in
-    λ i. record { plan = record { name = name i; set_number = set_number i; filter_text = filter_text i; groups = groups i; success = success i; error = error i }; approval = approval i; started = started i; paused = paused i }
+    λ i. record {
+      plan = record {
+        name = name i;
+        set_number = set_number i;
+        filter_text = filter_text i;
+        groups = groups i;
+        success = success i;
+        error = error i;
+      };
+      approval = approval i;
+      started = started i;
+      paused = paused i;
+    }
 
 kept_percentage_or_none : (o c : Option ℕ) → percentage_or_none_in (or_null (λ n. Int (pos n)) o) ≡ Some c → c ≡ o
 kept_percentage_or_none None c h = cc
@@ -108,7 +130,9 @@ one_group a b h =
     λ i. record { number = number i; bounds = record { first = first i; last = last i }; started = started i; ok = ok i; bad = bad i; gone = gone i }
 
 -- whatever else the row has
-one_of : (a b : StoredAction) (more : Row) → IsActionRow (Int (pos b.rollout) ∷ Int (pos b.position) ∷ Text b.target ∷ Int (pos (flag b.canceling)) ∷ Int (pos (outcome_code b.outcome)) ∷ Int (pos b.notes) ∷ Int (pos b.entries) ∷ more) a → a ≡ b
+one_of : (a b : StoredAction) (more : Row)
+    → IsActionRow (Int (pos b.rollout) ∷ Int (pos b.position) ∷ Text b.target ∷ Int (pos (flag b.canceling)) ∷ Int (pos (outcome_code b.outcome))
+    ∷ Int (pos b.notes) ∷ Int (pos b.entries) ∷ more) a → a ≡ b
 one_of a b more h =
     let rollout = kept_number is_number b.rollout a.rollout h.rollout in
     let position = same_int b.position a.position h.position in
@@ -117,7 +141,16 @@ one_of a b more h =
     let outcome = kept_outcome b.outcome a.outcome h.outcome in
     let notes = same_int b.notes a.notes h.notes in
     let entries = same_int b.entries a.entries h.entries in
-    λ i. record { rollout = rollout i; position = position i; target = target i; canceling = canceling i; outcome = outcome i; notes = notes i; entries = entries i }
+    λ i. record {
+      rollout = rollout i;
+      position = position i;
+      target = target i;
+      canceling = canceling i;
+      outcome = outcome i;
+      notes = notes i;
+      entries =
+          entries i;
+    }
 
 pub one_action : (a b : StoredAction) → IsActionRow (shown_action b) a → a ≡ b
 one_action a b h = one_of a b [] h
@@ -158,7 +191,8 @@ from_mapped f (Some a) v h = (a, refl, let same : f a ≡ v = cc in same)
 from_mapped f None v h = cc
 
 kept_said : (w v : Said) → said_in (Int (pos (kind_code w)) ∷ Int (pos (word_code w)) ∷ []) ≡ Some v → v ≡ w
-kept_said (OfDeployment w) v h = let it = from_mapped OfDeployment (deployment_in (Int (pos (deployment_code w)))) v h in sym it.2 ∙ ap OfDeployment (kept_deployment w it.0 it.1)
+kept_said (OfDeployment w) v h = let it = from_mapped OfDeployment (deployment_in (Int (pos (deployment_code w)))) v h in sym it.2
+    ∙ ap OfDeployment (kept_deployment w it.0 it.1)
 kept_said (OfCancel w) v h = let it = from_mapped OfCancel (cancel_in (Int (pos (cancel_code w)))) v h in sym it.2 ∙ ap OfCancel (kept_cancel w it.0 it.1)
 
 pub one_entry : (a b : HistoryEntry) → keeps_details b ≡ true → IsEntryRow (told_entry b) a → a ≡ b
@@ -167,8 +201,10 @@ one_entry a b keep h =
     let details = same_details a.details b.details h.2 keep (same_text (lines_of b.details) (lines_of a.details) h.1) in
     λ i. record { said = said i; details = details i }
 
-pub same_entries : (found wanted : List HistoryEntry) → list_all keeps_details wanted ≡ true → AreReadAs IsEntryRow (map told_entry wanted) found → found ≡ wanted
+pub same_entries : (found wanted : List HistoryEntry) → list_all keeps_details wanted ≡ true → AreReadAs IsEntryRow (map told_entry wanted) found
+    → found ≡ wanted
 same_entries [] [] keep h = refl
 same_entries [] (b ∷ bs) keep h = absurd h
 same_entries (a ∷ found) [] keep h = absurd h
-same_entries (a ∷ found) (b ∷ bs) keep h = let parts = and_parts (keeps_details b) (list_all keeps_details bs) keep in ap₂ ◌∷◌ (one_entry a b parts.0 h.0) (same_entries found bs parts.1 h.1)
+same_entries (a ∷ found) (b ∷ bs) keep h = let parts = and_parts (keeps_details b) (list_all keeps_details bs) keep in
+    ap₂ ◌∷◌ (one_entry a b parts.0 h.0) (same_entries found bs parts.1 h.1)

@@ -1,5 +1,8 @@
 -- The calls on modules.
-use Rattle.desk_store.proofs.Common.{◌≡◌, ◌≤◌, ℕ, ◌+◌, pos, [], ◌∷◌, length, Bool, Option, Some, Ok, Result, IfOk, refl, sym, ap, subst, codes, list_any, is_some, Int, Text, Row, State, Fault, RunsText, TakesFirst, Finds, Makes, first_finds, run_makes, item_numbered, ModuleLabel, Records, FIND_MODULE, LAST_MODULE, GET_MODULE, PUT_MODULE, HoldsLedger, HoldsRecords, ledger_of, is_same, words_of, with_module, IsLastRow, IsReadAs, put_module_is, put_at}
+use Rattle.desk_store.proofs.Common.{◌≡◌, ◌≤◌, ℕ, ◌+◌, pos, [], ◌∷◌, length, Bool, Option, Some, Ok, Result, IfOk, refl, sym, ap, subst, codes, list_any}
+use Rattle.desk_store.proofs.Common.{is_some, Int, Text, Row, State, Fault, RunsText, TakesFirst, Finds, Makes, first_finds, run_makes, item_numbered}
+use Rattle.desk_store.proofs.Common.{ModuleLabel, Records, FIND_MODULE, LAST_MODULE, GET_MODULE, PUT_MODULE, HoldsLedger, HoldsRecords, ledger_of, is_same}
+use Rattle.desk_store.proofs.Common.{words_of, with_module, IsLastRow, IsReadAs, put_module_is, put_at}
 use Rattle.desk_records.specs.ModuleRow.{IsLabelRow}
 use Rattle.desk_records.proofs.Meaning.{find_module_is, last_module_is, get_module_is, put_module_is}
 use Rattle.desk_records.proofs.Modules.{finds_module, lasts_module, gets_module, adds_module}
@@ -13,13 +16,17 @@ use Rattle.desk_store.proofs.Known.{in_ledgers, known, tables_know}
 abbrev pub FindsSame : ModuleLabel → Records → Bool → Type 0
 FindsSame label r found = found ≡ list_any (is_same label) r.modules
 
-pub found : {E : Type 0} (label : ModuleLabel) (old new : State) (row : Option Row) → TakesFirst old new FIND_MODULE.now (words_of label) (Ok row) → Finds HoldsLedger ledger_of {E = E} old new (Ok (is_some row)) (FindsSame label)
-found label old new row h = first_finds HoldsLedger ledger_of FIND_MODULE.now (words_of label) old new (FindsSame label) (in_ledgers (known find_module_is)) (λ db r holds at given. tt) row h (Ok (is_some row)) (λ db now holds shown. finds_module label db now holds (codes "number" ∷ []) row shown)
+pub found : {E : Type 0} (label : ModuleLabel) (old new : State) (row : Option Row) → TakesFirst old new FIND_MODULE.now (words_of label) (Ok row)
+    → Finds HoldsLedger ledger_of {E = E} old new (Ok (is_some row)) (FindsSame label)
+found label old new row h = first_finds HoldsLedger ledger_of FIND_MODULE.now (words_of label) old new (FindsSame label) (in_ledgers (known find_module_is))
+    (λ db r holds at given. tt) row h (Ok (is_some row)) (λ db now holds shown. finds_module label db now holds (codes "number" ∷ []) row shown)
 
 -- ---- the last number
 
-pub last_read : (old new : State) (row : Option Row) → TakesFirst old new LAST_MODULE.now [] (Ok row) → (out : Result ℕ Fault) → IfOk out (λ n. IsLastRow n row) → Finds HoldsLedger ledger_of old new out (λ r last. last ≡ length r.modules)
-last_read old new row = takes_last ledger_of LAST_MODULE.now old new (known last_module_is) (λ r. length r.modules) (λ db l holds at given. tt) row (λ db r holds. lasts_module db r holds (codes "number" ∷ []) row)
+pub last_read : (old new : State) (row : Option Row) → TakesFirst old new LAST_MODULE.now [] (Ok row) → (out : Result ℕ Fault) → IfOk out (λ n. IsLastRow n row)
+    → Finds HoldsLedger ledger_of old new out (λ r last. last ≡ length r.modules)
+last_read old new row = takes_last ledger_of LAST_MODULE.now old new (known last_module_is) (λ r. length r.modules) (λ db l holds at given. tt) row
+    (λ db r holds. lasts_module db r holds (codes "number" ∷ []) row)
 
 -- ---- a module by its number
 
@@ -37,9 +44,11 @@ one_label a b h =
     let version : a.version ≡ b.version = cc in
     λ i. record { name = name i; kind = kind i; version = version i }
 
-pub module_read : (number : ℕ) → 1 ≤ number → (old new : State) (row : Option Row) → TakesFirst old new GET_MODULE.now (Int (pos number) ∷ []) (Ok row) → (out : Result (Option ModuleLabel) Fault) → IfOk out (λ found. IsReadAs IsLabelRow found row)
+pub module_read : (number : ℕ) → 1 ≤ number → (old new : State) (row : Option Row) → TakesFirst old new GET_MODULE.now (Int (pos number) ∷ []) (Ok row)
+    → (out : Result (Option ModuleLabel) Fault) → IfOk out (λ found. IsReadAs IsLabelRow found row)
     → Finds HoldsLedger ledger_of old new out (Gets number)
-module_read number least old new row = takes_one ledger_of IsLabelRow words_of GET_MODULE.now (Int (pos number) ∷ []) old new (known get_module_is) (λ r. item_numbered r.modules number) ◌≡◌ refl (λ a b h. ap Some (one_label a b h)) (λ db r holds at given. tt) row
+module_read number least old new row = takes_one ledger_of IsLabelRow words_of GET_MODULE.now (Int (pos number) ∷ []) old new (known get_module_is)
+    (λ r. item_numbered r.modules number) ◌≡◌ refl (λ a b h. ap Some (one_label a b h)) (λ db r holds at given. tt) row
     (λ db now holds. gets_module number least db now holds (codes "name" ∷ codes "type" ∷ codes "version" ∷ []) row)
 
 -- ---- a new module
@@ -47,6 +56,8 @@ module_read number least old new row = takes_one ledger_of IsLabelRow words_of G
 abbrev pub Puts : ℕ → ModuleLabel → Records → Records → Type 0
 Puts number label r next = (number ≡ length r.modules + 1) × (next ≡ with_module r label)
 
-pub module_written : (number : ℕ) (label : ModuleLabel) (old new : State) (out : Result (Unit {0}) Fault) → RunsText old new PUT_MODULE.now (Int (pos number) ∷ words_of label) out → Makes HoldsLedger ledger_of old new out (Puts number label)
-module_written number label old new out h = run_makes HoldsLedger ledger_of PUT_MODULE.now (Int (pos number) ∷ words_of label) old new (Puts number label) (in_ledgers (tables_know (put_at put_module_is))) out h
+pub module_written : (number : ℕ) (label : ModuleLabel) (old new : State) (out : Result (Unit {0}) Fault)
+    → RunsText old new PUT_MODULE.now (Int (pos number) ∷ words_of label) out → Makes HoldsLedger ledger_of old new out (Puts number label)
+module_written number label old new out h = run_makes HoldsLedger ledger_of PUT_MODULE.now (Int (pos number) ∷ words_of label) old new (Puts number label)
+    (in_ledgers (tables_know (put_at put_module_is))) out h
     (λ now next change holds count w. (w, subst (HoldsRecords new.now) (sym change.1) (adds_module label number old new _ count now holds change.0 w)))

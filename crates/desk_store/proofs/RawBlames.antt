@@ -1,5 +1,16 @@
 -- What a failed read of a table is blamed on.
-use Rattle.desk_store.proofs.Common.{◌≡◌, ◌≤◌, ◌<◌, ◌⊎◌, ◌^◌, ◌||◌, inl, inr, ℕ, min, nat_lt, pos, negsuc, Bool, true, false, not, List, [], ◌∷◌, length, nat_le, Option, Some, None, Ok, Err, Result, IfErr, Vec, refl, sym, subst, arith, and_parts, nat_tests, number_in_good, number_in_is, Global, Value, Null, Int, Text, Row, column, Database, Query, Ghosts, lit, Has, Fault, Memory, Store, AsksFew, AsksText, TakesFirst, ShowsFirst, first_finds, by, passes, shown_of, Members, Place, Rollouts, HoldsTables, Tables, has_bytes, has_wide_count, is_wide, first_broken, number_in, BreaksSequenced, broken_number_column, broken_action_column, broken_offer_column, broken_rollout_column, broken_rule_column, Offer, Column, StoredAction, GET_ACTION, GET_OFFER, LIST_ACTIONS, LIST_ENTRIES, LIST_NUMBERS, LIST_OFFERS, GET_PIECE, LIST_ALL_ARTIFACTS, GET_ROLLOUT, GET_RULE, LAST_ROLLOUT, LIST_GROUPS, LIST_PLACES, get_action_is, get_offer_is, list_actions_is, list_entries_is, list_numbers_is, list_offers_is, count_shown, get_piece_is, list_all_artifacts_is, get_rollout_is, get_rule_is, list_groups_is, list_places_is, of_rollout, placed_columns, places_query, Blames, BlamesGiven, FindsTables, seen_in, BreaksRule, HasBroken, HasNoNumber, IfStore, IsUnreadable, broken_entry, broken_number, broken_piece, broken_rollout, broken_rule, large_count, large_number, many_rows, OpenChange, last_rollout_is}
+use Rattle.desk_store.proofs.Common.{◌≡◌, ◌≤◌, ◌<◌, ◌⊎◌, ◌^◌, ◌||◌, inl, inr, ℕ, min, nat_lt, pos, negsuc, Bool, true, false, not, List, [], ◌∷◌, length}
+use Rattle.desk_store.proofs.Common.{nat_le, Option, Some, None, Ok, Err, Result, IfErr, Vec, refl, sym, subst, arith, and_parts, nat_tests, number_in_good}
+use Rattle.desk_store.proofs.Common.{number_in_is, Global, Value, Null, Int, Text, Row, column, Database, Query, Ghosts, lit, Has, Fault, Memory, Store}
+use Rattle.desk_store.proofs.Common.{AsksFew, AsksText, TakesFirst, ShowsFirst, first_finds, by, passes, shown_of, Members, Place, Rollouts, HoldsTables}
+use Rattle.desk_store.proofs.Common.{Tables, has_bytes, has_wide_count, is_wide, first_broken, number_in, BreaksSequenced, broken_number_column}
+use Rattle.desk_store.proofs.Common.{broken_action_column, broken_offer_column, broken_rollout_column, broken_rule_column, Offer, Column, StoredAction}
+use Rattle.desk_store.proofs.Common.{GET_ACTION, GET_OFFER, LIST_ACTIONS, LIST_ENTRIES, LIST_NUMBERS, LIST_OFFERS, GET_PIECE, LIST_ALL_ARTIFACTS, GET_ROLLOUT}
+use Rattle.desk_store.proofs.Common.{GET_RULE, LAST_ROLLOUT, LIST_GROUPS, LIST_PLACES, get_action_is, get_offer_is, list_actions_is, list_entries_is}
+use Rattle.desk_store.proofs.Common.{list_numbers_is, list_offers_is, count_shown, get_piece_is, list_all_artifacts_is, get_rollout_is, get_rule_is}
+use Rattle.desk_store.proofs.Common.{list_groups_is, list_places_is, of_rollout, placed_columns, places_query, Blames, BlamesGiven, FindsTables, seen_in}
+use Rattle.desk_store.proofs.Common.{BreaksRule, HasBroken, HasNoNumber, IfStore, IsUnreadable, broken_entry, broken_number, broken_piece, broken_rollout}
+use Rattle.desk_store.proofs.Common.{broken_rule, large_count, large_number, many_rows, OpenChange, last_rollout_is}
 use Rattle.sql_calls.specs.declared.fault.Fault.TheVariants.{Broken}
 use Rattle.std.proofs.lemmas.List.Filters.{length-filter_both}
 use Rattle.rollout_model.specs.Limits.{number_limit}
@@ -22,18 +33,22 @@ module _ {p : Place} {sql : List ℕ} {query : ℕ → Query} {names : List (Lis
   AreOf t rows = (shown : Row) → Has rows.items shown → (row : Row) × Has (t p) row × (shown ≡ shown_of (query 0).project params row)
 
   module _ (rows : Vec Row Global) where
-    are_of : (db : Database) (t : Tables) (holds : HoldsTables db t) (found : Vec Row Global) → Shows (known text db t holds).command db params rows.items → found ≡ rows → AreOf t found
+    are_of : (db : Database) (t : Tables) (holds : HoldsTables db t) (found : Vec Row Global) → Shows (known text db t holds).command db params rows.items
+        → found ≡ rows → AreOf t found
     are_of db t holds found shows is = subst (AreOf t) (sym is) (from_table text params db t holds rows.items shows)
 
-    module _ {S B : Type 0} (g : Ghosts S) (Given : Tables → Type 0) (is_broken : Row → Type 0) (blames : (t : Tables) (row : Row) → Has (t p) row → is_broken (shown_of (query 0).project params row) → Given t → IsUnreadable t)
-        (old new : OpenChange S) (grows : old.store.now.calls.failures ≤ new.store.now.calls.failures) (out : Result B Fault) (broken : IfErr out (λ fault. IfStore fault (HasBroken is_broken rows.items))) where
+    module _ {S B : Type 0} (g : Ghosts S) (Given : Tables → Type 0) (is_broken : Row → Type 0) (blames : (t : Tables) (row : Row) → Has (t p) row
+        → is_broken (shown_of (query 0).project params row) → Given t → IsUnreadable t)
+        (old new : OpenChange S) (grows : old.store.now.calls.failures ≤ new.store.now.calls.failures) (out : Result B Fault)
+        (broken : IfErr out (λ fault. IfStore fault (HasBroken is_broken rows.items))) where
       told : FindsTables g {E = Fault} old new (Ok rows) AreOf → BlamesGiven g Given old new out
       told read = blamed read grows out (go out broken)
         where
           unreadable : HasBroken is_broken rows.items → (t : Tables) → AreOf t rows → Given t → IsUnreadable t
           unreadable it t of given = let its = of it.row it.among in blames t its.0 its.1 (subst is_broken its.2 it.broken) given
 
-          go : (out : Result B Fault) → IfErr out (λ fault. IfStore fault (HasBroken is_broken rows.items)) → IfErr out (λ fault. IfStore fault ((t : Tables) → AreOf t rows → Given t → IsUnreadable t))
+          go : (out : Result B Fault) → IfErr out (λ fault. IfStore fault (HasBroken is_broken rows.items))
+              → IfErr out (λ fault. IfStore fault ((t : Tables) → AreOf t rows → Given t → IsUnreadable t))
           go (Ok found) is = tt
           go (Err Memory) is = tt
           go (Err Store) is = is
@@ -43,15 +58,27 @@ module _ {p : Place} {sql : List ℕ} {query : ℕ → Query} {names : List (Lis
       all_blamed h = told (all_read sql params (seen_in g old) (seen_in g new) (known text) AreOf (λ found. found ≡ rows) rows are_of h (Ok rows) refl)
 
       pub few_blamed : (most : ℕ) → AsksFew (seen_in g old) (seen_in g new) sql params most (Ok rows) → BlamesGiven g Given old new out
-      few_blamed most h = told (few_read sql params (seen_in g old) (seen_in g new) (known text) AreOf (λ found. found ≡ rows) rows are_of most h (Ok rows) refl)
+      few_blamed most h = told (few_read sql params (seen_in g old) (seen_in g new) (known text) AreOf (λ found. found ≡ rows) rows are_of most h (Ok rows)
+          refl)
 
 -- ---- rows of tables that were judged
 
 -- an action that can't be read has a count that is too large
-wide_action : (row : Row) (number : ℕ) (a : StoredAction) → IsAction row number a → (c : Column) → broken_action_column (action_shown row) ≡ Some c → has_wide_count (action_shown row) ≡ true
+wide_action : (row : Row) (number : ℕ) (a : StoredAction) → IsAction row number a → (c : Column) → broken_action_column (action_shown row) ≡ Some c
+    → has_wide_count (action_shown row) ≡ true
 wide_action row number a is c broken =
     let told : first_broken ((not (is_wide (Int (pos a.notes))), rule.ActionNotes) ∷ (not (is_wide (Int (pos a.entries))), rule.ActionEntries) ∷ []) ≡ Some c =
-    rw (is.shows.rollout, is.place, is.word, is.shows.canceling, is.shows.outcome, is.shows.notes, is.shows.entries, small_or_wide a.notes, small_or_wide a.entries) at broken in
+    rw (
+      is.shows.rollout,
+      is.place,
+      is.word,
+      is.shows.canceling,
+      is.shows.outcome,
+      is.shows.notes,
+      is.shows.entries,
+      small_or_wide a.notes,
+      small_or_wide a.entries,
+    ) at broken in
     rw (is.shows.notes, is.shows.entries) (go (is_wide (Int (pos a.notes))) (is_wide (Int (pos a.entries))) told)
   where
     go : (notes entries : Bool) → first_broken ((not notes, rule.ActionNotes) ∷ (not entries, rule.ActionEntries) ∷ []) ≡ Some c → (notes || entries) ≡ true
@@ -70,7 +97,8 @@ nothing t = Unit {0}
 abbrev never : Row → Type 0
 never row = ⊥
 
-module _ {S B : Type 0} (g : Ghosts S) (old new : OpenChange S) (rows : Vec Row Global) (grows : old.store.now.calls.failures ≤ new.store.now.calls.failures) (out : Result B Fault) where
+module _ {S B : Type 0} (g : Ghosts S) (old new : OpenChange S) (rows : Vec Row Global) (grows : old.store.now.calls.failures ≤ new.store.now.calls.failures)
+    (out : Result B Fault) where
   abbrev AsksAll : List ℕ → Row → Type 0
   AsksAll sql params = AsksText (seen_in g old) (seen_in g new) sql params (Ok rows)
 
@@ -83,32 +111,44 @@ module _ {S B : Type 0} (g : Ghosts S) (old new : OpenChange S) (rows : Vec Row 
   -- ---- by a number
 
   pub rollout_blamed : (r : ℕ) → AreSpoiled (λ row. BreaksRule (broken_rollout_column row)) → AsksOne GET_ROLLOUT.now (Int (pos r) ∷ []) → Blames g old new out
-  rollout_blamed r broken = few_blamed get_rollout_is (Int (pos r) ∷ []) rows g nothing (λ row. BreaksRule (broken_rollout_column row)) (λ t row among is given. broken_rollout row among is) old new grows out broken 1
+  rollout_blamed r broken = few_blamed get_rollout_is (Int (pos r) ∷ []) rows g nothing (λ row. BreaksRule (broken_rollout_column row))
+      (λ t row among is given. broken_rollout row among is) old new grows out broken 1
 
-  pub rule_blamed : (number group : ℕ) → AreSpoiled (λ row. BreaksRule (broken_rule_column row)) → AsksOne GET_RULE.now (Int (pos number) ∷ Int (pos group) ∷ []) → Blames g old new out
-  rule_blamed number group broken = few_blamed get_rule_is (Int (pos number) ∷ Int (pos group) ∷ []) rows g nothing (λ row. BreaksRule (broken_rule_column row)) (λ t row among is given. broken_rule row among is) old new grows out broken 1
+  pub rule_blamed : (number group : ℕ) → AreSpoiled (λ row. BreaksRule (broken_rule_column row))
+      → AsksOne GET_RULE.now (Int (pos number) ∷ Int (pos group) ∷ []) → Blames g old new out
+  rule_blamed number group broken = few_blamed get_rule_is (Int (pos number) ∷ Int (pos group) ∷ []) rows g nothing (λ row. BreaksRule (broken_rule_column row))
+      (λ t row among is given. broken_rule row among is) old new grows out broken 1
 
-  pub action_blamed : (k : ℕ) → AreSpoiled (λ row. BreaksRule (broken_action_column row)) → AsksOne GET_ACTION.now (Int (pos k) ∷ []) → BlamesGiven g AreActions old new out
+  pub action_blamed : (k : ℕ) → AreSpoiled (λ row. BreaksRule (broken_action_column row)) → AsksOne GET_ACTION.now (Int (pos k) ∷ [])
+      → BlamesGiven g AreActions old new out
   action_blamed k broken =
-      few_blamed get_action_is (Int (pos k) ∷ []) rows g AreActions (λ row. BreaksRule (broken_action_column row)) (λ t row among is given. let it = given row among in large_count row among (wide_action row it.0 it.1 it.2 is.first is.is)) old new grows out broken 1
+      few_blamed get_action_is (Int (pos k) ∷ []) rows g AreActions (λ row. BreaksRule (broken_action_column row))
+      (λ t row among is given. let it = given row among in large_count row among (wide_action row it.0 it.1 it.2 is.first is.is)) old new grows out broken 1
 
-  pub offer_blamed : (id : List ℕ) → AreSpoiled (λ row. BreaksRule (broken_offer_column row)) → AsksOne GET_OFFER.now (Text id ∷ []) → BlamesGiven g AreOffers old new out
+  pub offer_blamed : (id : List ℕ) → AreSpoiled (λ row. BreaksRule (broken_offer_column row)) → AsksOne GET_OFFER.now (Text id ∷ [])
+      → BlamesGiven g AreOffers old new out
   offer_blamed id broken =
-      few_blamed get_offer_is (Text id ∷ []) rows g AreOffers (λ row. BreaksRule (broken_offer_column row)) (λ t row among is given. let it = given row among in absurd (no_offer row it.0 it.1 it.2 is.first is.is)) old new grows out broken 1
+      few_blamed get_offer_is (Text id ∷ []) rows g AreOffers (λ row. BreaksRule (broken_offer_column row)) (λ t row among is given. let it = given row among in
+      absurd (no_offer row it.0 it.1 it.2 is.first is.is)) old new grows out broken 1
 
   -- ---- lists
 
   pub actions_blamed : (n : ℕ) → AreSpoiled (λ row. has_wide_count row ≡ true) → AsksAll LIST_ACTIONS.now (all_of n) → Blames g old new out
-  actions_blamed n broken = all_blamed list_actions_is (all_of n) rows g nothing (λ row. has_wide_count row ≡ true) (λ t row among is given. large_count row among is) old new grows out broken
+  actions_blamed n broken = all_blamed list_actions_is (all_of n) rows g nothing (λ row. has_wide_count row ≡ true)
+      (λ t row among is given. large_count row among is) old new grows out broken
 
   pub history_blamed : (n : ℕ) → AreSpoiled (λ row. (c : Column) × BreaksSequenced row c) → AsksAll LIST_ENTRIES.now (all_of n) → Blames g old new out
-  history_blamed n broken = all_blamed list_entries_is (all_of n) rows g nothing (λ row. (c : Column) × BreaksSequenced row c) (λ t row among is given. broken_entry row is.0 among is.1) old new grows out broken
+  history_blamed n broken = all_blamed list_entries_is (all_of n) rows g nothing (λ row. (c : Column) × BreaksSequenced row c)
+      (λ t row among is given. broken_entry row is.0 among is.1) old new grows out broken
 
   pub numbers_blamed : (n : ℕ) → AreSpoiled (λ row. BreaksRule (broken_number_column row)) → AsksAll LIST_NUMBERS.now (Int (pos n) ∷ []) → Blames g old new out
-  numbers_blamed n broken = all_blamed list_numbers_is (Int (pos n) ∷ []) rows g nothing (λ row. BreaksRule (broken_number_column row)) (λ t row among is given. broken_number row among is) old new grows out broken
+  numbers_blamed n broken = all_blamed list_numbers_is (Int (pos n) ∷ []) rows g nothing (λ row. BreaksRule (broken_number_column row))
+      (λ t row among is given. broken_number row among is) old new grows out broken
 
-  pub pieces_blamed : (number place : ℕ) → AreSpoiled (λ row. has_bytes (column row 0) ≡ false) → AsksAll GET_PIECE.now (Int (pos number) ∷ Int (pos place) ∷ []) → Blames g old new out
-  pieces_blamed number place broken = all_blamed get_piece_is (Int (pos number) ∷ Int (pos place) ∷ []) rows g nothing (λ row. has_bytes (column row 0) ≡ false) (λ t row among is given. broken_piece row among is) old new grows out broken
+  pub pieces_blamed : (number place : ℕ) → AreSpoiled (λ row. has_bytes (column row 0) ≡ false)
+      → AsksAll GET_PIECE.now (Int (pos number) ∷ Int (pos place) ∷ []) → Blames g old new out
+  pieces_blamed number place broken = all_blamed get_piece_is (Int (pos number) ∷ Int (pos place) ∷ []) rows g nothing (λ row. has_bytes (column row 0) ≡ false)
+      (λ t row among is given. broken_piece row among is) old new grows out broken
 
   -- nothing of these rows can't be read
   pub groups_blamed : (r : ℕ) → AreSpoiled never → AsksAll LIST_GROUPS.now (Int (pos r) ∷ []) → Blames g old new out
@@ -126,7 +166,8 @@ module _ {S B : Type 0} (g : Ghosts S) (old new : OpenChange S) (rows : Vec Row 
   pub counted_blamed : (n : ℕ) → IfErr out (λ fault. fault ≡ Memory) → AsksAll LIST_ACTIONS.now (all_of n) → Blames g old new out
   counted_blamed n memory = actions_blamed n (only_memory out memory)
     where
-      only_memory : (out : Result B Fault) → IfErr out (λ fault. fault ≡ Memory) → IfErr out (λ fault. IfStore fault (HasBroken (λ row. has_wide_count row ≡ true) rows.items))
+      only_memory : (out : Result B Fault) → IfErr out (λ fault. fault ≡ Memory)
+          → IfErr out (λ fault. IfStore fault (HasBroken (λ row. has_wide_count row ≡ true) rows.items))
       only_memory (Ok found) is = tt
       only_memory (Err Memory) is = tt
       only_memory (Err Store) is = absurd cc
@@ -153,18 +194,30 @@ no_number v unread = go (number_in v) refl
         absurd (unread n (grind (arith, nat_tests, high)) (number_in_is v n is))
 
 module _ {S : Type 0} (g : Ghosts S) (old new : OpenChange S) (grows : old.store.now.calls.failures ≤ new.store.now.calls.failures) (out : Result ℕ Fault) where
-  pub place_count_blamed : (r : ℕ) (rows : Vec Row Global) → IfErr out (λ fault. (fault ≡ Broken) × (2 ^ 32 ≤ length rows.items)) → AsksText (seen_in g old) (seen_in g new) LIST_PLACES.now (Int (pos r) ∷ []) (Ok rows) → Blames g old new out
-  place_count_blamed r rows large h = blamed (all_read LIST_PLACES.now (Int (pos r) ∷ []) (seen_in g old) (seen_in g new) (known list_places_is) AreFewer (λ found. found ≡ rows) rows counts h (Ok rows) refl) grows out (go out large)
+  pub place_count_blamed : (r : ℕ) (rows : Vec Row Global) → IfErr out (λ fault. (fault ≡ Broken) × (2 ^ 32 ≤ length rows.items))
+      → AsksText (seen_in g old) (seen_in g new) LIST_PLACES.now (Int (pos r) ∷ []) (Ok rows) → Blames g old new out
+  place_count_blamed r rows large h =
+      blamed (all_read LIST_PLACES.now (Int (pos r) ∷ []) (seen_in g old) (seen_in g new) (known list_places_is) AreFewer (λ found. found ≡ rows) rows counts h
+      (Ok rows) refl) grows out (go out large)
     where
       AreFewer : Tables → Vec Row Global → Type 0
       AreFewer t rows = length rows.items ≤ length (t Members)
 
-      counts : (db : Database) (t : Tables) (holds : HoldsTables db t) (found : Vec Row Global) → Shows ((known list_places_is) db t holds).command db (Int (pos r) ∷ []) rows.items → found ≡ rows → AreFewer t found
+      counts : (db : Database) (t : Tables) (holds : HoldsTables db t) (found : Vec Row Global)
+          → Shows ((known list_places_is) db t holds).command db (Int (pos r) ∷ []) rows.items → found ≡ rows → AreFewer t found
       counts db t holds found shows is = subst (AreFewer t) (sym is)
-          (let of = count_shown (holds.spot Members).tree of_rollout placed_columns (places_query 0).order (lit (Int (negsuc 0))) (lit (Int (pos 0))) (Int (pos r) ∷ []) db.trees (t Members) (holds.rows Members) (λ xs. refl) (passes of_rollout (Int (pos r) ∷ [])) (λ row among. refl) rows.items (shows.answer Null) in
-          omega (arith, of, length-filter_both (passes of_rollout (Int (pos r) ∷ [])) (λ row. not (passes of_rollout (Int (pos r) ∷ []) row)) (λ row. refl) (t Members)))
+          (let of = count_shown (holds.spot Members).tree of_rollout placed_columns (places_query 0).order (lit (Int (negsuc 0))) (lit (Int (pos 0)))
+          (Int (pos r) ∷ []) db.trees (t Members) (holds.rows Members) (λ xs. refl) (passes of_rollout (Int (pos r) ∷ [])) (λ row among. refl) rows.items
+          (shows.answer Null) in
+          omega (
+            arith,
+            of,
+            length-filter_both (passes of_rollout (Int (pos r) ∷ [])) (λ row. not (passes of_rollout (Int (pos r) ∷ []) row)) (λ row. refl)
+                (t Members),
+          ))
 
-      go : (out : Result ℕ Fault) → IfErr out (λ fault. (fault ≡ Broken) × (2 ^ 32 ≤ length rows.items)) → IfErr out (λ fault. IfStore fault ((t : Tables) → AreFewer t rows → Unit {0} → IsUnreadable t))
+      go : (out : Result ℕ Fault) → IfErr out (λ fault. (fault ≡ Broken) × (2 ^ 32 ≤ length rows.items))
+          → IfErr out (λ fault. IfStore fault ((t : Tables) → AreFewer t rows → Unit {0} → IsUnreadable t))
       go (Ok found) is = tt
       go (Err Memory) is = tt
       go (Err Store) is = absurd (let same = is.0 in cc)
@@ -173,38 +226,47 @@ module _ {S : Type 0} (g : Ghosts S) (old new : OpenChange S) (grows : old.store
   pub count_blamed : {p : Place} {sql : List ℕ} (text : Counts p sql) (row : Option Row)
       → IfErr out (λ fault. IfStore fault ((row ≡ None) ⊎ HasNoNumber row)) → TakesFirst (seen_in g old) (seen_in g new) sql [] (Ok row) → Blames g old new out
   count_blamed {p} {sql} text row broken h =
-      blamed (first_finds HoldsTables (λ (t : Tables). t) sql [] (seen_in g old) (seen_in g new) IsCounted (tables_know (counted_at text)) (λ db t holds at given. tt) row h (Ok row) (λ db t holds shows. row_of_count text db t holds row shows)) grows out (go out broken)
+      blamed (first_finds HoldsTables (λ (t : Tables). t) sql [] (seen_in g old) (seen_in g new) IsCounted (tables_know (counted_at text))
+      (λ db t holds at given. tt) row h (Ok row) (λ db t holds shows. row_of_count text db t holds row shows)) grows out (go out broken)
     where
       IsCounted : Tables → Option Row → Type 0
       IsCounted t row = row ≡ Some (Int (pos (min (length (t p)) 9223372036854775807)) ∷ [])
 
       unreadable : (t : Tables) → (row ≡ None) ⊎ HasNoNumber row → IsCounted t row → IsUnreadable t
       unreadable t (inl none) is = absurd cc
-      unreadable t (inr unread) is = many_rows p (many (min (length (t p)) 9223372036854775807) (length (t p)) (λ same few. (subst HasNoNumber is unread) (omega arith) (min (length (t p)) 9223372036854775807) few refl) refl)
+      unreadable t (inr unread) is =
+          many_rows p (many (min (length (t p)) 9223372036854775807) (length (t p))
+          (λ same few. (subst HasNoNumber is unread) (omega arith) (min (length (t p)) 9223372036854775807) few refl) refl)
 
-      go : (out : Result ℕ Fault) → IfErr out (λ fault. IfStore fault ((row ≡ None) ⊎ HasNoNumber row)) → IfErr out (λ fault. IfStore fault ((t : Tables) → IsCounted t row → Unit {0} → IsUnreadable t))
+      go : (out : Result ℕ Fault) → IfErr out (λ fault. IfStore fault ((row ≡ None) ⊎ HasNoNumber row))
+          → IfErr out (λ fault. IfStore fault ((t : Tables) → IsCounted t row → Unit {0} → IsUnreadable t))
       go (Ok found) unread = tt
       go (Err Memory) unread = tt
       go (Err Store) unread = unread
       go (Err Broken) unread = λ t is given. unreadable t unread is
 
-  pub last_blamed : (row : Option Row) → IfErr out (λ fault. IfStore fault (HasNoNumber row)) → TakesFirst (seen_in g old) (seen_in g new) LAST_ROLLOUT.now [] (Ok row) → Blames g old new out
+  pub last_blamed : (row : Option Row) → IfErr out (λ fault. IfStore fault (HasNoNumber row)) → TakesFirst (seen_in g old) (seen_in g new) LAST_ROLLOUT.now []
+      (Ok row) → Blames g old new out
   last_blamed row broken h =
-      blamed (first_finds HoldsTables (λ (t : Tables). t) LAST_ROLLOUT.now [] (seen_in g old) (seen_in g new) IsOfRollout (known last_rollout_is) (λ db t holds at given. tt) row h (Ok row) (λ db t holds shows. rollout_of db t holds row shows)) grows out (go out row broken)
+      blamed (first_finds HoldsTables (λ (t : Tables). t) LAST_ROLLOUT.now [] (seen_in g old) (seen_in g new) IsOfRollout (known last_rollout_is)
+      (λ db t holds at given. tt) row h (Ok row) (λ db t holds shows. rollout_of db t holds row shows)) grows out (go out row broken)
     where
       IsOfRollout : Tables → Option Row → Type 0
       IsOfRollout t None = Unit {0}
       IsOfRollout t (Some shown) = (its : Row) × Has (t Rollouts) its × (shown ≡ column its 0 ∷ [])
 
-      rollout_of : (db : Database) (t : Tables) (holds : HoldsTables db t) (row : Option Row) → ShowsFirst ((known last_rollout_is) db t holds).command db [] row → IsOfRollout t row
+      rollout_of : (db : Database) (t : Tables) (holds : HoldsTables db t) (row : Option Row)
+          → ShowsFirst ((known last_rollout_is) db t holds).command db [] row → IsOfRollout t row
       rollout_of db t holds None shows = tt
       rollout_of db t holds (Some shown) shows = from_table last_rollout_is [] db t holds (shown ∷ shows.0) shows.1 shown (inl refl)
 
       unreadable : (t : Tables) (row : Option Row) → HasNoNumber row → IsOfRollout t row → IsUnreadable t
       unreadable t None unread its = absurd unread
-      unreadable t (Some shown) unread its = large_number its.0 its.1 (no_number (column its.0 0) (subst (λ x. HasNoNumber (Some x)) its.2 unread (omega arith)))
+      unreadable t (Some shown) unread its =
+          large_number its.0 its.1 (no_number (column its.0 0) (subst (λ x. HasNoNumber (Some x)) its.2 unread (omega arith)))
 
-      go : (out : Result ℕ Fault) (row : Option Row) → IfErr out (λ fault. IfStore fault (HasNoNumber row)) → IfErr out (λ fault. IfStore fault ((t : Tables) → IsOfRollout t row → Unit {0} → IsUnreadable t))
+      go : (out : Result ℕ Fault) (row : Option Row) → IfErr out (λ fault. IfStore fault (HasNoNumber row))
+          → IfErr out (λ fault. IfStore fault ((t : Tables) → IsOfRollout t row → Unit {0} → IsUnreadable t))
       go (Ok found) row unread = tt
       go (Err Memory) row unread = tt
       go (Err Store) row unread = unread

@@ -1,5 +1,9 @@
 -- The calls on distribution sets.
-use Rattle.desk_store.proofs.Common.{◌≡◌, ◌≤◌, ℕ, ◌+◌, pos, [], ◌∷◌, length, Bool, Option, Some, Ok, Result, IfOk, option_map, Vec, vec_items, refl, sym, ap, subst, codes, list_any, Global, is_some, Int, Text, Row, column, State, Fault, RunsText, AsksText, TakesFirst, Finds, Makes, first_finds, run_makes, item_numbered, Bytes, SetLabel, Records, is_named_by_set, FIND_SET, LAST_SET, GET_SET, LIST_SET_MODULES, MODULE_LOCKED, PUT_SET, PUT_SET_MODULE, HoldsLedger, HoldsRecords, ledger_of, IsLastRow, place_row, is_same_set, names_of, with_set, AddsSetModule, AreReadAs, IsReadAs, put_set_is, put_set_module_is, put_at}
+use Rattle.desk_store.proofs.Common.{◌≡◌, ◌≤◌, ℕ, ◌+◌, pos, [], ◌∷◌, length, Bool, Option, Some, Ok, Result, IfOk, option_map, Vec, vec_items, refl, sym, ap}
+use Rattle.desk_store.proofs.Common.{subst, codes, list_any, Global, is_some, Int, Text, Row, column, State, Fault, RunsText, AsksText, TakesFirst, Finds}
+use Rattle.desk_store.proofs.Common.{Makes, first_finds, run_makes, item_numbered, Bytes, SetLabel, Records, is_named_by_set, FIND_SET, LAST_SET, GET_SET}
+use Rattle.desk_store.proofs.Common.{LIST_SET_MODULES, MODULE_LOCKED, PUT_SET, PUT_SET_MODULE, HoldsLedger, HoldsRecords, ledger_of, IsLastRow, place_row}
+use Rattle.desk_store.proofs.Common.{is_same_set, names_of, with_set, AddsSetModule, AreReadAs, IsReadAs, put_set_is, put_set_module_is, put_at}
 use Rattle.rollout_machine.specs.Objects.{modules_of_set}
 use Rattle.rollout_model.specs.declared.number.ModuleKind.{ModuleKind}
 use Rattle.rollout_model.specs.declared.number.Number.{Number}
@@ -17,14 +21,18 @@ use Rattle.desk_store.proofs.Known.{in_ledgers, known, tables_know}
 abbrev pub FindsSame : Bytes → Bytes → Records → Bool → Type 0
 FindsSame name version r found = found ≡ list_any (is_same_set name version) r.sets
 
-pub found : {E : Type 0} (name version : Bytes) (old new : State) (row : Option Row) → TakesFirst old new FIND_SET.now (names_of name version) (Ok row) → Finds HoldsLedger ledger_of {E = E} old new (Ok (is_some row)) (FindsSame name version)
+pub found : {E : Type 0} (name version : Bytes) (old new : State) (row : Option Row) → TakesFirst old new FIND_SET.now (names_of name version) (Ok row)
+    → Finds HoldsLedger ledger_of {E = E} old new (Ok (is_some row)) (FindsSame name version)
 found name version old new row h =
-    first_finds HoldsLedger ledger_of FIND_SET.now (names_of name version) old new (FindsSame name version) (in_ledgers (known find_set_is)) (λ db r holds at given. tt) row h (Ok (is_some row)) (λ db now holds shown. finds_set db now holds (codes "number" ∷ []) name version row shown)
+    first_finds HoldsLedger ledger_of FIND_SET.now (names_of name version) old new (FindsSame name version) (in_ledgers (known find_set_is))
+    (λ db r holds at given. tt) row h (Ok (is_some row)) (λ db now holds shown. finds_set db now holds (codes "number" ∷ []) name version row shown)
 
 -- ---- the last number
 
-pub last_read : (old new : State) (row : Option Row) → TakesFirst old new LAST_SET.now [] (Ok row) → (out : Result ℕ Fault) → IfOk out (λ n. IsLastRow n row) → Finds HoldsLedger ledger_of old new out (λ r last. last ≡ length r.sets)
-last_read old new row = takes_last ledger_of LAST_SET.now old new (known last_set_is) (λ r. length r.sets) (λ db l holds at given. tt) row (λ db r holds. lasts_set db r holds (codes "number" ∷ []) row)
+pub last_read : (old new : State) (row : Option Row) → TakesFirst old new LAST_SET.now [] (Ok row) → (out : Result ℕ Fault) → IfOk out (λ n. IsLastRow n row)
+    → Finds HoldsLedger ledger_of old new out (λ r last. last ≡ length r.sets)
+last_read old new row = takes_last ledger_of LAST_SET.now old new (known last_set_is) (λ r. length r.sets) (λ db l holds at given. tt) row
+    (λ db r holds. lasts_set db r holds (codes "number" ∷ []) row)
 
 -- ---- a set's name by its number
 
@@ -40,10 +48,12 @@ one_name name set h =
     let alike : name.version ≡ set.version = cc in
     λ i. record { name = same i; version = alike i }
 
-pub set_read : (number : ℕ) → 1 ≤ number → (old new : State) (row : Option Row) → TakesFirst old new GET_SET.now (Int (pos number) ∷ []) (Ok row) → (out : Result (Option SetName) Fault) → IfOk out (λ found. IsReadAs IsSetNameRow found row)
+pub set_read : (number : ℕ) → 1 ≤ number → (old new : State) (row : Option Row) → TakesFirst old new GET_SET.now (Int (pos number) ∷ []) (Ok row)
+    → (out : Result (Option SetName) Fault) → IfOk out (λ found. IsReadAs IsSetNameRow found row)
     → Finds HoldsLedger ledger_of old new out (Gets number)
 set_read number least old new row =
-    takes_one ledger_of IsSetNameRow (λ (set : SetLabel). names_of set.name set.version) GET_SET.now (Int (pos number) ∷ []) old new (known get_set_is) (λ r. item_numbered r.sets number) (λ found set. found ≡ option_map called set) refl (λ a b h. ap Some (one_name a b h))
+    takes_one ledger_of IsSetNameRow (λ (set : SetLabel). names_of set.name set.version) GET_SET.now (Int (pos number) ∷ []) old new (known get_set_is)
+    (λ r. item_numbered r.sets number) (λ found set. found ≡ option_map called set) refl (λ a b h. ap Some (one_name a b h))
     (λ db r holds at given. tt) row (λ db now holds. gets_set db now holds (codes "name" ∷ codes "version" ∷ []) number least row)
 
 -- ---- a set's modules
@@ -58,9 +68,11 @@ IsNumberRow row number = column row 0 ≡ StoredNumber number
 one_number : (a b : ℕ) → IsNumberRow (Int (pos b) ∷ []) a → a ≡ b
 one_number a b h = let same : Int (pos b) ≡ Int (pos a) = h in cc
 
-pub modules_read : (number : ℕ) → 1 ≤ number → (old new : State) (rows : Vec Row Global) → AsksText old new LIST_SET_MODULES.now (Int (pos number) ∷ []) (Ok rows) → (out : Result (Vec (Number ModuleKind) Global) Fault)
+pub modules_read : (number : ℕ) → 1 ≤ number → (old new : State) (rows : Vec Row Global)
+    → AsksText old new LIST_SET_MODULES.now (Int (pos number) ∷ []) (Ok rows) → (out : Result (Vec (Number ModuleKind) Global) Fault)
     → IfOk out (λ ms. AreReadAs IsNumberRow rows.items ms.items) → Finds HoldsLedger ledger_of old new out (Lists number)
-modules_read number least old new rows = asks_all ledger_of vec_items IsNumberRow (λ m. Int (pos m) ∷ []) one_number LIST_SET_MODULES.now (Int (pos number) ∷ []) old new (known list_set_modules_is) (λ r. modules_of_set (item_numbered r.sets number)) rows
+modules_read number least old new rows = asks_all ledger_of vec_items IsNumberRow (λ m. Int (pos m) ∷ []) one_number LIST_SET_MODULES.now
+    (Int (pos number) ∷ []) old new (known list_set_modules_is) (λ r. modules_of_set (item_numbered r.sets number)) rows
     (λ db now holds. lists_set_modules db now holds (codes "module" ∷ []) number least rows.items)
 
 -- ---- whether a set names a module
@@ -68,19 +80,25 @@ modules_read number least old new rows = asks_all ledger_of vec_items IsNumberRo
 abbrev pub Locks : ℕ → Records → Bool → Type 0
 Locks number r locked = locked ≡ is_named_by_set r.sets number
 
-pub locked : {E : Type 0} (number : ℕ) (old new : State) (row : Option Row) → TakesFirst old new MODULE_LOCKED.now (Int (pos number) ∷ []) (Ok row) → Finds HoldsLedger ledger_of {E = E} old new (Ok (is_some row)) (Locks number)
+pub locked : {E : Type 0} (number : ℕ) (old new : State) (row : Option Row) → TakesFirst old new MODULE_LOCKED.now (Int (pos number) ∷ []) (Ok row)
+    → Finds HoldsLedger ledger_of {E = E} old new (Ok (is_some row)) (Locks number)
 locked number old new row h =
-    first_finds HoldsLedger ledger_of MODULE_LOCKED.now (Int (pos number) ∷ []) old new (Locks number) (in_ledgers (known module_locked_is)) (λ db r holds at given. tt) row h (Ok (is_some row)) (λ db now holds shown. finds_lock db now holds (codes "dset" ∷ []) number row shown)
+    first_finds HoldsLedger ledger_of MODULE_LOCKED.now (Int (pos number) ∷ []) old new (Locks number) (in_ledgers (known module_locked_is))
+    (λ db r holds at given. tt) row h (Ok (is_some row)) (λ db now holds shown. finds_lock db now holds (codes "dset" ∷ []) number row shown)
 
 -- ---- a new set, and a further module of it
 
 abbrev pub Puts : ℕ → Bytes → Bytes → Records → Records → Type 0
 Puts number name version r next = (number ≡ length r.sets + 1) × (next ≡ with_set r name version)
 
-pub set_written : (number : ℕ) (name version : Bytes) (old new : State) (out : Result (Unit {0}) Fault) → RunsText old new PUT_SET.now (Int (pos number) ∷ names_of name version) out → Makes HoldsLedger ledger_of old new out (Puts number name version)
-set_written number name version old new out h = run_makes HoldsLedger ledger_of PUT_SET.now (Int (pos number) ∷ names_of name version) old new (Puts number name version) (in_ledgers (tables_know (put_at put_set_is))) out h
+pub set_written : (number : ℕ) (name version : Bytes) (old new : State) (out : Result (Unit {0}) Fault)
+    → RunsText old new PUT_SET.now (Int (pos number) ∷ names_of name version) out → Makes HoldsLedger ledger_of old new out (Puts number name version)
+set_written number name version old new out h = run_makes HoldsLedger ledger_of PUT_SET.now (Int (pos number) ∷ names_of name version) old new
+    (Puts number name version) (in_ledgers (tables_know (put_at put_set_is))) out h
     (λ now next change holds count w. (w, subst (HoldsRecords new.now) (sym change.1) (adds_set name version number old new _ count now holds change.0 w)))
 
-pub set_module_written : (number place m : ℕ) (old new : State) (out : Result (Unit {0}) Fault) → RunsText old new PUT_SET_MODULE.now (place_row number place m) out → Makes HoldsLedger ledger_of old new out (AddsSetModule number place m)
-set_module_written number place m old new out h = run_makes HoldsLedger ledger_of PUT_SET_MODULE.now (place_row number place m) old new (AddsSetModule number place m) (in_ledgers (tables_know (put_at put_set_module_is))) out h
+pub set_module_written : (number place m : ℕ) (old new : State) (out : Result (Unit {0}) Fault) → RunsText old new PUT_SET_MODULE.now (place_row number place m)
+    out → Makes HoldsLedger ledger_of old new out (AddsSetModule number place m)
+set_module_written number place m old new out h = run_makes HoldsLedger ledger_of PUT_SET_MODULE.now (place_row number place m) old new
+    (AddsSetModule number place m) (in_ledgers (tables_know (put_at put_set_module_is))) out h
     (λ now next change holds count w. (w, adds_set_module number place m old new _ count now next holds change w))

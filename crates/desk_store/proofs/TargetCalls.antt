@@ -1,13 +1,21 @@
 -- The calls on targets and their tags.
-use Rattle.desk_store.proofs.Common.{◌≡◌, ◌<◌, ◌^◌, ℕ, min, pos, take, drop, List, [], ◌∷◌, length, map, Option, Some, None, option_map, Ok, Err, Result, IfOk, Vec, vec_items, refl, sym, ap, subst, ◌∙◌, arith, codes, Global, Int, Text, Blob, Row, column, Database, State, Fault, RunsText, AsksText, TakesFirst, Finds, Makes, ShowsFirst, first_finds, run_makes, Bytes, Records, tags_of, target_of, Word, COUNT_TARGETS, DROP_TARGET_TAG, GET_TARGET, LIST_TARGETS, LIST_TARGET_TAGS, PUT_TARGET, PUT_TARGET_TAG, SET_TARGET, HoldsLedger, HoldsRecords, ledger_of, IsTargetRow, IsListedTargetRow, listed_target, stored_target, tag_row, AreReadAs, IsCount, IsReadAs, put_target_is, set_target_is, put_target_tag_is, drop_target_tag_is, count_targets_is, changed_at, counted_at, dropped_at, put_at}
+use Rattle.desk_store.proofs.Common.{◌≡◌, ◌<◌, ◌^◌, ℕ, min, pos, take, drop, List, [], ◌∷◌, length, map, Option, Some, None, option_map, Ok, Err, Result, IfOk}
+use Rattle.desk_store.proofs.Common.{Vec, vec_items, refl, sym, ap, subst, ◌∙◌, arith, codes, Global, Int, Text, Blob, Row, column, Database, State, Fault}
+use Rattle.desk_store.proofs.Common.{RunsText, AsksText, TakesFirst, Finds, Makes, ShowsFirst, first_finds, run_makes, Bytes, Records, tags_of, target_of}
+use Rattle.desk_store.proofs.Common.{Word, COUNT_TARGETS, DROP_TARGET_TAG, GET_TARGET, LIST_TARGETS, LIST_TARGET_TAGS, PUT_TARGET, PUT_TARGET_TAG, SET_TARGET}
+use Rattle.desk_store.proofs.Common.{HoldsLedger, HoldsRecords, ledger_of, IsTargetRow, IsListedTargetRow, listed_target, stored_target, tag_row, AreReadAs}
+use Rattle.desk_store.proofs.Common.{IsCount, IsReadAs, put_target_is, set_target_is, put_target_tag_is, drop_target_tag_is, count_targets_is, changed_at}
+use Rattle.desk_store.proofs.Common.{counted_at, dropped_at, put_at}
 use Rattle.rollout_machine.specs.Targets.{Target}
 use Rattle.rollout_model.specs.declared.word.LabelKind.{LabelKind}
 use Rattle.desk_records.specs.declared.target_row.ListedTarget.{ListedTarget}
 use Rattle.desk_records.specs.declared.target_row.StoredTarget.{StoredTarget}
 use Rattle.desk_records.specs.ModuleRow.{StoredText}
 use Rattle.desk_records.specs.Targets.{AddsTag, AddsTarget, renamed, untagged, with_changed}
-use Rattle.desk_records.proofs.TargetMeaning.{get_target_is, count_targets_is, list_targets_is, list_target_tags_is, put_target_is, set_target_is, put_target_tag_is, drop_target_tag_is}
-use Rattle.desk_records.proofs.TargetRecords.{told_target, listed_row, gets_target, counts_targets, lists_targets, lists_target_tags, adds_target, sets_target, adds_tag, drops_tag}
+use Rattle.desk_records.proofs.TargetMeaning.{get_target_is, count_targets_is, list_targets_is, list_target_tags_is, put_target_is, set_target_is}
+use Rattle.desk_records.proofs.TargetMeaning.{put_target_tag_is, drop_target_tag_is}
+use Rattle.desk_records.proofs.TargetRecords.{told_target, listed_row, gets_target, counts_targets, lists_targets, lists_target_tags, adds_target, sets_target}
+use Rattle.desk_records.proofs.TargetRecords.{adds_tag, drops_tag}
 use Rattle.desk_store.proofs.ReadLemmas.{asks_all, takes_one}
 use Rattle.desk_store.proofs.Known.{in_ledgers, known, tables_know}
 
@@ -27,10 +35,12 @@ one_told told t h =
     let digest : told.digest ≡ t.digest = cc in
     λ i. record { name = name i; digest = digest i }
 
-pub target_read : (id : Bytes) (old new : State) (row : Option Row) → TakesFirst old new GET_TARGET.now (Text id ∷ []) (Ok row) → (out : Result (Option StoredTarget) Fault) → IfOk out (λ found. IsReadAs IsTargetRow found row)
+pub target_read : (id : Bytes) (old new : State) (row : Option Row) → TakesFirst old new GET_TARGET.now (Text id ∷ []) (Ok row)
+    → (out : Result (Option StoredTarget) Fault) → IfOk out (λ found. IsReadAs IsTargetRow found row)
     → Finds HoldsLedger ledger_of old new out (Gets id)
 target_read id old new row =
-    takes_one ledger_of IsTargetRow told_target GET_TARGET.now (Text id ∷ []) old new (known get_target_is) (λ r. target_of r id) (λ found t. found ≡ option_map stored_target t) refl (λ told t h. ap Some (one_told told t h)) (λ db r holds at given. tt) row
+    takes_one ledger_of IsTargetRow told_target GET_TARGET.now (Text id ∷ []) old new (known get_target_is) (λ r. target_of r id)
+    (λ found t. found ≡ option_map stored_target t) refl (λ told t h. ap Some (one_told told t h)) (λ db r holds at given. tt) row
     (λ db now holds. gets_target db now holds (codes "name" ∷ codes "digest" ∷ []) id row)
 
 -- ---- how many there are
@@ -39,7 +49,8 @@ abbrev pub Counts : Records → ℕ → Type 0
 Counts r count = count ≡ length r.targets
 
 -- a number of 32 bits is below what SQLite counts to
-pub same_count : (count size : ℕ) (row : Option Row) → IsCount count row → count < 2 ^ 32 → row ≡ Some (Int (pos (min size 9223372036854775807)) ∷ []) → count ≡ size
+pub same_count : (count size : ℕ) (row : Option Row) → IsCount count row → count < 2 ^ 32 → row ≡ Some (Int (pos (min size 9223372036854775807)) ∷ [])
+    → count ≡ size
 same_count count size None h small is = absurd h
 same_count count size (Some row) h small is =
     let it : row ≡ Int (pos (min size 9223372036854775807)) ∷ [] = cc in
@@ -48,12 +59,15 @@ same_count count size (Some row) h small is =
     omega (arith, number, small)
 
 counts : (row : Option Row) (out : Result ℕ Fault) → IfOk out (λ n. IsCount n row) → IfOk out (λ n. n < 2 ^ 32)
-    → IfOk out (λ n. (db : Database) (now : Records) (holds : HoldsRecords db now) → ShowsFirst (in_ledgers (tables_know (counted_at count_targets_is)) db (ledger_of now) holds).command db [] row → Counts now n)
+    → IfOk out (λ n. (db : Database) (now : Records) (holds : HoldsRecords db now)
+    → ShowsFirst (in_ledgers (tables_know (counted_at count_targets_is)) db (ledger_of now) holds).command db [] row → Counts now n)
 counts row (Ok n) h small = λ db now holds shown. same_count n (length now.targets) row h small (counts_targets db now holds (codes "count(*)" ∷ []) row shown)
 counts row (Err e) h small = tt
 
-pub count_read : (old new : State) (row : Option Row) → TakesFirst old new COUNT_TARGETS.now [] (Ok row) → (out : Result ℕ Fault) → IfOk out (λ n. IsCount n row) → IfOk out (λ n. n < 2 ^ 32) → Finds HoldsLedger ledger_of old new out Counts
-count_read old new row h out is small = first_finds HoldsLedger ledger_of COUNT_TARGETS.now [] old new Counts (in_ledgers (tables_know (counted_at count_targets_is))) (λ db r holds at given. tt) row h out (counts row out is small)
+pub count_read : (old new : State) (row : Option Row) → TakesFirst old new COUNT_TARGETS.now [] (Ok row) → (out : Result ℕ Fault)
+    → IfOk out (λ n. IsCount n row) → IfOk out (λ n. n < 2 ^ 32) → Finds HoldsLedger ledger_of old new out Counts
+count_read old new row h out is small = first_finds HoldsLedger ledger_of COUNT_TARGETS.now [] old new Counts
+    (in_ledgers (tables_know (counted_at count_targets_is))) (λ db r holds at given. tt) row h out (counts row out is small)
 
 -- ---- the targets of a page
 
@@ -76,10 +90,12 @@ rows_listed : (ts : List Target) → map listed_row ts ≡ map row_of (map liste
 rows_listed [] = refl
 rows_listed (t ∷ ts) = ap (λ l. listed_row t ∷ l) (rows_listed ts)
 
-pub targets_read : (limit offset : ℕ) (old new : State) (rows : Vec Row Global) → AsksText old new LIST_TARGETS.now (Int (pos limit) ∷ Int (pos offset) ∷ []) (Ok rows) → (out : Result (Vec ListedTarget Global) Fault)
+pub targets_read : (limit offset : ℕ) (old new : State) (rows : Vec Row Global) → AsksText old new LIST_TARGETS.now (Int (pos limit) ∷ Int (pos offset) ∷ [])
+    (Ok rows) → (out : Result (Vec ListedTarget Global) Fault)
     → IfOk out (λ targets. AreReadAs IsListedTargetRow rows.items targets.items) → Finds HoldsLedger ledger_of old new out (Pages limit offset)
 targets_read limit offset old new rows =
-    asks_all ledger_of vec_items IsListedTargetRow row_of one_listed LIST_TARGETS.now (Int (pos limit) ∷ Int (pos offset) ∷ []) old new (known list_targets_is) (λ r. map listed_target (take limit (drop offset r.targets))) rows
+    asks_all ledger_of vec_items IsListedTargetRow row_of one_listed LIST_TARGETS.now (Int (pos limit) ∷ Int (pos offset) ∷ []) old new (known list_targets_is)
+    (λ r. map listed_target (take limit (drop offset r.targets))) rows
     (λ db now holds shown. lists_targets db now holds (codes "controller" ∷ codes "name" ∷ []) limit offset rows.items shown ∙ rows_listed _)
 
 -- ---- the tags of a target
@@ -94,30 +110,41 @@ IsTagRow row tag = column row 0 ≡ StoredText tag
 one_tag : (a b : Bytes) → IsTagRow (Text b ∷ []) a → a ≡ b
 one_tag a b h = let same : Text b ≡ Text a = h in cc
 
-pub tags_read : (id : Bytes) (old new : State) (rows : Vec Row Global) → AsksText old new LIST_TARGET_TAGS.now (Text id ∷ []) (Ok rows) → (out : Result (Vec (Word LabelKind) Global) Fault) → IfOk out (λ tags. AreReadAs IsTagRow rows.items tags.items)
+pub tags_read : (id : Bytes) (old new : State) (rows : Vec Row Global) → AsksText old new LIST_TARGET_TAGS.now (Text id ∷ []) (Ok rows)
+    → (out : Result (Vec (Word LabelKind) Global) Fault) → IfOk out (λ tags. AreReadAs IsTagRow rows.items tags.items)
     → Finds HoldsLedger ledger_of old new out (Lists id)
 tags_read id old new rows =
-    asks_all ledger_of vec_items IsTagRow (λ w. Text w ∷ []) one_tag LIST_TARGET_TAGS.now (Text id ∷ []) old new (known list_target_tags_is) (λ r. tags_of (target_of r id)) rows (λ db now holds. lists_target_tags db now holds (codes "tag" ∷ []) id rows.items)
+    asks_all ledger_of vec_items IsTagRow (λ w. Text w ∷ []) one_tag LIST_TARGET_TAGS.now (Text id ∷ []) old new (known list_target_tags_is)
+    (λ r. tags_of (target_of r id)) rows (λ db now holds. lists_target_tags db now holds (codes "tag" ∷ []) id rows.items)
 
 -- ---- what is written
 
 abbrev pub named_row : Bytes → Bytes → Bytes → Row
 named_row id name digest = Text id ∷ Text name ∷ Blob digest ∷ []
 
-pub target_written : (id name digest : Bytes) (old new : State) (out : Result (Unit {0}) Fault) → RunsText old new PUT_TARGET.now (named_row id name digest) out → Makes HoldsLedger ledger_of old new out (AddsTarget id name digest)
-target_written id name digest old new out h = run_makes HoldsLedger ledger_of PUT_TARGET.now (named_row id name digest) old new (AddsTarget id name digest) (in_ledgers (tables_know (put_at put_target_is))) out h
+pub target_written : (id name digest : Bytes) (old new : State) (out : Result (Unit {0}) Fault) → RunsText old new PUT_TARGET.now (named_row id name digest) out
+    → Makes HoldsLedger ledger_of old new out (AddsTarget id name digest)
+target_written id name digest old new out h = run_makes HoldsLedger ledger_of PUT_TARGET.now (named_row id name digest) old new (AddsTarget id name digest)
+    (in_ledgers (tables_know (put_at put_target_is))) out h
     (λ now next change holds count w. (w, adds_target id name digest old new _ count now next holds change w))
 
 abbrev pub ChangesTarget : Bytes → (Target → Target) → Records → Records → Type 0
 ChangesTarget id f r next = next ≡ with_changed r id f
 
-pub target_changed : (id name digest : Bytes) (old new : State) (out : Result (Unit {0}) Fault) → RunsText old new SET_TARGET.now (named_row id name digest) out → Makes HoldsLedger ledger_of old new out (ChangesTarget id (renamed name digest))
-target_changed id name digest old new out h = run_makes HoldsLedger ledger_of SET_TARGET.now (named_row id name digest) old new (ChangesTarget id (renamed name digest)) (in_ledgers (tables_know (changed_at set_target_is))) out h
+pub target_changed : (id name digest : Bytes) (old new : State) (out : Result (Unit {0}) Fault) → RunsText old new SET_TARGET.now (named_row id name digest) out
+    → Makes HoldsLedger ledger_of old new out (ChangesTarget id (renamed name digest))
+target_changed id name digest old new out h = run_makes HoldsLedger ledger_of SET_TARGET.now (named_row id name digest) old new
+    (ChangesTarget id (renamed name digest)) (in_ledgers (tables_know (changed_at set_target_is))) out h
     (λ now next change holds count w. (w, subst (HoldsRecords new.now) (sym change) (sets_target id name digest old new _ count now holds w)))
 
-pub tag_written : (id w : Bytes) (old new : State) (out : Result (Unit {0}) Fault) → RunsText old new PUT_TARGET_TAG.now (tag_row id w) out → Makes HoldsLedger ledger_of old new out (AddsTag id w)
-tag_written id w old new out h = run_makes HoldsLedger ledger_of PUT_TARGET_TAG.now (tag_row id w) old new (AddsTag id w) (in_ledgers (tables_know (put_at put_target_tag_is))) out h (λ now next change holds count done. (done, adds_tag id w old new _ count now next holds change done))
+pub tag_written : (id w : Bytes) (old new : State) (out : Result (Unit {0}) Fault) → RunsText old new PUT_TARGET_TAG.now (tag_row id w) out
+    → Makes HoldsLedger ledger_of old new out (AddsTag id w)
+tag_written id w old new out h = run_makes HoldsLedger ledger_of PUT_TARGET_TAG.now (tag_row id w) old new (AddsTag id w)
+    (in_ledgers (tables_know (put_at put_target_tag_is))) out h
+    (λ now next change holds count done. (done, adds_tag id w old new _ count now next holds change done))
 
-pub tag_dropped : (id w : Bytes) (old new : State) (out : Result (Unit {0}) Fault) → RunsText old new DROP_TARGET_TAG.now (tag_row id w) out → Makes HoldsLedger ledger_of old new out (ChangesTarget id (untagged w))
-tag_dropped id w old new out h = run_makes HoldsLedger ledger_of DROP_TARGET_TAG.now (tag_row id w) old new (ChangesTarget id (untagged w)) (in_ledgers (tables_know (dropped_at drop_target_tag_is))) out h
+pub tag_dropped : (id w : Bytes) (old new : State) (out : Result (Unit {0}) Fault) → RunsText old new DROP_TARGET_TAG.now (tag_row id w) out
+    → Makes HoldsLedger ledger_of old new out (ChangesTarget id (untagged w))
+tag_dropped id w old new out h = run_makes HoldsLedger ledger_of DROP_TARGET_TAG.now (tag_row id w) old new (ChangesTarget id (untagged w))
+    (in_ledgers (tables_know (dropped_at drop_target_tag_is))) out h
     (λ now next change holds count done. (done, subst (HoldsRecords new.now) (sym change) (drops_tag id w old new _ count now holds done)))

@@ -23,8 +23,8 @@ use crate::from_row::FromRow;
 use crate::reading::{approval_in, last_number, read_all, read_at, read_optional};
 use desk_records::{
     FIND_ROLLOUT, GET_DESK, GET_GROUP, GET_ROLLOUT, GROUP_AND_NEXT, HOLDING_GROUP, LAST_ROLLOUT,
-    LIST_GROUPS, LIST_MEMBERS, PUT_GROUP, PUT_MEMBER, PUT_ROLLOUT, RowFault,
-    SET_GROUP, SET_ROLLOUT, StoredRollout, read_group, read_member, read_stored_rollout,
+    LIST_GROUPS, LIST_MEMBERS, PUT_GROUP, PUT_MEMBER, PUT_ROLLOUT, RowFault, SET_GROUP,
+    SET_ROLLOUT, StoredRollout, read_group, read_member, read_stored_rollout,
 };
 use rollout_machine::{Bounds, GroupRecord};
 use rollout_model::{Approval, ControllerId, Page, RolloutNo, RolloutPlan, Text};

@@ -1,5 +1,10 @@
 -- What the reads of the tables of actions, members and rollouts come to.
-use Rattle.desk_verify.proofs.Common.{◌≡◌, ◌<◌, ℕ, true, false, true≢false, List, [], ◌∷◌, length, nat_eq, pos, Some, None, inl, refl, sym, ap, subst, ◌∙◌, arith, AllByRecursion, Int, Text, Row, column, Has, all_from, all_has, Bytes, has_at, Actions, IsAction, Tables, PlacedMember, ListedAction, StoredAction, StoredRollout, is_at, number_in_is, number_in_least, number_is, one_number, AreActionsInTurn, AreMembersInTurn, AreWhole, FitsHistory, ListsActions, PassesHistory, are_for, count_none, is_for, AgreesActions, AreInOrder, FitsEntries, HasActions, HasMember, IsRightAction, IsStarted, KeepsNumbers, PassesActions, Settles, AreAllChecked, HasRollout, IsChecked, JudgesOne, IsThere}
+use Rattle.desk_verify.proofs.Common.{◌≡◌, ◌<◌, ℕ, true, false, true≢false, List, [], ◌∷◌, length, nat_eq, pos, Some, None, inl, refl, sym, ap, subst, ◌∙◌}
+use Rattle.desk_verify.proofs.Common.{arith, AllByRecursion, Int, Text, Row, column, Has, all_from, all_has, Bytes, has_at, Actions, IsAction, Tables}
+use Rattle.desk_verify.proofs.Common.{PlacedMember, ListedAction, StoredAction, StoredRollout, is_at, number_in_is, number_in_least, number_is, one_number}
+use Rattle.desk_verify.proofs.Common.{AreActionsInTurn, AreMembersInTurn, AreWhole, FitsHistory, ListsActions, PassesHistory, are_for, count_none, is_for}
+use Rattle.desk_verify.proofs.Common.{AgreesActions, AreInOrder, FitsEntries, HasActions, HasMember, IsRightAction, IsStarted, KeepsNumbers, PassesActions}
+use Rattle.desk_verify.proofs.Common.{Settles, AreAllChecked, HasRollout, IsChecked, JudgesOne, IsThere}
 use Rattle.desk_verify.proofs.OneRow.{one_action, one_in}
 use Rattle.desk_verify.proofs.RolloutLemmas.{decided}
 use Rattle.desk_verify.proofs.TurnLemmas.{AreFollowing, AreTurns, following, is_own, own_is, turns}
@@ -27,7 +32,8 @@ module _ (t : Tables) (r : ℕ) (rollout : StoredRollout) (there : HasRollout t 
   said_started it = one_in _ _ _ (there.is.each it.row it.among it.numbered).started it.says
 
   is_started : rollout.started ≡ true → IsStarted t r
-  is_started started = let it = there.is.said in record { row = it.row; among = it.among; numbered = it.passes; says = it.is.started ∙ ap (λ b. Some b) started }
+  is_started started = let it = there.is.said in
+      record { row = it.row; among = it.among; numbered = it.passes; says = it.is.started ∙ ap (λ b. Some b) started }
 
   -- ---- that isn't started
 
@@ -48,13 +54,15 @@ module _ (t : Tables) (r : ℕ) (rollout : StoredRollout) (there : HasRollout t 
       let own = own_rollout said.row r it.number it.action it.is said.passes in
       true≢false (sym (said_started (subst (IsStarted t) own it.started)) ∙ waits)
 
-  pub waiting : rollout.started ≡ false → (actions : List ListedAction) → ListsActions t r (Some actions) → JudgesOne Actions 2 IsRightAction AreWhole AgreesActions t r (count_none actions)
+  pub waiting : rollout.started ≡ false → (actions : List ListedAction) → ListsActions t r (Some actions)
+      → JudgesOne Actions 2 IsRightAction AreWhole AgreesActions t r (count_none actions)
   waiting waits [] listed = none_of waits listed
   waiting waits (x ∷ actions) listed = one_of_none waits x actions listed
 
   -- ---- that is started
 
-  module _ (started : rollout.started ≡ true) (actions : List ListedAction) (listed : AreActionsInTurn t r actions) (members : List PlacedMember) (placed : AreMembersInTurn t r members) where
+  module _ (started : rollout.started ≡ true) (actions : List ListedAction) (listed : AreActionsInTurn t r actions) (members : List PlacedMember)
+      (placed : AreMembersInTurn t r members) where
     has_member : (m : PlacedMember) → Has members m → HasMember t r m.place m.id
     has_member m among = let it = placed.said.sound m among in record { row = it.row; among = it.among; is = it.is }
 
@@ -70,7 +78,8 @@ module _ (t : Tables) (r : ℕ) (rollout : StoredRollout) (there : HasRollout t 
         let texts : Text it.one.id ≡ Text id = sym it.is.id_is ∙ has.is.id_is in
         record { one = it.one; among = it.among; place_is = one_in _ _ _ it.is.place_is has.is.place_is; id_is = cc }
 
-    pub fits : are_for members actions ≡ true → AllByRecursion (PassesHistory t) actions → (many : ℕ) → many ≡ length actions → IsChecked Actions 2 IsRightAction AreWhole t r many
+    pub fits : are_for members actions ≡ true → AllByRecursion (PassesHistory t) actions → (many : ℕ) → many ≡ length actions
+        → IsChecked Actions 2 IsRightAction AreWhole t r many
     fits are histories many is = record {
       rows = record { each = each; all = is ∙ listed.said.count };
       whole = record { all = λ begun. all; in_order = in_order; numbers = numbers };
@@ -100,9 +109,19 @@ module _ (t : Tables) (r : ℕ) (rollout : StoredRollout) (there : HasRollout t 
             let m = its_member place id has in
             let a = ours.its_action m.one m.among in
             let it = listed.said.sound a.0 a.1 in
-            record { row = it.row; among = it.among; number = a.0.number; action = a.0.action; is = it.is; rollout_is = own_rollout it.row r a.0.number a.0.action it.is it.passes; place_is = (is_own m.one a.0 a.2).0 ∙ m.place_is }
+            record {
+              row = it.row;
+              among = it.among;
+              number = a.0.number;
+              action = a.0.action;
+              is = it.is;
+              rollout_is =
+                  own_rollout it.row r a.0.number a.0.action it.is it.passes;
+              place_is = (is_own m.one a.0 a.2).0 ∙ m.place_is;
+            }
 
-        in_order : (row other : Row) (j k : ℕ) (a b : StoredAction) → Has (t Actions) row → Has (t Actions) other → IsAction row j a → IsAction other k b → a.rollout ≡ r → b.rollout ≡ r → AreInOrder j k a b
+        in_order : (row other : Row) (j k : ℕ) (a b : StoredAction) → Has (t Actions) row → Has (t Actions) other → IsAction row j a → IsAction other k b
+            → a.rollout ≡ r → b.rollout ≡ r → AreInOrder j k a b
         in_order row other j k a b among others is other_is of other_of =
             let c = listed.said.complete row among (of_rollout row r j a is of) in
             let d = listed.said.complete other others (of_rollout other r k b other_is other_of) in
@@ -119,7 +138,8 @@ module _ (t : Tables) (r : ℕ) (rollout : StoredRollout) (there : HasRollout t 
         numbers : (row : Row) (number : ℕ) (a : StoredAction) → Has (t Actions) row → IsAction row number a → a.rollout ≡ r → KeepsNumbers t number
         numbers row number a among is of =
             let it = listed.said.complete row among (of_rollout row r number a is of) in
-            subst (KeepsNumbers t) (one_action_number row it.one.number number it.one.action a it.is is) (all_has (PassesHistory t) actions it.one histories it.among).numbers
+            subst (KeepsNumbers t) (one_action_number row it.one.number number it.one.action a it.is is)
+            (all_has (PassesHistory t) actions it.one histories it.among).numbers
 
     follows : AgreesActions t → AreFollowing members actions
     follows agree = record { its_member = own; its_action = all; order = order }
@@ -130,8 +150,12 @@ module _ (t : Tables) (r : ℕ) (rollout : StoredRollout) (there : HasRollout t 
             let it = agree.each said.row said.among in
             let rollout = own_rollout said.row r it.number it.action it.is said.passes in
             let same = one_action said.row it.action a.action it.is.shows said.is.shows in
-            let m = its_member it.action.position it.action.target (subst (λ n. HasMember t n it.action.position it.action.target) rollout it.member) in
-            (m.one, m.among, own_is m.one a (ap (λ (x : StoredAction). x.position) (sym same) ∙ sym m.place_is) (ap (λ (x : StoredAction). x.target) (sym same) ∙ sym m.id_is))
+            let m = its_member it.action.position it.action.target (subst (λ n. HasMember t n it.action.position it.action.target) rollout it.member) in (
+              m.one,
+              m.among,
+              own_is m.one a (ap (λ (x : StoredAction). x.position) (sym same) ∙ sym m.place_is)
+                  (ap (λ (x : StoredAction). x.target) (sym same) ∙ sym m.id_is),
+            )
 
         all : (m : PlacedMember) → Has members m → (a : ListedAction) × Has actions a × (a.action.position ≡ m.place)
         all m among =
@@ -139,7 +163,8 @@ module _ (t : Tables) (r : ℕ) (rollout : StoredRollout) (there : HasRollout t 
             let it = listed.said.complete has.row has.among (of_rollout has.row r has.number has.action has.is has.rollout_is) in
             (it.one, it.among, ap (λ (x : StoredAction). x.position) (one_action has.row it.one.action has.action it.is.shows has.is.shows) ∙ has.place_is)
 
-        order : (a b : ListedAction) → Has actions a → Has actions b → (a.action.position ≡ b.action.position → a.number ≡ b.number) × (a.action.position < b.action.position → a.number < b.number)
+        order : (a b : ListedAction) → Has actions a → Has actions b → (a.action.position ≡ b.action.position → a.number ≡ b.number)
+            × (a.action.position < b.action.position → a.number < b.number)
         order a b among others =
             let p = listed.said.sound a among in
             let q = listed.said.sound b others in
@@ -165,21 +190,30 @@ is_there : (t : Tables) (r : ℕ) → IsStarted t r → IsThere t r
 is_there t r it = record { row = it.row; among = it.among; numbered = it.numbered }
 
 -- the actions of all rollouts that are there, where there are no more
-pub agrees : (t : Tables) (listed all : ℕ) → AreAllChecked Actions 2 IsRightAction AreWhole t listed → all ≡ length (t Actions) → Settles (PassesActions t) (AgreesActions t) (nat_eq listed all)
+pub agrees : (t : Tables) (listed all : ℕ) → AreAllChecked Actions 2 IsRightAction AreWhole t listed → all ≡ length (t Actions)
+    → Settles (PassesActions t) (AgreesActions t) (nat_eq listed all)
 agrees t listed all checked is = decided Actions 2 IsRightAction AreWhole PassesActions AgreesActions t listed all checked is
     (λ each whole. (
-    let at : (row : Row) (number : ℕ) (action : StoredAction) → Has (t Actions) row → IsAction row number action → AreWhole t action.rollout = (λ row number action among says.
+    let at : (row : Row) (number : ℕ) (action : StoredAction) → Has (t Actions) row → IsAction row number action → AreWhole t action.rollout =
+    (λ row number action among says.
     let it = each row among in
     let own : it.action.rollout ≡ action.rollout = ap (λ (x : StoredAction). x.rollout) (one_action row it.action action it.is.shows says.shows) in
     whole action.rollout (number_in_least (column row 2) action.rollout says.shows.rollout) (is_there t action.rollout (subst (IsStarted t) own it.started))) in
     record {
       agrees = record {
         each = each;
-        all = λ rollout started place id has. (whole rollout (number_in_least (column has.row 1) rollout has.is.rollout_is) (is_there t rollout started)).all started place id has;
-        in_order = λ row other j k a b among others says other_says same. (at row j a among says).in_order row other j k a b among others says other_says refl (sym same);
+        all = λ rollout started place id has. (whole rollout (number_in_least (column has.row 1) rollout has.is.rollout_is) (is_there t rollout started)).all
+            started place id has;
+        in_order = λ row other j k a b among others says other_says same. (at row j a among says).in_order row other j k a b among others says other_says refl
+            (sym same);
       };
       numbers = λ row number action among says. (at row number action among says).numbers row number action among says refl;
     }))
     (λ agree row among.
     let it = agree.each row among in
-    record { rollout = it.action.rollout; low = number_in_least (column row 2) it.action.rollout it.is.shows.rollout; there = is_there t it.action.rollout it.started; of = of_rollout row it.action.rollout it.number it.action it.is refl })
+    record {
+      rollout = it.action.rollout;
+      low = number_in_least (column row 2) it.action.rollout it.is.shows.rollout;
+      there = is_there t it.action.rollout it.started;
+      of = of_rollout row it.action.rollout it.number it.action it.is refl;
+    })

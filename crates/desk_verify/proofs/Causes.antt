@@ -1,5 +1,11 @@
 -- What a failed store is blamed on in the checks.
-use Rattle.desk_verify.proofs.Common.{◌≡◌, ◌≤◌, ◌<◌, ◌^◌, ◌⊎◌, ◌&&◌, inl, inr, ◌≢◌, ℕ, nat_eq, nat_le, nat_lt, pos, ◌+◌, slice_index_or, zero, suc, take, Bool, not, true, false, cond, List, [], ◌∷◌, length, filter, map, Option, Some, None, refl, Ok, Err, Result, sym, ap, subst, ◌∙◌, arith, and_parts, nat_tests, AllByRecursion, Int, Row, column, value_cmp, State, Finds, Wears, Fault, is_number, number_of, number_in, AreSaid, HasNumber, IsLast, AreMembers, OwnedOffer, PlacedMember, Members, Offers, Place, Rollouts, number_in_good, number_in_is, HoldsTables, Tables, BlamesGiven, FindsTables, seen_in, AreActions, AreOffers, SaysOffer, any_row, IsUnreadable, large_number, many_rows, rise, twin_members, count_on, AgreesActions, AgreeBefore, Passes, checked, Artifact, follow, AgreesMembers, IsUpTo, number_limit, and_from}
+use Rattle.desk_verify.proofs.Common.{◌≡◌, ◌≤◌, ◌<◌, ◌^◌, ◌⊎◌, ◌&&◌, inl, inr, ◌≢◌, ℕ, nat_eq, nat_le, nat_lt, pos, ◌+◌, slice_index_or, zero, suc, take, Bool}
+use Rattle.desk_verify.proofs.Common.{not, true, false, cond, List, [], ◌∷◌, length, filter, map, Option, Some, None, refl, Ok, Err, Result, sym, ap, subst}
+use Rattle.desk_verify.proofs.Common.{◌∙◌, arith, and_parts, nat_tests, AllByRecursion, Int, Row, column, value_cmp, State, Finds, Wears, Fault, is_number}
+use Rattle.desk_verify.proofs.Common.{number_of, number_in, AreSaid, HasNumber, IsLast, AreMembers, OwnedOffer, PlacedMember, Members, Offers, Place, Rollouts}
+use Rattle.desk_verify.proofs.Common.{number_in_good, number_in_is, HoldsTables, Tables, BlamesGiven, FindsTables, seen_in, AreActions, AreOffers, SaysOffer}
+use Rattle.desk_verify.proofs.Common.{any_row, IsUnreadable, large_number, many_rows, rise, twin_members, count_on, AgreesActions, AgreeBefore, Passes}
+use Rattle.desk_verify.proofs.Common.{checked, Artifact, follow, AgreesMembers, IsUpTo, number_limit, and_from}
 use Rattle.std.proofs.lemmas.List.Filters.{length-filter_both}
 use Rattle.std.specs.Ordering.{is_eq}
 use Rattle.sqlite.specs.Store.{Ghosts}
@@ -11,9 +17,12 @@ pub even : (n : ℕ) → n ≤ n
 even n = omega arith
 
 -- what is given to a call is known by what was read before it
-pub blamed_when : {S A B C : Type 0} {g : Ghosts S} {Given G : Tables → Type 0} {old mid new : OpenChange S} {x : A} {P : Tables → A → Type 0} → FindsTables g {E = Fault} old mid (Ok x) P → old.store.now.calls.failures ≤ mid.store.now.calls.failures
-    → Wears (seen_in g mid) (seen_in g new) → (fault : Fault) → BlamesGiven g G {A = C} mid new (Err fault) → ((t : Tables) → P t x → Given t → G t) → (out : Result B Fault) → out ≡ Err fault → BlamesGiven g Given old new out
-blamed_when {B = B} {g = g} {Given = Given} {old = old} {new = new} read grows wears fault blames means out is = subst (BlamesGiven g Given {A = B} old new) (sym is)
+pub blamed_when : {S A B C : Type 0} {g : Ghosts S} {Given G : Tables → Type 0} {old mid new : OpenChange S} {x : A} {P : Tables → A → Type 0}
+    → FindsTables g {E = Fault} old mid (Ok x) P → old.store.now.calls.failures ≤ mid.store.now.calls.failures
+    → Wears (seen_in g mid) (seen_in g new) → (fault : Fault) → BlamesGiven g G {A = C} mid new (Err fault) → ((t : Tables) → P t x → Given t → G t)
+    → (out : Result B Fault) → out ≡ Err fault → BlamesGiven g Given old new out
+blamed_when {B = B} {g = g} {Given = Given} {old = old} {new = new} read grows wears fault blames means out is =
+    subst (BlamesGiven g Given {A = B} old new) (sym is)
     (record {
       to = λ t sees given. record {
         reason = λ broken clean.
@@ -55,28 +64,33 @@ past_limit t n none up = large_number up.there.row up.there.among (go (number_in
     apart : (m : ℕ) → is_number m ≡ true → n ≤ m → ⊥
     apart m good below =
         let high : nat_le m number_limit ≡ true = (and_parts (nat_le 1 m) (nat_le m number_limit) good).1 in
-        let is : is_number n ≡ true = and_from (nat_le 1 n) (nat_le n number_limit) (grind (arith, nat_tests, up.low)) (grind (arith, nat_tests, high, below)) in
+        let is : is_number n ≡ true = and_from (nat_le 1 n) (nat_le n number_limit) (grind (arith, nat_tests, up.low))
+        (grind (arith, nat_tests, high, below)) in
         let bad : is_number n ≡ false = not_number (is_number n) none in
         cc
 
     go : (o : Option ℕ) → number_in (column up.there.row 0) ≡ o → o ≡ None
     go None is = refl
     go (Some m) is =
-        let same : m ≡ up.last = one_rowid m up.last [] (ap (λ v. is_eq (value_cmp v (Int (pos up.last)))) (sym (number_in_is (column up.there.row 0) m is)) ∙ up.there.numbered) in
+        let same : m ≡ up.last = one_rowid m up.last [] (ap (λ v. is_eq (value_cmp v (Int (pos up.last)))) (sym (number_in_is (column up.there.row 0) m is))
+        ∙ up.there.numbered) in
         absurd (apart m (number_in_good (column up.there.row 0) m is) (omega (arith, same, up.high)))
 
 -- ---- members
 
 -- places that follow and don't count on don't rise
-pub not_rising : (last : ℕ) (members : List PlacedMember) → follow last members ≡ true → count_on last members ≡ false → rise last (map (λ (m : PlacedMember). m.place) members) ≡ false
+pub not_rising : (last : ℕ) (members : List PlacedMember) → follow last members ≡ true → count_on last members ≡ false
+    → rise last (map (λ (m : PlacedMember). m.place) members) ≡ false
 not_rising last [] h k = absurd cc
 not_rising last (m ∷ members) h k =
     let parts = and_parts (nat_lt 0 m.place) (nat_le m.place (last + 1) && follow m.place members) h in
     let more = and_parts (nat_le m.place (last + 1)) (follow m.place members) parts.1 in
     go (nat_lt last m.place) refl more.0 (nat_eq m.place (last + 1)) refl k (λ rest. not_rising m.place members more.1 rest)
   where
-    go : (b : Bool) → nat_lt last m.place ≡ b → nat_le m.place (last + 1) ≡ true → (one : Bool) → nat_eq m.place (last + 1) ≡ one → (one && count_on m.place members) ≡ false
-        → (count_on m.place members ≡ false → rise m.place (map (λ (m : PlacedMember). m.place) members) ≡ false) → (b && rise m.place (map (λ (m : PlacedMember). m.place) members)) ≡ false
+    go : (b : Bool) → nat_lt last m.place ≡ b → nat_le m.place (last + 1) ≡ true → (one : Bool) → nat_eq m.place (last + 1) ≡ one
+        → (one && count_on m.place members) ≡ false
+        → (count_on m.place members ≡ false → rise m.place (map (λ (m : PlacedMember). m.place) members) ≡ false)
+        → (b && rise m.place (map (λ (m : PlacedMember). m.place) members)) ≡ false
     go false low high one is k rest = refl
     go true low high true is k rest = rest k
     go true low high false is k rest = absurd (omega (arith, above low, below high, other is))
@@ -91,7 +105,8 @@ not_rising last (m ∷ members) h k =
         other h = grind (arith, nat_tests, h)
 
 -- in a table that agrees, two members have one place
-pub twin_place : (t : Tables) (r : ℕ) (members : List PlacedMember) → AreMembers (t Members) r members → count_on 0 members ≡ false → AgreesMembers t → IsUnreadable t
+pub twin_place : (t : Tables) (r : ℕ) (members : List PlacedMember) → AreMembers (t Members) r members → count_on 0 members ≡ false → AgreesMembers t
+    → IsUnreadable t
 twin_place t r members are k agree = twin_members r (record { found = members; said = are.said; in_order = are.rise; twins = go (follow 0 members) refl })
   where
     go : (b : Bool) → follow 0 members ≡ b → rise 0 (map (λ (m : PlacedMember). m.place) members) ≡ false
@@ -107,7 +122,8 @@ pub all_actions : (t : Tables) → AgreesActions t → AreActions t
 all_actions t agree row among = let it = agree.each row among in (it.number, it.action, it.is)
 
 -- two answers of one call
-pub together : {A : Type 0} {a b : State} {x : A} {P W : Tables → A → Type 0} → Finds HoldsTables (λ (t : Tables). t) {E = Fault} a b (Ok x) P → Finds HoldsTables (λ (t : Tables). t) {E = Fault} a b (Ok x) W → Finds HoldsTables (λ (t : Tables). t) {E = Fault} a b (Ok x) (λ t y. P t y × W t y)
+pub together : {A : Type 0} {a b : State} {x : A} {P W : Tables → A → Type 0} → Finds HoldsTables (λ (t : Tables). t) {E = Fault} a b (Ok x) P
+    → Finds HoldsTables (λ (t : Tables). t) {E = Fault} a b (Ok x) W → Finds HoldsTables (λ (t : Tables). t) {E = Fault} a b (Ok x) (λ t y. P t y × W t y)
 together one other = record { wears = one.wears; finds = λ t was. ((one.finds t was).0, λ clean. ((one.finds t was).1 clean, (other.finds t was).1 clean)) }
 
 -- ---- the order of the checks

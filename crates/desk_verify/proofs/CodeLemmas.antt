@@ -1,5 +1,10 @@
 -- What codes and numbers are read as that the program writes.
-use Rattle.desk_verify.proofs.Common.{◌≡◌, ◌≤◌, ◌<◌, ◌^◌, ℕ, pos, Bool, true, false, [], ◌∷◌, nat_eq, nat_le, nat_lt, Option, Some, None, refl, arith, ap, and_parts, leb-true, nat_tests, is_some, Int, CancelWord, CanceledCancel, ClosedCancel, DeploymentWord, Failed, Noted, NotedCancel, Proceeding, Rejected, RejectedCancel, Resumed, Scheduled, Succeeded, OfCancel, OfDeployment, Said, Outcome, Bad, Gone, Good, group_limit, percentage_limit, is_feedback_number, is_group_count, is_percentage, is_small, kind_code, outcome_code, word_code, has_size, approval_in, feedback_number_in, flag_in, group_count_in, outcome_in, percentage_in, place_in, said_by, broken_group_column, approval_code, flag}
+use Rattle.desk_verify.proofs.Common.{◌≡◌, ◌≤◌, ◌<◌, ◌^◌, ℕ, pos, Bool, true, false, [], ◌∷◌, nat_eq, nat_le, nat_lt, Option, Some, None, refl, arith, ap}
+use Rattle.desk_verify.proofs.Common.{and_parts, leb-true, nat_tests, is_some, Int, CancelWord, CanceledCancel, ClosedCancel, DeploymentWord, Failed, Noted}
+use Rattle.desk_verify.proofs.Common.{NotedCancel, Proceeding, Rejected, RejectedCancel, Resumed, Scheduled, Succeeded, OfCancel, OfDeployment, Said, Outcome}
+use Rattle.desk_verify.proofs.Common.{Bad, Gone, Good, group_limit, percentage_limit, is_feedback_number, is_group_count, is_percentage, is_small, kind_code}
+use Rattle.desk_verify.proofs.Common.{outcome_code, word_code, has_size, approval_in, feedback_number_in, flag_in, group_count_in, outcome_in, percentage_in}
+use Rattle.desk_verify.proofs.Common.{place_in, said_by, broken_group_column, approval_code, flag}
 use Rattle.rollout_model.specs.declared.approval.Approval.{Approval}
 use Rattle.rollout_model.specs.declared.approval.Approval.TheVariants.{Denied, Given, Waiting}
 

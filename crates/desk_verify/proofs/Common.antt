@@ -1,5 +1,8 @@
 -- The names of other modules that the proofs here cite, passed on from one place. Declares nothing.
-pub use Rattle.std.proofs.Common.{Bool, Err, List, None, Ok, Option, Result, Some, Vec, [], add-one, ap, append-nil, append_assoc, ap₂, arith, cond, count_by, drop, false, filter, get_or, inl, inr, is_eq, is_none, le_trans, length, map, min, nat_eq, nat_le, nat_lt, not, pos, refl, rules, slice_get, slice_index_or, subst, suc, sym, take, true, true≢false, unwrap_or, vec_items, zero, zip, ℕ, ◌&&◌, ◌*◌, ◌++◌, ◌+◌, ◌-◌, ◌<◌, ◌^◌, ◌||◌, ◌∙◌, ◌∷◌, ◌≡◌, ◌≢◌, ◌≤◌, ◌⊎◌}
+pub use Rattle.std.proofs.Common.{Bool, Err, List, None, Ok, Option, Result, Some, Vec, [], add-one, ap, append-nil, append_assoc, ap₂, arith, cond, count_by}
+pub use Rattle.std.proofs.Common.{drop, false, filter, get_or, inl, inr, is_eq, is_none, le_trans, length, map, min, nat_eq, nat_le, nat_lt, not, pos, refl}
+pub use Rattle.std.proofs.Common.{rules, slice_get, slice_index_or, subst, suc, sym, take, true, true≢false, unwrap_or, vec_items, zero, zip, ℕ, ◌&&◌, ◌*◌}
+pub use Rattle.std.proofs.Common.{◌++◌, ◌+◌, ◌-◌, ◌<◌, ◌^◌, ◌||◌, ◌∙◌, ◌∷◌, ◌≡◌, ◌≢◌, ◌≤◌, ◌⊎◌}
 pub use Rattle.std.proofs.lemmas.Bool.{and_from, and_parts, eqb-true, leb-true, not-false, not-true, or_left, or_right}
 pub use Rattle.std.proofs.lemmas.Bool.Decides.{Decides-eqb, nat_tests}
 pub use Rattle.std.proofs.lemmas.List.{length-append, length-drop, length-map, length-take}
@@ -13,14 +16,16 @@ pub use Rattle.std.specs.Option.{is_some, option_map, option_or, option_to_list}
 pub use Rattle.std.specs.declared.alloc.Global.{Global}
 pub use Rattle.sqlite.specs.Effect.{Database}
 pub use Rattle.sqlite.specs.State.{State}
-pub use Rattle.sqlite_rules.proofs.ListLemmas.{all_from, all_has, contains_had, has_either, has_filtered, has_got, has_kept, has_right, some_from, some_has, test_from, test_has}
+pub use Rattle.sqlite_rules.proofs.ListLemmas.{all_from, all_has, contains_had, has_either, has_filtered, has_got, has_kept, has_right, some_from, some_has}
+pub use Rattle.sqlite_rules.proofs.ListLemmas.{test_from, test_has}
 pub use Rattle.sqlite_rules.specs.Lists.{Has}
 pub use Rattle.sqlite_trees.specs.Tree.{has_rowid}
 pub use Rattle.sqlite_value.specs.Order.{Row, column, value_cmp}
 pub use Rattle.sqlite_value.specs.declared.value.Value.TheVariants.{Blob, Int, Null, Text}
 pub use Rattle.rollout_model.specs.Groupings.{Grouping, define_each, is_grouping}
 pub use Rattle.rollout_model.specs.Limits.{group_limit, number_limit, percentage_limit, piece_length, target_limit}
-pub use Rattle.rollout_model.specs.Rules.{are_details, are_distinct_numbers, is_digest, is_feedback_number, is_group_count, is_module_list, is_number, is_percentage, is_text, is_value, is_word, number_of}
+pub use Rattle.rollout_model.specs.Rules.{are_details, are_distinct_numbers, is_digest, is_feedback_number, is_group_count, is_module_list, is_number}
+pub use Rattle.rollout_model.specs.Rules.{is_percentage, is_text, is_value, is_word, number_of}
 pub use Rattle.rollout_model.specs.declared.rollout.Offer.{Offer}
 pub use Rattle.artifact_pieces.specs.Digests.{digest_of}
 pub use Rattle.artifact_pieces.specs.Pieces.{piece_count}
@@ -35,7 +40,9 @@ pub use Rattle.rollout_machine.specs.Actions.{history, outcome_said}
 pub use Rattle.rollout_machine.specs.ByteStrings.{item_numbered}
 pub use Rattle.rollout_machine.specs.CommandList.{CommandList, Make, ◌▸◌}
 pub use Rattle.rollout_machine.specs.CommandRules.{IsWellFormed, is_credential, is_device_feedback, is_feedback_number_or_none, is_plan}
-pub use Rattle.rollout_machine.specs.Commands.{Attribute, Bytes, CancelFeedback, CancelWord, CanceledCancel, ClosedCancel, Command, CreateRollout, DeploymentWord, DeviceFeedback, Failed, Feedback, ModuleLabel, Noted, NotedCancel, Proceeding, Rejected, RejectedCancel, Resumed, RolloutPlan, Scheduled, SetLabel, Succeeded}
+pub use Rattle.rollout_machine.specs.Commands.{Attribute, Bytes, CancelFeedback, CancelWord, CanceledCancel, ClosedCancel, Command, CreateRollout}
+pub use Rattle.rollout_machine.specs.Commands.{DeploymentWord, DeviceFeedback, Failed, Feedback, ModuleLabel, Noted, NotedCancel, Proceeding, Rejected}
+pub use Rattle.rollout_machine.specs.Commands.{RejectedCancel, Resumed, RolloutPlan, Scheduled, SetLabel, Succeeded}
 pub use Rattle.rollout_machine.specs.Counts.{is_outcome}
 pub use Rattle.rollout_machine.specs.GroupCounts.{HasCountedGroups, IsCountedGroup}
 pub use Rattle.rollout_machine.specs.GroupRules.{GroupRule, rule_at, rules_of}
@@ -63,13 +70,16 @@ pub use Rattle.sql_calls.specs.declared.fault.Fault.TheVariants.{Broken}
 pub use Rattle.desk_records.proofs.HeldCounts.{at_place, has_place, held_passing, item_row, own_parts, part_among, place_within}
 pub use Rattle.desk_records.proofs.HeldTables.{IsNumbered, IsPart, are_tables, held_rows, numbered, of_part, row_numbered, row_of, rows_of, wanted_of}
 pub use Rattle.desk_records.proofs.Membership.{all_pass, each_passes, has_flat, has_mapped, map_has}
-pub use Rattle.desk_records.proofs.NumberColumns.{has_own_number, is_at, is_in_range, is_number_in, is_small, number_in_good, number_in_is, number_in_least, number_is, one_number, small_is}
+pub use Rattle.desk_records.proofs.NumberColumns.{has_own_number, is_at, is_in_range, is_number_in, is_small, number_in_good, number_in_is, number_in_least}
+pub use Rattle.desk_records.proofs.NumberColumns.{number_is, one_number, small_is}
 pub use Rattle.desk_records.proofs.PieceLists.{count_pieces, count_whole, nth_piece, one_more, same_contents}
 pub use Rattle.desk_records.proofs.WholeArtifacts.{IsWhole, KeepsRules, all_keep, all_whole, digest_is_one}
-pub use Rattle.desk_records.specs.Actions.{Tally, action_row, actor_of, entries_of, entry_row, history_of, kind_code, outcome_code, tally_of, told_action, told_entry, word_code}
+pub use Rattle.desk_records.specs.Actions.{Tally, action_row, actor_of, entries_of, entry_row, history_of, kind_code, outcome_code, tally_of, told_action}
+pub use Rattle.desk_records.specs.Actions.{told_entry, word_code}
 pub use Rattle.desk_records.specs.ArtifactRow.{broken_artifact_column, broken_stored_column, has_size, stored}
 pub use Rattle.desk_records.specs.Artifacts.{artifact_row, piece_numbered, piece_row, pieces_in, pieces_of_artifact}
-pub use Rattle.desk_records.specs.Codes.{approval_in, feedback_number_in, first_broken, flag_in, group_count_in, number_in, outcome_in, percentage_in, percentage_or_none_in, place_in}
+pub use Rattle.desk_records.specs.Codes.{approval_in, feedback_number_in, first_broken, flag_in, group_count_in, number_in, outcome_in, percentage_in}
+pub use Rattle.desk_records.specs.Codes.{percentage_or_none_in, place_in}
 pub use Rattle.desk_records.specs.EntryRow.{BreaksEntry, broken_word, keeps_details, said_by}
 pub use Rattle.desk_records.specs.FoundPieces.{ArePieces}
 pub use Rattle.desk_records.specs.Holds.{HoldsLedger, HoldsRecords, IsHeld, Ledger, desk_row, ledger_of, module_row}
@@ -77,11 +87,15 @@ pub use Rattle.desk_records.specs.Listings.{AreBroken, AreSaid, FindsOne, HasNum
 pub use Rattle.desk_records.specs.Offers.{HoldsOffers, is_to, offer_row}
 pub use Rattle.desk_records.specs.Parts.{parts_from}
 pub use Rattle.desk_records.specs.PlaceLists.{AreMembers, ListsPlaces, SaysMember, is_of}
-pub use Rattle.desk_records.specs.RolloutRow.{IsActionRow, IsRolloutRow, broken_action_column, broken_group_column, broken_listed_action_column, broken_offer_column, broken_rollout_column, stored_action, stored_rollout}
-pub use Rattle.desk_records.specs.Rollouts.{approval_code, flag, group_row, groups_from, member_row, members_from, rollout_row, rule_row, rules_from, told_rollout, told_rule}
+pub use Rattle.desk_records.specs.RolloutRow.{IsActionRow, IsRolloutRow, broken_action_column, broken_group_column, broken_listed_action_column}
+pub use Rattle.desk_records.specs.RolloutRow.{broken_offer_column, broken_rollout_column, stored_action, stored_rollout}
+pub use Rattle.desk_records.specs.Rollouts.{approval_code, flag, group_row, groups_from, member_row, members_from, rollout_row, rule_row, rules_from}
+pub use Rattle.desk_records.specs.Rollouts.{told_rollout, told_rule}
 pub use Rattle.desk_records.specs.RuleRow.{IsRuleRow, broken_rule_column}
-pub use Rattle.desk_records.specs.Schema.{Actions, Artifacts, Desk, Feedbacks, Groups, Members, Modules, Numbers, Offers, Pieces, Place, Rollouts, Rules, SetModules, Sets, TargetAttributes, TargetTags, Targets}
-pub use Rattle.desk_records.specs.TableRows.{IsAction, IsEntry, IsGroup, IsMember, IsOffer, IsRollout, action_shown, artifact_shown, group_shown, number_shown, offer_shown, rollout_shown, rule_shown}
+pub use Rattle.desk_records.specs.Schema.{Actions, Artifacts, Desk, Feedbacks, Groups, Members, Modules, Numbers, Offers, Pieces, Place, Rollouts, Rules}
+pub use Rattle.desk_records.specs.Schema.{SetModules, Sets, TargetAttributes, TargetTags, Targets}
+pub use Rattle.desk_records.specs.TableRows.{IsAction, IsEntry, IsGroup, IsMember, IsOffer, IsRollout, action_shown, artifact_shown, group_shown, number_shown}
+pub use Rattle.desk_records.specs.TableRows.{offer_shown, rollout_shown, rule_shown}
 pub use Rattle.desk_records.specs.Tables.{HoldsTables, Tables}
 pub use Rattle.desk_records.specs.declared.checked_rows.OwnedOffer.{OwnedOffer}
 pub use Rattle.desk_records.specs.declared.entry_row.SequencedEntry.{SequencedEntry}
@@ -94,14 +108,18 @@ pub use Rattle.desk_records.specs.declared.rollout_row.StoredRollout.{StoredRoll
 pub use Rattle.desk_store.proofs.BlameLemmas.{blamed}
 pub use Rattle.desk_store.specs.Blaming.{Blames, BlamesGiven}
 pub use Rattle.desk_store.specs.Changing.{FindsTables, StaysIn, seen_in}
-pub use Rattle.desk_store.specs.RawLists.{AreActions, AreOffers, ListsRows, SaysAction, SaysArtifact, SaysGroup, SaysNumber, SaysNumbered, SaysOffer, SaysOfferOf, SaysRule, any_row, listed_shown}
+pub use Rattle.desk_store.specs.RawLists.{AreActions, AreOffers, ListsRows, SaysAction, SaysArtifact, SaysGroup, SaysNumber, SaysNumbered, SaysOffer}
+pub use Rattle.desk_store.specs.RawLists.{SaysOfferOf, SaysRule, any_row, listed_shown}
 pub use Rattle.desk_store.specs.Readable.{BreaksColumn, IsReadable, label_shown, placed_shown, second_shown, third_shown}
 pub use Rattle.desk_store.specs.RuleTables.{HasGroupCount, HasRule, HaveRules, definition_by, definitions_in, grouping_of, grouping_with}
-pub use Rattle.desk_store.specs.Unreadable.{IsUnreadable, large_number, many_rows, missing_rollout, missing_rule, no_grouping, rise, twin_actions, twin_entries, twin_members}
+pub use Rattle.desk_store.specs.Unreadable.{IsUnreadable, large_number, many_rows, missing_rollout, missing_rule, no_grouping, rise, twin_actions}
+pub use Rattle.desk_store.specs.Unreadable.{twin_entries, twin_members}
 pub use Rattle.desk_reads.proofs.ListMembers.{AreIds, member_ids}
 pub use Rattle.desk_reads.specs.Counted.{AreCounted}
-pub use Rattle.desk_verify.specs.ActionChecks.{AreActionsInTurn, AreMembersInTurn, AreWhole, FitsHistory, IsGiven, IsGivenFirst, ListsActions, PassesHistory, are_for, count_none, count_on, first_said, is_each_for, is_fit, is_for, numbers_rise, sequences_rise}
-pub use Rattle.desk_verify.specs.Actions.{AgreesActions, AreInOrder, FitsEntries, GivesOutcome, HasActions, HasMember, IsRightAction, IsStarted, KeepsNumbers, PassesActions}
+pub use Rattle.desk_verify.specs.ActionChecks.{AreActionsInTurn, AreMembersInTurn, AreWhole, FitsHistory, IsGiven, IsGivenFirst, ListsActions, PassesHistory}
+pub use Rattle.desk_verify.specs.ActionChecks.{are_for, count_none, count_on, first_said, is_each_for, is_fit, is_for, numbers_rise, sequences_rise}
+pub use Rattle.desk_verify.specs.Actions.{AgreesActions, AreInOrder, FitsEntries, GivesOutcome, HasActions, HasMember, IsRightAction, IsStarted, KeepsNumbers}
+pub use Rattle.desk_verify.specs.Actions.{PassesActions}
 pub use Rattle.desk_verify.specs.Agreement.{AgreeBefore, Agrees, Decides, IsDamage, NamesFirst, Passes, Settles, checked}
 pub use Rattle.desk_verify.specs.ArtifactChecks.{HashesPieces, IsHashed}
 pub use Rattle.desk_verify.specs.Artifacts.{AgreesArtifacts, HasPieces}

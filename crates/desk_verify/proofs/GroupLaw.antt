@@ -1,5 +1,15 @@
 -- The table of groups agrees where records of accepted commands are held.
-use Rattle.desk_verify.proofs.Common.{◌≡◌, inl, inr, ◌≤◌, ◌<◌, ◌^◌, ◌&&◌, ℕ, zero, suc, ◌+◌, ◌-◌, pos, Bool, true, false, cond, List, [], ◌∷◌, filter, length, map, slice_get, zip, nat_eq, Option, Some, None, refl, sym, ap, subst, ◌∙◌, arith, is_eq, and_parts, nat_tests, option_map, Int, Null, Row, column, has_rowid, Database, Has, is_number, item_numbered, CommandList, Bytes, is_outcome, GroupRule, rule_at, rules_of, bounds_by, last_by, leaves_empty, IsCut, holds_position, Records, records, IsValid, AreWithinLimits, IsWithinLimits, Bounds, Outcome, Good, Bad, Gone, ActionRecord, GroupRecord, RolloutRecord, each_there, actions_follow_members, limits_hold, action_row, outcome_code, tally_of, group_count_in, HoldsRecords, ledger_of, has_at, is_of, group_row, groups_from, members_from, rollout_row, rule_row, rules_from, told_rollout, Actions, Groups, Members, Rollouts, Rules, IsGroup, HoldsTables, Tables, at_place, has_place, held_passing, item_row, own_parts, part_among, place_within, held_rows, numbered, of_part, row_of, wanted_of, has_own_number, is_number_in, HasGroupCount, HasRule, AgreesGroups, HasGroup, IsCutBy, IsInRollout, IsRightGroup, ended_in, has_ended, members_in, rows_from, HasCountedGroups, IsCountedGroup, count_actions, groups_are_counted, grouping_is_cut}
+use Rattle.desk_verify.proofs.Common.{◌≡◌, inl, inr, ◌≤◌, ◌<◌, ◌^◌, ◌&&◌, ℕ, zero, suc, ◌+◌, ◌-◌, pos, Bool, true, false, cond, List, [], ◌∷◌, filter, length}
+use Rattle.desk_verify.proofs.Common.{map, slice_get, zip, nat_eq, Option, Some, None, refl, sym, ap, subst, ◌∙◌, arith, is_eq, and_parts, nat_tests}
+use Rattle.desk_verify.proofs.Common.{option_map, Int, Null, Row, column, has_rowid, Database, Has, is_number, item_numbered, CommandList, Bytes, is_outcome}
+use Rattle.desk_verify.proofs.Common.{GroupRule, rule_at, rules_of, bounds_by, last_by, leaves_empty, IsCut, holds_position, Records, records, IsValid}
+use Rattle.desk_verify.proofs.Common.{AreWithinLimits, IsWithinLimits, Bounds, Outcome, Good, Bad, Gone, ActionRecord, GroupRecord, RolloutRecord, each_there}
+use Rattle.desk_verify.proofs.Common.{actions_follow_members, limits_hold, action_row, outcome_code, tally_of, group_count_in, HoldsRecords, ledger_of, has_at}
+use Rattle.desk_verify.proofs.Common.{is_of, group_row, groups_from, members_from, rollout_row, rule_row, rules_from, told_rollout, Actions, Groups, Members}
+use Rattle.desk_verify.proofs.Common.{Rollouts, Rules, IsGroup, HoldsTables, Tables, at_place, has_place, held_passing, item_row, own_parts, part_among}
+use Rattle.desk_verify.proofs.Common.{place_within, held_rows, numbered, of_part, row_of, wanted_of, has_own_number, is_number_in, HasGroupCount, HasRule}
+use Rattle.desk_verify.proofs.Common.{AgreesGroups, HasGroup, IsCutBy, IsInRollout, IsRightGroup, ended_in, has_ended, members_in, rows_from, HasCountedGroups}
+use Rattle.desk_verify.proofs.Common.{IsCountedGroup, count_actions, groups_are_counted, grouping_is_cut}
 use Rattle.std.proofs.lemmas.Option.{slice_get-map}
 use Rattle.std.proofs.lemmas.Int.{ints}
 use Rattle.sqlite_value.proofs.OrderLemmas.{value_cmp-Int}
@@ -10,7 +20,8 @@ use Rattle.desk_verify.proofs.CodeLemmas.{flag_is, few_is, kept_group, group_cou
 
 -- ---- rows
 
-counted_is : (place : ℕ) (ended : Option Outcome) → place < 2 ^ 32 → counted_in (Int (pos place)) (Int (pos (outcome_code ended))) ≡ Some (record { place = place; outcome = ended })
+counted_is : (place : ℕ) (ended : Option Outcome) → place < 2 ^ 32 → counted_in (Int (pos place)) (Int (pos (outcome_code ended)))
+    ≡ Some (record { place = place; outcome = ended })
 counted_is place None few = rw (few_is place few) refl
 counted_is place (Some Good) few = rw (few_is place few) refl
 counted_is place (Some Bad) few = rw (few_is place few) refl
@@ -22,11 +33,14 @@ one_rowid at r rest h = let same = sym (ap is_eq (value_cmp-Int (pos at) (pos r)
 -- ---- counts
 
 -- a group counts in the rows what it counts in the records
-count_rows : (rollouts : List RolloutRecord) (r : ℕ) (bounds : Bounds) (outcome : Outcome) (k : ℕ) (actions : List ActionRecord) → ((a : ActionRecord) → Has actions a → a.position < 2 ^ 32)
-    → length (filter (is_counted r (has_ended bounds outcome)) (rows_from (action_row rollouts) k (zip actions (map tally_of actions)))) ≡ count_actions outcome r bounds actions
+count_rows : (rollouts : List RolloutRecord) (r : ℕ) (bounds : Bounds) (outcome : Outcome) (k : ℕ) (actions : List ActionRecord)
+    → ((a : ActionRecord) → Has actions a → a.position < 2 ^ 32)
+    → length (filter (is_counted r (has_ended bounds outcome)) (rows_from (action_row rollouts) k (zip actions (map tally_of actions))))
+    ≡ count_actions outcome r bounds actions
 count_rows rollouts r bounds outcome k [] few = refl
 count_rows rollouts r bounds outcome k (a ∷ actions) few =
-    go (nat_eq a.rollout r && (holds_position a.position bounds && is_outcome outcome a.outcome)) (ap (λ o. nat_eq a.rollout r && passes_if_there (has_ended bounds outcome) o) (counted_is a.position a.outcome (few a (inl refl)))) refl
+    go (nat_eq a.rollout r && (holds_position a.position bounds && is_outcome outcome a.outcome))
+    (ap (λ o. nat_eq a.rollout r && passes_if_there (has_ended bounds outcome) o) (counted_is a.position a.outcome (few a (inl refl)))) refl
     (count_rows rollouts r bounds outcome (k + 1) actions (λ b among. few b (inr among)))
   where
     test : Row → Bool
@@ -41,7 +55,8 @@ count_rows rollouts r bounds outcome k (a ∷ actions) few =
     passes : Bool
     passes = nat_eq a.rollout r && (holds_position a.position bounds && is_outcome outcome a.outcome)
 
-    go : (b : Bool) → test row ≡ passes → passes ≡ b → length (filter test rest) ≡ count_actions outcome r bounds actions → length (cond (test row) (row ∷ filter test rest) (filter test rest)) ≡ count_actions outcome r bounds actions + cond passes 1 0
+    go : (b : Bool) → test row ≡ passes → passes ≡ b → length (filter test rest) ≡ count_actions outcome r bounds actions
+        → length (cond (test row) (row ∷ filter test rest) (filter test rest)) ≡ count_actions outcome r bounds actions + cond passes 1 0
     go true is its more = rw (is, its) (omega (arith, more))
     go false is its more = rw (is, its) (omega (arith, more))
 
@@ -85,7 +100,8 @@ module _ (h : CommandList) (valid : IsValid h) (db : Database) (t : Tables) (hel
 
     members_are : members_in t (suc d) ≡ length x.members
     members_are =
-        held_passing (is_of (suc d)) (has_at 0 (suc d)) (λ n row. refl) (t Members) (members_from 1 (records h).rollouts) (held_rows db (ledger_of (records h)) held t holds Members)
+        held_passing (is_of (suc d)) (has_at 0 (suc d)) (λ n row. refl) (t Members) (members_from 1 (records h).rollouts)
+        (held_rows db (ledger_of (records h)) held t holds Members)
         ∙ own_parts _ (λ (y : RolloutRecord). y.members) 1 (suc d) d (records h).rollouts x (omega arith) got
 
     planned : IsPlanned x.plan (length x.members)
@@ -94,7 +110,8 @@ module _ (h : CommandList) (valid : IsValid h) (db : Database) (t : Tables) (hel
     there : HasGroupCount t (suc d) x.plan.groups.count
     there = record {
       row = rollout_row (suc d) x;
-      among = subst (λ rows. Has rows (rollout_row (suc d) x)) (sym (held_rows db (ledger_of (records h)) held t holds Rollouts)) (item_row rollout_row 1 (suc d) d (records h).rollouts x (omega arith) got);
+      among = subst (λ rows. Has rows (rollout_row (suc d) x)) (sym (held_rows db (ledger_of (records h)) held t holds Rollouts))
+          (item_row rollout_row 1 (suc d) d (records h).rollouts x (omega arith) got);
       numbered = has_own_number (suc d) (Null ∷ told_rollout x);
       says = group_count_is x.plan.groups.count within.some_groups within.groups;
     }
@@ -105,15 +122,28 @@ module _ (h : CommandList) (valid : IsValid h) (db : Database) (t : Tables) (hel
     has_rule zero low high = absurd (omega (arith, low))
     has_rule (suc e) low high =
         let rule = rule_at x.plan (suc e) in
-        let its : slice_get (ledger_of (records h)).rules d ≡ Some (rules_of x.plan) = slice_get-map (λ (y : RolloutRecord). rules_of y.plan) (records h).rollouts d ∙ ap (option_map (λ (y : RolloutRecord). rules_of y.plan)) got in
+        let its : slice_get (ledger_of (records h)).rules d ≡ Some (rules_of x.plan) =
+        slice_get-map (λ (y : RolloutRecord). rules_of y.plan) (records h).rollouts d ∙ ap (option_map (λ (y : RolloutRecord). rules_of y.plan)) got in
         let own = each_there (rule_at x.plan) 1 x.plan.groups.count e (suc e) (omega (arith, high)) (omega arith) in
-        let part = part_among rule_row (λ (rules : List GroupRule). rules) 1 (suc d) d (ledger_of (records h)).rules (rules_of x.plan) (rule_row (suc d) (suc e) rule) (omega arith) its
+        let part = part_among rule_row (λ (rules : List GroupRule). rules) 1 (suc d) d (ledger_of (records h)).rules (rules_of x.plan)
+        (rule_row (suc d) (suc e) rule) (omega arith) its
         (item_row (rule_row (suc d)) 1 (suc e) e (rules_of x.plan) rule (omega arith) own) in
-        let row = row_of (t Rules) (rules_from (ledger_of (records h)).rules) (rule_row (suc d) (suc e) rule) (held_rows db (ledger_of (records h)) held t holds Rules) part in
-        record { row = Int (pos row.0) ∷ rule_row (suc d) (suc e) rule; among = row.1; passes = grind (arith, nat_tests); is = rule_told x.plan (suc e) planned.formed }
+        let row = row_of (t Rules) (rules_from (ledger_of (records h)).rules) (rule_row (suc d) (suc e) rule)
+        (held_rows db (ledger_of (records h)) held t holds Rules) part in
+        record {
+          row = Int (pos row.0) ∷ rule_row (suc d) (suc e) rule;
+          among = row.1;
+          passes = grind (arith, nat_tests);
+          is = rule_told x.plan (suc e) planned.formed;
+        }
 
     cut : IsCutBy t (suc d) x.plan.groups
-    cut = record { there = there; rules = rules_of x.plan; have = each_has (HasRule t (suc d)) (rule_at x.plan) 1 x.plan.groups.count has_rule; make = rules_make x.plan planned.formed }
+    cut = record {
+      there = there;
+      rules = rules_of x.plan;
+      have = each_has (HasRule t (suc d)) (rule_at x.plan) 1 x.plan.groups.count has_rule;
+      make = rules_make x.plan planned.formed;
+    }
 
     -- ---- one group
 
@@ -143,8 +173,17 @@ module _ (h : CommandList) (valid : IsValid h) (db : Database) (t : Tables) (hel
           let few_last = few_at (suc e) high in
           record {
             rollout_is = is_number_in (suc d) good;
-            shows = record { number = ap (λ i. Int (pos i)) (sym its.number); first = refl; last = refl; started = flag_is g.started; ok = refl; bad = refl; gone = refl };
-            kept = kept_group (suc e) g.bounds.first g.bounds.last g.ok g.bad g.gone g.started (omega (arith, high, within.groups)) (omega (arith, first, few_first, members)) (omega (arith, last, few_last, members))
+            shows = record {
+              number = ap (λ i. Int (pos i)) (sym its.number);
+              first = refl;
+              last = refl;
+              started = flag_is g.started;
+              ok = refl;
+              bad = refl;
+              gone = refl;
+            };
+            kept = kept_group (suc e) g.bounds.first g.bounds.last g.ok g.bad g.gone g.started (omega (arith, high, within.groups))
+                (omega (arith, first, few_first, members)) (omega (arith, last, few_last, members))
                 (omega (arith, counts.ok, members)) (omega (arith, counts.bad, members)) (omega (arith, counts.gone, members));
           }
 
@@ -152,20 +191,32 @@ module _ (h : CommandList) (valid : IsValid h) (db : Database) (t : Tables) (hel
       right = record {
         low = omega (arith, its.number);
         high = omega (arith, its.number, high);
-        bounds = its.bounds ∙ ap (λ m. bounds_by x.plan.groups m (suc e)) (sym members_are) ∙ ap (bounds_by x.plan.groups (members_in t (suc d))) (sym its.number);
+        bounds = its.bounds ∙ ap (λ m. bounds_by x.plan.groups m (suc e)) (sym members_are)
+            ∙ ap (bounds_by x.plan.groups (members_in t (suc d))) (sym its.number);
         ok = its.ok ∙ sym (ended_are (suc d) g.bounds Good);
         bad = its.bad ∙ sym (ended_are (suc d) g.bounds Bad);
         gone = its.gone ∙ sym (ended_are (suc d) g.bounds Gone);
       }
 
       in_rollout : (n : ℕ) → IsInRollout t (Int (pos n) ∷ group_row (suc d) (suc e) g)
-      in_rollout n = record { rollout = suc d; groups = x.plan.groups; group = g; is = is_group n; cut = cut; enough = ap (leaves_empty x.plan.groups) members_are ∙ planned.full; right = right }
+      in_rollout n = record {
+        rollout = suc d;
+        groups = x.plan.groups;
+        group = g;
+        is = is_group n;
+        cut = cut;
+        enough =
+            ap (leaves_empty x.plan.groups) members_are ∙ planned.full;
+        right = right;
+      }
 
       -- a row is it
       pub group_lies : (row : Row) × Has (t Groups) row × IsGroup row (suc d) g
       group_lies =
-          let part = part_among group_row groups_in 1 (suc d) d (records h).rollouts x (group_row (suc d) (suc e) g) (omega arith) got (item_row (group_row (suc d)) 1 (suc e) e x.groups g (omega arith) got_group) in
-          let row = row_of (t Groups) (groups_from 1 (records h).rollouts) (group_row (suc d) (suc e) g) (held_rows db (ledger_of (records h)) held t holds Groups) part in
+          let part = part_among group_row groups_in 1 (suc d) d (records h).rollouts x (group_row (suc d) (suc e) g) (omega arith) got
+          (item_row (group_row (suc d)) 1 (suc e) e x.groups g (omega arith) got_group) in
+          let row = row_of (t Groups) (groups_from 1 (records h).rollouts) (group_row (suc d) (suc e) g)
+          (held_rows db (ledger_of (records h)) held t holds Groups) part in
           (Int (pos row.0) ∷ group_row (suc d) (suc e) g, row.1, is_group row.0)
 
       has_group : HasGroup t (suc d) (suc e)
@@ -191,7 +242,8 @@ module _ (h : CommandList) (valid : IsValid h) (db : Database) (t : Tables) (hel
       let item = numbered (group_row of.number) 1 of.whole.groups content.1 of.among in
       let at : of.number ≡ suc of.index = omega (arith, of.number_is) in
       let place : item.at ≡ suc item.index = omega (arith, item.at_is) in
-      let own : content.1 ≡ group_row (suc of.index) (suc item.index) item.one = item.is ∙ ap (λ k. group_row k item.at item.one) at ∙ ap (λ k. group_row (suc of.index) k item.one) place in
+      let own : content.1 ≡ group_row (suc of.index) (suc item.index) item.one = item.is
+      ∙ ap (λ k. group_row k item.at item.one) at ∙ ap (λ k. group_row (suc of.index) k item.one) place in
       let is : row ≡ Int (pos content.0) ∷ group_row (suc of.index) (suc item.index) item.one = content.3 ∙ ap (λ y. Int (pos content.0) ∷ y) own in
       record { index = of.index; whole = of.whole; got = of.got; at = item.index; group = item.one; got_group = item.got; n = content.0; is = is }
 
@@ -200,7 +252,8 @@ module _ (h : CommandList) (valid : IsValid h) (db : Database) (t : Tables) (hel
 
   missing_none : (rollout n i : ℕ) → 1 ≤ rollout → HasGroupCount t rollout n → 1 ≤ i → i ≤ n → HasGroup t rollout i
   missing_none rollout n i first has low high =
-      let it = numbered rollout_row 1 (records h).rollouts has.row (subst (λ rows. Has rows has.row) (held_rows db (ledger_of (records h)) held t holds Rollouts) has.among) in
+      let it = numbered rollout_row 1 (records h).rollouts has.row
+      (subst (λ rows. Has rows has.row) (held_rows db (ledger_of (records h)) held t holds Rollouts) has.among) in
       let own : it.at ≡ rollout = one_rowid it.at rollout (Null ∷ told_rollout it.one) (ap (has_rowid (pos rollout)) (sym it.is) ∙ has.numbered) in
       let at : suc it.index ≡ rollout = (let k = it.at_is in omega (arith, k, own)) in
       let kept = within it.index it.one it.got in

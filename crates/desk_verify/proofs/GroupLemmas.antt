@@ -1,5 +1,12 @@
 -- What the reads of the tables of groups, members and actions come to.
-use Rattle.desk_verify.proofs.Common.{◌≡◌, ◌≤◌, ◌<◌, ◌&&◌, ℕ, zero, suc, ◌+◌, Bool, true, false, not, List, count_by, length, Option, Some, None, true≢false, refl, sym, ap, subst, ◌∙◌, arith, nat_eq, list_all, and_from, and_parts, nat_tests, Row, column, Has, some_from, some_has, test_from, test_has, item_numbered, bounds_by, cut_by, leaves_empty, each_there, numbered_each, Bounds, Outcome, Good, Bad, Gone, GroupRecord, HasNumber, has_at, Actions, Groups, Rollouts, IsGroup, Tables, is_at, number_in_is, number_in_least, number_is, one_number, ListsRows, SaysGroup, HasGroupCount, Decides, are_bounds, are_right, counts_them, has_each, has_number, is_cut, is_right, same_bounds, HasEach, IsCutOnlyBy, IsGroupCount, AgreesGroups, HasGroup, IsCutBy, IsInRollout, IsRightGroup, ended_in, has_ended, members_in, AreAllChecked, IsChecked, length-filter, not-true}
+use Rattle.desk_verify.proofs.Common.{◌≡◌, ◌≤◌, ◌<◌, ◌&&◌, ℕ, zero, suc, ◌+◌, Bool, true, false, not, List, count_by, length, Option, Some, None, true≢false}
+use Rattle.desk_verify.proofs.Common.{refl, sym, ap, subst, ◌∙◌, arith, nat_eq, list_all, and_from, and_parts, nat_tests, Row, column, Has, some_from}
+use Rattle.desk_verify.proofs.Common.{some_has, test_from, test_has, item_numbered, bounds_by, cut_by, leaves_empty, each_there, numbered_each, Bounds}
+use Rattle.desk_verify.proofs.Common.{Outcome, Good, Bad, Gone, GroupRecord, HasNumber, has_at, Actions, Groups, Rollouts, IsGroup, Tables, is_at}
+use Rattle.desk_verify.proofs.Common.{number_in_is, number_in_least, number_is, one_number, ListsRows, SaysGroup, HasGroupCount, Decides, are_bounds}
+use Rattle.desk_verify.proofs.Common.{are_right, counts_them, has_each, has_number, is_cut, is_right, same_bounds, HasEach, IsCutOnlyBy, IsGroupCount}
+use Rattle.desk_verify.proofs.Common.{AgreesGroups, HasGroup, IsCutBy, IsInRollout, IsRightGroup, ended_in, has_ended, members_in, AreAllChecked, IsChecked}
+use Rattle.desk_verify.proofs.Common.{length-filter, not-true}
 use Rattle.rollout_machine.specs.Groupings.{Grouping}
 use Rattle.desk_records.specs.CountedActions.{AreCounted}
 use Rattle.desk_records.specs.declared.checked_rows.CountedAction.{CountedAction}
@@ -35,15 +42,18 @@ is_there t r n has = record { row = has.row; among = has.among; numbered = has.n
 
 each_number : (groups : List GroupRecord) (k : ℕ) → has_each groups k ≡ true → (i : ℕ) → 1 ≤ i → i ≤ k → has_number groups i ≡ true
 each_number groups zero h i low high = absurd (omega (arith, low, high))
-each_number groups (suc k) h i low high = go (nat_eq i (suc k)) refl (λ less. each_number groups k (and_parts (has_each groups k) (has_number groups (suc k)) h).0 i low less)
+each_number groups (suc k) h i low high =
+    go (nat_eq i (suc k)) refl (λ less. each_number groups k (and_parts (has_each groups k) (has_number groups (suc k)) h).0 i low less)
   where
     go : (b : Bool) → nat_eq i (suc k) ≡ b → (i ≤ k → has_number groups i ≡ true) → has_number groups i ≡ true
-    go true is earlier = let same : i ≡ suc k = grind (arith, nat_tests, is) in subst (λ n. has_number groups n ≡ true) (sym same) (and_parts (has_each groups k) (has_number groups (suc k)) h).1
+    go true is earlier = let same : i ≡ suc k = grind (arith, nat_tests, is) in
+        subst (λ n. has_number groups n ≡ true) (sym same) (and_parts (has_each groups k) (has_number groups (suc k)) h).1
     go false is earlier = earlier (grind (arith, nat_tests, is, high))
 
 numbers_each : (groups : List GroupRecord) (k : ℕ) → ((i : ℕ) → 1 ≤ i → i ≤ k → has_number groups i ≡ true) → has_each groups k ≡ true
 numbers_each groups zero each = refl
-numbers_each groups (suc k) each = and_from (has_each groups k) (has_number groups (suc k)) (numbers_each groups k (λ i low high. each i low (omega (arith, high)))) (each (suc k) (omega arith) (omega arith))
+numbers_each groups (suc k) each = and_from (has_each groups k) (has_number groups (suc k))
+    (numbers_each groups k (λ i low high. each i low (omega (arith, high)))) (each (suc k) (omega arith) (omega arith))
 
 -- one that is missing is missed
 pub one_missed : (groups : List GroupRecord) (k n : ℕ) → has_number groups (k + 1) ≡ false → k < n → has_each groups n ≡ false
@@ -76,19 +86,24 @@ equal_to : (a b : ℕ) → a ≡ b → nat_eq a b ≡ true
 equal_to a b same = grind (arith, nat_tests, same)
 
 -- the bounds of a group are those of its number
-own_bounds : (by : Grouping) (m : ℕ) (g : GroupRecord) → is_cut (cut_by by m) g ≡ true → (1 ≤ g.number) × (g.number ≤ by.count) × (g.bounds ≡ bounds_by by m g.number)
+own_bounds : (by : Grouping) (m : ℕ) (g : GroupRecord) → is_cut (cut_by by m) g ≡ true → (1 ≤ g.number) × (g.number ≤ by.count)
+    × (g.bounds ≡ bounds_by by m g.number)
 own_bounds by m g h = go (item_numbered (cut_by by m) g.number) refl h
   where
-    go : (o : Option Bounds) → item_numbered (cut_by by m) g.number ≡ o → are_bounds o g.bounds ≡ true → (1 ≤ g.number) × (g.number ≤ by.count) × (g.bounds ≡ bounds_by by m g.number)
+    go : (o : Option Bounds) → item_numbered (cut_by by m) g.number ≡ o → are_bounds o g.bounds ≡ true → (1 ≤ g.number) × (g.number ≤ by.count)
+        × (g.bounds ≡ bounds_by by m g.number)
     go None none h = absurd cc
     go (Some own) found h = let it = numbered_each (bounds_by by m) by.count g.number own found in (it.0, it.1, both_bounds g.bounds own h ∙ it.2)
 
-cut_so : (by : Grouping) (m i : ℕ) (bounds : Bounds) → 1 ≤ i → i ≤ by.count → bounds ≡ bounds_by by m i → are_bounds (item_numbered (cut_by by m) i) bounds ≡ true
+cut_so : (by : Grouping) (m i : ℕ) (bounds : Bounds) → 1 ≤ i → i ≤ by.count → bounds ≡ bounds_by by m i → are_bounds (item_numbered (cut_by by m) i) bounds
+    ≡ true
 cut_so by m zero bounds low high is = absurd (omega (arith, low))
-cut_so by m (suc k) bounds low high is = rw (each_there (bounds_by by m) 1 by.count k (suc k) (omega (arith, high)) (omega arith)) (subst (λ b. same_bounds bounds b ≡ true) is (bounds_same bounds))
+cut_so by m (suc k) bounds low high is = rw (each_there (bounds_by by m) 1 by.count k (suc k) (omega (arith, high)) (omega arith))
+    (subst (λ b. same_bounds bounds b ≡ true) is (bounds_same bounds))
 
 module _ (t : Tables) (r n m : ℕ) (count : IsGroupCount t r n) (by : Grouping) (cut : IsCutOnlyBy t r by) (are : m ≡ members_in t r)
-    (groups : List GroupRecord) (listed : ListsRows (t Groups) (has_at 1 r) (SaysGroup r) (Some groups)) (actions : List CountedAction) (acted : AreCounted (t Actions) r actions) where
+    (groups : List GroupRecord) (listed : ListsRows (t Groups) (has_at 1 r) (SaysGroup r) (Some groups)) (actions : List CountedAction)
+    (acted : AreCounted (t Actions) r actions) where
   ended_are : (bounds : Bounds) (outcome : Outcome) → count_by (has_ended bounds outcome) actions ≡ ended_in t r bounds outcome
   ended_are bounds outcome = sym (length-filter (has_ended bounds outcome) actions) ∙ acted.by (has_ended bounds outcome)
 
@@ -102,7 +117,8 @@ module _ (t : Tables) (r n m : ℕ) (count : IsGroupCount t r n) (by : Grouping)
   right_is g h =
       let both = and_parts (is_cut (cut_by by m) g) (counts_them actions g) h in
       let own = own_bounds by m g both.0 in
-      let e = and_parts (nat_eq g.ok (count_by (has_ended g.bounds Good) actions)) (nat_eq g.bad (count_by (has_ended g.bounds Bad) actions) && nat_eq g.gone (count_by (has_ended g.bounds Gone) actions)) both.1 in
+      let e = and_parts (nat_eq g.ok (count_by (has_ended g.bounds Good) actions))
+      (nat_eq g.bad (count_by (has_ended g.bounds Bad) actions) && nat_eq g.gone (count_by (has_ended g.bounds Gone) actions)) both.1 in
       let f = and_parts (nat_eq g.bad (count_by (has_ended g.bounds Bad) actions)) (nat_eq g.gone (count_by (has_ended g.bounds Gone) actions)) e.1 in
       record {
         low = own.0;
@@ -115,7 +131,12 @@ module _ (t : Tables) (r n m : ℕ) (count : IsGroupCount t r n) (by : Grouping)
 
   is_right_one : (g : GroupRecord) → IsRightGroup t r by g → is_right (cut_by by m) actions g ≡ true
   is_right_one g right =
-      rw (cut_so by m g.number g.bounds right.low right.high (right.bounds ∙ ap (λ k. bounds_by by k g.number) (sym are)), counts g.bounds Good g.ok right.ok, counts g.bounds Bad g.bad right.bad, counts g.bounds Gone g.gone right.gone) refl
+      rw (
+        cut_so by m g.number g.bounds right.low right.high (right.bounds ∙ ap (λ k. bounds_by by k g.number) (sym are)),
+        counts g.bounds Good g.ok right.ok,
+        counts g.bounds Bad g.bad right.bad,
+        counts g.bounds Gone g.gone right.gone,
+      ) refl
 
   as_many : by.count ≡ n
   as_many = count.only by.count cut.cut.there
@@ -160,10 +181,13 @@ module _ (t : Tables) (r n m : ℕ) (count : IsGroupCount t r n) (by : Grouping)
     same = cut.only it.groups (subst (λ k. IsCutBy t k it.groups) rollout it.cut)
 
     row_right : IsRightGroup t r by g
-    row_right = subst (λ k. IsRightGroup t k by g) rollout (subst (λ b. IsRightGroup t it.rollout b g) same (subst (IsRightGroup t it.rollout it.groups) (one_group row it.rollout r it.group g it.is is) it.right))
+    row_right = subst (λ k. IsRightGroup t k by g) rollout
+        (subst (λ b. IsRightGroup t it.rollout b g) same
+        (subst (IsRightGroup t it.rollout it.groups) (one_group row it.rollout r it.group g it.is is) it.right))
 
     row_full : leaves_empty by m ≡ false
-    row_full = ap (leaves_empty by) are ∙ subst (λ k. leaves_empty by (members_in t k) ≡ false) rollout (subst (λ b. leaves_empty b (members_in t it.rollout) ≡ false) same it.enough)
+    row_full = ap (leaves_empty by) are
+        ∙ subst (λ k. leaves_empty by (members_in t k) ≡ false) rollout (subst (λ b. leaves_empty b (members_in t it.rollout) ≡ false) same it.enough)
 
   agreeing : 1 ≤ r → AgreesGroups t → are_right by m actions groups ≡ true
   agreeing first agree = and_from _ _ (ap not full) (and_from _ _ (test_from (is_right (cut_by by m) actions) groups each) (numbers_each groups by.count all))
@@ -182,7 +206,8 @@ module _ (t : Tables) (r n m : ℕ) (count : IsGroupCount t r n) (by : Grouping)
           let own = has i low high in
           let one = listed.complete own.row own.among (of_rollout own.row r own.group own.is) in
           let group : own.group ≡ one.one = one_group own.row r r own.group one.one own.is one.is in
-          some_from (λ (g : GroupRecord). nat_eq g.number i) groups one.one one.among (equal_to one.one.number i (sym (ap (λ (g : GroupRecord). g.number) group) ∙ own.number))
+          some_from (λ (g : GroupRecord). nat_eq g.number i) groups one.one one.among
+          (equal_to one.one.number i (sym (ap (λ (g : GroupRecord). g.number) group) ∙ own.number))
 
   pub fails : are_right by m actions groups ≡ false → 1 ≤ r → AgreesGroups t → ⊥
   fails h first agree = true≢false (sym (agreeing first agree) ∙ h)
@@ -191,14 +216,21 @@ module _ (t : Tables) (r n m : ℕ) (count : IsGroupCount t r n) (by : Grouping)
 pub fails_broken : (t : Tables) (r : ℕ) → ListsRows (t Groups) (has_at 1 r) (SaysGroup r) None → AgreesGroups t → ⊥
 fails_broken t r broken agree =
     let it = agree.each broken.row broken.among in
-    let rollout : it.rollout ≡ r = one_number (column broken.row 1) it.rollout r (number_in_is _ _ it.is.rollout_is) (number_is (column broken.row 1) r broken.passes) in
+    let rollout : it.rollout ≡ r = one_number (column broken.row 1) it.rollout r (number_in_is _ _ it.is.rollout_is)
+    (number_is (column broken.row 1) r broken.passes) in
     broken.breaks it.group (subst (λ k. IsGroup broken.row k it.group) rollout it.is)
 
 -- ---- all of them
 
 -- the groups of all rollouts that are there, where there are no more
-pub agrees : (t : Tables) (listed all : ℕ) → AreAllChecked Groups 1 IsInRollout HasEach t listed → all ≡ length (t Groups) → Decides (AgreesGroups t) (nat_eq listed all)
+pub agrees : (t : Tables) (listed all : ℕ) → AreAllChecked Groups 1 IsInRollout HasEach t listed → all ≡ length (t Groups)
+    → Decides (AgreesGroups t) (nat_eq listed all)
 agrees t listed all checked is = decided Groups 1 IsInRollout HasEach AgreesGroups AgreesGroups t listed all checked is
     (λ each whole. record { each = each; all = λ rollout n i low has. whole rollout low (is_there t rollout n has) n i has })
     (λ agree row among. let it = agree.each row among in
-    record { rollout = it.rollout; low = number_in_least (column row 1) it.rollout it.is.rollout_is; there = is_there t it.rollout it.groups.count it.cut.there; of = of_rollout row it.rollout it.group it.is })
+    record {
+      rollout = it.rollout;
+      low = number_in_least (column row 1) it.rollout it.is.rollout_is;
+      there = is_there t it.rollout it.groups.count it.cut.there;
+      of = of_rollout row it.rollout it.group it.is;
+    })

@@ -1,5 +1,8 @@
 -- The numbers of feedback in histories: each is in its range, and they are no more than the entries.
-use Rattle.desk_verify.proofs.Common.{◌≡◌, inl, inr, ◌≤◌, ◌<◌, ℕ, suc, ◌+◌, Bool, true, false, cond, List, [], ◌∷◌, ◌++◌, length, Option, Some, None, refl, sym, ap, subst, ◌∙◌, arith, and_parts, item_numbered, CommandList, Make, ◌▸◌, IsValid, list_all, Has, history, IsWellFormed, is_credential, is_device_feedback, is_feedback_number_or_none, CancelFeedback, Command, DeviceFeedback, Feedback, records, Reported, reported_by, ActionRecord, are_details, is_number, PlacedNumber}
+use Rattle.desk_verify.proofs.Common.{◌≡◌, inl, inr, ◌≤◌, ◌<◌, ℕ, suc, ◌+◌, Bool, true, false, cond, List, [], ◌∷◌, ◌++◌, length, Option, Some, None, refl}
+use Rattle.desk_verify.proofs.Common.{sym, ap, subst, ◌∙◌, arith, and_parts, item_numbered, CommandList, Make, ◌▸◌, IsValid, list_all, Has, history}
+use Rattle.desk_verify.proofs.Common.{IsWellFormed, is_credential, is_device_feedback, is_feedback_number_or_none, CancelFeedback, Command, DeviceFeedback}
+use Rattle.desk_verify.proofs.Common.{Feedback, records, Reported, reported_by, ActionRecord, are_details, is_number, PlacedNumber}
 use Rattle.std.proofs.lemmas.List.Folds.{list_all-append}
 use Rattle.rollout_machine.proofs.AtNumbers.{has_place}
 use Rattle.desk_records.specs.FeedbackNumbers.{borne_at, numbers_from}
@@ -10,7 +13,8 @@ abbrev pub keeps_number : Reported → Bool
 keeps_number it = is_feedback_number_or_none it.number
 
 of_feedback : {W : Type 0} (feedback : DeviceFeedback W) → is_device_feedback feedback ≡ true → is_feedback_number_or_none feedback.number ≡ true
-of_feedback feedback formed = (and_parts (are_details feedback.details) _ (and_parts (is_number feedback.action) _ (and_parts (is_credential feedback.credential) _ formed).1).1).1
+of_feedback feedback formed =
+    (and_parts (are_details feedback.details) _ (and_parts (is_number feedback.action) _ (and_parts (is_credential feedback.credential) _ formed).1).1).1
 
 one_keeps : (c : Command) → IsWellFormed c → list_all keeps_number (reported_by c) ≡ true
 one_keeps (Feedback feedback) formed = rw (of_feedback feedback formed) refl
@@ -25,8 +29,10 @@ history_keeps (h ▸ c) valid r j = list_all-append keeps_number (history h r j)
     if_added true all = all
     if_added false all = refl
 
-pub numbers_kept : (h : CommandList) → IsValid h → (k : ℕ) (a : ActionRecord) → item_numbered (records h).actions k ≡ Some a → list_all keeps_number a.history ≡ true
-numbers_kept h valid k a at = let of = has_place h k a at in subst (λ (b : ActionRecord). list_all keeps_number b.history ≡ true) (sym of.is) (history_keeps h valid of.place.rollout of.place.position)
+pub numbers_kept : (h : CommandList) → IsValid h → (k : ℕ) (a : ActionRecord) → item_numbered (records h).actions k ≡ Some a → list_all keeps_number a.history
+    ≡ true
+numbers_kept h valid k a at = let of = has_place h k a at in subst (λ (b : ActionRecord). list_all keeps_number b.history ≡ true) (sym of.is)
+    (history_keeps h valid of.place.rollout of.place.position)
 
 -- ---- where they stand
 
@@ -34,7 +40,8 @@ pub few_numbers : (sequence : ℕ) (reports : List Reported) → length (numbers
 few_numbers sequence [] = omega arith
 few_numbers sequence (r ∷ more) = go r.number (few_numbers (sequence + 1) more)
   where
-    go : (number : Option ℕ) → length (numbers_from (sequence + 1) more) ≤ length more → length (borne_at sequence number ++ numbers_from (sequence + 1) more) ≤ suc (length more)
+    go : (number : Option ℕ) → length (numbers_from (sequence + 1) more) ≤ length more → length (borne_at sequence number ++ numbers_from (sequence + 1) more)
+        ≤ suc (length more)
     go None few = omega (arith, few)
     go (Some n) few = omega (arith, few)
 
@@ -51,9 +58,17 @@ is_borne sequence [] it among = absurd among
 is_borne sequence (r ∷ more) it among = go r.number refl among (is_borne (sequence + 1) more it)
   where
     behind : IsBorne (sequence + 1) more it → IsBorne sequence (r ∷ more) it
-    behind borne = record { low = omega (arith, borne.low); high = omega (arith, borne.high); report = borne.report; among = inr borne.among; number = borne.number }
+    behind borne = record {
+      low = omega (arith, borne.low);
+      high = omega (arith, borne.high);
+      report = borne.report;
+      among = inr borne.among;
+      number =
+          borne.number;
+    }
 
-    go : (number : Option ℕ) → r.number ≡ number → Has (borne_at sequence number ++ numbers_from (sequence + 1) more) it → (Has (numbers_from (sequence + 1) more) it → IsBorne (sequence + 1) more it) → IsBorne sequence (r ∷ more) it
+    go : (number : Option ℕ) → r.number ≡ number → Has (borne_at sequence number ++ numbers_from (sequence + 1) more) it
+        → (Has (numbers_from (sequence + 1) more) it → IsBorne (sequence + 1) more it) → IsBorne sequence (r ∷ more) it
     go None is later rest = behind (rest later)
     go (Some n) is (inr later) rest = behind (rest later)
     go (Some n) is (inl same) rest =

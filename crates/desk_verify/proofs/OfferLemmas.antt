@@ -1,5 +1,11 @@
 -- What the reads of the tables of offers, actions and groups come to.
-use Rattle.desk_verify.proofs.Common.{◌≡◌, ℕ, Bool, true, false, List, is_none, is_some, length, Option, Some, None, true≢false, refl, sym, ap, subst, ◌∙◌, pos, AllByRecursion, and_from, and_parts, Row, column, has_rowid, Has, all_from, all_has, some_from, some_has, Offer, Bytes, holds_position, Outcome, GroupRecord, same_refl, FindsOne, has_at, has_text_at, Actions, Groups, Offers, IsAction, IsOffer, Tables, OwnedOffer, ListedAction, StoredAction, StoredRollout, is_at, number_in_is, number_in_least, number_is, one_number, ListsRows, SaysAction, SaysGroup, SaysNumbered, SaysOffer, SaysOfferOf, any_row, Decides, Fits, IsRight, IsRowOffered, IsOfferedIfDue, holds_started, is_due, is_started_at, AgreesOffers, HasNumberedAction, IsDue, IsInStartedGroup, IsOffered, IsRightOffer, HasRollout, IsChecked, JudgesAll, IsThere}
+use Rattle.desk_verify.proofs.Common.{◌≡◌, ℕ, Bool, true, false, List, is_none, is_some, length, Option, Some, None, true≢false, refl, sym, ap, subst, ◌∙◌}
+use Rattle.desk_verify.proofs.Common.{pos, AllByRecursion, and_from, and_parts, Row, column, has_rowid, Has, all_from, all_has, some_from, some_has, Offer}
+use Rattle.desk_verify.proofs.Common.{Bytes, holds_position, Outcome, GroupRecord, same_refl, FindsOne, has_at, has_text_at, Actions, Groups, Offers, IsAction}
+use Rattle.desk_verify.proofs.Common.{IsOffer, Tables, OwnedOffer, ListedAction, StoredAction, StoredRollout, is_at, number_in_is, number_in_least, number_is}
+use Rattle.desk_verify.proofs.Common.{one_number, ListsRows, SaysAction, SaysGroup, SaysNumbered, SaysOffer, SaysOfferOf, any_row, Decides, Fits, IsRight}
+use Rattle.desk_verify.proofs.Common.{IsRowOffered, IsOfferedIfDue, holds_started, is_due, is_started_at, AgreesOffers, HasNumberedAction, IsDue}
+use Rattle.desk_verify.proofs.Common.{IsInStartedGroup, IsOffered, IsRightOffer, HasRollout, IsChecked, JudgesAll, IsThere}
 use Rattle.std.proofs.lemmas.Bool.Decides.{nat_tests}
 use Rattle.std.proofs.Common.{arith}
 use Rattle.std.proofs.lemmas.List.Sorted.{IsPermutation-sym, length_permutation}
@@ -36,7 +42,8 @@ pub kept_is : (kept : Option ℕ) (r : ℕ) → is_of kept r ≡ true → kept �
 kept_is None r same = absurd cc
 kept_is (Some n) r same = let is : n ≡ r = grind (arith, nat_tests, same) in ap Some is
 
-pub started_tells : (t : Tables) (r place : ℕ) (groups : List GroupRecord) → ListsRows (t Groups) (has_at 1 r) (SaysGroup r) (Some groups) → Decides (IsInStartedGroup t r place) (holds_started groups place)
+pub started_tells : (t : Tables) (r place : ℕ) (groups : List GroupRecord) → ListsRows (t Groups) (has_at 1 r) (SaysGroup r) (Some groups)
+    → Decides (IsInStartedGroup t r place) (holds_started groups place)
 started_tells t r place groups listed = go (holds_started groups place) refl
   where
     go : (b : Bool) → holds_started groups place ≡ b → Decides (IsInStartedGroup t r place) b
@@ -60,17 +67,26 @@ FindsAction t number = FindsOne (t Actions) (has_rowid (pos number)) SaysNumbere
 pub no_action : (t : Tables) (owned : OwnedOffer) → FindsAction t owned.offer.action None → Decides (IsRight t owned) false
 no_action t owned none it = none it.of.row it.of.among it.of.numbered
 
-its_action : (t : Tables) (owned : OwnedOffer) (action : StoredAction) → FindsAction t owned.offer.action (Some action) → (it : IsRight t owned) → it.action ≡ action
+its_action : (t : Tables) (owned : OwnedOffer) (action : StoredAction) → FindsAction t owned.offer.action (Some action) → (it : IsRight t owned) → it.action
+    ≡ action
 its_action t owned action one it = one_action it.of.row it.action action it.of.shows (one.each it.of.row it.of.among it.of.numbered)
 
-pub other_action : (t : Tables) (owned : OwnedOffer) (action : StoredAction) → FindsAction t owned.offer.action (Some action) → (Fits action owned → ⊥) → Decides (IsRight t owned) false
+pub other_action : (t : Tables) (owned : OwnedOffer) (action : StoredAction) → FindsAction t owned.offer.action (Some action) → (Fits action owned → ⊥)
+    → Decides (IsRight t owned) false
 other_action t owned action one other it = other (subst (λ a. Fits a owned) (its_action t owned action one it) it.fits)
 
-pub by_group : (t : Tables) (owned : OwnedOffer) (action : StoredAction) → FindsAction t owned.offer.action (Some action) → Fits action owned → (started : Bool) → Decides (IsInStartedGroup t action.rollout action.position) started
+pub by_group : (t : Tables) (owned : OwnedOffer) (action : StoredAction) → FindsAction t owned.offer.action (Some action) → Fits action owned → (started : Bool)
+    → Decides (IsInStartedGroup t action.rollout action.position) started
     → Decides (IsRight t owned) started
 by_group t owned action one fits true started =
-    record { action = action; of = record { row = one.said.row; among = one.said.among; numbered = one.said.passes; shows = one.said.is }; fits = fits; started = started }
-by_group t owned action one fits false none = λ it. none (subst (λ (a : StoredAction). IsInStartedGroup t a.rollout a.position) (its_action t owned action one it) it.started)
+    record {
+      action = action;
+      of = record { row = one.said.row; among = one.said.among; numbered = one.said.passes; shows = one.said.is };
+      fits = fits;
+      started = started;
+    }
+by_group t owned action one fits false none =
+    λ it. none (subst (λ (a : StoredAction). IsInStartedGroup t a.rollout a.position) (its_action t owned action one it) it.started)
 
 -- ---- one action
 
@@ -80,18 +96,21 @@ FindsOffer t id = FindsOne (t Offers) (has_text_at 1 id) (SaysOfferOf id)
 pub no_offer : (t : Tables) (id : Bytes) (number : ℕ) → FindsOffer t id None → Decides (IsOffered t id number) false
 no_offer t id number none it = none it.row it.among (has_id it.row id it.offer it.is)
 
-pub if_due : (t : Tables) (groups : List GroupRecord) (listed : ListedAction) → is_due groups listed.action ≡ true → (offered : Bool) → Decides (IsOffered t listed.action.target listed.number) offered → Decides (IsOfferedIfDue t groups listed) offered
+pub if_due : (t : Tables) (groups : List GroupRecord) (listed : ListedAction) → is_due groups listed.action ≡ true → (offered : Bool)
+    → Decides (IsOffered t listed.action.target listed.number) offered → Decides (IsOfferedIfDue t groups listed) offered
 if_due t groups listed due true offered = λ h. offered
 if_due t groups listed due false none = λ any. none (any due)
 
 -- ---- the actions of one rollout
 
-module _ (t : Tables) (r : ℕ) (rollout : StoredRollout) (groups : List GroupRecord) (listed : ListsRows (t Groups) (has_at 1 r) (SaysGroup r) (Some groups)) (actions : List ListedAction)
+module _ (t : Tables) (r : ℕ) (rollout : StoredRollout) (groups : List GroupRecord) (listed : ListsRows (t Groups) (has_at 1 r) (SaysGroup r) (Some groups))
+    (actions : List ListedAction)
     (acted : ListsRows (t Actions) (has_at 2 r) SaysAction (Some actions)) where
   its_rollout : (row : Row) (number : ℕ) (action : StoredAction) → IsAction row number action → has_at 2 r row ≡ true → action.rollout ≡ r
   its_rollout row number action is of = one_number (column row 2) action.rollout r (number_in_is _ _ is.shows.rollout) (number_is (column row 2) r of)
 
-  pub all_offered : (count : ℕ) → AllByRecursion (IsOfferedIfDue t groups) actions → count ≡ length actions → IsChecked Actions 2 IsRowOffered (λ t r. Unit) t r count
+  pub all_offered : (count : ℕ) → AllByRecursion (IsOfferedIfDue t groups) actions → count ≡ length actions
+      → IsChecked Actions 2 IsRowOffered (λ t r. Unit) t r count
   all_offered count none is = record { rows = record { each = each; all = is ∙ acted.count }; whole = tt }
     where
       each : (row : Row) → Has (t Actions) row → has_at 2 r row ≡ true → IsRowOffered t row
@@ -123,15 +142,18 @@ module _ (t : Tables) (r : ℕ) (rollout : StoredRollout) (groups : List GroupRe
 -- ---- all of them
 
 -- what was found, in another order
-pub sorted_said : {A : Type 0} {rows : List Row} {test : Row → Bool} {says : Row → A → Type 0} {found sorted : List A} → IsPermutation found sorted → AreSaid rows test says found → AreSaid rows test says sorted
+pub sorted_said : {A : Type 0} {rows : List Row} {test : Row → Bool} {says : Row → A → Type 0} {found sorted : List A} → IsPermutation found sorted
+    → AreSaid rows test says found → AreSaid rows test says sorted
 sorted_said {A} {rows} {test} {says} {found} {sorted} moved said = record {
-  sound = λ a among. all_has (IsSaid rows test says) sorted a (all-permutation (IsSaid rows test says) found sorted moved (all_from (IsSaid rows test says) found said.sound)) among;
+  sound = λ a among. all_has (IsSaid rows test says) sorted a
+      (all-permutation (IsSaid rows test says) found sorted moved (all_from (IsSaid rows test says) found said.sound)) among;
   complete = λ row among passes. let it = said.complete row among passes in record { one = it.one; among = moves it.one it.among; is = it.is };
   count = length_permutation found sorted moved ∙ said.count;
 }
   where
     moves : (a : A) → Has found a → Has sorted a
-    moves a among = all_has (Has sorted) found a (all-permutation (Has sorted) sorted found (IsPermutation-sym found sorted moved) (all_from (Has sorted) sorted (λ b has. has))) among
+    moves a among = all_has (Has sorted) found a
+        (all-permutation (Has sorted) sorted found (IsPermutation-sym found sorted moved) (all_from (Has sorted) sorted (λ b has. has))) among
 
 pub row_broken : (t : Tables) → ListsRows (t Offers) any_row SaysOffer None → Decides (AgreesOffers t) false
 row_broken t broken agree = let it = agree.each broken.row broken.among in broken.breaks (record { id = it.id; offer = it.offer }) it.is
@@ -154,7 +176,8 @@ module _ (t : Tables) (offers : List OwnedOffer) (listed : ListsRows (t Offers) 
             started = it.started;
           }
 
-  pub agrees : AllByRecursion (IsRight t) offers → (found : Option ℕ) → JudgesAll Actions 2 IsRowOffered (λ t r. Unit) AgreesOffers t found → Decides (AgreesOffers t) (is_some found)
+  pub agrees : AllByRecursion (IsRight t) offers → (found : Option ℕ) → JudgesAll Actions 2 IsRowOffered (λ t r. Unit) AgreesOffers t found
+      → Decides (AgreesOffers t) (is_some found)
   agrees right None differs = differs
   agrees right (Some count) checked = record { each = each; all = all }
     where
@@ -162,10 +185,22 @@ module _ (t : Tables) (offers : List OwnedOffer) (listed : ListsRows (t Offers) 
       each row among =
           let one = listed.complete row among refl in
           let it = all_has (IsRight t) offers one.one right one.among in
-          record { id = one.one.id; offer = one.one.offer; is = one.is; action = it.action; of = it.of; is_open = it.fits.is_open; target = it.fits.target; canceling = it.fits.canceling; started = it.started }
+          record {
+            id = one.one.id;
+            offer = one.one.offer;
+            is = one.is;
+            action = it.action;
+            of = it.of;
+            is_open = it.fits.is_open;
+            target = it.fits.target;
+            canceling = it.fits.canceling;
+            started = it.started;
+          }
 
       all : (row : Row) (number : ℕ) (action : StoredAction) → IsDue t row number action → IsOffered t action.target number
       all row number action due =
           let low = number_in_least (column row 2) action.rollout due.is.shows.rollout in
           let high = checked.is_last.greatest action.rollout due.there in
-          checked.checked.rows.each row due.among (is_within 2 checked.last action.rollout row low high (is_at row 2 action.rollout (number_in_is (column row 2) action.rollout due.is.shows.rollout))) number action due
+          checked.checked.rows.each row due.among
+          (is_within 2 checked.last action.rollout row low high
+          (is_at row 2 action.rollout (number_in_is (column row 2) action.rollout due.is.shows.rollout))) number action due

@@ -17,4 +17,13 @@ one_action row a b is other =
     let outcome = one_in _ a.outcome b.outcome is.outcome other.outcome in
     let notes = one_number (column row 7) a.notes b.notes is.notes other.notes in
     let entries = one_number (column row 8) a.entries b.entries is.entries other.entries in
-    λ i. record { rollout = rollout i; position = position i; target = target i; canceling = canceling i; outcome = outcome i; notes = notes i; entries = entries i }
+    λ i. record {
+      rollout = rollout i;
+      position = position i;
+      target = target i;
+      canceling = canceling i;
+      outcome = outcome i;
+      notes = notes i;
+      entries =
+          entries i;
+    }

@@ -1,5 +1,8 @@
 -- What is found at the places of an artifact, one after the other.
-use Rattle.desk_verify.proofs.Common.{◌≡◌, ◌≤◌, ◌<◌, ◌⊎◌, inl, inr, ◌++◌, ℕ, zero, suc, ◌+◌, ◌-◌, ◌*◌, List, [], ◌∷◌, length, map, slice_get, get_or, min, drop, Vec, vec_items, Some, None, refl, sym, ap, ap₂, subst, ◌∙◌, arith, length-append, Global, Blob, Row, Has, piece_count, Bytes, ArePieces, pieces_in, Pieces, Tables, count_pieces, nth_piece, one_more, same_contents, HashesPieces, IsHashed, HasPieces, length-drop, length-take, piece_length}
+use Rattle.desk_verify.proofs.Common.{◌≡◌, ◌≤◌, ◌<◌, ◌⊎◌, inl, inr, ◌++◌, ℕ, zero, suc, ◌+◌, ◌-◌, ◌*◌, List, [], ◌∷◌, length, map, slice_get, get_or, min}
+use Rattle.desk_verify.proofs.Common.{drop, Vec, vec_items, Some, None, refl, sym, ap, ap₂, subst, ◌∙◌, arith, length-append, Global, Blob, Row, Has}
+use Rattle.desk_verify.proofs.Common.{piece_count, Bytes, ArePieces, pieces_in, Pieces, Tables, count_pieces, nth_piece, one_more, same_contents, HashesPieces}
+use Rattle.desk_verify.proofs.Common.{IsHashed, HasPieces, length-drop, length-take, piece_length}
 use Rattle.std.proofs.lemmas.Grind.{div_ceil_times}
 use Rattle.std.proofs.lemmas.Option.{slice_get_cases}
 use Rattle.sha2.specs.Hashers.{Holds256}
@@ -12,7 +15,8 @@ only x y (inl same) = same
 only x y (inr none) = absurd none
 
 -- where a piece lies alone, it is all that is found
-pub alone : (rows : List Row) (number place : ℕ) (piece : Bytes) (found : List Bytes) → ArePieces rows number place (piece ∷ []) → ArePieces rows number place found → found ≡ piece ∷ []
+pub alone : (rows : List Row) (number place : ℕ) (piece : Bytes) (found : List Bytes) → ArePieces rows number place (piece ∷ [])
+    → ArePieces rows number place found → found ≡ piece ∷ []
 alone rows number place piece found one all = go found all (all.count ∙ sym one.count)
   where
     go : (found : List Bytes) → ArePieces rows number place found → length found ≡ 1 → found ≡ piece ∷ []
@@ -26,11 +30,13 @@ alone rows number place piece found one all = go found all (all.count ∙ sym on
     go (x ∷ y ∷ found) all count = absurd (omega (arith, count))
 
 -- where none lies, none is found
-pub none_found : (rows : List Row) (number place : ℕ) (found : List Bytes) → ArePieces rows number place [] → ArePieces rows number place found → length found ≡ 0
+pub none_found : (rows : List Row) (number place : ℕ) (found : List Bytes) → ArePieces rows number place [] → ArePieces rows number place found → length found
+    ≡ 0
 none_found rows number place found none all = all.count ∙ sym none.count
 
 -- one of another length is none of this length
-pub other_length : (t : Tables) (number place size : ℕ) (found : List (Vec ℕ Global)) (one : Vec ℕ Global) → length found ≡ 1 → one ≡ get_or found 0 one → (length one.items ≡ size → ⊥) → ArePieces (t Pieces) number place (map vec_items found)
+pub other_length : (t : Tables) (number place size : ℕ) (found : List (Vec ℕ Global)) (one : Vec ℕ Global) → length found ≡ 1 → one ≡ get_or found 0 one
+    → (length one.items ≡ size → ⊥) → ArePieces (t Pieces) number place (map vec_items found)
     → (piece : Bytes) → length piece ≡ size → ArePieces (t Pieces) number place (piece ∷ []) → ⊥
 other_length t number place size [] one single is other all piece long lies = absurd (omega (arith, single))
 other_length t number place size (x ∷ []) one single is other all piece long lies =
@@ -59,7 +65,8 @@ pushed (z ∷ xs) x (suc k) y is = elim (pushed xs x k y is) [ inl it ↦ inl it
 within_size : (size k : ℕ) → k < piece_count size → k * piece_length < size
 within_size size k few = let bounds = div_ceil_times size piece_length (omega arith) in omega (arith, few, bounds.0, bounds.1)
 
-pub more_hashed : (t : Tables) (number size k asked : ℕ) (old new : Sha256) → k < piece_count size → asked ≡ min (size - k * piece_length) piece_length → IsHashedTo t number size k old → IsHashed t number (k + 1) asked old new → IsHashedTo t number size (k + 1) new
+pub more_hashed : (t : Tables) (number size k asked : ℕ) (old new : Sha256) → k < piece_count size → asked ≡ min (size - k * piece_length) piece_length
+    → IsHashedTo t number size k old → IsHashed t number (k + 1) asked old new → IsHashedTo t number size (k + 1) new
 more_hashed t number size k asked old new few is so_far next = record {
   contents = so_far.contents ++ next.piece;
   holds = next.hashed so_far.contents so_far.holds;
@@ -77,21 +84,25 @@ more_hashed t number size k asked old new few is so_far next = record {
     grown : pieces_in (so_far.contents ++ next.piece) ≡ pieces_in so_far.contents ++ next.piece ∷ []
     grown = one_more so_far.contents next.piece k whole (omega (arith, next.long, is, within)) (omega (arith, next.long, is))
 
-    found : (at : ℕ) (piece : Bytes) → (slice_get (pieces_in so_far.contents) at ≡ Some piece) ⊎ ((at ≡ length (pieces_in so_far.contents)) × (piece ≡ next.piece)) → ArePieces (t Pieces) number (at + 1) (piece ∷ [])
+    found : (at : ℕ) (piece : Bytes) → (slice_get (pieces_in so_far.contents) at ≡ Some piece)
+        ⊎ ((at ≡ length (pieces_in so_far.contents)) × (piece ≡ next.piece)) → ArePieces (t Pieces) number (at + 1) (piece ∷ [])
     found at piece (inl earlier) = so_far.pieces at piece earlier
     found at piece (inr last) =
         let here : k + 1 ≡ at + 1 = omega (arith, last.0, so_far.count) in
-        subst (λ n. ArePieces (t Pieces) number n (piece ∷ [])) here (subst (λ (b : Bytes). ArePieces (t Pieces) number (k + 1) (b ∷ [])) (sym last.1) next.lies)
+        subst (λ n. ArePieces (t Pieces) number n (piece ∷ [])) here
+        (subst (λ (b : Bytes). ArePieces (t Pieces) number (k + 1) (b ∷ [])) (sym last.1) next.lies)
 
 -- contents of this size have a piece at each place, of the length that is asked for
-pub none_fits : (t : Tables) (number size k asked : ℕ) → k < piece_count size → asked ≡ min (size - k * piece_length) piece_length → ((piece : Bytes) → length piece ≡ asked → ArePieces (t Pieces) number (k + 1) (piece ∷ []) → ⊥)
+pub none_fits : (t : Tables) (number size k asked : ℕ) → k < piece_count size → asked ≡ min (size - k * piece_length) piece_length
+    → ((piece : Bytes) → length piece ≡ asked → ArePieces (t Pieces) number (k + 1) (piece ∷ []) → ⊥)
     → HashesPieces t number size None
 none_fits t number size k asked few is fails contents long has = go (slice_get_cases (pieces_in contents) k).1
   where
     many : length (pieces_in contents) ≡ piece_count size
     many = count_pieces contents ∙ ap piece_count long
 
-    go : ((piece : Bytes) × (k < length (pieces_in contents)) × (slice_get (pieces_in contents) k ≡ Some piece) × (get_or (pieces_in contents) k piece ≡ piece)) ⊎ ((length (pieces_in contents) ≤ k) × (slice_get (pieces_in contents) k ≡ None)) → ⊥
+    go : ((piece : Bytes) × (k < length (pieces_in contents)) × (slice_get (pieces_in contents) k ≡ Some piece) × (get_or (pieces_in contents) k piece ≡ piece))
+        ⊎ ((length (pieces_in contents) ≤ k) × (slice_get (pieces_in contents) k ≡ None)) → ⊥
     go (inl it) =
         let same = ap length (nth_piece contents it.0 k it.2) in
         let taken = length-take piece_length (drop (k * piece_length) contents) in

@@ -1,5 +1,8 @@
 -- The plans of accepted commands: each is well formed, and leaves no group of its members empty.
-use Rattle.desk_verify.proofs.Common.{◌≡◌, ◌≤◌, ◌<◌, ℕ, zero, suc, ◌+◌, true, false, List, [], ◌∷◌, length, slice_get, Some, None, refl, sym, ap, subst, ◌∙◌, arith, option_map, and_parts, eqb-true, define_each, is_grouping, item_numbered, CommandList, CreateRollout, RolloutPlan, GroupRule, rule_at, rules_of, GroupDefinition, leaves_empty, IsValid, RolloutRecord, length_each, each_created, made, told_rule, HaveRules, definitions_in, grouping_of, is_plan, each_rule, IsRuleRow}
+use Rattle.desk_verify.proofs.Common.{◌≡◌, ◌≤◌, ◌<◌, ℕ, zero, suc, ◌+◌, true, false, List, [], ◌∷◌, length, slice_get, Some, None, refl, sym, ap, subst, ◌∙◌}
+use Rattle.desk_verify.proofs.Common.{arith, option_map, and_parts, eqb-true, define_each, is_grouping, item_numbered, CommandList, CreateRollout, RolloutPlan}
+use Rattle.desk_verify.proofs.Common.{GroupRule, rule_at, rules_of, GroupDefinition, leaves_empty, IsValid, RolloutRecord, length_each, each_created, made}
+use Rattle.desk_verify.proofs.Common.{told_rule, HaveRules, definitions_in, grouping_of, is_plan, each_rule, IsRuleRow}
 use Rattle.rollout_machine.specs.Rollouts.{Rollout, members_of, size_of}
 use Rattle.rollout_machine.specs.Ranges.{each_from}
 use Rattle.rollout_machine.specs.Records.{records}
@@ -17,12 +20,16 @@ pub record IsPlanned (plan : RolloutPlan) (members : ℕ) : Type 0 where
 abbrev IsPlannedRollout : Rollout → Type 0
 IsPlannedRollout x = IsPlanned x.plan (size_of x)
 
-new_is_planned : (h : CommandList) (plan : RolloutPlan) → IsValid h → is_plan plan ≡ true → verdict h (CreateRollout plan) ≡ None → IsPlannedRollout (made plan (members_of plan.filter_text h))
+new_is_planned : (h : CommandList) (plan : RolloutPlan) → IsValid h → is_plan plan ≡ true → verdict h (CreateRollout plan) ≡ None
+    → IsPlannedRollout (made plan (members_of plan.filter_text h))
 unfolding records
-new_is_planned h plan valid formed accepted = let row : NoneHolds (verdict_row (records h) (CreateRollout plan)) = none_holds (verdict_row (records h) (CreateRollout plan)) accepted in record { formed = formed; full = row.1.1.1.0 }
+new_is_planned h plan valid formed accepted = let row : NoneHolds (verdict_row (records h) (CreateRollout plan)) =
+    none_holds (verdict_row (records h) (CreateRollout plan)) accepted in record { formed = formed; full = row.1.1.1.0 }
 
-pub plans_are : (h : CommandList) → IsValid h → (r : ℕ) (y : RolloutRecord) → item_numbered (records h).rollouts r ≡ Some y → IsPlanned y.plan (length y.members)
-plans_are h valid r y e = let of = of_rollout h r y e in subst (λ (z : RolloutRecord). IsPlanned z.plan (length z.members)) (sym of.is) (each_created IsPlannedRollout new_is_planned h valid r of.rollout of.there)
+pub plans_are : (h : CommandList) → IsValid h → (r : ℕ) (y : RolloutRecord) → item_numbered (records h).rollouts r ≡ Some y
+    → IsPlanned y.plan (length y.members)
+plans_are h valid r y e = let of = of_rollout h r y e in subst (λ (z : RolloutRecord). IsPlanned z.plan (length z.members)) (sym of.is)
+    (each_created IsPlannedRollout new_is_planned h valid r of.rollout of.there)
 
 -- ---- the rules of a plan, as rows say them
 
@@ -32,13 +39,19 @@ rule_told plan i formed =
     (λ success error. record { percentage = refl; success = percentage_is plan.success success; error = percentage_is plan.error error })
     (λ d own. let good = and_parts _ _ own in
     let rest = and_parts _ _ good.1 in
-    record { percentage = ap (option_map Some) (percentage_is d.percentage good.0); success = percentage_is d.success rest.0; error = percentage_is d.error rest.1 })
+    record {
+      percentage = ap (option_map Some) (percentage_is d.percentage good.0);
+      success = percentage_is d.success rest.0;
+      error = percentage_is d.error rest.1;
+    })
 
 -- ---- they make its grouping
 
-pub each_has : (Has : ℕ → GroupRule → Type 0) (f : ℕ → GroupRule) (first n : ℕ) → ((i : ℕ) → first ≤ i → i < first + n → Has i (f i)) → HaveRules Has first (each_from f first n)
+pub each_has : (Has : ℕ → GroupRule → Type 0) (f : ℕ → GroupRule) (first n : ℕ) → ((i : ℕ) → first ≤ i → i < first + n → Has i (f i))
+    → HaveRules Has first (each_from f first n)
 each_has Has f first zero each = tt
-each_has Has f first (suc n) each = (each first (omega arith) (omega arith), each_has Has f (suc first) n (λ i low high. each i (omega (arith, low)) (omega (arith, high))))
+each_has Has f first (suc n) each =
+    (each first (omega arith) (omega arith), each_has Has f (suc first) n (λ i low high. each i (omega (arith, low)) (omega (arith, high))))
 
 -- a list is the rest of another from k on
 abbrev IsRest : ℕ → List GroupDefinition → List GroupDefinition → Type 0
@@ -50,12 +63,15 @@ first_of k all rest is = let at : k + 0 ≡ k = omega arith in ap (slice_get all
 next_of : (k : ℕ) (all rest more : List GroupDefinition) → IsRest k all rest → ((j : ℕ) → slice_get rest (suc j) ≡ slice_get more j) → IsRest (suc k) all more
 next_of k all rest more is further j = let at : suc k + j ≡ k + suc j = omega arith in ap (slice_get all) at ∙ is (suc j) ∙ further j
 
-definitions_back : (plan : RolloutPlan) (k n : ℕ) (ds : List GroupDefinition) → IsRest k plan.groups.definitions ds → length ds ≤ n → definitions_in (each_from (rule_at plan) (suc k) n) ≡ ds
+definitions_back : (plan : RolloutPlan) (k n : ℕ) (ds : List GroupDefinition) → IsRest k plan.groups.definitions ds → length ds ≤ n
+    → definitions_in (each_from (rule_at plan) (suc k) n) ≡ ds
 definitions_back plan k zero [] is few = refl
 definitions_back plan k zero (d ∷ ds) is few = absurd (omega (arith, few))
-definitions_back plan k (suc n) [] is few = rw (first_of k plan.groups.definitions [] is) (definitions_back plan (suc k) n [] (next_of k plan.groups.definitions [] [] is (λ j. refl)) (omega arith))
+definitions_back plan k (suc n) [] is few =
+    rw (first_of k plan.groups.definitions [] is) (definitions_back plan (suc k) n [] (next_of k plan.groups.definitions [] [] is (λ j. refl)) (omega arith))
 definitions_back plan k (suc n) (d ∷ ds) is few =
-    rw (first_of k plan.groups.definitions (d ∷ ds) is) (ap (λ l. d ∷ l) (definitions_back plan (suc k) n ds (next_of k plan.groups.definitions (d ∷ ds) ds is (λ j. refl)) (omega (arith, few))))
+    rw (first_of k plan.groups.definitions (d ∷ ds) is)
+    (ap (λ l. d ∷ l) (definitions_back plan (suc k) n ds (next_of k plan.groups.definitions (d ∷ ds) ds is (λ j. refl)) (omega (arith, few))))
 
 no_more : (ds : List GroupDefinition) (count : ℕ) → define_each ds count ≡ true → length ds ≤ count
 no_more [] count each = omega arith
@@ -68,5 +84,6 @@ pub rules_make : (plan : RolloutPlan) → is_plan plan ≡ true → grouping_of 
 rules_make plan formed =
     let grouping : is_grouping plan.groups ≡ true = (and_parts _ _ formed).0 in
     let few = no_more plan.groups.definitions plan.groups.count (and_parts _ _ grouping).1 in
-    let definitions : definitions_in (rules_of plan) ≡ plan.groups.definitions = definitions_back plan 0 plan.groups.count plan.groups.definitions (whole plan.groups.definitions) few in
+    let definitions : definitions_in (rules_of plan) ≡ plan.groups.definitions = definitions_back plan 0 plan.groups.count plan.groups.definitions
+    (whole plan.groups.definitions) few in
     rw (length_each (rule_at plan) 1 plan.groups.count, definitions, grouping) refl

@@ -1,5 +1,14 @@
 -- The tables of actions, histories, offers and numbers can be read where records of accepted commands are held that can be counted.
-use Rattle.desk_verify.proofs.Common.{◌≡◌, inl, inr, ◌≤◌, ◌<◌, ◌^◌, ℕ, suc, pos, true, List, [], ◌∷◌, length, map, slice_get, unwrap_or, zip, Option, Some, None, refl, sym, ap, subst, ◌∙◌, arith, CommandList, IsValid, length-map, count_by-le-length, length-filter, list_all, is_some, option_or, has_got, has_kept, test_has, Has, Row, column, Int, actions_follow_members, offered_one, same_refl, limits_hold, is_feedback_number_or_none, Bytes, TargetOffer, offer_to, IsOfMember, offer, records, HistoryEntry, entries_in, member_at, AreWithinLimits, IsWithinLimits, ActionRecord, is_feedback_number, is_number, is_word, Offer, has_place, place_within, has_mapped, is_in_range, is_number_in, Tally, action_row, actor_of, entries_of, entry_row, history_of, tally_of, told_entry, has_size, feedback_number_in, first_broken, number_in, place_in, BreaksEntry, broken_word, keeps_details, HoldsOffers, is_to, offer_row, IsActionRow, broken_action_column, broken_listed_action_column, broken_offer_column, stored_action, Actions, Feedbacks, Numbers, Offers, action_shown, number_shown, offer_shown, Column, PlacedNumber, StoredAction, BreaksColumn, placed_shown, AreCounted, member_ids}
+use Rattle.desk_verify.proofs.Common.{◌≡◌, inl, inr, ◌≤◌, ◌<◌, ◌^◌, ℕ, suc, pos, true, List, [], ◌∷◌, length, map, slice_get, unwrap_or, zip, Option, Some}
+use Rattle.desk_verify.proofs.Common.{None, refl, sym, ap, subst, ◌∙◌, arith, CommandList, IsValid, length-map, count_by-le-length, length-filter, list_all}
+use Rattle.desk_verify.proofs.Common.{is_some, option_or, has_got, has_kept, test_has, Has, Row, column, Int, actions_follow_members, offered_one, same_refl}
+use Rattle.desk_verify.proofs.Common.{limits_hold, is_feedback_number_or_none, Bytes, TargetOffer, offer_to, IsOfMember, offer, records, HistoryEntry}
+use Rattle.desk_verify.proofs.Common.{entries_in, member_at, AreWithinLimits, IsWithinLimits, ActionRecord, is_feedback_number, is_number, is_word, Offer}
+use Rattle.desk_verify.proofs.Common.{has_place, place_within, has_mapped, is_in_range, is_number_in, Tally, action_row, actor_of, entries_of, entry_row}
+use Rattle.desk_verify.proofs.Common.{history_of, tally_of, told_entry, has_size, feedback_number_in, first_broken, number_in, place_in, BreaksEntry}
+use Rattle.desk_verify.proofs.Common.{broken_word, keeps_details, HoldsOffers, is_to, offer_row, IsActionRow, broken_action_column}
+use Rattle.desk_verify.proofs.Common.{broken_listed_action_column, broken_offer_column, stored_action, Actions, Feedbacks, Numbers, Offers, action_shown}
+use Rattle.desk_verify.proofs.Common.{number_shown, offer_shown, Column, PlacedNumber, StoredAction, BreaksColumn, placed_shown, AreCounted, member_ids}
 use Rattle.rollout_machine.specs.Verdicts.{is_note, notes_of}
 use Rattle.desk_records.specs.FeedbackNumbers.{number_row, numbers_of}
 use Rattle.desk_records.specs.NumberRow.{broken_last_number_column, broken_number_column}
@@ -16,7 +25,8 @@ use Rattle.desk_verify.proofs.ActionLaw.{item_at, its_tally}
 -- ---- one action
 
 -- a row that says an action
-whole_action : (row : Row) (x : StoredAction) → IsActionRow row x → has_size (column row 1) ≡ true → has_word (column row 2) ≡ true → has_size (column row 5) ≡ true → has_size (column row 6) ≡ true → broken_action_column row ≡ None
+whole_action : (row : Row) (x : StoredAction) → IsActionRow row x → has_size (column row 1) ≡ true → has_word (column row 2) ≡ true → has_size (column row 5)
+    ≡ true → has_size (column row 6) ≡ true → broken_action_column row ≡ None
 whole_action row x says place word notes entries = rw (says.rollout, place, word, says.canceling, says.outcome, notes, entries) refl
 
 numbered_action : (row : Row) (n : ℕ) → broken_action_column row ≡ None → number_in (column row 7) ≡ Some n → broken_listed_action_column row ≡ None
@@ -61,7 +71,8 @@ module _ (h : CommandList) (valid : IsValid h) (d : ℕ) (a : ActionRecord) (at 
   actor_word =
       let it = item_at (records h).rollouts a.rollout of.rollout of.there in
       let its = item_at of.rollout.members a.position of.target of.member in
-      ap is_word actor_is ∙ member_ids h valid of.rollout (has_got (records h).rollouts it.0 of.rollout it.2) of.target (has_got of.rollout.members its.0 of.target its.2)
+      ap is_word actor_is ∙ member_ids h valid of.rollout (has_got (records h).rollouts it.0 of.rollout it.2) of.target
+      (has_got of.rollout.members its.0 of.target its.2)
 
   abbrev row : Row
   row = action_row (records h).rollouts (suc d) (a, tally_of a)
@@ -71,7 +82,16 @@ module _ (h : CommandList) (valid : IsValid h) (d : ℕ) (a : ActionRecord) (at 
     whole =
         let notes = few_notes a in
         whole_action (action_shown row) (stored_action (records h).rollouts (a, tally_of a))
-        (record { rollout = is_number_in a.rollout rollout_number; position = refl; target = refl; canceling = flag_is a.canceling; outcome = outcome_is a.outcome; notes = refl; entries = refl })
+        (record {
+          rollout = is_number_in a.rollout rollout_number;
+          position = refl;
+          target = refl;
+          canceling = flag_is a.canceling;
+          outcome =
+              outcome_is a.outcome;
+          notes = refl;
+          entries = refl;
+        })
         (is_sized a.position few_places) actor_word (is_sized (notes_of a) (omega (arith, notes, counted))) (is_sized (length a.history) counted)
 
     one_action : BreaksColumn Actions row → ⊥
@@ -80,9 +100,11 @@ module _ (h : CommandList) (valid : IsValid h) (d : ℕ) (a : ActionRecord) (at 
     one_action (inr (inr broken)) = unbroken _ (numbered_action (action_shown row) (suc d) whole number) broken
 
 pub keeps_actions : (h : CommandList) → IsValid h → AreCounted (records h) → Keeps (records h) Actions
-keeps_actions h valid counted rows are = of_ordered (λ row. BreaksColumn Actions row → ⊥) (action_row (records h).rollouts) (zip (records h).actions (map tally_of (records h).actions)) rows are each
+keeps_actions h valid counted rows are = of_ordered (λ row. BreaksColumn Actions row → ⊥) (action_row (records h).rollouts)
+    (zip (records h).actions (map tally_of (records h).actions)) rows are each
   where
-    each : (d : ℕ) (it : ActionRecord × Tally) → slice_get (zip (records h).actions (map tally_of (records h).actions)) d ≡ Some it → BreaksColumn Actions (action_row (records h).rollouts (suc d) it) → ⊥
+    each : (d : ℕ) (it : ActionRecord × Tally) → slice_get (zip (records h).actions (map tally_of (records h).actions)) d ≡ Some it
+        → BreaksColumn Actions (action_row (records h).rollouts (suc d) it) → ⊥
     each d it at =
         let own = its_tally (records h).actions d it at in
         subst (λ (x : ActionRecord × Tally). BreaksColumn Actions (action_row (records h).rollouts (suc d) x) → ⊥) (sym own.2)
@@ -100,23 +122,28 @@ unbroken_entry entry keeps c (inr broken) = broken.2 entry.details keeps refl
 pub keeps_feedbacks : (h : CommandList) → IsValid h → Keeps (records h) Feedbacks
 keeps_feedbacks h valid rows held = of_parts (λ row. BreaksColumn Feedbacks row → ⊥) entry_row entries_of (records h).actions rows held each
   where
-    each : (n d k : ℕ) (a : ActionRecord) (entry : HistoryEntry) → slice_get (records h).actions d ≡ Some a → slice_get (entries_of a) k ≡ Some entry → BreaksColumn Feedbacks (Int (pos n) ∷ entry_row (suc d) (suc k) entry) → ⊥
+    each : (n d k : ℕ) (a : ActionRecord) (entry : HistoryEntry) → slice_get (records h).actions d ≡ Some a → slice_get (entries_of a) k ≡ Some entry
+        → BreaksColumn Feedbacks (Int (pos n) ∷ entry_row (suc d) (suc k) entry) → ⊥
     each n d k a entry at lies breaks =
-        let all : list_all keeps_details (entries_of a) ≡ true = sym (ap (λ o. list_all keeps_details (history_of o)) at) ∙ details_kept (records h) (record { list = h; valid = valid; are = refl }) (suc d) in
+        let all : list_all keeps_details (entries_of a) ≡ true = sym (ap (λ o. list_all keeps_details (history_of o)) at)
+        ∙ details_kept (records h) (record { list = h; valid = valid; are = refl }) (suc d) in
         unbroken_entry entry (test_has keeps_details (entries_of a) entry all (has_got (entries_of a) k entry lies)) breaks.0 breaks.1
 
 -- ---- offers
 
 -- what is listed is offered
-is_offered : (rows : List Row) (offers : Bytes → Option Offer) (held : HoldsOffers rows offers) (o : TargetOffer) → Has held.listed o → offers o.target ≡ Some o.offer
-is_offered rows offers held o among = go (offers o.target) (subst (λ (l : List TargetOffer). Has l o) (held.its o.target) (has_kept (is_to o.target) held.listed o among (same_refl o.target)))
+is_offered : (rows : List Row) (offers : Bytes → Option Offer) (held : HoldsOffers rows offers) (o : TargetOffer) → Has held.listed o → offers o.target
+    ≡ Some o.offer
+is_offered rows offers held o among =
+    go (offers o.target) (subst (λ (l : List TargetOffer). Has l o) (held.its o.target) (has_kept (is_to o.target) held.listed o among (same_refl o.target)))
   where
     go : (found : Option Offer) → Has (offer_to o.target found) o → found ≡ Some o.offer
     go None none = absurd none
     go (Some p) (inl same) = ap (λ (q : TargetOffer). Some q.offer) (sym same)
     go (Some p) (inr none) = absurd none
 
-whole_offer : (n : ℕ) (o : TargetOffer) (k : ℕ) → number_in (Int (pos o.offer.action)) ≡ Some k → broken_offer_column (offer_shown (Int (pos n) ∷ offer_row o)) ≡ None
+whole_offer : (n : ℕ) (o : TargetOffer) (k : ℕ) → number_in (Int (pos o.offer.action)) ≡ Some k → broken_offer_column (offer_shown (Int (pos n) ∷ offer_row o))
+    ≡ None
 whole_offer n o k number = rw (number, flag_is o.offer.canceling) refl
 
 pub keeps_offers : (h : CommandList) → IsValid h → Keeps (records h) Offers
@@ -130,15 +157,20 @@ keeps_offers h valid rows held = of_mapped (λ row. BreaksColumn Offers row → 
 
 -- ---- numbers of feedback
 
-whole_number : (place : ℕ) (it : PlacedNumber) → place_in (Int (pos it.sequence)) ≡ Some it.sequence → feedback_number_in (Int (pos it.number)) ≡ Some it.number → place_in (Int (pos place)) ≡ Some place → (n d : ℕ)
+whole_number : (place : ℕ) (it : PlacedNumber) → place_in (Int (pos it.sequence)) ≡ Some it.sequence → feedback_number_in (Int (pos it.number)) ≡ Some it.number
+    → place_in (Int (pos place)) ≡ Some place → (n d : ℕ)
     → BreaksColumn Numbers (Int (pos n) ∷ number_row d place it) → ⊥
-whole_number place it sequence number at n d (inl broken) = unbroken (broken_number_column (number_shown (Int (pos n) ∷ number_row d place it))) (rw (sequence, number) refl) broken
-whole_number place it sequence number at n d (inr broken) = unbroken (broken_last_number_column (placed_shown (Int (pos n) ∷ number_row d place it))) (rw (sequence, number, at) refl) broken
+whole_number place it sequence number at n d (inl broken) = unbroken (broken_number_column (number_shown (Int (pos n) ∷ number_row d place it)))
+    (rw (sequence, number) refl) broken
+whole_number place it sequence number at n d (inr broken) = unbroken (broken_last_number_column (placed_shown (Int (pos n) ∷ number_row d place it)))
+    (rw (sequence, number, at) refl) broken
 
 pub keeps_numbers : (h : CommandList) → IsValid h → AreCounted (records h) → Keeps (records h) Numbers
-keeps_numbers h valid counted rows held = of_parts (λ row. BreaksColumn Numbers row → ⊥) number_row (λ (numbers : List PlacedNumber). numbers) (map numbers_of (records h).actions) rows held each
+keeps_numbers h valid counted rows held = of_parts (λ row. BreaksColumn Numbers row → ⊥) number_row (λ (numbers : List PlacedNumber). numbers)
+    (map numbers_of (records h).actions) rows held each
   where
-    each : (n d k : ℕ) (numbers : List PlacedNumber) (it : PlacedNumber) → slice_get (map numbers_of (records h).actions) d ≡ Some numbers → slice_get numbers k ≡ Some it → BreaksColumn Numbers (Int (pos n) ∷ number_row (suc d) (suc k) it) → ⊥
+    each : (n d k : ℕ) (numbers : List PlacedNumber) (it : PlacedNumber) → slice_get (map numbers_of (records h).actions) d ≡ Some numbers → slice_get numbers k
+        ≡ Some it → BreaksColumn Numbers (Int (pos n) ∷ number_row (suc d) (suc k) it) → ⊥
     each n d k numbers it at lies =
         let source = has_mapped numbers_of (records h).actions numbers (has_got (map numbers_of (records h).actions) d numbers at) in
         let a = source.0 in
@@ -150,4 +182,5 @@ keeps_numbers h valid counted rows held = of_parts (λ row. BreaksColumn Numbers
         let few : length a.history < 2 ^ 32 = omega (arith, counted.few a source.1) in
         let less = place_within (numbers_of a) k it own in
         let fewer = few_numbers 1 a.history in
-        whole_number (suc k) it (place_is it.sequence borne.low (omega (arith, borne.high, few))) (feedback_number_is it.number good) (place_is (suc k) (omega arith) (omega (arith, less, fewer, few))) n (suc d)
+        whole_number (suc k) it (place_is it.sequence borne.low (omega (arith, borne.high, few))) (feedback_number_is it.number good)
+        (place_is (suc k) (omega arith) (omega (arith, less, fewer, few))) n (suc d)

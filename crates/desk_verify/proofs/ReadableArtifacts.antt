@@ -1,5 +1,10 @@
 -- The tables of modules, sets and artifacts can be read where records of accepted commands are held.
-use Rattle.desk_verify.proofs.Common.{◌≡◌, inl, inr, ◌<◌, ◌^◌, ◌&&◌, List, [], ◌∷◌, subst, ℕ, suc, pos, Bool, true, slice_get, Some, None, true≢false, refl, sym, ap, ◌∙◌, arith, and_parts, CommandList, IsValid, All-contains, list_all, contains_had, has_got, test_has, limits_hold, Bytes, ModuleLabel, SetLabel, ArtifactRecord, records, are_distinct_numbers, is_digest, is_module_list, is_number, is_text, place_within, is_in_range, is_small, IsWhole, KeepsRules, all_keep, all_whole, digest_is_one, broken_artifact_column, broken_stored_column, artifact_row, piece_row, pieces_in, desk_row, module_row, Artifacts, Desk, Modules, Pieces, SetModules, Sets, artifact_shown, listed_shown, BreaksColumn, label_shown, third_shown, Has, Row, Int}
+use Rattle.desk_verify.proofs.Common.{◌≡◌, inl, inr, ◌<◌, ◌^◌, ◌&&◌, List, [], ◌∷◌, subst, ℕ, suc, pos, Bool, true, slice_get, Some, None, true≢false, refl}
+use Rattle.desk_verify.proofs.Common.{sym, ap, ◌∙◌, arith, and_parts, CommandList, IsValid, All-contains, list_all, contains_had, has_got, test_has}
+use Rattle.desk_verify.proofs.Common.{limits_hold, Bytes, ModuleLabel, SetLabel, ArtifactRecord, records, are_distinct_numbers, is_digest, is_module_list}
+use Rattle.desk_verify.proofs.Common.{is_number, is_text, place_within, is_in_range, is_small, IsWhole, KeepsRules, all_keep, all_whole, digest_is_one}
+use Rattle.desk_verify.proofs.Common.{broken_artifact_column, broken_stored_column, artifact_row, piece_row, pieces_in, desk_row, module_row, Artifacts, Desk}
+use Rattle.desk_verify.proofs.Common.{Modules, Pieces, SetModules, Sets, artifact_shown, listed_shown, BreaksColumn, label_shown, third_shown, Has, Row, Int}
 use Rattle.desk_records.specs.ModuleRow.{broken_column}
 use Rattle.desk_records.specs.SetRow.{broken_set_column}
 use Rattle.desk_records.specs.Sets.{place_row, set_row}
@@ -35,7 +40,8 @@ keeps_modules h valid rows are = of_ordered (λ row. BreaksColumn Modules row �
         rw (parts.0, rest.0, rest.1) refl
 
     each : (d : ℕ) (m : ModuleLabel) → slice_get (records h).modules d ≡ Some m → BreaksColumn Modules (module_row (suc d) m) → ⊥
-    each d m at (inl none) = let less = place_within (records h).modules d m at in let few = few_modules h valid in fails_not _ (is_sized (suc d) (omega (arith, less, few))) none
+    each d m at (inl none) = let less = place_within (records h).modules d m at in let few = few_modules h valid in
+        fails_not _ (is_sized (suc d) (omega (arith, less, few))) none
     each d m at (inr broken) = unbroken _ (told d m at) broken
 
 -- ---- sets
@@ -50,7 +56,8 @@ keeps_sets h valid rows are = of_ordered (λ row. BreaksColumn Sets row → ⊥)
         rw (parts.0, rest.0) refl
 
     each : (d : ℕ) (s : SetLabel) → slice_get (records h).sets d ≡ Some s → BreaksColumn Sets (set_row (suc d) s) → ⊥
-    each d s at (inl none) = let less = place_within (records h).sets d s at in let few = few_sets h valid in fails_not _ (is_sized (suc d) (omega (arith, less, few))) none
+    each d s at (inl none) = let less = place_within (records h).sets d s at in let few = few_sets h valid in
+        fails_not _ (is_sized (suc d) (omega (arith, less, few))) none
     each d s at (inr broken) = unbroken _ (told d s at) broken
 
 abbrev modules_in : SetLabel → List ℕ
@@ -59,12 +66,14 @@ modules_in s = s.modules
 pub keeps_set_modules : (h : CommandList) → IsValid h → Keeps (records h) SetModules
 keeps_set_modules h valid rows held = of_parts (λ row. BreaksColumn SetModules row → ⊥) place_row modules_in (records h).sets rows held each
   where
-    each : (n d k : ℕ) (s : SetLabel) (m : ℕ) → slice_get (records h).sets d ≡ Some s → slice_get s.modules k ≡ Some m → BreaksColumn SetModules (Int (pos n) ∷ place_row (suc d) (suc k) m) → ⊥
+    each : (n d k : ℕ) (s : SetLabel) (m : ℕ) → slice_get (records h).sets d ≡ Some s → slice_get s.modules k ≡ Some m
+        → BreaksColumn SetModules (Int (pos n) ∷ place_row (suc d) (suc k) m) → ⊥
     each n d k s m at its =
         let parts = and_parts (is_text s.name) (is_text s.version && is_module_list s.modules) (sets_keep h valid s (has_got (records h).sets d s at)) in
         let list = (and_parts (is_text s.version) (is_module_list s.modules) parts.1).1 in
         let numbers = (and_parts _ (list_all is_number s.modules && are_distinct_numbers s.modules) list).1 in
-        fails_not (is_number m) (test_has is_number s.modules m (and_parts (list_all is_number s.modules) (are_distinct_numbers s.modules) numbers).0 (has_got s.modules k m its))
+        fails_not (is_number m) (test_has is_number s.modules m (and_parts (list_all is_number s.modules) (are_distinct_numbers s.modules) numbers).0
+        (has_got s.modules k m its))
 
 -- ---- artifacts
 
@@ -102,4 +111,5 @@ abbrev pieces_of : ArtifactRecord → List Bytes
 pieces_of a = pieces_in a.contents
 
 pub keeps_pieces : (h : CommandList) → Keeps (records h) Pieces
-keeps_pieces h rows held = of_parts (λ row. BreaksColumn Pieces row → ⊥) piece_row pieces_of (records h).artifacts rows held (λ n d k a piece at its bad. true≢false bad)
+keeps_pieces h rows held = of_parts (λ row. BreaksColumn Pieces row → ⊥) piece_row pieces_of (records h).artifacts rows held
+    (λ n d k a piece at its bad. true≢false bad)

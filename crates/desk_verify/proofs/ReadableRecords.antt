@@ -1,5 +1,6 @@
 -- The ledger of accepted commands can be read, where the histories can be counted.
-use Rattle.desk_verify.proofs.Common.{CommandList, IsValid, ledger_of, records, Actions, Artifacts, Desk, Feedbacks, Groups, Members, Modules, Numbers, Offers, Pieces, Place, Rollouts, Rules, SetModules, Sets, TargetAttributes, TargetTags, Targets, IsReadable, AreCounted}
+use Rattle.desk_verify.proofs.Common.{CommandList, IsValid, ledger_of, records, Actions, Artifacts, Desk, Feedbacks, Groups, Members, Modules, Numbers, Offers}
+use Rattle.desk_verify.proofs.Common.{Pieces, Place, Rollouts, Rules, SetModules, Sets, TargetAttributes, TargetTags, Targets, IsReadable, AreCounted}
 use Rattle.desk_verify.proofs.ReadableActions.{keeps_actions, keeps_feedbacks, keeps_numbers, keeps_offers}
 use Rattle.desk_verify.proofs.ReadableArtifacts.{keeps_artifacts, keeps_desk, keeps_modules, keeps_pieces, keeps_set_modules, keeps_sets}
 use Rattle.desk_verify.proofs.ReadableRollouts.{keeps_groups, keeps_rollouts, keeps_rules}

@@ -1,5 +1,11 @@
 -- The tables of rollouts, groups and rules can be read where records of accepted commands are held.
-use Rattle.desk_verify.proofs.Common.{◌≡◌, inl, inr, ◌≤◌, ◌<◌, ◌&&◌, ℕ, suc, ◌+◌, ◌-◌, pos, true, List, ◌∷◌, length, map, slice_get, Some, None, refl, sym, ap, subst, arith, and_parts, numbered_each, CommandList, IsValid, RolloutRecord, has_got, Row, Int, groups_are_counted, grouping_is_cut, limits_hold, HasCountedGroups, IsCountedGroup, GroupRule, rule_at, rules_of, last_by, IsCut, records, IsWithinLimits, Bounds, GroupRecord, is_grouping, is_number, is_percentage, is_text, has_place, place_within, has_mapped, is_number_in, IsRolloutRow, broken_group_column, broken_rollout_column, stored_rollout, group_row, rollout_row, rule_row, told_rollout, told_rule, IsRuleRow, broken_rule_column, Groups, Rollouts, Rules, group_shown, rollout_shown, rule_shown, StoredRollout, BreaksColumn}
+use Rattle.desk_verify.proofs.Common.{◌≡◌, inl, inr, ◌≤◌, ◌<◌, ◌&&◌, ℕ, suc, ◌+◌, ◌-◌, pos, true, List, ◌∷◌, length, map, slice_get, Some, None, refl, sym, ap}
+use Rattle.desk_verify.proofs.Common.{subst, arith, and_parts, numbered_each, CommandList, IsValid, RolloutRecord, has_got, Row, Int, groups_are_counted}
+use Rattle.desk_verify.proofs.Common.{grouping_is_cut, limits_hold, HasCountedGroups, IsCountedGroup, GroupRule, rule_at, rules_of, last_by, IsCut, records}
+use Rattle.desk_verify.proofs.Common.{IsWithinLimits, Bounds, GroupRecord, is_grouping, is_number, is_percentage, is_text, has_place, place_within, has_mapped}
+use Rattle.desk_verify.proofs.Common.{is_number_in, IsRolloutRow, broken_group_column, broken_rollout_column, stored_rollout, group_row, rollout_row, rule_row}
+use Rattle.desk_verify.proofs.Common.{told_rollout, told_rule, IsRuleRow, broken_rule_column, Groups, Rollouts, Rules, group_shown, rollout_shown, rule_shown}
+use Rattle.desk_verify.proofs.Common.{StoredRollout, BreaksColumn}
 use Rattle.std.specs.Str.{is_utf8}
 use Rattle.desk_verify.proofs.CodeLemmas.{approval_is, flag_is, group_count_is, is_sized, kept_group, percentage_is}
 use Rattle.desk_verify.proofs.PlanLaw.{IsPlanned, plans_are, rule_told}
@@ -8,8 +14,10 @@ use Rattle.desk_verify.proofs.ReadableRows.{Keeps, fails_not, of_ordered, of_par
 -- ---- rollouts
 
 -- a row that says a rollout
-whole_rollout : (row : Row) (x : StoredRollout) → IsRolloutRow row x → is_text x.plan.name ≡ true → is_utf8 x.plan.filter_text ≡ true → broken_rollout_column row ≡ None
-whole_rollout row x says name filter_text = rw (says.name, says.set_number, says.filter_text, says.groups, says.success, says.error, says.approval, says.started, says.paused, name, filter_text) refl
+whole_rollout : (row : Row) (x : StoredRollout) → IsRolloutRow row x → is_text x.plan.name ≡ true → is_utf8 x.plan.filter_text ≡ true
+    → broken_rollout_column row ≡ None
+whole_rollout row x says name filter_text =
+    rw (says.name, says.set_number, says.filter_text, says.groups, says.success, says.error, says.approval, says.started, says.paused, name, filter_text) refl
 
 module _ (h : CommandList) (valid : IsValid h) (d : ℕ) (x : RolloutRecord) (at : slice_get (records h).rollouts d ≡ Some x) where
   within : IsWithinLimits x
@@ -69,7 +77,8 @@ module _ (h : CommandList) (valid : IsValid h) (d : ℕ) (x : RolloutRecord) (at
         let few_first = few_at (suc e - 1) (omega (arith, high)) in
         let few_last = few_at (suc e) high in
         unbroken (broken_group_column (group_shown (Int (pos n) ∷ group_row (suc d) (suc e) g)))
-        (kept_group (suc e) g.bounds.first g.bounds.last g.ok g.bad g.gone g.started (omega (arith, high, within.groups)) (omega (arith, first, few_first, members)) (omega (arith, last, few_last, members))
+        (kept_group (suc e) g.bounds.first g.bounds.last g.ok g.bad g.gone g.started (omega (arith, high, within.groups))
+        (omega (arith, first, few_first, members)) (omega (arith, last, few_last, members))
         (omega (arith, counts.ok, members)) (omega (arith, counts.bad, members)) (omega (arith, counts.gone, members)))
 
 pub keeps_rollouts : (h : CommandList) → IsValid h → Keeps (records h) Rollouts
@@ -79,7 +88,8 @@ abbrev groups_in : RolloutRecord → List GroupRecord
 groups_in x = x.groups
 
 pub keeps_groups : (h : CommandList) → IsValid h → Keeps (records h) Groups
-keeps_groups h valid rows held = of_parts (λ row. BreaksColumn Groups row → ⊥) group_row groups_in (records h).rollouts rows held (λ n d e x g at lies. one_group h valid d x at e g lies n)
+keeps_groups h valid rows held = of_parts (λ row. BreaksColumn Groups row → ⊥) group_row groups_in (records h).rollouts rows held
+    (λ n d e x g at lies. one_group h valid d x at e g lies n)
 
 -- ---- rules
 
@@ -90,12 +100,17 @@ abbrev rules_in : RolloutRecord → List GroupRule
 rules_in x = rules_of x.plan
 
 pub keeps_rules : (h : CommandList) → IsValid h → Keeps (records h) Rules
-keeps_rules h valid rows held = of_parts (λ row. BreaksColumn Rules row → ⊥) rule_row (λ (rules : List GroupRule). rules) (map rules_in (records h).rollouts) rows held each
+keeps_rules h valid rows held = of_parts (λ row. BreaksColumn Rules row → ⊥) rule_row (λ (rules : List GroupRule). rules) (map rules_in (records h).rollouts)
+    rows held each
   where
-    each : (n d k : ℕ) (rules : List GroupRule) (it : GroupRule) → slice_get (map rules_in (records h).rollouts) d ≡ Some rules → slice_get rules k ≡ Some it → BreaksColumn Rules (Int (pos n) ∷ rule_row (suc d) (suc k) it) → ⊥
+    each : (n d k : ℕ) (rules : List GroupRule) (it : GroupRule) → slice_get (map rules_in (records h).rollouts) d ≡ Some rules → slice_get rules k ≡ Some it
+        → BreaksColumn Rules (Int (pos n) ∷ rule_row (suc d) (suc k) it) → ⊥
     each n d k rules it at lies =
         let source = has_mapped rules_in (records h).rollouts rules (has_got (map rules_in (records h).rollouts) d rules at) in
         let place = has_place (records h).rollouts source.0 source.1 in
         let formed = (plans_are h valid (suc place.0) source.0 place.1).formed in
-        let one = numbered_each (rule_at source.0.plan) source.0.plan.groups.count (suc k) it (subst (λ (l : List GroupRule). slice_get l k ≡ Some it) source.2 lies) in
-        unbroken (broken_rule_column (rule_shown (Int (pos n) ∷ rule_row (suc d) (suc k) it))) (subst (λ (r : GroupRule). broken_rule_column (told_rule r) ≡ None) (sym one.2) (whole_rule (told_rule (rule_at source.0.plan (suc k))) (rule_at source.0.plan (suc k)) (rule_told source.0.plan (suc k) formed)))
+        let one = numbered_each (rule_at source.0.plan) source.0.plan.groups.count (suc k) it
+        (subst (λ (l : List GroupRule). slice_get l k ≡ Some it) source.2 lies) in
+        unbroken (broken_rule_column (rule_shown (Int (pos n) ∷ rule_row (suc d) (suc k) it)))
+        (subst (λ (r : GroupRule). broken_rule_column (told_rule r) ≡ None) (sym one.2)
+        (whole_rule (told_rule (rule_at source.0.plan (suc k))) (rule_at source.0.plan (suc k)) (rule_told source.0.plan (suc k) formed)))

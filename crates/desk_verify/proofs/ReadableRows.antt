@@ -1,24 +1,30 @@
 -- What the rows of a table are made of where a ledger is held, and when a row breaks no column.
-use Rattle.desk_verify.proofs.Common.{◌≡◌, ℕ, suc, pos, Bool, true, false, List, ◌∷◌, map, slice_get, Option, Some, None, true≢false, sym, ap, subst, ◌∙◌, arith, Records, ledger_of, IsHeld, flat_map, Has, Row, Int, IsHeldBy, rows_from, numbered, of_part, wanted_of, has_mapped, parts_from, Place, Column, BreaksColumn, has_flat}
+use Rattle.desk_verify.proofs.Common.{◌≡◌, ℕ, suc, pos, Bool, true, false, List, ◌∷◌, map, slice_get, Option, Some, None, true≢false, sym, ap, subst, ◌∙◌}
+use Rattle.desk_verify.proofs.Common.{arith, Records, ledger_of, IsHeld, flat_map, Has, Row, Int, IsHeldBy, rows_from, numbered, of_part, wanted_of}
+use Rattle.desk_verify.proofs.Common.{has_mapped, parts_from, Place, Column, BreaksColumn, has_flat}
 use Rattle.desk_records.specs.RowFaults.{BreaksRule}
 
 -- ---- what is so of each row
 
 module _ (P : Row → Type 0) where
   -- of a table of numbered rows
-  pub of_ordered : {X : Type 0} (f : ℕ → X → Row) (xs : List X) (rows : List Row) → rows ≡ rows_from f 1 xs → ((d : ℕ) (x : X) → slice_get xs d ≡ Some x → P (f (suc d) x)) → (row : Row) → Has rows row → P row
+  pub of_ordered : {X : Type 0} (f : ℕ → X → Row) (xs : List X) (rows : List Row) → rows ≡ rows_from f 1 xs
+      → ((d : ℕ) (x : X) → slice_get xs d ≡ Some x → P (f (suc d) x)) → (row : Row) → Has rows row → P row
   of_ordered f xs rows are each row among =
       let it = numbered f 1 xs row (subst (λ (l : List Row). Has l row) are among) in
       let at : it.at ≡ suc it.index = (let k = it.at_is in omega (arith, k)) in
       subst P (sym (it.is ∙ ap (λ n. f n it.one) at)) (each it.index it.one it.got)
 
   -- of one whose numbers nobody knows
-  pub of_unordered : (wanted rows : List Row) → IsHeldBy rows wanted → ((n : ℕ) (x : Row) → Has wanted x → P (Int (pos n) ∷ x)) → (row : Row) → Has rows row → P row
-  of_unordered wanted rows held each row among = let content = wanted_of rows wanted row held among in subst P (sym content.3) (each content.0 content.1 content.2)
+  pub of_unordered : (wanted rows : List Row) → IsHeldBy rows wanted → ((n : ℕ) (x : Row) → Has wanted x → P (Int (pos n) ∷ x)) → (row : Row) → Has rows row
+      → P row
+  of_unordered wanted rows held each row among = let content = wanted_of rows wanted row held among in
+      subst P (sym content.3) (each content.0 content.1 content.2)
 
   -- .. of the parts of numbered records
   pub of_parts : {X Y : Type 0} (f : ℕ → ℕ → Y → Row) (items : X → List Y) (xs : List X) (rows : List Row) → IsHeldBy rows (parts_from f items 1 xs)
-      → ((n d k : ℕ) (x : X) (y : Y) → slice_get xs d ≡ Some x → slice_get (items x) k ≡ Some y → P (Int (pos n) ∷ f (suc d) (suc k) y)) → (row : Row) → Has rows row → P row
+      → ((n d k : ℕ) (x : X) (y : Y) → slice_get xs d ≡ Some x → slice_get (items x) k ≡ Some y → P (Int (pos n) ∷ f (suc d) (suc k) y)) → (row : Row)
+      → Has rows row → P row
   of_parts f items xs rows held each = of_unordered (parts_from f items 1 xs) rows held one
     where
       one : (n : ℕ) (x : Row) → Has (parts_from f items 1 xs) x → P (Int (pos n) ∷ x)
@@ -27,12 +33,16 @@ module _ (P : Row → Type 0) where
           let item = numbered (f of.number) 1 (items of.whole) x of.among in
           let at : of.number ≡ suc of.index = (let k = of.number_is in omega (arith, k)) in
           let place : item.at ≡ suc item.index = (let k = item.at_is in omega (arith, k)) in
-          let own : x ≡ f (suc of.index) (suc item.index) item.one = item.is ∙ ap (λ k. f k item.at item.one) at ∙ ap (λ k. f (suc of.index) k item.one) place in
+          let own : x ≡ f (suc of.index) (suc item.index) item.one = item.is ∙ ap (λ k. f k item.at item.one) at ∙ ap (λ k. f (suc of.index) k item.one)
+          place in
           subst (λ (z : Row). P (Int (pos n) ∷ z)) (sym own) (each n of.index item.index of.whole item.one of.got item.got)
 
   -- .. that are made of a list
-  pub of_mapped : {X : Type 0} (f : X → Row) (xs : List X) (rows : List Row) → IsHeldBy rows (map f xs) → ((n : ℕ) (x : X) → Has xs x → P (Int (pos n) ∷ f x)) → (row : Row) → Has rows row → P row
-  of_mapped f xs rows held each = of_unordered (map f xs) rows held (λ n y among. let source = has_mapped f xs y among in subst (λ (z : Row). P (Int (pos n) ∷ z)) (sym source.2) (each n source.0 source.1))
+  pub of_mapped : {X : Type 0} (f : X → Row) (xs : List X) (rows : List Row) → IsHeldBy rows (map f xs) → ((n : ℕ) (x : X) → Has xs x → P (Int (pos n) ∷ f x))
+      → (row : Row) → Has rows row → P row
+  of_mapped f xs rows held each =
+      of_unordered (map f xs) rows held (λ n y among. let source = has_mapped f xs y among in
+      subst (λ (z : Row). P (Int (pos n) ∷ z)) (sym source.2) (each n source.0 source.1))
 
   -- .. of the lists that each of a list has
   pub of_lists : {X Y : Type 0} (f : X → Y → Row) (items : X → List Y) (xs : List X) (rows : List Row) → IsHeldBy rows (flat_map (λ x. map (f x) (items x)) xs)

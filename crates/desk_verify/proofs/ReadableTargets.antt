@@ -1,5 +1,8 @@
 -- The tables of targets and members can be read where records of accepted commands are held.
-use Rattle.desk_verify.proofs.Common.{◌≡◌, inl, inr, ◌<◌, ◌^◌, ℕ, pos, List, [], ◌∷◌, length, None, refl, arith, and_parts, CommandList, IsValid, RolloutRecord, ledger_of, IsHeld, length-map, has_got, test_has, Has, Row, Int, Text, limits_hold, Attribute, Bytes, records, is_value, is_word, member_row, Members, TargetAttributes, TargetTags, Targets, BreaksColumn, second_shown, third_shown, member_ids}
+use Rattle.desk_verify.proofs.Common.{◌≡◌, inl, inr, ◌<◌, ◌^◌, ℕ, pos, List, [], ◌∷◌, length, None, refl, arith, and_parts, CommandList, IsValid}
+use Rattle.desk_verify.proofs.Common.{RolloutRecord, ledger_of, IsHeld, length-map, has_got, test_has, Has, Row, Int, Text, limits_hold, Attribute, Bytes}
+use Rattle.desk_verify.proofs.Common.{records, is_value, is_word, member_row, Members, TargetAttributes, TargetTags, Targets, BreaksColumn, second_shown}
+use Rattle.desk_verify.proofs.Common.{third_shown, member_ids}
 use Rattle.rollout_machine.specs.Targets.{Target}
 use Rattle.sql_calls.proofs.Counts.{length_held}
 use Rattle.rollout_model.specs.Pairs.{is_attribute}
@@ -50,10 +53,14 @@ abbrev attribute_row : Target → Attribute → Row
 attribute_row x a = Text x.id ∷ Text a.key ∷ Text a.value ∷ []
 
 pub keeps_target_attributes : (h : CommandList) → IsValid h → Keeps (records h) TargetAttributes
-keeps_target_attributes h valid rows held = of_lists (λ row. BreaksColumn TargetAttributes row → ⊥) attribute_row attributes_in (records h).targets rows held (λ n x a among its. unbroken _ (told n x a among its))
+keeps_target_attributes h valid rows held = of_lists (λ row. BreaksColumn TargetAttributes row → ⊥) attribute_row attributes_in (records h).targets rows held
+    (λ n x a among its. unbroken _ (told n x a among its))
   where
-    told : (n : ℕ) (x : Target) (a : Attribute) → Has (records h).targets x → Has x.attributes a → broken_attribute_column (third_shown (Int (pos n) ∷ attribute_row x a)) ≡ None
-    told n x a among its = let parts = and_parts (is_word a.key) (is_value a.value) (test_has is_attribute x.attributes a (targets_keep h valid x among).attributes its) in rw (parts.0, parts.1) refl
+    told : (n : ℕ) (x : Target) (a : Attribute) → Has (records h).targets x → Has x.attributes a
+        → broken_attribute_column (third_shown (Int (pos n) ∷ attribute_row x a)) ≡ None
+    told n x a among its = let parts =
+        and_parts (is_word a.key) (is_value a.value) (test_has is_attribute x.attributes a (targets_keep h valid x among).attributes its) in
+        rw (parts.0, parts.1) refl
 
 -- ---- members
 

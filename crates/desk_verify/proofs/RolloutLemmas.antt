@@ -1,5 +1,6 @@
 -- The loop over the rollouts, and what it comes to.
-use Rattle.desk_verify.proofs.Common.{◌≡◌, ◌≤◌, ℕ, suc, ◌+◌, Bool, true, false, length, true≢false, refl, sym, subst, ◌∙◌, arith, nat_eq, nat_tests, Row, Has, has_at, Place, Tables, StoredRollout, Settles, AreAllChecked, AreChecked, IsChecked, HasRollout, IsThere}
+use Rattle.desk_verify.proofs.Common.{◌≡◌, ◌≤◌, ℕ, suc, ◌+◌, Bool, true, false, length, true≢false, refl, sym, subst, ◌∙◌, arith, nat_eq, nat_tests, Row, Has}
+use Rattle.desk_verify.proofs.Common.{has_at, Place, Tables, StoredRollout, Settles, AreAllChecked, AreChecked, IsChecked, HasRollout, IsThere}
 use Rattle.desk_verify.proofs.Counting.{all_judged, is_within, judged_all, more_judged, none_judged}
 
 pub rollout_there : (t : Tables) (number : ℕ) (rollout : StoredRollout) → HasRollout t number rollout → IsThere t number
@@ -16,10 +17,12 @@ module _ (table : Place) (column : ℕ) (IsRight : Tables → Row → Type 0) (I
   pub none_yet : (t : Tables) → AreChecked table column IsRight IsWhole t 0 0
   none_yet t = record { rows = none_judged column (t table) (IsRight t); whole = λ rollout low high. absurd (omega (arith, low, high)) }
 
-  pub one_more : (t : Tables) (n listed count sum r : ℕ) → AreChecked table column IsRight IsWhole t n listed → r ≡ n + 1 → IsChecked table column IsRight IsWhole t r count → sum ≡ listed + count
+  pub one_more : (t : Tables) (n listed count sum r : ℕ) → AreChecked table column IsRight IsWhole t n listed → r ≡ n + 1
+      → IsChecked table column IsRight IsWhole t r count → sum ≡ listed + count
       → AreChecked table column IsRight IsWhole t (n + 1) sum
   one_more t n listed count sum r so_far number judged is =
-      subst (λ k. AreChecked table column IsRight IsWhole t k sum) on (record { rows = more_judged column (t table) (IsRight t) n listed count sum so_far.rows one.rows is; whole = whole })
+      subst (λ k. AreChecked table column IsRight IsWhole t k sum) on
+      (record { rows = more_judged column (t table) (IsRight t) n listed count sum so_far.rows one.rows is; whole = whole })
     where
       on : suc n ≡ n + 1
       on = omega arith
@@ -41,6 +44,9 @@ module _ (table : Place) (column : ℕ) (IsRight : Tables → Row → Type 0) (I
   decided Passes Agrees t listed all it is agree its = go (nat_eq listed all) refl
     where
       go : (b : Bool) → nat_eq listed all ≡ b → Settles (Passes t) (Agrees t) b
-      go true same = agree (all_judged column (t table) (IsRight t) it.last listed all it.checked.rows is same) (λ rollout low there. it.checked.whole rollout low (it.is_last.greatest rollout there))
+      go true same = agree (all_judged column (t table) (IsRight t) it.last listed all it.checked.rows is same)
+          (λ rollout low there. it.checked.whole rollout low (it.is_last.greatest rollout there))
       go false other = λ agrees.
-          absurd (true≢false (sym (judged_all column (t table) (IsRight t) it.last listed all it.checked.rows is (λ row among. let of = its agrees row among in is_within column it.last of.rollout row of.low (it.is_last.greatest of.rollout of.there) of.of)) ∙ other))
+          absurd (true≢false (sym (judged_all column (t table) (IsRight t) it.last listed all it.checked.rows is
+          (λ row among. let of = its agrees row among in is_within column it.last of.rollout row of.low (it.is_last.greatest of.rollout of.there) of.of))
+          ∙ other))

@@ -1,5 +1,9 @@
 -- What is said of the groups of a rollout, and how it is cut by that.
-use Rattle.desk_verify.proofs.Common.{◌≡◌, ◌≤◌, ℕ, suc, ◌+◌, Bool, true, false, cond, List, [], ◌∷◌, ◌++◌, length, Some, None, refl, sym, ap, subst, ◌∙◌, arith, pos, and_parts, leb-true, Row, column, has_rowid, Grouping, is_grouping, GroupRule, percentage_in, percentage_or_none_in, IsOnly, Rollouts, IsRollout, Tables, StoredRollout, SaysRule, HasGroupCount, HasRule, HaveRules, definitions_in, grouping_of, grouping_with, IsUnreadable, no_grouping, HasOnlyRule, HaveOnlyRules, IsCutOnlyBy, IsGroupCount, IsCutBy, HasRollout}
+use Rattle.desk_verify.proofs.Common.{◌≡◌, ◌≤◌, ℕ, suc, ◌+◌, Bool, true, false, cond, List, [], ◌∷◌, ◌++◌, length, Some, None, refl, sym, ap, subst, ◌∙◌}
+use Rattle.desk_verify.proofs.Common.{arith, pos, and_parts, leb-true, Row, column, has_rowid, Grouping, is_grouping, GroupRule, percentage_in}
+use Rattle.desk_verify.proofs.Common.{percentage_or_none_in, IsOnly, Rollouts, IsRollout, Tables, StoredRollout, SaysRule, HasGroupCount, HasRule, HaveRules}
+use Rattle.desk_verify.proofs.Common.{definitions_in, grouping_of, grouping_with, IsUnreadable, no_grouping, HasOnlyRule, HaveOnlyRules, IsCutOnlyBy}
+use Rattle.desk_verify.proofs.Common.{IsGroupCount, IsCutBy, HasRollout}
 use Rattle.rollout_model.specs.declared.group_definition.GroupDefinition.{GroupDefinition}
 use Rattle.desk_verify.proofs.OneRow.{one_in}
 
@@ -20,17 +24,22 @@ one_rule row a b is other =
     let error = one_in (percentage_in (column row 5)) a.error b.error is.error other.error in
     λ i. record { percentage = percentage i; success = success i; error = error i }
 
-pub one_rule_more : (Has : ℕ → GroupRule → Type 0) (i : ℕ) (rules : List GroupRule) (rule : GroupRule) → HaveRules Has i rules → Has (i + length rules) rule → HaveRules Has i (rules ++ rule ∷ [])
+pub one_rule_more : (Has : ℕ → GroupRule → Type 0) (i : ℕ) (rules : List GroupRule) (rule : GroupRule) → HaveRules Has i rules → Has (i + length rules) rule
+    → HaveRules Has i (rules ++ rule ∷ [])
 one_rule_more Has i [] rule have has = (subst (λ k. Has k rule) (let e : i + 0 ≡ i = omega arith in e) has, tt)
-one_rule_more Has i (first ∷ rules) rule have has =
-    (have.0, one_rule_more Has (suc i) rules rule have.1 (subst (λ k. Has k rule) (let e : i + suc (length rules) ≡ suc i + length rules = omega arith in e) has))
+one_rule_more Has i (first ∷ rules) rule have has = (
+  have.0,
+  one_rule_more Has (suc i) rules rule have.1
+      (subst (λ k. Has k rule) (let e : i + suc (length rules) ≡ suc i + length rules = omega arith in e) has),
+)
 
 module _ (t : Tables) (r : ℕ) where
   are_said : (i : ℕ) (rules : List GroupRule) → HaveRules (HasOnlyRule t r) i rules → HaveRules (HasRule t r) i rules
   are_said i [] have = tt
   are_said i (rule ∷ rules) have = (have.0.said, are_said (suc i) rules have.1)
 
-  same_rules : (i : ℕ) (rules others : List GroupRule) → HaveRules (HasRule t r) i others → HaveRules (HasOnlyRule t r) i rules → length others ≡ length rules → others ≡ rules
+  same_rules : (i : ℕ) (rules others : List GroupRule) → HaveRules (HasRule t r) i others → HaveRules (HasOnlyRule t r) i rules → length others ≡ length rules
+      → others ≡ rules
   same_rules i [] [] said only many = refl
   same_rules i [] (other ∷ others) said only many = absurd (omega (arith, many))
   same_rules i (rule ∷ rules) [] said only many = absurd (omega (arith, many))
@@ -41,7 +50,8 @@ module _ (t : Tables) (r : ℕ) where
 
 -- ---- the grouping that they make
 
-pub grouping_is : (n : ℕ) (ds : List GroupDefinition) (groups : Grouping) → grouping_with n ds ≡ Some groups → (groups ≡ record { count = n; definitions = ds }) × (is_grouping groups ≡ true)
+pub grouping_is : (n : ℕ) (ds : List GroupDefinition) (groups : Grouping) → grouping_with n ds ≡ Some groups → (groups ≡ record { count = n; definitions = ds })
+    × (is_grouping groups ≡ true)
 grouping_is n ds groups made = go (is_grouping (record { count = n; definitions = ds })) refl made
   where
     own : Grouping
@@ -54,7 +64,8 @@ grouping_is n ds groups made = go (is_grouping (record { count = n; definitions 
 pub some_groups : (groups : Grouping) (rules : List GroupRule) → grouping_of rules ≡ Some groups → 1 ≤ groups.count
 some_groups groups rules made = leb-true _ _ (and_parts _ _ (and_parts _ _ (grouping_is (length rules) (definitions_in rules) groups made).1).0).0
 
-module _ (t : Tables) (r : ℕ) (found : StoredRollout) (has : HasRollout t r found) (rules : List GroupRule) (many : length rules ≡ found.plan.groups) (have : HaveOnlyRules t r rules) where
+module _ (t : Tables) (r : ℕ) (found : StoredRollout) (has : HasRollout t r found) (rules : List GroupRule) (many : length rules ≡ found.plan.groups)
+    (have : HaveOnlyRules t r rules) where
   count : IsGroupCount t r found.plan.groups
   count = found_count t r found has.is
 
@@ -69,10 +80,12 @@ module _ (t : Tables) (r : ℕ) (found : StoredRollout) (has : HasRollout t r fo
 
       only : (others : Grouping) → IsCutBy t r others → others ≡ groups
       only others it =
-          let counted : others.count ≡ length it.rules = ap (λ (g : Grouping). g.count) (grouping_is (length it.rules) (definitions_in it.rules) others it.make).0 in
+          let counted : others.count ≡ length it.rules =
+          ap (λ (g : Grouping). g.count) (grouping_is (length it.rules) (definitions_in it.rules) others it.make).0 in
           let same = same_rules t r 1 rules it.rules it.have have (omega (arith, counted, count.only others.count it.there, many)) in
           let both : Some others ≡ Some groups = sym it.make ∙ ap grouping_of same ∙ make in
           cc
 
   pub none_made : grouping_with found.plan.groups (definitions_in rules) ≡ None → IsUnreadable t
-  none_made none = no_grouping r rules (subst (HasGroupCount t r) (sym many) count.there) (are_said t r 1 rules have) (ap (λ n. grouping_with n (definitions_in rules)) many ∙ none)
+  none_made none = no_grouping r rules (subst (HasGroupCount t r) (sym many) count.there) (are_said t r 1 rules have)
+      (ap (λ n. grouping_with n (definitions_in rules)) many ∙ none)

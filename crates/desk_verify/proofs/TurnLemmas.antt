@@ -1,5 +1,7 @@
 -- Members and actions, each in its turn.
-use Rattle.desk_verify.proofs.Common.{◌≡◌, ◌⊎◌, inl, inr, ◌<◌, ℕ, ◌+◌, true, List, [], ◌∷◌, length, map, nat_eq, refl, sym, ap, ◌∙◌, arith, pointwise, and_from, and_parts, Decides-eqb, nat_tests, slice_eq-Decides, Has, PlacedMember, ListedAction, rise, are_for, count_on, is_each_for, is_for, numbers_rise}
+use Rattle.desk_verify.proofs.Common.{◌≡◌, ◌⊎◌, inl, inr, ◌<◌, ℕ, ◌+◌, true, List, [], ◌∷◌, length, map, nat_eq, refl, sym, ap, ◌∙◌, arith, pointwise}
+use Rattle.desk_verify.proofs.Common.{and_from, and_parts, Decides-eqb, nat_tests, slice_eq-Decides, Has, PlacedMember, ListedAction, rise, are_for, count_on}
+use Rattle.desk_verify.proofs.Common.{is_each_for, is_for, numbers_rise}
 use Rattle.desk_verify.proofs.Rising.{above, rest_rises}
 
 -- ---- a member and its action
@@ -12,7 +14,8 @@ is_own m a h =
     )
 
 pub own_is : (m : PlacedMember) (a : ListedAction) → a.action.position ≡ m.place → a.action.target ≡ m.id → is_for m a ≡ true
-own_is m a place id = and_from _ _ (grind (arith, nat_tests, place)) ((slice_eq-Decides Decides-eqb a.action.target m.id (pointwise nat_eq a.action.target m.id) refl).1 id)
+own_is m a place id = and_from _ _ (grind (arith, nat_tests, place))
+    ((slice_eq-Decides Decides-eqb a.action.target m.id (pointwise nat_eq a.action.target m.id) refl).1 id)
 
 -- ---- places in turn
 
@@ -37,20 +40,25 @@ record ArePaired (members : List PlacedMember) (actions : List ListedAction) : T
   each : is_each_for members actions ≡ true
 
 paired : (members : List PlacedMember) (actions : List ListedAction) → are_for members actions ≡ true → ArePaired members actions
-paired members actions h = let parts = and_parts (nat_eq (length actions) (length members)) (is_each_for members actions) h in record { as_many = grind (arith, nat_tests, parts.0); each = parts.1 }
+paired members actions h = let parts = and_parts (nat_eq (length actions) (length members)) (is_each_for members actions) h in
+    record { as_many = grind (arith, nat_tests, parts.0); each = parts.1 }
 
-rest_paired : (m : PlacedMember) (ms : List PlacedMember) (a : ListedAction) (as' : List ListedAction) → ArePaired (m ∷ ms) (a ∷ as') → (is_for m a ≡ true) × ArePaired ms as'
-rest_paired m ms a as' are = let parts = and_parts (is_for m a) (is_each_for ms as') are.each in (parts.0, record { as_many = (let many = are.as_many in omega (arith, many)); each = parts.1 })
+rest_paired : (m : PlacedMember) (ms : List PlacedMember) (a : ListedAction) (as' : List ListedAction) → ArePaired (m ∷ ms) (a ∷ as') → (is_for m a ≡ true)
+    × ArePaired ms as'
+rest_paired m ms a as' are = let parts = and_parts (is_for m a) (is_each_for ms as') are.each in
+    (parts.0, record { as_many = (let many = are.as_many in omega (arith, many)); each = parts.1 })
 
 -- the member of an action
-member_in : (ms : List PlacedMember) (as' : List ListedAction) → ArePaired ms as' → (a : ListedAction) → Has as' a → (m : PlacedMember) × Has ms m × (is_for m a ≡ true)
+member_in : (ms : List PlacedMember) (as' : List ListedAction) → ArePaired ms as' → (a : ListedAction) → Has as' a → (m : PlacedMember) × Has ms m
+    × (is_for m a ≡ true)
 member_in ms [] are a among = absurd among
 member_in [] (x ∷ as') are a among = absurd (let many = are.as_many in omega (arith, many))
 member_in (m ∷ ms) (x ∷ as') are a (inl same) = (m, inl refl, ap (is_for m) same ∙ (rest_paired m ms x as' are).0)
 member_in (m ∷ ms) (x ∷ as') are a (inr among) = let it = member_in ms as' (rest_paired m ms x as' are).1 a among in (it.0, inr it.1, it.2)
 
 -- the action of a member
-action_in : (ms : List PlacedMember) (as' : List ListedAction) → ArePaired ms as' → (m : PlacedMember) → Has ms m → (a : ListedAction) × Has as' a × (is_for m a ≡ true)
+action_in : (ms : List PlacedMember) (as' : List ListedAction) → ArePaired ms as' → (m : PlacedMember) → Has ms m → (a : ListedAction) × Has as' a
+    × (is_for m a ≡ true)
 action_in [] as' are m among = absurd among
 action_in (x ∷ ms) [] are m among = absurd (let many = are.as_many in omega (arith, many))
 action_in (x ∷ ms) (a ∷ as') are m (inl same) = (a, inl refl, ap (λ y. is_for y a) same ∙ (rest_paired x ms a as' are).0)
@@ -63,7 +71,8 @@ number_of a = a.number
 abbrev pub AreOrdered : ListedAction → ListedAction → Type 0
 AreOrdered a b = (a.action.position ≡ b.action.position → a.number ≡ b.number) × (a.action.position < b.action.position → a.number < b.number)
 
-ordered : (last before : ℕ) (ms : List PlacedMember) (as' : List ListedAction) → count_on last ms ≡ true → rise before (map number_of as') ≡ true → ArePaired ms as' → (a b : ListedAction) → Has as' a → Has as' b → AreOrdered a b
+ordered : (last before : ℕ) (ms : List PlacedMember) (as' : List ListedAction) → count_on last ms ≡ true → rise before (map number_of as') ≡ true
+    → ArePaired ms as' → (a b : ListedAction) → Has as' a → Has as' b → AreOrdered a b
 ordered last before ms [] counts rises are a b at_a at_b = absurd at_a
 ordered last before [] (x ∷ as') counts rises are a b at_a at_b = absurd (let many = are.as_many in omega (arith, many))
 ordered last before (m ∷ ms) (x ∷ as') counts rises are a b at_a at_b = go at_a at_b (ordered m.place x.number ms as' rest_ms rest_as rest.1 a b)
@@ -87,9 +96,12 @@ ordered last before (m ∷ ms) (x ∷ as') counts rises are a b at_a at_b = go a
         (omega (arith, place, own, other), number)
 
     go : (a ≡ x) ⊎ Has as' a → (b ≡ x) ⊎ Has as' b → (Has as' a → Has as' b → AreOrdered a b) → AreOrdered a b
-    go (inl p) (inl q) further = let same = ap number_of (p ∙ sym q) in let place = ap (λ (c : ListedAction). c.action.position) (p ∙ sym q) in (λ is. same, λ less. omega (arith, less, place))
-    go (inl p) (inr q) further = let number = ap number_of p in let place = ap (λ (c : ListedAction). c.action.position) p in let more = later b q in let less = more.0 in let higher = more.1 in (λ is. absurd (omega (arith, is, place, less)), λ is. omega (arith, number, higher))
-    go (inr p) (inl q) further = let place = ap (λ (c : ListedAction). c.action.position) q in let more = later a p in let less = more.0 in (λ is. absurd (omega (arith, is, place, less)), λ is. absurd (omega (arith, is, place, less)))
+    go (inl p) (inl q) further = let same = ap number_of (p ∙ sym q) in let place = ap (λ (c : ListedAction). c.action.position) (p ∙ sym q) in
+        (λ is. same, λ less. omega (arith, less, place))
+    go (inl p) (inr q) further = let number = ap number_of p in let place = ap (λ (c : ListedAction). c.action.position) p in let more = later b q in let less =
+        more.0 in let higher = more.1 in (λ is. absurd (omega (arith, is, place, less)), λ is. omega (arith, number, higher))
+    go (inr p) (inl q) further = let place = ap (λ (c : ListedAction). c.action.position) q in let more = later a p in let less = more.0 in
+        (λ is. absurd (omega (arith, is, place, less)), λ is. absurd (omega (arith, is, place, less)))
     go (inr p) (inr q) further = further p q
 
 pub record AreTurns (members : List PlacedMember) (actions : List ListedAction) : Type 0 where
@@ -97,9 +109,15 @@ pub record AreTurns (members : List PlacedMember) (actions : List ListedAction) 
   pub its_action : (m : PlacedMember) → Has members m → (a : ListedAction) × Has actions a × (is_for m a ≡ true)
   pub order : (a b : ListedAction) → Has actions a → Has actions b → AreOrdered a b
 
-pub turns : (members : List PlacedMember) (actions : List ListedAction) → count_on 0 members ≡ true → numbers_rise actions ≡ true → are_for members actions ≡ true → AreTurns members actions
+pub turns : (members : List PlacedMember) (actions : List ListedAction) → count_on 0 members ≡ true → numbers_rise actions ≡ true → are_for members actions
+    ≡ true → AreTurns members actions
 turns members actions counts rises are =
-    let pairs = paired members actions are in record { its_member = member_in members actions pairs; its_action = action_in members actions pairs; order = ordered 0 0 members actions counts rises pairs }
+    let pairs = paired members actions are in
+    record {
+      its_member = member_in members actions pairs;
+      its_action = action_in members actions pairs;
+      order = ordered 0 0 members actions counts rises pairs;
+    }
 
 -- ---- where actions follow their members, each member has the action in its turn
 
@@ -108,13 +126,15 @@ pub record AreFollowing (members : List PlacedMember) (actions : List ListedActi
   pub its_action : (m : PlacedMember) → Has members m → (a : ListedAction) × Has actions a × (a.action.position ≡ m.place)
   pub order : (a b : ListedAction) → Has actions a → Has actions b → AreOrdered a b
 
-one_further : (m : PlacedMember) (ms : List PlacedMember) (a : ListedAction) (as' : List ListedAction) → is_for m a ≡ true → are_for ms as' ≡ true → are_for (m ∷ ms) (a ∷ as') ≡ true
+one_further : (m : PlacedMember) (ms : List PlacedMember) (a : ListedAction) (as' : List ListedAction) → is_for m a ≡ true → are_for ms as' ≡ true
+    → are_for (m ∷ ms) (a ∷ as') ≡ true
 one_further m ms a as' own rest =
     let parts = and_parts (nat_eq (length as') (length ms)) (is_each_for ms as') rest in
     let many : length as' ≡ length ms = grind (arith, nat_tests, parts.0) in
     and_from _ _ (grind (arith, nat_tests, many)) (and_from _ _ own parts.1)
 
-follows : (last before : ℕ) (ms : List PlacedMember) (as' : List ListedAction) → count_on last ms ≡ true → rise before (map number_of as') ≡ true → AreFollowing ms as' → are_for ms as' ≡ true
+follows : (last before : ℕ) (ms : List PlacedMember) (as' : List ListedAction) → count_on last ms ≡ true → rise before (map number_of as') ≡ true
+    → AreFollowing ms as' → are_for ms as' ≡ true
 follows last before [] [] counts rises are = refl
 follows last before [] (x ∷ as') counts rises are = absurd (are.its_member x (inl refl)).1
 follows last before (m ∷ ms) [] counts rises are = absurd (are.its_action m (inl refl)).1
@@ -140,7 +160,8 @@ follows last before (m ∷ ms) (x ∷ as') counts rises are = one_further m ms x
               let at = its.2 in
               elim mine.1 [
                 | inl same ↦ place ∙ ap (λ (n : PlacedMember). n.place) same
-                | inr later ↦ absurd (let higher = later_place m.place ms rest_ms mine.0 later in let wrong = order.1 (omega (arith, higher, at, place)) in omega (arith, wrong, number))
+                | inr later ↦ absurd (let higher = later_place m.place ms rest_ms mine.0 later in let wrong = order.1 (omega (arith, higher, at, place)) in
+                    omega (arith, wrong, number))
               ]
         ]
 
@@ -149,7 +170,8 @@ follows last before (m ∷ ms) (x ∷ as') counts rises are = one_further m ms x
         let mine = are.its_member x (inl refl) in
         elim mine.1 [
           | inl same ↦ ap (λ (n : PlacedMember). is_for n x) (sym same) ∙ mine.2
-          | inr later ↦ absurd (let higher = later_place m.place ms rest_ms mine.0 later in let place = (is_own mine.0 x mine.2).0 in omega (arith, higher, place, at_first))
+          | inr later ↦ absurd (let higher = later_place m.place ms rest_ms mine.0 later in let place = (is_own mine.0 x mine.2).0 in
+              omega (arith, higher, place, at_first))
         ]
 
     rest : AreFollowing ms as'
@@ -180,5 +202,6 @@ follows last before (m ∷ ms) (x ∷ as') counts rises are = one_further m ms x
       order = λ a b p q. are.order a b (inr p) (inr q);
     }
 
-pub following : (members : List PlacedMember) (actions : List ListedAction) → count_on 0 members ≡ true → numbers_rise actions ≡ true → AreFollowing members actions → are_for members actions ≡ true
+pub following : (members : List PlacedMember) (actions : List ListedAction) → count_on 0 members ≡ true → numbers_rise actions ≡ true
+    → AreFollowing members actions → are_for members actions ≡ true
 following members actions counts rises are = follows 0 0 members actions counts rises are

@@ -1,5 +1,10 @@
 -- From typed reads of artifacts to what is shown.
-use Rattle.desk_views.proofs.Common.{◌≡◌, ℕ, zero, suc, ◌+◌, nat_eq, Bool, true, false, not, cond, List, [], ◌∷◌, ◌++◌, map, length, take, drop, Option, Some, None, refl, sym, ap, ◌∙◌, append-nil, arith, add-one, slice_get, take-nil, nat_tests, flat_map, is_some, option_map, pieces_of_artifact, artifact_if, artifact_of_module, if_found, query_reply, item_numbered, Bytes, ModuleLabel, artifact_shown, page_of, ArtifactRecord, Records, Artifact, Refused, ArtifactsShown, ArtifactShown, ContentsShown, Page, ShowArtifact, listed, reply_of, NotFound, Reply, contents_found, flat_map-append, piece_bytes, pieces_of, stored, StoredArtifact}
+use Rattle.desk_views.proofs.Common.{◌≡◌, ℕ, zero, suc, ◌+◌, nat_eq, Bool, true, false, not, cond, List, [], ◌∷◌, ◌++◌, map, length, take, drop, Option, Some}
+use Rattle.desk_views.proofs.Common.{None, refl, sym, ap, ◌∙◌, append-nil, arith, add-one, slice_get, take-nil, nat_tests, flat_map, is_some, option_map}
+use Rattle.desk_views.proofs.Common.{pieces_of_artifact, artifact_if, artifact_of_module, if_found, query_reply, item_numbered, Bytes, ModuleLabel}
+use Rattle.desk_views.proofs.Common.{artifact_shown, page_of, ArtifactRecord, Records, Artifact, Refused, ArtifactsShown, ArtifactShown, ContentsShown, Page}
+use Rattle.desk_views.proofs.Common.{ShowArtifact, listed, reply_of, NotFound, Reply, contents_found, flat_map-append, piece_bytes, pieces_of, stored}
+use Rattle.desk_views.proofs.Common.{StoredArtifact}
 use Rattle.artifact_pieces.proofs.PieceLemmas.{pieces_make_the_whole}
 use Rattle.rollout_machine.specs.Replies as shown
 use Rattle.rollout_model.specs.declared.page.PageOf.{PageOf}
@@ -31,11 +36,13 @@ module _ (m : ℕ) (a : ArtifactRecord) (found : StoredArtifact) (is : Some foun
   owned : (wanted : Bool) → differs ≡ wanted → nat_eq a.module_number m ≡ not wanted
   owned wanted h = ap (λ n. nat_eq n m) (sym (ap module_in is)) ∙ turned (nat_eq found.module_number m) wanted h
 
-pub of_another : (m : ℕ) (x : Option ArtifactRecord) (found : StoredArtifact) → Some found ≡ option_map stored x → not (nat_eq found.module_number m) ≡ true → None ≡ option_map stored (artifact_if m x)
+pub of_another : (m : ℕ) (x : Option ArtifactRecord) (found : StoredArtifact) → Some found ≡ option_map stored x → not (nat_eq found.module_number m) ≡ true
+    → None ≡ option_map stored (artifact_if m x)
 of_another m None found is other = absurd cc
 of_another m (Some a) found is other = rw (owned m a found is true other) refl
 
-pub of_this : (m : ℕ) (x : Option ArtifactRecord) (found : StoredArtifact) → Some found ≡ option_map stored x → not (nat_eq found.module_number m) ≡ false → Some found ≡ option_map stored (artifact_if m x)
+pub of_this : (m : ℕ) (x : Option ArtifactRecord) (found : StoredArtifact) → Some found ≡ option_map stored x → not (nat_eq found.module_number m) ≡ false
+    → Some found ≡ option_map stored (artifact_if m x)
 of_this m None found is own = absurd cc
 of_this m (Some a) found is own = rw (owned m a found is false own) is
 
@@ -54,12 +61,14 @@ together_is None = refl
 together_is (Some a) = together_map (piece_bytes a.contents) (pieces_of (length a.contents)) ∙ pieces_make_the_whole a.contents
 
 -- the next piece is read
-pub pieces_grow : (pieces : List Bytes) (bytes more : Bytes) (place number : ℕ) (piece : Bytes) → bytes ≡ together (take place pieces) → Some piece ≡ item_numbered pieces number → number ≡ place + 1 → more ≡ bytes ++ piece
+pub pieces_grow : (pieces : List Bytes) (bytes more : Bytes) (place number : ℕ) (piece : Bytes) → bytes ≡ together (take place pieces) → Some piece
+    ≡ item_numbered pieces number → number ≡ place + 1 → more ≡ bytes ++ piece
     → more ≡ together (take (place + 1) pieces)
 pieces_grow pieces bytes more place zero piece is found at one = absurd cc
 pieces_grow pieces bytes more place (suc k) piece is found at one =
     let here : k ≡ place = omega (arith, at) in
-    one ∙ ap (λ bs. bs ++ piece) is ∙ sym (flat_map-append (λ p. p) (take place pieces) (piece ∷ []) ∙ ap (λ bs. together (take place pieces) ++ bs) (append-nil piece))
+    one ∙ ap (λ bs. bs ++ piece) is
+    ∙ sym (flat_map-append (λ p. p) (take place pieces) (piece ∷ []) ∙ ap (λ bs. together (take place pieces) ++ bs) (append-nil piece))
     ∙ ap together (sym (one_more pieces place piece (ap (slice_get pieces) (sym here) ∙ sym found))) ∙ ap (λ n. together (take n pieces)) (sym (add-one place))
 
 all_taken : (pieces : List Bytes) (place : ℕ) → slice_get pieces place ≡ None → take place pieces ≡ pieces
@@ -68,7 +77,8 @@ all_taken (p ∷ ps) zero is = absurd cc
 all_taken (p ∷ ps) (suc place) is = ap (λ l. p ∷ l) (all_taken ps place is)
 
 -- there is none left
-pub pieces_end : (found : Option ArtifactRecord) (bytes : Bytes) (place number : ℕ) → bytes ≡ together (take place (pieces_of_artifact found)) → None ≡ item_numbered (pieces_of_artifact found) number → number ≡ place + 1 → bytes ≡ contents_found found
+pub pieces_end : (found : Option ArtifactRecord) (bytes : Bytes) (place number : ℕ) → bytes ≡ together (take place (pieces_of_artifact found))
+    → None ≡ item_numbered (pieces_of_artifact found) number → number ≡ place + 1 → bytes ≡ contents_found found
 pieces_end found bytes place zero is none at = absurd (omega (arith, at))
 pieces_end found bytes place (suc k) is none at =
     let here : k ≡ place = omega (arith, at) in
@@ -83,9 +93,11 @@ abbrev reply_for : ℕ → Option StoredArtifact → Reply
 reply_for number None = reply.Refused NotFound
 reply_for number (Some found) = reply.Artifact (shown_stored number found)
 
-pub artifact_replied : (r : Records) (m number : ℕ) (found : Option StoredArtifact) → found ≡ option_map stored (artifact_of_module r m number) → reply_of (reply_for number found) ≡ query_reply r (ShowArtifact m number)
+pub artifact_replied : (r : Records) (m number : ℕ) (found : Option StoredArtifact) → found ≡ option_map stored (artifact_of_module r m number)
+    → reply_of (reply_for number found) ≡ query_reply r (ShowArtifact m number)
 artifact_replied r m number found is = rw is (go (artifact_of_module r m number)) where
-  go : (x : Option ArtifactRecord) → reply_of (reply_for number (option_map stored x)) ≡ if_found (λ (a : ArtifactRecord). ArtifactShown (artifact_shown number a)) x
+  go : (x : Option ArtifactRecord) → reply_of (reply_for number (option_map stored x))
+      ≡ if_found (λ (a : ArtifactRecord). ArtifactShown (artifact_shown number a)) x
   go None = refl
   go (Some a) = refl
 
@@ -93,11 +105,13 @@ pub no_contents : (x : Option ArtifactRecord) → None ≡ option_map stored x �
 no_contents None is = refl
 no_contents (Some a) is = absurd cc
 
-pub contents_replied : (m : ℕ) (x : Option ArtifactRecord) (found : StoredArtifact) (contents : Bytes) → Some found ≡ option_map stored (artifact_if m x) → contents ≡ contents_found x
+pub contents_replied : (m : ℕ) (x : Option ArtifactRecord) (found : StoredArtifact) (contents : Bytes) → Some found ≡ option_map stored (artifact_if m x)
+    → contents ≡ contents_found x
     → ContentsShown contents ≡ if_found (λ (a : ArtifactRecord). ContentsShown a.contents) (artifact_if m x)
 contents_replied m None found contents is read = absurd cc
 contents_replied m (Some a) found contents is read = go (nat_eq a.module_number m) is where
-  go : (b : Bool) → Some found ≡ option_map stored (cond b (Some a) None) → ContentsShown contents ≡ if_found (λ (a : ArtifactRecord). ContentsShown a.contents) (cond b (Some a) None)
+  go : (b : Bool) → Some found ≡ option_map stored (cond b (Some a) None) → ContentsShown contents ≡ if_found (λ (a : ArtifactRecord). ContentsShown a.contents)
+      (cond b (Some a) None)
   go true own = ap ContentsShown read
   go false other = absurd cc
 
@@ -105,7 +119,8 @@ pub no_module : (found : Option ModuleLabel) (page : shown.Reply) → is_some fo
 no_module None page is = refl
 no_module (Some label) page is = absurd cc
 
-pub page_shown : (found : Option ModuleLabel) (page : Page) (all : List Artifact) (part : PageOf Artifact) (is_there : is_some found ≡ true) → part.content.items ≡ take page.limit (drop page.offset all) → part.total ≡ length all
+pub page_shown : (found : Option ModuleLabel) (page : Page) (all : List Artifact) (part : PageOf Artifact) (is_there : is_some found ≡ true)
+    → part.content.items ≡ take page.limit (drop page.offset all) → part.total ≡ length all
     → ArtifactsShown (listed part) ≡ if_found (λ (label : ModuleLabel). ArtifactsShown (page_of page all)) found
 page_shown None page all part is_there content total = absurd cc
 page_shown (Some label) page all part is_there content total = λ i. ArtifactsShown (record { content = content i; total = total i })

@@ -1,10 +1,14 @@
 -- The names of other modules that the proofs here cite, passed on from one place. Declares nothing.
-pub use Rattle.std.proofs.Common.{All, Bool, Err, IfErr, IfOk, List, None, Ok, Option, Result, Some, Vec, [], add-one, ap, append-nil, append_assoc, arith, cond, drop, false, filter, find, get_or, inl, inr, is_none, le_trans, length, map, min, nat_eq, nat_le, nat_lt, not, pos, refl, rules, slice_get, subst, suc, sym, take, true, vec_len, zero, ℕ, ◌%◌, ◌&&◌, ◌*◌, ◌++◌, ◌+◌, ◌-◌, ◌/◌, ◌<◌, ◌^◌, ◌||◌, ◌∙◌, ◌∷◌, ◌≡◌, ◌≢◌, ◌≤◌, ◌⊎◌}
+pub use Rattle.std.proofs.Common.{All, Bool, Err, IfErr, IfOk, List, None, Ok, Option, Result, Some, Vec, [], add-one, ap, append-nil, append_assoc, arith}
+pub use Rattle.std.proofs.Common.{cond, drop, false, filter, find, get_or, inl, inr, is_none, le_trans, length, map, min, nat_eq, nat_le, nat_lt, not, pos}
+pub use Rattle.std.proofs.Common.{refl, rules, slice_get, subst, suc, sym, take, true, vec_len, zero, ℕ, ◌%◌, ◌&&◌, ◌*◌, ◌++◌, ◌+◌, ◌-◌, ◌/◌, ◌<◌, ◌^◌, ◌||◌}
+pub use Rattle.std.proofs.Common.{◌∙◌, ◌∷◌, ◌≡◌, ◌≢◌, ◌≤◌, ◌⊎◌}
 pub use Rattle.std.proofs.Math.Seq.{take-add, take-nil}
 pub use Rattle.std.proofs.lemmas.Bool.{and_parts, cases_lt, cases_order, false≢true, leb-false, leb-true, or_parts}
 pub use Rattle.std.proofs.lemmas.Bool.Decides.{nat_tests}
 pub use Rattle.std.proofs.lemmas.Grind.{div_ceil_times, flat_map-append}
-pub use Rattle.std.proofs.lemmas.List.{drop-append-le, drop-drop, drop-map, drop-take, drop_all, length-append, length-drop, length-map, length-take, length-take-le, map-append, nil_from_length, take-append-le, take-map, take-take, take_all, take_more}
+pub use Rattle.std.proofs.lemmas.List.{drop-append-le, drop-drop, drop-map, drop-take, drop_all, length-append, length-drop, length-map, length-take}
+pub use Rattle.std.proofs.lemmas.List.{length-take-le, map-append, nil_from_length, take-append-le, take-map, take-take, take_all, take_more}
 pub use Rattle.std.proofs.lemmas.Result.{err_from_is_err_and}
 pub use Rattle.std.specs.List.{flat_map, list_all, list_any, zip}
 pub use Rattle.std.specs.Option.{IsSome, IsSomeAnd, is_some, option_map, unwrap_or}
@@ -21,20 +25,29 @@ pub use Rattle.target_filter.specs.Profile.{filter_of}
 pub use Rattle.artifact_pieces.specs.Pieces.{piece_at, piece_bytes, piece_count, pieces_of}
 pub use Rattle.rollout_machine.proofs.TargetTies.{same_pointwise, same_refl, same_sym, same_true}
 pub use Rattle.rollout_machine.proofs.WithinLimits.{limits_hold}
-pub use Rattle.rollout_machine.specs.Answers.{action_if, action_of_target, artifact_if, artifact_named, artifact_of_module, for_device, group_reply, if_found, is_offer_of, modules_offered, query_reply, target_if, targets_matching, targets_of}
+pub use Rattle.rollout_machine.specs.Answers.{action_if, action_of_target, artifact_if, artifact_named, artifact_of_module, for_device, group_reply, if_found}
+pub use Rattle.rollout_machine.specs.Answers.{is_offer_of, modules_offered, query_reply, target_if, targets_matching, targets_of}
 pub use Rattle.rollout_machine.specs.ByteStrings.{bytes_below, contains_word, item_numbered, same_bytes, with_words}
 pub use Rattle.rollout_machine.specs.CommandList.{CommandList, Make, ◌▸◌}
 pub use Rattle.rollout_machine.specs.Commands.{AddArtifact, Bytes, Command, CreateRollout, Credential, ModuleLabel, SetLabel, TargetRow}
 pub use Rattle.rollout_machine.specs.Filters.{matches, seen}
 pub use Rattle.rollout_machine.specs.GroupRules.{GroupRule, rule_at, rules_of}
-pub use Rattle.rollout_machine.specs.Objects.{action_shown, actions_of_rollout, actions_of_target, actions_where, artifact_shown, artifacts_shown, chunks_of, chunks_of_module, entry_shown, group_of_action, group_shown, groups_shown, members_in, module_shown, modules_of_action, modules_of_rollout, modules_of_set, modules_shown, numbered, page_of, report_of, rollout_shown, rollouts_shown, set_shown, target_shown, targets_shown}
+pub use Rattle.rollout_machine.specs.Objects.{action_shown, actions_of_rollout, actions_of_target, actions_where, artifact_shown, artifacts_shown, chunks_of}
+pub use Rattle.rollout_machine.specs.Objects.{chunks_of_module, entry_shown, group_of_action, group_shown, groups_shown, members_in, module_shown}
+pub use Rattle.rollout_machine.specs.Objects.{modules_of_action, modules_of_rollout, modules_of_set, modules_shown, numbered, page_of, report_of}
+pub use Rattle.rollout_machine.specs.Objects.{rollout_shown, rollouts_shown, set_shown, target_shown, targets_shown}
 pub use Rattle.rollout_machine.specs.Offers.{Offer, first_offer, offer}
 pub use Rattle.rollout_machine.specs.Records.{ArtifactRecord, Records, added_artifacts, artifacts, group_in, modules, records, sets}
-pub use Rattle.rollout_machine.specs.Replies.{ActionShown, ActionsShown, ActionsTableShown, Artifact, ArtifactShown, ArtifactsShown, Chunk, ContentsShown, DeploymentShown, DistributionSet, GroupShown, GroupsShown, HistoryShown, Module, ModuleShown, ModulesShown, PageOf, PollShown, Refused, ReportShown, RolloutShown, RolloutsShown, SetsShown, ShownAction, ShownEntry, ShownGroup, ShownRollout, TargetShown, TargetsShown}
+pub use Rattle.rollout_machine.specs.Replies.{ActionShown, ActionsShown, ActionsTableShown, Artifact, ArtifactShown, ArtifactsShown, Chunk, ContentsShown}
+pub use Rattle.rollout_machine.specs.Replies.{DeploymentShown, DistributionSet, GroupShown, GroupsShown, HistoryShown, Module, ModuleShown, ModulesShown}
+pub use Rattle.rollout_machine.specs.Replies.{PageOf, PollShown, Refused, ReportShown, RolloutShown, RolloutsShown, SetsShown, ShownAction, ShownEntry}
+pub use Rattle.rollout_machine.specs.Replies.{ShownGroup, ShownRollout, TargetShown, TargetsShown}
 pub use Rattle.rollout_machine.specs.Reports.{HistoryEntry, Reported, entries_in}
 pub use Rattle.rollout_machine.specs.Requests.{Download, Page, ShowArtifact, ShowModule, ShowModules, ShowRollouts, ShowSet, ShowSets, ShowTarget, ShowTargets}
 pub use Rattle.rollout_machine.specs.Rollouts.{Rollout, chosen, created, rollouts, size_in, size_of}
-pub use Rattle.rollout_machine.specs.StateWords.{InError, InSync, Pending, TargetWord, Unknown, group_holding, group_is_started, group_numbered, has_started, is_for, is_started_in, member_at, number_of_group, size_of_group, started_actions_of, target_word, word_by_last}
+pub use Rattle.rollout_machine.specs.StateWords.{InError, InSync, Pending, TargetWord, Unknown, group_holding, group_is_started, group_numbered, has_started}
+pub use Rattle.rollout_machine.specs.StateWords.{is_for, is_started_in, member_at, number_of_group, size_of_group, started_actions_of, target_word}
+pub use Rattle.rollout_machine.specs.StateWords.{word_by_last}
 pub use Rattle.rollout_machine.specs.Targets.{Target, import_rows_of, target_ids, target_in}
 pub use Rattle.rollout_machine.specs.Validity.{IsValid}
 pub use Rattle.rollout_machine.specs.Verdicts.{is_known, is_named_by_set, tags_of, target_of}

@@ -1,5 +1,11 @@
 -- From typed reads to what a device is shown.
-use Rattle.desk_views.proofs.Common.{◌≡◌, inl, inr, IfOk, ℕ, zero, suc, ◌+◌, Bool, true, false, cond, ◌&&◌, nat_eq, List, [], ◌∷◌, ◌++◌, map, find, Option, Some, None, Result, Ok, Err, refl, sym, ap, subst, ◌∙◌, arith, append_assoc, append-nil, slice_get, map-append, list_any, zip, option_map, tally_of, stored_action, stored_rollout, StoredAction, artifact_named, for_device, if_found, is_offer_of, modules_offered, query_reply, item_numbered, same_bytes, Bytes, Credential, artifact_shown, artifacts_shown, chunks_of, chunks_of_module, modules_of_action, modules_of_rollout, modules_of_set, Offer, offer, ArtifactRecord, Records, ActionRecord, RolloutRecord, Artifact, ContentsShown, Refused, Download, is_known, chunk, same_true, NotFound, Unauthorized, contents_found, downloadable, named, or_not_found, IsOfName, Has}
+use Rattle.desk_views.proofs.Common.{◌≡◌, inl, inr, IfOk, ℕ, zero, suc, ◌+◌, Bool, true, false, cond, ◌&&◌, nat_eq, List, [], ◌∷◌, ◌++◌, map, find, Option}
+use Rattle.desk_views.proofs.Common.{Some, None, Result, Ok, Err, refl, sym, ap, subst, ◌∙◌, arith, append_assoc, append-nil, slice_get, map-append, list_any}
+use Rattle.desk_views.proofs.Common.{zip, option_map, tally_of, stored_action, stored_rollout, StoredAction, artifact_named, for_device, if_found, is_offer_of}
+use Rattle.desk_views.proofs.Common.{modules_offered, query_reply, item_numbered, same_bytes, Bytes, Credential, artifact_shown, artifacts_shown, chunks_of}
+use Rattle.desk_views.proofs.Common.{chunks_of_module, modules_of_action, modules_of_rollout, modules_of_set, Offer, offer, ArtifactRecord, Records}
+use Rattle.desk_views.proofs.Common.{ActionRecord, RolloutRecord, Artifact, ContentsShown, Refused, Download, is_known, chunk, same_true, NotFound}
+use Rattle.desk_views.proofs.Common.{Unauthorized, contents_found, downloadable, named, or_not_found, IsOfName, Has}
 use Rattle.desk_records.specs.Tables.{Tables}
 use Rattle.desk_records.specs.declared.rollout_row.StoredRollout.{StoredRollout}
 use Rattle.rollout_machine.specs.Replies as shown
@@ -19,9 +25,12 @@ module _ (device : Credential) where
       answered reply = ap (λ b. cond b reply (Refused Unauthorized)) is
 
       -- by whether it is this action that is offered
-      module _ (k : ℕ) (canceling : Bool) (same : Bool) (found : Option Offer) (asked : same ≡ is_offer_of k canceling found) (read : found ≡ offer r device.id) (reply : shown.Reply) where
-        by_offer : (b : Bool) → same ≡ b → cond b reply (Refused NotFound) ≡ for_device r device (cond (is_offer_of k canceling (offer r device.id)) reply (Refused NotFound))
-        by_offer b this = ap (λ c. cond c reply (Refused NotFound)) (sym this ∙ asked ∙ ap (is_offer_of k canceling) read) ∙ answered (cond (is_offer_of k canceling (offer r device.id)) reply (Refused NotFound))
+      module _ (k : ℕ) (canceling : Bool) (same : Bool) (found : Option Offer) (asked : same ≡ is_offer_of k canceling found) (read : found ≡ offer r device.id)
+          (reply : shown.Reply) where
+        by_offer : (b : Bool) → same ≡ b → cond b reply (Refused NotFound)
+            ≡ for_device r device (cond (is_offer_of k canceling (offer r device.id)) reply (Refused NotFound))
+        by_offer b this = ap (λ c. cond c reply (Refused NotFound)) (sym this ∙ asked ∙ ap (is_offer_of k canceling) read)
+            ∙ answered (cond (is_offer_of k canceling (offer r device.id)) reply (Refused NotFound))
 
         pub offered : same ≡ true → reply ≡ for_device r device (cond (is_offer_of k canceling (offer r device.id)) reply (Refused NotFound))
         offered = by_offer true
@@ -34,20 +43,26 @@ module _ (device : Credential) where
 module _ (r : Records) where
   chunks_join : (ms ns : List ℕ) → chunks_of r (ms ++ ns) ≡ chunks_of r ms ++ chunks_of r ns
   chunks_join [] ns = refl
-  chunks_join (m ∷ ms) ns = ap (λ l. chunks_of_module r m (item_numbered r.modules m) ++ l) (chunks_join ms ns) ∙ sym (append_assoc (chunks_of_module r m (item_numbered r.modules m)) (chunks_of r ms) (chunks_of r ns))
+  chunks_join (m ∷ ms) ns = ap (λ l. chunks_of_module r m (item_numbered r.modules m) ++ l) (chunks_join ms ns)
+      ∙ sym (append_assoc (chunks_of_module r m (item_numbered r.modules m)) (chunks_of r ms) (chunks_of r ns))
 
-  pub chunks_grow : (old new : List SeenChunk) (ms : List ℕ) (m : ℕ) → map chunk old ≡ chunks_of r ms → map chunk new ≡ map chunk old ++ chunks_of_module r m (item_numbered r.modules m) → map chunk new ≡ chunks_of r (ms ++ m ∷ [])
+  pub chunks_grow : (old new : List SeenChunk) (ms : List ℕ) (m : ℕ) → map chunk old ≡ chunks_of r ms → map chunk new
+      ≡ map chunk old ++ chunks_of_module r m (item_numbered r.modules m) → map chunk new ≡ chunks_of r (ms ++ m ∷ [])
   chunks_grow old new ms m is one =
-      one ∙ ap (λ l. l ++ chunks_of_module r m (item_numbered r.modules m)) is ∙ ap (λ l. chunks_of r ms ++ l) (sym (append-nil (chunks_of_module r m (item_numbered r.modules m)))) ∙ sym (chunks_join ms (m ∷ []))
+      one ∙ ap (λ l. l ++ chunks_of_module r m (item_numbered r.modules m)) is
+      ∙ ap (λ l. chunks_of r ms ++ l) (sym (append-nil (chunks_of_module r m (item_numbered r.modules m)))) ∙ sym (chunks_join ms (m ∷ []))
 
   module _ (m : ℕ) (old : List SeenChunk) where
     pub no_chunk : None ≡ item_numbered r.modules m → map chunk old ≡ map chunk old ++ chunks_of_module r m (item_numbered r.modules m)
     no_chunk is = sym (append-nil (map chunk old)) ∙ ap (λ x. map chunk old ++ chunks_of_module r m x) is
 
-    pub one_chunk : (new : List SeenChunk) (c : SeenChunk) → Some c.label ≡ item_numbered r.modules m → c.module_number ≡ m → c.artifacts.items ≡ artifacts_shown m 1 r.artifacts → new ≡ old ++ c ∷ []
+    pub one_chunk : (new : List SeenChunk) (c : SeenChunk) → Some c.label ≡ item_numbered r.modules m → c.module_number ≡ m → c.artifacts.items
+        ≡ artifacts_shown m 1 r.artifacts → new ≡ old ++ c ∷ []
         → map chunk new ≡ map chunk old ++ chunks_of_module r m (item_numbered r.modules m)
     one_chunk new c labelled number artifacts one =
-        ap (map chunk) one ∙ map-append chunk old (c ∷ []) ∙ (λ i. map chunk old ++ (record { module_number = number i; label = c.label; artifacts = artifacts i }) ∷ []) ∙ ap (λ x. map chunk old ++ chunks_of_module r m x) labelled
+        ap (map chunk) one ∙ map-append chunk old (c ∷ [])
+        ∙ (λ i. map chunk old ++ (record { module_number = number i; label = c.label; artifacts = artifacts i }) ∷ [])
+        ∙ ap (λ x. map chunk old ++ chunks_of_module r m x) labelled
 
 -- ---- modules of an action
 
@@ -56,7 +71,8 @@ module _ (r : Records) where
   set_named : (k : ℕ) (found : Option StoredRollout) → found ≡ option_map stored_rollout (item_numbered r.rollouts k)
       → option_map (λ (x : StoredRollout). x.plan.set_number) found ≡ option_map (λ (x : RolloutRecord). x.plan.set_number) (item_numbered r.rollouts k)
   set_named k found is = ap (option_map (λ (x : StoredRollout). x.plan.set_number)) is ∙ go (item_numbered r.rollouts k) where
-    go : (x : Option RolloutRecord) → option_map (λ (s : StoredRollout). s.plan.set_number) (option_map stored_rollout x) ≡ option_map (λ (y : RolloutRecord). y.plan.set_number) x
+    go : (x : Option RolloutRecord) → option_map (λ (s : StoredRollout). s.plan.set_number) (option_map stored_rollout x)
+        ≡ option_map (λ (y : RolloutRecord). y.plan.set_number) x
     go None = refl
     go (Some x) = refl
 
@@ -67,9 +83,11 @@ module _ (r : Records) where
       go None is = refl
       go (Some x) is = absurd cc
 
-    pub rollout_modules : (n : ℕ) (ms : List ℕ) → Some n ≡ option_map (λ (x : StoredRollout). x.plan.set_number) found → ms ≡ modules_of_set (item_numbered r.sets n) → ms ≡ modules_of_rollout r (item_numbered r.rollouts k)
+    pub rollout_modules : (n : ℕ) (ms : List ℕ) → Some n ≡ option_map (λ (x : StoredRollout). x.plan.set_number) found
+        → ms ≡ modules_of_set (item_numbered r.sets n) → ms ≡ modules_of_rollout r (item_numbered r.rollouts k)
     rollout_modules n ms some read = read ∙ go (item_numbered r.rollouts k) (some ∙ set_named k found is) where
-      go : (x : Option RolloutRecord) → Some n ≡ option_map (λ (y : RolloutRecord). y.plan.set_number) x → modules_of_set (item_numbered r.sets n) ≡ modules_of_rollout r x
+      go : (x : Option RolloutRecord) → Some n ≡ option_map (λ (y : RolloutRecord). y.plan.set_number) x → modules_of_set (item_numbered r.sets n)
+          ≡ modules_of_rollout r x
       go None is = absurd cc
       go (Some x) is = let same : n ≡ x.plan.set_number = cc in ap (λ k. modules_of_set (item_numbered r.sets k)) same
 
@@ -92,11 +110,14 @@ module _ (r : Records) where
     go None is = refl
     go (Some x) is = absurd cc
 
-  pub action_modules : (k : ℕ) (found : StoredAction) (ms : List ℕ) → Some found ≡ found_action k → ms ≡ modules_of_rollout r (item_numbered r.rollouts found.rollout) → ms ≡ modules_of_action r (item_numbered r.actions k)
+  pub action_modules : (k : ℕ) (found : StoredAction) (ms : List ℕ) → Some found ≡ found_action k
+      → ms ≡ modules_of_rollout r (item_numbered r.rollouts found.rollout) → ms ≡ modules_of_action r (item_numbered r.actions k)
   action_modules k found ms is read = read ∙ go (item_numbered r.actions k) (is ∙ ap (option_map (stored_action r.rollouts)) (kept_numbered k)) where
-    go : (x : Option ActionRecord) → Some found ≡ option_map (stored_action r.rollouts) (option_map (λ a. (a, tally_of a)) x) → modules_of_rollout r (item_numbered r.rollouts found.rollout) ≡ modules_of_action r x
+    go : (x : Option ActionRecord) → Some found ≡ option_map (stored_action r.rollouts) (option_map (λ a. (a, tally_of a)) x)
+        → modules_of_rollout r (item_numbered r.rollouts found.rollout) ≡ modules_of_action r x
     go None is = absurd cc
-    go (Some a) is = let same : found ≡ stored_action r.rollouts (a, tally_of a) = cc in ap (λ (s : StoredAction). modules_of_rollout r (item_numbered r.rollouts s.rollout)) same
+    go (Some a) is = let same : found ≡ stored_action r.rollouts (a, tally_of a) = cc in
+        ap (λ (s : StoredAction). modules_of_rollout r (item_numbered r.rollouts s.rollout)) same
 
 -- ---- downloads
 
@@ -105,10 +126,12 @@ module _ (m : ℕ) (filename : Bytes) where
   has_name a = same_bytes a.filename filename
 
   -- what has the name among what the module's rows say
-  pub named_said : (t : Tables) (artifacts : List Artifact) → ((a : Artifact) → Has artifacts a → HasListed t m a) → IfOk (named filename artifacts) (IsOfName t m filename)
+  pub named_said : (t : Tables) (artifacts : List Artifact) → ((a : Artifact) → Has artifacts a → HasListed t m a)
+      → IfOk (named filename artifacts) (IsOfName t m filename)
   named_said t [] said = tt
   named_said t (a ∷ more) said = go (has_name a) refl (named_said t more (λ b among. said b (inr among))) where
-    go : (b : Bool) → has_name a ≡ b → IfOk (named filename more) (IsOfName t m filename) → IfOk (or_not_found (cond b (Some a) (find has_name more))) (IsOfName t m filename)
+    go : (b : Bool) → has_name a ≡ b → IfOk (named filename more) (IsOfName t m filename)
+        → IfOk (or_not_found (cond b (Some a) (find has_name more))) (IsOfName t m filename)
     go true same rest = record { row = said a (inl refl); name_is = same_true a.filename filename same }
     go false other rest = rest
 
@@ -117,11 +140,13 @@ module _ (m : ℕ) (filename : Bytes) where
   IsShown all None x = x ≡ None
   IsShown all (Some s) x = (a : ArtifactRecord) × (x ≡ Some a) × (item_numbered all s.number ≡ Some a) × (s.size ≡ a.size)
 
-  first_shown : (all : List ArtifactRecord) (n : ℕ) (xs : List ArtifactRecord) → ((k : ℕ) → item_numbered all (n + k) ≡ slice_get xs k) → IsShown all (find has_name (artifacts_shown m n xs)) (artifact_named m filename xs)
+  first_shown : (all : List ArtifactRecord) (n : ℕ) (xs : List ArtifactRecord) → ((k : ℕ) → item_numbered all (n + k) ≡ slice_get xs k)
+      → IsShown all (find has_name (artifacts_shown m n xs)) (artifact_named m filename xs)
   first_shown all n [] at = refl
   first_shown all n (a ∷ xs) at = go (nat_eq a.module_number m) (first_shown all (suc n) xs (λ k. ap (item_numbered all) (omega arith) ∙ at (suc k))) where
     go : (b : Bool) → IsShown all (find has_name (artifacts_shown m (suc n) xs)) (artifact_named m filename xs)
-        → IsShown all (find has_name (cond b (artifact_shown n a ∷ artifacts_shown m (suc n) xs) (artifacts_shown m (suc n) xs))) (cond (b && same_bytes a.filename filename) (Some a) (artifact_named m filename xs))
+        → IsShown all (find has_name (cond b (artifact_shown n a ∷ artifacts_shown m (suc n) xs) (artifacts_shown m (suc n) xs)))
+        (cond (b && same_bytes a.filename filename) (Some a) (artifact_named m filename xs))
     go false rest = rest
     go true rest = this_one (same_bytes a.filename filename) rest where
       this_one : (c : Bool) → IsShown all (find has_name (artifacts_shown m (suc n) xs)) (artifact_named m filename xs)
@@ -136,14 +161,17 @@ module _ (m : ℕ) (filename : Bytes) where
 
   module _ (r : Records) (device : Credential) where
     pub not_known : false ≡ is_known r device → Err Unauthorized ≡ downloadable r device m filename
-    not_known is = ap (λ b. cond b (cond (list_any (λ n. nat_eq n m) (modules_offered r (offer r device.id))) (named filename (artifacts_shown m 1 r.artifacts)) (Err NotFound)) (Err Unauthorized)) is
+    not_known is = ap (λ b. cond b (cond (list_any (λ n. nat_eq n m) (modules_offered r (offer r device.id))) (named filename (artifacts_shown m 1 r.artifacts))
+        (Err NotFound)) (Err Unauthorized)) is
 
     -- by whether the module is among those that are offered
-    module _ (is : true ≡ is_known r device) (modules : List ℕ) (offers : modules ≡ modules_offered r (offer r device.id)) (among : Bool) (asked : among ≡ list_any (λ n. nat_eq n m) modules) where
+    module _ (is : true ≡ is_known r device) (modules : List ℕ) (offers : modules ≡ modules_offered r (offer r device.id)) (among : Bool)
+        (asked : among ≡ list_any (λ n. nat_eq n m) modules) where
       by_module : (b : Bool) → among ≡ b → cond b (named filename (artifacts_shown m 1 r.artifacts)) (Err NotFound) ≡ downloadable r device m filename
       by_module b this =
           ap (λ c. cond c (named filename (artifacts_shown m 1 r.artifacts)) (Err NotFound)) (sym this ∙ asked ∙ ap (list_any (λ n. nat_eq n m)) offers)
-          ∙ ap (λ c. cond c (cond (list_any (λ n. nat_eq n m) (modules_offered r (offer r device.id))) (named filename (artifacts_shown m 1 r.artifacts)) (Err NotFound)) (Err Unauthorized)) is
+          ∙ ap (λ c. cond c (cond (list_any (λ n. nat_eq n m) (modules_offered r (offer r device.id))) (named filename (artifacts_shown m 1 r.artifacts))
+          (Err NotFound)) (Err Unauthorized)) is
 
       pub is_named : among ≡ true → named filename (artifacts_shown m 1 r.artifacts) ≡ downloadable r device m filename
       is_named = by_module true
@@ -151,18 +179,25 @@ module _ (m : ℕ) (filename : Bytes) where
       pub not_among : among ≡ false → Err NotFound ≡ downloadable r device m filename
       not_among = by_module false
 
-    by_name : (x : Option Artifact) (y : Option ArtifactRecord) → IsShown r.artifacts x y → IsAnswered r (or_not_found x) (if_found (λ (a : ArtifactRecord). ContentsShown a.contents) y)
+    by_name : (x : Option Artifact) (y : Option ArtifactRecord) → IsShown r.artifacts x y
+        → IsAnswered r (or_not_found x) (if_found (λ (a : ArtifactRecord). ContentsShown a.contents) y)
     by_name None y is = ap (if_found (λ (a : ArtifactRecord). ContentsShown a.contents)) is
     by_name (Some s) y is = (is.0, ap (if_found (λ (a : ArtifactRecord). ContentsShown a.contents)) is.1, is.2, is.3)
 
-    pub answered_by : (found : Result Artifact Refusal) → found ≡ downloadable r device m filename → IsAnswered r found (query_reply r (Download device m filename))
-    answered_by found is = subst (λ (x : Result Artifact Refusal). IsAnswered r x (query_reply r (Download device m filename))) (sym is) (go (is_known r device) (list_any (λ n. nat_eq n m) (modules_offered r (offer r device.id)))) where
-      go : (known among : Bool) → IsAnswered r (cond known (cond among (named filename (artifacts_shown m 1 r.artifacts)) (Err NotFound)) (Err Unauthorized))
-          (cond known (cond among (if_found (λ (a : ArtifactRecord). ContentsShown a.contents) (artifact_named m filename r.artifacts)) (Refused NotFound)) (Refused Unauthorized))
-      go true true = by_name (find has_name (artifacts_shown m 1 r.artifacts)) (artifact_named m filename r.artifacts) (first_shown r.artifacts 1 r.artifacts (λ k. ap (item_numbered r.artifacts) {y = suc k} (omega arith)))
-      go true false = refl
-      go false among = refl
+    pub answered_by : (found : Result Artifact Refusal) → found ≡ downloadable r device m filename
+        → IsAnswered r found (query_reply r (Download device m filename))
+    answered_by found is = subst (λ (x : Result Artifact Refusal). IsAnswered r x (query_reply r (Download device m filename))) (sym is)
+        (go (is_known r device) (list_any (λ n. nat_eq n m) (modules_offered r (offer r device.id)))) where
+          go : (known among : Bool)
+              → IsAnswered r (cond known (cond among (named filename (artifacts_shown m 1 r.artifacts)) (Err NotFound)) (Err Unauthorized))
+              (cond known (cond among (if_found (λ (a : ArtifactRecord). ContentsShown a.contents) (artifact_named m filename r.artifacts)) (Refused NotFound))
+              (Refused Unauthorized))
+          go true true = by_name (find has_name (artifacts_shown m 1 r.artifacts)) (artifact_named m filename r.artifacts)
+              (first_shown r.artifacts 1 r.artifacts (λ k. ap (item_numbered r.artifacts) {y = suc k} (omega arith)))
+          go true false = refl
+          go false among = refl
 
     -- with the contents of the artifact that was found
-    pub downloaded : (s : Artifact) (contents : Bytes) → Ok s ≡ downloadable r device m filename → contents ≡ contents_found (item_numbered r.artifacts s.number) → ContentsShown contents ≡ query_reply r (Download device m filename)
+    pub downloaded : (s : Artifact) (contents : Bytes) → Ok s ≡ downloadable r device m filename → contents
+        ≡ contents_found (item_numbered r.artifacts s.number) → ContentsShown contents ≡ query_reply r (Download device m filename)
     downloaded s contents is read = let it = answered_by (Ok s) is in ap ContentsShown (read ∙ ap contents_found it.2) ∙ sym it.1

@@ -1,5 +1,9 @@
 -- Why the actions of a list and their histories can be counted.
-use Rattle.desk_views.proofs.Common.{◌≡◌, ◌≤◌, ◌^◌, ◌+◌, ℕ, pos, zero, suc, Bool, true, false, cond, nat_lt, List, [], ◌∷◌, ◌++◌, length, map, take, drop, slice_get, Option, Some, None, inl, inr, refl, sym, ap, subst, arith, zip, is_some, length-drop, length-map, length-take, nat_tests, Has, HistoryEntry, Reported, limits_hold, Tally, action_row, history_of, tally_of, has_size, ledger_of, broken_action_column, listed_where, stored_action, ListedAction, has_word, IsReadable, item_numbered, Records, ActionRecord, RolloutRecord, AreOfList}
+use Rattle.desk_views.proofs.Common.{◌≡◌, ◌≤◌, ◌^◌, ◌+◌, ℕ, pos, zero, suc, Bool, true, false, cond, nat_lt, List, [], ◌∷◌, ◌++◌, length, map, take, drop}
+use Rattle.desk_views.proofs.Common.{slice_get, Option, Some, None, inl, inr, refl, sym, ap, subst, arith, zip, is_some, length-drop, length-map, length-take}
+use Rattle.desk_views.proofs.Common.{nat_tests, Has, HistoryEntry, Reported, limits_hold, Tally, action_row, history_of, tally_of, has_size, ledger_of}
+use Rattle.desk_views.proofs.Common.{broken_action_column, listed_where, stored_action, ListedAction, has_word, IsReadable, item_numbered, Records}
+use Rattle.desk_views.proofs.Common.{ActionRecord, RolloutRecord, AreOfList}
 use Rattle.sqlite_value.specs.declared.value.Value.TheVariants.{Int}
 use Rattle.sqlite_value.specs.Order.{Row, column}
 use Rattle.sql_calls.specs.Keyed.{rows_from}
@@ -8,13 +12,16 @@ use Rattle.desk_records.specs.RowFaults.{BreaksRule}
 use Rattle.desk_records.specs.Schema.{Actions}
 use Rattle.desk_records.specs.TableRows.{action_shown}
 use Rattle.desk_records.specs.declared.module_row.Column.{Column}
-use Rattle.desk_records.specs.declared.module_row.Column.TheVariants.{ActionCanceling, ActionEntries, ActionNotes, ActionOutcome, ActionPlace, ActionRollout, TargetId}
+use Rattle.desk_records.specs.declared.module_row.Column.TheVariants.{ActionCanceling, ActionEntries, ActionNotes, ActionOutcome, ActionPlace, ActionRollout}
+use Rattle.desk_records.specs.declared.module_row.Column.TheVariants.{TargetId}
 
 -- ---- actions
 
-few_listed : (test : ActionRecord × Tally → Bool) (rollouts : List RolloutRecord) (n : ℕ) (its : List (ActionRecord × Tally)) → length (listed_where test rollouts n its) ≤ length its
+few_listed : (test : ActionRecord × Tally → Bool) (rollouts : List RolloutRecord) (n : ℕ) (its : List (ActionRecord × Tally))
+    → length (listed_where test rollouts n its) ≤ length its
 few_listed test rollouts n [] = omega arith
-few_listed test rollouts n (it ∷ more) = go (record { number = n; action = stored_action rollouts it }) (listed_where test rollouts (n + 1) more) (test it) (few_listed test rollouts (n + 1) more)
+few_listed test rollouts n (it ∷ more) = go (record { number = n; action = stored_action rollouts it }) (listed_where test rollouts (n + 1) more) (test it)
+    (few_listed test rollouts (n + 1) more)
   where
     go : (one : ListedAction) (rest : List ListedAction) (b : Bool) → length rest ≤ length more → length (cond b (one ∷ rest) rest) ≤ suc (length more)
     go one rest true few = omega (arith, few)
@@ -29,7 +36,8 @@ few_actions : (r : Records) → AreOfList r → length r.actions ≤ 10000000
 few_actions r of = subst (λ (q : Records). length q.actions ≤ 10000000) (sym of.are) ((limits_hold of.list of.valid).actions)
 
 -- fewer than a statement lists
-pub listed_few : (r : Records) → AreOfList r → (test : ActionRecord × Tally → Bool) (limit offset : ℕ) (found : List ListedAction) → found ≡ take limit (drop offset (listed_where test r.rollouts 1 (zip r.actions (map tally_of r.actions)))) → 4294967295 ≤ length found → ⊥
+pub listed_few : (r : Records) → AreOfList r → (test : ActionRecord × Tally → Bool) (limit offset : ℕ) (found : List ListedAction)
+    → found ≡ take limit (drop offset (listed_where test r.rollouts 1 (zip r.actions (map tally_of r.actions)))) → 4294967295 ≤ length found → ⊥
 listed_few r of test limit offset found is many =
     let its = zip r.actions (map tally_of r.actions) in
     let all = listed_where test r.rollouts 1 its in
@@ -56,7 +64,9 @@ breaks_last ((true, d) ∷ more) c kept broken = breaks_last more c kept broken
 breaks_last ((false, d) ∷ more) c kept broken = record { first = d; is = refl }
 
 unread_entries : (row : Row) → has_size (column row 6) ≡ false → BreaksRule (broken_action_column row)
-unread_entries row unread = breaks_last ((is_some (number_in (column row 0)), ActionRollout) ∷ (has_size (column row 1), ActionPlace) ∷ (has_word (column row 2), TargetId) ∷ (is_some (flag_in (column row 3)), ActionCanceling)
+unread_entries row unread =
+    breaks_last ((is_some (number_in (column row 0)), ActionRollout) ∷ (has_size (column row 1), ActionPlace) ∷ (has_word (column row 2), TargetId)
+    ∷ (is_some (flag_in (column row 3)), ActionCanceling)
     ∷ (is_some (outcome_in (column row 4)), ActionOutcome) ∷ (has_size (column row 5), ActionNotes) ∷ []) ActionEntries (has_size (column row 6)) unread
 
 no_size : (n : ℕ) → 2 ^ 32 ≤ n → has_size (Int (pos n)) ≡ false
@@ -80,7 +90,8 @@ history_few r readable (suc i) large = go (slice_get r.actions i) refl large
         (inr (inl (unread_entries (action_shown (action_row r.rollouts row.0 (a, tally_of a))) unread)))
 
 -- so the places of a page of it are counted
-pub places_few : (r : Records) → IsReadable (ledger_of r) → (k limit offset : ℕ) (entries : List HistoryEntry) → entries ≡ take limit (drop offset (history_of (item_numbered r.actions k))) → 1 ≤ length entries → 2 ^ 32 ≤ offset + length entries → ⊥
+pub places_few : (r : Records) → IsReadable (ledger_of r) → (k limit offset : ℕ) (entries : List HistoryEntry) → entries
+    ≡ take limit (drop offset (history_of (item_numbered r.actions k))) → 1 ≤ length entries → 2 ^ 32 ≤ offset + length entries → ⊥
 places_few r readable k limit offset entries is some many =
     let all = history_of (item_numbered r.actions k) in
     history_few r readable k (omega (arith, some, many, ap length is, length-take limit (drop offset all), length-drop offset all))

@@ -1,5 +1,9 @@
 -- Why the groups of a rollout of a list can be shown.
-use Rattle.desk_views.proofs.Common.{◌≡◌, ◌≤◌, ◌<◌, ◌^◌, ◌⊎◌, ◌+◌, ℕ, zero, suc, nat_eq, Bool, true, false, cond, List, [], ◌∷◌, length, take, drop, Option, Some, None, inl, inr, refl, sym, ap, subst, ◌∙◌, arith, Has, group_in, Records, Rollout, size_in, size_of, limits_hold, ledger_of, groups_of, rule_numbered, rules_numbered, rule_there, rules_there, BothOrNone, item_numbered, GroupRule, rules_of, group_numbered, size_of_group, GroupRecord, RolloutRecord, parts_of, groups_are, made, AreOfList, IsSeenOf, SeenRollout, HasUnshown, IsGroupOf, has_dropped, has_taken}
+use Rattle.desk_views.proofs.Common.{◌≡◌, ◌≤◌, ◌<◌, ◌^◌, ◌⊎◌, ◌+◌, ℕ, zero, suc, nat_eq, Bool, true, false, cond, List, [], ◌∷◌, length, take, drop, Option}
+use Rattle.desk_views.proofs.Common.{Some, None, inl, inr, refl, sym, ap, subst, ◌∙◌, arith, Has, group_in, Records, Rollout, size_in, size_of, limits_hold}
+use Rattle.desk_views.proofs.Common.{ledger_of, groups_of, rule_numbered, rules_numbered, rule_there, rules_there, BothOrNone, item_numbered, GroupRule}
+use Rattle.desk_views.proofs.Common.{rules_of, group_numbered, size_of_group, GroupRecord, RolloutRecord, parts_of, groups_are, made, AreOfList, IsSeenOf}
+use Rattle.desk_views.proofs.Common.{SeenRollout, HasUnshown, IsGroupOf, has_dropped, has_taken}
 use Rattle.rollout_machine.specs.Effects.{HasSoundPlan}
 use Rattle.rollout_machine.specs.Ranges.{each_from}
 use Rattle.rollout_machine.specs.WithinLimits.{IsWithinLimits}
@@ -33,36 +37,45 @@ module _ (r : Records) (of : AreOfList r) (number : ℕ) (x : RolloutRecord) (th
   few_groups =
       let it = made r of number x there in
       let plan : x.plan.groups.count ≡ it.made.plan.groups.count = ap (λ (q : RolloutRecord). q.plan.groups.count) it.is in
-      let all : length x.groups ≡ it.made.plan.groups.count = ap (λ (q : RolloutRecord). length q.groups) it.is ∙ length_each (group_in it.made number of.list) 1 it.made.plan.groups.count in
+      let all : length x.groups ≡ it.made.plan.groups.count = ap (λ (q : RolloutRecord). length q.groups) it.is
+      ∙ length_each (group_in it.made number of.list) 1 it.made.plan.groups.count in
       omega (arith, limits.groups, plan, all)
 
   -- something is said of each, and it has no more members than are counted
   pub each_showable : (group : GroupRecord) → Has x.groups group → (item_numbered (rules_of x.plan) group.number ≡ None) ⊎ (2 ^ 32 ≤ size_of_group group) → ⊥
   each_showable group among why =
       let it = made r of number x there in
-      let found = has_each (group_in it.made number of.list) 1 it.made.plan.groups.count group (subst (λ (q : RolloutRecord). Has q.groups group) it.is among) in
+      let found = has_each (group_in it.made number of.list) 1 it.made.plan.groups.count group
+      (subst (λ (q : RolloutRecord). Has q.groups group) it.is among) in
       let at : group.number ≡ found.0 = ap (λ (q : GroupRecord). q.number) found.3 in
       let plan : x.plan.groups.count ≡ it.made.plan.groups.count = ap (λ (q : RolloutRecord). q.plan.groups.count) it.is in
       let size : size_of_group group ≡ size_in it.made found.0 = ap size_of_group found.3 in
       let members : length x.members ≡ size_of it.made = ap (λ (q : RolloutRecord). length q.members) it.is in
       let few = size_few it.made found.0 it.sound found.1 (omega (arith, found.2)) in
-      go (rule_there x.plan group.number (omega (arith, at, found.1)) (omega (arith, at, plan, found.2))) (omega (arith, size, members, few, limits.members)) why
+      go (rule_there x.plan group.number (omega (arith, at, found.1)) (omega (arith, at, plan, found.2))) (omega (arith, size, members, few, limits.members))
+      why
     where
-      go : {rule : GroupRule} → item_numbered (rules_of x.plan) group.number ≡ Some rule → size_of_group group ≤ 10000 → (item_numbered (rules_of x.plan) group.number ≡ None) ⊎ (2 ^ 32 ≤ size_of_group group) → ⊥
+      go : {rule : GroupRule} → item_numbered (rules_of x.plan) group.number ≡ Some rule → size_of_group group ≤ 10000
+          → (item_numbered (rules_of x.plan) group.number ≡ None) ⊎ (2 ^ 32 ≤ size_of_group group) → ⊥
       go said small (inl none) = cc
       go said small (inr large) = omega (arith, small, large)
 
-  all_showable : (rules : List GroupRule) (groups : List GroupRecord) → rules ≡ rules_numbered (ledger_of r).rules number → ((group : GroupRecord) → Has groups group → Has x.groups group) → HasUnshown rules groups → ⊥
+  all_showable : (rules : List GroupRule) (groups : List GroupRecord) → rules ≡ rules_numbered (ledger_of r).rules number
+      → ((group : GroupRecord) → Has groups group → Has x.groups group) → HasUnshown rules groups → ⊥
   all_showable rules groups are within bad =
-      each_showable bad.group (within bad.group bad.among) (subst (λ rules. (item_numbered rules bad.group.number ≡ None) ⊎ (2 ^ 32 ≤ size_of_group bad.group)) (are ∙ rules_there r number x there) bad.unshown)
+      each_showable bad.group (within bad.group bad.among)
+      (subst (λ rules. (item_numbered rules bad.group.number ≡ None) ⊎ (2 ^ 32 ≤ size_of_group bad.group)) (are ∙ rules_there r number x there) bad.unshown)
 
-  part_showable : (rules : List GroupRule) (groups : List GroupRecord) (limit offset : ℕ) → groups ≡ x.groups → rules ≡ rules_numbered (ledger_of r).rules number → (2 ^ 32 ≤ length groups) ⊎ HasUnshown rules (take limit (drop offset groups)) → ⊥
+  part_showable : (rules : List GroupRule) (groups : List GroupRecord) (limit offset : ℕ) → groups ≡ x.groups
+      → rules ≡ rules_numbered (ledger_of r).rules number → (2 ^ 32 ≤ length groups) ⊎ HasUnshown rules (take limit (drop offset groups)) → ⊥
   part_showable rules groups limit offset its are (inl many) = omega (arith, many, few_groups, ap length its)
-  part_showable rules groups limit offset its are (inr bad) = all_showable rules (take limit (drop offset groups)) are (λ group among. subst (λ gs. Has gs group) its (has_dropped offset groups group (has_taken limit (drop offset groups) group among))) bad
+  part_showable rules groups limit offset its are (inr bad) = all_showable rules (take limit (drop offset groups)) are
+      (λ group among. subst (λ gs. Has gs group) its (has_dropped offset groups group (has_taken limit (drop offset groups) group among))) bad
 
 -- ---- of a rollout that was seen
 
-module _ (r : Records) (of : AreOfList r) (number : ℕ) (seen : SeenRollout) (rules : List GroupRule) (are : rules ≡ rules_numbered (ledger_of r).rules number) (it : BothOrNone IsSeenOf (Some seen) (item_numbered r.rollouts number)) where
+module _ (r : Records) (of : AreOfList r) (number : ℕ) (seen : SeenRollout) (rules : List GroupRule) (are : rules ≡ rules_numbered (ledger_of r).rules number)
+    (it : BothOrNone IsSeenOf (Some seen) (item_numbered r.rollouts number)) where
   seen_there : (Bad : Type 0) → ((x : RolloutRecord) → item_numbered r.rollouts number ≡ Some x → seen.groups.items ≡ x.groups → Bad → ⊥) → Bad → ⊥
   seen_there Bad never bad = go (item_numbered r.rollouts number) refl it
     where
@@ -72,7 +85,8 @@ module _ (r : Records) (of : AreOfList r) (number : ℕ) (seen : SeenRollout) (r
 
   -- its groups, all of them and those of a page
   pub groups_showable : HasUnshown rules seen.groups.items → ⊥
-  groups_showable = seen_there _ (λ x there its. all_showable r of number x there rules seen.groups.items are (λ group among. subst (λ gs. Has gs group) its among))
+  groups_showable = seen_there _
+      (λ x there its. all_showable r of number x there rules seen.groups.items are (λ group among. subst (λ gs. Has gs group) its among))
 
   pub page_showable : (limit offset : ℕ) → (2 ^ 32 ≤ length seen.groups.items) ⊎ HasUnshown rules (take limit (drop offset seen.groups.items)) → ⊥
   page_showable limit offset = seen_there _ (λ x there its. part_showable r of number x there rules seen.groups.items limit offset its are)
@@ -80,17 +94,20 @@ module _ (r : Records) (of : AreOfList r) (number : ℕ) (seen : SeenRollout) (r
 -- ---- one group
 
 -- a group that was read is one of the rollout
-pub group_there : (r : Records) → AreOfList r → (number i : ℕ) (group : GroupRecord) → Some group ≡ group_numbered i (groups_of (item_numbered r.rollouts number)) → IsGroupOf number group r
+pub group_there : (r : Records) → AreOfList r → (number i : ℕ) (group : GroupRecord) → Some group
+    ≡ group_numbered i (groups_of (item_numbered r.rollouts number)) → IsGroupOf number group r
 group_there r of number i group is = go (item_numbered r.rollouts number) refl (is ∙ ap (group_numbered i) (groups_are r of number))
   where
-    go : (o : Option RolloutRecord) → item_numbered r.rollouts number ≡ o → Some group ≡ group_numbered i (parts_of (λ (x : RolloutRecord). x.groups) o) → IsGroupOf number group r
+    go : (o : Option RolloutRecord) → item_numbered r.rollouts number ≡ o → Some group ≡ group_numbered i (parts_of (λ (x : RolloutRecord). x.groups) o)
+        → IsGroupOf number group r
     go None there is = absurd cc
     go (Some x) there is = record { rollout = x; there = there; among = numbered_has i x.groups group is }
 
 module _ (r : Records) (of : AreOfList r) (number : ℕ) (group : GroupRecord) (it : IsGroupOf number group r) where
   -- .. of which something is said
   pub group_ruled : None ≡ rule_numbered (ledger_of r).rules number group.number → ⊥
-  group_ruled none = each_showable r of number it.rollout it.there group it.among (inl (ap (λ rules. item_numbered rules group.number) (sym (rules_there r number it.rollout it.there)) ∙ sym none))
+  group_ruled none = each_showable r of number it.rollout it.there group it.among
+      (inl (ap (λ rules. item_numbered rules group.number) (sym (rules_there r number it.rollout it.there)) ∙ sym none))
 
   pub group_small : 2 ^ 32 ≤ size_of_group group → ⊥
   group_small large = each_showable r of number it.rollout it.there group it.among (inr large)

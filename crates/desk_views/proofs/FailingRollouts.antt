@@ -1,5 +1,6 @@
 -- Why the rollouts of a list can be shown by their numbers.
-use Rattle.desk_views.proofs.Common.{◌≡◌, ◌≤◌, ℕ, length, Option, Some, None, refl, sym, subst, arith, number_of, limits_hold, BothOrNone, item_numbered, Records, RolloutRecord, AreOfList, IsSeenOf}
+use Rattle.desk_views.proofs.Common.{◌≡◌, ◌≤◌, ℕ, length, Option, Some, None, refl, sym, subst, arith, number_of, limits_hold, BothOrNone, item_numbered}
+use Rattle.desk_views.proofs.Common.{Records, RolloutRecord, AreOfList, IsSeenOf}
 use Rattle.desk_views.proofs.FailingViews.{entry_there, numbered_so}
 
 few_rollouts : (r : Records) → AreOfList r → length r.rollouts ≤ 1000

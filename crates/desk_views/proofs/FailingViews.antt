@@ -1,5 +1,7 @@
 -- Why a view of a list of accepted commands is no failed store by itself.
-use Rattle.desk_views.proofs.Common.{◌≡◌, ◌≤◌, ◌<◌, ℕ, zero, suc, true, List, [], ◌∷◌, length, slice_get, Some, None, Result, Ok, Err, IfErr, refl, sym, ap, subst, arith, Broken, Memory, Store, number_limit, is_number, number_of, records, Records, HoldsLedger, Ledger, ledger_of, seen_in, FindsIn, IsReadable, IfStore, IsOfList, AreOfList, item_numbered, Fault, IsOfListWith}
+use Rattle.desk_views.proofs.Common.{◌≡◌, ◌≤◌, ◌<◌, ℕ, zero, suc, true, List, [], ◌∷◌, length, slice_get, Some, None, Result, Ok, Err, IfErr, refl, sym, ap}
+use Rattle.desk_views.proofs.Common.{subst, arith, Broken, Memory, Store, number_limit, is_number, number_of, records, Records, HoldsLedger, Ledger, ledger_of}
+use Rattle.desk_views.proofs.Common.{seen_in, FindsIn, IsReadable, IfStore, IsOfList, AreOfList, item_numbered, Fault, IsOfListWith}
 use Rattle.sqlite.specs.Store.{Ghosts}
 use Rattle.sql_calls.specs.Standing.{Sees, Wears}
 use Rattle.desk_records.proofs.NumberColumns.{is_in_range}
@@ -19,9 +21,11 @@ told Broken why = why.1
 
 -- ---- where the ledger is as given, which is that of a list
 
-module _ {S A : Type 0} {g : Ghosts S} {Given : Ledger → Type 0} (at : (l : Ledger) → Given l → IsOfList l) {old : OpenChange S} {x : A} {P : Records → A → Type 0} where
+module _ {S A : Type 0} {g : Ghosts S} {Given : Ledger → Type 0} (at : (l : Ledger) → Given l → IsOfList l) {old : OpenChange S} {x : A} {P : Records → A
+    → Type 0} where
   -- what was read leaves no such fault
-  pub never_given : {B : Type 0} {Why : Type 0} {new : OpenChange S} → FindsIn g {E = Fault} old new (Ok x) P → (fault : Fault) → IfStore fault Why → ((r : Records) → P r x → AreOfList r → Given (ledger_of r) → IsReadable (ledger_of r) → Why → ⊥)
+  pub never_given : {B : Type 0} {Why : Type 0} {new : OpenChange S} → FindsIn g {E = Fault} old new (Ok x) P → (fault : Fault) → IfStore fault Why
+      → ((r : Records) → P r x → AreOfList r → Given (ledger_of r) → IsReadable (ledger_of r) → Why → ⊥)
       → (out : Result B Fault) → out ≡ Err fault → FailsGiven g Given old new out
   never_given {B} {Why} {new} read fault why reason out is = subst (λ (o : Result B Fault). FailsGiven g Given old new o) (sym is) (go fault why)
     where
@@ -33,50 +37,65 @@ module _ {S A : Type 0} {g : Ghosts S} {Given : Ledger → Type 0} (at : (l : Le
           reason = λ is clean.
               let it = at l all.given in
               let seen = read.finds (records it.list) (subst (λ l. Sees HoldsLedger (seen_in g old) l) it.is sees) in
-              absurd (reason (records it.list) (seen.1 clean) (record { list = it.list; valid = it.valid; are = refl }) (subst Given it.is all.given) (subst IsReadable it.is all.readable) why);
+              absurd (reason (records it.list) (seen.1 clean) (record { list = it.list; valid = it.valid; are = refl }) (subst Given it.is all.given)
+              (subst IsReadable it.is all.readable) why);
         };
       }
 
   -- what is given to a call is known by what was read before it
-  pub when_given : {B C : Type 0} {G : Ledger → Type 0} {mid new : OpenChange S} → FindsIn g {E = Fault} old mid (Ok x) P → old.store.now.calls.failures ≤ mid.store.now.calls.failures → Wears (seen_in g mid) (seen_in g new)
-      → (fault : Fault) → FailsGiven g G {A = C} mid new (Err fault) → ((r : Records) → P r x → AreOfList r → Given (ledger_of r) → G (ledger_of r)) → (out : Result B Fault) → out ≡ Err fault → FailsGiven g Given old new out
-  when_given {B} {G = G} {mid = mid} {new = new} read grows wears fault fails means out is = subst (λ (o : Result B Fault). FailsGiven g Given old new o) (sym is)
+  pub when_given : {B C : Type 0} {G : Ledger → Type 0} {mid new : OpenChange S} → FindsIn g {E = Fault} old mid (Ok x) P
+      → old.store.now.calls.failures ≤ mid.store.now.calls.failures → Wears (seen_in g mid) (seen_in g new)
+      → (fault : Fault) → FailsGiven g G {A = C} mid new (Err fault) → ((r : Records) → P r x → AreOfList r → Given (ledger_of r) → G (ledger_of r))
+      → (out : Result B Fault) → out ≡ Err fault → FailsGiven g Given old new out
+  when_given {B} {G = G} {mid = mid} {new = new} read grows wears fault fails means out is = subst (λ (o : Result B Fault). FailsGiven g Given old new o)
+      (sym is)
       (record {
         to = λ l sees all. record {
           reason = λ broken clean.
               let it = at l all.given in
               let seen = read.finds (records it.list) (subst (λ l. Sees HoldsLedger (seen_in g old) l) it.is sees) in
-              let known = means (records it.list) (seen.1 (omega (arith, clean, wears))) (record { list = it.list; valid = it.valid; are = refl }) (subst Given it.is all.given) in
-              (fails.to l (subst (λ l. Sees HoldsLedger (seen_in g mid) l) (sym it.is) seen.0) (record { readable = all.readable; given = subst G (sym it.is) known })).reason broken clean;
+              let known = means (records it.list) (seen.1 (omega (arith, clean, wears))) (record { list = it.list; valid = it.valid; are = refl })
+              (subst Given it.is all.given) in
+              (fails.to l (subst (λ l. Sees HoldsLedger (seen_in g mid) l) (sym it.is) seen.0)
+              (record { readable = all.readable; given = subst G (sym it.is) known })).reason broken clean;
         };
       })
 
 -- ---- at lists
 
 module _ {S A : Type 0} {g : Ghosts S} {old : OpenChange S} {x : A} {P : Records → A → Type 0} where
-  pub never_fails : {B : Type 0} {Why : Type 0} {new : OpenChange S} → FindsIn g {E = Fault} old new (Ok x) P → (fault : Fault) → IfStore fault Why → ((r : Records) → P r x → AreOfList r → IsReadable (ledger_of r) → Why → ⊥)
+  pub never_fails : {B : Type 0} {Why : Type 0} {new : OpenChange S} → FindsIn g {E = Fault} old new (Ok x) P → (fault : Fault) → IfStore fault Why
+      → ((r : Records) → P r x → AreOfList r → IsReadable (ledger_of r) → Why → ⊥)
       → (out : Result B Fault) → out ≡ Err fault → FailsGiven g IsOfList old new out
   never_fails read fault why reason = never_given (λ l of. of) read fault why (λ r is of given readable. reason r is of readable)
 
-  pub fails_when : {B C : Type 0} {G : Ledger → Type 0} {mid new : OpenChange S} → FindsIn g {E = Fault} old mid (Ok x) P → old.store.now.calls.failures ≤ mid.store.now.calls.failures → Wears (seen_in g mid) (seen_in g new)
-      → (fault : Fault) → FailsGiven g G {A = C} mid new (Err fault) → ((r : Records) → P r x → AreOfList r → G (ledger_of r)) → (out : Result B Fault) → out ≡ Err fault → FailsGiven g IsOfList old new out
+  pub fails_when : {B C : Type 0} {G : Ledger → Type 0} {mid new : OpenChange S} → FindsIn g {E = Fault} old mid (Ok x) P
+      → old.store.now.calls.failures ≤ mid.store.now.calls.failures → Wears (seen_in g mid) (seen_in g new)
+      → (fault : Fault) → FailsGiven g G {A = C} mid new (Err fault) → ((r : Records) → P r x → AreOfList r → G (ledger_of r)) → (out : Result B Fault)
+      → out ≡ Err fault → FailsGiven g IsOfList old new out
   fails_when read grows wears fault fails means = when_given (λ l of. of) read grows wears fault fails (λ r is of given. means r is of)
 
 -- ---- .. whose records are as wanted
 
 module _ {S A : Type 0} {g : Ghosts S} {Want : Records → Type 0} {old : OpenChange S} {x : A} {P : Records → A → Type 0} where
-  pub never_with : {B : Type 0} {Why : Type 0} {new : OpenChange S} → FindsIn g {E = Fault} old new (Ok x) P → (fault : Fault) → IfStore fault Why → ((r : Records) → P r x → AreOfList r → Want r → IsReadable (ledger_of r) → Why → ⊥)
+  pub never_with : {B : Type 0} {Why : Type 0} {new : OpenChange S} → FindsIn g {E = Fault} old new (Ok x) P → (fault : Fault) → IfStore fault Why
+      → ((r : Records) → P r x → AreOfList r → Want r → IsReadable (ledger_of r) → Why → ⊥)
       → (out : Result B Fault) → out ≡ Err fault → FailsGiven g (IsOfListWith Want) old new out
   never_with read fault why reason = never_given (λ l given. given.of_list) read fault why (λ r is of given readable. reason r is of given.wanted readable)
 
-  pub with_when : {B C : Type 0} {G : Ledger → Type 0} {mid new : OpenChange S} → FindsIn g {E = Fault} old mid (Ok x) P → old.store.now.calls.failures ≤ mid.store.now.calls.failures → Wears (seen_in g mid) (seen_in g new)
-      → (fault : Fault) → FailsGiven g G {A = C} mid new (Err fault) → ((r : Records) → P r x → AreOfList r → Want r → G (ledger_of r)) → (out : Result B Fault) → out ≡ Err fault → FailsGiven g (IsOfListWith Want) old new out
-  with_when read grows wears fault fails means = when_given (λ l given. given.of_list) read grows wears fault fails (λ r is of given. means r is of given.wanted)
+  pub with_when : {B C : Type 0} {G : Ledger → Type 0} {mid new : OpenChange S} → FindsIn g {E = Fault} old mid (Ok x) P
+      → old.store.now.calls.failures ≤ mid.store.now.calls.failures → Wears (seen_in g mid) (seen_in g new)
+      → (fault : Fault) → FailsGiven g G {A = C} mid new (Err fault) → ((r : Records) → P r x → AreOfList r → Want r → G (ledger_of r)) → (out : Result B Fault)
+      → out ≡ Err fault → FailsGiven g (IsOfListWith Want) old new out
+  with_when read grows wears fault fails means = when_given (λ l given. given.of_list) read grows wears fault fails
+      (λ r is of given. means r is of given.wanted)
 
 -- ---- where the answer is a call's
 
 -- of values alone: at Ok what was seen is seen
-pub never_answers : {S B C : Type 0} {g : Ghosts S} {Given G : Ledger → Type 0} {old new : OpenChange S} {y : C} {Why : Fault → Type 0} → BreaksOnly g HoldsLedger G nothing old new (Ok y) → (out : Result B Fault) → IfErr out Why → ((fault : Fault) → Why fault → out ≡ Err fault → FailsGiven g Given old new out)
+pub never_answers : {S B C : Type 0} {g : Ghosts S} {Given G : Ledger → Type 0} {old new : OpenChange S} {y : C} {Why : Fault → Type 0}
+    → BreaksOnly g HoldsLedger G nothing old new (Ok y) → (out : Result B Fault) → IfErr out Why
+    → ((fault : Fault) → Why fault → out ≡ Err fault → FailsGiven g Given old new out)
     → FailsGiven g Given old new out
 never_answers kept (Ok z) why failed = record { to = kept.to }
 never_answers kept (Err fault) why failed = failed fault why refl

@@ -1,5 +1,8 @@
 -- From entries of histories that were read to what is shown of them.
-use Rattle.desk_views.proofs.Common.{◌≡◌, ◌<◌, ℕ, zero, suc, ◌+◌, nat_eq, Bool, true, false, cond, List, [], ◌∷◌, ◌++◌, length, slice_get, take, drop, Option, Some, None, refl, sym, ap, ◌∙◌, arith, option_map, nat_tests, action_if, if_found, item_numbered, Bytes, entry_shown, numbered, page_of, Records, HistoryShown, ShownEntry, Page, is_for, ActionRecord, history_of, parts_of, StoredAction, entry_by, number_at, reports_of, stored_in, HistoryEntry, Reported, entries_in, ledger_of, nil_from_length}
+use Rattle.desk_views.proofs.Common.{◌≡◌, ◌<◌, ℕ, zero, suc, ◌+◌, nat_eq, Bool, true, false, cond, List, [], ◌∷◌, ◌++◌, length, slice_get, take, drop, Option}
+use Rattle.desk_views.proofs.Common.{Some, None, refl, sym, ap, ◌∙◌, arith, option_map, nat_tests, action_if, if_found, item_numbered, Bytes, entry_shown}
+use Rattle.desk_views.proofs.Common.{numbered, page_of, Records, HistoryShown, ShownEntry, Page, is_for, ActionRecord, history_of, parts_of, StoredAction}
+use Rattle.desk_views.proofs.Common.{entry_by, number_at, reports_of, stored_in, HistoryEntry, Reported, entries_in, ledger_of, nil_from_length}
 use Rattle.desk_records.specs.FeedbackNumbers.{borne_at, numbers_from, numbers_numbered, numbers_of}
 use Rattle.desk_records.specs.declared.number_row.PlacedNumber.{PlacedNumber}
 use Rattle.rollout_machine.proofs.Actions.{numbered_map}
@@ -16,14 +19,16 @@ numbered_dropped f k (suc n) m [] at = refl
 numbered_dropped f k (suc n) m (x ∷ xs) at = numbered_dropped f (suc k) n m xs (omega (arith, at))
 
 -- one more entry
-pub numbered_more : {X Y : Type 0} (f : ℕ → X → Y) (k number : ℕ) (xs : List X) (x : X) → number ≡ k + length xs → numbered f k (xs ++ x ∷ []) ≡ numbered f k xs ++ f number x ∷ []
+pub numbered_more : {X Y : Type 0} (f : ℕ → X → Y) (k number : ℕ) (xs : List X) (x : X) → number ≡ k + length xs → numbered f k (xs ++ x ∷ [])
+    ≡ numbered f k xs ++ f number x ∷ []
 numbered_more f k number [] x at = ap (λ j. f j x ∷ []) (omega (arith, at))
 numbered_more f k number (y ∷ ys) x at = ap (λ l. f k y ∷ l) (numbered_more f (suc k) number ys x (omega (arith, at)))
 
 -- ---- the numbers of entries
 
 -- one further on bears no number of a place before it
-passed : (place sequence : ℕ) (n : Option ℕ) (rest : List PlacedNumber) → place < sequence → number_at place (borne_at sequence n ++ rest) ≡ number_at place rest
+passed : (place sequence : ℕ) (n : Option ℕ) (rest : List PlacedNumber) → place < sequence → number_at place (borne_at sequence n ++ rest)
+    ≡ number_at place rest
 passed place sequence None rest less = refl
 passed place sequence (Some n) rest less = let other : nat_eq sequence place ≡ false = grind (arith, nat_tests, less) in rw other refl
 
@@ -36,7 +41,8 @@ own_number place None rest none = none
 own_number place (Some n) rest none = let own : nat_eq place place ≡ true = grind (arith, nat_tests) in rw own refl
 
 -- the entry at a place bears the number that is found there
-number_there : (sequence index place : ℕ) (history : List Reported) (r : Reported) → slice_get history index ≡ Some r → place ≡ sequence + index → number_at place (numbers_from sequence history) ≡ r.number
+number_there : (sequence index place : ℕ) (history : List Reported) (r : Reported) → slice_get history index ≡ Some r → place ≡ sequence + index
+    → number_at place (numbers_from sequence history) ≡ r.number
 number_there sequence index place [] r got at = absurd cc
 number_there sequence zero place (x ∷ history) r got at =
     let here : place ≡ sequence = omega (arith, at) in
@@ -45,17 +51,21 @@ number_there sequence zero place (x ∷ history) r got at =
 number_there sequence (suc index) place (x ∷ history) r got at =
     later x.number (number_there (sequence + 1) index place history r got (omega (arith, at)))
   where
-    later : (n : Option ℕ) → number_at place (numbers_from (sequence + 1) history) ≡ r.number → number_at place (borne_at sequence n ++ numbers_from (sequence + 1) history) ≡ r.number
+    later : (n : Option ℕ) → number_at place (numbers_from (sequence + 1) history) ≡ r.number
+        → number_at place (borne_at sequence n ++ numbers_from (sequence + 1) history) ≡ r.number
     later None is = is
     later (Some m) is = let other : nat_eq sequence place ≡ false = grind (arith, nat_tests, at) in rw other is
 
 -- so each is shown with its own
-each_shown : (numbers : List PlacedNumber) (k : ℕ) (history : List Reported) → ((i : ℕ) (r : Reported) → slice_get history i ≡ Some r → number_at (k + i) numbers ≡ r.number) → numbered (entry_by numbers) k (entries_in history) ≡ numbered entry_shown k history
+each_shown : (numbers : List PlacedNumber) (k : ℕ) (history : List Reported)
+    → ((i : ℕ) (r : Reported) → slice_get history i ≡ Some r → number_at (k + i) numbers ≡ r.number) → numbered (entry_by numbers) k (entries_in history)
+    ≡ numbered entry_shown k history
 each_shown numbers k [] own = refl
 each_shown numbers k (r ∷ history) own =
     let at : k + 0 ≡ k = omega arith in
     let number : number_at k numbers ≡ r.number = ap (λ n. number_at n numbers) (sym at) ∙ own 0 r refl in
-    let further : (i : ℕ) (x : Reported) → slice_get history i ≡ Some x → number_at (suc k + i) numbers ≡ x.number = (λ i x got. let next : suc k + i ≡ k + suc i = omega arith in ap (λ n. number_at n numbers) next ∙ own (suc i) x got) in
+    let further : (i : ℕ) (x : Reported) → slice_get history i ≡ Some x → number_at (suc k + i) numbers ≡ x.number =
+    (λ i x got. let next : suc k + i ≡ k + suc i = omega arith in ap (λ n. number_at n numbers) next ∙ own (suc i) x got) in
     λ j. entry_shown k (record { entry = r.entry; number = number j }) ∷ each_shown numbers (suc k) history further j
 
 all_shown : (history : List Reported) → numbered (entry_by (numbers_from 1 history)) 1 (entries_in history) ≡ numbered entry_shown 1 history
@@ -64,9 +74,11 @@ all_shown history = each_shown (numbers_from 1 history) 1 history (λ i r got. n
 -- ---- the page
 
 -- of these entries, of any function of place and entry
-part_numbered : {X Y : Type 0} (f : ℕ → X → Y) (page : Page) (xs entries : List X) → entries ≡ take page.limit (drop page.offset xs) → numbered f (page.offset + 1) entries ≡ take page.limit (drop page.offset (numbered f 1 xs))
+part_numbered : {X Y : Type 0} (f : ℕ → X → Y) (page : Page) (xs entries : List X) → entries ≡ take page.limit (drop page.offset xs)
+    → numbered f (page.offset + 1) entries ≡ take page.limit (drop page.offset (numbered f 1 xs))
 part_numbered f page xs entries read =
-    ap (numbered f (page.offset + 1)) read ∙ sym (numbered_taken f (page.offset + 1) page.limit (drop page.offset xs)) ∙ ap (take page.limit) (sym (numbered_dropped f 1 page.offset (page.offset + 1) xs refl))
+    ap (numbered f (page.offset + 1)) read ∙ sym (numbered_taken f (page.offset + 1) page.limit (drop page.offset xs))
+    ∙ ap (take page.limit) (sym (numbered_dropped f 1 page.offset (page.offset + 1) xs refl))
 
 -- the numbers of an action are those of its history
 numbers_read : (r : Records) (k : ℕ) → numbers_numbered (ledger_of r).numbers k ≡ numbers_from 1 (reports_of (item_numbered r.actions k))
@@ -81,31 +93,41 @@ entries_read None = refl
 entries_read (Some a) = refl
 
 -- a page with the numbers that were read
-pub page_numbered : (r : Records) (k : ℕ) (page : Page) (entries : List HistoryEntry) (numbers : List PlacedNumber) (content : List ShownEntry) → entries ≡ take page.limit (drop page.offset (history_of (item_numbered r.actions k)))
-    → numbers ≡ numbers_numbered (ledger_of r).numbers k → content ≡ numbered (entry_by numbers) (page.offset + 1) entries → content ≡ take page.limit (drop page.offset (numbered entry_shown 1 (reports_of (item_numbered r.actions k))))
+pub page_numbered : (r : Records) (k : ℕ) (page : Page) (entries : List HistoryEntry) (numbers : List PlacedNumber) (content : List ShownEntry) → entries
+    ≡ take page.limit (drop page.offset (history_of (item_numbered r.actions k)))
+    → numbers ≡ numbers_numbered (ledger_of r).numbers k → content ≡ numbered (entry_by numbers) (page.offset + 1) entries → content
+    ≡ take page.limit (drop page.offset (numbered entry_shown 1 (reports_of (item_numbered r.actions k))))
 page_numbered r k page entries numbers content read borne shown =
     let history = reports_of (item_numbered r.actions k) in
     shown ∙ ap (λ ns. numbered (entry_by ns) (page.offset + 1) entries) (borne ∙ numbers_read r k)
-    ∙ part_numbered (entry_by (numbers_from 1 history)) page (entries_in history) entries (read ∙ ap (λ es. take page.limit (drop page.offset es)) (entries_read (item_numbered r.actions k)))
+    ∙ part_numbered (entry_by (numbers_from 1 history)) page (entries_in history) entries
+    (read ∙ ap (λ es. take page.limit (drop page.offset es)) (entries_read (item_numbered r.actions k)))
     ∙ ap (λ es. take page.limit (drop page.offset es)) (all_shown history)
 
-pub none_numbered : (r : Records) (k : ℕ) (page : Page) (entries : List HistoryEntry) → entries ≡ take page.limit (drop page.offset (history_of (item_numbered r.actions k))) → length entries ≡ 0
+pub none_numbered : (r : Records) (k : ℕ) (page : Page) (entries : List HistoryEntry) → entries
+    ≡ take page.limit (drop page.offset (history_of (item_numbered r.actions k))) → length entries ≡ 0
     → [] ≡ take page.limit (drop page.offset (numbered entry_shown 1 (reports_of (item_numbered r.actions k))))
 none_numbered r k page entries read none =
-    let numbers = numbers_numbered (ledger_of r).numbers k in page_numbered r k page entries numbers [] read refl (sym (ap (numbered (entry_by numbers) (page.offset + 1)) (nil_from_length entries none)))
+    let numbers = numbers_numbered (ledger_of r).numbers k in
+    page_numbered r k page entries numbers [] read refl (sym (ap (numbered (entry_by numbers) (page.offset + 1)) (nil_from_length entries none)))
 
-history_page : (page : Page) (history : List Reported) (content : List ShownEntry) (total : ℕ) → content ≡ take page.limit (drop page.offset (numbered entry_shown 1 history)) → total ≡ length history
+history_page : (page : Page) (history : List Reported) (content : List ShownEntry) (total : ℕ) → content
+    ≡ take page.limit (drop page.offset (numbered entry_shown 1 history)) → total ≡ length history
     → record { content = content; total = total } ≡ page_of page (numbered entry_shown 1 history)
 history_page page history content total shown count =
     let many : total ≡ length (numbered entry_shown 1 history) = count ∙ sym (numbered_length entry_shown 1 history) in
     λ i. record { content = shown i; total = many i }
 
-pub history_replied : (r : Records) (id : Bytes) (page : Page) (o : Option ActionRecord) (action : StoredAction) (content : List ShownEntry) → Some action ≡ option_map (stored_in r) (action_if r id o)
+pub history_replied : (r : Records) (id : Bytes) (page : Page) (o : Option ActionRecord) (action : StoredAction) (content : List ShownEntry) → Some action
+    ≡ option_map (stored_in r) (action_if r id o)
     → content ≡ take page.limit (drop page.offset (numbered entry_shown 1 (reports_of o)))
-    → HistoryShown (record { content = content; total = action.entries }) ≡ if_found (λ (a : ActionRecord). HistoryShown (page_of page (numbered entry_shown 1 a.history))) (action_if r id o)
+    → HistoryShown (record { content = content; total = action.entries })
+    ≡ if_found (λ (a : ActionRecord). HistoryShown (page_of page (numbered entry_shown 1 a.history))) (action_if r id o)
 history_replied r id page None action content is shown = absurd cc
 history_replied r id page (Some a) action content is shown = go (is_for r id a) is where
   go : (b : Bool) → Some action ≡ option_map (stored_in r) (cond b (Some a) None)
-      → HistoryShown (record { content = content; total = action.entries }) ≡ if_found (λ (a : ActionRecord). HistoryShown (page_of page (numbered entry_shown 1 a.history))) (cond b (Some a) None)
+      → HistoryShown (record { content = content; total = action.entries })
+      ≡ if_found (λ (a : ActionRecord). HistoryShown (page_of page (numbered entry_shown 1 a.history))) (cond b (Some a) None)
   go false other = absurd cc
-  go true own = let same : action ≡ stored_in r a = cc in ap HistoryShown (history_page page a.history content action.entries shown (ap (λ (s : StoredAction). s.entries) same))
+  go true own = let same : action ≡ stored_in r a = cc in
+      ap HistoryShown (history_page page a.history content action.entries shown (ap (λ (s : StoredAction). s.entries) same))

@@ -1,5 +1,6 @@
 -- Offers that are told, by what is kept of them.
-use Rattle.desk_views.proofs.Common.{◌≡◌, ℕ, Bool, true, false, cond, ◌&&◌, not, nat_eq, List, [], ◌∷◌, Option, Some, None, Result, Ok, Err, IfOk, refl, sym, ap, subst, ◌∙◌, arith, list_any, nat_tests, and_parts, false≢true, is_offer_of, Bytes, Offer}
+use Rattle.desk_views.proofs.Common.{◌≡◌, ℕ, Bool, true, false, cond, ◌&&◌, not, nat_eq, List, [], ◌∷◌, Option, Some, None, Result, Ok, Err, IfOk, refl, sym}
+use Rattle.desk_views.proofs.Common.{ap, subst, ◌∙◌, arith, list_any, nat_tests, and_parts, false≢true, is_offer_of, Bytes, Offer}
 use Rattle.desk_records.specs.Tables.{Tables}
 use Rattle.desk_views.specs.Kept.{AreKept, IsKept, IsKeptAs}
 
@@ -12,14 +13,16 @@ same_flag true b is = is
 same_flag false true is = absurd (false≢true is)
 same_flag false false is = refl
 
-pub offered_as : (k : ℕ) (canceling : Bool) (found : Option Offer) (same : Bool) → same ≡ is_offer_of k canceling found → same ≡ true → found ≡ Some (record { action = k; canceling = canceling })
+pub offered_as : (k : ℕ) (canceling : Bool) (found : Option Offer) (same : Bool) → same ≡ is_offer_of k canceling found → same ≡ true
+    → found ≡ Some (record { action = k; canceling = canceling })
 offered_as k canceling None same asked is = absurd (false≢true (sym asked ∙ is))
 offered_as k canceling (Some o) same asked is =
     let parts = and_parts (nat_eq o.action k) (cond canceling o.canceling (not o.canceling)) (sym asked ∙ is) in
     kept_as k canceling o (grind (arith, nat_tests, parts.0)) (same_flag canceling o.canceling parts.1)
 
 -- where it is this action that is offered, a row keeps it so
-pub kept_offer : (t : Tables) (id : Bytes) (k : ℕ) (canceling : Bool) (found : Option Offer) (same : Bool) → same ≡ is_offer_of k canceling found → same ≡ true → IsKept t id found
+pub kept_offer : (t : Tables) (id : Bytes) (k : ℕ) (canceling : Bool) (found : Option Offer) (same : Bool) → same ≡ is_offer_of k canceling found → same ≡ true
+    → IsKept t id found
     → IsKept t id (Some (record { action = k; canceling = canceling }))
 kept_offer t id k canceling found same asked is kept = subst (IsKept t id) (offered_as k canceling found same asked is) kept
 
@@ -33,7 +36,8 @@ kept_modules t id o modules none kept = go o.canceling refl modules none
     go false is (m ∷ ms) empty = (o.action, subst (IsKept t id) (kept_as o.action false o refl is) kept)
 
 -- a module among them
-pub kept_among : (t : Tables) (id : Bytes) (m : ℕ) (modules : List ℕ) (among : Bool) → among ≡ list_any (λ n. nat_eq n m) modules → among ≡ true → AreKept t id modules
+pub kept_among : (t : Tables) (id : Bytes) (m : ℕ) (modules : List ℕ) (among : Bool) → among ≡ list_any (λ n. nat_eq n m) modules → among ≡ true
+    → AreKept t id modules
     → (action : ℕ) × IsKeptAs t id action
 kept_among t id m [] among asked is kept = absurd (false≢true (sym asked ∙ is))
 kept_among t id m (x ∷ xs) among asked is kept = kept

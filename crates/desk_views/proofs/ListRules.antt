@@ -1,5 +1,9 @@
 -- What accepted commands keep: few modules and sets, the rule of the modules of each set, and that of the contents of each artifact.
-use Rattle.desk_views.proofs.Common.{◌≡◌, ◌≤◌, ◌<◌, ◌+◌, ◌-◌, ◌*◌, ℕ, zero, suc, true, List, [], length, All, Option, Some, None, refl, sym, subst, ap, ◌∙◌, arith, nat_le, and_parts, leb-true, list_all, length-map, pieces_of_artifact, item_numbered, ArtifactRecord, Records, added_artifacts, artifacts, modules, sets, Command, SetLabel, AddArtifact, AreOfList, contents_found, div_ceil_times, piece_at, piece_bytes, piece_count, pieces_of, artifact_size_limit, piece_length, is_byte, is_contents, is_filename, is_module_list, is_number, is_text, CommandList, Make, ◌▸◌, IsValid, limits_hold}
+use Rattle.desk_views.proofs.Common.{◌≡◌, ◌≤◌, ◌<◌, ◌+◌, ◌-◌, ◌*◌, ℕ, zero, suc, true, List, [], length, All, Option, Some, None, refl, sym, subst, ap, ◌∙◌}
+use Rattle.desk_views.proofs.Common.{arith, nat_le, and_parts, leb-true, list_all, length-map, pieces_of_artifact, item_numbered, ArtifactRecord, Records}
+use Rattle.desk_views.proofs.Common.{added_artifacts, artifacts, modules, sets, Command, SetLabel, AddArtifact, AreOfList, contents_found, div_ceil_times}
+use Rattle.desk_views.proofs.Common.{piece_at, piece_bytes, piece_count, pieces_of, artifact_size_limit, piece_length, is_byte, is_contents, is_filename}
+use Rattle.desk_views.proofs.Common.{is_module_list, is_number, is_text, CommandList, Make, ◌▸◌, IsValid, limits_hold}
 use Rattle.rollout_machine.specs.Records.{records}
 use Rattle.std.proofs.lemmas.List.Elements.{All-append, All-cons, All-get_or, All-nil}
 use Rattle.std.proofs.lemmas.List.FromFn.{length-map-range_with_len}
@@ -44,7 +48,8 @@ keeps_list = at_list (λ r. (k : ℕ) (s : SetLabel) → item_numbered r.sets k 
   where
     go : (h : CommandList) → IsValid h → (k : ℕ) (s : SetLabel) → item_numbered (records h).sets k ≡ Some s → is_module_list s.modules ≡ true
     go h valid zero s is = absurd cc
-    go h valid (suc i) s is = (and_parts (is_text s.version) (is_module_list s.modules) (and_parts (is_text s.name) _ (sets_keep h valid s (has_got (records h).sets i s is))).1).1
+    go h valid (suc i) s is =
+        (and_parts (is_text s.version) (is_module_list s.modules) (and_parts (is_text s.name) _ (sets_keep h valid s (has_got (records h).sets i s is))).1).1
 
 -- ---- the contents of an artifact
 
@@ -63,26 +68,32 @@ contents_keep (h ▸ c) valid = All-append KeepsContents (artifacts h) (added_ar
 
 pub keeps_contents : (r : Records) → AreOfList r → (k : ℕ) → is_contents (contents_found (item_numbered r.artifacts k)) ≡ true
 unfolding records
-keeps_contents = at_list (λ r. (k : ℕ) → is_contents (contents_found (item_numbered r.artifacts k)) ≡ true) (λ h valid k. go h valid k (item_numbered (artifacts h) k) refl)
+keeps_contents = at_list (λ r. (k : ℕ) → is_contents (contents_found (item_numbered r.artifacts k)) ≡ true)
+    (λ h valid k. go h valid k (item_numbered (artifacts h) k) refl)
   where
-    go : (h : CommandList) → IsValid h → (k : ℕ) (found : Option ArtifactRecord) → item_numbered (artifacts h) k ≡ found → is_contents (contents_found found) ≡ true
+    go : (h : CommandList) → IsValid h → (k : ℕ) (found : Option ArtifactRecord) → item_numbered (artifacts h) k ≡ found → is_contents (contents_found found)
+        ≡ true
     go h valid k None is = refl
     go h valid k (Some a) is = each_numbered KeepsContents (artifacts h) (contents_keep h valid) k a is
 
 pub keeps_size : (r : Records) → AreOfList r → (k : ℕ) (a : ArtifactRecord) → item_numbered r.artifacts k ≡ Some a → a.size ≡ length a.contents
-keeps_size = at_list (λ r. (k : ℕ) (a : ArtifactRecord) → item_numbered r.artifacts k ≡ Some a → a.size ≡ length a.contents) (λ h valid k a is. (each_numbered IsWhole (records h).artifacts (all_whole h) k a is).0)
+keeps_size = at_list (λ r. (k : ℕ) (a : ArtifactRecord) → item_numbered r.artifacts k ≡ Some a → a.size ≡ length a.contents)
+    (λ h valid k a is. (each_numbered IsWhole (records h).artifacts (all_whole h) k a is).0)
 
 -- so it has no piece behind as many as contents may have
 pieces_few : (found : Option ArtifactRecord) → is_contents (contents_found found) ≡ true → length (pieces_of_artifact found) ≤ 64
 pieces_few None kept = omega arith
 pieces_few (Some a) kept =
-    let few : length a.contents ≤ artifact_size_limit = leb-true _ _ (and_parts (nat_le (length a.contents) artifact_size_limit) (list_all is_byte a.contents) kept).0 in
+    let few : length a.contents ≤ artifact_size_limit =
+    leb-true _ _ (and_parts (nat_le (length a.contents) artifact_size_limit) (list_all is_byte a.contents) kept).0 in
     let bounds = div_ceil_times (length a.contents) piece_length (omega arith) in
     let count : length (pieces_of_artifact (Some a)) ≡ piece_count (length a.contents) - 0 =
-    length-map (pieces_of (length a.contents)) (piece_bytes a.contents) ∙ length-map-range_with_len (piece_at (length a.contents)) 0 (piece_count (length a.contents) - 0) in
+    length-map (pieces_of (length a.contents)) (piece_bytes a.contents)
+    ∙ length-map-range_with_len (piece_at (length a.contents)) 0 (piece_count (length a.contents) - 0) in
     omega (arith, few, bounds.1, count)
 
-pub no_piece : (r : Records) → AreOfList r → (k before : ℕ) (piece : List ℕ) → Some piece ≡ item_numbered (pieces_of_artifact (item_numbered r.artifacts k)) (before + 1) → artifact_size_limit ≤ before * piece_length → ⊥
+pub no_piece : (r : Records) → AreOfList r → (k before : ℕ) (piece : List ℕ) → Some piece ≡ item_numbered (pieces_of_artifact (item_numbered r.artifacts k))
+    (before + 1) → artifact_size_limit ≤ before * piece_length → ⊥
 no_piece r of k before piece found full =
     let pieces = pieces_of_artifact (item_numbered r.artifacts k) in
     let next : suc before ≡ before + 1 = omega arith in

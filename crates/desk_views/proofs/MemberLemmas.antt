@@ -1,5 +1,9 @@
 -- The members of a rollout of a list of accepted commands are targets.
-use Rattle.desk_views.proofs.Common.{◌≡◌, ℕ, zero, suc, Bool, true, false, ◌||◌, cond, List, [], ◌∷◌, ◌++◌, map, filter, find, take, drop, Option, Some, None, refl, sym, ap, ◌∙◌, slice_get, list_all, is_some, unwrap_or, and_parts, false≢true, filter_of, Tree, target_if, targets_of, contains_word, item_numbered, same_bytes, with_words, Bytes, Command, CreateRollout, TargetRow, matches, target_shown, targets_shown, Records, Target, import_rows_of, target_ids, target_in, target_of, RolloutRecord, same_refl, same_sym, AreOfList, made, CommandList, Make, ◌▸◌, Rollout, chosen, created, rollouts, kept_to, kept_from, or-true}
+use Rattle.desk_views.proofs.Common.{◌≡◌, ℕ, zero, suc, Bool, true, false, ◌||◌, cond, List, [], ◌∷◌, ◌++◌, map, filter, find, take, drop, Option, Some, None}
+use Rattle.desk_views.proofs.Common.{refl, sym, ap, ◌∙◌, slice_get, list_all, is_some, unwrap_or, and_parts, false≢true, filter_of, Tree, target_if}
+use Rattle.desk_views.proofs.Common.{targets_of, contains_word, item_numbered, same_bytes, with_words, Bytes, Command, CreateRollout, TargetRow, matches}
+use Rattle.desk_views.proofs.Common.{target_shown, targets_shown, Records, Target, import_rows_of, target_ids, target_in, target_of, RolloutRecord, same_refl}
+use Rattle.desk_views.proofs.Common.{same_sym, AreOfList, made, CommandList, Make, ◌▸◌, Rollout, chosen, created, rollouts, kept_to, kept_from, or-true}
 use Rattle.rollout_machine.specs.Records.{records}
 use Rattle.std.proofs.lemmas.List.Folds.{list_all-append}
 use Rattle.rollout_machine.specs.Replies.{ShownTarget}
@@ -34,7 +38,8 @@ all_are_in : (ids : List Bytes) → AllIn ids ids
 all_are_in [] = refl
 all_are_in (u ∷ ids) = rw (same_refl u) (all_so (λ m. contains_word m ids) (λ m. contains_word m (u ∷ ids)) (λ m. later_in u m ids) ids (all_are_in ids))
 
-chosen_in : (h : CommandList) (ids : List Bytes) (f : Tree) (us : List Bytes) → AllIn ids us → AllIn ids (map (λ (t : Target). t.id) (filter (matches f) (map (target_in h) us)))
+chosen_in : (h : CommandList) (ids : List Bytes) (f : Tree) (us : List Bytes) → AllIn ids us
+    → AllIn ids (map (λ (t : Target). t.id) (filter (matches f) (map (target_in h) us)))
 chosen_in h ids f [] all = refl
 chosen_in h ids f (u ∷ us) all = let parts = and_parts _ _ all in go (matches f (target_in h u)) parts.0 (chosen_in h ids f us parts.1) where
   go : (b : Bool) → contains_word u ids ≡ true → AllIn ids (map (λ (t : Target). t.id) (filter (matches f) (map (target_in h) us)))
@@ -57,7 +62,8 @@ rollouts_in_list (Make approval) = refl
 rollouts_in_list (h ▸ c) =
     let before : list_all (members_in_list (target_ids (h ▸ c))) (rollouts h) ≡ true =
     all_so (members_in_list (target_ids h)) (members_in_list (target_ids (h ▸ c)))
-    (λ y. all_so (λ m. contains_word m (target_ids h)) (λ m. contains_word m (target_ids (h ▸ c))) (λ m. stays_in m (target_ids h) (map (λ (row : TargetRow). row.id) (import_rows_of c))) y.members) (rollouts h) (rollouts_in_list h) in
+    (λ y. all_so (λ m. contains_word m (target_ids h)) (λ m. contains_word m (target_ids (h ▸ c)))
+    (λ m. stays_in m (target_ids h) (map (λ (row : TargetRow). row.id) (import_rows_of c))) y.members) (rollouts h) (rollouts_in_list h) in
     list_all-append (members_in_list (target_ids (h ▸ c))) (rollouts h) (created h c) ∙ rw (before, created_in h c) refl
 
 -- ---- who is there
@@ -79,12 +85,14 @@ there_at h m is = found_in h m (target_ids h) ∙ is
 
 rollout_there : (h : CommandList) (r : ℕ) (y : Rollout) → item_numbered (rollouts h) r ≡ Some y → list_all (is_there (records h)) y.members ≡ true
 rollout_there h zero y at = absurd cc
-rollout_there h (suc i) y at = all_so (λ m. contains_word m (target_ids h)) (is_there (records h)) (there_at h) y.members (all_at (members_in_list (target_ids h)) (rollouts h) i y (rollouts_in_list h) at)
+rollout_there h (suc i) y at = all_so (λ m. contains_word m (target_ids h)) (is_there (records h)) (there_at h) y.members
+    (all_at (members_in_list (target_ids h)) (rollouts h) i y (rollouts_in_list h) at)
 
 pub members_there : (rs : Records) → AreOfList rs → (r : ℕ) (x : RolloutRecord) → item_numbered rs.rollouts r ≡ Some x → list_all (is_there rs) x.members ≡ true
 members_there rs of r x e =
     let it = made rs of r x e in
-    ap (λ (q : RolloutRecord). list_all (is_there rs) q.members) it.is ∙ ap (λ (q : Records). list_all (is_there q) it.made.members) of.are ∙ rollout_there of.list r it.made it.there
+    ap (λ (q : RolloutRecord). list_all (is_there rs) q.members) it.is ∙ ap (λ (q : Records). list_all (is_there q) it.made.members) of.are
+    ∙ rollout_there of.list r it.made it.there
 
 -- ---- their targets
 
@@ -92,11 +100,14 @@ members_there rs of r x e =
 abbrev pub target_at : Records → Bytes → Target
 target_at rs m = unwrap_or (target_of rs m) (record { id = []; name = []; digest = []; tags = []; attributes = [] })
 
-pub targets_there : (rs : Records) (ms : List Bytes) → list_all (is_there rs) ms ≡ true → targets_shown rs (targets_of rs ms) ≡ map (λ m. target_shown rs (target_at rs m)) ms
+pub targets_there : (rs : Records) (ms : List Bytes) → list_all (is_there rs) ms ≡ true → targets_shown rs (targets_of rs ms)
+    ≡ map (λ m. target_shown rs (target_at rs m)) ms
 targets_there rs [] all = refl
 targets_there rs (m ∷ ms) all = let parts = and_parts _ _ all in go (target_of rs m) parts.0 (targets_there rs ms parts.1) where
   go : (o : Option Target) → is_some o ≡ true → targets_shown rs (targets_of rs ms) ≡ map (λ m. target_shown rs (target_at rs m)) ms
-      → targets_shown rs (target_if o ++ targets_of rs ms) ≡ target_shown rs (unwrap_or o (record { id = []; name = []; digest = []; tags = []; attributes = [] })) ∷ map (λ m. target_shown rs (target_at rs m)) ms
+      → targets_shown rs (target_if o ++ targets_of rs ms)
+      ≡ target_shown rs (unwrap_or o (record { id = []; name = []; digest = []; tags = []; attributes = [] })) ∷ map (λ m. target_shown rs (target_at rs m))
+      ms
   go None bad rest = absurd (false≢true bad)
   go (Some t) there rest = ap (λ (l : List ShownTarget). target_shown rs t ∷ l) rest
 

@@ -1,5 +1,6 @@
 -- Entries of a list by their numbers, and the part of it that is on a page.
-use Rattle.desk_views.proofs.Common.{◌≡◌, ℕ, zero, suc, ◌+◌, ◌-◌, min, List, [], ◌∷◌, ◌++◌, length, take, drop, Some, refl, sym, ap, ◌∙◌, arith, add-one, length-drop, slice_get, take-nil, option_map, item_numbered, numbered}
+use Rattle.desk_views.proofs.Common.{◌≡◌, ℕ, zero, suc, ◌+◌, ◌-◌, min, List, [], ◌∷◌, ◌++◌, length, take, drop, Some, refl, sym, ap, ◌∙◌, arith, add-one}
+use Rattle.desk_views.proofs.Common.{length-drop, slice_get, take-nil, option_map, item_numbered, numbered}
 
 pub numbered_length : {X Y : Type 0} (f : ℕ → X → Y) (n : ℕ) (xs : List X) → length (numbered f n xs) ≡ length xs
 numbered_length f n [] = refl
@@ -28,11 +29,13 @@ one_more (y ∷ ys) zero x is = let same : y ≡ x = cc in ap (λ z. z ∷ []) s
 one_more (y ∷ ys) (suc i) x is = ap (λ l. y ∷ l) (one_more ys i x is)
 
 -- the next entry of a page is read
-pub page_grows : {X : Type 0} (xs items more : List X) (offset place number : ℕ) (x : X) → items ≡ take place (drop offset xs) → item_numbered xs number ≡ Some x → number ≡ offset + place + 1 → more ≡ items ++ x ∷ []
+pub page_grows : {X : Type 0} (xs items more : List X) (offset place number : ℕ) (x : X) → items ≡ take place (drop offset xs) → item_numbered xs number
+    ≡ Some x → number ≡ offset + place + 1 → more ≡ items ++ x ∷ []
     → more ≡ take (place + 1) (drop offset xs)
 page_grows xs items more offset place zero x is found at one = absurd cc
 page_grows xs items more offset place (suc k) x is found at one =
-    one ∙ ap (λ l. l ++ x ∷ []) is ∙ sym (one_more (drop offset xs) place x (drop_get offset xs place k (omega (arith, at)) ∙ found)) ∙ ap (λ n. take n (drop offset xs)) (sym (add-one place))
+    one ∙ ap (λ l. l ++ x ∷ []) is ∙ sym (one_more (drop offset xs) place x (drop_get offset xs place k (omega (arith, at)) ∙ found))
+    ∙ ap (λ n. take n (drop offset xs)) (sym (add-one place))
 
 take_within : {X : Type 0} (n : ℕ) (xs : List X) (m : ℕ) → m ≡ min n (length xs) → take m xs ≡ take n xs
 take_within n [] zero is = sym (take-nil n)
@@ -43,5 +46,6 @@ take_within zero (x ∷ xs) (suc m) is = absurd (omega (arith, is))
 take_within (suc n) (x ∷ xs) (suc m) is = ap (λ l. x ∷ l) (take_within n xs m (omega (arith, is)))
 
 -- as many entries as are on the page are all of them
-pub page_ends : {X : Type 0} (xs items : List X) (offset limit total place : ℕ) → place ≡ min limit (total - offset) → items ≡ take place (drop offset xs) → total ≡ length xs → items ≡ take limit (drop offset xs)
+pub page_ends : {X : Type 0} (xs items : List X) (offset limit total place : ℕ) → place ≡ min limit (total - offset) → items ≡ take place (drop offset xs)
+    → total ≡ length xs → items ≡ take limit (drop offset xs)
 page_ends xs items offset limit total place end is count = is ∙ take_within limit (drop offset xs) place (omega (arith, end, count, length-drop offset xs))

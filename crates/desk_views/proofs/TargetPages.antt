@@ -1,5 +1,11 @@
 -- From typed reads of targets to pages of them.
-use Rattle.desk_views.proofs.Common.{◌≡◌, ℕ, suc, ◌+◌, ◌-◌, ◌&&◌, nat_le, nat_lt, ◌*◌, ◌/◌, ◌%◌, min, Bool, true, false, cond, List, [], ◌∷◌, ◌++◌, map, filter, length, take, drop, Some, None, refl, sym, ap, ◌∙◌, append-nil, append_assoc, arith, length-drop, Vec, take-add, take-nil, leb-false, leb-true, drop-append-le, drop-map, drop_all, length-append, length-map, map-append, take-append-le, take-map, take_all, IsSomeAnd, Global, query_reply, targets_matching, Bytes, matches, seen, page_of, target_shown, targets_shown, Records, PageOf, TargetsShown, Page, ShowTargets, Target, listed, listed_targets, reply_of, shown_target, ShownTarget, Tree, filter_of, listed_target, matching_shown, worded, target_listed, part_seen, div_ceil_times, ListedTarget}
+use Rattle.desk_views.proofs.Common.{◌≡◌, ℕ, suc, ◌+◌, ◌-◌, ◌&&◌, nat_le, nat_lt, ◌*◌, ◌/◌, ◌%◌, min, Bool, true, false, cond, List, [], ◌∷◌, ◌++◌, map}
+use Rattle.desk_views.proofs.Common.{filter, length, take, drop, Some, None, refl, sym, ap, ◌∙◌, append-nil, append_assoc, arith, length-drop, Vec, take-add}
+use Rattle.desk_views.proofs.Common.{take-nil, leb-false, leb-true, drop-append-le, drop-map, drop_all, length-append, length-map, map-append, take-append-le}
+use Rattle.desk_views.proofs.Common.{take-map, take_all, IsSomeAnd, Global, query_reply, targets_matching, Bytes, matches, seen, page_of, target_shown}
+use Rattle.desk_views.proofs.Common.{targets_shown, Records, PageOf, TargetsShown, Page, ShowTargets, Target, listed, listed_targets, reply_of, shown_target}
+use Rattle.desk_views.proofs.Common.{ShownTarget, Tree, filter_of, listed_target, matching_shown, worded, target_listed, part_seen, div_ceil_times}
+use Rattle.desk_views.proofs.Common.{ListedTarget}
 use Rattle.std.proofs.lemmas.List.Elements.{filter-append}
 use Rattle.rollout_model.specs.declared.page.PageOf.{PageOf as RustPageOf}
 use Rattle.rollout_model.specs.declared.request.Reply.TheVariants as reply
@@ -22,22 +28,27 @@ module _ (r : Records) where
 
   shown_part : (n m : ℕ) (ts : List Target) → targets_shown r (take n (drop m ts)) ≡ take n (drop m (targets_shown r ts))
   shown_part n m ts =
-      shown_map (take n (drop m ts)) ∙ sym (take-map (target_shown r) n (drop m ts)) ∙ ap (take n) (sym (drop-map (target_shown r) m ts)) ∙ ap (λ l. take n (drop m l)) (sym (shown_map ts))
+      shown_map (take n (drop m ts)) ∙ sym (take-map (target_shown r) n (drop m ts)) ∙ ap (take n) (sym (drop-map (target_shown r) m ts))
+      ∙ ap (λ l. take n (drop m l)) (sym (shown_map ts))
 
   -- ---- all targets
 
-  pub entries_grow : (items more : List ShownTarget) (entries : List ListedTarget) (entry : ListedTarget) (target : SeenTarget) (shown : ShownTarget) → items ≡ map (worded r) (map (target_listed r) entries) → target ≡ target_listed r entry
+  pub entries_grow : (items more : List ShownTarget) (entries : List ListedTarget) (entry : ListedTarget) (target : SeenTarget) (shown : ShownTarget)
+      → items ≡ map (worded r) (map (target_listed r) entries) → target ≡ target_listed r entry
       → shown ≡ worded r target → more ≡ items ++ shown ∷ [] → more ≡ map (worded r) (map (target_listed r) (entries ++ entry ∷ []))
   entries_grow items more entries entry target shown is read said one =
       one ∙ ap (λ l. l ++ shown ∷ []) is ∙ ap (λ s. map (worded r) (map (target_listed r) entries) ++ s ∷ []) (said ∙ ap (worded r) read)
-      ∙ sym (ap (map (worded r)) (map-append (target_listed r) entries (entry ∷ [])) ∙ map-append (worded r) (map (target_listed r) entries) (target_listed r entry ∷ []))
+      ∙ sym (ap (map (worded r)) (map-append (target_listed r) entries (entry ∷ []))
+      ∙ map-append (worded r) (map (target_listed r) entries) (target_listed r entry ∷ []))
 
-  pub all_replied : (page : Page) (entries : List ListedTarget) (items : Vec ShownTarget Global) (total : ℕ) → are_sorted r.targets ≡ true → total ≡ length r.targets
+  pub all_replied : (page : Page) (entries : List ListedTarget) (items : Vec ShownTarget Global) (total : ℕ) → are_sorted r.targets ≡ true
+      → total ≡ length r.targets
       → entries ≡ map listed_target (take page.limit (drop page.offset r.targets)) → items.items ≡ map (worded r) (map (target_listed r) entries)
       → reply_of (reply.Targets (record { content = items; total = total })) ≡ query_reply r (ShowTargets None page)
   all_replied page entries items total sorted count listed is =
       let part = take page.limit (drop page.offset r.targets) in
-      let here = ap (map shown_target) (is ∙ ap (λ l. map (worded r) (map (target_listed r) l)) listed ∙ ap (map (worded r)) (part_seen r sorted page.limit page.offset)) ∙ all_shown part ∙ shown_part page.limit page.offset r.targets in
+      let here = ap (map shown_target) (is ∙ ap (λ l. map (worded r) (map (target_listed r) l)) listed
+      ∙ ap (map (worded r)) (part_seen r sorted page.limit page.offset)) ∙ all_shown part ∙ shown_part page.limit page.offset r.targets in
       let all = count ∙ sym (ap length (shown_map r.targets) ∙ length-map r.targets (target_shown r)) in
       λ i. TargetsShown (record { content = here i; total = all i })
 
@@ -48,10 +59,12 @@ module _ (r : Records) where
     matching_join ts us = ap (map (worded r)) (filter-append (holds f) ts us) ∙ map-append (worded r) (filter (holds f) ts) (filter (holds f) us)
 
     pub matching_grow : (all : List ShownTarget) (entries : List ListedTarget) (entry : ListedTarget)
-        → (all ++ matching_shown r f (map (target_listed r) entries)) ++ matching_shown r f (target_listed r entry ∷ []) ≡ all ++ matching_shown r f (map (target_listed r) (entries ++ entry ∷ []))
+        → (all ++ matching_shown r f (map (target_listed r) entries)) ++ matching_shown r f (target_listed r entry ∷ [])
+        ≡ all ++ matching_shown r f (map (target_listed r) (entries ++ entry ∷ []))
     matching_grow all entries entry =
         append_assoc all _ _
-        ∙ ap (λ l. all ++ l) (sym (ap (matching_shown r f) (map-append (target_listed r) entries (entry ∷ [])) ∙ matching_join (map (target_listed r) entries) (target_listed r entry ∷ [])))
+        ∙ ap (λ l. all ++ l) (sym (ap (matching_shown r f) (map-append (target_listed r) entries (entry ∷ []))
+        ∙ matching_join (map (target_listed r) entries) (target_listed r entry ∷ [])))
 
     pub one_matches : (all : List ShownTarget) (t u : SeenTarget) → t ≡ u → holds f t ≡ true → all ++ worded r t ∷ [] ≡ all ++ matching_shown r f (u ∷ [])
     one_matches all t u is on = rw (sym is, on) refl
@@ -60,34 +73,42 @@ module _ (r : Records) where
     one_does_not all t u is off = rw (sym is, off) (sym (append-nil all))
 
     -- those of a chunk after those before it
-    pub chunk_matched : are_sorted r.targets ≡ true → (offset n : ℕ) (entries : List ListedTarget) → entries ≡ map listed_target (take n (drop offset r.targets))
-        → matching_shown r f (map seen (take offset r.targets)) ++ matching_shown r f (map (target_listed r) entries) ≡ matching_shown r f (map seen (take (offset + n) r.targets))
+    pub chunk_matched : are_sorted r.targets ≡ true → (offset n : ℕ) (entries : List ListedTarget) → entries
+        ≡ map listed_target (take n (drop offset r.targets))
+        → matching_shown r f (map seen (take offset r.targets)) ++ matching_shown r f (map (target_listed r) entries)
+        ≡ matching_shown r f (map seen (take (offset + n) r.targets))
     chunk_matched sorted offset n entries is =
         ap (λ l. matching_shown r f (map seen (take offset r.targets)) ++ matching_shown r f l) (ap (map (target_listed r)) is ∙ part_seen r sorted n offset)
         ∙ sym (matching_join (map seen (take offset r.targets)) (map seen (take n (drop offset r.targets))))
-        ∙ ap (matching_shown r f) (sym (map-append seen (take offset r.targets) (take n (drop offset r.targets))) ∙ ap (map seen) (sym (take-add offset n r.targets)))
+        ∙ ap (matching_shown r f) (sym (map-append seen (take offset r.targets) (take n (drop offset r.targets)))
+        ∙ ap (map seen) (sym (take-add offset n r.targets)))
 
     filter_seen : (ts : List Target) → filter (holds f) (map seen ts) ≡ map seen (filter (matches f) ts)
     filter_seen [] = refl
     filter_seen (t ∷ ts) = go (matches f t) (filter_seen ts)
       where
-        go : (b : Bool) → filter (holds f) (map seen ts) ≡ map seen (filter (matches f) ts) → cond b (seen t ∷ filter (holds f) (map seen ts)) (filter (holds f) (map seen ts)) ≡ map seen (cond b (t ∷ filter (matches f) ts) (filter (matches f) ts))
+        go : (b : Bool) → filter (holds f) (map seen ts) ≡ map seen (filter (matches f) ts)
+            → cond b (seen t ∷ filter (holds f) (map seen ts)) (filter (holds f) (map seen ts))
+            ≡ map seen (cond b (t ∷ filter (matches f) ts) (filter (matches f) ts))
         go true rest = ap (λ l. seen t ∷ l) rest
         go false rest = rest
 
     matching_is : map shown_target (matching_shown r f (map seen r.targets)) ≡ targets_shown r (filter (matches f) r.targets)
     matching_is = ap (λ l. map shown_target (map (worded r) l)) (filter_seen r.targets) ∙ all_shown (filter (matches f) r.targets)
 
-    page_is : (page : Page) (shown : RustPageOf ShownTarget) → listed shown ≡ page_of page (matching_shown r f (map seen r.targets)) → listed_targets shown ≡ page_of page (targets_shown r (filter (matches f) r.targets))
+    page_is : (page : Page) (shown : RustPageOf ShownTarget) → listed shown ≡ page_of page (matching_shown r f (map seen r.targets)) → listed_targets shown
+        ≡ page_of page (targets_shown r (filter (matches f) r.targets))
     page_is page shown is =
         let all = matching_shown r f (map seen r.targets) in
         let content : shown.content.items ≡ take page.limit (drop page.offset all) = ap (λ (p : PageOf ShownTarget). p.content) is in
         let total : shown.total ≡ length all = ap (λ (p : PageOf ShownTarget). p.total) is in
-        let here = ap (map shown_target) content ∙ sym (take-map shown_target page.limit (drop page.offset all)) ∙ ap (take page.limit) (sym (drop-map shown_target page.offset all)) ∙ ap (λ l. take page.limit (drop page.offset l)) matching_is in
+        let here = ap (map shown_target) content ∙ sym (take-map shown_target page.limit (drop page.offset all))
+        ∙ ap (take page.limit) (sym (drop-map shown_target page.offset all)) ∙ ap (λ l. take page.limit (drop page.offset l)) matching_is in
         let count = total ∙ sym (length-map all shown_target) ∙ ap length matching_is in
         λ i. record { content = here i; total = count i }
 
-    pub matching_replied : (page : Page) (shown : RustPageOf ShownTarget) (text : Bytes) → filter_of text ≡ Some f → listed shown ≡ page_of page (matching_shown r f (map seen r.targets))
+    pub matching_replied : (page : Page) (shown : RustPageOf ShownTarget) (text : Bytes) → filter_of text ≡ Some f → listed shown
+        ≡ page_of page (matching_shown r f (map seen r.targets))
         → reply_of (reply.Targets shown) ≡ query_reply r (ShowTargets (Some text) page)
     matching_replied page shown text tree is = ap TargetsShown (page_is page shown is) ∙ sym (ap (targets_matching r page) tree)
 
@@ -101,9 +122,11 @@ nothing_yet page items empty =
 
 -- a list with one more entry has it on the page at its place
 next_on : {X : Type 0} (limit offset : ℕ) (all : List X) (x : X)
-    → take limit (drop offset (all ++ x ∷ [])) ≡ cond (nat_le offset (length all) && nat_lt (length all - offset) limit) (take limit (drop offset all) ++ x ∷ []) (take limit (drop offset all))
+    → take limit (drop offset (all ++ x ∷ [])) ≡ cond (nat_le offset (length all) && nat_lt (length all - offset) limit)
+    (take limit (drop offset all) ++ x ∷ []) (take limit (drop offset all))
 next_on limit offset all x = go (nat_le offset (length all)) (nat_lt (length all - offset) limit) refl refl where
-  go : (p q : Bool) → nat_le offset (length all) ≡ p → nat_lt (length all - offset) limit ≡ q → take limit (drop offset (all ++ x ∷ [])) ≡ cond (p && q) (take limit (drop offset all) ++ x ∷ []) (take limit (drop offset all))
+  go : (p q : Bool) → nat_le offset (length all) ≡ p → nat_lt (length all - offset) limit ≡ q → take limit (drop offset (all ++ x ∷ []))
+      ≡ cond (p && q) (take limit (drop offset all) ++ x ∷ []) (take limit (drop offset all))
   go false q before within =
       let far = leb-false offset (length all) before in
       ap (take limit) (drop_all offset (all ++ x ∷ []) (omega (arith, far, length-append all (x ∷ []))) ∙ sym (drop_all offset all (omega (arith, far))))
@@ -116,17 +139,23 @@ next_on limit offset all x = go (nat_le offset (length all)) (nat_lt (length all
       ∙ take_all limit (drop offset all ++ x ∷ []) (omega (arith, room, length-append (drop offset all) (x ∷ []), length-drop offset all))
       ∙ ap (λ l. l ++ x ∷ []) (sym (take_all limit (drop offset all) (omega (arith, room, length-drop offset all))))
 
-module _ (page : Page) (old : RustPageOf ShownTarget) (items : Vec ShownTarget Global) (all : List ShownTarget) (x : ShownTarget) (was : listed old ≡ page_of page all) (on : Bool) (asked : on ≡ (nat_le page.offset old.total && nat_lt (old.total - page.offset) page.limit)) where
-  pub page_with : (total : ℕ) → total ≡ old.total + 1 → items.items ≡ cond on (old.content.items ++ x ∷ []) old.content.items → listed (record { content = items; total = total }) ≡ page_of page (all ++ x ∷ [])
+module _ (page : Page) (old : RustPageOf ShownTarget) (items : Vec ShownTarget Global) (all : List ShownTarget) (x : ShownTarget)
+    (was : listed old ≡ page_of page all) (on : Bool) (asked : on ≡ (nat_le page.offset old.total && nat_lt (old.total - page.offset) page.limit)) where
+  pub page_with : (total : ℕ) → total ≡ old.total + 1 → items.items ≡ cond on (old.content.items ++ x ∷ []) old.content.items
+      → listed (record { content = items; total = total }) ≡ page_of page (all ++ x ∷ [])
   page_with total one is =
       let content : old.content.items ≡ take page.limit (drop page.offset all) = ap (λ (p : PageOf ShownTarget). p.content) was in
       let count : old.total ≡ length all = ap (λ (p : PageOf ShownTarget). p.total) was in
-      let here = is ∙ (λ i. cond (asked i) (content i ++ x ∷ []) (content i)) ∙ ap (λ n. cond (nat_le page.offset n && nat_lt (n - page.offset) page.limit) (take page.limit (drop page.offset all) ++ x ∷ []) (take page.limit (drop page.offset all))) count
+      let here = is ∙ (λ i. cond (asked i) (content i ++ x ∷ []) (content i))
+      ∙ ap (λ n. cond (nat_le page.offset n && nat_lt (n - page.offset) page.limit) (take page.limit (drop page.offset all) ++ x ∷ [])
+      (take page.limit (drop page.offset all))) count
       ∙ sym (next_on page.limit page.offset all x) in
       let more = one ∙ ap (λ n. n + 1) count ∙ sym (length-append all (x ∷ [])) in
       λ i. record { content = here i; total = more i }
 
-module _ (r : Records) (f : Tree) (text : Bytes) (t : SeenTarget) (entry : ListedTarget) (is_match : Bool) (computed : IsSomeAnd (filter_of text) (λ tree. is_match ≡ holds tree t)) (tree : filter_of text ≡ Some f) (read : t ≡ target_listed r entry) (all : List ShownTarget) where
+module _ (r : Records) (f : Tree) (text : Bytes) (t : SeenTarget) (entry : ListedTarget) (is_match : Bool)
+    (computed : IsSomeAnd (filter_of text) (λ tree. is_match ≡ holds tree t)) (tree : filter_of text ≡ Some f) (read : t ≡ target_listed r entry)
+    (all : List ShownTarget) where
   by_tree : is_match ≡ holds f t
   by_tree = rw tree at computed
 
@@ -143,12 +172,15 @@ module _ (page : Page) (f : Tree) (r : Records) where
   abbrev pub page_of_first : ℕ → PageOf ShownTarget
   page_of_first n = page_of page (matching_shown r f (map seen (take n r.targets)))
 
-  pub next_chunk : (old new : RustPageOf ShownTarget) (chunk offset : ℕ) → offset ≡ chunk * 10000 → (listed old ≡ page_of_first offset → listed new ≡ page_of_first (offset + 10000)) → listed old ≡ page_of_first (chunk * 10000) → listed new ≡ page_of_first ((chunk + 1) * 10000)
+  pub next_chunk : (old new : RustPageOf ShownTarget) (chunk offset : ℕ) → offset ≡ chunk * 10000
+      → (listed old ≡ page_of_first offset → listed new ≡ page_of_first (offset + 10000)) → listed old ≡ page_of_first (chunk * 10000) → listed new
+      ≡ page_of_first ((chunk + 1) * 10000)
   next_chunk old new chunk offset at adds was =
       let next : offset + 10000 ≡ (chunk + 1) * 10000 = omega (arith, at) in
       adds (was ∙ ap page_of_first (sym at)) ∙ ap page_of_first next
 
-  pub last_chunk : (shown : RustPageOf ShownTarget) (chunk count : ℕ) → chunk ≡ count / 10000 + min 1 (count % 10000) → count ≡ length r.targets → listed shown ≡ page_of_first (chunk * 10000) → listed shown ≡ page_of page (matching_shown r f (map seen r.targets))
+  pub last_chunk : (shown : RustPageOf ShownTarget) (chunk count : ℕ) → chunk ≡ count / 10000 + min 1 (count % 10000) → count ≡ length r.targets → listed shown
+      ≡ page_of_first (chunk * 10000) → listed shown ≡ page_of page (matching_shown r f (map seen r.targets))
   last_chunk shown chunk count end is was =
       let enough = (div_ceil_times count 10000 (omega arith)).0 in
       was ∙ ap (λ l. page_of page (matching_shown r f (map seen l))) (take_all (chunk * 10000) r.targets (omega (arith, end, is, enough)))

@@ -1,5 +1,7 @@
 -- From typed reads of targets to what is shown.
-use Rattle.desk_views.proofs.Common.{◌≡◌, ◌∷◌, Bool, true, false, cond, List, [], find, Option, Some, None, refl, sym, ap, ◌∙◌, option_map, stored_target, if_found, query_reply, same_bytes, Bytes, target_shown, Records, TargetShown, ShowTarget, target_word, Target, tags_of, target_of, reply_of, shown_target, same_true, NotFound, Reply, ShownTarget, target_listed, worded}
+use Rattle.desk_views.proofs.Common.{◌≡◌, ◌∷◌, Bool, true, false, cond, List, [], find, Option, Some, None, refl, sym, ap, ◌∙◌, option_map, stored_target}
+use Rattle.desk_views.proofs.Common.{if_found, query_reply, same_bytes, Bytes, target_shown, Records, TargetShown, ShowTarget, target_word, Target, tags_of}
+use Rattle.desk_views.proofs.Common.{target_of, reply_of, shown_target, same_true, NotFound, Reply, ShownTarget, target_listed, worded}
 use Rattle.desk_records.specs.declared.target_row.StoredTarget.{StoredTarget}
 use Rattle.desk_records.specs.Targets.{attributes_of}
 use Rattle.desk_records.proofs.Targets.{has_id}
@@ -22,14 +24,16 @@ module _ (r : Records) (id : Bytes) where
 
   -- what was found of the target, then read with its tags and its attributes, and then shown with its word
   module _ (stored : StoredTarget) (target : SeenTarget) (shown : ShownTarget) where
-    pub one_target : Some stored ≡ option_map stored_target (target_of r id) → target ≡ target_listed r (record { id = id; name = stored.name }) → shown ≡ worded r target
+    pub one_target : Some stored ≡ option_map stored_target (target_of r id) → target ≡ target_listed r (record { id = id; name = stored.name })
+        → shown ≡ worded r target
         → Some (shown_target shown) ≡ option_map (target_shown r) (target_of r id)
     one_target found read is = ap (λ (s : ShownTarget). Some (shown_target s)) (is ∙ ap (worded r) read) ∙ go (target_of r id) refl found
       where
         read_as : Option Target → SeenTarget
         read_as wanted = record { id = id; name = stored.name; tags = tags_of wanted; attributes = attributes_of wanted }
 
-        go : (wanted : Option Target) → target_of r id ≡ wanted → Some stored ≡ option_map stored_target wanted → Some (shown_target (worded r (read_as wanted))) ≡ option_map (target_shown r) wanted
+        go : (wanted : Option Target) → target_of r id ≡ wanted → Some stored ≡ option_map stored_target wanted
+            → Some (shown_target (worded r (read_as wanted))) ≡ option_map (target_shown r) wanted
         go None found is = absurd cc
         go (Some t) found is =
             let same : stored ≡ stored_target t = cc in
@@ -42,10 +46,12 @@ module _ (r : Records) (id : Bytes) where
   reply_for None = reply.Refused NotFound
   reply_for (Some shown) = reply.Target shown
 
-  pub replied : (found : Option ShownTarget) → option_map shown_target found ≡ option_map (target_shown r) (target_of r id) → reply_of (reply_for found) ≡ query_reply r (ShowTarget id)
+  pub replied : (found : Option ShownTarget) → option_map shown_target found ≡ option_map (target_shown r) (target_of r id) → reply_of (reply_for found)
+      ≡ query_reply r (ShowTarget id)
   replied found is = go found (target_of r id) is
     where
-      go : (found : Option ShownTarget) (wanted : Option Target) → option_map shown_target found ≡ option_map (target_shown r) wanted → reply_of (reply_for found) ≡ if_found (λ (x : Target). TargetShown (target_shown r x)) wanted
+      go : (found : Option ShownTarget) (wanted : Option Target) → option_map shown_target found ≡ option_map (target_shown r) wanted
+          → reply_of (reply_for found) ≡ if_found (λ (x : Target). TargetShown (target_shown r x)) wanted
       go None None is = refl
       go None (Some t) is = absurd cc
       go (Some shown) None is = absurd cc

@@ -1,5 +1,9 @@
 -- From typed reads of actions to the word of their target.
-use Rattle.desk_views.proofs.Common.{◌≡◌, ℕ, suc, ◌+◌, ◌<◌, Bool, true, false, cond, ◌&&◌, ◌||◌, List, [], ◌∷◌, ◌++◌, map, filter, length, take, Option, Some, None, is_none, refl, sym, ap, ◌∙◌, arith, false≢true, or_parts, length-take, take_all, list_any, zip, is_some, tally_of, actions_for, stored_action, ListedAction, item_numbered, Bytes, Offer, first_offer, offer, Records, ActionRecord, GroupRecord, RolloutRecord, group_holding, group_is_started, has_started, is_for, is_started_in, started_actions_of, target_word, word_by_last, InError, InSync, Pending, TargetWord, Unknown, is_begun, last_ending, groups_of, numbered_from}
+use Rattle.desk_views.proofs.Common.{◌≡◌, ℕ, suc, ◌+◌, ◌<◌, Bool, true, false, cond, ◌&&◌, ◌||◌, List, [], ◌∷◌, ◌++◌, map, filter, length, take, Option, Some}
+use Rattle.desk_views.proofs.Common.{None, is_none, refl, sym, ap, ◌∙◌, arith, false≢true, or_parts, length-take, take_all, list_any, zip, is_some, tally_of}
+use Rattle.desk_views.proofs.Common.{actions_for, stored_action, ListedAction, item_numbered, Bytes, Offer, first_offer, offer, Records, ActionRecord}
+use Rattle.desk_views.proofs.Common.{GroupRecord, RolloutRecord, group_holding, group_is_started, has_started, is_for, is_started_in, started_actions_of}
+use Rattle.desk_views.proofs.Common.{target_word, word_by_last, InError, InSync, Pending, TargetWord, Unknown, is_begun, last_ending, groups_of, numbered_from}
 use Rattle.campaign_core.specs.StatusWords.{last_word, target_word_from}
 use Rattle.rollout_machine.specs.Groups.{holds_position}
 use Rattle.rollout_machine.specs.declared.outcome.Outcome.{Outcome}
@@ -12,7 +16,8 @@ group_same : (j n : ℕ) (gs : List GroupRecord) → group_is_started (group_hol
 group_same j n [] = refl
 group_same j n (g ∷ gs) = go (holds_position j g.bounds) (group_same j (n + 1) gs) where
   go : (b : Bool) → group_is_started (group_holding j (numbered_from (n + 1) gs)) ≡ group_is_started (group_holding j gs)
-      → group_is_started (cond b (Some (record g { number = n })) (group_holding j (numbered_from (n + 1) gs))) ≡ group_is_started (cond b (Some g) (group_holding j gs))
+      → group_is_started (cond b (Some (record g { number = n })) (group_holding j (numbered_from (n + 1) gs)))
+      ≡ group_is_started (cond b (Some g) (group_holding j gs))
   go true rest = refl
   go false rest = rest
 
@@ -25,7 +30,8 @@ begun_is r a = go (item_numbered r.rollouts a.rollout) where
 -- ---- the last that is started
 
 -- of one more action
-pub one_back : (r : Records) (ending : Option Outcome) (xs : List ListedAction) (it : ListedAction) → last_ending r ending (xs ++ it ∷ []) ≡ cond (is_begun r it.action) it.action.outcome (last_ending r ending xs)
+pub one_back : (r : Records) (ending : Option Outcome) (xs : List ListedAction) (it : ListedAction) → last_ending r ending (xs ++ it ∷ [])
+    ≡ cond (is_begun r it.action) it.action.outcome (last_ending r ending xs)
 one_back r ending [] it = refl
 one_back r ending (x ∷ xs) it = one_back r (cond (is_begun r x.action) x.action.outcome ending) xs it
 
@@ -39,7 +45,8 @@ module _ (r : Records) (all left : List ListedAction) (it : ListedAction) (is : 
   pub it_is_not : false ≡ is_begun r it.action → last_ending r None all ≡ last_ending r None left
   it_is_not asked = by_this false asked
 
-pub none_left : (r : Records) (all left : List ListedAction) → last_ending r None all ≡ last_ending r None left → length left ≡ 0 → None ≡ last_ending r None all
+pub none_left : (r : Records) (all left : List ListedAction) → last_ending r None all ≡ last_ending r None left → length left ≡ 0
+    → None ≡ last_ending r None all
 none_left r all [] is none = sym is
 none_left r all (it ∷ left) is none = absurd (omega (arith, none))
 
@@ -67,7 +74,8 @@ module _ (r : Records) (t : Bytes) where
   offered_open k [] = refl
   offered_open k (a ∷ more) = go (is_open a) (is_for r t a && has_started r a) refl (offered_open (suc k) more) where
     go : (o b : Bool) → is_open a ≡ o → is_some (first_offer r t (suc k) more) ≡ list_any is_open (own more)
-        → is_some (cond (o && b) (Some (record { action = k; canceling = a.canceling })) (first_offer r t (suc k) more)) ≡ list_any is_open (cond b (a ∷ own more) (own more))
+        → is_some (cond (o && b) (Some (record { action = k; canceling = a.canceling })) (first_offer r t (suc k) more))
+        ≡ list_any is_open (cond b (a ∷ own more) (own more))
     go true true is rest = sym (ap (λ c. c || list_any is_open (own more)) is)
     go false true is rest = rest ∙ sym (ap (λ c. c || list_any is_open (own more)) is)
     go true false is rest = rest
@@ -77,17 +85,22 @@ module _ (r : Records) (t : Bytes) where
   abbrev pub listed_from : ℕ → List ActionRecord → List ListedAction
   listed_from n actions = actions_for r.rollouts t n (zip actions (map tally_of actions))
 
-  ending_is : (n : ℕ) (actions : List ActionRecord) (ending : Option Outcome) (w : TargetWord) → last_word ending ≡ w → list_any is_open (own actions) ≡ false → last_word (last_ending r ending (listed_from n actions)) ≡ word_by_last w (own actions)
+  ending_is : (n : ℕ) (actions : List ActionRecord) (ending : Option Outcome) (w : TargetWord) → last_word ending ≡ w → list_any is_open (own actions) ≡ false
+      → last_word (last_ending r ending (listed_from n actions)) ≡ word_by_last w (own actions)
   ending_is n [] ending w is closed = is
   ending_is n (a ∷ more) ending w is closed = go (is_for r t a) (has_started r a) (begun_is r a) closed (ending_is (n + 1) more) where
     go : (f s : Bool) → is_begun r (stored_action r.rollouts (a, tally_of a)) ≡ s → list_any is_open (cond (f && s) (a ∷ own more) (own more)) ≡ false
-        → ((o : Option Outcome) (w : TargetWord) → last_word o ≡ w → list_any is_open (own more) ≡ false → last_word (last_ending r o (listed_from (n + 1) more)) ≡ word_by_last w (own more))
-        → last_word (last_ending r ending (cond f ((record { number = n; action = stored_action r.rollouts (a, tally_of a) }) ∷ listed_from (n + 1) more) (listed_from (n + 1) more))) ≡ word_by_last w (cond (f && s) (a ∷ own more) (own more))
+        → ((o : Option Outcome) (w : TargetWord) → last_word o ≡ w → list_any is_open (own more) ≡ false
+        → last_word (last_ending r o (listed_from (n + 1) more)) ≡ word_by_last w (own more))
+        → last_word (last_ending r ending
+        (cond f ((record { number = n; action = stored_action r.rollouts (a, tally_of a) }) ∷ listed_from (n + 1) more) (listed_from (n + 1) more)))
+        ≡ word_by_last w (cond (f && s) (a ∷ own more) (own more))
     go false s begun none rest = rest ending w is none
     go true false begun none rest = ap (λ b. last_word (last_ending r (cond b a.outcome ending) (listed_from (n + 1) more))) begun ∙ rest ending w is none
     go true true begun none rest =
         let parts = or_parts (is_open a) (list_any is_open (own more)) none in
-        ap (λ b. last_word (last_ending r (cond b a.outcome ending) (listed_from (n + 1) more))) begun ∙ rest a.outcome (word_by_ending a.outcome) (ended_word a.outcome parts.0) parts.1
+        ap (λ b. last_word (last_ending r (cond b a.outcome ending) (listed_from (n + 1) more))) begun
+        ∙ rest a.outcome (word_by_ending a.outcome) (ended_word a.outcome parts.0) parts.1
 
   module _ (found : Option Offer) (is : found ≡ offer r t) where
     open_is : (b : Bool) → is_some found ≡ b → list_any is_open (started_actions_of r t) ≡ b
@@ -96,9 +109,11 @@ module _ (r : Records) (t : Bytes) where
     pub word_pending : is_some found ≡ true → target_word_from (record { any_open = true; last = None }) ≡ target_word r t
     word_pending there = sym (ap (λ b. cond b Pending (word_by_last Unknown (started_actions_of r t))) (open_is true there))
 
-    pub word_ended : (actions : List ListedAction) (last : Option Outcome) → is_some found ≡ false → actions ≡ listed_from 1 r.actions → last ≡ last_ending r None actions → target_word_from (record { any_open = false; last = last }) ≡ target_word r t
+    pub word_ended : (actions : List ListedAction) (last : Option Outcome) → is_some found ≡ false → actions ≡ listed_from 1 r.actions
+        → last ≡ last_ending r None actions → target_word_from (record { any_open = false; last = last }) ≡ target_word r t
     word_ended actions last none listed ended =
-        ap last_word (ended ∙ ap (last_ending r None) listed) ∙ ending_is 1 r.actions None Unknown refl (open_is false none) ∙ sym (ap (λ b. cond b Pending (word_by_last Unknown (started_actions_of r t))) (open_is false none))
+        ap last_word (ended ∙ ap (last_ending r None) listed) ∙ ending_is 1 r.actions None Unknown refl (open_is false none)
+        ∙ sym (ap (λ b. cond b Pending (word_by_last Unknown (started_actions_of r t))) (open_is false none))
 
 -- fewer than were wanted are all
 pub all_listed : (limit count : ℕ) (all items : List ListedAction) → items ≡ take limit all → count ≡ length items → count < limit → items ≡ all

@@ -1,5 +1,6 @@
 -- Computed examples: they guard the definitions against slips.
-use Rattle.http_wire.proofs.Common.{◌≡◌, ℕ, ◌+◌, true, false, List, [], ◌∷◌, ◌++◌, Some, None, refl, codes, decimal, replicate, map, Ok, Err, flat_map, body_length_limit, TooLarge, BadLength, BadCoding, line_ends, sole_value}
+use Rattle.http_wire.proofs.Common.{◌≡◌, ℕ, ◌+◌, true, false, List, [], ◌∷◌, ◌++◌, Some, None, refl, codes, decimal, replicate, map, Ok, Err, flat_map}
+use Rattle.http_wire.proofs.Common.{body_length_limit, TooLarge, BadLength, BadCoding, line_ends, sole_value}
 use Rattle.std.specs.Fmt.{digits}
 use Rattle.httparse.specs.Grammar.{trim_ows}
 use Rattle.rollout_model.specs.declared.Refusal.TheVariants as refusals
@@ -93,17 +94,20 @@ reasons : map reason (200 ∷ 201 ∷ 400 ∷ 401 ∷ 403 ∷ 404 ∷ 405 ∷ 40
 unfolding reason
 reasons = refl
 
-exists_text : refusal_text refusals.Exists ≡ codes "HTTP/1.1 409 Conflict\r\nContent-Type: application/json\r\nContent-Length: 29\r\n\r\n{\"error\":\"exists\",\"number\":5}"
+exists_text : refusal_text refusals.Exists
+    ≡ codes "HTTP/1.1 409 Conflict\r\nContent-Type: application/json\r\nContent-Length: 29\r\n\r\n{\"error\":\"exists\",\"number\":5}"
 unfolding refusal_text reason digits
 exists_text = refl
 
 too_large_text : refusal_text refusals.TooLarge
-    ≡ codes "HTTP/1.1 413 Payload Too Large\r\nContent-Type: application/json\r\nContent-Length: 32\r\nConnection: close\r\n\r\n{\"error\":\"too_large\",\"number\":9}"
+    ≡ codes
+    "HTTP/1.1 413 Payload Too Large\r\nContent-Type: application/json\r\nContent-Length: 32\r\nConnection: close\r\n\r\n{\"error\":\"too_large\",\"number\":9}"
 unfolding refusal_text reason digits
 too_large_text = refl
 
 coding_text : refusal_text refusals.BadCoding
-    ≡ codes "HTTP/1.1 501 Not Implemented\r\nContent-Type: application/json\r\nContent-Length: 30\r\nConnection: close\r\n\r\n{\"error\":\"coding\",\"number\":21}"
+    ≡ codes
+    "HTTP/1.1 501 Not Implemented\r\nContent-Type: application/json\r\nContent-Length: 30\r\nConnection: close\r\n\r\n{\"error\":\"coding\",\"number\":21}"
 unfolding refusal_text reason digits
 coding_text = refl
 

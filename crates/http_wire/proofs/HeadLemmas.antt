@@ -1,10 +1,15 @@
 -- The strict heads are those of httparse's grammar in which each LF follows a CR, apart empty line comes
 -- first, the version is 1.1 and the target is in origin form.
-use Rattle.http_wire.proofs.Common.{◌≡◌, ◌≢◌, ℕ, ◌+◌, ◌<◌, ◌≤◌, true, cond, eqb, List, [], ◌∷◌, ◌++◌, map, length, get_or, take, drop, refl, sym, ap, ◌∙◌, subst, arith, append_assoc, inl, inr, IsAscii, All, flat_map, and_parts, and_from, eqb-true, cases_lt, not_from_false, ne_eqb, false≢true, append-nil, get_or_past, length-map, drop_all, field_limit, FieldLine, HeadParts, line_text, IsOriginForm, IsFieldLine, SpellsHead, name_and_value, line_ends, HasFewFields, lf_follows_cr, is_no_line_break, IsStrict, IsHeadAt}
+use Rattle.http_wire.proofs.Common.{◌≡◌, ◌≢◌, ℕ, ◌+◌, ◌<◌, ◌≤◌, true, cond, eqb, List, [], ◌∷◌, ◌++◌, map, length, get_or, take, drop, refl, sym, ap, ◌∙◌}
+use Rattle.http_wire.proofs.Common.{subst, arith, append_assoc, inl, inr, IsAscii, All, flat_map, and_parts, and_from, eqb-true, cases_lt, not_from_false}
+use Rattle.http_wire.proofs.Common.{ne_eqb, false≢true, append-nil, get_or_past, length-map, drop_all, field_limit, FieldLine, HeadParts, line_text}
+use Rattle.http_wire.proofs.Common.{IsOriginForm, IsFieldLine, SpellsHead, name_and_value, line_ends, HasFewFields, lf_follows_cr, is_no_line_break, IsStrict}
+use Rattle.http_wire.proofs.Common.{IsHeadAt}
 use Rattle.std.proofs.lemmas.Bool.Decides.{nat_tests}
 use Rattle.std.proofs.lemmas.List.Elements.{All-head, All-tail, All-weaker, All-map}
 use Rattle.std.proofs.lemmas.Str.{IsUtf8-from_ascii}
-use Rattle.httparse.specs.Grammar.{is_token_byte, is_uri_byte, is_value_byte, AllPass, IsToken, LineEnd, crlf, lf, print_end, print_blank, print_version, Field, print_field, IsField, print_section, RequestHead, print_request, ReadsRequest}
+use Rattle.httparse.specs.Grammar.{is_token_byte, is_uri_byte, is_value_byte, AllPass, IsToken, LineEnd, crlf, lf, print_end, print_blank, print_version}
+use Rattle.httparse.specs.Grammar.{Field, print_field, IsField, print_section, RequestHead, print_request, ReadsRequest}
 use Rattle.httparse.specs.Spans as Spans
 use Rattle.httparse.specs.declared.spans.RequestSpans.{RequestSpans}
 use Rattle.httparse.specs.declared.spans.HeaderSpan.{HeaderSpan}
@@ -111,7 +116,8 @@ nested method target end fields last =
 pub spelled_text : (region : List ℕ) (h : HeadParts) → SpellsHead region h → region ≡ nested h.method h.target crlf (map field_of h.lines) crlf
 spelled_text region h s =
     s.1 ∙ sym (request_text h) ∙ sym (append-nil (print_request (as_request h))) ∙ print_request-append (as_request h) []
-    ∙ ap (λ t. h.method ++ 32 ∷ (h.target ++ 32 ∷ (print_version 1 ++ (print_end crlf ++ t)))) (append_assoc (flat_map print_field (map field_of h.lines)) (print_end crlf) [])
+    ∙ ap (λ t. h.method ++ 32 ∷ (h.target ++ 32 ∷ (print_version 1 ++ (print_end crlf ++ t))))
+    (append_assoc (flat_map print_field (map field_of h.lines)) (print_end crlf) [])
 
 target_ascii : (target : List ℕ) → AllPass is_target_byte target → IsAscii target
 target_ascii target all k = elim (cases_lt k (length target)) [
@@ -134,7 +140,8 @@ spelled_reads region h s = (
     target = (not_empty h.target s.0.target.0, uri_of_target h.target s.0.target.1);
     target_text = IsUtf8-from_ascii h.target (target_ascii h.target s.0.target.1);
     minor = omega arith;
-    fields = All-map IsField field_of h.lines (All-weaker IsFieldLine (λ l. IsField (field_of l)) (λ l x. record { name = x.name; raw = x.raw }) h.lines s.0.lines);
+    fields = All-map IsField field_of h.lines
+        (All-weaker IsFieldLine (λ l. IsField (field_of l)) (λ l x. record { name = x.name; raw = x.raw }) h.lines s.0.lines);
   },
   s.1 ∙ sym (request_text h) ∙ sym (append-nil (print_request (as_request h))),
 )
@@ -254,7 +261,9 @@ head_at region headers r within of room first pairs strict =
     let reads : ReadsRequest region h [] = subst (λ (rest : List ℕ). ReadsRequest region h rest) none at.reads in
     let same = strict_from region h reads first pairs (sym at.version ∙ strict.version) in
     let parts = parts_of h in
-    let fields : All IsFieldLine parts.lines = All-map IsFieldLine line_of h.fields (All-weaker IsField (λ f. IsFieldLine (line_of f)) (λ f x. record { name = x.name; raw = x.raw }) h.fields reads.0.fields) in
+    let fields : All IsFieldLine parts.lines =
+    All-map IsFieldLine line_of h.fields
+    (All-weaker IsField (λ f. IsFieldLine (line_of f)) (λ f x. record { name = x.name; raw = x.raw }) h.fields reads.0.fields) in
     let len : r.len ≤ length region = within.section.len_fits in
     record {
       method = (within.method.0, omega (arith, within.method.1));

@@ -1,5 +1,7 @@
 -- The number of line ends is the number of lines, the parts between the CR LF pairs, and that of the LF behind a CR.
-use Rattle.http_wire.proofs.Common.{◌≡◌, ℕ, ◌+◌, ◌-◌, Bool, true, false, ◌&&◌, List, [], ◌∷◌, ◌++◌, drop, get_or, refl, sym, arith, ap, ◌∙◌, length, if◌then◌else◌, ◌==◌, nat_lt, flat_map, list_all, lt-ltb, drop-drop, get_or-drop, is_byte, places, line_ends, AreLines, HasLines, lf_follows_cr}
+use Rattle.http_wire.proofs.Common.{◌≡◌, ℕ, ◌+◌, ◌-◌, Bool, true, false, ◌&&◌, List, [], ◌∷◌, ◌++◌, drop, get_or, refl, sym, arith, ap, ◌∙◌, length}
+use Rattle.http_wire.proofs.Common.{if◌then◌else◌, ◌==◌, nat_lt, flat_map, list_all, lt-ltb, drop-drop, get_or-drop, is_byte, places, line_ends, AreLines}
+use Rattle.http_wire.proofs.Common.{HasLines, lf_follows_cr}
 use Rattle.httparse.specs.Ascii.{crlf_bytes}
 use Rattle.memchr.specs.Find.{places_from}
 
@@ -61,7 +63,8 @@ follows_next : (bytes : List ℕ) (i b : ℕ) → get_or bytes i 0 ≡ b → fol
 follows_next bytes i b here =
     ap (λ v. v && (get_or bytes (i + 1 - 1) 0 == 13)) (lt-ltb 0 (i + 1) (omega arith)) ∙ ap (λ k. get_or bytes k 0 == 13) (omega arith) ∙ ap (λ x. x == 13) here
 
-reads_from : (bytes rest : List ℕ) (i p : ℕ) → drop i bytes ≡ rest → follows bytes i ≡ (p == 13) → Reads bytes rest (places_from (is_byte 10) bytes i (length rest)) p
+reads_from : (bytes rest : List ℕ) (i p : ℕ) → drop i bytes ≡ rest → follows bytes i ≡ (p == 13)
+    → Reads bytes rest (places_from (is_byte 10) bytes i (length rest)) p
 unfolding places_from
 reads_from bytes [] i p same f = record { pairs = go (p == 13); strict = refl }
   where
@@ -74,7 +77,8 @@ reads_from bytes (b ∷ rest) i p same f =
     one_more bytes rest _ i p b (get_or bytes i 0 == 10) (ap (λ x. x == 10) (sym here)) f
     (reads_from bytes rest (i + 1) b next (follows_next bytes i b here))
 
-pub reads_places : (bytes : List ℕ) → (pairs_at bytes (places (is_byte 10) bytes) ≡ line_ends bytes) × (list_all (follows bytes) (places (is_byte 10) bytes) ≡ lf_follows_cr 0 bytes)
+pub reads_places : (bytes : List ℕ) → (pairs_at bytes (places (is_byte 10) bytes) ≡ line_ends bytes)
+    × (list_all (follows bytes) (places (is_byte 10) bytes) ≡ lf_follows_cr 0 bytes)
 reads_places bytes =
     let size : length bytes - 0 ≡ length bytes = omega arith in
     let all = reads_from bytes bytes 0 0 refl refl in

@@ -1,5 +1,11 @@
 -- At the front of the bytes stands one message, one fault or neither, and more bytes leave it there.
-use Rattle.http_wire.proofs.Common.{◌≡◌, ℕ, ◌+◌, ◌<◌, ◌≤◌, ◌⊎◌, List, [], ◌∷◌, ◌++◌, length, map, take, drop, refl, sym, ap, ◌∙◌, subst, arith, append_assoc, inl, inr, Result, Ok, Err, Option, Some, None, append-nil, ◌^◌, codes, nat_lt, length-append, take_at, drop_at, take-append-drop, length-take-le, digits_value, cond_both, ltb-false, head_length_limit, field_limit, body_length_limit, WireFault, TooLarge, BadHead, BadLength, HeadTooLarge, BadCoding, HasRegion, HasNoRegion, HasFewFields, line_ends, FieldLine, HeadParts, SpellsHead, NameAndValue, name_and_value, is_digits, length_of, length_by, unless_coded, fields_named, WireMessage, IsHeadWith, IsMessage, IsBadRegion, IsFault, IsUndecided, Begins, HasMessages, EndsAs, message_of, Answers, HandsOut, End, Input, Cut, Fault}
+use Rattle.http_wire.proofs.Common.{◌≡◌, ℕ, ◌+◌, ◌<◌, ◌≤◌, ◌⊎◌, List, [], ◌∷◌, ◌++◌, length, map, take, drop, refl, sym, ap, ◌∙◌, subst, arith, append_assoc}
+use Rattle.http_wire.proofs.Common.{inl, inr, Result, Ok, Err, Option, Some, None, append-nil, ◌^◌, codes, nat_lt, length-append, take_at, drop_at}
+use Rattle.http_wire.proofs.Common.{take-append-drop, length-take-le, digits_value, cond_both, ltb-false, head_length_limit, field_limit, body_length_limit}
+use Rattle.http_wire.proofs.Common.{WireFault, TooLarge, BadHead, BadLength, HeadTooLarge, BadCoding, HasRegion, HasNoRegion, HasFewFields, line_ends}
+use Rattle.http_wire.proofs.Common.{FieldLine, HeadParts, SpellsHead, NameAndValue, name_and_value, is_digits, length_of, length_by, unless_coded}
+use Rattle.http_wire.proofs.Common.{fields_named, WireMessage, IsHeadWith, IsMessage, IsBadRegion, IsFault, IsUndecided, Begins, HasMessages, EndsAs}
+use Rattle.http_wire.proofs.Common.{message_of, Answers, HandsOut, End, Input, Cut, Fault}
 use Rattle.httparse.proofs.GrammarLemmas.{request_unique}
 use Rattle.http_wire.specs.BodyLengths.{body_length}
 use Rattle.http_wire.specs.declared.message.Message.{Message}
@@ -127,7 +133,8 @@ missing_body bytes region after m t fs n has good short = (
 
 -- one more byte at least where a head may still end
 pub missing_head : (bytes : List ℕ) → HasNoRegion bytes → length bytes < head_length_limit → StandsFirst bytes (Err (Wants (length bytes + 1)))
-missing_head bytes none short = (omega arith, λ more few. subst IsUndecided (sym (append_nothing bytes more (omega (arith, few, length-append bytes more)))) undecided)
+missing_head bytes none short =
+    (omega arith, λ more few. subst IsUndecided (sym (append_nothing bytes more (omega (arith, few, length-append bytes more)))) undecided)
   where
     undecided : IsUndecided bytes
     undecided = record {
@@ -157,7 +164,8 @@ whole_message bytes region after m t fs n has good long = record {
 
 -- ---- one reading
 
-good_of : (bytes : List ℕ) (m : WireMessage) (rest : List ℕ) (message : IsMessage bytes m rest) → IsGood message.region m.method m.target m.fields (length m.body)
+good_of : (bytes : List ℕ) (m : WireMessage) (rest : List ℕ) (message : IsMessage bytes m rest)
+    → IsGood message.region m.method m.target m.fields (length m.body)
 good_of bytes m rest message = record { head = message.head; body = message.body }
 
 same_parts : (m n : WireMessage) → (m.method ≡ n.method) × (m.target ≡ n.target) × (m.fields ≡ n.fields) → m.body ≡ n.body → m ≡ n
@@ -187,7 +195,8 @@ message_is_no_fault bytes m rest message f fault = elim fault [
 pub message_append : (bytes : List ℕ) (m : WireMessage) (rest more : List ℕ) → IsMessage bytes m rest → IsMessage (bytes ++ more) m (rest ++ more)
 message_append bytes m rest more message = record {
   region = message.region;
-  has = subst (λ (x : List ℕ). HasRegion (bytes ++ more) message.region x) (append_assoc m.body rest more) (region_append bytes message.region (m.body ++ rest) more message.has);
+  has = subst (λ (x : List ℕ). HasRegion (bytes ++ more) message.region x) (append_assoc m.body rest more)
+      (region_append bytes message.region (m.body ++ rest) more message.has);
   head = message.head;
   body = message.body;
 }

@@ -1,5 +1,8 @@
 -- The head region by places, and that more bytes leave it as it is.
-use Rattle.http_wire.proofs.Common.{◌≡◌, ℕ, zero, suc, ◌+◌, ◌-◌, ◌<◌, ◌≤◌, min, List, ◌++◌, length, take, drop, get_or, codes, refl, sym, ap, ◌∙◌, subst, arith, append_assoc, inl, inr, Some, None, cases_order, cases_lt, get_or-take, get_or_append_left, length-take-le, length-append, take-append-drop, take_at, drop_at, FindsNeedle, OccursAt, head_length_limit, IsHeadEndAt, HasRegion, HasNoRegion}
+use Rattle.http_wire.proofs.Common.{◌≡◌, ℕ, zero, suc, ◌+◌, ◌-◌, ◌<◌, ◌≤◌, min, List, ◌++◌, length, take, drop, get_or, codes, refl, sym, ap, ◌∙◌, subst}
+use Rattle.http_wire.proofs.Common.{arith, append_assoc, inl, inr, Some, None, cases_order, cases_lt, get_or-take, get_or_append_left, length-take-le}
+use Rattle.http_wire.proofs.Common.{length-append, take-append-drop, take_at, drop_at, FindsNeedle, OccursAt, head_length_limit, IsHeadEndAt, HasRegion}
+use Rattle.http_wire.proofs.Common.{HasNoRegion}
 
 -- four places of one list are those of another
 same_end : (a b : List ℕ) (k : ℕ) → ((i : ℕ) → i < k + 4 → get_or a i 0 ≡ get_or b i 0) → IsHeadEndAt a k → IsHeadEndAt b k
@@ -78,10 +81,12 @@ region_found bytes n k fits limit found =
     region_at bytes k (omega arith) (omega arith) (end_in_take bytes n k room (end_of_needle (take n bytes) k found.1))
     (λ j l here. found.0.before j (omega arith) l (needle_of_end (take n bytes) j (omega arith) (take_of_end bytes n j (omega arith) here)))
 
-pub no_region_found : (bytes : List ℕ) (n : ℕ) → n ≡ min (length bytes) head_length_limit → FindsNeedle (take n bytes) (codes "\r\n\r\n") 0 None → HasNoRegion bytes
+pub no_region_found : (bytes : List ℕ) (n : ℕ) → n ≡ min (length bytes) head_length_limit → FindsNeedle (take n bytes) (codes "\r\n\r\n") 0 None
+    → HasNoRegion bytes
 no_region_found bytes n least found =
     let size = length-take-le n bytes (omega arith) in
-    no_region bytes (λ k fits limit here. found k (omega arith) (omega arith) (needle_of_end (take n bytes) k (omega arith) (take_of_end bytes n k (omega arith) here)))
+    no_region bytes (λ k fits limit here. found k (omega arith) (omega arith)
+    (needle_of_end (take n bytes) k (omega arith) (take_of_end bytes n k (omega arith) here)))
 
 -- two regions of the same bytes are one
 region_shorter : (bytes r s a b : List ℕ) → HasRegion bytes r a → HasRegion bytes s b → length r < length s → ⊥

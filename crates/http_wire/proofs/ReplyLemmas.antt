@@ -2,7 +2,9 @@
 use Rattle.http_wire.proofs.Common.{ℕ, ◌≤◌, ◌<◌, Bool, true, false, List, [], Option, Some, None, length, arith, ◌==◌, if◌then◌else◌, unwrap_or, codes}
 use Rattle.http.specs.StatusCode.{IsStatusCode, reason_phrase}
 use Rattle.rollout_model.specs.declared.Refusal.{Refusal}
-use Rattle.rollout_model.specs.declared.Refusal.TheVariants.{BadRequest, Unauthorized, NotFound, BadMethod, Exists, Locked, WrongState, ClosedAction, TooLarge, Quota, BadFilter, TooFewTargets, WrongDigest, BadImportLine, NoMemory, StoreFailed, Stopped, BadHead, BadLength, HeadTooLarge, BadCoding, OldNumber}
+use Rattle.rollout_model.specs.declared.Refusal.TheVariants.{BadRequest, Unauthorized, NotFound, BadMethod, Exists, Locked, WrongState, ClosedAction, TooLarge}
+use Rattle.rollout_model.specs.declared.Refusal.TheVariants.{Quota, BadFilter, TooFewTargets, WrongDigest, BadImportLine, NoMemory, StoreFailed, Stopped}
+use Rattle.rollout_model.specs.declared.Refusal.TheVariants.{BadHead, BadLength, HeadTooLarge, BadCoding, OldNumber}
 use Rattle.rollout_model.specs.Refusals.{refusal_row}
 use Rattle.http_wire.specs.Replies.{reason}
 

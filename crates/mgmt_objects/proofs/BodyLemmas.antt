@@ -1,5 +1,6 @@
 -- The value of a body, and the one item of an array.
-use Rattle.mgmt_objects.proofs.Common.{◌≡◌, ◌≢◌, ℕ, List, [], ◌∷◌, length, Bool, true, false, Option, Some, None, cond, refl, sym, ◌∙◌, map, Data, as_array, Value, view, items_view, items_of}
+use Rattle.mgmt_objects.proofs.Common.{◌≡◌, ◌≢◌, ℕ, List, [], ◌∷◌, length, Bool, true, false, Option, Some, None, cond, refl, sym, ◌∙◌, map, Data, as_array}
+use Rattle.mgmt_objects.proofs.Common.{Value, view, items_view, items_of}
 use Rattle.std.specs.Str.{IsUtf8, is_utf8}
 use Rattle.std.proofs.lemmas.Str.{is_utf8-from_IsUtf8, IsUtf8-from_is_utf8}
 use Rattle.serde_json.specs.Read.{read}

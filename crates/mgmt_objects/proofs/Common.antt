@@ -1,5 +1,7 @@
 -- The names of other modules that the proofs here cite, passed on from one place. Declares nothing.
-pub use Rattle.std.proofs.Common.{◌≡◌, ℕ, zero, suc, ◌+◌, ◌<◌, Bool, true, false, cond, ◌≢◌, ◌⊎◌, List, [], ◌∷◌, ◌++◌, map, length, get_or, take, drop, Some, None, string_bytes, codes, decimal, Option, option_map, option_and_then, sym, refl, ap, ◌∙◌, inl, inr, append_assoc, arith, rules}
+pub use Rattle.std.proofs.Common.{◌≡◌, ℕ, zero, suc, ◌+◌, ◌<◌, Bool, true, false, cond, ◌≢◌, ◌⊎◌, List, [], ◌∷◌, ◌++◌, map, length, get_or, take, drop, Some}
+pub use Rattle.std.proofs.Common.{None, string_bytes, codes, decimal, Option, option_map, option_and_then, sym, refl, ap, ◌∙◌, inl, inr, append_assoc, arith}
+pub use Rattle.std.proofs.Common.{rules}
 pub use Rattle.std.proofs.lemmas.Result.{IfOk-weaker}
 pub use Rattle.serde_json.proofs.Views.{members_view-insert_entry, view-Array, view-Object}
 pub use Rattle.serde_json.specs.Data.{Data, Members, array, boolean, member, no_members, object, put, string}

@@ -3,5 +3,6 @@ use Rattle.mgmt_objects.proofs.Common.{◌≡◌, ℕ, List, Some, map, ap, sym,
 use Rattle.mgmt_objects.specs.SetBodies.{id_of, ids_member}
 use Rattle.mgmt_objects.proofs.TraverseLemmas.{list_of_items}
 
-pub ids_listed : (key : List ℕ) (d : Data) (vs : List Value) → Some (items_view vs) ≡ option_and_then as_array (get key d) → traverse id_of (map view vs) ≡ ids_member key d
+pub ids_listed : (key : List ℕ) (d : Data) (vs : List Value) → Some (items_view vs) ≡ option_and_then as_array (get key d) → traverse id_of (map view vs)
+    ≡ ids_member key d
 ids_listed key d vs listed = rw (← listed) (ap (traverse id_of) (sym (list_of_items (map view vs))))

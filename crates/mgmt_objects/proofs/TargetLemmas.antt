@@ -7,5 +7,6 @@ use Rattle.rollout_model.specs.declared.target.Attribute.{Attribute}
 pub with_attributes_more : (members : Members) (attributes : List Attribute) (i : ℕ) (a : Attribute) → i < length attributes → a ≡ get_or attributes i a
     → with_attributes (put a.key (string a.value) members) (drop (i + 1) attributes) ≡ with_attributes members (drop i attributes)
 with_attributes_more members attributes i a below is =
-    let more : with_attributes members (drop i attributes) ≡ with_attributes members (get_or attributes i a ∷ drop (i + 1) attributes) = at_drop_more (with_attributes members) attributes i a below in
+    let more : with_attributes members (drop i attributes) ≡ with_attributes members (get_or attributes i a ∷ drop (i + 1) attributes) =
+    at_drop_more (with_attributes members) attributes i a below in
     sym (more ∙ ap (λ (b : Attribute). with_attributes members (b ∷ drop (i + 1) attributes)) (sym is))

@@ -1,5 +1,6 @@
 -- The names of other modules that the proofs here cite, passed on from one place. Declares nothing.
-pub use Rattle.std.proofs.Common.{◌≡◌, ℕ, zero, suc, ◌+◌, ◌<◌, ◌≤◌, Bool, true, false, cond, ◌&&◌, ◌||◌, ◌≢◌, ◌⊎◌, List, [], ◌∷◌, ◌++◌, map, length, is_none, nat_eq, nat_lt, slice_get, Some, None, Option, sym, refl, ap, ◌∙◌, subst, inl, inr, arith}
+pub use Rattle.std.proofs.Common.{◌≡◌, ℕ, zero, suc, ◌+◌, ◌<◌, ◌≤◌, Bool, true, false, cond, ◌&&◌, ◌||◌, ◌≢◌, ◌⊎◌, List, [], ◌∷◌, ◌++◌, map, length, is_none}
+pub use Rattle.std.proofs.Common.{nat_eq, nat_lt, slice_get, Some, None, Option, sym, refl, ap, ◌∙◌, subst, inl, inr, arith}
 pub use Rattle.std.proofs.lemmas.Bool.{and_parts, cases_Bool, cases_eq, eq-eqb, eqb-true, false≢true, le-ltb, lt-ltb, ltb-false, not-false, or_parts}
 pub use Rattle.std.specs.Option.{option_map, unwrap_or}
 pub use Rattle.rollout_machine.proofs.Cuts.{IsOwnGroup, group_of, held, in_bounds, one_group}
@@ -9,7 +10,8 @@ pub use Rattle.rollout_machine.proofs.Recounts.{new_rollout_there, stays_there}
 pub use Rattle.rollout_machine.proofs.TargetTies.{same_refl, same_true}
 pub use Rattle.rollout_machine.proofs.Valid.{IsPlace, NoneHolds, found_action, has_started_is, its_group, none_holds}
 pub use Rattle.rollout_machine.proofs.Whole.{IsAccepted, rollout_numbered}
-pub use Rattle.rollout_machine.specs.Actions.{ActionPlace, action_of, action_place, action_places, cancel_stands, is_action_place, is_on_action, new_places, outcome}
+pub use Rattle.rollout_machine.specs.Actions.{ActionPlace, action_of, action_place, action_places, cancel_stands, is_action_place, is_on_action, new_places}
+pub use Rattle.rollout_machine.specs.Actions.{outcome}
 pub use Rattle.rollout_machine.specs.ByteStrings.{item_numbered, same_bytes}
 pub use Rattle.rollout_machine.specs.CommandList.{CommandList, Make, ◌▸◌}
 pub use Rattle.rollout_machine.specs.Commands.{Bytes, Cancel, CancelFeedback, Command, Feedback}
@@ -28,5 +30,8 @@ pub use Rattle.rollout_machine.specs.declared.bounds.Bounds.{Bounds}
 pub use Rattle.rollout_machine.specs.declared.records.ActionRecord.{ActionRecord}
 pub use Rattle.rollout_machine.specs.declared.records.GroupRecord.{GroupRecord}
 pub use Rattle.rollout_machine.specs.declared.records.RolloutRecord.{RolloutRecord}
-pub use Rattle.offer_laws.specs.GroupOffers.{GroupOffersStay, GroupStarts, IsOnOther, OfferOfOthers, OffersAfterGroup, OffersAfterNoGroup, OffersAfterNone, OffersAfterStart, OffersById, OffersOfActor, OffersOfNoStart, OffersOfStart, OffersStep, StartedByAny, StartedByAnyThen, acted, actor, group_offers, lesser, member_of, offers_before_start, offers_from, put_offer, put_offers, with_actor, with_offer}
+pub use Rattle.offer_laws.specs.GroupOffers.{GroupOffersStay, GroupStarts, IsOnOther, OfferOfOthers, OffersAfterGroup, OffersAfterNoGroup, OffersAfterNone}
+pub use Rattle.offer_laws.specs.GroupOffers.{OffersAfterStart, OffersById, OffersOfActor, OffersOfNoStart, OffersOfStart, OffersStep, StartedByAny}
+pub use Rattle.offer_laws.specs.GroupOffers.{StartedByAnyThen, acted, actor, group_offers, lesser, member_of, offers_before_start, offers_from, put_offer}
+pub use Rattle.offer_laws.specs.GroupOffers.{put_offers, with_actor, with_offer}
 pub use Rattle.std.proofs.Math.Bool.{and-false, or-false}

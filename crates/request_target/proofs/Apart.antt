@@ -1,5 +1,6 @@
 -- A path meets one route at most.
-use Rattle.request_target.proofs.Common.{◌≡◌, ◌⊎◌, inl, inr, ℕ, List, [], ◌∷◌, drop, Bool, true, false, not, cond, ◌&&◌, ◌==◌, Option, Some, None, refl, sym, ◌∙◌, ap, arith, false≢true, eqb-true, nat_tests, RowsOf, first, apart, apart_from, all_apart, all_plain}
+use Rattle.request_target.proofs.Common.{◌≡◌, ◌⊎◌, inl, inr, ℕ, List, [], ◌∷◌, drop, Bool, true, false, not, cond, ◌&&◌, ◌==◌, Option, Some, None, refl, sym}
+use Rattle.request_target.proofs.Common.{◌∙◌, ap, arith, false≢true, eqb-true, nat_tests, RowsOf, first, apart, apart_from, all_apart, all_plain}
 use Rattle.request_target.proofs.Meets.{segment_len, is_empty, begins, meets, met_row, all_bytes, In}
 use Rattle.request_target.proofs.Longest.{both}
 use Rattle.request_target.proofs.Found.{Found, first_found}
@@ -62,12 +63,14 @@ apart_in t u l ((w, k) ∷ rest) h at =
 -- the row that is found is the one that is met
 met_is : {K : Type 0} (rs : RowsOf K) (path t : List ℕ) (k : K) → all_apart rs ≡ true → In t k rs → meets t path ≡ true → Some k ≡ met_row rs path
 met_is [] path t k h at m = absurd at
-met_is {K} ((u, l) ∷ rest) path t k h at m = by (meets u path) refl at (λ (later : In t k rest). met_is rest path t k (both (apart_from u rest) (all_apart rest) h).1 later m)
+met_is {K} ((u, l) ∷ rest) path t k h at m =
+    by (meets u path) refl at (λ (later : In t k rest). met_is rest path t k (both (apart_from u rest) (all_apart rest) h).1 later m)
   where
     parts : (apart_from u rest ≡ true) × (all_apart rest ≡ true)
     parts = both (apart_from u rest) (all_apart rest) h
 
-    by : (v : Bool) → meets u path ≡ v → ((t ≡ u) × (k ≡ l)) ⊎ In t k rest → (In t k rest → Some k ≡ met_row rest path) → Some k ≡ cond v (Some l) (met_row rest path)
+    by : (v : Bool) → meets u path ≡ v → ((t ≡ u) × (k ≡ l)) ⊎ In t k rest → (In t k rest → Some k ≡ met_row rest path) → Some k
+        ≡ cond v (Some l) (met_row rest path)
     by true e (inl one) next = ap (λ (x : K). Some x) one.1
     by true e (inr later) next = absurd (not_both u t path (apart_in u t k rest parts.0 later) e m)
     by false e (inl one) next = absurd (false≢true (sym e ∙ (rw one.0 at m)))
@@ -86,5 +89,6 @@ of_found rs path (Some k) h (t, at, m) = met_is rs path t k h at m
 of_found rs path None h none = none_is rs path none
 
 -- a router's answer, by the patterns alone
-pub first_is : {K : Type 0} (rs : RowsOf K) (path : List ℕ) → all_bytes path ≡ true → all_plain rs ≡ true → all_apart rs ≡ true → first rs path ≡ met_row rs path
+pub first_is : {K : Type 0} (rs : RowsOf K) (path : List ℕ) → all_bytes path ≡ true → all_plain rs ≡ true → all_apart rs ≡ true → first rs path
+    ≡ met_row rs path
 first_is rs path bytes plain apart = of_found rs path (first rs path) apart (first_found rs path bytes plain)

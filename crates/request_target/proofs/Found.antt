@@ -1,5 +1,7 @@
 -- What a walk finds is a row that the path meets.
-use Rattle.request_target.proofs.Common.{◌≡◌, ◌<◌, ◌≤◌, inl, inr, ℕ, zero, suc, ◌-◌, List, [], ◌∷◌, length, drop, Bool, true, false, cond, ◌&&◌, ◌==◌, ltb, Option, Some, None, refl, sym, ◌∙◌, ap, arith, subst, get_or, false≢true, eqb-true, ltb-true, lt-ltb, nat_tests, RowsOf, own, step, or_else, has_slash, with_suffix, param_step, first, is_plain, opens, all_plain}
+use Rattle.request_target.proofs.Common.{◌≡◌, ◌<◌, ◌≤◌, inl, inr, ℕ, zero, suc, ◌-◌, List, [], ◌∷◌, length, drop, Bool, true, false, cond, ◌&&◌, ◌==◌, ltb}
+use Rattle.request_target.proofs.Common.{Option, Some, None, refl, sym, ◌∙◌, ap, arith, subst, get_or, false≢true, eqb-true, ltb-true, lt-ltb, nat_tests}
+use Rattle.request_target.proofs.Common.{RowsOf, own, step, or_else, has_slash, with_suffix, param_step, first, is_plain, opens, all_plain}
 use Rattle.matchit.specs.Seek.{seek}
 use Rattle.request_target.proofs.Meets.{all_bytes, segment_len, meets, all_open, some_goes_on, In}
 use Rattle.std.proofs.Math.Seq.{drop-length}
@@ -25,7 +27,8 @@ none_own : {K : Type 0} (rs : RowsOf K) → own rs ≡ None → (t : List ℕ) (
 none_own rs e [] k h m = not_own k rs e h
 none_own rs e (x ∷ u) k h m = false≢true (sym (cond_none (x == 256)) ∙ m)
 
-none_byte : {K : Type 0} (rs : RowsOf K) (b : ℕ) (p : List ℕ) → Found (λ t. meets t p) (step b rs) None → Found (λ t. meets (256 ∷ t) (b ∷ p)) (step 256 rs) None → (t : List ℕ) (k : K) → In t k rs → meets t (b ∷ p) ≡ true → ⊥
+none_byte : {K : Type 0} (rs : RowsOf K) (b : ℕ) (p : List ℕ) → Found (λ t. meets t p) (step b rs) None
+    → Found (λ t. meets (256 ∷ t) (b ∷ p)) (step 256 rs) None → (t : List ℕ) (k : K) → In t k rs → meets t (b ∷ p) ≡ true → ⊥
 none_byte rs b p none after [] k h m = false≢true m
 none_byte {K} rs b p none after (x ∷ u) k h m = by (x == 256) refl
   where
@@ -62,7 +65,8 @@ starts_slash : (p : List ℕ) → has_slash p ≡ true → (q : List ℕ) × (dr
 starts_slash [] e = absurd (false≢true e)
 starts_slash (b ∷ p) e = by (b == 47) refl e (starts_slash p)
   where
-    by : (v : Bool) → (b == 47) ≡ v → cond v true (has_slash p) ≡ true → (has_slash p ≡ true → (q : List ℕ) × (drop (segment_len p) p ≡ 47 ∷ q)) → (q : List ℕ) × (drop (cond v 0 (suc (segment_len p))) (b ∷ p) ≡ 47 ∷ q)
+    by : (v : Bool) → (b == 47) ≡ v → cond v true (has_slash p) ≡ true → (has_slash p ≡ true → (q : List ℕ) × (drop (segment_len p) p ≡ 47 ∷ q)) → (q : List ℕ)
+        × (drop (cond v 0 (suc (segment_len p))) (b ∷ p) ≡ 47 ∷ q)
     by true is e later = let same : b ≡ 47 = eqb-true b 47 is in (p, ap (λ x. x ∷ p) same)
     by false is e later = later e
 
@@ -88,7 +92,8 @@ found_same m n is rs (Some k) (t, at, met) = (t, at, sym (is t) ∙ met)
 found_same m n is rs None none = λ t k h met. none t k h (is t ∙ met)
 
 -- a parameter that takes the rest of the path
-pub found_last : {K : Type 0} (rs : RowsOf K) (b : ℕ) (p : List ℕ) → all_open rs ≡ true → has_slash (b ∷ p) ≡ false → Found (λ t. meets (256 ∷ t) (b ∷ p)) rs (seek ((param_step rs (b ∷ p)).0 - 1) (param_step rs (b ∷ p)).1 p)
+pub found_last : {K : Type 0} (rs : RowsOf K) (b : ℕ) (p : List ℕ) → all_open rs ≡ true → has_slash (b ∷ p) ≡ false
+    → Found (λ t. meets (256 ∷ t) (b ∷ p)) rs (seek ((param_step rs (b ∷ p)).0 - 1) (param_step rs (b ∷ p)).1 p)
 unfolding seek
 found_last rs b p opened e =
     let one : length (b ∷ p) - 1 ≡ length p = omega arith in
@@ -97,7 +102,8 @@ found_last rs b p opened e =
     rw (param_none rs b p opened e, one, seek_drop (length p) rs p, drop-length p)
     (found_same (λ t. meets t []) (λ t. meets (256 ∷ t) (b ∷ p)) (λ t. rw (all, some, drop-length) refl) rs (own rs) (found_own rs (own rs) refl))
 
-from_suffix : {K : Type 0} (rs : RowsOf K) (p q : List ℕ) → all_open rs ≡ true → p ≡ 47 ∷ q → (o : Option K) → Found (λ t. meets t p) (with_suffix (47 ∷ []) rs) o → Found (λ t. meets t p) rs o
+from_suffix : {K : Type 0} (rs : RowsOf K) (p q : List ℕ) → all_open rs ≡ true → p ≡ 47 ∷ q → (o : Option K)
+    → Found (λ t. meets t p) (with_suffix (47 ∷ []) rs) o → Found (λ t. meets t p) rs o
 from_suffix rs p q opened is (Some k) (t, at, met) = (t, suffix_in t k rs opened at, met)
 from_suffix {K} rs p q opened is None none = by
   where
@@ -131,7 +137,10 @@ found_going {K} rs b p opened plain e shorter = rw (param_slash rs b p opened e)
     rest_is : (q : List ℕ) × (drop (segment_len (b ∷ p)) (b ∷ p) ≡ 47 ∷ q)
     rest_is = starts_slash (b ∷ p) e
 
-    by : (v g : Bool) → ltb 0 (segment_len (b ∷ p)) ≡ v → some_goes_on rs ≡ g → Found (λ t. meets (256 ∷ t) (b ∷ p)) rs (seek ((cond {A = ℕ × RowsOf K} (v && g) (segment_len (b ∷ p), with_suffix (47 ∷ []) rs) (0, [])).0 - 1) (cond {A = ℕ × RowsOf K} (v && g) (segment_len (b ∷ p), with_suffix (47 ∷ []) rs) (0, [])).1 p)
+    by : (v g : Bool) → ltb 0 (segment_len (b ∷ p)) ≡ v → some_goes_on rs ≡ g
+        → Found (λ t. meets (256 ∷ t) (b ∷ p)) rs
+        (seek ((cond {A = ℕ × RowsOf K} (v && g) (segment_len (b ∷ p), with_suffix (47 ∷ []) rs) (0, [])).0 - 1)
+        (cond {A = ℕ × RowsOf K} (v && g) (segment_len (b ∷ p), with_suffix (47 ∷ []) rs) (0, [])).1 p)
     by false g ev eg = rw (seek_of_none {K = K} (0 - 1) p) (λ t k h m. false≢true (sym ev ∙ (both _ _ m).0))
     by true false ev eg = rw (seek_of_none {K = K} (0 - 1) p) (λ t k h m. no_row t k h (both _ _ m).1)
       where
@@ -144,7 +153,9 @@ found_going {K} rs b p opened plain e shorter = rw (param_slash rs b p opened e)
         let on : drop (n - 1) p ≡ drop n (b ∷ p) = drop_on n b p ev in
         let q_is : drop (n - 1) p ≡ 47 ∷ rest_is.0 = on ∙ rest_is.1 in
         let below = shorter W (n - 1) (plain_suffix rs opened plain) in
-        rw (seek_drop (n - 1) W p) (found_same (λ t. meets t (drop (n - 1) p)) (λ t. meets (256 ∷ t) (b ∷ p)) (λ t. rw (on, ev) refl) rs _ (from_suffix rs (drop (n - 1) p) rest_is.0 opened q_is _ below))
+        rw (seek_drop (n - 1) W p)
+        (found_same (λ t. meets t (drop (n - 1) p)) (λ t. meets (256 ∷ t) (b ∷ p)) (λ t. rw (on, ev) refl) rs _
+        (from_suffix rs (drop (n - 1) p) rest_is.0 opened q_is _ below))
 
 found_param : {K : Type 0} (rs : RowsOf K) (b : ℕ) (p : List ℕ) → all_open rs ≡ true → all_plain rs ≡ true
     → ((S : RowsOf K) (i : ℕ) → all_plain S ≡ true → Found (λ t. meets t (drop i p)) S (seek 0 S (drop i p)))
@@ -177,9 +188,11 @@ plain_step b ((x ∷ t, k) ∷ rest) plain =
 open_step : {K : Type 0} (rs : RowsOf K) → all_plain rs ≡ true → all_open (step 256 rs) ≡ true
 open_step [] plain = refl
 open_step (([], k) ∷ rest) plain = open_step rest plain
-open_step {K} ((x ∷ t, k) ∷ rest) plain = by (x == 256) (both (is_plain (x ∷ t)) (all_plain rest) plain).0 (open_step rest (both (is_plain (x ∷ t)) (all_plain rest) plain).1)
+open_step {K} ((x ∷ t, k) ∷ rest) plain = by (x == 256) (both (is_plain (x ∷ t)) (all_plain rest) plain).0
+    (open_step rest (both (is_plain (x ∷ t)) (all_plain rest) plain).1)
   where
-    by : (v : Bool) → cond v (opens t && is_plain t) (ltb x 256 && is_plain t) ≡ true → all_open (step 256 rest) ≡ true → all_open (cond v ((t, k) ∷ step 256 rest) (step 256 rest)) ≡ true
+    by : (v : Bool) → cond v (opens t && is_plain t) (ltb x 256 && is_plain t) ≡ true → all_open (step 256 rest) ≡ true
+        → all_open (cond v ((t, k) ∷ step 256 rest) (step 256 rest)) ≡ true
     by true h later = both_true (opens t) _ (both (opens t) (is_plain t) h).0 later
     by false h later = later
 
@@ -187,7 +200,8 @@ open_step {K} ((x ∷ t, k) ∷ rest) plain = by (x == 256) (both (is_plain (x �
 no_rest : {K : Type 0} (rs : RowsOf K) → all_plain rs ≡ true → own (step 257 rs) ≡ None
 no_rest [] plain = refl
 no_rest (([], k) ∷ rest) plain = no_rest rest plain
-no_rest {K} ((x ∷ t, k) ∷ rest) plain = by (x == 257) refl (both (is_plain (x ∷ t)) (all_plain rest) plain).0 (no_rest rest (both (is_plain (x ∷ t)) (all_plain rest) plain).1)
+no_rest {K} ((x ∷ t, k) ∷ rest) plain = by (x == 257) refl (both (is_plain (x ∷ t)) (all_plain rest) plain).0
+    (no_rest rest (both (is_plain (x ∷ t)) (all_plain rest) plain).1)
   where
     by : (v : Bool) → (x == 257) ≡ v → is_plain (x ∷ t) ≡ true → own (step 257 rest) ≡ None → own (cond v ((t, k) ∷ step 257 rest) (step 257 rest)) ≡ None
     by true e h later =
@@ -204,7 +218,8 @@ bytes_drop zero p h = h
 bytes_drop (suc i) [] h = h
 bytes_drop (suc i) (b ∷ p) h = bytes_drop i p (both (ltb b 256) (all_bytes p) h).1
 
-walk_found : {K : Type 0} (n : ℕ) (rs : RowsOf K) (path : List ℕ) → length path ≤ n → all_bytes path ≡ true → all_plain rs ≡ true → Found (λ t. meets t path) rs (seek 0 rs path)
+walk_found : {K : Type 0} (n : ℕ) (rs : RowsOf K) (path : List ℕ) → length path ≤ n → all_bytes path ≡ true → all_plain rs ≡ true
+    → Found (λ t. meets t path) rs (seek 0 rs path)
 unfolding seek
 walk_found n rs [] short bytes plain = found_own rs (own rs) refl
 walk_found zero rs (b ∷ p) short bytes plain = absurd (omega arith)
@@ -212,13 +227,15 @@ walk_found {K} (suc n) rs (b ∷ p) short bytes plain =
     let parts = both (ltb b 256) (all_bytes p) bytes in
     let byte : b < 256 = ltb-true b 256 parts.0 in
     rw (no_rest rs plain, or_else_none) (found_byte rs b p _ _ byte (walk_found n (step b rs) p (omega arith) parts.1 (plain_step b rs plain))
-    (found_param (step 256 rs) b p (open_step rs plain) (plain_step 256 rs plain) (λ (S : RowsOf K) (i : ℕ) (h : all_plain S ≡ true). walk_found n S (drop i p) (omega (arith, length-drop i p)) (bytes_drop i p parts.1) h)))
+    (found_param (step 256 rs) b p (open_step rs plain) (plain_step 256 rs plain)
+    (λ (S : RowsOf K) (i : ℕ) (h : all_plain S ≡ true). walk_found n S (drop i p) (omega (arith, length-drop i p)) (bytes_drop i p parts.1) h)))
 
 -- the route of a path is one that the path meets, and there is none only where no route does
 pub first_found : {K : Type 0} (rs : RowsOf K) (path : List ℕ) → all_bytes path ≡ true → all_plain rs ≡ true → Found (λ t. meets t path) rs (first rs path)
 first_found rs path bytes plain = walk_found (length path) rs path (omega arith) bytes plain
 
-pub none_found : {K : Type 0} (rs : RowsOf K) (path : List ℕ) → all_bytes path ≡ true → all_plain rs ≡ true → first rs path ≡ None → (t : List ℕ) (k : K) → In t k rs → meets t path ≡ true → ⊥
+pub none_found : {K : Type 0} (rs : RowsOf K) (path : List ℕ) → all_bytes path ≡ true → all_plain rs ≡ true → first rs path ≡ None → (t : List ℕ) (k : K)
+    → In t k rs → meets t path ≡ true → ⊥
 none_found {K} rs path bytes plain e = subst (Found (λ t. meets t path) rs) e (first_found rs path bytes plain)
 
 pub all_bytes_from : (p : List ℕ) → ((i : ℕ) → get_or p i 0 < 256) → all_bytes p ≡ true

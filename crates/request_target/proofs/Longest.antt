@@ -1,5 +1,6 @@
 -- The suffix that a parameter leaves: a slash or nothing.
-use Rattle.request_target.proofs.Common.{◌≡◌, ℕ, suc, ◌-◌, ◌<◌, List, [], ◌∷◌, length, drop, Bool, true, false, cond, ◌&&◌, ◌||◌, ◌==◌, ltb, nat_eq, refl, sym, ◌∙◌, ap, arith, false≢true, eqb-true, nat_tests, RowsOf, segment, has_slash, cuts, better, longest_from}
+use Rattle.request_target.proofs.Common.{◌≡◌, ℕ, suc, ◌-◌, ◌<◌, List, [], ◌∷◌, length, drop, Bool, true, false, cond, ◌&&◌, ◌||◌, ◌==◌, ltb, nat_eq, refl, sym}
+use Rattle.request_target.proofs.Common.{◌∙◌, ap, arith, false≢true, eqb-true, nat_tests, RowsOf, segment, has_slash, cuts, better, longest_from}
 use Rattle.std.specs.Cmp.Lexicographic.{pointwise}
 use Rattle.request_target.proofs.Meets.{segment_len, all_open, some_goes_on}
 
@@ -31,7 +32,8 @@ if_slash : (c : Bool) → cond c (47 ∷ []) [] ≡ slash_if c
 if_slash true = refl
 if_slash false = refl
 
-pub longest_is : {K : Type 0} (seg : List ℕ) (v : Bool) (rs : RowsOf K) → all_open rs ≡ true → longest_from seg (slash_if v) rs ≡ slash_if (v || (cuts seg (47 ∷ []) && some_goes_on rs))
+pub longest_is : {K : Type 0} (seg : List ℕ) (v : Bool) (rs : RowsOf K) → all_open rs ≡ true → longest_from seg (slash_if v) rs
+    ≡ slash_if (v || (cuts seg (47 ∷ []) && some_goes_on rs))
 longest_is seg true [] opened = refl
 longest_is seg false [] opened = rw no_more refl
 longest_is seg v (([], k) ∷ rest) opened = rw (better_none seg v) (longest_is seg v rest opened)
@@ -70,7 +72,9 @@ last_is b [] = rw (cond_same (b == 47) (b ∷ [])) (lone_byte b ∙ itself (b ==
     itself false = refl
 last_is b (c ∷ p) = by (b == 47) refl (last_is c p)
   where
-    by : (v : Bool) → (b == 47) ≡ v → pointwise nat_eq (47 ∷ []) (drop (length (segment (c ∷ p)) - 1) (segment (c ∷ p))) ≡ has_slash (c ∷ p) → pointwise nat_eq (47 ∷ []) (drop (length (cond v (b ∷ []) (b ∷ segment (c ∷ p))) - 1) (cond v (b ∷ []) (b ∷ segment (c ∷ p)))) ≡ cond v true (has_slash (c ∷ p))
+    by : (v : Bool) → (b == 47) ≡ v → pointwise nat_eq (47 ∷ []) (drop (length (segment (c ∷ p)) - 1) (segment (c ∷ p))) ≡ has_slash (c ∷ p)
+        → pointwise nat_eq (47 ∷ []) (drop (length (cond v (b ∷ []) (b ∷ segment (c ∷ p))) - 1) (cond v (b ∷ []) (b ∷ segment (c ∷ p))))
+        ≡ cond v true (has_slash (c ∷ p))
     by true e later = lone_byte b ∙ e
     by false e later = rw (drop_last b (segment (c ∷ p)) (segment_some c p)) later
 
@@ -79,7 +83,8 @@ pub segment_with_slash : (p : List ℕ) → has_slash p ≡ true → length (seg
 segment_with_slash [] e = absurd (false≢true e)
 segment_with_slash (b ∷ p) e = by (b == 47) e (segment_with_slash p)
   where
-    by : (v : Bool) → cond v true (has_slash p) ≡ true → (has_slash p ≡ true → length (segment p) ≡ suc (segment_len p)) → length (cond v (b ∷ []) (b ∷ segment p)) ≡ suc (cond v 0 (suc (segment_len p)))
+    by : (v : Bool) → cond v true (has_slash p) ≡ true → (has_slash p ≡ true → length (segment p) ≡ suc (segment_len p))
+        → length (cond v (b ∷ []) (b ∷ segment p)) ≡ suc (cond v 0 (suc (segment_len p)))
     by true e later = refl
     by false e later = omega (arith, later e)
 
@@ -87,7 +92,8 @@ pub segment_with_none : (p : List ℕ) → has_slash p ≡ false → (segment p 
 segment_with_none [] e = (refl, refl)
 segment_with_none (b ∷ p) e = by (b == 47) e (segment_with_none p)
   where
-    by : (v : Bool) → cond v true (has_slash p) ≡ false → (has_slash p ≡ false → (segment p ≡ p) × (segment_len p ≡ length p)) → (cond v (b ∷ []) (b ∷ segment p) ≡ b ∷ p) × (cond v 0 (suc (segment_len p)) ≡ length (b ∷ p))
+    by : (v : Bool) → cond v true (has_slash p) ≡ false → (has_slash p ≡ false → (segment p ≡ p) × (segment_len p ≡ length p))
+        → (cond v (b ∷ []) (b ∷ segment p) ≡ b ∷ p) × (cond v 0 (suc (segment_len p)) ≡ length (b ∷ p))
     by true e later = absurd (false≢true (sym e))
     by false e later = (ap (λ s. b ∷ s) (later e).0, omega (arith, (later e).1))
 

@@ -1,21 +1,27 @@
 -- The step over a parameter.
-use Rattle.request_target.proofs.Common.{◌≡◌, ℕ, zero, suc, ◌-◌, List, [], ◌∷◌, length, drop, Bool, true, false, cond, ◌&&◌, ltb, None, refl, arith, RowsOf, segment, has_slash, with_suffix}
+use Rattle.request_target.proofs.Common.{◌≡◌, ℕ, zero, suc, ◌-◌, List, [], ◌∷◌, length, drop, Bool, true, false, cond, ◌&&◌, ltb, None, refl, arith, RowsOf}
+use Rattle.request_target.proofs.Common.{segment, has_slash, with_suffix}
 use Rattle.matchit.specs.Seek.{param_step, seek}
 use Rattle.request_target.proofs.Meets.{segment_len, all_open, some_goes_on}
 use Rattle.request_target.proofs.Longest.{slash_if, longest_is, cuts_with_none, cuts_with_slash, segment_with_slash}
 
-pub param_none : {K : Type 0} (rs : RowsOf K) (b : ℕ) (p : List ℕ) → all_open rs ≡ true → has_slash (b ∷ p) ≡ false → param_step rs (b ∷ p) ≡ (length (b ∷ p), rs)
+pub param_none : {K : Type 0} (rs : RowsOf K) (b : ℕ) (p : List ℕ) → all_open rs ≡ true → has_slash (b ∷ p) ≡ false → param_step rs (b ∷ p)
+    ≡ (length (b ∷ p), rs)
 unfolding param_step
 param_none rs b p opened e = rw (longest_is (segment (b ∷ p)) false rs opened, cuts_with_none b p e, e) refl
 
-chosen : {K : Type 0} (w : Bool) (rs : RowsOf K) (len n : ℕ) → len ≡ suc n → ◌≡◌ {A = ℕ × RowsOf K} (cond (ltb 0 (length (slash_if w))) (len - length (slash_if w), with_suffix (slash_if w) rs) (0, [])) (cond w (n, with_suffix (47 ∷ []) rs) (0, []))
+chosen : {K : Type 0} (w : Bool) (rs : RowsOf K) (len n : ℕ) → len ≡ suc n
+    → ◌≡◌ {A = ℕ × RowsOf K} (cond (ltb 0 (length (slash_if w))) (len - length (slash_if w), with_suffix (slash_if w) rs) (0, []))
+    (cond w (n, with_suffix (47 ∷ []) rs) (0, []))
 chosen true rs len n e = let one : len - 1 ≡ n = omega (arith, e) in rw one refl
 chosen false rs len n e = refl
 
-pub param_slash : {K : Type 0} (rs : RowsOf K) (b : ℕ) (p : List ℕ) → all_open rs ≡ true → has_slash (b ∷ p) ≡ true → param_step rs (b ∷ p) ≡ cond (ltb 0 (segment_len (b ∷ p)) && some_goes_on rs) (segment_len (b ∷ p), with_suffix (47 ∷ []) rs) (0, [])
+pub param_slash : {K : Type 0} (rs : RowsOf K) (b : ℕ) (p : List ℕ) → all_open rs ≡ true → has_slash (b ∷ p) ≡ true → param_step rs (b ∷ p)
+    ≡ cond (ltb 0 (segment_len (b ∷ p)) && some_goes_on rs) (segment_len (b ∷ p), with_suffix (47 ∷ []) rs) (0, [])
 unfolding param_step
 param_slash rs b p opened e =
-    rw (longest_is (segment (b ∷ p)) false rs opened, cuts_with_slash b p e, e) (chosen (ltb 0 (segment_len (b ∷ p)) && some_goes_on rs) rs (length (segment (b ∷ p))) (segment_len (b ∷ p)) (segment_with_slash (b ∷ p) e))
+    rw (longest_is (segment (b ∷ p)) false rs opened, cuts_with_slash b p e, e)
+    (chosen (ltb 0 (segment_len (b ∷ p)) && some_goes_on rs) rs (length (segment (b ∷ p))) (segment_len (b ∷ p)) (segment_with_slash (b ∷ p) e))
 
 step_of_none : {K : Type 0} (p : List ℕ) → (param_step {K = K} [] p).1 ≡ []
 unfolding param_step

@@ -1,5 +1,6 @@
 -- Rows after a token.
-use Rattle.request_target.proofs.Common.{◌≡◌, ◌⊎◌, inl, inr, ℕ, List, [], ◌∷◌, Bool, true, false, cond, ◌==◌, Some, None, refl, arith, false≢true, eqb-true, nat_tests, RowsOf, own, step}
+use Rattle.request_target.proofs.Common.{◌≡◌, ◌⊎◌, inl, inr, ℕ, List, [], ◌∷◌, Bool, true, false, cond, ◌==◌, Some, None, refl, arith, false≢true, eqb-true}
+use Rattle.request_target.proofs.Common.{nat_tests, RowsOf, own, step}
 use Rattle.request_target.proofs.Meets.{In}
 
 same : (x : ℕ) → (x == x) ≡ true

@@ -1,5 +1,6 @@
 -- The first segment of a path, and the segment at a place.
-use Rattle.request_target.proofs.Common.{◌≡◌, ◌<◌, ◌+◌, ℕ, suc, List, [], ◌∷◌, ◌++◌, length, take, drop, get_or, Bool, true, false, not, ◌==◌, None, refl, sym, ap, ◌∙◌, arith, slice_get, list_all, false≢true, segments}
+use Rattle.request_target.proofs.Common.{◌≡◌, ◌<◌, ◌+◌, ℕ, suc, List, [], ◌∷◌, ◌++◌, length, take, drop, get_or, Bool, true, false, not, ◌==◌, None, refl, sym}
+use Rattle.request_target.proofs.Common.{ap, ◌∙◌, arith, slice_get, list_all, false≢true, segments}
 use Rattle.std.proofs.lemmas.List.{take-append-drop}
 use Rattle.std.proofs.Math.Seq.{drop-cons}
 use Rattle.request_target.proofs.Longest.{both}
@@ -30,7 +31,8 @@ first_segment (b ∷ p) rest h =
 pub cut : (t : List ℕ) (k : ℕ) → k < length t → get_or t k 0 ≡ 47 → list_all no_slash (take k t) ≡ true → segments t ≡ take k t ∷ segments (drop (k + 1) t)
 cut t k l e h =
     let one : k + 1 ≡ suc k = omega arith in
-    let whole : t ≡ take k t ++ 47 ∷ drop (k + 1) t = sym (take-append-drop k t) ∙ ap (λ y. take k t ++ y) (drop-cons t k 0 l ∙ ap (λ b. b ∷ drop (suc k) t) e ∙ ap (λ n. 47 ∷ drop n t) (sym one)) in
+    let whole : t ≡ take k t ++ 47 ∷ drop (k + 1) t = sym (take-append-drop k t)
+    ∙ ap (λ y. take k t ++ y) (drop-cons t k 0 l ∙ ap (λ b. b ∷ drop (suc k) t) e ∙ ap (λ n. 47 ∷ drop n t) (sym one)) in
     ap segments whole ∙ first_segment (take k t) (drop (k + 1) t) h
 
 pub none_later : (path : List ℕ) (place before : ℕ) → segments path ≡ path ∷ [] → place ≡ suc before → None ≡ slice_get (segments path) place

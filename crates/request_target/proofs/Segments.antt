@@ -1,5 +1,7 @@
 -- A path meets a route's tokens where the route's segments stand for its own.
-use Rattle.request_target.proofs.Common.{◌≡◌, ℕ, suc, List, [], ◌∷◌, ◌++◌, length, take, drop, Bool, true, false, not, cond, ◌&&◌, ◌==◌, nat_lt, nat_eq, refl, sym, ◌∙◌, ap, arith, append-nil, bytes_eq, list_all, nat_tests, onto_first, segments, is_parameter, stands_for, fits, part_tokens, tokens, is_part}
+use Rattle.request_target.proofs.Common.{◌≡◌, ℕ, suc, List, [], ◌∷◌, ◌++◌, length, take, drop, Bool, true, false, not, cond, ◌&&◌, ◌==◌, nat_lt, nat_eq, refl}
+use Rattle.request_target.proofs.Common.{sym, ◌∙◌, ap, arith, append-nil, bytes_eq, list_all, nat_tests, onto_first, segments, is_parameter, stands_for, fits}
+use Rattle.request_target.proofs.Common.{part_tokens, tokens, is_part}
 use Rattle.request_target.proofs.Meets.{segment_len, meets}
 use Rattle.request_target.proofs.Longest.{both}
 
@@ -14,7 +16,8 @@ segments_split [] = refl
 segments_split (b ∷ path) = by (b == 47) (segments_split path)
   where
     by : (v : Bool) → segments path ≡ take (segment_len path) path ∷ later (drop (segment_len path) path)
-        → cond v ([] ∷ segments path) (onto_first b (segments path)) ≡ take (cond v 0 (suc (segment_len path))) (b ∷ path) ∷ later (drop (cond v 0 (suc (segment_len path))) (b ∷ path))
+        → cond v ([] ∷ segments path) (onto_first b (segments path)) ≡ take (cond v 0 (suc (segment_len path))) (b ∷ path)
+        ∷ later (drop (cond v 0 (suc (segment_len path))) (b ∷ path))
     by true is = refl
     by false is = rw is refl
 
@@ -51,10 +54,12 @@ pub meets_word : (word t path : List ℕ) → list_all (λ b. nat_lt b 256 && no
 meets_word [] t [] ok tail = refl
 meets_word [] t (b ∷ path) ok tail = by (b == 47) refl
   where
-    by : (v : Bool) → (b == 47) ≡ v → meets t (b ∷ path) ≡ (bytes_eq [] (take (cond v 0 (suc (segment_len path))) (b ∷ path)) && meets t (drop (cond v 0 (suc (segment_len path))) (b ∷ path)))
+    by : (v : Bool) → (b == 47) ≡ v → meets t (b ∷ path)
+        ≡ (bytes_eq [] (take (cond v 0 (suc (segment_len path))) (b ∷ path)) && meets t (drop (cond v 0 (suc (segment_len path))) (b ∷ path)))
     by true is = refl
     by false is = tail_within t b path tail is
-meets_word (x ∷ word) t path ok tail = by (λ (rest : List ℕ). meets_word word t rest (both (nat_lt x 256 && not (x == 47)) (list_all (λ b. nat_lt b 256 && not (b == 47)) word) ok).1 tail) path
+meets_word (x ∷ word) t path ok tail =
+    by (λ (rest : List ℕ). meets_word word t rest (both (nat_lt x 256 && not (x == 47)) (list_all (λ b. nat_lt b 256 && not (b == 47)) word) ok).1 tail) path
   where
     parts : ((nat_lt x 256 && not (x == 47)) ≡ true) × (list_all (λ b. nat_lt b 256 && not (b == 47)) word ≡ true)
     parts = both (nat_lt x 256 && not (x == 47)) (list_all (λ b. nat_lt b 256 && not (b == 47)) word) ok
@@ -74,7 +79,8 @@ meets_word (x ∷ word) t path ok tail = by (λ (rest : List ℕ). meets_word wo
     by shorter (b ∷ path) = rw (byte, same_test b) (at (b == 47) refl (shorter path))
       where
         at : (v : Bool) → (b == 47) ≡ v → meets (word ++ t) path ≡ (bytes_eq word (take (segment_len path) path) && meets t (drop (segment_len path) path))
-            → (nat_eq x b && meets (word ++ t) path) ≡ (bytes_eq (x ∷ word) (take (cond v 0 (suc (segment_len path))) (b ∷ path)) && meets t (drop (cond v 0 (suc (segment_len path))) (b ∷ path)))
+            → (nat_eq x b && meets (word ++ t) path)
+            ≡ (bytes_eq (x ∷ word) (take (cond v 0 (suc (segment_len path))) (b ∷ path)) && meets t (drop (cond v 0 (suc (segment_len path))) (b ∷ path)))
         at true is next = let other : nat_eq x b ≡ false = grind (arith, nat_tests) in rw other refl
         at false is next = rw next (and_assoc (nat_eq x b) (bytes_eq word (take (segment_len path) path)) (meets t (drop (segment_len path) path)))
 
@@ -97,7 +103,8 @@ meets_part : (part t path : List ℕ) → is_part part ≡ true → IsTail t
     → meets (part_tokens part ++ t) path ≡ (stands_for part (take (segment_len path) path) && meets t (drop (segment_len path) path))
 meets_part part t path ok tail = by (is_parameter part) refl
   where
-    by : (v : Bool) → is_parameter part ≡ v → meets (cond v (256 ∷ []) part ++ t) path ≡ (cond v (nat_lt 0 (length (take (segment_len path) path))) (bytes_eq part (take (segment_len path) path)) && meets t (drop (segment_len path) path))
+    by : (v : Bool) → is_parameter part ≡ v → meets (cond v (256 ∷ []) part ++ t) path
+        ≡ (cond v (nat_lt 0 (length (take (segment_len path) path))) (bytes_eq part (take (segment_len path) path)) && meets t (drop (segment_len path) path))
     by true is = rw (length_first path) refl
     by false is = meets_word part t path (rw is at ok) tail
 
@@ -106,12 +113,17 @@ pub meets_tokens : (part : List ℕ) (parts : List (List ℕ)) (path : List ℕ)
     → meets (tokens (part ∷ parts)) path ≡ fits (part ∷ parts) (segments path)
 meets_tokens part [] path ok = rw (segments_split path) (alone (both (is_part part) true ok).0)
   where
-    alone : is_part part ≡ true → meets (part_tokens part) path ≡ (stands_for part (take (segment_len path) path) && fits [] (later (drop (segment_len path) path)))
-    alone one = sym (ap (λ t. meets t path) (append-nil (part_tokens part))) ∙ meets_part part [] path one tt ∙ ap (λ v. stands_for part (take (segment_len path) path) && v) (at_end (drop (segment_len path) path))
+    alone : is_part part ≡ true → meets (part_tokens part) path
+        ≡ (stands_for part (take (segment_len path) path) && fits [] (later (drop (segment_len path) path)))
+    alone one = sym (ap (λ t. meets t path) (append-nil (part_tokens part))) ∙ meets_part part [] path one tt
+        ∙ ap (λ v. stands_for part (take (segment_len path) path) && v) (at_end (drop (segment_len path) path))
 meets_tokens part (next ∷ rest) path ok =
     let parts_ok = both (is_part part) (list_all is_part (next ∷ rest)) ok in
-    rw (segments_split path) (meets_part part (47 ∷ tokens (next ∷ rest)) path parts_ok.0 refl ∙ ap (λ v. stands_for part (take (segment_len path) path) && v) (goes_on (drop (segment_len path) path) (rest_is path) (λ (p : List ℕ). meets_tokens next rest p parts_ok.1)))
+    rw (segments_split path) (meets_part part (47 ∷ tokens (next ∷ rest)) path parts_ok.0 refl
+    ∙ ap (λ v. stands_for part (take (segment_len path) path) && v)
+    (goes_on (drop (segment_len path) path) (rest_is path) (λ (p : List ℕ). meets_tokens next rest p parts_ok.1)))
   where
-    goes_on : (q : List ℕ) → IsRest q → ((p : List ℕ) → meets (tokens (next ∷ rest)) p ≡ fits (next ∷ rest) (segments p)) → meets (47 ∷ tokens (next ∷ rest)) q ≡ fits (next ∷ rest) (later q)
+    goes_on : (q : List ℕ) → IsRest q → ((p : List ℕ) → meets (tokens (next ∷ rest)) p ≡ fits (next ∷ rest) (segments p)) → meets (47 ∷ tokens (next ∷ rest)) q
+        ≡ fits (next ∷ rest) (later q)
     goes_on [] slash shorter = refl
     goes_on (b ∷ q) slash shorter = let is : (47 == b) ≡ true = grind (arith, nat_tests) in rw is (shorter q)

@@ -1,5 +1,7 @@
 -- The rows that were made of a table lead where the table does.
-use Rattle.request_target.proofs.Common.{◌≡◌, ℕ, List, [], ◌∷◌, Bool, true, false, cond, ◌&&◌, ◌==◌, Option, Some, None, option_map, Result, Ok, Err, refl, sym, ◌∙◌, ap, bytes_eq, false≢true, list_all, RowsOf, comes_before, first, segments, fits, onto_first, route_in, all_plain, all_apart, apart, apart_from, tokens, is_part, added, rows_with, is_new, are_new, are_routes}
+use Rattle.request_target.proofs.Common.{◌≡◌, ℕ, List, [], ◌∷◌, Bool, true, false, cond, ◌&&◌, ◌==◌, Option, Some, None, option_map, Result, Ok, Err, refl}
+use Rattle.request_target.proofs.Common.{sym, ◌∙◌, ap, bytes_eq, false≢true, list_all, RowsOf, comes_before, first, segments, fits, onto_first, route_in}
+use Rattle.request_target.proofs.Common.{all_plain, all_apart, apart, apart_from, tokens, is_part, added, rows_with, is_new, are_new, are_routes}
 use Rattle.std.proofs.lemmas.Slice.Eq.{bytes_eq-Decides}
 use Rattle.matchit.specs.Route.{Scan, parse_route}
 use Rattle.matchit.specs.Router.{RouteOf, route_from}
@@ -44,7 +46,8 @@ met_row-apart {K} t ((u, l) ∷ rest) path new met = by (meets u path) refl (met
     by false is later = later
 
 -- one more row, wherever it is placed, is met where none before it was
-met_row-placed : {K : Type 0} (t : List ℕ) (k : K) (rs : RowsOf K) (path : List ℕ) → apart_from t rs ≡ true → met_row (placed (t, k) rs) path ≡ or_else (met_row rs path) (only_if (meets t path) k)
+met_row-placed : {K : Type 0} (t : List ℕ) (k : K) (rs : RowsOf K) (path : List ℕ) → apart_from t rs ≡ true → met_row (placed (t, k) rs) path
+    ≡ or_else (met_row rs path) (only_if (meets t path) k)
 met_row-placed t k [] path new = refl
 met_row-placed {K} t k ((u, l) ∷ rest) path new =
     by (comes_before t u) (meets u path) (meets t path) refl refl (met_row-placed t k rest path parts.1)
@@ -65,7 +68,8 @@ met_row-placed {K} t k ((u, l) ∷ rest) path new =
 abbrev pub value_of : {T : Type 0} → Option (RouteOf T) → Option T
 value_of found = option_map (λ r. r.value) found
 
-value_of-or_else : {T : Type 0} (a : Option (RouteOf T)) (v : Bool) (r : RouteOf T) → value_of (or_else a (only_if v r)) ≡ or_else (value_of a) (only_if v r.value)
+value_of-or_else : {T : Type 0} (a : Option (RouteOf T)) (v : Bool) (r : RouteOf T) → value_of (or_else a (only_if v r))
+    ≡ or_else (value_of a) (only_if v r.value)
 value_of-or_else (Some k) v r = refl
 value_of-or_else None true r = refl
 value_of-or_else None false r = refl
@@ -95,7 +99,8 @@ meets_route route path ok = by (segments route) (segments_some route) ok
     by (part ∷ parts) some ok = meets_tokens part parts path ok
 
 -- a route that is added leads on from its own paths alone
-added_leads : {T : Type 0} (read : Result Scan InsertError) (route : List ℕ) (value : T) (rows : RowsOf (RouteOf T)) (path : List ℕ) → is_new read route rows ≡ true
+added_leads : {T : Type 0} (read : Result Scan InsertError) (route : List ℕ) (value : T) (rows : RowsOf (RouteOf T)) (path : List ℕ) → is_new read route rows
+    ≡ true
     → value_of (met_row (added read value rows) path) ≡ or_else (value_of (met_row rows path)) (only_if (fits (segments route) (segments path)) value)
 added_leads (Err e) route value rows path new = absurd (false≢true new)
 added_leads (Ok s) route value rows path new =
@@ -119,11 +124,13 @@ met_row-rows_with (r ∷ table) rows path new =
     ∙ ap (or_else (value_of (met_row rows path))) (or_else_only_if (fits (segments r.0) (segments path)) r.1 (route_in table path))
 
 -- a router's row is the table's route
-route_in-rows_with : {T : Type 0} (table : List (List ℕ × T)) (path : List ℕ) → are_new table [] ≡ true → value_of (met_row (rows_with table []) path) ≡ route_in table path
+route_in-rows_with : {T : Type 0} (table : List (List ℕ × T)) (path : List ℕ) → are_new table [] ≡ true → value_of (met_row (rows_with table []) path)
+    ≡ route_in table path
 route_in-rows_with table path new = met_row-rows_with table [] path new
 
 -- what a router of this table finds
-pub first-rows_with : {T : Type 0} (table : List (List ℕ × T)) (rows : RowsOf (RouteOf T)) (path : List ℕ) → all_bytes path ≡ true → are_routes table ≡ true → rows ≡ rows_with table [] → value_of (first rows path) ≡ route_in table path
+pub first-rows_with : {T : Type 0} (table : List (List ℕ × T)) (rows : RowsOf (RouteOf T)) (path : List ℕ) → all_bytes path ≡ true → are_routes table ≡ true
+    → rows ≡ rows_with table [] → value_of (first rows path) ≡ route_in table path
 first-rows_with table rows path bytes routes is =
     let outer = both (are_new table [] && all_plain (rows_with table [])) (all_apart (rows_with table [])) routes in
     let inner = both (are_new table []) (all_plain (rows_with table [])) outer.0 in

@@ -1,5 +1,11 @@
 -- From the calls of the store to one request of a desk.
-use Rattle.rollout_desk.proofs.Common.{◌≡◌, ◌≢◌, ◌⊎◌, inl, inr, Bool, false, Option, Some, None, Ok, refl, sym, subst, ap, ◌∙◌, arith, cases_Bool, false≢true, Trees, State, HasCleanDisk, HoldIn, IsAtRest, Rests, Doubts, Begins, Keeps, Finds, Opens, Sees, Spoiled, Wears, Answer, answer, query_reply, CommandList, ◌▸◌, followed_by, Command, Records, records, step_records, Reply, Refused, Request, Do, Ask, Query, Asks, one, StandsFor, Becomes, AppliesAt, IsValid, reply_of, query_answer, refused_answer, accepted_step, records_step, answer_never_stores, failed_true, Refusal, StoreFailed, NoMemory, HoldsList, desk_state_at, rest_shows, Fault, Broken, Memory, Store, is_failed_store, refusal_of_fault, Handles, EndsByCommit, EndsByRollback, HoldsLedger, HoldsRecords, Ledger, ledger_of, HoldsReadable}
+use Rattle.rollout_desk.proofs.Common.{◌≡◌, ◌≢◌, ◌⊎◌, inl, inr, Bool, false, Option, Some, None, Ok, refl, sym, subst, ap, ◌∙◌, arith, cases_Bool, false≢true}
+use Rattle.rollout_desk.proofs.Common.{Trees, State, HasCleanDisk, HoldIn, IsAtRest, Rests, Doubts, Begins, Keeps, Finds, Opens, Sees, Spoiled, Wears, Answer}
+use Rattle.rollout_desk.proofs.Common.{answer, query_reply, CommandList, ◌▸◌, followed_by, Command, Records, records, step_records, Reply, Refused, Request}
+use Rattle.rollout_desk.proofs.Common.{Do, Ask, Query, Asks, one, StandsFor, Becomes, AppliesAt, IsValid, reply_of, query_answer, refused_answer}
+use Rattle.rollout_desk.proofs.Common.{accepted_step, records_step, answer_never_stores, failed_true, Refusal, StoreFailed, NoMemory, HoldsList, desk_state_at}
+use Rattle.rollout_desk.proofs.Common.{rest_shows, Fault, Broken, Memory, Store, is_failed_store, refusal_of_fault, Handles, EndsByCommit, EndsByRollback}
+use Rattle.rollout_desk.proofs.Common.{HoldsLedger, HoldsRecords, Ledger, ledger_of, HoldsReadable}
 use Rattle.rollout_model.specs.declared.request.Reply as model
 use Rattle.rollout_machine.specs.CommandRules.{IsWellFormed}
 use Rattle.rollout_machine.specs.Verdicts.{check}
@@ -37,33 +43,53 @@ stands s h valid rest = record { runs = refl; valid = valid; shows = rest; crash
 
 -- ---- what the desk is after a reply
 
-becomes_list : (s : State) (h : CommandList) (reply : Reply) (accepted : Option Command) → reply ≢ Refused StoreFailed → StandsFor (desk_state_at HoldsRecords false s) (followed_by h (one accepted)) → Becomes (desk_state_at HoldsRecords (is_failed_store reply) s) h reply accepted
+becomes_list : (s : State) (h : CommandList) (reply : Reply) (accepted : Option Command) → reply ≢ Refused StoreFailed
+    → StandsFor (desk_state_at HoldsRecords false s) (followed_by h (one accepted)) → Becomes (desk_state_at HoldsRecords (is_failed_store reply) s) h reply
+    accepted
 becomes_list s h reply accepted never standing = record {
   in_doubt = λ failed. absurd (never failed);
   stands = λ other. subst (λ (b : Bool). StandsFor (desk_state_at HoldsRecords b s) (followed_by h (one accepted))) (sym (not_failed reply never)) standing;
 }
 
-becomes_doubt : (s : State) (h : CommandList) (reply : Reply) (accepted : Option Command) → reply ≡ Refused StoreFailed → ((db : Trees) → s.may_leave db → HoldsList db h ⊎ HoldsList db (followed_by h (one accepted))) → Becomes (desk_state_at HoldsRecords (is_failed_store reply) s) h reply accepted
+becomes_doubt : (s : State) (h : CommandList) (reply : Reply) (accepted : Option Command) → reply ≡ Refused StoreFailed
+    → ((db : Trees) → s.may_leave db → HoldsList db h ⊎ HoldsList db (followed_by h (one accepted)))
+    → Becomes (desk_state_at HoldsRecords (is_failed_store reply) s) h reply accepted
 becomes_doubt s h reply accepted failed crash = record {
   in_doubt = λ is. record { stopped = ap is_failed_store failed; crash = crash };
   stands = λ never. absurd (never failed);
 }
 
 module _ (h : CommandList) (valid : IsValid h) (s : State) (request : Request) (reply : Reply) where
-  in_doubt : reply ≡ Refused StoreFailed → ((db : Trees) → s.may_leave db → HoldsList db h ⊎ HoldsList db (followed_by h (one (answer h (Asks request)).accepted))) → AppliesAt h (desk_state_at HoldsRecords (is_failed_store reply) s) (Asks request) reply
-  in_doubt failed crash = record { accepted = (answer h (Asks request)).accepted; answers = inr (inl (failed, refl)); becomes = becomes_doubt s h reply _ failed crash }
+  in_doubt : reply ≡ Refused StoreFailed
+      → ((db : Trees) → s.may_leave db → HoldsList db h ⊎ HoldsList db (followed_by h (one (answer h (Asks request)).accepted)))
+      → AppliesAt h (desk_state_at HoldsRecords (is_failed_store reply) s) (Asks request) reply
+  in_doubt failed crash = record {
+    accepted = (answer h (Asks request)).accepted;
+    answers = inr (inl (failed, refl));
+    becomes =
+        becomes_doubt s h reply _ failed crash;
+  }
 
-  left_alone : reply ≡ Refused StoreFailed → ((db : Trees) → s.may_leave db → HoldIn HoldsRecords db (records h)) → AppliesAt h (desk_state_at HoldsRecords (is_failed_store reply) s) (Asks request) reply
+  left_alone : reply ≡ Refused StoreFailed → ((db : Trees) → s.may_leave db → HoldIn HoldsRecords db (records h))
+      → AppliesAt h (desk_state_at HoldsRecords (is_failed_store reply) s) (Asks request) reply
   left_alone failed crash = in_doubt failed (λ db left. inl (valid, readable db (records h) (crash db left)))
 
-  without_memory : reply ≡ Refused NoMemory → IsAtRest HoldsRecords s (records h) → AppliesAt h (desk_state_at HoldsRecords (is_failed_store reply) s) (Asks request) reply
-  without_memory is rest = record { accepted = None; answers = inl (is, refl); becomes = becomes_list s h reply None (no_memory_is_no_failure reply is) (stands s h valid rest) }
+  without_memory : reply ≡ Refused NoMemory → IsAtRest HoldsRecords s (records h) → AppliesAt h (desk_state_at HoldsRecords (is_failed_store reply) s)
+      (Asks request) reply
+  without_memory is rest = record {
+    accepted = None;
+    answers = inl (is, refl);
+    becomes = becomes_list s h reply None (no_memory_is_no_failure reply is)
+        (stands s h valid rest);
+  }
 
   failed : IsFailure reply → IsAtRest HoldsRecords s (records h) → AppliesAt h (desk_state_at HoldsRecords (is_failed_store reply) s) (Asks request) reply
   failed (inl is) rest = without_memory is rest
   failed (inr is) rest = left_alone is rest.held.crash
 
-  answered : (accepted : Option Command) → record { reply = reply; accepted = accepted } ≡ answer h (Asks request) → StandsFor (desk_state_at HoldsRecords false s) (followed_by h (one accepted)) → AppliesAt h (desk_state_at HoldsRecords (is_failed_store reply) s) (Asks request) reply
+  answered : (accepted : Option Command) → record { reply = reply; accepted = accepted } ≡ answer h (Asks request)
+      → StandsFor (desk_state_at HoldsRecords false s) (followed_by h (one accepted)) → AppliesAt h (desk_state_at HoldsRecords (is_failed_store reply) s)
+      (Asks request) reply
   answered accepted is standing =
       let never : reply ≢ Refused StoreFailed = λ failed. answer_never_stores h request (ap (λ (a : Answer). a.reply) (sym is) ∙ failed) in
       record { accepted = accepted; answers = inr (inr (never, is)); becomes = becomes_list s h reply accepted never standing }
@@ -71,10 +97,12 @@ module _ (h : CommandList) (valid : IsValid h) (s : State) (request : Request) (
 -- ---- what stands, said of records and of the ledger that they are kept in
 
 pub rests_ledger : (s : State) (r : Records) → Rests HoldsRecords s r → Rests HoldsLedger s (ledger_of r)
-rests_ledger s r was clean = let it = was clean in record { mode = it.mode; held = record { ended = it.held.ended; kept_holds = it.held.kept_holds; crash = it.held.crash } }
+rests_ledger s r was clean = let it = was clean in
+    record { mode = it.mode; held = record { ended = it.held.ended; kept_holds = it.held.kept_holds; crash = it.held.crash } }
 
 pub rests_records : (s : State) (r : Records) → Rests HoldsLedger s (ledger_of r) → Rests HoldsRecords s r
-rests_records s r was clean = let it = was clean in record { mode = it.mode; held = record { ended = it.held.ended; kept_holds = it.held.kept_holds; crash = it.held.crash } }
+rests_records s r was clean = let it = was clean in
+    record { mode = it.mode; held = record { ended = it.held.ended; kept_holds = it.held.kept_holds; crash = it.held.crash } }
 
 pub stood : (s : State) (h : CommandList) → StandsFor (desk_state_at HoldsRecords false s) h → Rests HoldsLedger s (ledger_of (records h))
 stood s h was = rests_ledger s (records h) (λ clean. was.shows)
@@ -82,7 +110,12 @@ stood s h was = rests_ledger s (records h) (λ clean. was.shows)
 -- ---- no change begins
 
 pub unbegun : (a b : State) (request : Request) (reply : Reply) → Keeps HoldsLedger a b → IsFailure reply → Handles HoldsRecords a b request reply
-unbegun a b request reply keeps bad = record { wears = keeps.wears; handles = λ h clean was. failed h was.valid b request reply bad (rests_records b (records h) (keeps.rests (ledger_of (records h)) (stood a h was)) clean) }
+unbegun a b request reply keeps bad =
+    record {
+      wears = keeps.wears;
+      handles =
+          λ h clean was. failed h was.valid b request reply bad (rests_records b (records h) (keeps.rests (ledger_of (records h)) (stood a h was)) clean);
+    }
 
 module _ (a b : State) (begins : Begins HoldsLedger a b) (c d : State) where
   seen : (h : CommandList) → StandsFor (desk_state_at HoldsRecords false a) h → Sees HoldsLedger b (ledger_of (records h))
@@ -99,16 +132,21 @@ module _ (a b : State) (begins : Begins HoldsLedger a b) (c d : State) where
 
   module _ (request : Request) (made : Reply) (wears : Wears b c) (leaves : LeavesSpoiled) where
     lost_alone : (h : CommandList) (reply : Reply) → HasCleanDisk d → StandsFor (desk_state_at HoldsRecords false a) h → reply ≡ Refused StoreFailed
-        → ((kept : Ledger) → Spoiled HoldsLedger c kept → Doubts HoldsLedger d kept kept) → AppliesAt h (desk_state_at HoldsRecords (is_failed_store reply) d) (Asks request) reply
-    lost_alone h reply clean was is doubts = left_alone h was.valid d request reply is (λ db left. elim ((doubts _ (leaves _ (opened h was)) clean).crash db left) [ inl one ↦ one | inr one ↦ one ])
+        → ((kept : Ledger) → Spoiled HoldsLedger c kept → Doubts HoldsLedger d kept kept) → AppliesAt h (desk_state_at HoldsRecords (is_failed_store reply) d)
+        (Asks request) reply
+    lost_alone h reply clean was is doubts =
+        left_alone h was.valid d request reply is (λ db left. elim ((doubts _ (leaves _ (opened h was)) clean).crash db left) [ inl one ↦ one | inr one ↦ one ])
 
     -- what was found inside is the answer, and nothing is accepted
-    pub found : (Says : Records → Type 0) → ((h : CommandList) → IsValid h → Says (records h) → record { reply = made; accepted = None } ≡ answer h (Asks request))
-        → ((h : CommandList) → IsValid h → Sees HoldsLedger b (ledger_of (records h)) → HasCleanDisk c → Says (records h)) → (reply : Reply) → EndsByRollback c d made reply → Handles HoldsRecords a d request reply
+    pub found : (Says : Records → Type 0)
+        → ((h : CommandList) → IsValid h → Says (records h) → record { reply = made; accepted = None } ≡ answer h (Asks request))
+        → ((h : CommandList) → IsValid h → Sees HoldsLedger b (ledger_of (records h)) → HasCleanDisk c → Says (records h)) → (reply : Reply)
+        → EndsByRollback c d made reply → Handles HoldsRecords a d request reply
     found Says means says reply ends = record {
       wears = omega (arith, begins.wears, wears, ends.wears);
       handles = λ h clean was. elim ends.ends [
-        | inl it ↦ answered h was.valid d request reply None (ap (λ (x : Reply). record { reply = x; accepted = None }) it.0 ∙ means h was.valid (says h was.valid (seen h was) (omega (arith, clean, ends.wears))))
+        | inl it ↦ answered h was.valid d request reply None (ap (λ (x : Reply). record { reply = x; accepted = None }) it.0
+            ∙ means h was.valid (says h was.valid (seen h was) (omega (arith, clean, ends.wears))))
             (stands d h was.valid (rests_records d (records h) (it.1 _ (leaves _ (opened h was))) clean))
         | inr it ↦ lost_alone h reply clean was it.0 it.1
       ];
@@ -134,13 +172,17 @@ module _ (a b : State) (begins : Begins HoldsLedger a b) (c d : State) where
   -- ---- a command
 
   module _ (command : Command) where
-    pub refused : {E : Type 0} (refusal : Refusal) → GoesOn → Steps {E = E} b c command (Ok (step.Refused refusal)) → (reply : Reply) → EndsByRollback c d (Refused refusal) reply → Handles HoldsRecords a d (Do command) reply
-    refused refusal goes steps = found (Do command) (Refused refusal) steps.wears (spoils goes) (λ (r : Records). check r command ≡ Some refusal) (λ h valid is. sym (refused_answer h command refusal is)) steps.steps
+    pub refused : {E : Type 0} (refusal : Refusal) → GoesOn → Steps {E = E} b c command (Ok (step.Refused refusal)) → (reply : Reply)
+        → EndsByRollback c d (Refused refusal) reply → Handles HoldsRecords a d (Do command) reply
+    refused refusal goes steps = found (Do command) (Refused refusal) steps.wears (spoils goes) (λ (r : Records). check r command ≡ Some refusal)
+        (λ h valid is. sym (refused_answer h command refusal is)) steps.steps
 
-    pub broken : (made : Reply) → LeavesSpoiled → Wears b c → IsFailure made → (reply : Reply) → EndsByRollback c d made reply → Handles HoldsRecords a d (Do command) reply
+    pub broken : (made : Reply) → LeavesSpoiled → Wears b c → IsFailure made → (reply : Reply) → EndsByRollback c d made reply
+        → Handles HoldsRecords a d (Do command) reply
     broken made leaves wears = lost (Do command) made wears leaves
 
-    pub accepted : {E : Type 0} → IsWellFormed command → (rust : model.Reply) → GoesOn → Steps {E = E} b c command (Ok (step.Accepted rust)) → (reply : Reply) → EndsByCommit c d (reply_of rust) reply → Handles HoldsRecords a d (Do command) reply
+    pub accepted : {E : Type 0} → IsWellFormed command → (rust : model.Reply) → GoesOn → Steps {E = E} b c command (Ok (step.Accepted rust)) → (reply : Reply)
+        → EndsByCommit c d (reply_of rust) reply → Handles HoldsRecords a d (Do command) reply
     accepted good rust goes steps reply ends = record {
       wears = omega (arith, begins.wears, steps.wears, ends.wears);
       handles = λ h clean was.
@@ -151,11 +193,13 @@ module _ (a b : State) (begins : Begins HoldsLedger a b) (c d : State) where
           let longer : IsValid (h ▸ command) = (was.valid, good, facts.0) in
           let is = accepted_step h command was.valid facts.0 in
           elim ends.ends [
-            | inl it ↦ answered h was.valid d (Do command) reply (Some command) (ap (λ (x : Reply). record { reply = x; accepted = Some command }) (it.0 ∙ facts.1) ∙ sym is)
+            | inl it ↦ answered h was.valid d (Do command) reply (Some command)
+                (ap (λ (x : Reply). record { reply = x; accepted = Some command }) (it.0 ∙ facts.1) ∙ sym is)
                 (stands d (h ▸ command) longer (subst (IsAtRest HoldsRecords d) (sym follows) (rests_records d (step_records r command) (it.1 _ done.0) clean)))
             | inr it ↦ in_doubt h was.valid d (Do command) reply it.0 (λ db left. elim ((it.1 _ _ done.0 (spoils goes _ (opened h was)) clean).crash db left) [
               | inl one ↦ inl (was.valid, readable db r one)
-              | inr one ↦ inr (subst (λ (o : Option Command). HoldsList db (followed_by h (Rattle.rollout_machine.specs.Requests.one o))) (sym (ap (λ (x : Answer). x.accepted) is)) (longer, readable db _ (subst (HoldIn HoldsRecords db) (sym follows) one)))
+              | inr one ↦ inr (subst (λ (o : Option Command). HoldsList db (followed_by h (Rattle.rollout_machine.specs.Requests.one o)))
+                  (sym (ap (λ (x : Answer). x.accepted) is)) (longer, readable db _ (subst (HoldIn HoldsRecords db) (sym follows) one)))
             ])
           ];
     }
@@ -163,11 +207,14 @@ module _ (a b : State) (begins : Begins HoldsLedger a b) (c d : State) where
   -- ---- a query
 
   module _ (query : Query) where
-    pub shown : {E : Type 0} (rust : model.Reply) → GoesOn → Finds HoldsLedger ledger_of {E = E} b c (Ok rust) (λ r reply. AreOfList r → reply_of reply ≡ query_reply r query) → (reply : Reply) → EndsByRollback c d (reply_of rust) reply
+    pub shown : {E : Type 0} (rust : model.Reply) → GoesOn
+        → Finds HoldsLedger ledger_of {E = E} b c (Ok rust) (λ r reply. AreOfList r → reply_of reply ≡ query_reply r query) → (reply : Reply)
+        → EndsByRollback c d (reply_of rust) reply
         → Handles HoldsRecords a d (Ask query) reply
     shown rust goes shows = found (Ask query) (reply_of rust) shows.wears (spoils goes) (λ (r : Records). reply_of rust ≡ query_reply r query)
         (λ h valid is. ap (λ (x : Reply). record { reply = x; accepted = None }) is ∙ sym (query_answer h query))
         (λ h valid was clean. (shows.finds (records h) was).1 clean (record { list = h; valid = valid; are = refl }))
 
-    pub unshown : (made : Reply) → LeavesSpoiled → Wears b c → IsFailure made → (reply : Reply) → EndsByRollback c d made reply → Handles HoldsRecords a d (Ask query) reply
+    pub unshown : (made : Reply) → LeavesSpoiled → Wears b c → IsFailure made → (reply : Reply) → EndsByRollback c d made reply
+        → Handles HoldsRecords a d (Ask query) reply
     unshown made leaves wears = lost (Ask query) made wears leaves

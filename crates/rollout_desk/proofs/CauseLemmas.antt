@@ -1,5 +1,9 @@
 -- Why a request's failed store is a call that failed: what was blamed inside its change, and how the change ended.
-use Rattle.rollout_desk.proofs.Common.{Result, ◌≡◌, ◌≢◌, ◌≤◌, ◌⊎◌, inl, inr, Bool, false, Option, Some, None, Ok, refl, sym, subst, ap, ◌∙◌, arith, state, Ghosts, State, HasCleanDisk, Begins, Finds, Sees, Wears, Fault, rest_shows, HoldsLedger, HoldsRecords, Ledger, ledger_of, OpenChange, Answer, answer, CommandList, Command, records, Reply, Refused, Refusal, Request, Do, Ask, Query, Asks, query_reply, reply_of, query_answer, refused_answer, accepted_step, IsValid, StandsFor, StoreFailed, Broken, answer_never_stores, refusal_of_fault, desk_state_at, Err, Store}
+use Rattle.rollout_desk.proofs.Common.{Result, ◌≡◌, ◌≢◌, ◌≤◌, ◌⊎◌, inl, inr, Bool, false, Option, Some, None, Ok, refl, sym, subst, ap, ◌∙◌, arith, state}
+use Rattle.rollout_desk.proofs.Common.{Ghosts, State, HasCleanDisk, Begins, Finds, Sees, Wears, Fault, rest_shows, HoldsLedger, HoldsRecords, Ledger}
+use Rattle.rollout_desk.proofs.Common.{ledger_of, OpenChange, Answer, answer, CommandList, Command, records, Reply, Refused, Refusal, Request, Do, Ask, Query}
+use Rattle.rollout_desk.proofs.Common.{Asks, query_reply, reply_of, query_answer, refused_answer, accepted_step, IsValid, StandsFor, StoreFailed, Broken}
+use Rattle.rollout_desk.proofs.Common.{answer_never_stores, refusal_of_fault, desk_state_at, Err, Store}
 use Rattle.rollout_model.specs.declared.request.Reply as model
 use Rattle.sql_calls.specs.declared.calls.Calls.{Calls}
 use Rattle.desk_commands.specs.Steps.{Steps}
@@ -17,51 +21,68 @@ use Rattle.rollout_desk.proofs.ApplyLemmas.{stood}
 use Rattle.rollout_desk.proofs.VerifyLemmas.{failed_within, is_counted, stored}
 
 -- the machine never answers so
-pub never_answered : (h : CommandList) (request : Request) (made : Reply) (accepted : Option Command) → record { reply = made; accepted = accepted } ≡ answer h (Asks request) → made ≢ Refused StoreFailed
+pub never_answered : (h : CommandList) (request : Request) (made : Reply) (accepted : Option Command) → record { reply = made; accepted = accepted }
+    ≡ answer h (Asks request) → made ≢ Refused StoreFailed
 never_answered h request made accepted is failed = answer_never_stores h request (ap (λ (a : Answer). a.reply) (sym is) ∙ failed)
 
 -- the fault of a reply, or of a result, that says that the store failed
 pub told_reply : (fault : Fault) (made : Reply) → made ≡ Refused (refusal_of_fault fault) → made ≡ Refused StoreFailed → (fault ≡ Store) ⊎ (fault ≡ Broken)
 told_reply fault made named is = stored fault (let told : Refused (refusal_of_fault fault) ≡ Refused StoreFailed = sym named ∙ is in cc)
 
-pub told_result : {A : Type 0} (fault : Fault) (refusal : Refusal) → refusal ≡ refusal_of_fault fault → ◌≡◌ {A = Result A Refusal} (Err refusal) (Err StoreFailed) → (fault ≡ Store) ⊎ (fault ≡ Broken)
+pub told_result : {A : Type 0} (fault : Fault) (refusal : Refusal) → refusal ≡ refusal_of_fault fault
+    → ◌≡◌ {A = Result A Refusal} (Err refusal) (Err StoreFailed) → (fault ≡ Store) ⊎ (fault ≡ Broken)
 told_result fault refusal named is = stored fault (let same : refusal ≡ StoreFailed = cc in sym named ∙ same)
 
-module _ {S : Type 0} (g : Ghosts S) (old : Calls S) (begun read : OpenChange S) (end : Calls S) (begins : Begins HoldsLedger (state g old.conn) (seen_in g begun))
-    (wears : Wears (seen_in g read) (state g end.conn)) (grew : old.failures ≤ begun.store.now.calls.failures) (rose : begun.store.now.calls.failures ≤ read.store.now.calls.failures) (ended : read.store.now.calls.failures ≤ end.failures) where
+module _ {S : Type 0} (g : Ghosts S) (old : Calls S) (begun read : OpenChange S) (end : Calls S)
+    (begins : Begins HoldsLedger (state g old.conn) (seen_in g begun))
+    (wears : Wears (seen_in g read) (state g end.conn)) (grew : old.failures ≤ begun.store.now.calls.failures)
+    (rose : begun.store.now.calls.failures ≤ read.store.now.calls.failures) (ended : read.store.now.calls.failures ≤ end.failures) where
   shown : (h : CommandList) → StandsFor (desk_state_at HoldsRecords false (state g old.conn)) h → Sees HoldsLedger (seen_in g begun) (ledger_of (records h))
   shown h stands = begins.sees (ledger_of (records h)) (rest_shows HoldsLedger (state g old.conn) _ (stood (state g old.conn) h stands))
 
   -- a fault inside, told by what was made of it
-  pub failed_inside : {R : Type 0} {store : R} (Given : Ledger → Type 0) (fault : Fault) (made reply : R) → (made ≡ store → (fault ≡ Store) ⊎ (fault ≡ Broken)) → Grows (failures_of fault) begun.store.now.calls read.store.now.calls
-      → ((l : Ledger) → Sees HoldsLedger (seen_in g begun) l → Given l → HasReason g read ⊥ fault) → ((h : CommandList) → IsValid h → IsReadable (ledger_of (records h)) → AreCounted (records h) → Given (ledger_of (records h)))
+  pub failed_inside : {R : Type 0} {store : R} (Given : Ledger → Type 0) (fault : Fault) (made reply : R) → (made ≡ store → (fault ≡ Store) ⊎ (fault ≡ Broken))
+      → Grows (failures_of fault) begun.store.now.calls read.store.now.calls
+      → ((l : Ledger) → Sees HoldsLedger (seen_in g begun) l → Given l → HasReason g read ⊥ fault)
+      → ((h : CommandList) → IsValid h → IsReadable (ledger_of (records h)) → AreCounted (records h) → Given (ledger_of (records h)))
       → (reply ≡ made) ⊎ HasFailed read.store.now.calls.failures end.failures → reply ≡ store → FailsByCalls g old end
-  failed_inside Given fault made reply named grows breaks given (inr failed) is h clean counted stands = failed_within (omega (arith, grew, rose)) failed (omega arith)
+  failed_inside Given fault made reply named grows breaks given (inr failed) is h clean counted stands =
+      failed_within (omega (arith, grew, rose)) failed (omega arith)
   failed_inside Given fault made reply named grows breaks given (inl same) is h clean counted stands = elim (named (sym same ∙ is)) [
     | inl store ↦ failed_within grew (is_counted fault store grows) ended
-    | inr broken ↦ absurd ((breaks (ledger_of (records h)) (shown h stands) (given h stands.valid (readable h stands.valid counted) counted)).reason broken (omega (arith, clean, wears)))
+    | inr broken ↦ absurd ((breaks (ledger_of (records h)) (shown h stands) (given h stands.valid (readable h stands.valid counted) counted)).reason broken
+        (omega (arith, clean, wears)))
   ]
 
   -- what was made tells of no fault
-  pub well_inside : {R : Type 0} {store : R} (made reply : R) → ((h : CommandList) → IsValid h → Sees HoldsLedger (seen_in g begun) (ledger_of (records h)) → HasCleanDisk (seen_in g read) → made ≢ store)
+  pub well_inside : {R : Type 0} {store : R} (made reply : R)
+      → ((h : CommandList) → IsValid h → Sees HoldsLedger (seen_in g begun) (ledger_of (records h)) → HasCleanDisk (seen_in g read) → made ≢ store)
       → (reply ≡ made) ⊎ HasFailed read.store.now.calls.failures end.failures → reply ≡ store → FailsByCalls g old end
   well_inside made reply never (inr failed) is h clean counted stands = failed_within (omega (arith, grew, rose)) failed (omega arith)
-  well_inside made reply never (inl same) is h clean counted stands = absurd (never h stands.valid (shown h stands) (omega (arith, clean, wears)) (sym same ∙ is))
+  well_inside made reply never (inl same) is h clean counted stands =
+      absurd (never h stands.valid (shown h stands) (omega (arith, clean, wears)) (sym same ∙ is))
 
 -- ---- replies that the machine gives
 
 module _ {E : Type 0} {b c : State} (h : CommandList) (valid : IsValid h) (seen : Sees HoldsLedger b (ledger_of (records h))) (clean : HasCleanDisk c) where
-  pub query_never : (query : Query) (rust : model.Reply) → Finds HoldsLedger ledger_of {E = E} b c (Ok rust) (λ r reply. AreOfList r → reply_of reply ≡ query_reply r query) → reply_of rust ≢ Refused StoreFailed
-  query_never query rust shows = never_answered h (Ask query) (reply_of rust) None (ap (λ (x : Reply). record { reply = x; accepted = None }) ((shows.finds (records h) seen).1 clean (record { list = h; valid = valid; are = refl })) ∙ sym (query_answer h query))
+  pub query_never : (query : Query) (rust : model.Reply)
+      → Finds HoldsLedger ledger_of {E = E} b c (Ok rust) (λ r reply. AreOfList r → reply_of reply ≡ query_reply r query) → reply_of rust ≢ Refused StoreFailed
+  query_never query rust shows =
+      never_answered h (Ask query) (reply_of rust) None
+      (ap (λ (x : Reply). record { reply = x; accepted = None }) ((shows.finds (records h) seen).1 clean (record { list = h; valid = valid; are = refl }))
+      ∙ sym (query_answer h query))
 
   pub refused_never : (command : Command) (refusal : Refusal) → Steps {E = E} b c command (Ok (step.Refused refusal)) → Refused refusal ≢ Refused StoreFailed
-  refused_never command refusal steps = never_answered h (Do command) (Refused refusal) None (sym (refused_answer h command refusal (steps.steps h valid seen clean)))
+  refused_never command refusal steps =
+      never_answered h (Do command) (Refused refusal) None (sym (refused_answer h command refusal (steps.steps h valid seen clean)))
 
   pub accepted_never : (command : Command) (rust : model.Reply) → Steps {E = E} b c command (Ok (step.Accepted rust)) → reply_of rust ≢ Refused StoreFailed
   accepted_never command rust steps =
       let facts = (steps.steps h valid seen).1 clean in
-      never_answered h (Do command) (reply_of rust) (Some command) (ap (λ (x : Reply). record { reply = x; accepted = Some command }) facts.1 ∙ sym (accepted_step h command valid facts.0))
+      never_answered h (Do command) (reply_of rust) (Some command) (ap (λ (x : Reply). record { reply = x; accepted = Some command }) facts.1
+      ∙ sym (accepted_step h command valid facts.0))
 
 -- a desk that isn't stopped stands by its connection
-pub stands_running : (s : State) (was : Bool) (h : CommandList) → was ≡ false → StandsFor (desk_state_at HoldsRecords was s) h → StandsFor (desk_state_at HoldsRecords false s) h
+pub stands_running : (s : State) (was : Bool) (h : CommandList) → was ≡ false → StandsFor (desk_state_at HoldsRecords was s) h
+    → StandsFor (desk_state_at HoldsRecords false s) h
 stands_running s was h runs stands = subst (λ (b : Bool). StandsFor (desk_state_at HoldsRecords b s) h) runs stands

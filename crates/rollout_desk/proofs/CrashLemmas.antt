@@ -1,5 +1,6 @@
 -- From what a crash leaves of a desk's files to the desk that is reopened over it.
-use Rattle.rollout_desk.proofs.Common.{◌≡◌, Bool, IsTrue, sym, subst, ◌∙◌, arith, Files, Image, Trees, AreClean, FileStore, files, recovers, view, faults, is_shielded, Held, AreDatabases, State, HoldsDatabase, file_state, HoldsRecords, desk_state_at, AllHold, GoesOnOver}
+use Rattle.rollout_desk.proofs.Common.{◌≡◌, Bool, IsTrue, sym, subst, ◌∙◌, arith, Files, Image, Trees, AreClean, FileStore, files, recovers, view, faults}
+use Rattle.rollout_desk.proofs.Common.{is_shielded, Held, AreDatabases, State, HoldsDatabase, file_state, HoldsRecords, desk_state_at, AllHold, GoesOnOver}
 use Rattle.std.proofs.Math.Logic.{∥∥₁_map}
 use Rattle.sqlite_disk.specs.declared.Disk.{Ghosts}
 use Rattle.sqlite.specs.WalFiles.{outcomes}
@@ -21,9 +22,11 @@ module _ (stopped : Bool) (s : State) (images : Image → Type 0) (leaves : Leav
 are_databases : (stopped : Bool) (s : State) → AllHold (desk_state_at HoldsRecords stopped s) → AreDatabases s.may_leave
 are_databases stopped s all file may = let (schema, (v, holds)) = (all file may).1.1 in (schema, holds.sound)
 
-module _ {D : Type 0} {g : Ghosts D} (given old : Held (FileStore D g)) (same : given ≡ old) (now : FileStore D g) (back : Files D) (is : (back.log, back.db) ≡ files now)
+module _ {D : Type 0} {g : Ghosts D} (given old : Held (FileStore D g)) (same : given ≡ old) (now : FileStore D g) (back : Files D)
+    (is : (back.log, back.db) ≡ files now)
     (numbered : IsClean (view now) → IsTrue (view now).is_numbered) (sound : IsClean (view now) → AreDatabases (recovers now))
-    (undone : IsRolledBack (view given.store) (view now)) (quiet : IsQuiet view faults recovers is_shielded given.store now) (clean : AreClean g back.log back.db) (stopped : Bool) where
+    (undone : IsRolledBack (view given.store) (view now)) (quiet : IsQuiet view faults recovers is_shielded given.store now)
+    (clean : AreClean g back.log back.db) (stopped : Bool) where
   sure : IsClean (view now)
   sure = no_doubt _ (clean_is now.pool ∙ subst (λ p. AreClean g p.0 p.1) is clean)
 
@@ -38,13 +41,17 @@ module _ {D : Type 0} {g : Ghosts D} (given old : Held (FileStore D g)) (same : 
       let here = may_leave_is given.store.pool image (sym (clean_is given.store.pool) ∙ clean_of _ was) may in
       opens_again given.store (sym undone.numbered ∙ numbered sure) are image here
 
-  pub goes_on_after : (running : Bool) (t : State) → GoesOnOver (outcomes g back.log back.db) (desk_state_at HoldsRecords stopped (file_state old)) (desk_state_at HoldsRecords running t)
+  pub goes_on_after : (running : Bool) (t : State) → GoesOnOver (outcomes g back.log back.db) (desk_state_at HoldsRecords stopped (file_state old))
+      (desk_state_at HoldsRecords running t)
   goes_on_after running t =
       subst (λ c. GoesOnOver (outcomes g back.log back.db) (desk_state_at HoldsRecords stopped (file_state c)) (desk_state_at HoldsRecords running t)) same
       (goes_on stopped (file_state given) _ left_after running t)
 
   pub goes_on_before : (running : Bool) (t : State) → AllHold (desk_state_at HoldsRecords stopped (file_state old))
-      → GoesOnOver (outcomes g (files old.store).0 (files old.store).1) (desk_state_at HoldsRecords stopped (file_state old)) (desk_state_at HoldsRecords running t)
+      → GoesOnOver (outcomes g (files old.store).0 (files old.store).1) (desk_state_at HoldsRecords stopped (file_state old))
+      (desk_state_at HoldsRecords running t)
   goes_on_before running t =
-      subst (λ c. AllHold (desk_state_at HoldsRecords stopped (file_state c)) → GoesOnOver (outcomes g (files c.store).0 (files c.store).1) (desk_state_at HoldsRecords stopped (file_state c)) (desk_state_at HoldsRecords running t)) same
+      subst (λ c. AllHold (desk_state_at HoldsRecords stopped (file_state c))
+      → GoesOnOver (outcomes g (files c.store).0 (files c.store).1) (desk_state_at HoldsRecords stopped (file_state c))
+      (desk_state_at HoldsRecords running t)) same
       (λ all. goes_on stopped (file_state given) _ (left_before (are_databases stopped (file_state given) all)) running t)

@@ -1,5 +1,6 @@
 -- From one request of a desk's store to the desk, which may be stopped.
-use Rattle.rollout_desk.proofs.Common.{◌≡◌, Bool, true, false, sym, subst, ◌∙◌, arith, false≢true, Database, State, HasCleanDisk, Records, Reply, Request, Asks, StandsFor, Applies, AppliesAt, StaysStopped, desk_state_at, is_failed_store, Handles}
+use Rattle.rollout_desk.proofs.Common.{◌≡◌, Bool, true, false, sym, subst, ◌∙◌, arith, false≢true, Database, State, HasCleanDisk, Records, Reply, Request}
+use Rattle.rollout_desk.proofs.Common.{Asks, StandsFor, Applies, AppliesAt, StaysStopped, desk_state_at, is_failed_store, Handles}
 
 module _ (Holds : Database → Records → Type 0) (old new : State) where
   -- a running desk answers by its store, and is stopped after a failed one
@@ -14,7 +15,8 @@ module _ (Holds : Database → Records → Type 0) (old new : State) where
 
 -- a stopped desk answers nothing else
 module _ (Holds : Database → Records → Type 0) (s : State) where
-  pub refuses : (was : Bool) (asked : Rattle.rollout_machine.specs.Requests.Asked) (reply : Reply) → was ≡ true → Applies (desk_state_at Holds was s) (desk_state_at Holds was s) asked reply
+  pub refuses : (was : Bool) (asked : Rattle.rollout_machine.specs.Requests.Asked) (reply : Reply) → was ≡ true
+      → Applies (desk_state_at Holds was s) (desk_state_at Holds was s) asked reply
   refuses was asked reply stopped list clean standing = absurd (false≢true (sym standing.runs ∙ stopped))
 
   pub stays : (was : Bool) → was ≡ true → StaysStopped (desk_state_at Holds was s) (desk_state_at Holds was s)

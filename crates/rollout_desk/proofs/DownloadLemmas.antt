@@ -1,5 +1,15 @@
 -- From looks at the records, and from answers, to downloads.
-use Rattle.rollout_desk.proofs.Common.{◌≡◌, ◌≢◌, ◌≤◌, ◌<◌, inl, inr, ◌+◌, ◌*◌, ◌++◌, ℕ, zero, suc, List, [], ◌∷◌, Bool, true, false, cond, nat_eq, take, drop, Vec, Option, Some, None, Result, Ok, Err, IfOk, refl, sym, subst, ap, ◌∙◌, arith, Global, option_map, State, Doubts, Finds, Keeps, Opens, Rests, Spoiled, Wears, rest_shows, Fault, HoldsLedger, HoldsRecords, Ledger, ledger_of, piece_numbered, pieces_of_artifact, Answer, query_reply, if_found, artifact_if, artifact_of_module, item_numbered, CommandList, followed_by, Bytes, Command, Credential, ArtifactRecord, Records, added_artifacts, artifacts, Reply, Refused, ArtifactShown, ContentsShown, Ask, Asks, Query, Request, ShowArtifact, ShowContents, one, DeskState, StandsFor, Applies, reply_of, query_answer, piece_length, Refusal, NoMemory, NotFound, StoreFailed, desk_state_at, sent, next_length, BeginsAt, HandsPieces, artifact_in, BeginsOffered, HandsItsArtifact, IsNextOf, RefusesContents, DownloadsGoOn, EndsLook, FindsDownload, Looks, bytes_of, Handles, refusal_of_fault, is_store, IsPromised, length, length-take, length-drop, find, Sends, same_bytes, artifacts_shown, modules_offered, offer, list_any, is_known, Unauthorized, HasCleanDisk}
+use Rattle.rollout_desk.proofs.Common.{◌≡◌, ◌≢◌, ◌≤◌, ◌<◌, inl, inr, ◌+◌, ◌*◌, ◌++◌, ℕ, zero, suc, List, [], ◌∷◌, Bool, true, false, cond, nat_eq, take, drop}
+use Rattle.rollout_desk.proofs.Common.{Vec, Option, Some, None, Result, Ok, Err, IfOk, refl, sym, subst, ap, ◌∙◌, arith, Global, option_map, State, Doubts}
+use Rattle.rollout_desk.proofs.Common.{Finds, Keeps, Opens, Rests, Spoiled, Wears, rest_shows, Fault, HoldsLedger, HoldsRecords, Ledger, ledger_of}
+use Rattle.rollout_desk.proofs.Common.{piece_numbered, pieces_of_artifact, Answer, query_reply, if_found, artifact_if, artifact_of_module, item_numbered}
+use Rattle.rollout_desk.proofs.Common.{CommandList, followed_by, Bytes, Command, Credential, ArtifactRecord, Records, added_artifacts, artifacts, Reply}
+use Rattle.rollout_desk.proofs.Common.{Refused, ArtifactShown, ContentsShown, Ask, Asks, Query, Request, ShowArtifact, ShowContents, one, DeskState, StandsFor}
+use Rattle.rollout_desk.proofs.Common.{Applies, reply_of, query_answer, piece_length, Refusal, NoMemory, NotFound, StoreFailed, desk_state_at, sent}
+use Rattle.rollout_desk.proofs.Common.{next_length, BeginsAt, HandsPieces, artifact_in, BeginsOffered, HandsItsArtifact, IsNextOf, RefusesContents}
+use Rattle.rollout_desk.proofs.Common.{DownloadsGoOn, EndsLook, FindsDownload, Looks, bytes_of, Handles, refusal_of_fault, is_store, IsPromised, length}
+use Rattle.rollout_desk.proofs.Common.{length-take, length-drop, find, Sends, same_bytes, artifacts_shown, modules_offered, offer, list_any, is_known}
+use Rattle.rollout_desk.proofs.Common.{Unauthorized, HasCleanDisk}
 use Rattle.sql_calls.specs.Standing.{Begins as BeginsChange}
 use Rattle.desk_views.specs.Downloads.{downloadable, or_not_found}
 use Rattle.desk_views.proofs.DeviceViews.{answered_by}
@@ -36,7 +46,8 @@ module _ (was : Bool) (a b : State) (p : Download) where
       let looked : Looks HoldsRecords a b (Ok (Some piece)) (IsNextPiece p) = subst (λ x. Looks HoldsRecords a b x (IsNextPiece p)) is look in
       let it = looked.looks (records h) (λ _. standing.shows) in
       let before : p.pieces * piece_length < p.size = omega (arith, more) in
-      let next : piece.items ≡ take piece_length (drop (p.pieces * piece_length) contents) = piece_is (records h) p.number p.pieces contents piece.items sends.artifact (it.1 clean) in (
+      let next : piece.items ≡ take piece_length (drop (p.pieces * piece_length) contents) = piece_is (records h) p.number p.pieces contents piece.items
+      sends.artifact (it.1 clean) in (
         subst (λ (x : Bool). StandsFor (desk_state_at HoldsRecords x b) h) (sym runs) (stands b h standing.valid (it.0 clean)),
         record { artifact = sends.artifact; size = sends.size },
         record {
@@ -58,27 +69,35 @@ next_of h p piece is = go (item_numbered (records h).artifacts p.number) refl wh
       let no : Some piece ≡ None = is ∙ ap (λ x. item_numbered (pieces_of_artifact x) (p.pieces + 1)) at ∙ none_numbered (p.pieces + 1) in
       absurd cc
   go (Some a) at =
-      let has : option_map (λ (x : ArtifactRecord). x.contents) (item_numbered (records h).artifacts p.number) ≡ Some a.contents = ap (option_map (λ (x : ArtifactRecord). x.contents)) at in
+      let has : option_map (λ (x : ArtifactRecord). x.contents) (item_numbered (records h).artifacts p.number) ≡ Some a.contents =
+      ap (option_map (λ (x : ArtifactRecord). x.contents)) at in
       record { contents = a.contents; artifact = has; next = piece_is (records h) p.number p.pieces a.contents piece has is }
 
 module _ (was : Bool) (a b : State) (p : Download) where
-  pub own_piece : (found : Found) (piece : Vec ℕ Global) → Looks HoldsRecords a b found (IsNextPiece p) → found ≡ Ok (Some piece) → was ≡ false → HandsItsArtifact (desk_state_at HoldsRecords was a) (desk_state_at HoldsRecords was b) p (Ok (Some piece))
+  pub own_piece : (found : Found) (piece : Vec ℕ Global) → Looks HoldsRecords a b found (IsNextPiece p) → found ≡ Ok (Some piece) → was ≡ false
+      → HandsItsArtifact (desk_state_at HoldsRecords was a) (desk_state_at HoldsRecords was b) p (Ok (Some piece))
   own_piece found piece look is runs h clean standing =
       let looked : Looks HoldsRecords a b (Ok (Some piece)) (IsNextPiece p) = subst (λ x. Looks HoldsRecords a b x (IsNextPiece p)) is look in
-      let it = looked.looks (records h) (λ _. standing.shows) in
-      (subst (λ (x : Bool). StandsFor (desk_state_at HoldsRecords x b) h) (sym runs) (stands b h standing.valid (it.0 clean)), next_of h p piece.items (it.1 clean))
+      let it = looked.looks (records h) (λ _. standing.shows) in (
+        subst (λ (x : Bool). StandsFor (desk_state_at HoldsRecords x b) h) (sym runs) (stands b h standing.valid (it.0 clean)),
+        next_of h p piece.items (it.1 clean),
+      )
 
   -- a list's contents have the piece, of its length
-  pub never_other : (found : Found) → Looks HoldsRecords a b found (IsNextPiece p) → 1 ≤ next_length p → (h : CommandList) (contents : Bytes) → HasCleanDisk b → StandsFor (desk_state_at HoldsRecords was a) h → Sends h p contents
+  pub never_other : (found : Found) → Looks HoldsRecords a b found (IsNextPiece p) → 1 ≤ next_length p → (h : CommandList) (contents : Bytes) → HasCleanDisk b
+      → StandsFor (desk_state_at HoldsRecords was a) h → Sends h p contents
       → IsOtherThan (next_length p) found → ⊥
   never_other (Ok x) look more h contents clean standing sends other =
-      go x other ((look.looks (records h) (λ _. standing.shows)).1 clean ∙ piece_there (records h) p.number p.pieces contents sends.artifact (omega (arith, more, sends.size)))
+      go x other ((look.looks (records h) (λ _. standing.shows)).1 clean ∙ piece_there (records h) p.number p.pieces contents sends.artifact
+      (omega (arith, more, sends.size)))
     where
-      go : (x : Option (Vec ℕ Global)) → IsOtherThan (next_length p) (Ok x) → bytes_of x ≡ Some (take piece_length (drop (p.pieces * piece_length) contents)) → ⊥
+      go : (x : Option (Vec ℕ Global)) → IsOtherThan (next_length p) (Ok x) → bytes_of x ≡ Some (take piece_length (drop (p.pieces * piece_length) contents))
+          → ⊥
       go None other is = absurd cc
       go (Some piece) other is =
           let same : piece.items ≡ take piece_length (drop (p.pieces * piece_length) contents) = cc in
-          other (ap length same ∙ length-take piece_length (drop (p.pieces * piece_length) contents) ∙ omega (arith, length-drop (p.pieces * piece_length) contents, sends.size))
+          other (ap length same ∙ length-take piece_length (drop (p.pieces * piece_length) contents)
+          ∙ omega (arith, length-drop (p.pieces * piece_length) contents, sends.size))
   never_other (Err refusal) look more h contents clean standing sends other = other
 
 -- ---- the first answer
@@ -108,7 +127,8 @@ module _ {File : Type 0} (old new : DeskState File) (m k : ℕ) where
   same_refusal r never (Some a) is = absurd (never (artifact_shown k a) is)
 
   -- the contents are refused as the artifact is
-  pub contents_refused : (r : Reply) → ((shown : Artifact) → r ≢ ArtifactShown shown) → Applies old new (Asks (Ask (ShowArtifact m k))) r → Applies old new (Asks (Ask (ShowContents m k))) r
+  pub contents_refused : (r : Reply) → ((shown : Artifact) → r ≢ ArtifactShown shown) → Applies old new (Asks (Ask (ShowArtifact m k))) r
+      → Applies old new (Asks (Ask (ShowContents m k))) r
   contents_refused r never applies h clean standing =
       let it = applies h clean standing in
       let asked = query_answer h (ShowArtifact m k) in
@@ -131,12 +151,14 @@ module _ {File : Type 0} (old new : DeskState File) (m k : ℕ) where
         becomes = it.becomes;
       }
 
-  refused_as : (r : Reply) → ((shown : Artifact) → r ≢ ArtifactShown shown) → (x : Option ArtifactRecord) → r ≡ for_artifact x → (refusal : Refusal) × (r ≡ Refused refusal)
+  refused_as : (r : Reply) → ((shown : Artifact) → r ≢ ArtifactShown shown) → (x : Option ArtifactRecord) → r ≡ for_artifact x → (refusal : Refusal)
+      × (r ≡ Refused refusal)
   refused_as r never None is = (NotFound, is)
   refused_as r never (Some a) is = absurd (never (artifact_shown k a) is)
 
   -- an answer that shows no artifact refuses
-  pub refuses : (r : Reply) → ((shown : Artifact) → r ≢ ArtifactShown shown) → Applies old new (Asks (Ask (ShowArtifact m k))) r → RefusesContents old new (ShowContents m k) r
+  pub refuses : (r : Reply) → ((shown : Artifact) → r ≢ ArtifactShown shown) → Applies old new (Asks (Ask (ShowArtifact m k))) r
+      → RefusesContents old new (ShowContents m k) r
   refuses r never applies h clean standing =
       elim (applies h clean standing).answers [
         | inl none ↦ (NoMemory, none.0)
@@ -150,7 +172,8 @@ module _ {File : Type 0} (old new : DeskState File) (m k : ℕ) where
     abbrev Begun : Type 0
     Begun = BeginsAt h new (Asks (Ask (ShowContents m k))) (record { number = k; size = shown.size; pieces = 0 })
 
-    begun_own : (a : ArtifactRecord) → item_numbered (records h).artifacts k ≡ Some a → (b : Bool) → nat_eq a.module_number m ≡ b → ArtifactShown shown ≡ for_artifact (cond b (Some a) None) → Begun
+    begun_own : (a : ArtifactRecord) → item_numbered (records h).artifacts k ≡ Some a → (b : Bool) → nat_eq a.module_number m ≡ b → ArtifactShown shown
+        ≡ for_artifact (cond b (Some a) None) → Begun
     begun_own a at false own is = absurd cc
     begun_own a at true own is =
         let same : shown ≡ artifact_shown k a = cc in record {
@@ -170,7 +193,8 @@ module _ {File : Type 0} (old new : DeskState File) (m k : ℕ) where
     begun_at (Some a) at is = begun_own a at (nat_eq a.module_number m) refl is
 
   -- the artifact is shown, so its contents can be sent
-  pub begun : (shown : Artifact) → Applies old new (Asks (Ask (ShowArtifact m k))) (ArtifactShown shown) → Begins old new (Asks (Ask (ShowContents m k))) (Ok (record { number = k; size = shown.size; pieces = 0 }))
+  pub begun : (shown : Artifact) → Applies old new (Asks (Ask (ShowArtifact m k))) (ArtifactShown shown)
+      → Begins old new (Asks (Ask (ShowContents m k))) (Ok (record { number = k; size = shown.size; pieces = 0 }))
   begun shown applies h clean standing =
       let it = applies h clean standing in
       elim it.answers [
@@ -178,9 +202,11 @@ module _ {File : Type 0} (old new : DeskState File) (m k : ℕ) where
         | inr other ↦ elim other [
           | inl failed ↦ absurd (not_refused StoreFailed failed.0)
           | inr found ↦
-              let same : ArtifactShown shown ≡ query_reply (records h) (ShowArtifact m k) = ap (λ (x : Answer). x.reply) (found.1 ∙ query_answer h (ShowArtifact m k)) in
+              let same : ArtifactShown shown ≡ query_reply (records h) (ShowArtifact m k) =
+              ap (λ (x : Answer). x.reply) (found.1 ∙ query_answer h (ShowArtifact m k)) in
               let none : it.accepted ≡ None = ap (λ (x : Answer). x.accepted) (found.1 ∙ query_answer h (ShowArtifact m k)) in
-              begun_at shown h (subst (λ (o : Option Command). StandsFor new (followed_by h (one o))) none (it.becomes.stands found.0)) (item_numbered (records h).artifacts k) refl same
+              begun_at shown h (subst (λ (o : Option Command). StandsFor new (followed_by h (one o))) none (it.becomes.stands found.0))
+              (item_numbered (records h).artifacts k) refl same
         ]
       ] where
         not_refused : (refusal : Refusal) → ArtifactShown shown ≢ Refused refusal
@@ -189,9 +215,11 @@ module _ {File : Type 0} (old new : DeskState File) (m k : ℕ) where
 -- ---- what a device downloads
 
 -- the machine never refuses a download so
-pub never_stores : (r : Records) (device : Credential) (m : ℕ) (filename : Bytes) (found : Result Artifact Refusal) → found ≡ downloadable r device m filename → found ≢ Err StoreFailed
+pub never_stores : (r : Records) (device : Credential) (m : ℕ) (filename : Bytes) (found : Result Artifact Refusal) → found ≡ downloadable r device m filename
+    → found ≢ Err StoreFailed
 never_stores r device m filename found is failed =
-    go (is_known r device) (list_any (λ n. nat_eq n m) (modules_offered r (offer r device.id))) (find (λ (a : Artifact). same_bytes a.filename filename) (artifacts_shown m 1 r.artifacts)) (sym is ∙ failed)
+    go (is_known r device) (list_any (λ n. nat_eq n m) (modules_offered r (offer r device.id)))
+    (find (λ (a : Artifact). same_bytes a.filename filename) (artifacts_shown m 1 r.artifacts)) (sym is ∙ failed)
   where
     go : (known among : Bool) (o : Option Artifact) → cond known (cond among (or_not_found o) (Err NotFound)) (Err Unauthorized) ≡ Err StoreFailed → ⊥
     go true true (Some a) e = absurd cc
@@ -203,10 +231,12 @@ module _ (a : State) (device : Credential) (m : ℕ) (filename : Bytes) where
   abbrev request : Request
   request = Ask (DownloadOf device m filename)
 
-  finds_none : (b : State) (refusal : Refusal) → Handles HoldsRecords a b request (Refused refusal) → FindsDownload HoldsRecords a b device m filename (Err refusal)
+  finds_none : (b : State) (refusal : Refusal) → Handles HoldsRecords a b request (Refused refusal)
+      → FindsDownload HoldsRecords a b device m filename (Err refusal)
   finds_none b refusal h = record { wears = h.wears; finds = h.handles }
 
-  pub not_looked : (b : State) (fault : Fault) (refusal : Refusal) → Keeps HoldsLedger a b → refusal ≡ refusal_of_fault fault → FindsDownload HoldsRecords a b device m filename (Err refusal)
+  pub not_looked : (b : State) (fault : Fault) (refusal : Refusal) → Keeps HoldsLedger a b → refusal ≡ refusal_of_fault fault
+      → FindsDownload HoldsRecords a b device m filename (Err refusal)
   not_looked b fault refusal keeps is = finds_none b refusal (unbegun a b request (Refused refusal) keeps (fault_fails fault (Refused refusal) (ap Refused is)))
 
   module _ (b : State) (begins : BeginsChange HoldsLedger a b) (c d : State) where
@@ -220,10 +250,14 @@ module _ (a : State) (device : Credential) (m : ℕ) (filename : Bytes) where
     Leaves = (kept : Ledger) → Opens HoldsLedger b kept → Spoiled HoldsLedger c kept
 
     -- the change can't be given up
-    not_given_up : (wears : Wears b c) → Leaves → (last : Wears c d) → ((kept : Ledger) → Spoiled HoldsLedger c kept → Doubts HoldsLedger d kept kept) → FindsIt (Err StoreFailed)
-    not_given_up wears leaves last doubts = finds_none d StoreFailed (lost a b begins c d request (Refused StoreFailed) wears leaves (inr refl) (Refused StoreFailed) (record { wears = last; ends = inr (refl, doubts) }))
+    not_given_up : (wears : Wears b c) → Leaves → (last : Wears c d) → ((kept : Ledger) → Spoiled HoldsLedger c kept → Doubts HoldsLedger d kept kept)
+        → FindsIt (Err StoreFailed)
+    not_given_up wears leaves last doubts =
+        finds_none d StoreFailed (lost a b begins c d request (Refused StoreFailed) wears leaves (inr refl) (Refused StoreFailed)
+        (record { wears = last; ends = inr (refl, doubts) }))
 
-    given_up : {E : Type 0} (found : Result Artifact Refusal) → Leaves → Finds HoldsLedger ledger_of {E = E} b c (Ok found) IsFound → (last : Wears c d) → ((kept : Ledger) → Spoiled HoldsLedger c kept → Rests HoldsLedger d kept) → FindsIt found
+    given_up : {E : Type 0} (found : Result Artifact Refusal) → Leaves → Finds HoldsLedger ledger_of {E = E} b c (Ok found) IsFound → (last : Wears c d)
+        → ((kept : Ledger) → Spoiled HoldsLedger c kept → Rests HoldsLedger d kept) → FindsIt found
     given_up (Ok s) leaves reads last rests = record {
       wears = omega (arith, begins.wears, reads.wears, last);
       finds = λ h clean was.
@@ -232,11 +266,14 @@ module _ (a : State) (device : Credential) (m : ℕ) (filename : Bytes) where
             (reads.finds (records h) (begins.sees _ (rest_shows HoldsLedger _ _ rested))).1 (omega (arith, clean, last)),
           );
     }
-    given_up (Err refusal) leaves reads last rests = finds_none d refusal (found_inside a b begins c d request (Refused refusal) reads.wears leaves (λ r. IsFound r (Err refusal))
-        (λ h valid is. (λ i. record { reply = sym (answered_by m filename (records h) device (Err refusal) is) i; accepted = None }) ∙ sym (query_answer h (DownloadOf device m filename)))
+    given_up (Err refusal) leaves reads last rests =
+        finds_none d refusal (found_inside a b begins c d request (Refused refusal) reads.wears leaves (λ r. IsFound r (Err refusal))
+        (λ h valid is. (λ i. record { reply = sym (answered_by m filename (records h) device (Err refusal) is) i; accepted = None })
+        ∙ sym (query_answer h (DownloadOf device m filename)))
         (λ h valid was. (reads.finds (records h) was).1) (Refused refusal) (record { wears = last; ends = inl (refl, rests) }))
 
-    pub looked_for : {E : Type 0} (found result : Result Artifact Refusal) → ((kept : Ledger) → Opens HoldsLedger b kept → Opens HoldsLedger c kept) → Finds HoldsLedger ledger_of {E = E} b c (Ok found) IsFound → EndsLook c d found result → FindsIt result
+    pub looked_for : {E : Type 0} (found result : Result Artifact Refusal) → ((kept : Ledger) → Opens HoldsLedger b kept → Opens HoldsLedger c kept)
+        → Finds HoldsLedger ledger_of {E = E} b c (Ok found) IsFound → EndsLook c d found result → FindsIt result
     looked_for found result goes reads ends =
         let leaves : Leaves = λ kept was. (goes kept was).spoiled in
         elim ends.ends [
@@ -244,15 +281,20 @@ module _ (a : State) (device : Credential) (m : ℕ) (filename : Bytes) where
           | inr it ↦ subst FindsIt (sym it.0) (not_given_up reads.wears leaves ends.wears it.1)
         ]
 
-    pub looked_in_vain : (fault : Fault) (refusal : Refusal) (result : Result Artifact Refusal) → Leaves → (wears : Wears b c) → refusal ≡ refusal_of_fault fault → EndsLook c d (Err refusal) result → FindsIt result
+    pub looked_in_vain : (fault : Fault) (refusal : Refusal) (result : Result Artifact Refusal) → Leaves → (wears : Wears b c) → refusal
+        ≡ refusal_of_fault fault → EndsLook c d (Err refusal) result → FindsIt result
     looked_in_vain fault refusal result leaves wears is ends = elim ends.ends [
-      | inl it ↦ subst FindsIt (sym it.0) (finds_none d refusal (lost a b begins c d request (Refused refusal) wears leaves (fault_fails fault (Refused refusal) (ap Refused is)) (Refused refusal) (record { wears = ends.wears; ends = inl (refl, it.1) })))
+      | inl it ↦ subst FindsIt (sym it.0)
+          (finds_none d refusal (lost a b begins c d request (Refused refusal) wears leaves (fault_fails fault (Refused refusal) (ap Refused is))
+          (Refused refusal) (record { wears = ends.wears; ends = inl (refl, it.1) })))
       | inr it ↦ subst FindsIt (sym it.0) (not_given_up wears leaves ends.wears it.1)
     ]
 
   -- of a desk that runs
   module _ (was : Bool) (runs : was ≡ false) (b : State) where
-    pub offered_begins : (s : Artifact) → FindsDownload HoldsRecords a b device m filename (Ok s) → Begins (desk_state_at HoldsRecords was a) (desk_state_at HoldsRecords was b) (Asks request) (Ok (record { number = s.number; size = s.size; pieces = 0 }))
+    pub offered_begins : (s : Artifact) → FindsDownload HoldsRecords a b device m filename (Ok s)
+        → Begins (desk_state_at HoldsRecords was a) (desk_state_at HoldsRecords was b) (Asks request)
+        (Ok (record { number = s.number; size = s.size; pieces = 0 }))
     offered_begins s found h clean standing =
         let it = found.finds h clean (subst (λ (x : Bool). StandsFor (desk_state_at HoldsRecords x a) h) runs standing) in
         let of = answered_by m filename (records h) device (Ok s) it.1 in record {
@@ -263,18 +305,27 @@ module _ (a : State) (device : Credential) (m : ℕ) (filename : Bytes) where
           start = omega arith;
         }
 
-    pub offered_refused : (refusal : Refusal) (stopped : Bool) → FindsDownload HoldsRecords a b device m filename (Err refusal) → stopped ≡ is_store refusal → Applies (desk_state_at HoldsRecords was a) (desk_state_at HoldsRecords stopped b) (Asks request) (Refused refusal)
-    offered_refused refusal stopped found is = answers HoldsRecords a b was stopped request (Refused refusal) runs (record { wears = found.wears; handles = found.finds }) is
+    pub offered_refused : (refusal : Refusal) (stopped : Bool) → FindsDownload HoldsRecords a b device m filename (Err refusal) → stopped ≡ is_store refusal
+        → Applies (desk_state_at HoldsRecords was a) (desk_state_at HoldsRecords stopped b) (Asks request) (Refused refusal)
+    offered_refused refusal stopped found is = answers HoldsRecords a b was stopped request (Refused refusal) runs
+        (record { wears = found.wears; handles = found.finds }) is
 
 -- what begins is of what the device is offered
-pub begun_offered : {File : Type 0} (old new : DeskState File) (query : Query) (result : Result Download model.Reply) → Begins old new (Asks (Ask query)) result → IfOk result (λ p. IsPromised old new (λ h. BeginsOffered h query p))
+pub begun_offered : {File : Type 0} (old new : DeskState File) (query : Query) (result : Result Download model.Reply) → Begins old new (Asks (Ask query)) result
+    → IfOk result (λ p. IsPromised old new (λ h. BeginsOffered h query p))
 begun_offered old new query (Err r) begins = tt
-begun_offered old new (DownloadOf device m filename) (Ok p) begins = λ h clean standing. let it = begins h clean standing in (it.contents, it.sends, downloaded h device m filename it.contents (ap (λ (a : Answer). a.reply) (sym (query_answer h (DownloadOf device m filename)) ∙ it.answer)))
+begun_offered old new (DownloadOf device m filename) (Ok p) begins = λ h clean standing. let it = begins h clean standing in (
+  it.contents,
+  it.sends,
+  downloaded h device m filename it.contents
+      (ap (λ (a : Answer). a.reply) (sym (query_answer h (DownloadOf device m filename)) ∙ it.answer)),
+)
 begun_offered old new query (Ok p) begins = λ h clean standing. tt
 
 -- ---- later commands
 
-found_still : (xs ys : List ArtifactRecord) (number : ℕ) (contents : Bytes) → option_map (λ (a : ArtifactRecord). a.contents) (item_numbered xs number) ≡ Some contents
+found_still : (xs ys : List ArtifactRecord) (number : ℕ) (contents : Bytes) → option_map (λ (a : ArtifactRecord). a.contents) (item_numbered xs number)
+    ≡ Some contents
     → option_map (λ (a : ArtifactRecord). a.contents) (item_numbered (xs ++ ys) number) ≡ Some contents
 found_still xs ys zero contents is = absurd cc
 found_still [] ys (suc k) contents is = absurd cc

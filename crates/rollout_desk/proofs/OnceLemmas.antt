@@ -1,5 +1,8 @@
 -- What comes again in a run leaves no trace.
-use Rattle.rollout_desk.proofs.Common.{◌≡◌, inl, inr, Bool, List, [], ◌∷◌, ◌++◌, Option, Some, None, sym, subst, ap, ◌∙◌, Database, State, Trees, HoldIn, IsAtRest, Answer, answer, MayAnswer, CommandList, ◌▸◌, followed_by, Command, step_records, Records, Reply, Asked, Asks, Request, one, StandsFor, IsInDoubt, IsValid, records_step, HoldsReadable, HoldsList, desk_state_at, EndsRun, Exchange, IsRun, accepted_in}
+use Rattle.rollout_desk.proofs.Common.{◌≡◌, inl, inr, Bool, List, [], ◌∷◌, ◌++◌, Option, Some, None, sym, subst, ap, ◌∙◌, Database, State, Trees, HoldIn}
+use Rattle.rollout_desk.proofs.Common.{IsAtRest, Answer, answer, MayAnswer, CommandList, ◌▸◌, followed_by, Command, step_records, Records, Reply, Asked, Asks}
+use Rattle.rollout_desk.proofs.Common.{Request, one, StandsFor, IsInDoubt, IsValid, records_step, HoldsReadable, HoldsList, desk_state_at, EndsRun, Exchange}
+use Rattle.rollout_desk.proofs.Common.{IsRun, accepted_in}
 use Rattle.rollout_machine.specs.Repeats.{without_repeats, IsTraceless}
 use Rattle.rollout_machine.proofs.Once.{repeats_leave_no_trace}
 use Rattle.rollout_desk.specs.Once.{AnswersOnce, EndsOnce}
@@ -8,7 +11,8 @@ use Rattle.rollout_desk.proofs.RunLemmas.{followed_append}
 -- ---- answers
 
 -- what may be answered at a list may be at the list without its repeats
-may_answer : (h : CommandList) (asked : Asked) (reply : Reply) (accepted : Option Command) → IsValid h → MayAnswer h asked reply accepted → MayAnswer (without_repeats h) asked reply accepted
+may_answer : (h : CommandList) (asked : Asked) (reply : Reply) (accepted : Option Command) → IsValid h → MayAnswer h asked reply accepted
+    → MayAnswer (without_repeats h) asked reply accepted
 may_answer h asked reply accepted valid may =
     let same : answer h asked ≡ answer (without_repeats h) asked = (repeats_leave_no_trace h valid).answers asked in
     elim may [
@@ -25,19 +29,27 @@ valid_before h [] valid = valid
 valid_before h (c ∷ cs) valid = (valid_before (h ▸ c) cs valid).0
 
 -- the list after the first exchange of a run
-after_first : (h : CommandList) (x : Exchange) (xs : List Exchange) → IsValid (followed_by h (accepted_in (x ∷ xs))) → IsValid (followed_by (followed_by h (one x.accepted)) (accepted_in xs))
+after_first : (h : CommandList) (x : Exchange) (xs : List Exchange) → IsValid (followed_by h (accepted_in (x ∷ xs)))
+    → IsValid (followed_by (followed_by h (one x.accepted)) (accepted_in xs))
 after_first h x xs valid = subst IsValid (followed_append h (one x.accepted) (accepted_in xs)) valid
 
 all_once : (h : CommandList) (run : List Exchange) → IsRun h run → IsValid (followed_by h (accepted_in run)) → AnswersOnce h run
 all_once h [] is valid = tt
-all_once h (x ∷ xs) is valid =
-    (may_answer h (Asks x.request) x.reply x.accepted (valid_before h (accepted_in (x ∷ xs)) valid) is.0, all_once (followed_by h (one x.accepted)) xs is.1 (after_first h x xs valid))
+all_once h (x ∷ xs) is valid = (
+  may_answer h (Asks x.request) x.reply x.accepted (valid_before h (accepted_in (x ∷ xs)) valid) is.0,
+  all_once (followed_by h (one x.accepted)) xs is.1
+      (after_first h x xs valid),
+)
 
 -- up to an exchange whose command may not be kept
-last_once : (h : CommandList) (before : List Exchange) (last : Exchange) → IsRun h (before ++ last ∷ []) → IsValid (followed_by h (accepted_in before)) → AnswersOnce h (before ++ last ∷ [])
+last_once : (h : CommandList) (before : List Exchange) (last : Exchange) → IsRun h (before ++ last ∷ []) → IsValid (followed_by h (accepted_in before))
+    → AnswersOnce h (before ++ last ∷ [])
 last_once h [] last is valid = (may_answer h (Asks last.request) last.reply last.accepted valid is.0, tt)
-last_once h (x ∷ xs) last is valid =
-    (may_answer h (Asks x.request) x.reply x.accepted (valid_before h (accepted_in (x ∷ xs)) valid) is.0, last_once (followed_by h (one x.accepted)) xs last is.1 (after_first h x xs valid))
+last_once h (x ∷ xs) last is valid = (
+  may_answer h (Asks x.request) x.reply x.accepted (valid_before h (accepted_in (x ∷ xs)) valid) is.0,
+  last_once (followed_by h (one x.accepted)) xs last
+      is.1 (after_first h x xs valid),
+)
 
 -- ---- what the desk stands for
 
@@ -46,27 +58,37 @@ module _ (Holds : Database → Records → Type 0) (stopped : Bool) (s : State) 
   holds_calm file h holds = let it : IsTraceless h = repeats_leave_no_trace h holds.0 in (it.valid, subst (HoldIn HoldsReadable file) it.same holds.1)
 
   -- with one more command after it
-  holds_more : (file : Trees) (h : CommandList) (accepted : Option Command) → HoldsList file (followed_by h (one accepted)) → HoldsList file (followed_by (without_repeats h) (one accepted))
+  holds_more : (file : Trees) (h : CommandList) (accepted : Option Command) → HoldsList file (followed_by h (one accepted))
+      → HoldsList file (followed_by (without_repeats h) (one accepted))
   holds_more file h None holds = holds_calm file h holds
   holds_more file h (Some c) holds =
       let valid = holds.0 in
       let it : IsTraceless h = repeats_leave_no_trace h valid.0 in
       let here = sym (it.verdicts c) ∙ valid.2 in (
         (it.valid, valid.1, here),
-        subst (HoldIn HoldsReadable file) (records_step h c valid.0 valid.2 ∙ ap (λ (rs : Records). step_records rs c) it.same ∙ sym (records_step (without_repeats h) c it.valid here)) holds.1,
+        subst (HoldIn HoldsReadable file) (records_step h c valid.0 valid.2 ∙ ap (λ (rs : Records). step_records rs c) it.same
+            ∙ sym (records_step (without_repeats h) c it.valid here)) holds.1,
       )
 
   stands_calm : (h : CommandList) → StandsFor (desk_state_at Holds stopped s) h → StandsFor (desk_state_at Holds stopped s) (without_repeats h)
   stands_calm h standing =
       let it : IsTraceless h = repeats_leave_no_trace h standing.valid in
-      record { runs = standing.runs; valid = it.valid; shows = subst (IsAtRest Holds s) it.same standing.shows; crash = λ file left. holds_calm file h (standing.crash file left) }
+      record {
+        runs = standing.runs;
+        valid = it.valid;
+        shows = subst (IsAtRest Holds s) it.same standing.shows;
+        crash = λ file left. holds_calm file h (standing.crash file left);
+      }
 
-  doubt_calm : (h : CommandList) (accepted : Option Command) → IsInDoubt (desk_state_at Holds stopped s) h accepted → IsInDoubt (desk_state_at Holds stopped s) (without_repeats h) accepted
+  doubt_calm : (h : CommandList) (accepted : Option Command) → IsInDoubt (desk_state_at Holds stopped s) h accepted
+      → IsInDoubt (desk_state_at Holds stopped s) (without_repeats h) accepted
   doubt_calm h accepted doubt = record {
     stopped = doubt.stopped;
     crash = λ file left. elim (doubt.crash file left) [ inl it ↦ inl (holds_calm file h it) | inr it ↦ inr (holds_more file h accepted it) ];
   }
 
-  pub ends_once : (h : CommandList) (requests : List Request) (replies : List Reply) → EndsRun h (desk_state_at Holds stopped s) requests replies → EndsOnce h (desk_state_at Holds stopped s) requests replies
+  pub ends_once : (h : CommandList) (requests : List Request) (replies : List Reply) → EndsRun h (desk_state_at Holds stopped s) requests replies
+      → EndsOnce h (desk_state_at Holds stopped s) requests replies
   ends_once h requests replies (inl it) = inl (record { through = it; answers = all_once h it.run it.is_run it.stands.valid; stands = stands_calm _ it.stands })
-  ends_once h requests replies (inr it) = inr (record { broken = it; answers = last_once h it.before it.last it.is_run it.valid; in_doubt = doubt_calm _ it.last.accepted it.in_doubt })
+  ends_once h requests replies (inr it) =
+      inr (record { broken = it; answers = last_once h it.before it.last it.is_run it.valid; in_doubt = doubt_calm _ it.last.accepted it.in_doubt })

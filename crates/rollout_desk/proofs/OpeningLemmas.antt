@@ -1,5 +1,8 @@
 -- From a connection that was opened to a desk over it.
-use Rattle.rollout_desk.proofs.Common.{◌≡◌, ℕ, zero, suc, Bool, false, List, [], Some, None, Ok, Err, Result, IfOk, IfErr, refl, sym, ap, ◌∙◌, subst, slice_get, Files, Trees, AreClean, IsClosed, file_state, recovers, Held, FileStore, HoldIn, IsAtRest, Rests, Image, State, HasCleanDisk, HoldsRecords, Reopens, CommandList, Make, records, StandsFor, IsValid, desk_state_at, Global, ReopensDesk, GivesBack}
+use Rattle.rollout_desk.proofs.Common.{◌≡◌, ℕ, zero, suc, Bool, false, List, [], Some, None, Ok, Err, Result, IfOk, IfErr, refl, sym, ap, ◌∙◌, subst}
+use Rattle.rollout_desk.proofs.Common.{slice_get, Files, Trees, AreClean, IsClosed, file_state, recovers, Held, FileStore, HoldIn, IsAtRest, Rests, Image}
+use Rattle.rollout_desk.proofs.Common.{State, HasCleanDisk, HoldsRecords, Reopens, CommandList, Make, records, StandsFor, IsValid, desk_state_at, Global}
+use Rattle.rollout_desk.proofs.Common.{ReopensDesk, GivesBack}
 use Rattle.sqlite_disk.specs.declared.Disk as disk
 use Rattle.sqlite.specs.Closing.{IsCopied}
 use Rattle.sql_calls.specs.Calls.{no_work}
@@ -21,7 +24,8 @@ use Rattle.desk_store.specs.declared.store.DeskStore.{DeskStore}
 use Rattle.rollout_desk.proofs.ApplyLemmas.{readable}
 
 stands : (s : State) (h : CommandList) → IsValid h → Rests HoldsRecords s (records h) → HasCleanDisk s → StandsFor (desk_state_at HoldsRecords false s) h
-stands s h valid rests clean = record { runs = refl; valid = valid; shows = rests clean; crash = λ db left. (valid, readable db (records h) ((rests clean).held.crash db left)) }
+stands s h valid rests clean =
+    record { runs = refl; valid = valid; shows = rests clean; crash = λ db left. (valid, readable db (records h) ((rests clean).held.crash db left)) }
 
 pub reopened_desk : (image : Image) (approval : Bool) (s : State) → Reopens image s approval → ReopensDesk image (desk_state_at HoldsRecords false s) approval
 reopened_desk image approval s h = record {
@@ -31,7 +35,8 @@ reopened_desk image approval s h = record {
 }
 
 -- the desk is over the connection
-module _ {S : Type 0} (alloc : Global) (store : DeskStore S) (conn : Held S) (same : store.calls.conn ≡ conn) (desk : Desk S) (is : desk ≡ record { store = store; stopped = false; work = no_work; alloc = alloc }) where
+module _ {S : Type 0} (alloc : Global) (store : DeskStore S) (conn : Held S) (same : store.calls.conn ≡ conn) (desk : Desk S)
+    (is : desk ≡ record { store = store; stopped = false; work = no_work; alloc = alloc }) where
   over_conn : desk.store.calls.conn ≡ conn
   over_conn = ap (λ (d : Desk S). d.store.calls.conn) is ∙ same
 
@@ -59,7 +64,8 @@ module _ {D : Type 0} {g : disk.Ghosts D} (given old : Held (FileStore D g)) (sa
 -- ---- in memory
 
 empty_is_free : (s : State) → IsEmpty s → LeavesFree s.now.schema desk_names
-empty_is_free s e = nothing_is_used s.now.schema (ap (λ (x : Schema). x.tables) e.2) (ap (λ (x : Schema). x.indexes) e.2) (ap (λ (x : Schema). x.views) e.2) desk_names
+empty_is_free s e = nothing_is_used s.now.schema (ap (λ (x : Schema). x.tables) e.2) (ap (λ (x : Schema). x.indexes) e.2) (ap (λ (x : Schema). x.views) e.2)
+    desk_names
 
 empty_at_rest : (s : State) → IsSettled s → IsEmpty s → IsAtRest HoldsStage s Free
 empty_at_rest s settled e =
@@ -76,7 +82,8 @@ empty_at_rest s settled e =
       };
     }
 
-pub made_desk : {A : Type 0} (old new : State) (approval : Bool) (x : A) → IsSettled old → IsEmpty old → OpensDesk old new approval (Ok x) → HasCleanDisk new → StandsFor (desk_state_at HoldsRecords false new) (Make approval)
+pub made_desk : {A : Type 0} (old new : State) (approval : Bool) (x : A) → IsSettled old → IsEmpty old → OpensDesk old new approval (Ok x) → HasCleanDisk new
+    → StandsFor (desk_state_at HoldsRecords false new) (Make approval)
 made_desk old new approval x settled e h clean = stands new (Make approval) tt (h.makes (λ _. e.0.is_open) (λ _. empty_at_rest old settled e)) clean
 
 no_item : {X : Type 0} (at : ℕ) → slice_get {X = X} [] at ≡ None
@@ -88,8 +95,10 @@ none_stands : (s : Schema) (name : List ℕ) (at : ℕ) (table : Table) → s.ta
 none_stands s name at table none h = let is : None ≡ Some table = sym (no_item at) ∙ ap (λ (ts : List Table). slice_get ts at) (sym none) ∙ h.got in absurd (cc)
 
 -- a database without tables is refused for no other reason
-pub fails_alone : {A : Type 0} (old new : State) (approval : Bool) (e : OpenFault) → IsEmpty old → HasCleanDisk new → OpensDesk {A = A} old new approval (Err e) → IsFailure e
+pub fails_alone : {A : Type 0} (old new : State) (approval : Bool) (e : OpenFault) → IsEmpty old → HasCleanDisk new → OpensDesk {A = A} old new approval (Err e)
+    → IsFailure e
 fails_alone old new approval NotDesk empty clean h = (h.finds clean).used (empty_is_free old empty)
-fails_alone old new approval NewerVersion empty clean h = let it = h.finds clean in none_stands old.now.schema _ it.table.at _ (ap (λ (s : Schema). s.tables) empty.2) it.table.stands
+fails_alone old new approval NewerVersion empty clean h = let it = h.finds clean in
+    none_stands old.now.schema _ it.table.at _ (ap (λ (s : Schema). s.tables) empty.2) it.table.stands
 fails_alone old new approval Memory empty clean h = tt
 fails_alone old new approval Store empty clean h = tt

@@ -1,5 +1,14 @@
 -- What is promised of an answer follows from the answer itself.
-use Rattle.rollout_desk.proofs.Common.{◌≡◌, inl, inr, ℕ, Bool, true, false, cond, not, ◌&&◌, ◌||◌, List, [], ◌∷◌, map, Option, Some, None, refl, sym, subst, ap, ◌∙◌, is_some, nat_eq, Answer, query_reply, if_found, for_device, download, targets_reply, targets_matching, is_offer_of, modules_offered, artifact_named, action_of_target, artifact_if, artifact_of_module, contains_word, item_numbered, same_bytes, CommandList, Bytes, Credential, TargetRow, ArtifactRecord, Records, Reply, Refused, PollShown, DeploymentShown, CancelShown, ContentsShown, Page, Query, Ask, Asks, Poll, ShowDeployment, ShowCancel, Download, ShowTargets, ShowTarget, ShowTargetActions, ShowAction, ShowHistory, ShowModules, ShowModule, ShowArtifacts, ShowArtifact, ShowContents, ShowSets, ShowSet, ShowRollouts, ShowRollout, ShowGroups, ShowGroup, ShowGroupTargets, ShowReport, ShowActionsTable, Applies, DeskState, IsValid, query_answer, Refusal, NoMemory, NotFound, StoreFailed, Unauthorized, unwrap_or, and_parts, eqb-true, false≢true, IsWhole, all_whole, Describes, DownloadsItsOffer, IsPromised, IsTarget, KeepsToOffers, NamesItsOffer, ShowsWhole, asker, offer_named, not-true, or_right}
+use Rattle.rollout_desk.proofs.Common.{◌≡◌, inl, inr, ℕ, Bool, true, false, cond, not, ◌&&◌, ◌||◌, List, [], ◌∷◌, map, Option, Some, None, refl, sym, subst}
+use Rattle.rollout_desk.proofs.Common.{ap, ◌∙◌, is_some, nat_eq, Answer, query_reply, if_found, for_device, download, targets_reply, targets_matching}
+use Rattle.rollout_desk.proofs.Common.{is_offer_of, modules_offered, artifact_named, action_of_target, artifact_if, artifact_of_module, contains_word}
+use Rattle.rollout_desk.proofs.Common.{item_numbered, same_bytes, CommandList, Bytes, Credential, TargetRow, ArtifactRecord, Records, Reply, Refused}
+use Rattle.rollout_desk.proofs.Common.{PollShown, DeploymentShown, CancelShown, ContentsShown, Page, Query, Ask, Asks, Poll, ShowDeployment, ShowCancel}
+use Rattle.rollout_desk.proofs.Common.{Download, ShowTargets, ShowTarget, ShowTargetActions, ShowAction, ShowHistory, ShowModules, ShowModule, ShowArtifacts}
+use Rattle.rollout_desk.proofs.Common.{ShowArtifact, ShowContents, ShowSets, ShowSet, ShowRollouts, ShowRollout, ShowGroups, ShowGroup, ShowGroupTargets}
+use Rattle.rollout_desk.proofs.Common.{ShowReport, ShowActionsTable, Applies, DeskState, IsValid, query_answer, Refusal, NoMemory, NotFound, StoreFailed}
+use Rattle.rollout_desk.proofs.Common.{Unauthorized, unwrap_or, and_parts, eqb-true, false≢true, IsWhole, all_whole, Describes, DownloadsItsOffer, IsPromised}
+use Rattle.rollout_desk.proofs.Common.{IsTarget, KeepsToOffers, NamesItsOffer, ShowsWhole, asker, offer_named, not-true, or_right}
 use Rattle.rollout_machine.specs.Objects.{deployment_shown}
 use Rattle.rollout_machine.specs.Offers.{Offer, offer}
 use Rattle.rollout_machine.specs.Records.{records}
@@ -28,7 +37,8 @@ Passes h device ids = (contains_word device.id ids ≡ true) × ((target_in h de
 passes : (h : CommandList) (device : Credential) (ids : List Bytes) → list_any (is_device device) (map (target_in h) ids) ≡ true → Passes h device ids
 passes h device [] e = absurd (false≢true e)
 passes h device (t ∷ ts) e = go (is_device device (target_in h t)) refl e (passes h device ts) where
-  go : (b : Bool) → is_device device (target_in h t) ≡ b → (b || list_any (is_device device) (map (target_in h) ts)) ≡ true → (list_any (is_device device) (map (target_in h) ts) ≡ true → Passes h device ts) → Passes h device (t ∷ ts)
+  go : (b : Bool) → is_device device (target_in h t) ≡ b → (b || list_any (is_device device) (map (target_in h) ts)) ≡ true
+      → (list_any (is_device device) (map (target_in h) ts) ≡ true → Passes h device ts) → Passes h device (t ∷ ts)
   go true d f rest =
       let both : (same_bytes t device.id ≡ true) × (same_bytes (target_in h t).digest device.digest ≡ true) = and_parts _ _ d in
       let same : t ≡ device.id = same_true _ _ both.0 in (
@@ -72,21 +82,25 @@ never none some = cc
 -- ---- what a device is told
 
 -- a reply to a device that isn't refused comes to one that is known
-if_known : (rs : Records) (device : Credential) (reply : Reply) (o : Offer) → offer_named (for_device rs device reply) ≡ Some o → (is_known rs device ≡ true) × (offer_named reply ≡ Some o)
+if_known : (rs : Records) (device : Credential) (reply : Reply) (o : Offer) → offer_named (for_device rs device reply) ≡ Some o → (is_known rs device ≡ true)
+    × (offer_named reply ≡ Some o)
 if_known rs device reply o e = go (is_known rs device) refl e where
-  go : (b : Bool) → is_known rs device ≡ b → offer_named (cond b reply (Refused Unauthorized)) ≡ Some o → (is_known rs device ≡ true) × (offer_named reply ≡ Some o)
+  go : (b : Bool) → is_known rs device ≡ b → offer_named (cond b reply (Refused Unauthorized)) ≡ Some o → (is_known rs device ≡ true)
+      × (offer_named reply ≡ Some o)
   go true d f = (d, f)
   go false d f = cc
 
 -- an answer that names an action of a kind comes only where it is offered so
-where_offered : (rs : Records) (t : Bytes) (kind : Bool) (n : ℕ) (o : Offer) (reply : Reply) → offer_named reply ≡ Some (record { action = n; canceling = kind })
+where_offered : (rs : Records) (t : Bytes) (kind : Bool) (n : ℕ) (o : Offer) (reply : Reply) → offer_named reply
+    ≡ Some (record { action = n; canceling = kind })
     → offer_named (cond (is_offer_of n kind (offer rs t)) reply (Refused NotFound)) ≡ Some o → offer rs t ≡ Some o
 where_offered rs t kind n o reply names e = go (offer rs t) refl e where
   same_kind : (x : Offer) (k : Bool) → cond k x.canceling (not x.canceling) ≡ true → x.canceling ≡ k
   same_kind x true d = d
   same_kind x false d = not-true x.canceling d
 
-  by : (x : Offer) (b : Bool) → offer rs t ≡ Some x → (nat_eq x.action n && cond kind x.canceling (not x.canceling)) ≡ b → offer_named (cond b reply (Refused NotFound)) ≡ Some o → offer rs t ≡ Some o
+  by : (x : Offer) (b : Bool) → offer rs t ≡ Some x → (nat_eq x.action n && cond kind x.canceling (not x.canceling)) ≡ b
+      → offer_named (cond b reply (Refused NotFound)) ≡ Some o → offer rs t ≡ Some o
   by x true d f g =
       let both = and_parts _ _ f in
       let number : x.action ≡ n = eqb-true _ _ both.0 in
@@ -98,17 +112,25 @@ where_offered rs t kind n o reply names e = go (offer rs t) refl e where
   go None d f = cc
   go (Some x) d f = by x _ d refl f
 
-offered_to : (h : CommandList) (query : Query) (device : Credential) (o : Offer) → IsValid h → asker query ≡ Some device → is_known (records h) device ≡ true → offer (records h) device.id ≡ Some o → NamesItsOffer h query o
-offered_to h query device o v asks known e = record { device = device; asks = asks; known = is_target h device known; least = (offer_is_least h device.id v).0 o e }
+offered_to : (h : CommandList) (query : Query) (device : Credential) (o : Offer) → IsValid h → asker query ≡ Some device → is_known (records h) device ≡ true
+    → offer (records h) device.id ≡ Some o → NamesItsOffer h query o
+offered_to h query device o v asks known e =
+    record { device = device; asks = asks; known = is_target h device known; least = (offer_is_least h device.id v).0 o e }
 
 names : (h : CommandList) (query : Query) (o : Offer) → IsValid h → offer_named (query_reply (records h) query) ≡ Some o → NamesItsOffer h query o
-names h (Poll device) o v e = let it = if_known (records h) device (PollShown device.id (offer (records h) device.id)) o e in offered_to h (Poll device) device o v refl it.0 it.1
+names h (Poll device) o v e = let it = if_known (records h) device (PollShown device.id (offer (records h) device.id)) o e in
+    offered_to h (Poll device) device o v refl it.0 it.1
 names h (ShowDeployment device n) o v e =
     let it = if_known (records h) device _ o e in
-    offered_to h (ShowDeployment device n) device o v refl it.0 (where_offered (records h) device.id false n o (DeploymentShown (deployment_shown (records h) device.id n)) refl it.1)
-names h (ShowCancel device n) o v e = let it = if_known (records h) device _ o e in offered_to h (ShowCancel device n) device o v refl it.0 (where_offered (records h) device.id true n o (CancelShown n) refl it.1)
+    offered_to h (ShowDeployment device n) device o v refl it.0
+    (where_offered (records h) device.id false n o (DeploymentShown (deployment_shown (records h) device.id n)) refl it.1)
+names h (ShowCancel device n) o v e = let it = if_known (records h) device _ o e in
+    offered_to h (ShowCancel device n) device o v refl it.0 (where_offered (records h) device.id true n o (CancelShown n) refl it.1)
 names h (Download device m filename) o v e =
-    let none : offer_named (download (records h) device.id m filename) ≡ None = either_none (list_any (λ n. nat_eq n m) (modules_offered (records h) (offer (records h) device.id))) (if_found (λ (a : ArtifactRecord). ContentsShown a.contents) (artifact_named m filename (records h).artifacts)) (Refused NotFound) (names_none _ (artifact_named m filename (records h).artifacts) (λ a. refl)) refl in
+    let none : offer_named (download (records h) device.id m filename) ≡ None =
+    either_none (list_any (λ n. nat_eq n m) (modules_offered (records h) (offer (records h) device.id)))
+    (if_found (λ (a : ArtifactRecord). ContentsShown a.contents) (artifact_named m filename (records h).artifacts)) (Refused NotFound)
+    (names_none _ (artifact_named m filename (records h).artifacts) (λ a. refl)) refl in
     absurd (never none (if_known (records h) device (download (records h) device.id m filename) o e).1)
 names h (ShowTargets filter_text page) o v e = absurd (never (targets_none (records h) page filter_text) e)
 names h (ShowTarget t) o v e = absurd (never (names_none _ (target_of (records h) t) (λ x. refl)) e)
@@ -125,26 +147,31 @@ names h (ShowSet n) o v e = absurd (never (names_none _ (item_numbered (records 
 names h (ShowRollouts page) o v e = cc
 names h (ShowRollout r) o v e = absurd (never (names_none _ (item_numbered (records h).rollouts r) (λ x. refl)) e)
 names h (ShowGroups r page) o v e = absurd (never (names_none _ (item_numbered (records h).rollouts r) (λ x. refl)) e)
-names h (ShowGroup r i) o v e = absurd (never (names_none _ (item_numbered (records h).rollouts r) (λ x. names_none _ (group_numbered i x.groups) (λ g. refl))) e)
-names h (ShowGroupTargets r i page) o v e = absurd (never (names_none _ (item_numbered (records h).rollouts r) (λ x. names_none _ (group_numbered i x.groups) (λ g. refl))) e)
+names h (ShowGroup r i) o v e =
+    absurd (never (names_none _ (item_numbered (records h).rollouts r) (λ x. names_none _ (group_numbered i x.groups) (λ g. refl))) e)
+names h (ShowGroupTargets r i page) o v e =
+    absurd (never (names_none _ (item_numbered (records h).rollouts r) (λ x. names_none _ (group_numbered i x.groups) (λ g. refl))) e)
 names h (ShowReport r) o v e = absurd (never (names_none _ (item_numbered (records h).rollouts r) (λ x. refl)) e)
 names h (ShowActionsTable r) o v e = absurd (never (names_none _ (item_numbered (records h).rollouts r) (λ x. refl)) e)
 
 -- a device that polls and is told of nothing is offered nothing
 polled_none : (h : CommandList) (device : Credential) → query_reply (records h) (Poll device) ≡ PollShown device.id None → offer (records h) device.id ≡ None
 polled_none h device e = go (is_known (records h) device) e where
-  go : (b : Bool) → cond b (PollShown device.id (offer (records h) device.id)) (Refused Unauthorized) ≡ PollShown device.id None → offer (records h) device.id ≡ None
+  go : (b : Bool) → cond b (PollShown device.id (offer (records h) device.id)) (Refused Unauthorized) ≡ PollShown device.id None → offer (records h) device.id
+      ≡ None
   go true f = cc
   go false f = cc
 
 -- ---- what a device gets
 
-pub downloaded : (h : CommandList) (device : Credential) (m : ℕ) (filename contents : Bytes) → query_reply (records h) (Download device m filename) ≡ ContentsShown contents → DownloadsItsOffer h device m filename contents
+pub downloaded : (h : CommandList) (device : Credential) (m : ℕ) (filename contents : Bytes) → query_reply (records h) (Download device m filename)
+    ≡ ContentsShown contents → DownloadsItsOffer h device m filename contents
 downloaded h device m filename contents e = record {
   known = is_target h device (go (is_known (records h) device) refl e);
   downloadable = downloads_are_offered h device m filename contents (ap (λ (x : Answer). x.reply) (query_answer h (Download device m filename)) ∙ e);
 } where
-  go : (b : Bool) → is_known (records h) device ≡ b → cond b (download (records h) device.id m filename) (Refused Unauthorized) ≡ ContentsShown contents → is_known (records h) device ≡ true
+  go : (b : Bool) → is_known (records h) device ≡ b → cond b (download (records h) device.id m filename) (Refused Unauthorized) ≡ ContentsShown contents
+      → is_known (records h) device ≡ true
   go true d f = d
   go false d f = cc
 
@@ -169,20 +196,25 @@ describes a whole = record { contents_are = refl; size = whole.0; digest = whole
 
 shows_whole : (h : CommandList) (query : Query) → ShowsWhole h query (query_reply (records h) query)
 shows_whole h (ShowContents m k) = go (item_numbered (records h).artifacts k) refl where
-  own : (a : ArtifactRecord) → item_numbered (records h).artifacts k ≡ Some a → (b : Bool) → artifact_of_module (records h) m k ≡ cond b (Some a) None → ShowsWhole h (ShowContents m k) (if_found (λ (x : ArtifactRecord). ContentsShown x.contents) (cond b (Some a) None))
+  own : (a : ArtifactRecord) → item_numbered (records h).artifacts k ≡ Some a → (b : Bool) → artifact_of_module (records h) m k ≡ cond b (Some a) None
+      → ShowsWhole h (ShowContents m k) (if_found (λ (x : ArtifactRecord). ContentsShown x.contents) (cond b (Some a) None))
   own a at false is = tt
   own a at true is = (a, is, describes a (is_whole h k a at))
 
-  go : (x : Option ArtifactRecord) → item_numbered (records h).artifacts k ≡ x → ShowsWhole h (ShowContents m k) (if_found (λ (y : ArtifactRecord). ContentsShown y.contents) (artifact_if m x))
+  go : (x : Option ArtifactRecord) → item_numbered (records h).artifacts k ≡ x
+      → ShowsWhole h (ShowContents m k) (if_found (λ (y : ArtifactRecord). ContentsShown y.contents) (artifact_if m x))
   go None at = tt
   go (Some a) at = own a at (nat_eq a.module_number m) (ap (artifact_if m) at)
-shows_whole h (Download device m filename) = go (is_known (records h) device) (list_any (λ n. nat_eq n m) (modules_offered (records h) (offer (records h) device.id))) (artifact_named m filename (records h).artifacts) refl where
-  go : (known among : Bool) (x : Option ArtifactRecord) → artifact_named m filename (records h).artifacts ≡ x
-      → ShowsWhole h (Download device m filename) (cond known (cond among (if_found (λ (a : ArtifactRecord). ContentsShown a.contents) x) (Refused NotFound)) (Refused Unauthorized))
-  go true true (Some a) at = (a, at, describes a (All-find IsWhole _ (records h).artifacts a (all_whole h) at))
-  go true true None at = tt
-  go true false x at = tt
-  go false among x at = tt
+shows_whole h (Download device m filename) =
+    go (is_known (records h) device) (list_any (λ n. nat_eq n m) (modules_offered (records h) (offer (records h) device.id)))
+    (artifact_named m filename (records h).artifacts) refl where
+      go : (known among : Bool) (x : Option ArtifactRecord) → artifact_named m filename (records h).artifacts ≡ x
+          → ShowsWhole h (Download device m filename)
+          (cond known (cond among (if_found (λ (a : ArtifactRecord). ContentsShown a.contents) x) (Refused NotFound)) (Refused Unauthorized))
+      go true true (Some a) at = (a, at, describes a (All-find IsWhole _ (records h).artifacts a (all_whole h) at))
+      go true true None at = tt
+      go true false x at = tt
+      go false among x at = tt
 shows_whole h query = tt
 
 refusals_show_none : (h : CommandList) (query : Query) (refusal : Refusal) → ShowsWhole h query (Refused refusal)
@@ -194,7 +226,8 @@ refusals_show_none h query refusal = tt
 
 module _ {File : Type 0} (old new : DeskState File) (query : Query) (reply : Reply) where
   -- what holds of the answer at each list, and of refusals, holds of a reply
-  promised : (Holds : CommandList → Reply → Type 0) → ((h : CommandList) (refusal : Refusal) → Holds h (Refused refusal)) → ((h : CommandList) → IsValid h → Holds h (query_reply (records h) query))
+  promised : (Holds : CommandList → Reply → Type 0) → ((h : CommandList) (refusal : Refusal) → Holds h (Refused refusal))
+      → ((h : CommandList) → IsValid h → Holds h (query_reply (records h) query))
       → Applies old new (Asks (Ask query)) reply → IsPromised old new (λ h. Holds h reply)
   promised Holds refusals answers applies h clean standing =
       elim (applies h clean standing).answers [

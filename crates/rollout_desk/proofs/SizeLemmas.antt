@@ -1,5 +1,7 @@
 -- From what a call inside a change says of the tables to what a query is answered.
-use Rattle.rollout_desk.proofs.Common.{◌≡◌, inl, inr, Result, Ok, Err, IfOk, sym, subst, arith, Ghosts, State, HasCleanDisk, Begins, Sees, Fault, Refused, Query, Download, Poll, ShowCancel, ShowContents, ShowDeployment, reply_of, Refusal, StoreFailed, HoldsTables, Tables, OpenChange, EndsByRollback, AnswersIn, KeepsOffer, KeepsOffers, KeepsSizes}
+use Rattle.rollout_desk.proofs.Common.{◌≡◌, inl, inr, Result, Ok, Err, IfOk, sym, subst, arith, Ghosts, State, HasCleanDisk, Begins, Sees, Fault, Refused}
+use Rattle.rollout_desk.proofs.Common.{Query, Download, Poll, ShowCancel, ShowContents, ShowDeployment, reply_of, Refusal, StoreFailed, HoldsTables, Tables}
+use Rattle.rollout_desk.proofs.Common.{OpenChange, EndsByRollback, AnswersIn, KeepsOffer, KeepsOffers, KeepsSizes}
 use Rattle.sql_calls.specs.Standing.{Shows}
 use Rattle.rollout_machine.specs.Replies as shown
 use Rattle.rollout_model.specs.declared.request.Reply.{Reply}
@@ -11,13 +13,16 @@ every (Ok a) all = all a
 every (Err e) all = tt
 
 -- what is so of any tables
-pub always : {S : Type 0} {g : Ghosts S} {old new : OpenChange S} {out : Result Reply Fault} {Is : Tables → Reply → Type 0} → ((t : Tables) (reply : Reply) → Is t reply) → AgreesIn g old new out Is
+pub always : {S : Type 0} {g : Ghosts S} {old new : OpenChange S} {out : Result Reply Fault} {Is : Tables → Reply → Type 0}
+    → ((t : Tables) (reply : Reply) → Is t reply) → AgreesIn g old new out Is
 always {out = out} is = record { agrees = every out (λ reply t was clean. is t reply) }
 
 -- a query that asks for no contents and no offer
-pub other_answered : {S : Type 0} {g : Ghosts S} {old new : OpenChange S} {query : Query} {out : Result Reply Fault} → ShowsIn g old new query out → ((t : Tables) (reply : shown.Reply) → KeepsSize t query reply × KeepsOffer t query reply)
+pub other_answered : {S : Type 0} {g : Ghosts S} {old new : OpenChange S} {query : Query} {out : Result Reply Fault} → ShowsIn g old new query out
+    → ((t : Tables) (reply : shown.Reply) → KeepsSize t query reply × KeepsOffer t query reply)
     → AnswersIn g old new query out
-other_answered shows none = record { shows = shows; sized = always (λ t reply. (none t (reply_of reply)).0); kept = always (λ t reply. (none t (reply_of reply)).1) }
+other_answered shows none =
+    record { shows = shows; sized = always (λ t reply. (none t (reply_of reply)).0); kept = always (λ t reply. (none t (reply_of reply)).1) }
 
 -- a refusal shows no contents
 refused : (t : Tables) (query : Query) (refusal : Refusal) → KeepsSize t query (Refused refusal)
@@ -40,15 +45,18 @@ pub refused_kept : (t : Tables) (query : Query) (reply : shown.Reply) (refusal :
 refused_kept t query reply refusal is = subst (KeepsOffer t query) (sym is) (unoffered t query refusal)
 
 -- what was answered before the change is given up
-shown_so : (Is : Tables → shown.Reply → Type 0) (a b c d : State) (made reply : shown.Reply) → ((t : Tables) → Is t (Refused StoreFailed)) → Begins HoldsTables a b → ((t : Tables) → Sees HoldsTables b t → HasCleanDisk c → Is t made) → EndsByRollback c d made reply
+shown_so : (Is : Tables → shown.Reply → Type 0) (a b c d : State) (made reply : shown.Reply) → ((t : Tables) → Is t (Refused StoreFailed))
+    → Begins HoldsTables a b → ((t : Tables) → Sees HoldsTables b t → HasCleanDisk c → Is t made) → EndsByRollback c d made reply
     → (t : Tables) → HasCleanDisk d → Shows HoldsTables a t → Is t reply
 shown_so Is a b c d made reply none begins is ends t clean shown = elim ends.ends [
   | inl it ↦ subst (Is t) (sym it.0) (is t (begins.sees t shown) (omega (arith, clean, ends.wears)))
   | inr it ↦ subst (Is t) (sym it.0) (none t)
 ]
 
-pub shown_sized : (a b c d : State) (query : Query) (made reply : shown.Reply) → Begins HoldsTables a b → ((t : Tables) → Sees HoldsTables b t → HasCleanDisk c → KeepsSize t query made) → EndsByRollback c d made reply → KeepsSizes a d query reply
+pub shown_sized : (a b c d : State) (query : Query) (made reply : shown.Reply) → Begins HoldsTables a b
+    → ((t : Tables) → Sees HoldsTables b t → HasCleanDisk c → KeepsSize t query made) → EndsByRollback c d made reply → KeepsSizes a d query reply
 shown_sized a b c d query made reply = shown_so (λ t r. KeepsSize t query r) a b c d made reply (λ t. refused t query StoreFailed)
 
-pub shown_kept : (a b c d : State) (query : Query) (made reply : shown.Reply) → Begins HoldsTables a b → ((t : Tables) → Sees HoldsTables b t → HasCleanDisk c → KeepsOffer t query made) → EndsByRollback c d made reply → KeepsOffers a d query reply
+pub shown_kept : (a b c d : State) (query : Query) (made reply : shown.Reply) → Begins HoldsTables a b
+    → ((t : Tables) → Sees HoldsTables b t → HasCleanDisk c → KeepsOffer t query made) → EndsByRollback c d made reply → KeepsOffers a d query reply
 shown_kept a b c d query made reply = shown_so (λ t r. KeepsOffer t query r) a b c d made reply (λ t. unoffered t query StoreFailed)

@@ -1,5 +1,8 @@
 -- From what a change sees of the tables to what a verification says.
-use Rattle.rollout_desk.proofs.Common.{◌≡◌, ◌≢◌, ◌≤◌, ◌-◌, ◌⊎◌, ℕ, inl, inr, Option, Result, Ok, Err, refl, sym, subst, arith, state, Ghosts, State, HasCleanDisk, Begins, Finds, Rests, Sees, Wears, Fault, Broken, Memory, Store, rest_shows, HoldsLedger, ledger_of, HoldsTables, Tables, OpenChange, Records, Refusal, StoreFailed, refusal_of_fault, EndsLook, FindsDamage, HasCause, IsNeverDamaged}
+use Rattle.rollout_desk.proofs.Common.{◌≡◌, ◌≢◌, ◌≤◌, ◌-◌, ◌⊎◌, ℕ, inl, inr, Option, Result, Ok, Err, refl, sym, subst, arith, state, Ghosts, State}
+use Rattle.rollout_desk.proofs.Common.{HasCleanDisk, Begins, Finds, Rests, Sees, Wears, Fault, Broken, Memory, Store, rest_shows, HoldsLedger, ledger_of}
+use Rattle.rollout_desk.proofs.Common.{HoldsTables, Tables, OpenChange, Records, Refusal, StoreFailed, refusal_of_fault, EndsLook, FindsDamage, HasCause}
+use Rattle.rollout_desk.proofs.Common.{IsNeverDamaged}
 use Rattle.sql_calls.specs.declared.calls.Calls.{Calls}
 use Rattle.sql_calls.specs.Calls.{Grows, failures_of}
 use Rattle.std.specs.Prelude.{Bool, nat_lt, true, false, ◌^◌}
@@ -19,11 +22,14 @@ module _ (a b c : State) (found : Option CheckedTable) (reads : Finds HoldsTable
   ]
 
   -- records of accepted commands aren't damaged
-  pub never_damaged : Begins HoldsLedger a b → NamesNone {E = Fault} b c (Ok found) → (r : Records) → Rests HoldsLedger a (ledger_of r) → HasCleanDisk c → IsNeverDamaged r found
-  never_damaged begins never r rested clean h valid is = never h valid (subst (λ (x : Records). Sees HoldsLedger b (ledger_of x)) is (begins.sees (ledger_of r) (rest_shows HoldsLedger a _ rested))) clean
+  pub never_damaged : Begins HoldsLedger a b → NamesNone {E = Fault} b c (Ok found) → (r : Records) → Rests HoldsLedger a (ledger_of r) → HasCleanDisk c
+      → IsNeverDamaged r found
+  never_damaged begins never r rested clean h valid is =
+      never h valid (subst (λ (x : Records). Sees HoldsLedger b (ledger_of x)) is (begins.sees (ledger_of r) (rest_shows HoldsLedger a _ rested))) clean
 
 -- nothing was found
-pub none_found : (a c d : State) (refusal : Refusal) (result : Result (Option CheckedTable) Refusal) → EndsLook c d (Err refusal) result → FindsDamage a d result
+pub none_found : (a c d : State) (refusal : Refusal) (result : Result (Option CheckedTable) Refusal) → EndsLook c d (Err refusal) result
+    → FindsDamage a d result
 none_found a c d refusal result ends = elim ends.ends [
   | inl it ↦ subst (FindsDamage a d) (sym it.0) tt
   | inr it ↦ subst (FindsDamage a d) (sym it.0) tt
@@ -51,16 +57,21 @@ is_counted {old = old} {new = new} fault is grows = go (nat_lt new.failures (2 ^
     go false full grows = inr (grind (arith, nat_tests, full))
 
 -- of a call that tells no broken rows
-pub failed_call : {S : Type 0} {old new : Calls S} (fault : Fault) → fault ≢ Broken → Grows (failures_of fault) old new → (fault ≡ Store) ⊎ (fault ≡ Broken) → HasFailed old.failures new.failures
+pub failed_call : {S : Type 0} {old new : Calls S} (fault : Fault) → fault ≢ Broken → Grows (failures_of fault) old new → (fault ≡ Store) ⊎ (fault ≡ Broken)
+    → HasFailed old.failures new.failures
 failed_call fault sound grows (inl store) = is_counted fault store grows
 failed_call fault sound grows (inr broken) = absurd (sound broken)
 
 module _ {S : Type 0} (g : Ghosts S) (old : Calls S) (begun read : OpenChange S) (end : Calls S) where
   -- what was blamed before the change is given up is blamed afterwards
-  pub read_in_vain : (fault : Fault) (refusal : Refusal) (result : Result (Option CheckedTable) Refusal) → refusal ≡ refusal_of_fault fault → Begins HoldsTables (state g old.conn) (seen_in g begun)
-      → old.failures ≤ begun.store.now.calls.failures → Blames g {A = Option CheckedTable} begun read (Err fault) → Wears (seen_in g read) (state g end.conn) → read.store.now.calls.failures ≤ end.failures
-      → Grows (failures_of fault) begun.store.now.calls read.store.now.calls → (result ≡ Err refusal) ⊎ HasFailed read.store.now.calls.failures end.failures → result ≡ Err StoreFailed → HasCause g old end
-  read_in_vain fault refusal result named begins grew blames wears ended grows (inr failed) is t clean shown = inl (failed_within (omega (arith, grew, grows.failures)) failed (omega arith))
+  pub read_in_vain : (fault : Fault) (refusal : Refusal) (result : Result (Option CheckedTable) Refusal) → refusal ≡ refusal_of_fault fault
+      → Begins HoldsTables (state g old.conn) (seen_in g begun)
+      → old.failures ≤ begun.store.now.calls.failures → Blames g {A = Option CheckedTable} begun read (Err fault) → Wears (seen_in g read) (state g end.conn)
+      → read.store.now.calls.failures ≤ end.failures
+      → Grows (failures_of fault) begun.store.now.calls read.store.now.calls → (result ≡ Err refusal) ⊎ HasFailed read.store.now.calls.failures end.failures
+      → result ≡ Err StoreFailed → HasCause g old end
+  read_in_vain fault refusal result named begins grew blames wears ended grows (inr failed) is t clean shown =
+      inl (failed_within (omega (arith, grew, grows.failures)) failed (omega arith))
   read_in_vain fault refusal result named begins grew blames wears ended grows (inl same) is t clean shown = elim (stored fault (cc)) [
     | inl store ↦ inl (failed_within grew (is_counted fault store grows) ended)
     | inr broken ↦ inr ((blames.to t (begins.sees t shown) (tt {0})).reason broken (omega (arith, clean, wears)))

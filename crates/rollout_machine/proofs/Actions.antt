@@ -1,11 +1,16 @@
 -- An action's record after one more command, from its record before it.
-use Rattle.rollout_machine.proofs.Common.{◌≡◌, ℕ, zero, suc, Bool, true, false, cond, ◌&&◌, ◌||◌, not, List, [], ◌∷◌, ◌++◌, refl, sym, ◌∙◌, ap, Option, Some, None, nat_eq, is_none, is_some, map, slice_get, and-false, option_or, unwrap_or, option_map, ActionPlace, action_of, is_on_action, is_action_place, is_heard, outcome, outcome_given, cancel_stands, cancel_standing_said, is_canceling, history, reports, item_numbered, CommandList, Make, ◌▸◌, Command, Outcome, action_after, is_same_action, ActionRecord, action_in, Reported, entries_in, is_again, reported_by, eq-eqb, eqb-true, and_parts}
+use Rattle.rollout_machine.proofs.Common.{◌≡◌, ℕ, zero, suc, Bool, true, false, cond, ◌&&◌, ◌||◌, not, List, [], ◌∷◌, ◌++◌, refl, sym, ◌∙◌, ap, Option, Some}
+use Rattle.rollout_machine.proofs.Common.{None, nat_eq, is_none, is_some, map, slice_get, and-false, option_or, unwrap_or, option_map, ActionPlace, action_of}
+use Rattle.rollout_machine.proofs.Common.{is_on_action, is_action_place, is_heard, outcome, outcome_given, cancel_stands, cancel_standing_said, is_canceling}
+use Rattle.rollout_machine.proofs.Common.{history, reports, item_numbered, CommandList, Make, ◌▸◌, Command, Outcome, action_after, is_same_action}
+use Rattle.rollout_machine.proofs.Common.{ActionRecord, action_in, Reported, entries_in, is_again, reported_by, eq-eqb, eqb-true, and_parts}
 use Rattle.rollout_machine.proofs.Tallies.{or_none}
 
 abbrev pub action_from : ActionPlace → Bool → Option Outcome → List Reported → ActionRecord
 action_from p b o es = record { rollout = p.rollout; position = p.position; canceling = b; outcome = o; history = es }
 
-pub same_action : (p : ActionPlace) (b b' : Bool) (o o' : Option Outcome) (es es' : List Reported) → b ≡ b' → o ≡ o' → es ≡ es' → action_from p b o es ≡ action_from p b' o' es'
+pub same_action : (p : ActionPlace) (b b' : Bool) (o o' : Option Outcome) (es es' : List Reported) → b ≡ b' → o ≡ o' → es ≡ es' → action_from p b o es
+    ≡ action_from p b' o' es'
 same_action p b b' o o' es es' e f g = rw (e, f, g) refl
 
 pub append_none : {X : Type 0} (xs : List X) → xs ++ [] ≡ xs
@@ -19,7 +24,8 @@ place r j = record { rollout = r; position = j }
 abbrev stands_after : Bool → Option Bool → Bool → Bool
 stands_after on said b = cond (on && is_some said) (elim said [ None ↦ false | Some v ↦ v ]) b
 
-cancels : (o gv : Option Outcome) (said : Option Bool) (b : Bool) → (is_none (option_or o gv) && stands_after true said b) ≡ (is_none (option_or o gv) && unwrap_or said (is_none o && b))
+cancels : (o gv : Option Outcome) (said : Option Bool) (b : Bool) → (is_none (option_or o gv) && stands_after true said b)
+    ≡ (is_none (option_or o gv) && unwrap_or said (is_none o && b))
 cancels (Some x) gv said b = refl
 cancels None (Some x) said b = refl
 cancels None None None b = refl
@@ -43,7 +49,8 @@ open_reports (h ▸ c) r j e =
     go false = refl
 
 -- what isn't sent again to an open action is heard there
-pub heard_open : (h : CommandList) (c : Command) (r j : ℕ) → is_on_action h c r j ≡ true → outcome h r j ≡ None → is_again (history h r j) c ≡ false → is_heard h c r j ≡ true
+pub heard_open : (h : CommandList) (c : Command) (r j : ℕ) → is_on_action h c r j ≡ true → outcome h r j ≡ None → is_again (history h r j) c ≡ false
+    → is_heard h c r j ≡ true
 heard_open h c r j on e n = rw (on, open_reports h r j e, n) refl
 
 pub sent_again : (h : CommandList) (c : Command) (r j : ℕ) → outcome h r j ≡ None → is_again (history h r j) c ≡ true → is_heard h c r j ≡ false
@@ -56,24 +63,31 @@ on_own h c q t = rw (t, eq-eqb q.rollout q.rollout refl, eq-eqb q.position q.pos
 
 -- what isn't heard on an action leaves its record
 pub unheard : (h : CommandList) (c : Command) (p : ActionPlace) → is_heard h c p.rollout p.position ≡ false → action_in (h ▸ c) p ≡ action_in h p
-unheard h c p e = same_action p _ _ _ _ _ _ (rw (e, or_none (outcome h p.rollout p.position)) refl) (rw e (or_none (outcome h p.rollout p.position))) (rw e (append_none (history h p.rollout p.position)))
+unheard h c p e = same_action p _ _ _ _ _ _ (rw (e, or_none (outcome h p.rollout p.position)) refl) (rw e (or_none (outcome h p.rollout p.position)))
+    (rw e (append_none (history h p.rollout p.position)))
 
 pub off_action : (h : CommandList) (c : Command) (p : ActionPlace) → is_on_action h c p.rollout p.position ≡ false → action_in (h ▸ c) p ≡ action_in h p
 off_action h c p e = unheard h c p (rw e refl)
 
 -- so does each command on a closed one
-pub closed_action : (h : CommandList) (c : Command) (p : ActionPlace) (o : Outcome) → outcome h p.rollout p.position ≡ Some o → action_in (h ▸ c) p ≡ action_in h p
-closed_action h c p o e = same_action p _ _ _ _ _ _ (rw e refl) (rw e refl) (rw (e, and-false (is_heard h c p.rollout p.position)) (append_none (history h p.rollout p.position)))
+pub closed_action : (h : CommandList) (c : Command) (p : ActionPlace) (o : Outcome) → outcome h p.rollout p.position ≡ Some o → action_in (h ▸ c) p
+    ≡ action_in h p
+closed_action h c p o e =
+    same_action p _ _ _ _ _ _ (rw e refl) (rw e refl) (rw (e, and-false (is_heard h c p.rollout p.position)) (append_none (history h p.rollout p.position)))
 
-closed_after : (h : CommandList) (c : Command) (p : ActionPlace) (o : Outcome) → outcome h p.rollout p.position ≡ Some o → action_after c (action_in h p) ≡ action_in h p
+closed_after : (h : CommandList) (c : Command) (p : ActionPlace) (o : Outcome) → outcome h p.rollout p.position ≡ Some o → action_after c (action_in h p)
+    ≡ action_in h p
 closed_after h c p o e = same_action p _ _ _ _ _ _ (rw e refl) (rw e refl) (rw e (append_none (history h p.rollout p.position)))
 
-heard_action : (h : CommandList) (c : Command) (p : ActionPlace) → is_heard h c p.rollout p.position ≡ true → action_in (h ▸ c) p ≡ action_after c (action_in h p)
+heard_action : (h : CommandList) (c : Command) (p : ActionPlace) → is_heard h c p.rollout p.position ≡ true → action_in (h ▸ c) p
+    ≡ action_after c (action_in h p)
 heard_action h c p e = same_action p _ _ _ _ _ _
-    (rw e (cancels (outcome h p.rollout p.position) (outcome_given c (is_canceling h p.rollout p.position)) (cancel_standing_said c) (cancel_stands h p.rollout p.position)))
+    (rw e (cancels (outcome h p.rollout p.position) (outcome_given c (is_canceling h p.rollout p.position)) (cancel_standing_said c)
+    (cancel_stands h p.rollout p.position)))
     (rw e refl) (rw e refl)
 
-pub on_action : (h : CommandList) (c : Command) (p : ActionPlace) → is_on_action h c p.rollout p.position ≡ true → is_again (history h p.rollout p.position) c ≡ false → action_in (h ▸ c) p ≡ action_after c (action_in h p)
+pub on_action : (h : CommandList) (c : Command) (p : ActionPlace) → is_on_action h c p.rollout p.position ≡ true → is_again (history h p.rollout p.position) c
+    ≡ false → action_in (h ▸ c) p ≡ action_after c (action_in h p)
 on_action h c p on n = go (outcome h p.rollout p.position) refl
   where
     go : (o : Option Outcome) → outcome h p.rollout p.position ≡ o → action_in (h ▸ c) p ≡ action_after c (action_in h p)
@@ -90,26 +104,31 @@ same_place h c q p t f =
     made : (r s i k : ℕ) → r ≡ s → i ≡ k → place r i ≡ place s k
     made r s i k e f = rw (e, f) refl
 
-pub one_action : (h : CommandList) (c : Command) (q p : ActionPlace) → action_of h c ≡ Some q → is_again (history h q.rollout q.position) c ≡ false → action_in (h ▸ c) p ≡ cond (is_same_action (action_in h p) (action_in h q)) (action_after c (action_in h p)) (action_in h p)
+pub one_action : (h : CommandList) (c : Command) (q p : ActionPlace) → action_of h c ≡ Some q → is_again (history h q.rollout q.position) c ≡ false
+    → action_in (h ▸ c) p ≡ cond (is_same_action (action_in h p) (action_in h q)) (action_after c (action_in h p)) (action_in h p)
 one_action h c q p t n = go (is_same_action (action_in h p) (action_in h q)) refl
   where
-    go : (b : Bool) → (nat_eq q.rollout p.rollout && nat_eq q.position p.position) ≡ b → action_in (h ▸ c) p ≡ cond b (action_after c (action_in h p)) (action_in h p)
+    go : (b : Bool) → (nat_eq q.rollout p.rollout && nat_eq q.position p.position) ≡ b → action_in (h ▸ c) p
+        ≡ cond b (action_after c (action_in h p)) (action_in h p)
     go true e =
         let on : is_on_action h c p.rollout p.position ≡ true = ap (λ o. is_action_place o p.rollout p.position) t ∙ e in
         on_action h c p on (sym (ap (λ (s : ActionPlace). is_again (history h s.rollout s.position) c) (same_place h c q p t on)) ∙ n)
     go false e = off_action h c p (ap (λ o. is_action_place o p.rollout p.position) t ∙ e)
 
 -- what finds its action closed, or is sent again, leaves all
-pub had_action : (h : CommandList) (c : Command) (q : ActionPlace) → action_of h c ≡ Some q → (is_some (outcome h q.rollout q.position) || is_again (history h q.rollout q.position) c) ≡ true → (p : ActionPlace) → action_in (h ▸ c) p ≡ action_in h p
+pub had_action : (h : CommandList) (c : Command) (q : ActionPlace) → action_of h c ≡ Some q
+    → (is_some (outcome h q.rollout q.position) || is_again (history h q.rollout q.position) c) ≡ true → (p : ActionPlace) → action_in (h ▸ c) p ≡ action_in h p
 had_action h c q t had p = go (is_on_action h c p.rollout p.position) refl
   where
-    open_or : (o : Option Outcome) → outcome h p.rollout p.position ≡ o → (is_some o || is_again (history h p.rollout p.position) c) ≡ true → action_in (h ▸ c) p ≡ action_in h p
+    open_or : (o : Option Outcome) → outcome h p.rollout p.position ≡ o → (is_some o || is_again (history h p.rollout p.position) c) ≡ true
+        → action_in (h ▸ c) p ≡ action_in h p
     open_or (Some o) e d = closed_action h c p o e
     open_or None e d = unheard h c p (sent_again h c p.rollout p.position e d)
 
     go : (b : Bool) → is_on_action h c p.rollout p.position ≡ b → action_in (h ▸ c) p ≡ action_in h p
     go false f = off_action h c p f
-    go true f = open_or (outcome h p.rollout p.position) refl (sym (ap (λ (s : ActionPlace). is_some (outcome h s.rollout s.position) || is_again (history h s.rollout s.position) c) (same_place h c q p t f)) ∙ had)
+    go true f = open_or (outcome h p.rollout p.position) refl
+        (sym (ap (λ (s : ActionPlace). is_some (outcome h s.rollout s.position) || is_again (history h s.rollout s.position) c) (same_place h c q p t f)) ∙ had)
 
 pub map_append : {X Y : Type 0} (f : X → Y) (xs ys : List X) → map f (xs ++ ys) ≡ map f xs ++ map f ys
 map_append f [] ys = refl
@@ -127,9 +146,12 @@ map_twice f k [] = refl
 map_twice f k (x ∷ xs) = ap (λ ys. k (f x) ∷ ys) (map_twice f k xs)
 
 -- the records of all actions after a command on one of them
-pub all_actions : (h : CommandList) (c : Command) (q : ActionPlace) → action_of h c ≡ Some q → is_again (history h q.rollout q.position) c ≡ false → (ps : List ActionPlace) → map (action_in (h ▸ c)) ps ≡ map (λ (b : ActionRecord). cond (is_same_action b (action_in h q)) (action_after c b) b) (map (action_in h) ps)
+pub all_actions : (h : CommandList) (c : Command) (q : ActionPlace) → action_of h c ≡ Some q → is_again (history h q.rollout q.position) c ≡ false
+    → (ps : List ActionPlace) → map (action_in (h ▸ c)) ps ≡ map (λ (b : ActionRecord). cond (is_same_action b (action_in h q)) (action_after c b) b)
+    (map (action_in h) ps)
 all_actions h c q t n ps =
-    map_same (action_in (h ▸ c)) (λ p. cond (is_same_action (action_in h p) (action_in h q)) (action_after c (action_in h p)) (action_in h p)) (λ p. one_action h c q p t n) ps
+    map_same (action_in (h ▸ c)) (λ p. cond (is_same_action (action_in h p) (action_in h q)) (action_after c (action_in h p)) (action_in h p))
+    (λ p. one_action h c q p t n) ps
     ∙ sym (map_twice (action_in h) (λ (b : ActionRecord). cond (is_same_action b (action_in h q)) (action_after c b) b) ps)
 
 -- and after a command on none

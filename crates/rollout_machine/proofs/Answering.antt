@@ -1,5 +1,6 @@
 -- What answers are, by what is asked, and which refusals they can have.
-use Rattle.rollout_machine.proofs.Common.{◌≡◌, Bool, Some, None, refl, ap, ◌∙◌, query_reply, command_reply, CommandList, Make, ◌▸◌, Command, step_records, no_records, Records, Refused, Query, Do, Ask, Asks, IsValid, verdict, Refusal}
+use Rattle.rollout_machine.proofs.Common.{◌≡◌, Bool, Some, None, refl, ap, ◌∙◌, query_reply, command_reply, CommandList, Make, ◌▸◌, Command, step_records}
+use Rattle.rollout_machine.proofs.Common.{no_records, Records, Refused, Query, Do, Ask, Asks, IsValid, verdict, Refusal}
 use Rattle.rollout_machine.specs.Answers.{answer}
 use Rattle.rollout_machine.specs.Records.{records}
 use Rattle.rollout_machine.specs.Requests.{Rejected}
@@ -15,17 +16,21 @@ pub query_answer : (h : CommandList) (query : Query) → answer h (Asks (Ask que
 unfolding answer
 query_answer h query = refl
 
-pub refused_answer : (h : CommandList) (c : Command) (refusal : Refusal) → verdict h c ≡ Some refusal → answer h (Asks (Do c)) ≡ record { reply = Refused refusal; accepted = None }
+pub refused_answer : (h : CommandList) (c : Command) (refusal : Refusal) → verdict h c ≡ Some refusal → answer h (Asks (Do c))
+    ≡ record { reply = Refused refusal; accepted = None }
 unfolding answer
 refused_answer h c refusal refused = rw refused
 
-pub accepted_answer : (h : CommandList) (c : Command) → verdict h c ≡ None → answer h (Asks (Do c)) ≡ record { reply = command_reply c (records (h ▸ c)); accepted = Some c }
+pub accepted_answer : (h : CommandList) (c : Command) → verdict h c ≡ None → answer h (Asks (Do c))
+    ≡ record { reply = command_reply c (records (h ▸ c)); accepted = Some c }
 unfolding answer
 accepted_answer h c accepted = rw accepted
 
 -- the reply by one step of the records
-pub accepted_step : (h : CommandList) (c : Command) → IsValid h → verdict h c ≡ None → answer h (Asks (Do c)) ≡ record { reply = command_reply c (step_records (records h) c); accepted = Some c }
-accepted_step h c valid accepted = accepted_answer h c accepted ∙ ap (λ (rs : Records). record { reply = command_reply c rs; accepted = Some c }) (records_step h c valid accepted)
+pub accepted_step : (h : CommandList) (c : Command) → IsValid h → verdict h c ≡ None → answer h (Asks (Do c))
+    ≡ record { reply = command_reply c (step_records (records h) c); accepted = Some c }
+accepted_step h c valid accepted = accepted_answer h c accepted ∙ ap (λ (rs : Records). record { reply = command_reply c rs; accepted = Some c })
+    (records_step h c valid accepted)
 
 pub made_records : (approval : Bool) → records (Make approval) ≡ no_records approval
 unfolding records

@@ -1,5 +1,7 @@
 -- What stands at a number in the records of a command list.
-use Rattle.rollout_machine.proofs.Common.{◌≡◌, ℕ, zero, suc, ◌<◌, ◌≤◌, sym, ◌∙◌, refl, arith, List, length, get_or, Option, Some, None, option_map, ActionPlace, action_place, action_places, item_numbered, CommandList, ActionRecord, GroupRecord, RolloutRecord, action_in, group_in, rollout_in, Rollout, rollout_at}
+use Rattle.rollout_machine.proofs.Common.{◌≡◌, ℕ, zero, suc, ◌<◌, ◌≤◌, sym, ◌∙◌, refl, arith, List, length, get_or, Option, Some, None, option_map}
+use Rattle.rollout_machine.proofs.Common.{ActionPlace, action_place, action_places, item_numbered, CommandList, ActionRecord, GroupRecord, RolloutRecord}
+use Rattle.rollout_machine.proofs.Common.{action_in, group_in, rollout_in, Rollout, rollout_at}
 use Rattle.std.proofs.lemmas.Option.{slice_get-get_or, slice_get_within}
 use Rattle.rollout_machine.specs.Records.{records}
 use Rattle.rollout_machine.proofs.Actions.{numbered_map}

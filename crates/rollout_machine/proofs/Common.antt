@@ -1,44 +1,84 @@
 -- The names of other modules that the proofs here cite, passed on from one place. Declares nothing.
-pub use Rattle.std.proofs.Common.{◌≡◌, ℕ, zero, suc, ◌+◌, ◌-◌, ◌*◌, ◌/◌, ◌%◌, ◌<◌, ◌≤◌, Bool, true, false, cond, not, ◌&&◌, ◌||◌, ◌≢◌, ◌⊎◌, List, [], ◌∷◌, ◌++◌, map, length, get_or, take, drop, replicate, is_some, is_none, nat_eq, nat_lt, nat_le, slice_get, Some, None, codes, filter, Option, sym, refl, ap, ◌∙◌, subst, ap₂, inl, inr, add-one, arith, rules}
+pub use Rattle.std.proofs.Common.{◌≡◌, ℕ, zero, suc, ◌+◌, ◌-◌, ◌*◌, ◌/◌, ◌%◌, ◌<◌, ◌≤◌, Bool, true, false, cond, not, ◌&&◌, ◌||◌, ◌≢◌, ◌⊎◌, List, [], ◌∷◌}
+pub use Rattle.std.proofs.Common.{◌++◌, map, length, get_or, take, drop, replicate, is_some, is_none, nat_eq, nat_lt, nat_le, slice_get, Some, None, codes}
+pub use Rattle.std.proofs.Common.{filter, Option, sym, refl, ap, ◌∙◌, subst, ap₂, inl, inr, add-one, arith, rules}
 pub use Rattle.std.proofs.Math.Bool.{and-false, and-true, or-false, or-true}
 pub use Rattle.std.proofs.Math.Nat.{div-lt_iff_lt-mul, div-mul-le_self}
-pub use Rattle.std.proofs.lemmas.Bool.{and_parts, cases_Bool, cases_eq, cases_lt, cases_order, eq-eqb, eqb-true, false≢true, le-leb, leb-false, leb-true, lt-leb, lt-ltb, ltb-false, ltb-true, ne_eqb, not-false, not-true, or_parts}
+pub use Rattle.std.proofs.lemmas.Bool.{and_parts, cases_Bool, cases_eq, cases_lt, cases_order, eq-eqb, eqb-true, false≢true, le-leb, leb-false, leb-true}
+pub use Rattle.std.proofs.lemmas.Bool.{lt-leb, lt-ltb, ltb-false, ltb-true, ne_eqb, not-false, not-true, or_parts}
 pub use Rattle.std.proofs.lemmas.Bool.Decides.{nat_tests}
 pub use Rattle.std.proofs.lemmas.List.{length-append, length-map}
 pub use Rattle.std.proofs.lemmas.Nat.{le-div}
 pub use Rattle.std.specs.List.{AllByRecursion, list_all, list_any}
 pub use Rattle.std.specs.Option.{option_map, option_or, unwrap_or}
 pub use Rattle.rollout_model.specs.declared.refusal.Refusal.{Refusal}
-pub use Rattle.rollout_model.specs.declared.refusal.Refusal.TheVariants.{BadFilter, ClosedAction, Exists, Locked, NotFound, OldNumber, Quota, StoreFailed, TooFewTargets, Unauthorized, WrongDigest, WrongState}
+pub use Rattle.rollout_model.specs.declared.refusal.Refusal.TheVariants.{BadFilter, ClosedAction, Exists, Locked, NotFound, OldNumber, Quota, StoreFailed}
+pub use Rattle.rollout_model.specs.declared.refusal.Refusal.TheVariants.{TooFewTargets, Unauthorized, WrongDigest, WrongState}
 pub use Rattle.target_filter.specs.Grammar.{Tree}
 pub use Rattle.target_filter.specs.Profile.{filter_of}
-pub use Rattle.rollout_machine.specs.Actions.{ActionPlace, action_of, action_place, action_places, cancel_standing_said, cancel_stands, history, is_action_place, is_canceling, is_heard, is_on_action, new_places, outcome, outcome_given, outcome_of_cancel, outcome_of_deployment, outcome_said, places_from, places_of, reports}
-pub use Rattle.rollout_machine.specs.Answers.{action_of_target, added_artifact, added_rollout, answer, artifact_named, artifact_of_module, command_answer, command_reply, download, for_device, if_found, is_offer_of, modules_offered, query_reply, targets_matching, targets_reply}
-pub use Rattle.rollout_machine.specs.ByteStrings.{bytes_below, contains_word, item_numbered, same_bytes, same_words, sorted_words, with_word, with_words, without_word}
+pub use Rattle.rollout_machine.specs.Actions.{ActionPlace, action_of, action_place, action_places, cancel_standing_said, cancel_stands, history}
+pub use Rattle.rollout_machine.specs.Actions.{is_action_place, is_canceling, is_heard, is_on_action, new_places, outcome, outcome_given, outcome_of_cancel}
+pub use Rattle.rollout_machine.specs.Actions.{outcome_of_deployment, outcome_said, places_from, places_of, reports}
+pub use Rattle.rollout_machine.specs.Answers.{action_of_target, added_artifact, added_rollout, answer, artifact_named, artifact_of_module, command_answer}
+pub use Rattle.rollout_machine.specs.Answers.{command_reply, download, for_device, if_found, is_offer_of, modules_offered, query_reply, targets_matching}
+pub use Rattle.rollout_machine.specs.Answers.{targets_reply}
+pub use Rattle.rollout_machine.specs.ByteStrings.{bytes_below, contains_word, item_numbered, same_bytes, same_words, sorted_words, with_word, with_words}
+pub use Rattle.rollout_machine.specs.ByteStrings.{without_word}
 pub use Rattle.rollout_machine.specs.CommandList.{CommandList, Make, followed_by, ◌▸◌}
 pub use Rattle.rollout_machine.specs.CommandRules.{IsWellFormed, is_plan, is_well_formed}
-pub use Rattle.rollout_machine.specs.Commands.{AddArtifact, AddModule, AddSet, Approve, Attribute, Bad, Bytes, Cancel, CancelFeedback, CancelWord, CanceledCancel, ClosedCancel, Command, CreateRollout, Credential, Deny, DeploymentWord, DeviceFeedback, Failed, Feedback, Gone, Good, ModuleLabel, Noted, NotedCancel, Outcome, Pause, Proceeding, PutAttributes, PutTargets, Rejected, RejectedCancel, Resume, RolloutPlan, SetLabel, Start, Succeeded, Tag, TargetRow, TriggerNext, Untag, Upload}
+pub use Rattle.rollout_machine.specs.Commands.{AddArtifact, AddModule, AddSet, Approve, Attribute, Bad, Bytes, Cancel, CancelFeedback, CancelWord}
+pub use Rattle.rollout_machine.specs.Commands.{CanceledCancel, ClosedCancel, Command, CreateRollout, Credential, Deny, DeploymentWord, DeviceFeedback, Failed}
+pub use Rattle.rollout_machine.specs.Commands.{Feedback, Gone, Good, ModuleLabel, Noted, NotedCancel, Outcome, Pause, Proceeding, PutAttributes, PutTargets}
+pub use Rattle.rollout_machine.specs.Commands.{Rejected, RejectedCancel, Resume, RolloutPlan, SetLabel, Start, Succeeded, Tag, TargetRow, TriggerNext, Untag}
+pub use Rattle.rollout_machine.specs.Commands.{Upload}
 pub use Rattle.rollout_machine.specs.Counts.{error_holds, is_outcome, reaches, success_holds, tally}
-pub use Rattle.rollout_machine.specs.Effects.{FollowsFeedback, FollowsResume, FollowsTrigger, GetsOutcome, HasSoundPlan, IsGroupView, IsInGroup, IsLast, IsView, OutcomesStarted, StartedOnly, feedback_pauses, good_after, last_with, next_if, starts_next}
+pub use Rattle.rollout_machine.specs.Effects.{FollowsFeedback, FollowsResume, FollowsTrigger, GetsOutcome, HasSoundPlan, IsGroupView, IsInGroup, IsLast}
+pub use Rattle.rollout_machine.specs.Effects.{IsView, OutcomesStarted, StartedOnly, feedback_pauses, good_after, last_with, next_if, starts_next}
 pub use Rattle.rollout_machine.specs.Filters.{matches}
 pub use Rattle.rollout_machine.specs.Groupings.{GroupDefinition, GroupingCovers, cut_by, last_defined, leaves_empty, percentages, some_empty}
 pub use Rattle.rollout_machine.specs.Groups.{IsCut, cut, holds_position, last_position}
-pub use Rattle.rollout_machine.specs.Meanings.{CancelingIsLast, Ends, FinalIsAll, FirstOutcome, FirstStartedIs, IsLeastOffer, IsOfferable, LastIsCancel, LastRow, NeverNamed, NextIsStarted, NoResume, NoneGave, NoneSpeaks, NotNamed, NumbersActions, NumbersDiffer, OfferIsLeast, OutcomeIsFirst, PauseBegins, PausedIs, RowIsLast, Says, SomePause, SpeaksOfCancel, StartIsIn, StartedIs, TagsAreSaid, TargetsAreNamed, ValueIsLast, last_given, last_value, size_at, started_by, started_sizes, value_of}
+pub use Rattle.rollout_machine.specs.Meanings.{CancelingIsLast, Ends, FinalIsAll, FirstOutcome, FirstStartedIs, IsLeastOffer, IsOfferable, LastIsCancel}
+pub use Rattle.rollout_machine.specs.Meanings.{LastRow, NeverNamed, NextIsStarted, NoResume, NoneGave, NoneSpeaks, NotNamed, NumbersActions, NumbersDiffer}
+pub use Rattle.rollout_machine.specs.Meanings.{OfferIsLeast, OutcomeIsFirst, PauseBegins, PausedIs, RowIsLast, Says, SomePause, SpeaksOfCancel, StartIsIn}
+pub use Rattle.rollout_machine.specs.Meanings.{StartedIs, TagsAreSaid, TargetsAreNamed, ValueIsLast, last_given, last_value, size_at, started_by}
+pub use Rattle.rollout_machine.specs.Meanings.{started_sizes, value_of}
 pub use Rattle.rollout_machine.specs.Objects.{deployment_shown, modules_of_action}
 pub use Rattle.rollout_machine.specs.Offers.{Offer, first_offer, offer}
-pub use Rattle.rollout_machine.specs.Progress.{error_begins_at, is_group_started, is_pause_of, is_paused, is_resume_of, is_rollout_started, is_start_of, is_trigger_of, next_started, pause_begins}
+pub use Rattle.rollout_machine.specs.Progress.{error_begins_at, is_group_started, is_pause_of, is_paused, is_resume_of, is_rollout_started, is_start_of}
+pub use Rattle.rollout_machine.specs.Progress.{is_trigger_of, next_started, pause_begins}
 pub use Rattle.rollout_machine.specs.Ranges.{count_from, each_from, some_up_to}
-pub use Rattle.rollout_machine.specs.RecordSteps.{act_on, action_after, begin_rollout, change_rollout, change_target, counted, group_view, is_item_number, is_same_action, last_started, new_action, new_actions, new_group, new_rollout, new_target, no_records, outcome_if_new, own_group, put_target, put_targets, resumed, rollout_after, rollouts_after_outcome, run_records, start_group, step_action, step_records, triggered, view_from_group, view_of}
-pub use Rattle.rollout_machine.specs.Records.{ActionRecord, Approval, ArtifactRecord, Denied, Given, GroupRecord, Records, RolloutRecord, Waiting, action_in, added_artifacts, approval_by, approval_of, artifacts, decided, decision_on, group_in, modules, needs_approval, records, rollout_in, rollouts_in, sets}
+pub use Rattle.rollout_machine.specs.RecordSteps.{act_on, action_after, begin_rollout, change_rollout, change_target, counted, group_view, is_item_number}
+pub use Rattle.rollout_machine.specs.RecordSteps.{is_same_action, last_started, new_action, new_actions, new_group, new_rollout, new_target, no_records}
+pub use Rattle.rollout_machine.specs.RecordSteps.{outcome_if_new, own_group, put_target, put_targets, resumed, rollout_after, rollouts_after_outcome}
+pub use Rattle.rollout_machine.specs.RecordSteps.{run_records, start_group, step_action, step_records, triggered, view_from_group, view_of}
+pub use Rattle.rollout_machine.specs.Records.{ActionRecord, Approval, ArtifactRecord, Denied, Given, GroupRecord, Records, RolloutRecord, Waiting, action_in}
+pub use Rattle.rollout_machine.specs.Records.{added_artifacts, approval_by, approval_of, artifacts, decided, decision_on, group_in, modules, needs_approval}
+pub use Rattle.rollout_machine.specs.Records.{records, rollout_in, rollouts_in, sets}
 pub use Rattle.rollout_machine.specs.Repeats.{IsTraceless, RepeatsLeaveNoTrace, is_doubled, is_had, is_repeat, same_row, same_rows, without_repeats}
-pub use Rattle.rollout_machine.specs.Replies.{ActionShown, ActionsShown, ActionsTableShown, Artifact, ArtifactAdded, ArtifactShown, ArtifactsShown, CancelShown, ContentsShown, DeploymentShown, GroupShown, HistoryShown, Module, ModuleAdded, ModuleShown, ModulesShown, PollShown, Refused, Reply, ReportShown, RolloutsShown, SetAdded, ShownAction, ShownGroup, ShownTarget, TargetsPut, TargetsShown}
-pub use Rattle.rollout_machine.specs.Reports.{Again, Fresh, HistoryEntry, Numbered, OfCancel, OfDeployment, Old, Reported, Standing, against, bearing, entries_in, is_again, numbered_if, reported, reported_by, same_entry, says_again, says_old, standing_by, standing_of}
-pub use Rattle.rollout_machine.specs.Requests.{Ask, Asked, Asks, Do, Download, Page, Poll, Query, Request, ShowAction, ShowActionsTable, ShowArtifact, ShowArtifacts, ShowCancel, ShowContents, ShowDeployment, ShowGroup, ShowGroupTargets, ShowGroups, ShowHistory, ShowModule, ShowModules, ShowReport, ShowRollout, ShowRollouts, ShowSet, ShowSets, ShowTarget, ShowTargetActions, ShowTargets}
-pub use Rattle.rollout_machine.specs.Rollouts.{Rollout, bounds_in, chosen, created, error_at, first_of, last_of, members_of, rollout_at, rollouts, size_in, size_of, success_at}
-pub use Rattle.rollout_machine.specs.Splits.{FirstEmptyTells, LeavesNoneEmpty, SplitCovers, first_empty, first_empty_from, left_by, share, split_bounds_of, split_last}
-pub use Rattle.rollout_machine.specs.StateWords.{ApprovalDenied, ErrorGroup, FinishedGroup, FinishedRollout, GroupWord, InError, PausedRollout, Pending, ReadyGroup, RolloutWord, RunningAction, RunningGroup, RunningRollout, ScheduledAction, ScheduledGroup, Unknown, WaitingForApproval, all_final, group_holding, group_is_started, group_numbered, group_word, has_started, is_finished, is_for, is_started_in, member_at, number_of_group, rollout_word, target_word, word_from}
-pub use Rattle.rollout_machine.specs.Targets.{Target, attributes_in, has_tag, import_rows_of, last_row_for, last_row_of, tag_in_row, tags_by_row, tags_in, target_ids, target_in, targets, with_attribute, with_attributes}
+pub use Rattle.rollout_machine.specs.Replies.{ActionShown, ActionsShown, ActionsTableShown, Artifact, ArtifactAdded, ArtifactShown, ArtifactsShown}
+pub use Rattle.rollout_machine.specs.Replies.{CancelShown, ContentsShown, DeploymentShown, GroupShown, HistoryShown, Module, ModuleAdded, ModuleShown}
+pub use Rattle.rollout_machine.specs.Replies.{ModulesShown, PollShown, Refused, Reply, ReportShown, RolloutsShown, SetAdded, ShownAction, ShownGroup}
+pub use Rattle.rollout_machine.specs.Replies.{ShownTarget, TargetsPut, TargetsShown}
+pub use Rattle.rollout_machine.specs.Reports.{Again, Fresh, HistoryEntry, Numbered, OfCancel, OfDeployment, Old, Reported, Standing, against, bearing}
+pub use Rattle.rollout_machine.specs.Reports.{entries_in, is_again, numbered_if, reported, reported_by, same_entry, says_again, says_old, standing_by}
+pub use Rattle.rollout_machine.specs.Reports.{standing_of}
+pub use Rattle.rollout_machine.specs.Requests.{Ask, Asked, Asks, Do, Download, Page, Poll, Query, Request, ShowAction, ShowActionsTable, ShowArtifact}
+pub use Rattle.rollout_machine.specs.Requests.{ShowArtifacts, ShowCancel, ShowContents, ShowDeployment, ShowGroup, ShowGroupTargets, ShowGroups, ShowHistory}
+pub use Rattle.rollout_machine.specs.Requests.{ShowModule, ShowModules, ShowReport, ShowRollout, ShowRollouts, ShowSet, ShowSets, ShowTarget}
+pub use Rattle.rollout_machine.specs.Requests.{ShowTargetActions, ShowTargets}
+pub use Rattle.rollout_machine.specs.Rollouts.{Rollout, bounds_in, chosen, created, error_at, first_of, last_of, members_of, rollout_at, rollouts, size_in}
+pub use Rattle.rollout_machine.specs.Rollouts.{size_of, success_at}
+pub use Rattle.rollout_machine.specs.Splits.{FirstEmptyTells, LeavesNoneEmpty, SplitCovers, first_empty, first_empty_from, left_by, share, split_bounds_of}
+pub use Rattle.rollout_machine.specs.Splits.{split_last}
+pub use Rattle.rollout_machine.specs.StateWords.{ApprovalDenied, ErrorGroup, FinishedGroup, FinishedRollout, GroupWord, InError, PausedRollout, Pending}
+pub use Rattle.rollout_machine.specs.StateWords.{ReadyGroup, RolloutWord, RunningAction, RunningGroup, RunningRollout, ScheduledAction, ScheduledGroup}
+pub use Rattle.rollout_machine.specs.StateWords.{Unknown, WaitingForApproval, all_final, group_holding, group_is_started, group_numbered, group_word}
+pub use Rattle.rollout_machine.specs.StateWords.{has_started, is_finished, is_for, is_started_in, member_at, number_of_group, rollout_word, target_word}
+pub use Rattle.rollout_machine.specs.StateWords.{word_from}
+pub use Rattle.rollout_machine.specs.Targets.{Target, attributes_in, has_tag, import_rows_of, last_row_for, last_row_of, tag_in_row, tags_by_row, tags_in}
+pub use Rattle.rollout_machine.specs.Targets.{target_ids, target_in, targets, with_attribute, with_attributes}
 pub use Rattle.rollout_machine.specs.Validity.{IsValid}
-pub use Rattle.rollout_machine.specs.Verdicts.{check, first_refusal, is_at_pause, is_device_action, is_known, is_note, is_old, is_ready, is_running, is_waiting, notes_of, on_action, target_of, verdict, verdict_row, word_is}
+pub use Rattle.rollout_machine.specs.Verdicts.{check, first_refusal, is_at_pause, is_device_action, is_known, is_note, is_old, is_ready, is_running}
+pub use Rattle.rollout_machine.specs.Verdicts.{is_waiting, notes_of, on_action, target_of, verdict, verdict_row, word_is}
 pub use Rattle.rollout_machine.specs.declared.bounds.Bounds.{Bounds}
 pub use Rattle.rollout_machine.specs.declared.view.Effects.{Effects}

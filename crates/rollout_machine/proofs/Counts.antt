@@ -1,5 +1,6 @@
 -- Counts over positions: equal where the tests agree, one more where they differ at one place.
-use Rattle.rollout_machine.proofs.Common.{◌≡◌, ℕ, zero, suc, ◌+◌, ◌<◌, ◌≤◌, Bool, true, false, cond, refl, sym, arith, inl, inr, cases_eq, count_from, some_up_to}
+use Rattle.rollout_machine.proofs.Common.{◌≡◌, ℕ, zero, suc, ◌+◌, ◌<◌, ◌≤◌, Bool, true, false, cond, refl, sym, arith, inl, inr, cases_eq, count_from}
+use Rattle.rollout_machine.proofs.Common.{some_up_to}
 use mathlib.Core.Bool.{or-false}
 
 pub count_same : (p q : ℕ → Bool) (first n : ℕ) → ((j : ℕ) → first ≤ j → j < first + n → p j ≡ q j) → count_from p first n ≡ count_from q first n
@@ -16,7 +17,8 @@ count_none p first (suc n) h =
     let here : p (first + n) ≡ false = h (first + n) (omega arith) (omega arith) in
     rw (before, here) refl
 
-pub count_one : (p q : ℕ → Bool) (first n j : ℕ) → first ≤ j → j < first + n → p j ≡ false → q j ≡ true → ((k : ℕ) → first ≤ k → k < first + n → (k ≡ j → ⊥) → p k ≡ q k) → count_from q first n ≡ count_from p first n + 1
+pub count_one : (p q : ℕ → Bool) (first n j : ℕ) → first ≤ j → j < first + n → p j ≡ false → q j ≡ true
+    → ((k : ℕ) → first ≤ k → k < first + n → (k ≡ j → ⊥) → p k ≡ q k) → count_from q first n ≡ count_from p first n + 1
 count_one p q first zero j l u e f h = absurd (omega arith)
 count_one p q first (suc n) j l u e f h = elim (cases_eq j (first + n)) [
   | inl same ↦

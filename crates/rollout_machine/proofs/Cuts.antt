@@ -1,5 +1,7 @@
 -- Groups follow one another, none is empty, and each member is in one of them and in no two.
-use Rattle.rollout_machine.proofs.Common.{◌≡◌, ℕ, zero, suc, ◌+◌, ◌-◌, ◌*◌, ◌/◌, ◌<◌, ◌≤◌, Bool, true, false, cond, nat_le, inl, inr, refl, sym, subst, arith, le-div, and_parts, cases_order, le-leb, leb-false, leb-true, div-mul-le_self, div-lt_iff_lt-mul, HasSoundPlan, IsInGroup, IsCut, holds_position, last_position, Rollout, bounds_in, last_of, size_in, size_of}
+use Rattle.rollout_machine.proofs.Common.{◌≡◌, ℕ, zero, suc, ◌+◌, ◌-◌, ◌*◌, ◌/◌, ◌<◌, ◌≤◌, Bool, true, false, cond, nat_le, inl, inr, refl, sym, subst, arith}
+use Rattle.rollout_machine.proofs.Common.{le-div, and_parts, cases_order, le-leb, leb-false, leb-true, div-mul-le_self, div-lt_iff_lt-mul, HasSoundPlan}
+use Rattle.rollout_machine.proofs.Common.{IsInGroup, IsCut, holds_position, last_position, Rollout, bounds_in, last_of, size_in, size_of}
 
 -- The cut into even groups is one. Nothing else need know how it is computed.
 pub even_is_cut : (m n : ℕ) → 1 ≤ n → n ≤ m → IsCut (last_position m n) m n
@@ -67,7 +69,8 @@ among x (suc n) j begins low high = go (nat_le j (last_of x n)) refl (among x n 
     back : suc n - 1 ≡ n
     back = omega arith
 
-    go : (b : Bool) → nat_le j (last_of x n) ≡ b → (j ≤ last_of x n → IsAmong x n (group_up_to (last_of x) j n) j) → IsAmong x (suc n) (cond b (group_up_to (last_of x) j n) (suc n)) j
+    go : (b : Bool) → nat_le j (last_of x n) ≡ b → (j ≤ last_of x n → IsAmong x n (group_up_to (last_of x) j n) j)
+        → IsAmong x (suc n) (cond b (group_up_to (last_of x) j n) (suc n)) j
     go true is before = let w = before (leb-true _ _ is) in record { first = w.first; last = omega (arith, w.last); within = w.within }
     go false is before =
         let past : last_of x (suc n - 1) + 1 ≤ j = rw back (omega (arith, leb-false _ _ is)) in

@@ -1,5 +1,8 @@
 -- A command changes one rollout at most: the one that it is on.
-use Rattle.rollout_machine.proofs.Common.{◌≡◌, ◌⊎◌, ℕ, false, ◌&&◌, Option, Some, None, inl, inr, refl, sym, ap, ◌∙◌, ◌≢◌, nat_eq, ActionPlace, action_of, is_action_place, CommandList, Command, Approve, Deny, Start, Pause, Resume, TriggerNext, Cancel, Feedback, CancelFeedback, is_pause_of, is_resume_of, is_start_of, is_trigger_of, approval_of, decision_on, rollout_at, option_map, cases_eq, ne_eqb}
+use Rattle.rollout_machine.proofs.Common.{◌≡◌, ◌⊎◌, ℕ, false, ◌&&◌, Option, Some, None, inl, inr, refl, sym, ap, ◌∙◌, ◌≢◌, nat_eq, ActionPlace, action_of}
+use Rattle.rollout_machine.proofs.Common.{is_action_place, CommandList, Command, Approve, Deny, Start, Pause, Resume, TriggerNext, Cancel, Feedback}
+use Rattle.rollout_machine.proofs.Common.{CancelFeedback, is_pause_of, is_resume_of, is_start_of, is_trigger_of, approval_of, decision_on, rollout_at}
+use Rattle.rollout_machine.proofs.Common.{option_map, cases_eq, ne_eqb}
 use Rattle.rollout_machine.specs.Promises.{OneGroupStarts, OthersStay, rollout_of}
 use Rattle.rollout_machine.proofs.Induction.{accepted}
 use Rattle.rollout_machine.proofs.Progressing.{none_starts, one_of_rollout}
@@ -37,13 +40,41 @@ silent h (Start q) r ne = record { acts = λ j. refl; pauses = refl; resumes = r
 silent h (Pause q) r ne = record { acts = λ j. refl; pauses = other q r ne; resumes = refl; triggers = refl; starts = refl; decides = refl }
 silent h (Resume q) r ne = record { acts = λ j. refl; pauses = refl; resumes = other q r ne; triggers = refl; starts = refl; decides = refl }
 silent h (TriggerNext q) r ne = record { acts = λ j. refl; pauses = refl; resumes = refl; triggers = other q r ne; starts = refl; decides = refl }
-silent h (Cancel t k force) r ne = record { acts = λ j. off_place (action_of h (Cancel t k force)) r j ne; pauses = refl; resumes = refl; triggers = refl; starts = refl; decides = refl }
-silent h (Feedback feedback) r ne = record { acts = λ j. off_place (action_of h (Feedback feedback)) r j ne; pauses = refl; resumes = refl; triggers = refl; starts = refl; decides = refl }
-silent h (CancelFeedback feedback) r ne = record { acts = λ j. off_place (action_of h (CancelFeedback feedback)) r j ne; pauses = refl; resumes = refl; triggers = refl; starts = refl; decides = refl }
+silent h (Cancel t k force) r ne = record {
+  acts = λ j. off_place (action_of h (Cancel t k force)) r j ne;
+  pauses = refl;
+  resumes = refl;
+  triggers = refl;
+  starts = refl;
+  decides = refl;
+}
+silent h (Feedback feedback) r ne = record {
+  acts = λ j. off_place (action_of h (Feedback feedback)) r j ne;
+  pauses = refl;
+  resumes = refl;
+  triggers = refl;
+  starts = refl;
+  decides = refl;
+}
+silent h (CancelFeedback feedback) r ne = record {
+  acts = λ j. off_place (action_of h (CancelFeedback feedback)) r j ne;
+  pauses = refl;
+  resumes = refl;
+  triggers = refl;
+  starts = refl;
+  decides = refl;
+}
 silent h _ r ne = record { acts = λ j. refl; pauses = refl; resumes = refl; triggers = refl; starts = refl; decides = refl }
 
 calm_elsewhere : (h : CommandList) (c : Command) (r : ℕ) → IsSilent r h c → IsCalm r h c
-calm_elsewhere h c r s = record { outcomes = λ j. untouched h c r j (s.acts j); pauses = s.pauses; resumes = s.resumes; triggers = s.triggers; starts = s.starts }
+calm_elsewhere h c r s = record {
+  outcomes = λ j. untouched h c r j (s.acts j);
+  pauses = s.pauses;
+  resumes = s.resumes;
+  triggers = s.triggers;
+  starts =
+      s.starts;
+}
 
 pub others_stay : OthersStay
 others_stay h c r x v d ne =

@@ -1,12 +1,17 @@
 -- Where the counts of a group add up to its size, each member has an outcome.
-use Rattle.rollout_machine.proofs.Common.{◌≡◌, ℕ, zero, suc, ◌+◌, ◌≤◌, ◌<◌, Bool, true, false, cond, refl, sym, ◌∙◌, ap, arith, Option, Some, None, inl, inr, is_some, outcome, Good, Gone, Bad, Outcome, tally, is_outcome, IsInGroup, FinalIsAll, count_from, group_in, first_of, size_in, all_final, cases_eq, eq-eqb, eqb-true}
+use Rattle.rollout_machine.proofs.Common.{◌≡◌, ℕ, zero, suc, ◌+◌, ◌≤◌, ◌<◌, Bool, true, false, cond, refl, sym, ◌∙◌, ap, arith, Option, Some, None, inl, inr}
+use Rattle.rollout_machine.proofs.Common.{is_some, outcome, Good, Gone, Bad, Outcome, tally, is_outcome, IsInGroup, FinalIsAll, count_from, group_in, first_of}
+use Rattle.rollout_machine.proofs.Common.{size_in, all_final, cases_eq, eq-eqb, eqb-true}
 use Rattle.rollout_machine.proofs.Counts.{count_few}
 
-sum_of : (T : ℕ → Option Outcome) (a n : ℕ) → count_from (λ j. is_outcome Good (T j)) a n + count_from (λ j. is_outcome Bad (T j)) a n + count_from (λ j. is_outcome Gone (T j)) a n ≡ count_from (λ j. is_some (T j)) a n
+sum_of : (T : ℕ → Option Outcome) (a n : ℕ) → count_from (λ j. is_outcome Good (T j)) a n + count_from (λ j. is_outcome Bad (T j)) a n
+    + count_from (λ j. is_outcome Gone (T j)) a n ≡ count_from (λ j. is_some (T j)) a n
 sum_of T a zero = refl
-sum_of T a (suc n) = go (count_from (λ j. is_outcome Good (T j)) a n) (count_from (λ j. is_outcome Bad (T j)) a n) (count_from (λ j. is_outcome Gone (T j)) a n) (count_from (λ j. is_some (T j)) a n) (T (a + n)) (sum_of T a n)
+sum_of T a (suc n) = go (count_from (λ j. is_outcome Good (T j)) a n) (count_from (λ j. is_outcome Bad (T j)) a n) (count_from (λ j. is_outcome Gone (T j)) a n)
+    (count_from (λ j. is_some (T j)) a n) (T (a + n)) (sum_of T a n)
   where
-    go : (g b x s : ℕ) (o : Option Outcome) → g + b + x ≡ s → (g + cond (is_outcome Good o) 1 0) + (b + cond (is_outcome Bad o) 1 0) + (x + cond (is_outcome Gone o) 1 0) ≡ s + cond (is_some o) 1 0
+    go : (g b x s : ℕ) (o : Option Outcome) → g + b + x ≡ s → (g + cond (is_outcome Good o) 1 0) + (b + cond (is_outcome Bad o) 1 0)
+        + (x + cond (is_outcome Gone o) 1 0) ≡ s + cond (is_some o) 1 0
     go g b x s None e = omega (arith, e)
     go g b x s (Some Good) e = omega (arith, e)
     go g b x s (Some Bad) e = omega (arith, e)
@@ -16,7 +21,8 @@ full_to : (p : ℕ → Bool) (a n : ℕ) → count_from p a n ≡ n → (j : ℕ
 full_to p a zero e j l u = absurd (omega (arith, l, u))
 full_to p a (suc n) e j l u = go (p (a + n)) refl (count_from p a n) refl e (count_few p a n) (λ f. full_to p a n f j l)
   where
-    go : (b : Bool) → p (a + n) ≡ b → (k : ℕ) → count_from p a n ≡ k → k + cond b 1 0 ≡ suc n → count_from p a n ≤ n → (count_from p a n ≡ n → j < a + n → p j ≡ true) → p j ≡ true
+    go : (b : Bool) → p (a + n) ≡ b → (k : ℕ) → count_from p a n ≡ k → k + cond b 1 0 ≡ suc n → count_from p a n ≤ n
+        → (count_from p a n ≡ n → j < a + n → p j ≡ true) → p j ≡ true
     go false d k c f m ih = absurd (omega (arith, f, m, c))
     go true d k c f m ih = elim (cases_eq j (a + n)) [
       | inl same ↦ ap p same ∙ d

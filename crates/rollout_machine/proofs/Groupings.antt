@@ -1,5 +1,8 @@
 -- A grouping that leaves no group empty is a cut, and each group has thresholds.
-use Rattle.rollout_machine.proofs.Common.{◌≡◌, ◌≤◌, ℕ, zero, suc, true, false, List, [], ◌∷◌, ◌++◌, length, slice_get, Option, Some, None, refl, sym, ap, subst, ◌∙◌, is_some, AllByRecursion, list_all, and_parts, eqb-true, false≢true, leb-true, ltb-false, length-map, is_plan, RolloutPlan, GroupDefinition, GroupingCovers, last_defined, percentages, some_empty, IsCut, LeavesNoneEmpty, first_empty, split_last}
+use Rattle.rollout_machine.proofs.Common.{◌≡◌, ◌≤◌, ℕ, zero, suc, true, false, List, [], ◌∷◌, ◌++◌, length, slice_get, Option, Some, None, refl, sym, ap}
+use Rattle.rollout_machine.proofs.Common.{subst, ◌∙◌, is_some, AllByRecursion, list_all, and_parts, eqb-true, false≢true, leb-true, ltb-false, length-map}
+use Rattle.rollout_machine.proofs.Common.{is_plan, RolloutPlan, GroupDefinition, GroupingCovers, last_defined, percentages, some_empty, IsCut, LeavesNoneEmpty}
+use Rattle.rollout_machine.proofs.Common.{first_empty, split_last}
 use Rattle.rollout_model.specs.Groupings.{define_each, definition_numbered, ends_whole, is_definition}
 use Rattle.rollout_model.specs.Limits.{percentage_limit}
 use Rattle.rollout_model.specs.PlanRules.{rule_by}
@@ -32,13 +35,15 @@ are_whole (d ∷ next ∷ more) all e =
     }
 
 whole_is_cut : (ps : List ℕ) (m : ℕ) → AreWhole ps → LeavesNoneEmpty m ps → IsCut (split_last m ps) m (length ps)
-whole_is_cut ps m w some = subst (λ qs. IsCut (split_last m qs) m (length qs)) (sym w.are) (split_is_cut m w.before w.some (subst (LeavesNoneEmpty m) w.are some))
+whole_is_cut ps m w some = subst (λ qs. IsCut (split_last m qs) m (length qs)) (sym w.are)
+    (split_is_cut m w.before w.some (subst (LeavesNoneEmpty m) w.are some))
 
 no_first : (o : Option ℕ) → is_some o ≡ false → o ≡ None
 no_first None e = refl
 no_first (Some i) e = absurd (false≢true (sym e))
 
-defined_is_cut : (ds : List GroupDefinition) (count m : ℕ) → is_group_count count ≡ true → define_each ds count ≡ true → some_empty ds count m ≡ false → IsCut (last_defined ds count m) m count
+defined_is_cut : (ds : List GroupDefinition) (count m : ℕ) → is_group_count count ≡ true → define_each ds count ≡ true → some_empty ds count m ≡ false
+    → IsCut (last_defined ds count m) m count
 defined_is_cut [] count m some each none = even_is_cut m count (leb-true _ _ (and_parts _ _ some).0) (ltb-false _ _ none)
 defined_is_cut (d ∷ ds) count m some each none =
     let parts = and_parts _ _ each in
@@ -58,7 +63,8 @@ each_is [] i d all at = absurd cc
 each_is (e ∷ ds) zero d all at = let same : e ≡ d = cc in subst (λ f. is_definition f ≡ true) same (and_parts _ _ all).0
 each_is (e ∷ ds) (suc i) d all at = each_is ds i d (and_parts _ _ all).1 at
 
-numbered_is : (ds : List GroupDefinition) (count i : ℕ) (d : GroupDefinition) → define_each ds count ≡ true → definition_numbered ds i ≡ Some d → is_definition d ≡ true
+numbered_is : (ds : List GroupDefinition) (count i : ℕ) (d : GroupDefinition) → define_each ds count ≡ true → definition_numbered ds i ≡ Some d
+    → is_definition d ≡ true
 numbered_is ds count zero d each at = absurd cc
 numbered_is [] count (suc i) d each at = absurd cc
 numbered_is (e ∷ ds) count (suc i) d each at = each_is (e ∷ ds) i d (and_parts _ _ (and_parts _ _ (and_parts _ _ each).0).1).0 at
@@ -72,11 +78,14 @@ thresholds : (success error : ℕ) → is_percentage success ≡ true → is_per
 thresholds success error s e = record { success = least 1 percentage_limit success s; error = least 1 percentage_limit error e }
 
 -- what holds of the rollout's own thresholds, and of each definition that keeps its rules, holds of what is said of each group
-pub each_rule : (P : GroupRule → Type 0) (plan : RolloutPlan) (i : ℕ) → is_plan plan ≡ true → (is_percentage plan.success ≡ true → is_percentage plan.error ≡ true → P (rule_by None plan)) → ((d : GroupDefinition) → is_definition d ≡ true → P (rule_by (Some d) plan)) → P (rule_at plan i)
+pub each_rule : (P : GroupRule → Type 0) (plan : RolloutPlan) (i : ℕ) → is_plan plan ≡ true
+    → (is_percentage plan.success ≡ true → is_percentage plan.error ≡ true → P (rule_by None plan))
+    → ((d : GroupDefinition) → is_definition d ≡ true → P (rule_by (Some d) plan)) → P (rule_at plan i)
 each_rule P plan i formed even defined =
     let parts = and_parts _ _ formed in
     let more = and_parts _ _ parts.1 in
-    go (definition_numbered plan.groups.definitions i) (even more.0 (and_parts _ _ more.1).0) (λ d at. defined d (numbered_is plan.groups.definitions plan.groups.count i d (and_parts _ _ parts.0).1 at))
+    go (definition_numbered plan.groups.definitions i) (even more.0 (and_parts _ _ more.1).0)
+    (λ d at. defined d (numbered_is plan.groups.definitions plan.groups.count i d (and_parts _ _ parts.0).1 at))
   where
     go : (o : Option GroupDefinition) → P (rule_by None plan) → ((d : GroupDefinition) → o ≡ Some d → P (rule_by (Some d) plan)) → P (rule_by o plan)
     go None own each = own

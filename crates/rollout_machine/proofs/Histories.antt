@@ -1,5 +1,7 @@
 -- The outcome of an action fits its history.
-use Rattle.rollout_machine.proofs.Common.{◌≡◌, ℕ, Bool, true, false, cond, ◌&&◌, List, [], ◌∷◌, ◌++◌, refl, sym, ◌∙◌, ap, subst, inl, inr, Option, Some, None, is_none, option_or, history, is_heard, outcome, outcome_given, outcome_said, cancel_stands, CommandList, Make, ◌▸◌, Command, Cancel, CancelFeedback, Feedback, Outcome, Gone, HistoryEntry, Reported, entries_in, reported_by}
+use Rattle.rollout_machine.proofs.Common.{◌≡◌, ℕ, Bool, true, false, cond, ◌&&◌, List, [], ◌∷◌, ◌++◌, refl, sym, ◌∙◌, ap, subst, inl, inr, Option, Some, None}
+use Rattle.rollout_machine.proofs.Common.{is_none, option_or, history, is_heard, outcome, outcome_given, outcome_said, cancel_stands, CommandList, Make, ◌▸◌}
+use Rattle.rollout_machine.proofs.Common.{Command, Cancel, CancelFeedback, Feedback, Outcome, Gone, HistoryEntry, Reported, entries_in, reported_by}
 use Rattle.rollout_machine.specs.Histories.{first_outcome, FitsHistory, OutcomesFitHistories}
 use Rattle.rollout_machine.proofs.Actions.{append_none, entries_both}
 use Rattle.rollout_machine.proofs.AtNumbers.{has_place}
@@ -10,7 +12,8 @@ first_behind : (es fs : List HistoryEntry) → first_outcome es ≡ None → fir
 first_behind [] fs none = refl
 first_behind (e ∷ es) fs none = go (outcome_said e.said) none (first_behind es fs)
   where
-    go : (o : Option Outcome) → option_or o (first_outcome es) ≡ None → (first_outcome es ≡ None → first_outcome (es ++ fs) ≡ first_outcome fs) → option_or o (first_outcome (es ++ fs)) ≡ first_outcome fs
+    go : (o : Option Outcome) → option_or o (first_outcome es) ≡ None → (first_outcome es ≡ None → first_outcome (es ++ fs) ≡ first_outcome fs)
+        → option_or o (first_outcome (es ++ fs)) ≡ first_outcome fs
     go None d ih = ih d
     go (Some x) d ih = cc
 
@@ -38,11 +41,13 @@ open_gives_none es v = go (first_outcome es) refl
     go (Some said) e = let never : None ≡ Some said = v.given said e in cc
 
 -- one more command: on a closed action, or not on the action, or on an open one
-fits_after : (o given : Option Outcome) (es fs : List HistoryEntry) (on : Bool) → FitsHistory o es → FitsHistory given fs → FitsHistory (option_or o (cond on given None)) (es ++ cond (on && is_none o) fs [])
+fits_after : (o given : Option Outcome) (es fs : List HistoryEntry) (on : Bool) → FitsHistory o es → FitsHistory given fs
+    → FitsHistory (option_or o (cond on given None)) (es ++ cond (on && is_none o) fs [])
 fits_after (Some x) given es fs true v w = rw append_none v
 fits_after (Some x) given es fs false v w = rw append_none v
 fits_after None given es fs false v w = rw append_none v
-fits_after None given es fs true v w = let same = first_behind es fs (open_gives_none es v) in record { given = λ said e. w.given said (sym same ∙ e); not_given = λ none. w.not_given (sym same ∙ none) }
+fits_after None given es fs true v w = let same = first_behind es fs (open_gives_none es v) in
+    record { given = λ said e. w.given said (sym same ∙ e); not_given = λ none. w.not_given (sym same ∙ none) }
 
 entries_if : (b : Bool) (reports : List Reported) → entries_in (cond b reports []) ≡ cond b (entries_in reports) []
 entries_if true reports = refl
@@ -51,8 +56,10 @@ entries_if false reports = refl
 fits : (h : CommandList) (r j : ℕ) → FitsHistory (outcome h r j) (entries_in (history h r j))
 fits (Make approval) r j = given_fits None [] refl
 fits (h ▸ c) r j =
-    let entries = entries_both (history h r j) _ ∙ ap (λ es. entries_in (history h r j) ++ es) (entries_if (is_heard h c r j && is_none (outcome h r j)) (reported_by c)) in
-    subst (FitsHistory (outcome (h ▸ c) r j)) (sym entries) (fits_after (outcome h r j) _ (entries_in (history h r j)) (entries_in (reported_by c)) (is_heard h c r j) (fits h r j)
+    let entries = entries_both (history h r j) _
+    ∙ ap (λ es. entries_in (history h r j) ++ es) (entries_if (is_heard h c r j && is_none (outcome h r j)) (reported_by c)) in
+    subst (FitsHistory (outcome (h ▸ c) r j)) (sym entries)
+    (fits_after (outcome h r j) _ (entries_in (history h r j)) (entries_in (reported_by c)) (is_heard h c r j) (fits h r j)
     (entries_fit c (is_none (outcome h r j) && cancel_stands h r j)))
 
 pub outcomes_fit_histories : OutcomesFitHistories

@@ -1,5 +1,11 @@
 -- The targets' records after an import.
-use Rattle.rollout_machine.proofs.Common.{◌≡◌, ◌<◌, ℕ, Bool, true, false, cond, ◌||◌, ◌&&◌, List, [], ◌∷◌, refl, sym, ◌∙◌, ap, subst, Option, Some, None, inl, inr, ◌⊎◌, arith, action_places, sorted_words, bytes_below, same_bytes, with_words, contains_word, with_word, Make, ◌▸◌, CommandList, Bytes, Credential, TargetRow, Command, PutTargets, PutAttributes, put_target, step_records, new_target, put_targets, rollouts_in, action_in, needs_approval, modules, artifacts, sets, rollouts, attributes_in, tags_by_row, last_row_for, target_in, import_rows_of, with_attributes, Target, target_ids, last_row_of, tags_in, IsValid, verdict_row, verdict, list_any, option_or, unwrap_or, and_parts, or_parts, eqb-true, eq-eqb, ltb-true, lt-ltb, false≢true, not-false, cases_Bool, cases_order}
+use Rattle.rollout_machine.proofs.Common.{◌≡◌, ◌<◌, ℕ, Bool, true, false, cond, ◌||◌, ◌&&◌, List, [], ◌∷◌, refl, sym, ◌∙◌, ap, subst, Option, Some, None, inl}
+use Rattle.rollout_machine.proofs.Common.{inr, ◌⊎◌, arith, action_places, sorted_words, bytes_below, same_bytes, with_words, contains_word, with_word, Make}
+use Rattle.rollout_machine.proofs.Common.{◌▸◌, CommandList, Bytes, Credential, TargetRow, Command, PutTargets, PutAttributes, put_target, step_records}
+use Rattle.rollout_machine.proofs.Common.{new_target, put_targets, rollouts_in, action_in, needs_approval, modules, artifacts, sets, rollouts, attributes_in}
+use Rattle.rollout_machine.proofs.Common.{tags_by_row, last_row_for, target_in, import_rows_of, with_attributes, Target, target_ids, last_row_of, tags_in}
+use Rattle.rollout_machine.proofs.Common.{IsValid, verdict_row, verdict, list_any, option_or, unwrap_or, and_parts, or_parts, eqb-true, eq-eqb, ltb-true}
+use Rattle.rollout_machine.proofs.Common.{lt-ltb, false≢true, not-false, cases_Bool, cases_order}
 use Rattle.rollout_machine.specs.Records.{records}
 use Rattle.std.specs.Prelude.{map, nat_eq, nat_lt, ⊤}
 use Rattle.rollout_machine.proofs.EffectLaws.{calm_outcome}
@@ -71,7 +77,8 @@ below_other (x ∷ a) (y ∷ b) d e = elim (cases_order x y) [
     rest_below false false q j k l = cc
 
 pub below_apart : (a b : Bytes) → bytes_below a b ≡ true → same_bytes a b ≡ false
-below_apart a b e = elim (cases_Bool (same_bytes a b)) [ inr f ↦ f | inl t ↦ absurd (false≢true (sym (not_self b) ∙ subst (λ (c : Bytes). bytes_below c b ≡ true) (same_true a b t) e)) ]
+below_apart a b e = elim (cases_Bool (same_bytes a b))
+    [ inr f ↦ f | inl t ↦ absurd (false≢true (sym (not_self b) ∙ subst (λ (c : Bytes). bytes_below c b ≡ true) (same_true a b t) e)) ]
   where
     not_self : (c : Bytes) → bytes_below c c ≡ false
     not_self [] = refl
@@ -111,7 +118,8 @@ pub sorted_with : (w : Bytes) (vs : List Bytes) → IsSorted vs → IsSorted (wi
 sorted_with w [] a = (tt, tt)
 sorted_with w (v ∷ vs) a = go (same_bytes w v) (bytes_below w v) refl refl (sorted_with w vs a.1)
   where
-    go : (s b : Bool) → same_bytes w v ≡ s → bytes_below w v ≡ b → IsSorted (with_word w vs) → IsSorted (cond s (v ∷ vs) (cond b (w ∷ v ∷ vs) (v ∷ with_word w vs)))
+    go : (s b : Bool) → same_bytes w v ≡ s → bytes_below w v ≡ b → IsSorted (with_word w vs)
+        → IsSorted (cond s (v ∷ vs) (cond b (w ∷ v ∷ vs) (v ∷ with_word w vs)))
     go true b d e ih = a
     go false true d e ih = ((e, above_more w v vs e a.0), a)
     go false false d e ih = (above_with v w vs (below_other w v d e) a.0, ih)
@@ -133,7 +141,8 @@ pub with_there : (w : Bytes) (vs : List Bytes) → IsSorted vs → contains_word
 with_there w [] s e = cc
 with_there w (v ∷ vs) s e = go (same_bytes w v) (bytes_below w v) refl refl e (with_there w vs s.1)
   where
-    go : (a b : Bool) → same_bytes w v ≡ a → bytes_below w v ≡ b → (a || contains_word w vs) ≡ true → (contains_word w vs ≡ true → with_word w vs ≡ vs) → cond a (v ∷ vs) (cond b (w ∷ v ∷ vs) (v ∷ with_word w vs)) ≡ v ∷ vs
+    go : (a b : Bool) → same_bytes w v ≡ a → bytes_below w v ≡ b → (a || contains_word w vs) ≡ true → (contains_word w vs ≡ true → with_word w vs ≡ vs)
+        → cond a (v ∷ vs) (cond b (w ∷ v ∷ vs) (v ∷ with_word w vs)) ≡ v ∷ vs
     go true b d k e ih = refl
     go false true d k e ih = absurd (false≢true (sym (not_above w vs (above_more w v vs k s.0)) ∙ e))
     go false false d k e ih = ap (λ xs. v ∷ xs) (ih e)
@@ -189,22 +198,30 @@ two x y xs ys e d = rw (e, d) refl
 apart_both : (w t : Bytes) (ts : List Bytes) → same_bytes w t ≡ false → contains_word w ts ≡ false → contains_word w (t ∷ ts) ≡ false
 apart_both w t ts d n = rw (d, n) refl
 
-put_one : (row : TargetRow) (f : Bytes → Target) (ids : List Bytes) → KeepsIds f → IsSorted ids → (contains_word row.id ids ≡ false → (f row.id).attributes ≡ []) → put_target row (map f ids) ≡ map (after_row row f) (with_word row.id ids)
-put_one row f [] k s m = ap (λ (x : Target). x ∷ []) (new_is row (f row.id) (k row.id) (m refl) ∙ sym (ap (λ b. by_row (cond b (Some row) None) (f row.id)) (same_refl row.id)))
-put_one row f (t ∷ ts) k s m = subst P (sym (k t)) (go (same_bytes row.id t) (bytes_below row.id t) refl refl (λ d. put_one row f ts k s.1 (λ n. m (apart_both row.id t ts d n))))
+put_one : (row : TargetRow) (f : Bytes → Target) (ids : List Bytes) → KeepsIds f → IsSorted ids
+    → (contains_word row.id ids ≡ false → (f row.id).attributes ≡ []) → put_target row (map f ids) ≡ map (after_row row f) (with_word row.id ids)
+put_one row f [] k s m = ap (λ (x : Target). x ∷ [])
+    (new_is row (f row.id) (k row.id) (m refl) ∙ sym (ap (λ b. by_row (cond b (Some row) None) (f row.id)) (same_refl row.id)))
+put_one row f (t ∷ ts) k s m =
+    subst P (sym (k t)) (go (same_bytes row.id t) (bytes_below row.id t) refl refl (λ d. put_one row f ts k s.1 (λ n. m (apart_both row.id t ts d n))))
   where
     P : Bytes → Type 0
-    P i = cond (same_bytes row.id i) (record (new_target row) { attributes = (f t).attributes } ∷ map f ts) (cond (bytes_below row.id i) (new_target row ∷ f t ∷ map f ts) (f t ∷ put_target row (map f ts))) ≡ map (after_row row f) (with_word row.id (t ∷ ts))
+    P i = cond (same_bytes row.id i) (record (new_target row) { attributes = (f t).attributes } ∷ map f ts)
+        (cond (bytes_below row.id i) (new_target row ∷ f t ∷ map f ts) (f t ∷ put_target row (map f ts))) ≡ map (after_row row f) (with_word row.id (t ∷ ts))
 
-    go : (a b : Bool) → same_bytes row.id t ≡ a → bytes_below row.id t ≡ b → (same_bytes row.id t ≡ false → put_target row (map f ts) ≡ map (after_row row f) (with_word row.id ts))
-        → cond a (record (new_target row) { attributes = (f t).attributes } ∷ map f ts) (cond b (new_target row ∷ f t ∷ map f ts) (f t ∷ put_target row (map f ts))) ≡ map (after_row row f) (cond a (t ∷ ts) (cond b (row.id ∷ t ∷ ts) (t ∷ with_word row.id ts)))
+    go : (a b : Bool) → same_bytes row.id t ≡ a → bytes_below row.id t ≡ b
+        → (same_bytes row.id t ≡ false → put_target row (map f ts) ≡ map (after_row row f) (with_word row.id ts))
+        → cond a (record (new_target row) { attributes = (f t).attributes } ∷ map f ts)
+        (cond b (new_target row ∷ f t ∷ map f ts) (f t ∷ put_target row (map f ts)))
+        ≡ map (after_row row f) (cond a (t ∷ ts) (cond b (row.id ∷ t ∷ ts) (t ∷ with_word row.id ts)))
     go true b d e ih =
         let here : row.id ≡ t = same_true row.id t d in
         let off : contains_word row.id ts ≡ false = ap (λ i. contains_word i ts) here ∙ not_above t ts s.0 in
         two _ _ _ _ (old_is row (f t) (k t ∙ sym here) ∙ sym (ap (λ v. by_row (cond v (Some row) None) (f t)) d)) (others_same row f ts off)
     go false true d e ih =
         let off : contains_word row.id ts ≡ false = not_above row.id ts (above_more row.id t ts e s.0) in
-        two _ _ _ _ (new_is row (f row.id) (k row.id) (m (apart_both row.id t ts d off)) ∙ sym (ap (λ v. by_row (cond v (Some row) None) (f row.id)) (same_refl row.id))) (others_same row f (t ∷ ts) (apart_both row.id t ts d off))
+        two _ _ _ _ (new_is row (f row.id) (k row.id) (m (apart_both row.id t ts d off))
+        ∙ sym (ap (λ v. by_row (cond v (Some row) None) (f row.id)) (same_refl row.id))) (others_same row f (t ∷ ts) (apart_both row.id t ts d off))
     go false false d e ih = two _ _ _ _ (sym (ap (λ v. by_row (cond v (Some row) None) (f t)) d)) (ih d)
 
 -- ---- all rows
@@ -213,7 +230,8 @@ abbrev pub after_rows : List TargetRow → (Bytes → Target) → Bytes → Targ
 after_rows [] f = f
 after_rows (row ∷ rows) f = after_rows rows (after_row row f)
 
-put_all : (rows : List TargetRow) (f : Bytes → Target) (ids : List Bytes) → KeepsIds f → IsSorted ids → MissingAreBare f ids → put_targets rows (map f ids) ≡ map (after_rows rows f) (with_words (map (λ (row : TargetRow). row.id) rows) ids)
+put_all : (rows : List TargetRow) (f : Bytes → Target) (ids : List Bytes) → KeepsIds f → IsSorted ids → MissingAreBare f ids → put_targets rows (map f ids)
+    ≡ map (after_rows rows f) (with_words (map (λ (row : TargetRow). row.id) rows) ids)
 put_all [] f ids k s m = refl
 put_all (row ∷ rows) f ids k s m =
     ap (put_targets rows) (put_one row f ids k s (m row.id))
@@ -247,7 +265,9 @@ pub never_with : (t : Bytes) (ws vs : List Bytes) → contains_word t (with_word
 never_with t [] vs e = e
 never_with t (w ∷ ws) vs e = (or_parts _ _ (sym (has_with t w vs) ∙ never_with t ws (with_word w vs) e)).1
 
-known_there : (h : CommandList) (device : Credential) (ids : List Bytes) → list_any (λ (x : Target). same_bytes x.id device.id && same_bytes x.digest device.digest) (map (target_in h) ids) ≡ true → contains_word device.id ids ≡ true
+known_there : (h : CommandList) (device : Credential) (ids : List Bytes)
+    → list_any (λ (x : Target). same_bytes x.id device.id && same_bytes x.digest device.digest) (map (target_in h) ids) ≡ true → contains_word device.id ids
+    ≡ true
 known_there h device [] e = cc
 known_there h device (t ∷ ts) e = go (split _ _ e) (known_there h device ts)
   where
@@ -259,8 +279,10 @@ known_there h device (t ∷ ts) e = go (split _ _ e) (known_there h device ts)
     either true q k = refl
     either false q k = k
 
-    go : ((same_bytes t device.id && same_bytes (target_in h t).digest device.digest) ≡ true) ⊎ (list_any (λ (x : Target). same_bytes x.id device.id && same_bytes x.digest device.digest) (map (target_in h) ts) ≡ true)
-        → (list_any (λ (x : Target). same_bytes x.id device.id && same_bytes x.digest device.digest) (map (target_in h) ts) ≡ true → contains_word device.id ts ≡ true) → contains_word device.id (t ∷ ts) ≡ true
+    go : ((same_bytes t device.id && same_bytes (target_in h t).digest device.digest) ≡ true)
+        ⊎ (list_any (λ (x : Target). same_bytes x.id device.id && same_bytes x.digest device.digest) (map (target_in h) ts) ≡ true)
+        → (list_any (λ (x : Target). same_bytes x.id device.id && same_bytes x.digest device.digest) (map (target_in h) ts) ≡ true → contains_word device.id ts
+        ≡ true) → contains_word device.id (t ∷ ts) ≡ true
     go (inl p) ih = let parts : _ = and_parts _ _ p in let same : t ≡ device.id = same_true t device.id parts.0 in rw same (rw (same_refl device.id) refl)
     go (inr p) ih = either _ _ (ih p)
 
@@ -280,12 +302,15 @@ no_attributes (h ▸ _) v t e = no_attributes h v.0 t e
 
 -- ---- the whole records
 
-pub import_is_step : (h : CommandList) (rows : List TargetRow) → IsValid h → verdict h (PutTargets rows) ≡ None → records (h ▸ PutTargets rows) ≡ step_records (records h) (PutTargets rows)
+pub import_is_step : (h : CommandList) (rows : List TargetRow) → IsValid h → verdict h (PutTargets rows) ≡ None → records (h ▸ PutTargets rows)
+    ≡ step_records (records h) (PutTargets rows)
 unfolding records
 import_is_step h rows v e =
     let c : Command = PutTargets rows in
     same_records (needs_approval h) _ _ _ _ _ _ _ _ _ _ _ _ (append_none (modules h)) (append_none (artifacts h)) (append_none (sets h))
     (map_same (target_in (h ▸ c)) (after_rows rows (target_in h)) (λ t. sym (imported_is h rows t)) (target_ids (h ▸ c))
     ∙ sym (put_all rows (target_in h) (target_ids h) (λ t. refl) (sorted_ids h) (no_attributes h v)))
-    (ap (rollouts_in (h ▸ c) 1) (append_none (rollouts h)) ∙ calm_everywhere h c (accepted h c v e) (λ r. record { outcomes = λ j. calm_outcome h c r j refl; pauses = refl; resumes = refl; triggers = refl; starts = refl }) (λ r. refl))
+    (ap (rollouts_in (h ▸ c) 1) (append_none (rollouts h))
+    ∙ calm_everywhere h c (accepted h c v e)
+    (λ r. record { outcomes = λ j. calm_outcome h c r j refl; pauses = refl; resumes = refl; triggers = refl; starts = refl }) (λ r. refl))
     (ap (map (action_in (h ▸ c))) (append_none (action_places h)) ∙ calm_actions h c refl (action_places h))

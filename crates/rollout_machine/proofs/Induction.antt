@@ -1,14 +1,26 @@
 -- What holds of every history of accepted commands.
-use Rattle.rollout_machine.proofs.Common.{◌≡◌, ℕ, zero, suc, ◌+◌, ◌<◌, ◌≤◌, Bool, true, false, cond, ◌||◌, ◌&&◌, not, List, [], ◌∷◌, ◌++◌, refl, sym, ◌∙◌, ap, subst, arith, inl, inr, ◌⊎◌, Option, Some, None, length, nat_lt, nat_eq, is_none, slice_get, and-false, or-true, unwrap_or, option_map, cases_Bool, ne_eqb, eq-eqb, and_parts, leb-true, eqb-true, false≢true, or_parts, not-false, ActionPlace, action_of, is_on_action, is_action_place, action_places, action_place, new_places, places_of, places_from, item_numbered, CommandList, Make, ◌▸◌, IsWellFormed, DeviceFeedback, DeploymentWord, CancelWord, Command, AddModule, AddArtifact, AddSet, PutTargets, Tag, Untag, PutAttributes, CreateRollout, Cancel, Feedback, CancelFeedback, Resume, TriggerNext, Pause, Start, Approve, Deny, Bytes, RolloutPlan, ModuleLabel, HasSoundPlan, StartedOnly, is_group_started, next_started, is_rollout_started, is_start_of, is_pause_of, is_resume_of, is_paused, error_begins_at, some_up_to, step_records, decided, decision_on, rollouts_in, rollout_in, approval_of, Approval, Waiting, Denied, Given, Rollout, rollouts, rollout_at, created, size_of, members_of, word_from, rollout_word, is_finished, RolloutWord, IsValid, verdict, verdict_row, is_running, is_at_pause, is_ready, word_is}
+use Rattle.rollout_machine.proofs.Common.{◌≡◌, ℕ, zero, suc, ◌+◌, ◌<◌, ◌≤◌, Bool, true, false, cond, ◌||◌, ◌&&◌, not, List, [], ◌∷◌, ◌++◌, refl, sym, ◌∙◌, ap}
+use Rattle.rollout_machine.proofs.Common.{subst, arith, inl, inr, ◌⊎◌, Option, Some, None, length, nat_lt, nat_eq, is_none, slice_get, and-false, or-true}
+use Rattle.rollout_machine.proofs.Common.{unwrap_or, option_map, cases_Bool, ne_eqb, eq-eqb, and_parts, leb-true, eqb-true, false≢true, or_parts, not-false}
+use Rattle.rollout_machine.proofs.Common.{ActionPlace, action_of, is_on_action, is_action_place, action_places, action_place, new_places, places_of}
+use Rattle.rollout_machine.proofs.Common.{places_from, item_numbered, CommandList, Make, ◌▸◌, IsWellFormed, DeviceFeedback, DeploymentWord, CancelWord}
+use Rattle.rollout_machine.proofs.Common.{Command, AddModule, AddArtifact, AddSet, PutTargets, Tag, Untag, PutAttributes, CreateRollout, Cancel, Feedback}
+use Rattle.rollout_machine.proofs.Common.{CancelFeedback, Resume, TriggerNext, Pause, Start, Approve, Deny, Bytes, RolloutPlan, ModuleLabel, HasSoundPlan}
+use Rattle.rollout_machine.proofs.Common.{StartedOnly, is_group_started, next_started, is_rollout_started, is_start_of, is_pause_of, is_resume_of, is_paused}
+use Rattle.rollout_machine.proofs.Common.{error_begins_at, some_up_to, step_records, decided, decision_on, rollouts_in, rollout_in, approval_of, Approval}
+use Rattle.rollout_machine.proofs.Common.{Waiting, Denied, Given, Rollout, rollouts, rollout_at, created, size_of, members_of, word_from, rollout_word}
+use Rattle.rollout_machine.proofs.Common.{is_finished, RolloutWord, IsValid, verdict, verdict_row, is_running, is_at_pause, is_ready, word_is}
 use Rattle.rollout_machine.specs.Records.{records}
 use Rattle.rollout_machine.proofs.Groupings.{grouping_is_cut, has_thresholds}
 use Rattle.rollout_machine.proofs.Starts.{starts_one_more}
 use Rattle.rollout_machine.proofs.Tallies.{no_error_begins}
 use Rattle.rollout_machine.proofs.Ties.{IsFollowed, follow_on}
 use Rattle.rollout_machine.proofs.Whole.{IsAccepted, IsFresh}
-use Rattle.rollout_machine.proofs.Whole.{IsPlaced, rollout_numbered, feedback_step, cancel_feedback_step, cancel_step, resume_step, trigger_step, pause_step, start_step, module_step}
+use Rattle.rollout_machine.proofs.Whole.{IsPlaced, rollout_numbered, feedback_step, cancel_feedback_step, cancel_step, resume_step, trigger_step, pause_step}
+use Rattle.rollout_machine.proofs.Whole.{start_step, module_step}
 use Rattle.rollout_machine.proofs.EffectLaws.{calm_on}
-use Rattle.rollout_machine.proofs.Valid.{IsPlace, NoneHolds, none_holds, feedback_place, cancel_feedback_place, feedback_started, cancel_feedback_started, cancel_started, cancel_place}
+use Rattle.rollout_machine.proofs.Valid.{IsPlace, NoneHolds, none_holds, feedback_place, cancel_feedback_place, feedback_started, cancel_feedback_started}
+use Rattle.rollout_machine.proofs.Valid.{cancel_started, cancel_place}
 
 -- ---- lists that grow
 
@@ -21,12 +33,14 @@ pub stays_numbered : {X : Type 0} (xs ys : List X) (k : ℕ) (x : X) → item_nu
 stays_numbered xs ys zero x e = cc
 stays_numbered xs ys (suc i) x e = get_front xs ys i x e
 
-get_either : {X : Type 0} (xs ys : List X) (i : ℕ) (x : X) → slice_get (xs ++ ys) i ≡ Some x → (slice_get xs i ≡ Some x) ⊎ ((slice_get xs i ≡ None) × ((j : ℕ) × (slice_get ys j ≡ Some x)))
+get_either : {X : Type 0} (xs ys : List X) (i : ℕ) (x : X) → slice_get (xs ++ ys) i ≡ Some x → (slice_get xs i ≡ Some x)
+    ⊎ ((slice_get xs i ≡ None) × ((j : ℕ) × (slice_get ys j ≡ Some x)))
 get_either [] ys i x e = inr (refl, (i, e))
 get_either (y ∷ xs) ys zero x e = inl e
 get_either (y ∷ xs) ys (suc i) x e = get_either xs ys i x e
 
-pub either_numbered : {X : Type 0} (xs ys : List X) (k : ℕ) (x : X) → item_numbered (xs ++ ys) k ≡ Some x → (item_numbered xs k ≡ Some x) ⊎ ((item_numbered xs k ≡ None) × ((j : ℕ) × (slice_get ys j ≡ Some x)))
+pub either_numbered : {X : Type 0} (xs ys : List X) (k : ℕ) (x : X) → item_numbered (xs ++ ys) k ≡ Some x → (item_numbered xs k ≡ Some x)
+    ⊎ ((item_numbered xs k ≡ None) × ((j : ℕ) × (slice_get ys j ≡ Some x)))
 either_numbered xs ys zero x e = cc
 either_numbered xs ys (suc i) x e = get_either xs ys i x e
 
@@ -54,7 +68,8 @@ pub record IsAdmitted (h : CommandList) (c : Command) : Type 0 where
   pub pauses : (r : ℕ) → is_pause_of r c ≡ true → (x : Rollout) × (rollout_at h r ≡ Some x)
   pub decides : (r : ℕ) (b : Bool) → decision_on r c ≡ Some b → (x : Rollout) × (rollout_at h r ≡ Some x)
 
-never_next : (x : Rollout) (r i : ℕ) (earlier : CommandList → Bool) → ((h : CommandList) → is_rollout_started r h ≡ false → earlier h ≡ false) → (h : CommandList) → is_rollout_started r h ≡ false → next_started x r i earlier h ≡ false
+never_next : (x : Rollout) (r i : ℕ) (earlier : CommandList → Bool) → ((h : CommandList) → is_rollout_started r h ≡ false → earlier h ≡ false)
+    → (h : CommandList) → is_rollout_started r h ≡ false → next_started x r i earlier h ≡ false
 never_next x r i earlier w (Make approval) e = refl
 never_next x r i earlier w (h ▸ c) e =
     let before : next_started x r i earlier h ≡ false = never_next x r i earlier w h (or_parts _ _ e).0 in
@@ -66,7 +81,8 @@ pub never_started : (x : Rollout) (r i : ℕ) (h : CommandList) → is_rollout_s
 never_started x r zero h e = refl
 never_started x r (suc zero) h e = e
 never_started x r (suc (suc i)) h e =
-    let none : next_started x r (suc i) (is_group_started x r (suc i)) h ≡ false = never_next x r (suc i) (is_group_started x r (suc i)) (λ g d. never_started x r (suc i) g d) h e in
+    let none : next_started x r (suc i) (is_group_started x r (suc i)) h ≡ false =
+    never_next x r (suc i) (is_group_started x r (suc i)) (λ g d. never_started x r (suc i) g d) h e in
     rw none (and-false (nat_lt (suc i) x.plan.groups.count))
 
 before_start : (x : Rollout) (r : ℕ) (h : CommandList) → HasSoundPlan x → is_rollout_started r h ≡ false → IsFresh r h → IsFollowed x r h 0
@@ -139,7 +155,8 @@ in_range r a (suc n) zero p e =
     let er : p.rollout ≡ r = sym (ap (λ o. unwrap_or (option_map (λ (q : ActionPlace). q.rollout) o) r) e) in
     let ej : p.position ≡ a = sym (ap (λ o. unwrap_or (option_map (λ (q : ActionPlace). q.position) o) a) e) in
     (er, omega arith, omega arith)
-in_range r a (suc n) (suc j) p e = let t : (p.rollout ≡ r) × (suc a ≤ p.position) × (p.position < suc a + n) = in_range r (suc a) n j p e in (t.0, omega (arith, t.1), omega (arith, t.2))
+in_range r a (suc n) (suc j) p e = let t : (p.rollout ≡ r) × (suc a ≤ p.position) × (p.position < suc a + n) = in_range r (suc a) n j p e in
+    (t.0, omega (arith, t.1), omega (arith, t.2))
 
 pub record IsNewPlace (h : CommandList) (c : Command) (p : ActionPlace) : Type 0 where
   pub rollout : Rollout
@@ -148,7 +165,8 @@ pub record IsNewPlace (h : CommandList) (c : Command) (p : ActionPlace) : Type 0
   pub low : 1 ≤ p.position
   pub high : p.position ≤ size_of rollout
 
-start_place : (h : CommandList) (r j : ℕ) (p : ActionPlace) (o : Option Rollout) → rollout_at h r ≡ o → slice_get (places_of r o) j ≡ Some p → IsNewPlace h (Start r) p
+start_place : (h : CommandList) (r j : ℕ) (p : ActionPlace) (o : Option Rollout) → rollout_at h r ≡ o → slice_get (places_of r o) j ≡ Some p
+    → IsNewPlace h (Start r) p
 start_place h r j p None d e = cc
 start_place h r j p (Some x) d e =
     let t : (p.rollout ≡ r) × (1 ≤ p.position) × (p.position < 1 + size_of x) = in_range r 1 (size_of x) j p e in
@@ -159,7 +177,13 @@ new_place h (Start r) j p e = start_place h r j p (rollout_at h r) refl e
 new_place h _ j p e = cc
 
 moved_place : (h : CommandList) (c : Command) (p : ActionPlace) → IsPlace h p → IsPlace (h ▸ c) p
-moved_place h c p w = record { rollout = w.rollout; there = stays_numbered (rollouts h) (created h c) p.rollout w.rollout w.there; sound = w.sound; low = w.low; high = w.high }
+moved_place h c p w = record {
+  rollout = w.rollout;
+  there = stays_numbered (rollouts h) (created h c) p.rollout w.rollout w.there;
+  sound = w.sound;
+  low = w.low;
+  high = w.high;
+}
 
 pub goes_on : (h : CommandList) (c : Command) → Invariant h → IsAdmitted h c → Invariant (h ▸ c)
 goes_on h c w a = record {
@@ -191,7 +215,9 @@ goes_on h c w a = record {
         record {
           started = rw (u.started, not_started h c r a none) refl;
           decided = rw (u.decided, not_decided h c r a none) refl;
-          paused = λ x. calm_test (is_pause_of r c) (some_up_to (error_begins_at x r h c) x.plan.groups.count) (is_resume_of r c) (is_paused x r h) (not_paused h c r a none) (no_error_begins x r h c (λ j. (fresh_after h c r w u.started).outcome j ∙ sym ((w.fresh r u.started).outcome j))) (u.paused x);
+          paused = λ x. calm_test (is_pause_of r c) (some_up_to (error_begins_at x r h c) x.plan.groups.count) (is_resume_of r c) (is_paused x r h)
+              (not_paused h c r a none) (no_error_begins x r h c (λ j. (fresh_after h c r w u.started).outcome j ∙ sym ((w.fresh r u.started).outcome j)))
+              (u.paused x);
         }
 
     followed : (r : ℕ) (x : Rollout) → rollout_at (h ▸ c) r ≡ Some x → IsFollowed x r (h ▸ c) (new_last h c r (w.last r) (rollout_at h r))
@@ -314,7 +340,14 @@ decides_in h (Deny q) e r b t =
 decides_in h _ e r b t = cc
 
 pub admitted : (h : CommandList) (c : Command) → Invariant h → IsWellFormed c → verdict h c ≡ None → IsAdmitted h c
-admitted h c w m e = record { started = started_in h c w e; sound = sound_in h c m e; begins = begins_in h c e; pauses = pauses_in h c e; decides = decides_in h c e }
+admitted h c w m e = record {
+  started = started_in h c w e;
+  sound = sound_in h c m e;
+  begins = begins_in h c e;
+  pauses = pauses_in h c e;
+  decides =
+      decides_in h c e;
+}
 
 -- every history of accepted commands
 pub invariant_of : (h : CommandList) → IsValid h → Invariant h
@@ -333,17 +366,20 @@ placed_at h c k w p e =
     let t : IsPlace h p = w.placed k p e in
     record { place = p; rollout = t.rollout; numbered = e; there = t.there; low = t.low; high = t.high }
 
-pub feedback_is_step : (h : CommandList) (feedback : DeviceFeedback DeploymentWord) → IsValid h → verdict h (Feedback feedback) ≡ None → records (h ▸ Feedback feedback) ≡ step_records (records h) (Feedback feedback)
+pub feedback_is_step : (h : CommandList) (feedback : DeviceFeedback DeploymentWord) → IsValid h → verdict h (Feedback feedback) ≡ None
+    → records (h ▸ Feedback feedback) ≡ step_records (records h) (Feedback feedback)
 feedback_is_step h feedback v e =
     let (p, at, started) = feedback_place h feedback e in
     feedback_step h feedback (accepted h (Feedback feedback) v e) (placed_at h (Feedback feedback) feedback.action (invariant_of h v) p at)
 
-pub cancel_feedback_is_step : (h : CommandList) (feedback : DeviceFeedback CancelWord) → IsValid h → verdict h (CancelFeedback feedback) ≡ None → records (h ▸ CancelFeedback feedback) ≡ step_records (records h) (CancelFeedback feedback)
+pub cancel_feedback_is_step : (h : CommandList) (feedback : DeviceFeedback CancelWord) → IsValid h → verdict h (CancelFeedback feedback) ≡ None
+    → records (h ▸ CancelFeedback feedback) ≡ step_records (records h) (CancelFeedback feedback)
 cancel_feedback_is_step h feedback v e =
     let (p, at, started) = cancel_feedback_place h feedback e in
     cancel_feedback_step h feedback (accepted h (CancelFeedback feedback) v e) (placed_at h (CancelFeedback feedback) feedback.action (invariant_of h v) p at)
 
-pub cancel_is_step : (h : CommandList) (t : Bytes) (k : ℕ) (force : Bool) → IsValid h → verdict h (Cancel t k force) ≡ None → records (h ▸ Cancel t k force) ≡ step_records (records h) (Cancel t k force)
+pub cancel_is_step : (h : CommandList) (t : Bytes) (k : ℕ) (force : Bool) → IsValid h → verdict h (Cancel t k force) ≡ None → records (h ▸ Cancel t k force)
+    ≡ step_records (records h) (Cancel t k force)
 cancel_is_step h t k force v e =
     let (p, at, started) = cancel_place h t k force e in
     cancel_step h t k force (accepted h (Cancel t k force) v e) (placed_at h (Cancel t k force) k (invariant_of h v) p at)
@@ -376,7 +412,8 @@ some_started : (x : Rollout) (r l : ℕ) (h : CommandList) → IsFollowed x r h 
 some_started x r zero h f e = absurd (false≢true (sym (f.is_last.beyond 1 (omega arith)) ∙ e))
 some_started x r (suc l) h f e = omega arith
 
-pub word_at : (h : CommandList) (r : ℕ) (test : RolloutWord → Bool) (x : Rollout) → rollout_at h r ≡ Some x → not (word_is test (item_numbered (records h).rollouts r)) ≡ false → test (rollout_word (rollout_in h r x)) ≡ true
+pub word_at : (h : CommandList) (r : ℕ) (test : RolloutWord → Bool) (x : Rollout) → rollout_at h r ≡ Some x
+    → not (word_is test (item_numbered (records h).rollouts r)) ≡ false → test (rollout_word (rollout_in h r x)) ≡ true
 unfolding records
 word_at h r test x d e = sym (ap (word_is test) (rollout_numbered h r x d)) ∙ not-false _ e
 
@@ -385,15 +422,18 @@ resume_is_step h q v e =
     let row : NoneHolds (verdict_row (records h) (Resume q)) = none_holds (verdict_row (records h) (Resume q)) e in
     let (x, d) = found_rollout h q row.0 in
     let w : IsAccepted h (Resume q) = accepted h (Resume q) v e in
-    let b : is_rollout_started q h ≡ true = paused_begun (approval_of q h) (is_rollout_started q h) (is_finished (rollout_in h q x)) (is_paused x q h) (word_at h q is_at_pause x d row.1.0) in
+    let b : is_rollout_started q h ≡ true = paused_begun (approval_of q h) (is_rollout_started q h) (is_finished (rollout_in h q x)) (is_paused x q h)
+    (word_at h q is_at_pause x d row.1.0) in
     resume_step h q x w d (some_started x q (w.last q) h (w.follows q x d) b)
 
-pub trigger_is_step : (h : CommandList) (q : ℕ) → IsValid h → verdict h (TriggerNext q) ≡ None → records (h ▸ TriggerNext q) ≡ step_records (records h) (TriggerNext q)
+pub trigger_is_step : (h : CommandList) (q : ℕ) → IsValid h → verdict h (TriggerNext q) ≡ None → records (h ▸ TriggerNext q)
+    ≡ step_records (records h) (TriggerNext q)
 trigger_is_step h q v e =
     let row : NoneHolds (verdict_row (records h) (TriggerNext q)) = none_holds (verdict_row (records h) (TriggerNext q)) e in
     let (x, d) = found_rollout h q row.0 in
     let w : IsAccepted h (TriggerNext q) = accepted h (TriggerNext q) v e in
-    let b : is_rollout_started q h ≡ true = running_begun (approval_of q h) (is_rollout_started q h) (is_finished (rollout_in h q x)) (is_paused x q h) (word_at h q is_running x d row.1.0) in
+    let b : is_rollout_started q h ≡ true = running_begun (approval_of q h) (is_rollout_started q h) (is_finished (rollout_in h q x)) (is_paused x q h)
+    (word_at h q is_running x d row.1.0) in
     trigger_step h q x w d (some_started x q (w.last q) h (w.follows q x d) b)
 
 pub pause_is_step : (h : CommandList) (q : ℕ) → IsValid h → verdict h (Pause q) ≡ None → records (h ▸ Pause q) ≡ step_records (records h) (Pause q)
@@ -408,8 +448,10 @@ start_is_step h q v e =
     let (x, d) = found_rollout h q row.0 in
     let w : IsAccepted h (Start q) = accepted h (Start q) v e in
     let i : Invariant h = invariant_of h v in
-    let b : is_rollout_started q h ≡ false = ready_not_begun (approval_of q h) (is_rollout_started q h) (is_finished (rollout_in h q x)) (is_paused x q h) (word_at h q is_ready x d row.1.0) in
+    let b : is_rollout_started q h ≡ false = ready_not_begun (approval_of q h) (is_rollout_started q h) (is_finished (rollout_in h q x)) (is_paused x q h)
+    (word_at h q is_ready x d row.1.0) in
     start_step h q x w d (i.fresh q b) (before_start x q h (w.follows q x d).sound b (i.fresh q b))
 
-pub module_is_step : (h : CommandList) (label : ModuleLabel) → IsValid h → verdict h (AddModule label) ≡ None → records (h ▸ AddModule label) ≡ step_records (records h) (AddModule label)
+pub module_is_step : (h : CommandList) (label : ModuleLabel) → IsValid h → verdict h (AddModule label) ≡ None → records (h ▸ AddModule label)
+    ≡ step_records (records h) (AddModule label)
 module_is_step h label v e = module_step h label (accepted h (AddModule label) v e)

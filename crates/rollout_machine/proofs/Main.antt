@@ -1,6 +1,9 @@
 -- The law of the records, for each command.
-use Rattle.rollout_machine.proofs.Common.{◌≡◌, None, CommandList, ◌▸◌, Command, AddModule, AddArtifact, AddSet, PutTargets, Tag, Untag, PutAttributes, CreateRollout, Approve, Deny, Start, Pause, Resume, TriggerNext, Cancel, Feedback, CancelFeedback, step_records, records, IsValid, verdict}
-use Rattle.rollout_machine.proofs.Induction.{feedback_is_step, cancel_feedback_is_step, cancel_is_step, resume_is_step, trigger_is_step, pause_is_step, start_is_step, module_is_step}
+use Rattle.rollout_machine.proofs.Common.{◌≡◌, None, CommandList, ◌▸◌, Command, AddModule, AddArtifact, AddSet, PutTargets, Tag, Untag, PutAttributes}
+use Rattle.rollout_machine.proofs.Common.{CreateRollout, Approve, Deny, Start, Pause, Resume, TriggerNext, Cancel, Feedback, CancelFeedback, step_records}
+use Rattle.rollout_machine.proofs.Common.{records, IsValid, verdict}
+use Rattle.rollout_machine.proofs.Induction.{feedback_is_step, cancel_feedback_is_step, cancel_is_step, resume_is_step, trigger_is_step, pause_is_step}
+use Rattle.rollout_machine.proofs.Induction.{start_is_step, module_is_step}
 use Rattle.rollout_machine.proofs.TargetTies.{tag_is_step, untag_is_step, attributes_is_step}
 use Rattle.rollout_machine.proofs.Imports.{import_is_step}
 use Rattle.rollout_machine.proofs.Creates.{approve_is_step, deny_is_step, artifact_is_step, set_is_step, create_is_step}

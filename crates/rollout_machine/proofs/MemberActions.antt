@@ -1,5 +1,8 @@
 -- The actions are those of the members of the started rollouts, in the members' order.
-use Rattle.rollout_machine.proofs.Common.{◌≡◌, ℕ, ◌+◌, ◌≤◌, true, ◌||◌, [], refl, sym, ◌∙◌, ap, subst, arith, inl, inr, Some, option_map, cases_Bool, eqb-true, ActionPlace, action_place, action_places, new_places, item_numbered, CommandList, Make, ◌▸◌, Bytes, Command, Start, started_sizes, is_rollout_started, is_start_of, ActionRecord, RolloutRecord, action_in, rollout_in, Rollout, created, rollout_at, rollouts, size_of, IsValid}
+use Rattle.rollout_machine.proofs.Common.{◌≡◌, ℕ, ◌+◌, ◌≤◌, true, ◌||◌, [], refl, sym, ◌∙◌, ap, subst, arith, inl, inr, Some, option_map, cases_Bool, eqb-true}
+use Rattle.rollout_machine.proofs.Common.{ActionPlace, action_place, action_places, new_places, item_numbered, CommandList, Make, ◌▸◌, Bytes, Command, Start}
+use Rattle.rollout_machine.proofs.Common.{started_sizes, is_rollout_started, is_start_of, ActionRecord, RolloutRecord, action_in, rollout_in, Rollout, created}
+use Rattle.rollout_machine.proofs.Common.{rollout_at, rollouts, size_of, IsValid}
 use Rattle.rollout_machine.specs.MemberActions.{ActionsFollowMembers, HasAction, IsOfMember}
 use Rattle.rollout_machine.specs.Records.{records}
 use Rattle.rollout_machine.proofs.Actions.{numbered_map}
@@ -26,7 +29,8 @@ still h c r x w = record {
 
 begun : (h : CommandList) (c : Command) (r : ℕ) (x : Rollout) → is_start_of r c ≡ true → rollout_at h r ≡ Some x → StandInARow (h ▸ c) r x
 begun h (Start q) r x is there =
-    let started : StandInARow (h ▸ Start r) r x = record { there = stays_numbered (rollouts h) [] r x there; before = started_sizes h; at = λ j low high. numbers_actions h r x [] j there low high } in
+    let started : StandInARow (h ▸ Start r) r x =
+    record { there = stays_numbered (rollouts h) [] r x there; before = started_sizes h; at = λ j low high. numbers_actions h r x [] j there low high } in
     subst (λ (k : ℕ). StandInARow (h ▸ Start k) r x) (sym (eqb-true q r is)) started
 begun h _ r x is there = cc
 
@@ -46,7 +50,8 @@ record IsInTheRow (before : ℕ) (x : Rollout) (k position : ℕ) : Type 0 where
   high : position ≤ size_of x
   number : k ≡ before + position
 
-place_in_row : (h : CommandList) → IsValid h → (x : Rollout) (k : ℕ) (p : ActionPlace) (row : StandInARow h p.rollout x) → action_place h k ≡ Some p → IsInTheRow row.before x k p.position
+place_in_row : (h : CommandList) → IsValid h → (x : Rollout) (k : ℕ) (p : ActionPlace) (row : StandInARow h p.rollout x) → action_place h k ≡ Some p
+    → IsInTheRow row.before x k p.position
 place_in_row h valid x k p row numbered =
     let placed : IsPlace h p = (invariant_of h valid).placed k p numbered in
     let both : Some placed.rollout ≡ Some x = sym placed.there ∙ row.there in
@@ -54,7 +59,8 @@ place_in_row h valid x k p row numbered =
     let high : p.position ≤ size_of x = subst (λ (y : Rollout). p.position ≤ size_of y) same placed.high in
     record { low = placed.low; high = high; number = one_number h k (row.before + p.position) p valid numbered (row.at p.position placed.low high) }
 
-in_row : (h : CommandList) → IsValid h → (x : Rollout) (k : ℕ) (a : ActionRecord) (row : StandInARow h a.rollout x) → item_numbered (records h).actions k ≡ Some a → IsInTheRow row.before x k a.position
+in_row : (h : CommandList) → IsValid h → (x : Rollout) (k : ℕ) (a : ActionRecord) (row : StandInARow h a.rollout x) → item_numbered (records h).actions k
+    ≡ Some a → IsInTheRow row.before x k a.position
 in_row h valid x k a row e =
     let at = has_place h k a e in
     let P : ActionRecord → Type 0 = λ b. (row : StandInARow h b.rollout x) → IsInTheRow row.before x k b.position in
@@ -67,7 +73,8 @@ begun_for h valid k a e =
     ap (λ b. is_rollout_started b.rollout h) at.is ∙ (invariant_of h valid).acted k at.place at.numbered
 
 -- two actions of one rollout are as far apart as their positions
-as_far_apart : (h : CommandList) → IsValid h → (j k : ℕ) (a b : ActionRecord) → item_numbered (records h).actions j ≡ Some a → item_numbered (records h).actions k ≡ Some b → a.rollout ≡ b.rollout → j + b.position ≡ k + a.position
+as_far_apart : (h : CommandList) → IsValid h → (j k : ℕ) (a b : ActionRecord) → item_numbered (records h).actions j ≡ Some a
+    → item_numbered (records h).actions k ≡ Some b → a.rollout ≡ b.rollout → j + b.position ≡ k + a.position
 as_far_apart h valid j k a b d e same =
     let (x, row) = in_a_row h valid b.rollout (begun_for h valid k b e) in
     let P : ℕ → Type 0 = λ r. (row : StandInARow h r x) → IsInTheRow row.before x j a.position in
@@ -83,16 +90,26 @@ of_member h valid k a e =
     let (t, member) = item_in x.members [] a.position place.low place.high in
     record { rollout = rollout_in h a.rollout x; there = recorded h a.rollout x row.there; started = started; target = t; member = member }
 
-has_action : (h : CommandList) → IsValid h → (r : ℕ) (x : Rollout) (j : ℕ) → rollout_at h r ≡ Some x → is_rollout_started r h ≡ true → 1 ≤ j → j ≤ size_of x → HasAction (records h) r j
+has_action : (h : CommandList) → IsValid h → (r : ℕ) (x : Rollout) (j : ℕ) → rollout_at h r ≡ Some x → is_rollout_started r h ≡ true → 1 ≤ j → j ≤ size_of x
+    → HasAction (records h) r j
 unfolding records
 has_action h valid r x j there started low high =
     let (y, row) = in_a_row h valid r started in
     let both : Some x ≡ Some y = sym there ∙ row.there in
     let same : x ≡ y = cc in
-    let here : action_place h (row.before + j) ≡ Some (record { rollout = r; position = j }) = row.at j low (subst (λ (z : Rollout). j ≤ size_of z) same high) in
-    record { number = row.before + j; action = action_in h (record { rollout = r; position = j }); numbered = numbered_map (action_in h) (action_places h) (row.before + j) ∙ ap (option_map (action_in h)) here; rollout = refl; position = refl }
+    let here : action_place h (row.before + j) ≡ Some (record { rollout = r; position = j }) =
+    row.at j low (subst (λ (z : Rollout). j ≤ size_of z) same high) in
+    record {
+      number = row.before + j;
+      action = action_in h (record { rollout = r; position = j });
+      numbered =
+          numbered_map (action_in h) (action_places h) (row.before + j) ∙ ap (option_map (action_in h)) here;
+      rollout = refl;
+      position = refl;
+    }
 
-each_member : (h : CommandList) → IsValid h → (r : ℕ) (x : RolloutRecord) (j : ℕ) (t : Bytes) → item_numbered (records h).rollouts r ≡ Some x → x.started ≡ true → item_numbered x.members j ≡ Some t → HasAction (records h) r j
+each_member : (h : CommandList) → IsValid h → (r : ℕ) (x : RolloutRecord) (j : ℕ) (t : Bytes) → item_numbered (records h).rollouts r ≡ Some x → x.started ≡ true
+    → item_numbered x.members j ≡ Some t → HasAction (records h) r j
 each_member h valid r x j t there started member =
     let of = of_rollout h r x there in
     let started_then : is_rollout_started r h ≡ true = sym (ap (λ y. y.started) of.is) ∙ started in

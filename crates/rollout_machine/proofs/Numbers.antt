@@ -1,5 +1,10 @@
 -- The numbers of the feedback on an action rise.
-use Rattle.rollout_machine.proofs.Common.{◌≡◌, ℕ, zero, suc, ◌<◌, Bool, true, false, cond, ◌&&◌, List, [], ◌∷◌, ◌++◌, refl, sym, ◌∙◌, ap, subst, arith, Option, Some, None, is_none, nat_eq, nat_lt, slice_get, option_or, ltb-true, action_place, history, is_heard, outcome, reports, CommandList, Make, ◌▸◌, CancelFeedback, Command, Feedback, Outcome, ActionRecord, action_in, records, Again, Fresh, HistoryEntry, Numbered, OfCancel, OfDeployment, Old, Reported, Standing, against, bearing, is_again, numbered_if, reported, reported_by, same_entry, says_again, says_old, standing_by, standing_of, IsValid, is_old, on_action, verdict, verdict_row}
+use Rattle.rollout_machine.proofs.Common.{◌≡◌, ℕ, zero, suc, ◌<◌, Bool, true, false, cond, ◌&&◌, List, [], ◌∷◌, ◌++◌, refl, sym, ◌∙◌, ap, subst, arith, Option}
+use Rattle.rollout_machine.proofs.Common.{Some, None, is_none, nat_eq, nat_lt, slice_get, option_or, ltb-true, action_place, history, is_heard, outcome}
+use Rattle.rollout_machine.proofs.Common.{reports, CommandList, Make, ◌▸◌, CancelFeedback, Command, Feedback, Outcome, ActionRecord, action_in, records, Again}
+use Rattle.rollout_machine.proofs.Common.{Fresh, HistoryEntry, Numbered, OfCancel, OfDeployment, Old, Reported, Standing, against, bearing, is_again}
+use Rattle.rollout_machine.proofs.Common.{numbered_if, reported, reported_by, same_entry, says_again, says_old, standing_by, standing_of, IsValid, is_old}
+use Rattle.rollout_machine.proofs.Common.{on_action, verdict, verdict_row}
 use Rattle.rollout_machine.specs.Promises.{NumbersRise, NumbersRiseIn}
 use Rattle.rollout_machine.proofs.Actions.{append_none, open_reports}
 use Rattle.rollout_machine.proofs.AtNumbers.{has_place}
@@ -33,7 +38,8 @@ below_bearing : (m : ℕ) (reports : List Reported) (b : Numbered) → BelowAll 
 below_bearing m [] b w e = cc
 below_bearing m (it ∷ more) b w e = go (bearing more) it.number refl refl e (λ d. below_bearing m more b w.1 d)
   where
-    go : (o : Option Numbered) (n : Option ℕ) → bearing more ≡ o → it.number ≡ n → option_or o (numbered_if it.entry n) ≡ Some b → (bearing more ≡ Some b → m < b.number) → m < b.number
+    go : (o : Option Numbered) (n : Option ℕ) → bearing more ≡ o → it.number ≡ n → option_or o (numbered_if it.entry n) ≡ Some b
+        → (bearing more ≡ Some b → m < b.number) → m < b.number
     go (Some x) n d k e ih = ih (d ∙ e)
     go None None d k e ih = cc
     go None (Some n) d k e ih = let its : n ≡ b.number = number_is n b e in subst (λ (i : ℕ). m < i) its (w.0 n k)
@@ -61,7 +67,8 @@ fresh_above (it ∷ more) n entry w e = go (bearing more) it.number refl refl e 
     own None d lower = tt
     own (Some m) d lower = lower m d
 
-    go : (o : Option Numbered) (m : Option ℕ) → bearing more ≡ o → it.number ≡ m → against (option_or o (numbered_if it.entry m)) n entry ≡ Fresh → (against (bearing more) n entry ≡ Fresh → AreBelow more n) → Below it.number n × AreBelow more n
+    go : (o : Option Numbered) (m : Option ℕ) → bearing more ≡ o → it.number ≡ m → against (option_or o (numbered_if it.entry m)) n entry ≡ Fresh
+        → (against (bearing more) n entry ≡ Fresh → AreBelow more n) → Below it.number n × AreBelow more n
     go (Some b) m d k e ih =
         let last : b.number < n = is_fresh b n entry e in (
           own it.number refl (λ i f. let less : i < b.number = below_bearing i more b (subst (λ o. BelowAll o more) f w.0) d in omega (arith, less, last)),
@@ -73,7 +80,8 @@ fresh_above (it ∷ more) n entry w e = go (bearing more) it.number refl refl e 
         (subst (λ o. Below o n) (sym k) last, ih (ap (λ o. against o n entry) d))
 
 -- one more behind those that it is above
-below_behind : (m : Option ℕ) (reports : List Reported) (new : Reported) → BelowAll m reports → ((n : ℕ) → new.number ≡ Some n → Below m n) → BelowAll m (reports ++ new ∷ [])
+below_behind : (m : Option ℕ) (reports : List Reported) (new : Reported) → BelowAll m reports → ((n : ℕ) → new.number ≡ Some n → Below m n)
+    → BelowAll m (reports ++ new ∷ [])
 below_behind m [] new w d = (d, tt)
 below_behind m (it ∷ more) new w d = (w.0, below_behind m more new w.1 d)
 
@@ -95,26 +103,34 @@ is_new_by : (a : ActionRecord) (new : Reported) → a.outcome ≡ None → is_ol
 is_new_by a new e d = sym (ap (λ (o : Option _). is_none o && says_old (standing_of a.history new)) e) ∙ d
 
 -- what is heard on an open action, and was accepted
-heard_rises : (h : CommandList) (c : Command) (r j : ℕ) → verdict h c ≡ None → is_heard h c r j ≡ true → outcome h r j ≡ None → Rise (history h r j) → Rise (history h r j ++ reported_by c)
+heard_rises : (h : CommandList) (c : Command) (r j : ℕ) → verdict h c ≡ None → is_heard h c r j ≡ true → outcome h r j ≡ None → Rise (history h r j)
+    → Rise (history h r j ++ reported_by c)
 heard_rises h (Feedback feedback) r j v d e w =
     let c : Command = Feedback feedback in
     let new : Reported = reported OfDeployment feedback in
     let p : (action_place h feedback.action ≡ Some (record { rollout = r; position = j })) × (is_again (reports h r j) c ≡ false) = placed h c r j d in
-    let old : is_old new (action_in h (record { rollout = r; position = j })) ≡ false = sym (ap (on_action (is_old new)) (found_action h feedback.action _ p.0)) ∙ (none_holds (verdict_row (records h) c) v).1.1.1.0 in
-    fresh_rises (history h r j) new w (fresh_by _ (sym (ap (λ heard. is_again heard c) (open_reports h r j e)) ∙ p.1) (is_new_by (action_in h (record { rollout = r; position = j })) new e old))
+    let old : is_old new (action_in h (record { rollout = r; position = j })) ≡ false = sym (ap (on_action (is_old new)) (found_action h feedback.action _ p.0))
+    ∙ (none_holds (verdict_row (records h) c) v).1.1.1.0 in
+    fresh_rises (history h r j) new w
+    (fresh_by _ (sym (ap (λ heard. is_again heard c) (open_reports h r j e)) ∙ p.1)
+    (is_new_by (action_in h (record { rollout = r; position = j })) new e old))
 heard_rises h (CancelFeedback feedback) r j v d e w =
     let c : Command = CancelFeedback feedback in
     let new : Reported = reported OfCancel feedback in
     let p : (action_place h feedback.action ≡ Some (record { rollout = r; position = j })) × (is_again (reports h r j) c ≡ false) = placed h c r j d in
-    let old : is_old new (action_in h (record { rollout = r; position = j })) ≡ false = sym (ap (on_action (is_old new)) (found_action h feedback.action _ p.0)) ∙ (none_holds (verdict_row (records h) c) v).1.1.1.0 in
-    fresh_rises (history h r j) new w (fresh_by _ (sym (ap (λ heard. is_again heard c) (open_reports h r j e)) ∙ p.1) (is_new_by (action_in h (record { rollout = r; position = j })) new e old))
+    let old : is_old new (action_in h (record { rollout = r; position = j })) ≡ false = sym (ap (on_action (is_old new)) (found_action h feedback.action _ p.0))
+    ∙ (none_holds (verdict_row (records h) c) v).1.1.1.0 in
+    fresh_rises (history h r j) new w
+    (fresh_by _ (sym (ap (λ heard. is_again heard c) (open_reports h r j e)) ∙ p.1)
+    (is_new_by (action_in h (record { rollout = r; position = j })) new e old))
 heard_rises h _ r j v d e w = subst Rise (sym (append_none (history h r j))) w
 
 rises : (h : CommandList) (r j : ℕ) → IsValid h → Rise (history h r j)
 rises (Make approval) r j v = tt
 rises (h ▸ c) r j v = go (is_heard h c r j) (outcome h r j) refl refl (rises h r j v.0)
   where
-    go : (b : Bool) (o : Option Outcome) → is_heard h c r j ≡ b → outcome h r j ≡ o → Rise (history h r j) → Rise (history h r j ++ cond (b && is_none o) (reported_by c) [])
+    go : (b : Bool) (o : Option Outcome) → is_heard h c r j ≡ b → outcome h r j ≡ o → Rise (history h r j)
+        → Rise (history h r j ++ cond (b && is_none o) (reported_by c) [])
     go false o d e ih = subst Rise (sym (append_none (history h r j))) ih
     go true (Some o) d e ih = subst Rise (sym (append_none (history h r j))) ih
     go true None d e ih = heard_rises h c r j v.2 d e ih
@@ -126,7 +142,8 @@ get_below m [] w j n b e d = cc
 get_below m (it ∷ more) w zero n b e d = let same : it ≡ b = cc in w.0 n (ap (λ (x : Reported). x.number) same ∙ d)
 get_below m (it ∷ more) w (suc j) n b e d = get_below m more w.1 j n b e d
 
-get_rise : (reports : List Reported) → Rise reports → (i j m n : ℕ) (a b : Reported) → i < j → slice_get reports i ≡ Some a → slice_get reports j ≡ Some b → a.number ≡ Some m → b.number ≡ Some n → m < n
+get_rise : (reports : List Reported) → Rise reports → (i j m n : ℕ) (a b : Reported) → i < j → slice_get reports i ≡ Some a → slice_get reports j ≡ Some b
+    → a.number ≡ Some m → b.number ≡ Some n → m < n
 get_rise [] w i j m n a b less e f d k = cc
 get_rise (it ∷ more) w i zero m n a b less e f d k = absurd (omega (arith, less))
 get_rise (it ∷ more) w zero (suc j) m n a b less e f d k =
@@ -140,4 +157,5 @@ rise_in reports w i zero m n a b less e f d k = cc
 rise_in reports w (suc i) (suc j) m n a b less e f d k = get_rise reports w i j m n a b (omega (arith, less)) e f d k
 
 pub numbers_rise : NumbersRise
-numbers_rise h k a v e = let at = has_place h k a e in subst (λ (b : ActionRecord). NumbersRiseIn b.history) (sym at.is) (rise_in _ (rises h at.place.rollout at.place.position v))
+numbers_rise h k a v e = let at = has_place h k a e in subst (λ (b : ActionRecord). NumbersRiseIn b.history) (sym at.is)
+    (rise_in _ (rises h at.place.rollout at.place.position v))

@@ -1,5 +1,8 @@
 -- The offers of targets that a command doesn't touch stay.
-use Rattle.rollout_machine.proofs.Common.{◌≡◌, ◌⊎◌, ℕ, Bool, true, false, ◌&&◌, Option, Some, None, inl, inr, refl, sym, ap, ◌∙◌, slice_get, nat_eq, ActionPlace, action_place, action_places, action_of, is_on_action, is_action_place, is_canceling, new_places, outcome, cancel_stands, item_numbered, CommandList, ◌▸◌, Bytes, Command, Outcome, IsOfferable, IsLeastOffer, Offer, offer, is_group_started, records, Rollout, rollout_at, IsValid, and_parts, cases_Bool, cases_order, eqb-true}
+use Rattle.rollout_machine.proofs.Common.{◌≡◌, ◌⊎◌, ℕ, Bool, true, false, ◌&&◌, Option, Some, None, inl, inr, refl, sym, ap, ◌∙◌, slice_get, nat_eq}
+use Rattle.rollout_machine.proofs.Common.{ActionPlace, action_place, action_places, action_of, is_on_action, is_action_place, is_canceling, new_places}
+use Rattle.rollout_machine.proofs.Common.{outcome, cancel_stands, item_numbered, CommandList, ◌▸◌, Bytes, Command, Outcome, IsOfferable, IsLeastOffer, Offer}
+use Rattle.rollout_machine.proofs.Common.{offer, is_group_started, records, Rollout, rollout_at, IsValid, and_parts, cases_Bool, cases_order, eqb-true}
 use Rattle.rollout_machine.specs.Promises.{IsUntouched, OffersStay}
 use Rattle.rollout_machine.proofs.Distinct.{new_at}
 use Rattle.rollout_machine.proofs.Induction.{invariant_of, stays_numbered, either_numbered, never_started}
@@ -10,7 +13,8 @@ use Rattle.rollout_machine.proofs.Tallies.{untouched, closed_stays}
 use Rattle.rollout_machine.proofs.Valid.{IsPlace}
 
 -- the command is not on an action of an untouched target
-off : (h : CommandList) (c : Command) (t : Bytes) (k : ℕ) (p : ActionPlace) → IsUntouched h c t → (x : Rollout) → rollout_at h p.rollout ≡ Some x → item_numbered x.members p.position ≡ Some t → is_on_action h c p.rollout p.position ≡ false
+off : (h : CommandList) (c : Command) (t : Bytes) (k : ℕ) (p : ActionPlace) → IsUntouched h c t → (x : Rollout) → rollout_at h p.rollout ≡ Some x
+    → item_numbered x.members p.position ≡ Some t → is_on_action h c p.rollout p.position ≡ false
 off h c t k p u x there member = go (action_of h c) refl where
   place : (q : ActionPlace) → q.rollout ≡ p.rollout → q.position ≡ p.position → q ≡ p
   place q e d = rw (e, d) refl
@@ -41,7 +45,8 @@ forth h c t k p u w = record {
   is_open = untouched h c p.rollout p.position (off h c t k p u w.rollout w.there w.member) ∙ w.is_open;
 }
 
-back : (h : CommandList) (c : Command) (t : Bytes) (k : ℕ) (p : ActionPlace) → IsValid (h ▸ c) → IsUntouched h c t → IsOfferable (h ▸ c) t k p → IsOfferable h t k p
+back : (h : CommandList) (c : Command) (t : Bytes) (k : ℕ) (p : ActionPlace) → IsValid (h ▸ c) → IsUntouched h c t → IsOfferable (h ▸ c) t k p
+    → IsOfferable h t k p
 back h c t k p v u w = go (either_numbered (action_places h) (new_places h c) k p w.numbered) where
   started_before : (x : Rollout) → rollout_at h p.rollout ≡ Some x → x ≡ w.rollout → is_group_started w.rollout p.rollout w.group h ≡ true
   started_before x d same = elim (cases_Bool (is_group_started w.rollout p.rollout w.group h)) [
@@ -56,7 +61,8 @@ back h c t k p v u w = go (either_numbered (action_places h) (new_places h c) k 
   open_before None e = e
   open_before (Some o) e = let later : Some o ≡ None = sym (closed_stays h c p.rollout p.position o e) ∙ w.is_open in cc
 
-  go : (item_numbered (action_places h) k ≡ Some p) ⊎ ((item_numbered (action_places h) k ≡ None) × ((j : ℕ) × (slice_get (new_places h c) j ≡ Some p))) → IsOfferable h t k p
+  go : (item_numbered (action_places h) k ≡ Some p) ⊎ ((item_numbered (action_places h) k ≡ None) × ((j : ℕ) × (slice_get (new_places h c) j ≡ Some p)))
+      → IsOfferable h t k p
   go (inl at) =
       let place : IsPlace h p = (invariant_of h v.0).placed k p at in
       let same : place.rollout ≡ w.rollout = same_rollout place.rollout place.there in
@@ -74,7 +80,8 @@ back h c t k p v u w = go (either_numbered (action_places h) (new_places h c) k 
   go (inr new) =
       let (x, d) = new_rollout_there h c new.1.0 p v.2 new.1.1 in
       let fresh : is_group_started w.rollout p.rollout w.group h ≡ false = never_started w.rollout p.rollout w.group h (new_at h c new.1.0 p v.2 new.1.1).0 in
-      absurd (u.starting p.rollout w.group p.position w.rollout (d ∙ ap Some (same_rollout x d)) (record { before = fresh; now = w.started }) w.first w.within w.member)
+      absurd (u.starting p.rollout w.group p.position w.rollout (d ∙ ap Some (same_rollout x d)) (record { before = fresh; now = w.started }) w.first w.within
+      w.member)
 
 -- ---- canceling
 
@@ -91,8 +98,10 @@ offers_stay h c t v u = go (offer (records h) t) (offer (records (h ▸ c)) t) r
 
   go : (a b : Option Offer) → offer (records h) t ≡ a → offer (records (h ▸ c)) t ≡ b → b ≡ a
   go None None e d = refl
-  go (Some a) None e d = let w : IsLeastOffer h t a = (offer_is_least h t v.0).0 a e in absurd ((offer_is_least (h ▸ c) t v).1 d a.action w.place (forth h c t a.action w.place u w.offerable))
-  go None (Some b) e d = let w : IsLeastOffer (h ▸ c) t b = (offer_is_least (h ▸ c) t v).0 b d in absurd ((offer_is_least h t v.0).1 e b.action w.place (back h c t b.action w.place v u w.offerable))
+  go (Some a) None e d = let w : IsLeastOffer h t a = (offer_is_least h t v.0).0 a e in
+      absurd ((offer_is_least (h ▸ c) t v).1 d a.action w.place (forth h c t a.action w.place u w.offerable))
+  go None (Some b) e d = let w : IsLeastOffer (h ▸ c) t b = (offer_is_least (h ▸ c) t v).0 b d in
+      absurd ((offer_is_least h t v.0).1 e b.action w.place (back h c t b.action w.place v u w.offerable))
   go (Some a) (Some b) e d =
       let w : IsLeastOffer h t a = (offer_is_least h t v.0).0 a e in
       let z : IsLeastOffer (h ▸ c) t b = (offer_is_least (h ▸ c) t v).0 b d in
@@ -107,6 +116,8 @@ offers_stay h c t v u = go (offer (records h) t) (offer (records (h ▸ c)) t) r
           let here : IsOfferable (h ▸ c) t a.action w.place = forth h c t a.action w.place u w.offerable in
           let places : Some w.place ≡ Some z.place = sym here.numbered ∙ ap (action_place (h ▸ c)) same ∙ z.offerable.numbered in
           let place : w.place ≡ z.place = cc in
-          let still : is_canceling (h ▸ c) w.place.rollout w.place.position ≡ is_canceling h w.place.rollout w.place.position = cancels_still h c w.place.rollout w.place.position (off h c t a.action w.place u w.offerable.rollout w.offerable.there w.offerable.member) in
-          let kinds : b.canceling ≡ a.canceling = z.kind ∙ ap (λ (p : ActionPlace). is_canceling (h ▸ c) p.rollout p.position) (sym place) ∙ still ∙ sym w.kind in
+          let still : is_canceling (h ▸ c) w.place.rollout w.place.position ≡ is_canceling h w.place.rollout w.place.position =
+          cancels_still h c w.place.rollout w.place.position (off h c t a.action w.place u w.offerable.rollout w.offerable.there w.offerable.member) in
+          let kinds : b.canceling ≡ a.canceling = z.kind ∙ ap (λ (p : ActionPlace). is_canceling (h ▸ c) p.rollout p.position) (sym place) ∙ still
+          ∙ sym w.kind in
           ap Some (same_offer b a (sym same) kinds)

@@ -1,5 +1,13 @@
 -- What answers to devices name and give is offered.
-use Rattle.rollout_machine.proofs.Common.{◌≡◌, ℕ, Bool, true, false, cond, not, ◌&&◌, [], Option, Some, None, refl, subst, ◌∙◌, nat_eq, ActionPlace, query_reply, if_found, for_device, download, targets_reply, targets_matching, is_offer_of, modules_offered, artifact_named, action_of_target, artifact_of_module, item_numbered, CommandList, Bytes, Credential, IsOfferable, IsLeastOffer, deployment_shown, modules_of_action, Offer, offer, records, Records, ArtifactRecord, Reply, Refused, PollShown, DeploymentShown, CancelShown, ContentsShown, Page, Query, Poll, ShowDeployment, ShowCancel, Download, ShowTargets, ShowTarget, ShowTargetActions, ShowAction, ShowHistory, ShowModules, ShowModule, ShowArtifacts, ShowArtifact, ShowContents, ShowSets, ShowSet, ShowRollouts, ShowRollout, ShowGroups, ShowGroup, ShowGroupTargets, ShowReport, ShowActionsTable, group_numbered, IsValid, is_known, target_of, NotFound, Unauthorized, Tree, filter_of, list_any, option_map, and_parts, eqb-true}
+use Rattle.rollout_machine.proofs.Common.{◌≡◌, ℕ, Bool, true, false, cond, not, ◌&&◌, [], Option, Some, None, refl, subst, ◌∙◌, nat_eq, ActionPlace}
+use Rattle.rollout_machine.proofs.Common.{query_reply, if_found, for_device, download, targets_reply, targets_matching, is_offer_of, modules_offered}
+use Rattle.rollout_machine.proofs.Common.{artifact_named, action_of_target, artifact_of_module, item_numbered, CommandList, Bytes, Credential, IsOfferable}
+use Rattle.rollout_machine.proofs.Common.{IsLeastOffer, deployment_shown, modules_of_action, Offer, offer, records, Records, ArtifactRecord, Reply, Refused}
+use Rattle.rollout_machine.proofs.Common.{PollShown, DeploymentShown, CancelShown, ContentsShown, Page, Query, Poll, ShowDeployment, ShowCancel, Download}
+use Rattle.rollout_machine.proofs.Common.{ShowTargets, ShowTarget, ShowTargetActions, ShowAction, ShowHistory, ShowModules, ShowModule, ShowArtifacts}
+use Rattle.rollout_machine.proofs.Common.{ShowArtifact, ShowContents, ShowSets, ShowSet, ShowRollouts, ShowRollout, ShowGroups, ShowGroup, ShowGroupTargets}
+use Rattle.rollout_machine.proofs.Common.{ShowReport, ShowActionsTable, group_numbered, IsValid, is_known, target_of, NotFound, Unauthorized, Tree, filter_of}
+use Rattle.rollout_machine.proofs.Common.{list_any, option_map, and_parts, eqb-true}
 use Rattle.rollout_machine.specs.Answers.{answer}
 use Rattle.rollout_machine.specs.Promises.{named_action, NamedIsOfferable, IsDownloadable, DownloadsAreOffered}
 use Rattle.rollout_machine.proofs.Offers.{offer_is_least}
@@ -45,9 +53,11 @@ polled rs t k e = go (offer rs t) refl e where
   go (Some x) d f = record { offered = x; there = d; number = cc }
 
 -- an answer that comes only where the action is offered
-where_offered : (rs : Records) (t : Bytes) (kind : Bool) (n k : ℕ) (reply : Reply) → named_action reply ≡ Some n → named_action (cond (is_offer_of n kind (offer rs t)) reply (Refused NotFound)) ≡ Some k → HasOffer rs t k
+where_offered : (rs : Records) (t : Bytes) (kind : Bool) (n k : ℕ) (reply : Reply) → named_action reply ≡ Some n
+    → named_action (cond (is_offer_of n kind (offer rs t)) reply (Refused NotFound)) ≡ Some k → HasOffer rs t k
 where_offered rs t kind n k reply names e = go (offer rs t) refl e where
-  by : (x : Offer) (b : Bool) → offer rs t ≡ Some x → (nat_eq x.action n && cond kind x.canceling (not x.canceling)) ≡ b → named_action (cond b reply (Refused NotFound)) ≡ Some k → HasOffer rs t k
+  by : (x : Offer) (b : Bool) → offer rs t ≡ Some x → (nat_eq x.action n && cond kind x.canceling (not x.canceling)) ≡ b
+      → named_action (cond b reply (Refused NotFound)) ≡ Some k → HasOffer rs t k
   by x true d f g = let same : n ≡ k = cc in record { offered = x; there = d; number = eqb-true _ _ (and_parts _ _ f).0 ∙ same }
   by x false d f g = cc
 
@@ -60,13 +70,22 @@ offerable_by h t k v w =
     let least : IsLeastOffer h t w.offered = (offer_is_least h t v).0 w.offered w.there in
     (t, least.place, subst (λ (n : ℕ). IsOfferable h t n least.place) w.number least.offerable)
 
-named_is : (h : CommandList) (query : Query) (k : ℕ) → IsValid h → named_action (query_reply (records h) query) ≡ Some k → (t : Bytes) × (p : ActionPlace) × IsOfferable h t k p
-named_is h (Poll device) k v e = offerable_by h device.id k v (polled (records h) device.id k (if_known (records h) device (PollShown device.id (offer (records h) device.id)) k e))
-named_is h (ShowDeployment device n) k v e = offerable_by h device.id k v (where_offered (records h) device.id false n k (DeploymentShown (deployment_shown (records h) device.id n)) refl (if_known (records h) device _ k e))
-named_is h (ShowCancel device n) k v e = offerable_by h device.id k v (where_offered (records h) device.id true n k (CancelShown n) refl (if_known (records h) device _ k e))
+named_is : (h : CommandList) (query : Query) (k : ℕ) → IsValid h → named_action (query_reply (records h) query) ≡ Some k → (t : Bytes) × (p : ActionPlace)
+    × IsOfferable h t k p
+named_is h (Poll device) k v e =
+    offerable_by h device.id k v (polled (records h) device.id k (if_known (records h) device (PollShown device.id (offer (records h) device.id)) k e))
+named_is h (ShowDeployment device n) k v e =
+    offerable_by h device.id k v (where_offered (records h) device.id false n k (DeploymentShown (deployment_shown (records h) device.id n)) refl
+    (if_known (records h) device _ k e))
+named_is h (ShowCancel device n) k v e =
+    offerable_by h device.id k v (where_offered (records h) device.id true n k (CancelShown n) refl (if_known (records h) device _ k e))
 named_is h (Download device m filename) k v e =
-    let none : named_action (download (records h) device.id m filename) ≡ None = either_none (list_any (λ n. nat_eq n m) (modules_offered (records h) (offer (records h) device.id))) (if_found (λ (a : ArtifactRecord). ContentsShown a.contents) (artifact_named m filename (records h).artifacts)) (Refused NotFound) (names_none _ (artifact_named m filename (records h).artifacts) (λ a. refl)) refl in
-    let some : named_action (download (records h) device.id m filename) ≡ Some k = if_known (records h) device (download (records h) device.id m filename) k e in cc
+    let none : named_action (download (records h) device.id m filename) ≡ None =
+    either_none (list_any (λ n. nat_eq n m) (modules_offered (records h) (offer (records h) device.id)))
+    (if_found (λ (a : ArtifactRecord). ContentsShown a.contents) (artifact_named m filename (records h).artifacts)) (Refused NotFound)
+    (names_none _ (artifact_named m filename (records h).artifacts) (λ a. refl)) refl in
+    let some : named_action (download (records h) device.id m filename) ≡ Some k = if_known (records h) device (download (records h) device.id m filename) k
+    e in cc
 named_is h (ShowTargets filter_text page) k v e = absurd (never (targets_none (records h) page filter_text) e)
 named_is h (ShowTarget t) k v e = absurd (never (names_none _ (target_of (records h) t) (λ x. refl)) e)
 named_is h (ShowTargetActions t page) k v e = absurd (never (names_none _ (target_of (records h) t) (λ x. refl)) e)
@@ -82,8 +101,10 @@ named_is h (ShowSet n) k v e = absurd (never (names_none _ (item_numbered (recor
 named_is h (ShowRollouts page) k v e = cc
 named_is h (ShowRollout r) k v e = absurd (never (names_none _ (item_numbered (records h).rollouts r) (λ x. refl)) e)
 named_is h (ShowGroups r page) k v e = absurd (never (names_none _ (item_numbered (records h).rollouts r) (λ x. refl)) e)
-named_is h (ShowGroup r i) k v e = absurd (never (names_none _ (item_numbered (records h).rollouts r) (λ x. names_none _ (group_numbered i x.groups) (λ g. refl))) e)
-named_is h (ShowGroupTargets r i page) k v e = absurd (never (names_none _ (item_numbered (records h).rollouts r) (λ x. names_none _ (group_numbered i x.groups) (λ g. refl))) e)
+named_is h (ShowGroup r i) k v e =
+    absurd (never (names_none _ (item_numbered (records h).rollouts r) (λ x. names_none _ (group_numbered i x.groups) (λ g. refl))) e)
+named_is h (ShowGroupTargets r i page) k v e =
+    absurd (never (names_none _ (item_numbered (records h).rollouts r) (λ x. names_none _ (group_numbered i x.groups) (λ g. refl))) e)
 named_is h (ShowReport r) k v e = absurd (never (names_none _ (item_numbered (records h).rollouts r) (λ x. refl)) e)
 named_is h (ShowActionsTable r) k v e = absurd (never (names_none _ (item_numbered (records h).rollouts r) (λ x. refl)) e)
 
@@ -94,15 +115,21 @@ named_is_offerable h query k v e = named_is h query k v e
 -- ---- downloads
 
 shown_is : (rs : Records) (t : Bytes) (m : ℕ) (filename contents : Bytes) → download rs t m filename ≡ ContentsShown contents
-    → (list_any (λ n. nat_eq n m) (modules_offered rs (offer rs t)) ≡ true) × ((a : ArtifactRecord) × (artifact_named m filename rs.artifacts ≡ Some a) × (a.contents ≡ contents))
-shown_is rs t m filename contents e = go (list_any (λ n. nat_eq n m) (modules_offered rs (offer rs t))) (artifact_named m filename rs.artifacts) refl refl e where
-  go : (b : Bool) (o : Option ArtifactRecord) → list_any (λ n. nat_eq n m) (modules_offered rs (offer rs t)) ≡ b → artifact_named m filename rs.artifacts ≡ o → cond b (if_found (λ (a : ArtifactRecord). ContentsShown a.contents) o) (Refused NotFound) ≡ ContentsShown contents
-      → (list_any (λ n. nat_eq n m) (modules_offered rs (offer rs t)) ≡ true) × ((a : ArtifactRecord) × (artifact_named m filename rs.artifacts ≡ Some a) × (a.contents ≡ contents))
-  go true (Some a) d f g = (d, (a, f, cc))
-  go true None d f g = cc
-  go false o d f g = cc
+    → (list_any (λ n. nat_eq n m) (modules_offered rs (offer rs t)) ≡ true)
+    × ((a : ArtifactRecord) × (artifact_named m filename rs.artifacts ≡ Some a) × (a.contents ≡ contents))
+shown_is rs t m filename contents e = go (list_any (λ n. nat_eq n m) (modules_offered rs (offer rs t))) (artifact_named m filename rs.artifacts) refl refl
+    e where
+      go : (b : Bool) (o : Option ArtifactRecord) → list_any (λ n. nat_eq n m) (modules_offered rs (offer rs t)) ≡ b → artifact_named m filename rs.artifacts
+          ≡ o
+          → cond b (if_found (λ (a : ArtifactRecord). ContentsShown a.contents) o) (Refused NotFound) ≡ ContentsShown contents
+          → (list_any (λ n. nat_eq n m) (modules_offered rs (offer rs t)) ≡ true)
+          × ((a : ArtifactRecord) × (artifact_named m filename rs.artifacts ≡ Some a) × (a.contents ≡ contents))
+      go true (Some a) d f g = (d, (a, f, cc))
+      go true None d f g = cc
+      go false o d f g = cc
 
-known_device : (rs : Records) (device : Credential) (reply : Reply) (contents : Bytes) → for_device rs device reply ≡ ContentsShown contents → reply ≡ ContentsShown contents
+known_device : (rs : Records) (device : Credential) (reply : Reply) (contents : Bytes) → for_device rs device reply ≡ ContentsShown contents
+    → reply ≡ ContentsShown contents
 known_device rs device reply contents e = go (is_known rs device) e where
   go : (b : Bool) → cond b reply (Refused Unauthorized) ≡ ContentsShown contents → reply ≡ ContentsShown contents
   go true f = f
@@ -111,13 +138,17 @@ known_device rs device reply contents e = go (is_known rs device) e where
 pub downloads_are_offered : DownloadsAreOffered
 unfolding answer
 downloads_are_offered h device m filename contents e = go (offer (records h) device.id) refl w.0 where
-  w : (list_any (λ n. nat_eq n m) (modules_offered (records h) (offer (records h) device.id)) ≡ true) × ((a : ArtifactRecord) × (artifact_named m filename (records h).artifacts ≡ Some a) × (a.contents ≡ contents))
+  w : (list_any (λ n. nat_eq n m) (modules_offered (records h) (offer (records h) device.id)) ≡ true)
+      × ((a : ArtifactRecord) × (artifact_named m filename (records h).artifacts ≡ Some a) × (a.contents ≡ contents))
   w = shown_is (records h) device.id m filename contents (known_device (records h) device (download (records h) device.id m filename) contents e)
 
-  by : (o : Offer) (b : Bool) → o.canceling ≡ b → offer (records h) device.id ≡ Some o → list_any (λ n. nat_eq n m) (cond b [] (modules_of_action (records h) (item_numbered (records h).actions o.action))) ≡ true → IsDownloadable h device.id m filename contents
+  by : (o : Offer) (b : Bool) → o.canceling ≡ b → offer (records h) device.id ≡ Some o
+      → list_any (λ n. nat_eq n m) (cond b [] (modules_of_action (records h) (item_numbered (records h).actions o.action))) ≡ true
+      → IsDownloadable h device.id m filename contents
   by o true f d g = cc
   by o false f d g = record { offered = o; is_offered = d; as_deployment = f; installs = g; artifact = w.1.0; is_stored = w.1.1; contents_are = w.1.2 }
 
-  go : (o : Option Offer) → offer (records h) device.id ≡ o → list_any (λ n. nat_eq n m) (modules_offered (records h) o) ≡ true → IsDownloadable h device.id m filename contents
+  go : (o : Option Offer) → offer (records h) device.id ≡ o → list_any (λ n. nat_eq n m) (modules_offered (records h) o) ≡ true
+      → IsDownloadable h device.id m filename contents
   go None d g = cc
   go (Some o) d g = by o o.canceling refl d g

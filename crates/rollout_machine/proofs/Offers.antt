@@ -1,5 +1,9 @@
 -- What is offered is an open action of a started group.
-use Rattle.rollout_machine.proofs.Common.{◌≡◌, ℕ, suc, ◌+◌, Bool, true, false, cond, ◌&&◌, List, [], ◌∷◌, refl, sym, ◌∙◌, ap, arith, Option, Some, None, slice_get, is_none, zero, ◌≤◌, ◌<◌, length, option_map, and_parts, ActionPlace, action_places, action_place, outcome, item_numbered, same_bytes, CommandList, Bytes, HasSoundPlan, IsOfferable, IsLeastOffer, OfferIsLeast, Offer, first_offer, offer, is_group_started, Records, ActionRecord, action_in, Rollout, is_for, has_started, member_at, IsValid, unwrap_or, false≢true, ltb-true}
+use Rattle.rollout_machine.proofs.Common.{◌≡◌, ℕ, suc, ◌+◌, Bool, true, false, cond, ◌&&◌, List, [], ◌∷◌, refl, sym, ◌∙◌, ap, arith, Option, Some, None}
+use Rattle.rollout_machine.proofs.Common.{slice_get, is_none, zero, ◌≤◌, ◌<◌, length, option_map, and_parts, ActionPlace, action_places, action_place, outcome}
+use Rattle.rollout_machine.proofs.Common.{item_numbered, same_bytes, CommandList, Bytes, HasSoundPlan, IsOfferable, IsLeastOffer, OfferIsLeast, Offer}
+use Rattle.rollout_machine.proofs.Common.{first_offer, offer, is_group_started, Records, ActionRecord, action_in, Rollout, is_for, has_started, member_at}
+use Rattle.rollout_machine.proofs.Common.{IsValid, unwrap_or, false≢true, ltb-true}
 use Rattle.rollout_machine.specs.Records.{records}
 use Rattle.rollout_machine.proofs.Actions.{get_map}
 use Rattle.rollout_machine.proofs.Valid.{IsPlace, its_group, has_started_is}
@@ -20,21 +24,42 @@ pub record IsOffered (rs : Records) (t : Bytes) (k : ℕ) (actions : List Action
   pub started : has_started rs action ≡ true
   pub kind : o.canceling ≡ action.canceling
 
-pub offered_one : (rs : Records) (t : Bytes) (k : ℕ) (actions : List ActionRecord) (o : Offer) → first_offer rs t k actions ≡ Some o → IsOffered rs t k actions o
+pub offered_one : (rs : Records) (t : Bytes) (k : ℕ) (actions : List ActionRecord) (o : Offer) → first_offer rs t k actions ≡ Some o
+    → IsOffered rs t k actions o
 offered_one rs t k [] o e = cc
 offered_one rs t k (a ∷ rest) o e = go (is_none a.outcome && (is_for rs t a && has_started rs a)) refl e (offered_one rs t (suc k) rest o)
   where
-    go : (b : Bool) → (is_none a.outcome && (is_for rs t a && has_started rs a)) ≡ b → cond b (Some (record { action = k; canceling = a.canceling })) (first_offer rs t (suc k) rest) ≡ Some o
+    go : (b : Bool) → (is_none a.outcome && (is_for rs t a && has_started rs a)) ≡ b → cond b (Some (record { action = k; canceling = a.canceling }))
+        (first_offer rs t (suc k) rest) ≡ Some o
         → (first_offer rs t (suc k) rest ≡ Some o → IsOffered rs t (suc k) rest o) → IsOffered rs t k (a ∷ rest) o
     go false d g ih =
         let w : IsOffered rs t (suc k) rest o = ih g in
-        record { index = suc w.index; action = w.action; there = w.there; number = omega (arith, w.number); is_open = w.is_open; device = w.device; started = w.started; kind = w.kind }
+        record {
+          index = suc w.index;
+          action = w.action;
+          there = w.there;
+          number = omega (arith, w.number);
+          is_open = w.is_open;
+          device = w.device;
+          started =
+              w.started;
+          kind = w.kind;
+        }
     go true d g ih =
         let same : record { action = k; canceling = a.canceling } ≡ o = cc in
         let parts : (is_none a.outcome ≡ true) × ((is_for rs t a && has_started rs a) ≡ true) = and_parts _ _ d in
         let more : (is_for rs t a ≡ true) × (has_started rs a ≡ true) = and_parts _ _ parts.1 in
         let n : k ≡ o.action = ap (λ (v : Offer). v.action) same in
-        record { index = 0; action = a; there = refl; number = omega (arith, n); is_open = parts.0; device = more.0; started = more.1; kind = sym (ap (λ (v : Offer). v.canceling) same) }
+        record {
+          index = 0;
+          action = a;
+          there = refl;
+          number = omega (arith, n);
+          is_open = parts.0;
+          device = more.0;
+          started = more.1;
+          kind = sym (ap (λ (v : Offer). v.canceling) same);
+        }
 
 pub some_item : {X : Type 0} (xs : List X) (j : ℕ) → 1 ≤ j → j ≤ length xs → (m : X) × (item_numbered xs j ≡ Some m)
 some_item xs zero a b = absurd (omega (arith, a))
@@ -43,19 +68,23 @@ some_item (x ∷ xs) (suc zero) a b = (x, refl)
 some_item (x ∷ xs) (suc (suc j)) a b = some_item xs (suc j) (omega arith) (omega (arith, b))
 
 -- what is for a target is of its member
-pub member_is : (h : CommandList) (t : Bytes) (p : ActionPlace) (w : IsPlace h p) → is_for (records h) t (action_in h p) ≡ true → item_numbered w.rollout.members p.position ≡ Some t
+pub member_is : (h : CommandList) (t : Bytes) (p : ActionPlace) (w : IsPlace h p) → is_for (records h) t (action_in h p) ≡ true
+    → item_numbered w.rollout.members p.position ≡ Some t
 unfolding records
 member_is h t p w e =
     let (m, there) = some_item w.rollout.members p.position w.low w.high in
-    let named : same_bytes (unwrap_or (item_numbered w.rollout.members p.position) []) t ≡ true = sym (ap (λ o. same_bytes (member_at o p.position) t) (rollout_numbered h p.rollout w.rollout w.there)) ∙ e in
+    let named : same_bytes (unwrap_or (item_numbered w.rollout.members p.position) []) t ≡ true =
+    sym (ap (λ o. same_bytes (member_at o p.position) t) (rollout_numbered h p.rollout w.rollout w.there)) ∙ e in
     let same : m ≡ t = same_true m t (sym (ap (λ o. same_bytes (unwrap_or o []) t) there) ∙ named) in
     there ∙ ap (λ (x : Bytes). Some x) same
 
-offerable : (h : CommandList) (t : Bytes) (k : ℕ) (p : ActionPlace) → IsValid h → action_place h k ≡ Some p → is_candidate (records h) t (action_in h p) ≡ true → IsOfferable h t k p
+offerable : (h : CommandList) (t : Bytes) (k : ℕ) (p : ActionPlace) → IsValid h → action_place h k ≡ Some p → is_candidate (records h) t (action_in h p) ≡ true
+    → IsOfferable h t k p
 offerable h t k p v e d =
     let w : IsPlace h p = (invariant_of h v).placed k p e in
     let x : Rollout = w.rollout in
-    let parts : (is_none (outcome h p.rollout p.position) ≡ true) × ((is_for (records h) t (action_in h p) && has_started (records h) (action_in h p)) ≡ true) = and_parts _ _ d in
+    let parts : (is_none (outcome h p.rollout p.position) ≡ true) × ((is_for (records h) t (action_in h p) && has_started (records h) (action_in h p)) ≡ true) =
+    and_parts _ _ d in
     let more : (is_for (records h) t (action_in h p) ≡ true) × (has_started (records h) (action_in h p) ≡ true) = and_parts _ _ parts.1 in
     record {
       numbered = e;
@@ -80,8 +109,10 @@ candidate h t k p v w =
     let x : Rollout = w.rollout in
     let s : HasSoundPlan x = ((invariant_of h v).follows p.rollout x w.there).sound in
     three _ _ _ (ap is_none w.is_open)
-    (ap (λ o. same_bytes (member_at o p.position) t) (rollout_numbered h p.rollout x w.there) ∙ (ap (λ o. same_bytes (unwrap_or o []) t) w.member ∙ same_refl t))
-    (has_started_is h h p x w.group w.there s (record { first = w.first; last = within_groups x p.rollout w.group h s.some_groups w.started; within = w.within }) ∙ w.started)
+    (ap (λ o. same_bytes (member_at o p.position) t) (rollout_numbered h p.rollout x w.there)
+    ∙ (ap (λ o. same_bytes (unwrap_or o []) t) w.member ∙ same_refl t))
+    (has_started_is h h p x w.group w.there s
+    (record { first = w.first; last = within_groups x p.rollout w.group h s.some_groups w.started; within = w.within }) ∙ w.started)
   where
     three : (a b c : Bool) → a ≡ true → b ≡ true → c ≡ true → (a && (b && c)) ≡ true
     three a b c e f g = rw (e, f, g) refl
@@ -107,15 +138,19 @@ offer_is_least h t v = (λ o e. one o e, λ e k p w. false≢true (sym (nothing 
         go None d =
             let both : None ≡ Some w.action = sym (get_map (action_in h) (action_places h) w.index ∙ ap (option_map (action_in h)) d) ∙ w.there in cc
         go (Some p) d =
-            let both : Some (action_in h p) ≡ Some w.action = sym (get_map (action_in h) (action_places h) w.index ∙ ap (option_map (action_in h)) d) ∙ w.there in
+            let both : Some (action_in h p) ≡ Some w.action = sym (get_map (action_in h) (action_places h) w.index ∙ ap (option_map (action_in h)) d)
+            ∙ w.there in
             let same : action_in h p ≡ w.action = cc in
             let n : o.action ≡ suc w.index = omega (arith, w.number) in
             let at : action_place h o.action ≡ Some p = rw n d in
             record {
               place = p;
-              offerable = offerable h t o.action p v at (every _ _ _ (ap (λ (a : ActionRecord). is_none a.outcome) same ∙ w.is_open) (ap (is_for (records h) t) same ∙ w.device) (ap (has_started (records h)) same ∙ w.started));
+              offerable = offerable h t o.action p
+                  v at (every _ _ _ (ap (λ (a : ActionRecord). is_none a.outcome) same ∙ w.is_open) (ap (is_for (records h) t) same ∙ w.device)
+                  (ap (has_started (records h)) same ∙ w.started));
               kind = w.kind ∙ sym (ap (λ (a : ActionRecord). a.canceling) same);
-              least = λ k q l f. false≢true (sym (least_offer (records h) t o e k (action_in h q) (found_action h k (Some q) f.numbered) l) ∙ candidate h t k q v f);
+              least = λ k q l f. false≢true (sym (least_offer (records h) t o e k (action_in h q) (found_action h k (Some q) f.numbered) l)
+                  ∙ candidate h t k q v f);
             }
           where
             every : (a b c : Bool) → a ≡ true → b ≡ true → c ≡ true → (a && (b && c)) ≡ true

@@ -1,5 +1,11 @@
 -- A feedback on an action that has its outcome changes no record, and neither does an import that comes twice.
-use Rattle.rollout_machine.proofs.Common.{List, [], ◌∷◌, ◌||◌, cond, Option, None, subst, inl, inr, ◌≡◌, Bool, true, false, ◌&&◌, refl, sym, ◌∙◌, ap, Some, answer, query_reply, command_reply, Asked, Asks, Do, Ask, Refusal, ActionPlace, action_places, action_place, contains_word, with_words, same_bytes, same_words, with_word, CommandList, ◌▸◌, Make, Command, Feedback, Bytes, PutTargets, TargetRow, CancelFeedback, step_records, rollouts_in, action_in, needs_approval, modules, artifacts, sets, without_repeats, is_doubled, same_rows, same_row, IsTraceless, is_had, RepeatsLeaveNoTrace, is_repeat, rollouts, target_in, last_row_of, tags_in, target_ids, targets, attributes_in, Target, last_row_for, tags_by_row, IsValid, verdict, check, option_or, unwrap_or, false≢true, cases_Bool, and_parts}
+use Rattle.rollout_machine.proofs.Common.{List, [], ◌∷◌, ◌||◌, cond, Option, None, subst, inl, inr, ◌≡◌, Bool, true, false, ◌&&◌, refl, sym, ◌∙◌, ap, Some}
+use Rattle.rollout_machine.proofs.Common.{answer, query_reply, command_reply, Asked, Asks, Do, Ask, Refusal, ActionPlace, action_places, action_place}
+use Rattle.rollout_machine.proofs.Common.{contains_word, with_words, same_bytes, same_words, with_word, CommandList, ◌▸◌, Make, Command, Feedback, Bytes}
+use Rattle.rollout_machine.proofs.Common.{PutTargets, TargetRow, CancelFeedback, step_records, rollouts_in, action_in, needs_approval, modules, artifacts}
+use Rattle.rollout_machine.proofs.Common.{sets, without_repeats, is_doubled, same_rows, same_row, IsTraceless, is_had, RepeatsLeaveNoTrace, is_repeat}
+use Rattle.rollout_machine.proofs.Common.{rollouts, target_in, last_row_of, tags_in, target_ids, targets, attributes_in, Target, last_row_for, tags_by_row}
+use Rattle.rollout_machine.proofs.Common.{IsValid, verdict, check, option_or, unwrap_or, false≢true, cases_Bool, and_parts}
 use Rattle.rollout_machine.specs.Requests.{Rejected}
 use Rattle.rollout_machine.proofs.Answering.{rejected_answer, query_answer, refused_answer, accepted_step}
 use Rattle.rollout_machine.specs.Records.{records}
@@ -40,24 +46,30 @@ target_by h t o r ws = record {
   attributes = attributes_in t h;
 }
 
-twice_same : (h : CommandList) (t : Bytes) (o r : Option TargetRow) (ws : List Bytes) → target_by h t o (option_or o r) (tags_by_row o ws) ≡ target_by h t o r ws
+twice_same : (h : CommandList) (t : Bytes) (o r : Option TargetRow) (ws : List Bytes) → target_by h t o (option_or o r) (tags_by_row o ws)
+    ≡ target_by h t o r ws
 twice_same h t None r ws = refl
 twice_same h t (Some row) r ws = refl
 
 targets_twice : (h : CommandList) (rows : List TargetRow) → targets (h ▸ PutTargets rows ▸ PutTargets rows) ≡ targets (h ▸ PutTargets rows)
 targets_twice h rows =
     let ids : List Bytes = map (λ (row : TargetRow). row.id) rows in
-    map_same (target_in (h ▸ PutTargets rows ▸ PutTargets rows)) (target_in (h ▸ PutTargets rows)) (λ t. twice_same h t (last_row_for t rows) (last_row_of t h) (tags_in t h)) (with_words ids (with_words ids (target_ids h)))
-    ∙ ap (map (target_in (h ▸ PutTargets rows))) (same_with_all ids (with_words ids (target_ids h)) (sorted_ids (h ▸ PutTargets rows)) (all_in ids (target_ids h)))
+    map_same (target_in (h ▸ PutTargets rows ▸ PutTargets rows)) (target_in (h ▸ PutTargets rows))
+    (λ t. twice_same h t (last_row_for t rows) (last_row_of t h) (tags_in t h)) (with_words ids (with_words ids (target_ids h)))
+    ∙ ap (map (target_in (h ▸ PutTargets rows)))
+    (same_with_all ids (with_words ids (target_ids h)) (sorted_ids (h ▸ PutTargets rows)) (all_in ids (target_ids h)))
 
-import_twice : (h : CommandList) (rows : List TargetRow) → IsValid (h ▸ PutTargets rows) → verdict (h ▸ PutTargets rows) (PutTargets rows) ≡ None → records (h ▸ PutTargets rows ▸ PutTargets rows) ≡ records (h ▸ PutTargets rows)
+import_twice : (h : CommandList) (rows : List TargetRow) → IsValid (h ▸ PutTargets rows) → verdict (h ▸ PutTargets rows) (PutTargets rows) ≡ None
+    → records (h ▸ PutTargets rows ▸ PutTargets rows) ≡ records (h ▸ PutTargets rows)
 unfolding records
 import_twice g rows v e =
     let h : CommandList = g ▸ PutTargets rows in
     let c : Command = PutTargets rows in
     same_records (needs_approval h) _ _ _ _ _ _ _ _ _ _ _ _ (append_none (modules h)) (append_none (artifacts h)) (append_none (sets h))
     (targets_twice g rows)
-    (ap (rollouts_in (h ▸ c) 1) (append_none (rollouts h)) ∙ calm_everywhere h c (accepted h c v e) (λ r. record { outcomes = λ j. calm_outcome h c r j refl; pauses = refl; resumes = refl; triggers = refl; starts = refl }) (λ r. refl))
+    (ap (rollouts_in (h ▸ c) 1) (append_none (rollouts h))
+    ∙ calm_everywhere h c (accepted h c v e)
+    (λ r. record { outcomes = λ j. calm_outcome h c r j refl; pauses = refl; resumes = refl; triggers = refl; starts = refl }) (λ r. refl))
     (ap (map (action_in (h ▸ c))) (append_none (action_places h)) ∙ calm_actions h c refl (action_places h))
 
 -- ---- equality by tests
@@ -77,7 +89,8 @@ row_from i n d ts = record { id = i; name = n; digest = d; tags = ts }
 
 row_same : (a b : TargetRow) → same_row a b ≡ true → a ≡ b
 row_same a b e =
-    let one : (same_bytes a.id b.id ≡ true) × ((same_bytes a.name b.name && (same_bytes a.digest b.digest && same_words a.tags b.tags)) ≡ true) = and_parts _ _ e in
+    let one : (same_bytes a.id b.id ≡ true) × ((same_bytes a.name b.name && (same_bytes a.digest b.digest && same_words a.tags b.tags)) ≡ true) =
+    and_parts _ _ e in
     let more : (same_bytes a.name b.name ≡ true) × ((same_bytes a.digest b.digest && same_words a.tags b.tags) ≡ true) = and_parts _ _ one.1 in
     let rest : (same_bytes a.digest b.digest ≡ true) × (same_words a.tags b.tags ≡ true) = and_parts _ _ more.1 in
     parts _ _ _ _ _ _ _ _ (same_true _ _ one.0) (same_true _ _ more.0) (same_true _ _ rest.0) (words_same _ _ rest.1)
@@ -103,19 +116,24 @@ repeat_same h (Feedback feedback) v e d = go (action_place h feedback.action) re
   where
     go : (p : Option ActionPlace) → action_place h feedback.action ≡ p → is_had h (Feedback feedback) p ≡ true → records (h ▸ Feedback feedback) ≡ records h
     go None k d = cc
-    go (Some q) k d = bare h (Feedback feedback) _ _ _ _ _ (append_none (modules h)) (append_none (artifacts h)) (append_none (sets h)) (append_none (rollouts h)) (append_none (action_places h)) ∙ had_changes_nothing h (Feedback feedback) q (accepted h (Feedback feedback) v e) k d
+    go (Some q) k d = bare h (Feedback feedback) _ _ _ _ _ (append_none (modules h)) (append_none (artifacts h)) (append_none (sets h))
+        (append_none (rollouts h)) (append_none (action_places h)) ∙ had_changes_nothing h (Feedback feedback) q (accepted h (Feedback feedback) v e) k d
 repeat_same h (CancelFeedback feedback) v e d = go (action_place h feedback.action) refl d
   where
-    go : (p : Option ActionPlace) → action_place h feedback.action ≡ p → is_had h (CancelFeedback feedback) p ≡ true → records (h ▸ CancelFeedback feedback) ≡ records h
+    go : (p : Option ActionPlace) → action_place h feedback.action ≡ p → is_had h (CancelFeedback feedback) p ≡ true → records (h ▸ CancelFeedback feedback)
+        ≡ records h
     go None k d = cc
-    go (Some q) k d = bare h (CancelFeedback feedback) _ _ _ _ _ (append_none (modules h)) (append_none (artifacts h)) (append_none (sets h)) (append_none (rollouts h)) (append_none (action_places h)) ∙ had_changes_nothing h (CancelFeedback feedback) q (accepted h (CancelFeedback feedback) v e) k d
+    go (Some q) k d = bare h (CancelFeedback feedback) _ _ _ _ _ (append_none (modules h)) (append_none (artifacts h)) (append_none (sets h))
+        (append_none (rollouts h)) (append_none (action_places h))
+        ∙ had_changes_nothing h (CancelFeedback feedback) q (accepted h (CancelFeedback feedback) v e) k d
 repeat_same h _ v e d = cc
 
 doubled_same : (h : CommandList) (c : Command) → IsValid h → verdict h c ≡ None → is_doubled h c ≡ true → records (h ▸ c) ≡ records h
 doubled_same (Make approval) c v e d = cc
 doubled_same (h ▸ PutTargets rows) (PutTargets more) v e d =
     let same : rows ≡ more = rows_same rows more d in
-    let P : List TargetRow → Type 0 = λ xs. verdict (h ▸ PutTargets rows) (PutTargets xs) ≡ None → records (h ▸ PutTargets rows ▸ PutTargets xs) ≡ records (h ▸ PutTargets rows) in
+    let P : List TargetRow → Type 0 = λ xs. verdict (h ▸ PutTargets rows) (PutTargets xs) ≡ None → records (h ▸ PutTargets rows ▸ PutTargets xs)
+    ≡ records (h ▸ PutTargets rows) in
     let here : P rows = λ k. import_twice h rows v k in
     subst P same here e
 doubled_same (h ▸ PutTargets rows) _ v e d = cc
@@ -124,7 +142,8 @@ doubled_same (h ▸ _) c v e d = cc
 -- lists with the same records have the same answers
 same_answers : (h k : CommandList) → IsValid h → IsValid k → records h ≡ records k → (asked : Asked) → answer h asked ≡ answer k asked
 same_answers h k v w e (Rejected refusal) = rejected_answer h refusal ∙ sym (rejected_answer k refusal)
-same_answers h k v w e (Asks (Ask query)) = query_answer h query ∙ ap (λ rs. record { reply = query_reply rs query; accepted = None }) e ∙ sym (query_answer k query)
+same_answers h k v w e (Asks (Ask query)) = query_answer h query ∙ ap (λ rs. record { reply = query_reply rs query; accepted = None }) e
+    ∙ sym (query_answer k query)
 same_answers h k v w e (Asks (Do c)) = go (verdict h c) refl
   where
     same : verdict h c ≡ verdict k c
@@ -132,21 +151,29 @@ same_answers h k v w e (Asks (Do c)) = go (verdict h c) refl
 
     go : (o : Option Refusal) → verdict h c ≡ o → answer h (Asks (Do c)) ≡ answer k (Asks (Do c))
     go (Some refusal) d = refused_answer h c refusal d ∙ sym (refused_answer k c refusal (sym same ∙ d))
-    go None d = accepted_step h c v d ∙ ap (λ rs. record { reply = command_reply c (step_records rs c); accepted = Some c }) e ∙ sym (accepted_step k c w (sym same ∙ d))
+    go None d = accepted_step h c v d ∙ ap (λ rs. record { reply = command_reply c (step_records rs c); accepted = Some c }) e
+        ∙ sym (accepted_step k c w (sym same ∙ d))
 
 pub repeats_leave_no_trace : RepeatsLeaveNoTrace
 repeats_leave_no_trace (Make approval) v = record { valid = tt; same = refl; verdicts = λ c. refl; answers = λ asked. refl }
 repeats_leave_no_trace (h ▸ c) v = go (is_repeat h c) (is_doubled h c) refl refl (repeats_leave_no_trace h v.0)
   where
     traceless : (k : CommandList) → without_repeats (h ▸ c) ≡ k → IsValid k → records (h ▸ c) ≡ records k → IsTraceless (h ▸ c)
-    traceless k e w s = record { valid = subst IsValid (sym e) w; same = s ∙ sym (ap records e); verdicts = λ d. ap (λ rs. check rs d) (s ∙ sym (ap records e)); answers = same_answers (h ▸ c) (without_repeats (h ▸ c)) v (subst IsValid (sym e) w) (s ∙ sym (ap records e)) }
+    traceless k e w s = record {
+      valid = subst IsValid (sym e) w;
+      same = s ∙ sym (ap records e);
+      verdicts = λ d. ap (λ rs. check rs d) (s ∙ sym (ap records e));
+      answers = same_answers (h ▸ c) (without_repeats (h ▸ c)) v (subst IsValid (sym e) w) (s ∙ sym (ap records e));
+    }
 
     test : (a b : Bool) (x y : CommandList) → is_repeat h c ≡ a → is_doubled h c ≡ b → cond (is_repeat h c || is_doubled h c) x y ≡ cond (a || b) x y
     test a b x y e f = rw (e, f) refl
 
     go : (a b : Bool) → is_repeat h c ≡ a → is_doubled h c ≡ b → IsTraceless h → IsTraceless (h ▸ c)
-    go true b e f ih = traceless (without_repeats h) (test true b (without_repeats h) (without_repeats h ▸ c) e f) ih.valid (repeat_same h c v.0 v.2 e ∙ ih.same)
-    go false true e f ih = traceless (without_repeats h) (test false true (without_repeats h) (without_repeats h ▸ c) e f) ih.valid (doubled_same h c v.0 v.2 f ∙ ih.same)
+    go true b e f ih = traceless (without_repeats h) (test true b (without_repeats h) (without_repeats h ▸ c) e f) ih.valid
+        (repeat_same h c v.0 v.2 e ∙ ih.same)
+    go false true e f ih = traceless (without_repeats h) (test false true (without_repeats h) (without_repeats h ▸ c) e f) ih.valid
+        (doubled_same h c v.0 v.2 f ∙ ih.same)
     go false false e f ih =
         let here : verdict (without_repeats h) c ≡ None = sym (ih.verdicts c) ∙ v.2 in
         traceless (without_repeats h ▸ c) (test false false (without_repeats h) (without_repeats h ▸ c) e f) (ih.valid, v.1, here)

@@ -1,5 +1,8 @@
 -- The lists of targets, tags and members rise in byte order.
-use Rattle.rollout_machine.proofs.Common.{◌≡◌, ℕ, zero, suc, ◌<◌, Bool, true, false, cond, not, List, [], ◌∷◌, map, refl, sym, ◌∙◌, ap, subst, arith, Option, Some, None, filter, slice_get, option_map, Tree, filter_of, bytes_below, item_numbered, same_bytes, sorted_words, without_word, CommandList, Make, ◌▸◌, Bytes, PutTargets, Tag, TargetRow, Untag, matches, Rollout, chosen, rollout_at, Target, last_row_for, tags_by_row, tags_in, target_ids, target_in, targets, IsValid}
+use Rattle.rollout_machine.proofs.Common.{◌≡◌, ℕ, zero, suc, ◌<◌, Bool, true, false, cond, not, List, [], ◌∷◌, map, refl, sym, ◌∙◌, ap, subst, arith, Option}
+use Rattle.rollout_machine.proofs.Common.{Some, None, filter, slice_get, option_map, Tree, filter_of, bytes_below, item_numbered, same_bytes, sorted_words}
+use Rattle.rollout_machine.proofs.Common.{without_word, CommandList, Make, ◌▸◌, Bytes, PutTargets, Tag, TargetRow, Untag, matches, Rollout, chosen, rollout_at}
+use Rattle.rollout_machine.proofs.Common.{Target, last_row_for, tags_by_row, tags_in, target_ids, target_in, targets, IsValid}
 use Rattle.rollout_machine.specs.Orders.{ListsRiseInOrder, RiseInBytes}
 use Rattle.rollout_machine.specs.Records.{records}
 use Rattle.rollout_machine.proofs.Actions.{numbered_map}
@@ -48,7 +51,8 @@ without_is w [] = refl
 without_is w (v ∷ vs) = go (same_bytes w v) (without_is w vs)
   where
     go : (same : Bool) → filter (λ v. not (same_bytes w v)) vs ≡ without_word w vs
-        → cond (not same) (v ∷ filter (λ v. not (same_bytes w v)) vs) (filter (λ v. not (same_bytes w v)) vs) ≡ cond same (without_word w vs) (v ∷ without_word w vs)
+        → cond (not same) (v ∷ filter (λ v. not (same_bytes w v)) vs) (filter (λ v. not (same_bytes w v)) vs)
+        ≡ cond same (without_word w vs) (v ∷ without_word w vs)
     go true ih = ih
     go false ih = ap (λ ws. v ∷ ws) ih
 

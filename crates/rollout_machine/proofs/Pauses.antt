@@ -1,5 +1,8 @@
 -- The computing definition of a pause, and the words "some prefix began a pause, and no resume follows it".
-use Rattle.rollout_machine.proofs.Common.{◌≡◌, Bool, true, false, ◌||◌, ◌&&◌, not, List, [], ◌∷◌, ◌++◌, refl, ◌∙◌, ap, subst, ℕ, sym, inl, inr, ◌⊎◌, and_parts, not-true, eq-eqb, eqb-true, false≢true, cases_Bool, CommandList, Make, ◌▸◌, followed_by, Resume, Start, Command, NoResume, SomePause, PausedIs, StartIsIn, FirstStartedIs, is_rollout_started, is_start_of, is_paused, pause_begins, is_resume_of, Rollout}
+use Rattle.rollout_machine.proofs.Common.{◌≡◌, Bool, true, false, ◌||◌, ◌&&◌, not, List, [], ◌∷◌, ◌++◌, refl, ◌∙◌, ap, subst, ℕ, sym, inl, inr, ◌⊎◌, and_parts}
+use Rattle.rollout_machine.proofs.Common.{not-true, eq-eqb, eqb-true, false≢true, cases_Bool, CommandList, Make, ◌▸◌, followed_by, Resume, Start, Command}
+use Rattle.rollout_machine.proofs.Common.{NoResume, SomePause, PausedIs, StartIsIn, FirstStartedIs, is_rollout_started, is_start_of, is_paused, pause_begins}
+use Rattle.rollout_machine.proofs.Common.{is_resume_of, Rollout}
 use Rattle.rollout_machine.proofs.Meanings.{one_more, pause_begins_to, pause_begins_from, longer}
 
 abbrev pub NoneResumes : ℕ → List Command → Type 0
@@ -49,7 +52,15 @@ paused_to x r (h ▸ c) e = go (or_split (pause_begins x r h c) (not (is_resume_
     go (inr k) ih =
         let parts : (not (is_resume_of r c) ≡ true) × (is_paused x r h ≡ true) = and_parts _ _ k in
         let w : PauseAt x r h = ih parts.1 in
-        record { before = w.before; at_command = w.at_command; rest = w.rest ++ c ∷ []; whole = one_more (w.before ▸ w.at_command) w.rest c ∙ ap (λ g. g ▸ c) w.whole; begins = w.begins; no_resume = no_more r w.rest c w.no_resume (not-true _ parts.0) }
+        record {
+          before = w.before;
+          at_command = w.at_command;
+          rest = w.rest ++ c ∷ [];
+          whole = one_more (w.before ▸ w.at_command) w.rest c
+              ∙ ap (λ g. g ▸ c) w.whole;
+          begins = w.begins;
+          no_resume = no_more r w.rest c w.no_resume (not-true _ parts.0);
+        }
 
 -- ---- in words
 
@@ -72,10 +83,23 @@ pub paused_is : PausedIs
 paused_is x r h = (λ e. to (paused_to x r h e), λ w. paused_from x r h (from w))
   where
     to : PauseAt x r h → SomePause x r h
-    to w = record { at_end = record { before = w.before; command = w.at_command; rest = w.rest; whole = w.whole }; begins = pause_begins_to x r w.before w.at_command w.begins; no_resume = words_of r w.rest w.no_resume }
+    to w = record {
+      at_end = record { before = w.before; command = w.at_command; rest = w.rest; whole = w.whole };
+      begins =
+          pause_begins_to x r w.before w.at_command w.begins;
+      no_resume = words_of r w.rest w.no_resume;
+    }
 
     from : SomePause x r h → PauseAt x r h
-    from w = record { before = w.at_end.before; at_command = w.at_end.command; rest = w.at_end.rest; whole = w.at_end.whole; begins = pause_begins_from x r w.at_end.before w.at_end.command w.begins; no_resume = tests_of r w.at_end.rest w.no_resume }
+    from w = record {
+      before = w.at_end.before;
+      at_command = w.at_end.command;
+      rest = w.at_end.rest;
+      whole = w.at_end.whole;
+      begins =
+          pause_begins_from x r w.at_end.before w.at_end.command w.begins;
+      no_resume = tests_of r w.at_end.rest w.no_resume;
+    }
 
 -- ---- the first group is started where the start is in the list
 
@@ -100,7 +124,8 @@ started_stays r g [] e = e
 started_stays r g (c ∷ cs) e = started_stays r (g ▸ c) cs (rw e refl)
 
 start_from : (r : ℕ) (h : CommandList) → StartIsIn r h → is_rollout_started r h ≡ true
-start_from r h w = subst (λ (g : CommandList). is_rollout_started r g ≡ true) w.0.whole (started_stays r (w.0.before ▸ w.0.command) w.0.rest (or_true _ _ (ap (is_start_of r) w.1 ∙ eq-eqb r r refl)))
+start_from r h w = subst (λ (g : CommandList). is_rollout_started r g ≡ true) w.0.whole
+    (started_stays r (w.0.before ▸ w.0.command) w.0.rest (or_true _ _ (ap (is_start_of r) w.1 ∙ eq-eqb r r refl)))
   where
     or_true : (a b : Bool) → b ≡ true → (a || b) ≡ true
     or_true true b e = refl

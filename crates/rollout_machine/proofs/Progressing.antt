@@ -1,5 +1,7 @@
 -- At most one group starts in a command, and none is left to start after it.
-use Rattle.rollout_machine.proofs.Common.{◌≡◌, ℕ, Some, zero, suc, ◌≤◌, ◌<◌, Bool, true, false, cond, ◌&&◌, ◌||◌, not, refl, sym, ◌∙◌, arith, inl, inr, ◌⊎◌, nat_lt, CommandList, Make, ◌▸◌, Command, success_holds, IsLast, is_group_started, is_paused, next_started, is_trigger_of, Rollout, rollout_at, false≢true, lt-ltb}
+use Rattle.rollout_machine.proofs.Common.{◌≡◌, ℕ, Some, zero, suc, ◌≤◌, ◌<◌, Bool, true, false, cond, ◌&&◌, ◌||◌, not, refl, sym, ◌∙◌, arith, inl, inr, ◌⊎◌}
+use Rattle.rollout_machine.proofs.Common.{nat_lt, CommandList, Make, ◌▸◌, Command, success_holds, IsLast, is_group_started, is_paused, next_started}
+use Rattle.rollout_machine.proofs.Common.{is_trigger_of, Rollout, rollout_at, false≢true, lt-ltb}
 use Rattle.rollout_machine.specs.Promises.{StartsGroup, NoGroupIsLeft}
 use Rattle.rollout_machine.proofs.EffectLaws.{no_further}
 use Rattle.rollout_machine.proofs.Starts.{starts_one_more, last_made}
@@ -23,7 +25,8 @@ positive x r zero h e = absurd (false≢true e)
 positive x r (suc i) h e = omega arith
 
 -- the group that starts is the one behind the last
-pub next_starts : (x : Rollout) (r i l : ℕ) (h : CommandList) (c : Command) (b : Bool) → IsLast x r h l → IsLast x r (h ▸ c) (cond b (suc l) l) → StartsGroup x r i h c → i ≡ suc l
+pub next_starts : (x : Rollout) (r i l : ℕ) (h : CommandList) (c : Command) (b : Bool) → IsLast x r h l → IsLast x r (h ▸ c) (cond b (suc l) l)
+    → StartsGroup x r i h c → i ≡ suc l
 next_starts x r i l h c b last next s =
     let low : l < i = behind x r i l h last s.before (positive x r i (h ▸ c) s.now) in
     let high : i ≤ cond b (suc l) l = no_further x r i (cond b (suc l) l) (h ▸ c) next s.now in
@@ -33,7 +36,8 @@ next_starts x r i l h c b last next s =
       go false high low = absurd (omega (arith, high, low))
 
 -- of one rollout at most one group starts
-pub one_of_rollout : (h : CommandList) (c : Command) (r i j : ℕ) (x : Rollout) → IsAccepted h c → rollout_at h r ≡ Some x → StartsGroup x r i h c → StartsGroup x r j h c → i ≡ j
+pub one_of_rollout : (h : CommandList) (c : Command) (r i j : ℕ) (x : Rollout) → IsAccepted h c → rollout_at h r ≡ Some x → StartsGroup x r i h c
+    → StartsGroup x r j h c → i ≡ j
 one_of_rollout h c r i j x w d s t =
     let f : IsFollowed x r h (w.last r) = w.follows r x d in
     let b : Bool = starts_one_more x r h c (w.last r) in
@@ -51,7 +55,8 @@ pub no_group_is_left : NoGroupIsLeft
 no_group_is_left (Make approval) r i x low high e p s = absurd (false≢true (sym ((last_made x r approval).beyond i (omega (arith, low))) ∙ e))
 no_group_is_left (h ▸ c) r zero x low high e p s = absurd (omega (arith, low))
 no_group_is_left (h ▸ c) r (suc i) x low high e p s =
-    all (nat_lt (suc i) x.plan.groups.count) (next_started x r (suc i) (is_group_started x r (suc i)) h) (is_group_started x r (suc i) (h ▸ c)) (is_paused x r (h ▸ c)) (success_holds x r (suc i) (h ▸ c))
+    all (nat_lt (suc i) x.plan.groups.count) (next_started x r (suc i) (is_group_started x r (suc i)) h) (is_group_started x r (suc i) (h ▸ c))
+    (is_paused x r (h ▸ c)) (success_holds x r (suc i) (h ▸ c))
     (is_trigger_of r c && (is_group_started x r (suc i) h && not (next_started x r (suc i) (is_group_started x r (suc i)) h))) (lt-ltb _ _ high) e p s where
       all : (l a e p s t : Bool) → l ≡ true → e ≡ true → p ≡ false → s ≡ true → (l && (a || (e && ((not p && s) || t)))) ≡ true
       all l true e p s t u v w z = rw u refl

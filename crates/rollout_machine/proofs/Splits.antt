@@ -1,5 +1,8 @@
 -- A split that leaves no group empty is a cut.
-use Rattle.rollout_machine.proofs.Common.{◌≡◌, ◌≤◌, ◌<◌, ℕ, zero, suc, ◌+◌, ◌-◌, ◌*◌, ◌/◌, Bool, true, false, cond, List, [], ◌∷◌, ◌++◌, nat_eq, length, slice_get, take, drop, Some, None, refl, sym, ap, subst, ◌∙◌, arith, AllByRecursion, nat_tests, le-div, div-lt_iff_lt-mul, FirstEmptyTells, SplitCovers, first_empty_from, left_by, share, split_bounds_of, split_last, Bounds}
+use Rattle.rollout_machine.proofs.Common.{◌≡◌, ◌≤◌, ◌<◌, ℕ, zero, suc, ◌+◌, ◌-◌, ◌*◌, ◌/◌, Bool, true, false, cond, List, [], ◌∷◌, ◌++◌, nat_eq, length}
+use Rattle.rollout_machine.proofs.Common.{slice_get, take, drop, Some, None, refl, sym, ap, subst, ◌∙◌, arith, AllByRecursion, nat_tests, le-div}
+use Rattle.rollout_machine.proofs.Common.{div-lt_iff_lt-mul, FirstEmptyTells, SplitCovers, first_empty_from, left_by, share, split_bounds_of, split_last}
+use Rattle.rollout_machine.proofs.Common.{Bounds}
 
 some_share : (rest p : ℕ) → 1 ≤ rest → 1 ≤ p → 1 ≤ share rest p
 some_share rest p a b = le-div 1 (rest * p + 99) 100 (omega arith) (omega (arith, product rest p a b))
@@ -27,7 +30,8 @@ less_left m [] (suc i) (suc k) h = omega arith
 less_left m (p ∷ ps) (suc i) (suc k) h = less_left (m - share m p) ps i k (omega (arith, h))
 
 -- one group more
-one_less : (m : ℕ) (ps : List ℕ) (i : ℕ) → AllByRecursion (λ p. 1 ≤ p) ps → i < length ps → 1 ≤ left_by m (take i ps) → left_by m (take (suc i) ps) + 1 ≤ left_by m (take i ps)
+one_less : (m : ℕ) (ps : List ℕ) (i : ℕ) → AllByRecursion (λ p. 1 ≤ p) ps → i < length ps → 1 ≤ left_by m (take i ps)
+    → left_by m (take (suc i) ps) + 1 ≤ left_by m (take i ps)
 one_less m [] i all low some = absurd (omega (arith, low))
 one_less m (p ∷ ps) zero all low some = let taken = some_share m p some all.0 in omega (arith, taken)
 one_less m (p ∷ ps) (suc i) all low some = one_less (m - share m p) ps i all.1 (omega (arith, low)) some
@@ -65,7 +69,8 @@ none_empty k m [] none i low = absurd (omega (arith, low))
 none_empty k m (p ∷ ps) none i low = go (nat_eq m 0) refl none i low (none_empty (k + 1) (m - share m p) ps)
   where
     go : (b : Bool) → nat_eq m 0 ≡ b → cond b (Some k) (first_empty_from (k + 1) (m - share m p) ps) ≡ None → (i : ℕ) → i < length (p ∷ ps)
-        → (first_empty_from (k + 1) (m - share m p) ps ≡ None → (i : ℕ) → i < length ps → 1 ≤ left_by (m - share m p) (take i ps)) → 1 ≤ left_by m (take i (p ∷ ps))
+        → (first_empty_from (k + 1) (m - share m p) ps ≡ None → (i : ℕ) → i < length ps → 1 ≤ left_by (m - share m p) (take i ps))
+        → 1 ≤ left_by m (take i (p ∷ ps))
     go true is none i low rest = absurd cc
     go false is none zero low rest = grind (arith, nat_tests, is)
     go false is none (suc i) low rest = rest none i (omega (arith, low))
@@ -82,12 +87,14 @@ left_after m (q ∷ ps) zero p got = let same : q ≡ p = cc in ap (λ n. m - sh
 left_after m (q ∷ ps) (suc i) p got = left_after (m - share m q) ps i p got
 
 -- the last position of one group more, by that of those so far
-pub one_further : (m : ℕ) (ps : List ℕ) (i p last taken : ℕ) → slice_get ps i ≡ Some p → last ≡ split_last m ps i → taken ≡ share (m - last) p → taken ≤ m - last → last + taken ≡ split_last m ps (i + 1)
+pub one_further : (m : ℕ) (ps : List ℕ) (i p last taken : ℕ) → slice_get ps i ≡ Some p → last ≡ split_last m ps i → taken ≡ share (m - last) p
+    → taken ≤ m - last → last + taken ≡ split_last m ps (i + 1)
 one_further m ps i p last taken got is takes few =
     let within = no_more m (take i ps) in
     let rest : m - last ≡ left_by m (take i ps) = omega (arith, within, is) in
     let on : suc i ≡ i + 1 = omega arith in
-    let after : left_by m (take (i + 1) ps) ≡ left_by m (take i ps) - share (left_by m (take i ps)) p = subst (λ k. left_by m (take k ps) ≡ left_by m (take i ps) - share (left_by m (take i ps)) p) on (left_after m ps i p got) in
+    let after : left_by m (take (i + 1) ps) ≡ left_by m (take i ps) - share (left_by m (take i ps)) p =
+    subst (λ k. left_by m (take k ps) ≡ left_by m (take i ps) - share (left_by m (take i ps)) p) on (left_after m ps i p got) in
     let same : taken ≡ share (left_by m (take i ps)) p = takes ∙ ap (λ k. share k p) rest in
     omega (arith, after, few, within, same, is, rest)
 
@@ -109,7 +116,8 @@ none_here m ps i p last taken got low takes k =
 abbrev pub bounds_from : ℕ → ℕ → Bounds
 bounds_from last next = record { first = last + 1; last = next }
 
-pub one_more_bounds : (m : ℕ) (ps : List ℕ) (i last next : ℕ) → last ≡ split_last m ps i → next ≡ split_last m ps (i + 1) → bounds_from last next ≡ split_bounds_of m ps (i + 1)
+pub one_more_bounds : (m : ℕ) (ps : List ℕ) (i last next : ℕ) → last ≡ split_last m ps i → next ≡ split_last m ps (i + 1) → bounds_from last next
+    ≡ split_bounds_of m ps (i + 1)
 one_more_bounds m ps i last next is on =
     let back : i + 1 - 1 ≡ i = omega arith in
     λ j. record { first = (ap (λ n. n + 1) is ∙ ap (λ k. split_last m ps k + 1) (sym back)) j; last = on j }

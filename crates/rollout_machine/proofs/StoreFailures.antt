@@ -1,5 +1,15 @@
 -- No answer is a failed store: verdicts and queries have other refusals.
-use Rattle.rollout_machine.proofs.Common.{◌≡◌, ◌≢◌, Bool, true, false, List, [], ◌∷◌, ℕ, Option, Some, None, refl, ap, sym, subst, length, ◌∙◌, cond, not, ◌&&◌, nat_eq, query_reply, command_reply, command_answer, if_found, for_device, download, targets_reply, targets_matching, is_offer_of, added_artifact, added_rollout, modules_offered, artifact_named, action_of_target, artifact_of_module, item_numbered, CommandList, ◌▸◌, Bytes, Credential, Command, AddModule, AddArtifact, AddSet, PutTargets, Tag, Untag, PutAttributes, CreateRollout, Approve, Deny, Start, Pause, Resume, TriggerNext, Cancel, Feedback, CancelFeedback, filter_of, Tree, deployment_shown, offer, records, Records, ArtifactRecord, RolloutRecord, Reply, Refused, PollShown, DeploymentShown, CancelShown, ContentsShown, Page, Query, Poll, ShowDeployment, ShowCancel, Download, ShowTargets, ShowTarget, ShowTargetActions, ShowAction, ShowHistory, ShowModules, ShowModule, ShowArtifacts, ShowArtifact, ShowContents, ShowSets, ShowSet, ShowRollouts, ShowRollout, ShowGroups, ShowGroup, ShowGroupTargets, ShowReport, ShowActionsTable, Request, Do, Ask, Asks, group_numbered, verdict, check, verdict_row, first_refusal, is_known, target_of, Refusal, StoreFailed, NotFound, Unauthorized, list_any, false≢true, and_parts}
+use Rattle.rollout_machine.proofs.Common.{◌≡◌, ◌≢◌, Bool, true, false, List, [], ◌∷◌, ℕ, Option, Some, None, refl, ap, sym, subst, length, ◌∙◌, cond, not}
+use Rattle.rollout_machine.proofs.Common.{◌&&◌, nat_eq, query_reply, command_reply, command_answer, if_found, for_device, download, targets_reply}
+use Rattle.rollout_machine.proofs.Common.{targets_matching, is_offer_of, added_artifact, added_rollout, modules_offered, artifact_named, action_of_target}
+use Rattle.rollout_machine.proofs.Common.{artifact_of_module, item_numbered, CommandList, ◌▸◌, Bytes, Credential, Command, AddModule, AddArtifact, AddSet}
+use Rattle.rollout_machine.proofs.Common.{PutTargets, Tag, Untag, PutAttributes, CreateRollout, Approve, Deny, Start, Pause, Resume, TriggerNext, Cancel}
+use Rattle.rollout_machine.proofs.Common.{Feedback, CancelFeedback, filter_of, Tree, deployment_shown, offer, records, Records, ArtifactRecord, RolloutRecord}
+use Rattle.rollout_machine.proofs.Common.{Reply, Refused, PollShown, DeploymentShown, CancelShown, ContentsShown, Page, Query, Poll, ShowDeployment}
+use Rattle.rollout_machine.proofs.Common.{ShowCancel, Download, ShowTargets, ShowTarget, ShowTargetActions, ShowAction, ShowHistory, ShowModules, ShowModule}
+use Rattle.rollout_machine.proofs.Common.{ShowArtifacts, ShowArtifact, ShowContents, ShowSets, ShowSet, ShowRollouts, ShowRollout, ShowGroups, ShowGroup}
+use Rattle.rollout_machine.proofs.Common.{ShowGroupTargets, ShowReport, ShowActionsTable, Request, Do, Ask, Asks, group_numbered, verdict, check, verdict_row}
+use Rattle.rollout_machine.proofs.Common.{first_refusal, is_known, target_of, Refusal, StoreFailed, NotFound, Unauthorized, list_any, false≢true, and_parts}
 use Rattle.rollout_machine.specs.Answers.{answer}
 use Rattle.rollout_machine.specs.StoreFailures.{is_failed_store, is_store}
 
@@ -47,7 +57,8 @@ not_true false e = refl
 first_never_stores : (row : List (Bool × Refusal)) (refusal : Refusal) → never_stores row ≡ true → first_refusal row ≡ Some refusal → is_store refusal ≡ false
 first_never_stores [] refusal never e = absurd (cc)
 first_never_stores ((t, other) ∷ row) refusal never e = go t e (first_never_stores row refusal (and_parts _ _ never).1) where
-  go : (b : Bool) → cond b (Some other) (first_refusal row) ≡ Some refusal → (first_refusal row ≡ Some refusal → is_store refusal ≡ false) → is_store refusal ≡ false
+  go : (b : Bool) → cond b (Some other) (first_refusal row) ≡ Some refusal → (first_refusal row ≡ Some refusal → is_store refusal ≡ false) → is_store refusal
+      ≡ false
   go true f later = let same : other ≡ refusal = cc in subst (λ (r : Refusal). is_store r ≡ false) same (not_true _ (and_parts _ _ never).0)
   go false f later = later f
 
@@ -76,8 +87,11 @@ targets_never rs page (Some text) = go (filter_of text) where
 
 query_never_stores : (rs : Records) (query : Query) → is_failed_store (query_reply rs query) ≡ false
 query_never_stores rs (Poll device) = device_never rs device (PollShown device.id (offer rs device.id)) refl
-query_never_stores rs (ShowDeployment device k) = device_never rs device _ (one_of_two (is_offer_of k false (offer rs device.id)) (DeploymentShown (deployment_shown rs device.id k)) (Refused NotFound) refl refl)
-query_never_stores rs (ShowCancel device k) = device_never rs device _ (one_of_two (is_offer_of k true (offer rs device.id)) (CancelShown k) (Refused NotFound) refl refl)
+query_never_stores rs (ShowDeployment device k) =
+    device_never rs device _ (one_of_two (is_offer_of k false (offer rs device.id)) (DeploymentShown (deployment_shown rs device.id k)) (Refused NotFound) refl
+    refl)
+query_never_stores rs (ShowCancel device k) =
+    device_never rs device _ (one_of_two (is_offer_of k true (offer rs device.id)) (CancelShown k) (Refused NotFound) refl refl)
 query_never_stores rs (Download device m filename) =
     device_never rs device (download rs device.id m filename) (one_of_two (list_any (λ n. nat_eq n m) (modules_offered rs (offer rs device.id)))
     (if_found (λ (a : ArtifactRecord). ContentsShown a.contents) (artifact_named m filename rs.artifacts)) (Refused NotFound)

@@ -1,5 +1,11 @@
 -- The targets' records after a change of their tags or attributes.
-use Rattle.rollout_machine.proofs.Common.{◌≡◌, ℕ, arith, ap₂, Bool, true, false, cond, ◌||◌, ◌&&◌, not, List, [], ◌∷◌, refl, sym, ◌∙◌, ap, Option, Some, None, map, nat_eq, inl, inr, unwrap_or, cases_Bool, eq-eqb, eqb-true, false≢true, and_parts, nat_tests, action_places, same_bytes, bytes_below, contains_word, with_word, without_word, sorted_words, CommandList, Make, ◌▸◌, Bytes, Credential, Attribute, TargetRow, Command, PutTargets, Tag, Untag, PutAttributes, TagsAreSaid, step_records, change_target, rollouts_in, action_in, needs_approval, modules, artifacts, sets, rollouts, Target, target_in, target_ids, tags_in, tags_by_row, has_tag, tag_in_row, last_row_for, attributes_in, with_attributes, IsValid, verdict}
+use Rattle.rollout_machine.proofs.Common.{◌≡◌, ℕ, arith, ap₂, Bool, true, false, cond, ◌||◌, ◌&&◌, not, List, [], ◌∷◌, refl, sym, ◌∙◌, ap, Option, Some, None}
+use Rattle.rollout_machine.proofs.Common.{map, nat_eq, inl, inr, unwrap_or, cases_Bool, eq-eqb, eqb-true, false≢true, and_parts, nat_tests, action_places}
+use Rattle.rollout_machine.proofs.Common.{same_bytes, bytes_below, contains_word, with_word, without_word, sorted_words, CommandList, Make, ◌▸◌, Bytes}
+use Rattle.rollout_machine.proofs.Common.{Credential, Attribute, TargetRow, Command, PutTargets, Tag, Untag, PutAttributes, TagsAreSaid, step_records}
+use Rattle.rollout_machine.proofs.Common.{change_target, rollouts_in, action_in, needs_approval, modules, artifacts, sets, rollouts, Target, target_in}
+use Rattle.rollout_machine.proofs.Common.{target_ids, tags_in, tags_by_row, has_tag, tag_in_row, last_row_for, attributes_in, with_attributes, IsValid}
+use Rattle.rollout_machine.proofs.Common.{verdict}
 use Rattle.std.specs.Cmp.Lexicographic.{pointwise}
 use Rattle.rollout_machine.specs.Records.{records}
 use Rattle.rollout_machine.proofs.EffectLaws.{calm_outcome}
@@ -7,29 +13,37 @@ use Rattle.rollout_machine.proofs.Actions.{append_none, calm_actions, map_same, 
 use Rattle.rollout_machine.proofs.Whole.{calm_everywhere, same_records}
 use Rattle.rollout_machine.proofs.Induction.{accepted}
 
-changed_targets : (h : CommandList) (c : Command) (u : Bytes) (f : Target → Target) → ((t : Bytes) → target_in (h ▸ c) t ≡ cond (same_bytes t u) (f (target_in h t)) (target_in h t)) → (ids : List Bytes) → map (target_in (h ▸ c)) ids ≡ change_target u f (map (target_in h) ids)
+changed_targets : (h : CommandList) (c : Command) (u : Bytes) (f : Target → Target)
+    → ((t : Bytes) → target_in (h ▸ c) t ≡ cond (same_bytes t u) (f (target_in h t)) (target_in h t)) → (ids : List Bytes) → map (target_in (h ▸ c)) ids
+    ≡ change_target u f (map (target_in h) ids)
 changed_targets h c u f e ids =
     map_same (target_in (h ▸ c)) (λ t. cond (same_bytes t u) (f (target_in h t)) (target_in h t)) e ids
     ∙ sym (map_twice (target_in h) (λ (t : Target). cond (same_bytes t.id u) (f t) t) ids)
 
-tag_in : (h : CommandList) (u x t : Bytes) → target_in (h ▸ Tag u x) t ≡ cond (same_bytes t u) (record (target_in h t) { tags = with_word x (tags_in t h) }) (target_in h t)
+tag_in : (h : CommandList) (u x t : Bytes) → target_in (h ▸ Tag u x) t ≡ cond (same_bytes t u) (record (target_in h t) { tags = with_word x (tags_in t h) })
+    (target_in h t)
 tag_in h u x t = go (same_bytes t u)
   where
-    go : (b : Bool) → record (target_in h t) { tags = cond b (with_word x (tags_in t h)) (tags_in t h) } ≡ cond b (record (target_in h t) { tags = with_word x (tags_in t h) }) (target_in h t)
+    go : (b : Bool) → record (target_in h t) { tags = cond b (with_word x (tags_in t h)) (tags_in t h) }
+        ≡ cond b (record (target_in h t) { tags = with_word x (tags_in t h) }) (target_in h t)
     go true = refl
     go false = refl
 
-untag_in : (h : CommandList) (u x t : Bytes) → target_in (h ▸ Untag u x) t ≡ cond (same_bytes t u) (record (target_in h t) { tags = without_word x (tags_in t h) }) (target_in h t)
+untag_in : (h : CommandList) (u x t : Bytes) → target_in (h ▸ Untag u x) t
+    ≡ cond (same_bytes t u) (record (target_in h t) { tags = without_word x (tags_in t h) }) (target_in h t)
 untag_in h u x t = go (same_bytes t u)
   where
-    go : (b : Bool) → record (target_in h t) { tags = cond b (without_word x (tags_in t h)) (tags_in t h) } ≡ cond b (record (target_in h t) { tags = without_word x (tags_in t h) }) (target_in h t)
+    go : (b : Bool) → record (target_in h t) { tags = cond b (without_word x (tags_in t h)) (tags_in t h) }
+        ≡ cond b (record (target_in h t) { tags = without_word x (tags_in t h) }) (target_in h t)
     go true = refl
     go false = refl
 
-attributes_of : (h : CommandList) (device : Credential) (new : List Attribute) (t : Bytes) → target_in (h ▸ PutAttributes device new) t ≡ cond (same_bytes t device.id) (record (target_in h t) { attributes = with_attributes new (attributes_in t h) }) (target_in h t)
+attributes_of : (h : CommandList) (device : Credential) (new : List Attribute) (t : Bytes) → target_in (h ▸ PutAttributes device new) t
+    ≡ cond (same_bytes t device.id) (record (target_in h t) { attributes = with_attributes new (attributes_in t h) }) (target_in h t)
 attributes_of h device new t = go (same_bytes t device.id)
   where
-    go : (b : Bool) → record (target_in h t) { attributes = cond b (with_attributes new (attributes_in t h)) (attributes_in t h) } ≡ cond b (record (target_in h t) { attributes = with_attributes new (attributes_in t h) }) (target_in h t)
+    go : (b : Bool) → record (target_in h t) { attributes = cond b (with_attributes new (attributes_in t h)) (attributes_in t h) }
+        ≡ cond b (record (target_in h t) { attributes = with_attributes new (attributes_in t h) }) (target_in h t)
     go true = refl
     go false = refl
 
@@ -37,23 +51,30 @@ pub tag_is_step : (h : CommandList) (u x : Bytes) → IsValid h → verdict h (T
 unfolding records
 tag_is_step h u x v e = same_records (needs_approval h) _ _ _ _ _ _ _ _ _ _ _ _ (append_none (modules h)) (append_none (artifacts h)) (append_none (sets h))
     (changed_targets h (Tag u x) u (λ (t : Target). record t { tags = with_word x t.tags }) (tag_in h u x) (target_ids h))
-    (ap (rollouts_in (h ▸ Tag u x) 1) (append_none (rollouts h)) ∙ calm_everywhere h (Tag u x) (accepted h (Tag u x) v e) (λ r. record { outcomes = λ j. calm_outcome h (Tag u x) r j refl; pauses = refl; resumes = refl; triggers = refl; starts = refl }) (λ r. refl))
+    (ap (rollouts_in (h ▸ Tag u x) 1) (append_none (rollouts h))
+    ∙ calm_everywhere h (Tag u x) (accepted h (Tag u x) v e)
+    (λ r. record { outcomes = λ j. calm_outcome h (Tag u x) r j refl; pauses = refl; resumes = refl; triggers = refl; starts = refl }) (λ r. refl))
     (ap (map (action_in (h ▸ Tag u x))) (append_none (action_places h)) ∙ calm_actions h (Tag u x) refl (action_places h))
 
 pub untag_is_step : (h : CommandList) (u x : Bytes) → IsValid h → verdict h (Untag u x) ≡ None → records (h ▸ Untag u x) ≡ step_records (records h) (Untag u x)
 unfolding records
 untag_is_step h u x v e = same_records (needs_approval h) _ _ _ _ _ _ _ _ _ _ _ _ (append_none (modules h)) (append_none (artifacts h)) (append_none (sets h))
     (changed_targets h (Untag u x) u (λ (t : Target). record t { tags = without_word x t.tags }) (untag_in h u x) (target_ids h))
-    (ap (rollouts_in (h ▸ Untag u x) 1) (append_none (rollouts h)) ∙ calm_everywhere h (Untag u x) (accepted h (Untag u x) v e) (λ r. record { outcomes = λ j. calm_outcome h (Untag u x) r j refl; pauses = refl; resumes = refl; triggers = refl; starts = refl }) (λ r. refl))
+    (ap (rollouts_in (h ▸ Untag u x) 1) (append_none (rollouts h))
+    ∙ calm_everywhere h (Untag u x) (accepted h (Untag u x) v e)
+    (λ r. record { outcomes = λ j. calm_outcome h (Untag u x) r j refl; pauses = refl; resumes = refl; triggers = refl; starts = refl }) (λ r. refl))
     (ap (map (action_in (h ▸ Untag u x))) (append_none (action_places h)) ∙ calm_actions h (Untag u x) refl (action_places h))
 
-pub attributes_is_step : (h : CommandList) (device : Credential) (new : List Attribute) → IsValid h → verdict h (PutAttributes device new) ≡ None → records (h ▸ PutAttributes device new) ≡ step_records (records h) (PutAttributes device new)
+pub attributes_is_step : (h : CommandList) (device : Credential) (new : List Attribute) → IsValid h → verdict h (PutAttributes device new) ≡ None
+    → records (h ▸ PutAttributes device new) ≡ step_records (records h) (PutAttributes device new)
 unfolding records
 attributes_is_step h device new v e =
     let c : Command = PutAttributes device new in
     same_records (needs_approval h) _ _ _ _ _ _ _ _ _ _ _ _ (append_none (modules h)) (append_none (artifacts h)) (append_none (sets h))
     (changed_targets h c device.id (λ (t : Target). record t { attributes = with_attributes new t.attributes }) (attributes_of h device new) (target_ids h))
-    (ap (rollouts_in (h ▸ c) 1) (append_none (rollouts h)) ∙ calm_everywhere h c (accepted h c v e) (λ r. record { outcomes = λ j. calm_outcome h c r j refl; pauses = refl; resumes = refl; triggers = refl; starts = refl }) (λ r. refl))
+    (ap (rollouts_in (h ▸ c) 1) (append_none (rollouts h))
+    ∙ calm_everywhere h c (accepted h c v e)
+    (λ r. record { outcomes = λ j. calm_outcome h c r j refl; pauses = refl; resumes = refl; triggers = refl; starts = refl }) (λ r. refl))
     (ap (map (action_in (h ▸ c))) (append_none (action_places h)) ∙ calm_actions h c refl (action_places h))
 
 -- ---- the list of tags has the words that the last command on them gave
@@ -105,7 +126,8 @@ has_with x y (v ∷ vs) = go (has_with x y vs) (same_bytes y v) (bytes_below y v
     twice true c = refl
     twice false c = refl
 
-    go : contains_word x (with_word y vs) ≡ (same_bytes x y || contains_word x vs) → (s b : Bool) → same_bytes y v ≡ s → contains_word x (cond s (v ∷ vs) (cond b (y ∷ v ∷ vs) (v ∷ with_word y vs))) ≡ (same_bytes x y || (same_bytes x v || contains_word x vs))
+    go : contains_word x (with_word y vs) ≡ (same_bytes x y || contains_word x vs) → (s b : Bool) → same_bytes y v ≡ s
+        → contains_word x (cond s (v ∷ vs) (cond b (y ∷ v ∷ vs) (v ∷ with_word y vs))) ≡ (same_bytes x y || (same_bytes x v || contains_word x vs))
     go rest true b e = let same : y ≡ v = same_true y v e in rw same (twice (same_bytes x v) (contains_word x vs))
     go rest false true e = refl
     go rest false false e = ap (λ t. same_bytes x v || t) rest ∙ swap (same_bytes x y) (same_bytes x v) (contains_word x vs)
@@ -118,7 +140,8 @@ has_without x y [] = false_right (not (same_bytes x y))
     false_right false = refl
 has_without x y (v ∷ vs) = go (has_without x y vs) (same_bytes y v) (same_bytes x v) refl refl
   where
-    go : contains_word x (without_word y vs) ≡ (not (same_bytes x y) && contains_word x vs) → (s t : Bool) → same_bytes y v ≡ s → same_bytes x v ≡ t → contains_word x (cond s (without_word y vs) (v ∷ without_word y vs)) ≡ (not (same_bytes x y) && (t || contains_word x vs))
+    go : contains_word x (without_word y vs) ≡ (not (same_bytes x y) && contains_word x vs) → (s t : Bool) → same_bytes y v ≡ s → same_bytes x v ≡ t
+        → contains_word x (cond s (without_word y vs) (v ∷ without_word y vs)) ≡ (not (same_bytes x y) && (t || contains_word x vs))
     go rest true true e d =
         let ev : y ≡ v = same_true y v e in
         let xv : x ≡ v = same_true x v d in
@@ -127,7 +150,8 @@ has_without x y (v ∷ vs) = go (has_without x y vs) (same_bytes y v) (same_byte
     go rest true false e d = rest
     go rest false true e d =
         let xv : x ≡ v = same_true x v d in
-        let other : same_bytes x y ≡ false = elim (cases_Bool (same_bytes x y)) [ inr f ↦ f | inl t ↦ absurd (false≢true (sym e ∙ same_by y v (sym (same_true x y t) ∙ xv))) ] in
+        let other : same_bytes x y ≡ false =
+        elim (cases_Bool (same_bytes x y)) [ inr f ↦ f | inl t ↦ absurd (false≢true (sym e ∙ same_by y v (sym (same_true x y t) ∙ xv))) ] in
         rw (d, other) refl
     go rest false false e d = rw d rest
 
@@ -135,11 +159,13 @@ pub has_sorted : (x : Bytes) (ws : List Bytes) → contains_word x (sorted_words
 has_sorted x [] = refl
 has_sorted x (w ∷ ws) = has_with x w (sorted_words ws) ∙ ap (λ t. same_bytes x w || t) (has_sorted x ws)
 
-tag_law_row : (x : Bytes) (o : Option TargetRow) (ws : List Bytes) (b : Bool) → contains_word x ws ≡ b → contains_word x (tags_by_row o ws) ≡ unwrap_or (tag_in_row x o) b
+tag_law_row : (x : Bytes) (o : Option TargetRow) (ws : List Bytes) (b : Bool) → contains_word x ws ≡ b → contains_word x (tags_by_row o ws)
+    ≡ unwrap_or (tag_in_row x o) b
 tag_law_row x None ws b e = e
 tag_law_row x (Some row) ws b e = has_sorted x row.tags
 
-tag_law_tag : (x y : Bytes) (on : Bool) (ws : List Bytes) (b : Bool) → contains_word x ws ≡ b → contains_word x (cond on (with_word y ws) ws) ≡ unwrap_or (cond (on && same_bytes x y) (Some true) None) b
+tag_law_tag : (x y : Bytes) (on : Bool) (ws : List Bytes) (b : Bool) → contains_word x ws ≡ b → contains_word x (cond on (with_word y ws) ws)
+    ≡ unwrap_or (cond (on && same_bytes x y) (Some true) None) b
 tag_law_tag x y false ws b e = e
 tag_law_tag x y true ws b e = has_with x y ws ∙ go (same_bytes x y)
   where
@@ -147,7 +173,8 @@ tag_law_tag x y true ws b e = has_with x y ws ∙ go (same_bytes x y)
     go true = refl
     go false = e
 
-tag_law_untag : (x y : Bytes) (on : Bool) (ws : List Bytes) (b : Bool) → contains_word x ws ≡ b → contains_word x (cond on (without_word y ws) ws) ≡ unwrap_or (cond (on && same_bytes x y) (Some false) None) b
+tag_law_untag : (x y : Bytes) (on : Bool) (ws : List Bytes) (b : Bool) → contains_word x ws ≡ b → contains_word x (cond on (without_word y ws) ws)
+    ≡ unwrap_or (cond (on && same_bytes x y) (Some false) None) b
 tag_law_untag x y false ws b e = e
 tag_law_untag x y true ws b e = has_without x y ws ∙ go (same_bytes x y)
   where

@@ -1,5 +1,10 @@
 -- What the verdict on a command gives: it is only on actions of started groups.
-use Rattle.rollout_machine.proofs.Common.{◌≡◌, ℕ, ◌≤◌, Bool, true, false, ◌||◌, ◌&&◌, not, List, [], ◌∷◌, refl, sym, ◌∙◌, ap, subst, Option, Some, None, nat_eq, option_map, eqb-true, false≢true, and_parts, or_parts, not-false, ActionPlace, action_of, is_action_place, action_places, action_place, item_numbered, CommandList, DeviceFeedback, DeploymentWord, CancelWord, Command, Cancel, Feedback, CancelFeedback, IsInGroup, HasSoundPlan, StartedOnly, is_group_started, action_in, Refusal, Rollout, rollout_at, size_of, has_started, is_started_in, group_is_started, is_for, first_refusal, verdict_row, verdict, is_device_action, on_action}
+use Rattle.rollout_machine.proofs.Common.{◌≡◌, ℕ, ◌≤◌, Bool, true, false, ◌||◌, ◌&&◌, not, List, [], ◌∷◌, refl, sym, ◌∙◌, ap, subst, Option, Some, None}
+use Rattle.rollout_machine.proofs.Common.{nat_eq, option_map, eqb-true, false≢true, and_parts, or_parts, not-false, ActionPlace, action_of, is_action_place}
+use Rattle.rollout_machine.proofs.Common.{action_places, action_place, item_numbered, CommandList, DeviceFeedback, DeploymentWord, CancelWord, Command, Cancel}
+use Rattle.rollout_machine.proofs.Common.{Feedback, CancelFeedback, IsInGroup, HasSoundPlan, StartedOnly, is_group_started, action_in, Refusal, Rollout}
+use Rattle.rollout_machine.proofs.Common.{rollout_at, size_of, has_started, is_started_in, group_is_started, is_for, first_refusal, verdict_row, verdict}
+use Rattle.rollout_machine.proofs.Common.{is_device_action, on_action}
 use Rattle.rollout_machine.specs.Records.{records}
 use Rattle.rollout_machine.proofs.Cuts.{IsOwnGroup, group_of, in_its_group, one_group}
 use Rattle.rollout_machine.proofs.Ties.{find_holding}
@@ -28,12 +33,15 @@ pub its_group : (h : CommandList) (p : ActionPlace) (w : IsPlace h p) → IsOwnG
 its_group h p w = in_its_group w.rollout p.position w.sound w.low w.high
 
 -- the record's word on an action's group is the history's, whenever the action's record is taken
-pub has_started_is : (h h' : CommandList) (p : ActionPlace) (x : Rollout) (g : ℕ) → rollout_at h p.rollout ≡ Some x → HasSoundPlan x → IsOwnGroup x g p.position → has_started (records h) (action_in h' p) ≡ is_group_started x p.rollout g h
+pub has_started_is : (h h' : CommandList) (p : ActionPlace) (x : Rollout) (g : ℕ) → rollout_at h p.rollout ≡ Some x → HasSoundPlan x → IsOwnGroup x g p.position
+    → has_started (records h) (action_in h' p) ≡ is_group_started x p.rollout g h
 unfolding records
-has_started_is h h' p x g there sound in_it = ap (λ o. is_started_in o (action_in h' p)) (rollout_numbered h p.rollout x there) ∙ ap group_is_started (find_holding x p.rollout h g p.position sound in_it)
+has_started_is h h' p x g there sound in_it = ap (λ o. is_started_in o (action_in h' p)) (rollout_numbered h p.rollout x there)
+    ∙ ap group_is_started (find_holding x p.rollout h g p.position sound in_it)
 
 -- so the command is on actions of started groups alone
-only_started : (h : CommandList) (c : Command) (p : ActionPlace) (w : IsPlace h p) → action_of h c ≡ Some p → has_started (records h) (action_in h p) ≡ true → (r : ℕ) (x : Rollout) → rollout_at h r ≡ Some x → StartedOnly x r h c
+only_started : (h : CommandList) (c : Command) (p : ActionPlace) (w : IsPlace h p) → action_of h c ≡ Some p → has_started (records h) (action_in h p) ≡ true
+    → (r : ℕ) (x : Rollout) → rollout_at h r ≡ Some x → StartedOnly x r h c
 only_started h c p w t e r x d = record { started = λ i j a v on. go i j a v (sym (ap (λ o. is_action_place o r j) t) ∙ on) }
   where
     go : (i j : ℕ) → 1 ≤ i → IsInGroup x i j → (nat_eq p.rollout r && nat_eq p.position j) ≡ true → is_group_started x r i h ≡ true
@@ -51,7 +59,8 @@ only_started h c p w t e r x d = record { started = λ i j a v on. go i j a v (s
         at_group : (i : ℕ) → 1 ≤ i → IsInGroup w.rollout i p.position → is_group_started w.rollout p.rollout i h ≡ true
         at_group i b u =
             let same : i ≡ group_of w.rollout p.position = one_group w.rollout _ i p.position w.sound (its_group h p w).first b (its_group h p w).within u in
-            subst (λ (k : ℕ). is_group_started w.rollout p.rollout k h ≡ true) (sym same) (sym (has_started_is h h p w.rollout _ w.there w.sound (its_group h p w)) ∙ e)
+            subst (λ (k : ℕ). is_group_started w.rollout p.rollout k h ≡ true) (sym same)
+            (sym (has_started_is h h p w.rollout _ w.there w.sound (its_group h p w)) ∙ e)
 
 -- ---- the rows
 
@@ -59,27 +68,38 @@ pub found_action : (h : CommandList) (k : ℕ) (o : Option ActionPlace) → acti
 unfolding records
 found_action h k o e = numbered_map (action_in h) (action_places h) k ∙ ap (option_map (action_in h)) e
 
-device_action : (h : CommandList) (t : List ℕ) (o : Option ActionPlace) → is_device_action (records h) t (option_map (action_in h) o) ≡ true → (p : ActionPlace) × (o ≡ Some p) × (has_started (records h) (action_in h p) ≡ true)
+device_action : (h : CommandList) (t : List ℕ) (o : Option ActionPlace) → is_device_action (records h) t (option_map (action_in h) o) ≡ true → (p : ActionPlace)
+    × (o ≡ Some p) × (has_started (records h) (action_in h p) ≡ true)
 device_action h t None e = absurd (false≢true e)
 device_action h t (Some p) e = (p, refl, (and_parts _ _ e).1)
 
 -- accepted feedback is on an action whose group is started
-pub feedback_place : (h : CommandList) (feedback : DeviceFeedback DeploymentWord) → verdict h (Feedback feedback) ≡ None → (p : ActionPlace) × (action_place h feedback.action ≡ Some p) × (has_started (records h) (action_in h p) ≡ true)
+pub feedback_place : (h : CommandList) (feedback : DeviceFeedback DeploymentWord) → verdict h (Feedback feedback) ≡ None → (p : ActionPlace)
+    × (action_place h feedback.action ≡ Some p) × (has_started (records h) (action_in h p) ≡ true)
 feedback_place h feedback e =
-    let device : is_device_action (records h) feedback.credential.id (item_numbered (records h).actions feedback.action) ≡ true = not-false _ (none_holds (verdict_row (records h) (Feedback feedback)) e).1.0 in
-    device_action h feedback.credential.id (action_place h feedback.action) (sym (ap (is_device_action (records h) feedback.credential.id) (found_action h feedback.action (action_place h feedback.action) refl)) ∙ device)
+    let device : is_device_action (records h) feedback.credential.id (item_numbered (records h).actions feedback.action) ≡ true =
+    not-false _ (none_holds (verdict_row (records h) (Feedback feedback)) e).1.0 in
+    device_action h feedback.credential.id (action_place h feedback.action)
+    (sym (ap (is_device_action (records h) feedback.credential.id) (found_action h feedback.action (action_place h feedback.action) refl)) ∙ device)
 
-pub cancel_feedback_place : (h : CommandList) (feedback : DeviceFeedback CancelWord) → verdict h (CancelFeedback feedback) ≡ None → (p : ActionPlace) × (action_place h feedback.action ≡ Some p) × (has_started (records h) (action_in h p) ≡ true)
+pub cancel_feedback_place : (h : CommandList) (feedback : DeviceFeedback CancelWord) → verdict h (CancelFeedback feedback) ≡ None → (p : ActionPlace)
+    × (action_place h feedback.action ≡ Some p) × (has_started (records h) (action_in h p) ≡ true)
 cancel_feedback_place h feedback e =
-    let device : is_device_action (records h) feedback.credential.id (item_numbered (records h).actions feedback.action) ≡ true = not-false _ (none_holds (verdict_row (records h) (CancelFeedback feedback)) e).1.0 in
-    device_action h feedback.credential.id (action_place h feedback.action) (sym (ap (is_device_action (records h) feedback.credential.id) (found_action h feedback.action (action_place h feedback.action) refl)) ∙ device)
+    let device : is_device_action (records h) feedback.credential.id (item_numbered (records h).actions feedback.action) ≡ true =
+    not-false _ (none_holds (verdict_row (records h) (CancelFeedback feedback)) e).1.0 in
+    device_action h feedback.credential.id (action_place h feedback.action)
+    (sym (ap (is_device_action (records h) feedback.credential.id) (found_action h feedback.action (action_place h feedback.action) refl)) ∙ device)
 
-pub feedback_started : (h : CommandList) (feedback : DeviceFeedback DeploymentWord) → ((p : ActionPlace) → action_place h feedback.action ≡ Some p → IsPlace h p) → verdict h (Feedback feedback) ≡ None → (r : ℕ) (x : Rollout) → rollout_at h r ≡ Some x → StartedOnly x r h (Feedback feedback)
+pub feedback_started : (h : CommandList) (feedback : DeviceFeedback DeploymentWord)
+    → ((p : ActionPlace) → action_place h feedback.action ≡ Some p → IsPlace h p) → verdict h (Feedback feedback) ≡ None → (r : ℕ) (x : Rollout)
+    → rollout_at h r ≡ Some x → StartedOnly x r h (Feedback feedback)
 feedback_started h feedback placed e =
     let (p, at, started) = feedback_place h feedback e in
     only_started h (Feedback feedback) p (placed p at) at started
 
-pub cancel_feedback_started : (h : CommandList) (feedback : DeviceFeedback CancelWord) → ((p : ActionPlace) → action_place h feedback.action ≡ Some p → IsPlace h p) → verdict h (CancelFeedback feedback) ≡ None → (r : ℕ) (x : Rollout) → rollout_at h r ≡ Some x → StartedOnly x r h (CancelFeedback feedback)
+pub cancel_feedback_started : (h : CommandList) (feedback : DeviceFeedback CancelWord)
+    → ((p : ActionPlace) → action_place h feedback.action ≡ Some p → IsPlace h p) → verdict h (CancelFeedback feedback) ≡ None → (r : ℕ) (x : Rollout)
+    → rollout_at h r ≡ Some x → StartedOnly x r h (CancelFeedback feedback)
 cancel_feedback_started h feedback placed e =
     let (p, at, started) = cancel_feedback_place h feedback e in
     only_started h (CancelFeedback feedback) p (placed p at) at started
@@ -88,20 +108,26 @@ or_left_false : (a b : Bool) → (a || b) ≡ false → a ≡ false
 or_left_false true b e = cc
 or_left_false false b e = refl
 
-cancel_action : (h : CommandList) (t : List ℕ) (force : Bool) (o : Option ActionPlace) → not (on_action (is_for (records h) t) (option_map (action_in h) o)) ≡ false → on_action (λ a. not (has_started (records h) a) || (a.canceling && not force)) (option_map (action_in h) o) ≡ false → (p : ActionPlace) × (o ≡ Some p) × (has_started (records h) (action_in h p) ≡ true)
+cancel_action : (h : CommandList) (t : List ℕ) (force : Bool) (o : Option ActionPlace) → not (on_action (is_for (records h) t) (option_map (action_in h) o))
+    ≡ false → on_action (λ a. not (has_started (records h) a) || (a.canceling && not force)) (option_map (action_in h) o) ≡ false → (p : ActionPlace)
+    × (o ≡ Some p) × (has_started (records h) (action_in h p) ≡ true)
 cancel_action h t force None a b = cc
 cancel_action h t force (Some p) a b = (p, refl, not-false _ (or_left_false _ _ b))
 
-pub cancel_place : (h : CommandList) (t : List ℕ) (k : ℕ) (force : Bool) → verdict h (Cancel t k force) ≡ None → (p : ActionPlace) × (action_place h k ≡ Some p) × (has_started (records h) (action_in h p) ≡ true)
+pub cancel_place : (h : CommandList) (t : List ℕ) (k : ℕ) (force : Bool) → verdict h (Cancel t k force) ≡ None → (p : ActionPlace) × (action_place h k ≡ Some p)
+    × (has_started (records h) (action_in h p) ≡ true)
 cancel_place h t k force e =
     let row : NoneHolds (verdict_row (records h) (Cancel t k force)) = none_holds (verdict_row (records h) (Cancel t k force)) e in
     let found : item_numbered (records h).actions k ≡ option_map (action_in h) (action_place h k) = found_action h k (action_place h k) refl in
-    let there : not (on_action (is_for (records h) t) (option_map (action_in h) (action_place h k))) ≡ false = sym (ap (λ o. not (on_action (is_for (records h) t) o)) found) ∙ (or_parts _ _ row.0).1 in
-    let open' : on_action (λ a. not (has_started (records h) a) || (a.canceling && not force)) (option_map (action_in h) (action_place h k)) ≡ false = sym (ap (on_action (λ a. not (has_started (records h) a) || (a.canceling && not force))) found) ∙ row.1.1.0 in
+    let there : not (on_action (is_for (records h) t) (option_map (action_in h) (action_place h k))) ≡ false =
+    sym (ap (λ o. not (on_action (is_for (records h) t) o)) found) ∙ (or_parts _ _ row.0).1 in
+    let open' : on_action (λ a. not (has_started (records h) a) || (a.canceling && not force)) (option_map (action_in h) (action_place h k)) ≡ false =
+    sym (ap (on_action (λ a. not (has_started (records h) a) || (a.canceling && not force))) found) ∙ row.1.1.0 in
     cancel_action h t force (action_place h k) there open'
 
 -- an accepted cancel too
-pub cancel_started : (h : CommandList) (t : List ℕ) (k : ℕ) (force : Bool) → ((p : ActionPlace) → action_place h k ≡ Some p → IsPlace h p) → verdict h (Cancel t k force) ≡ None → (r : ℕ) (x : Rollout) → rollout_at h r ≡ Some x → StartedOnly x r h (Cancel t k force)
+pub cancel_started : (h : CommandList) (t : List ℕ) (k : ℕ) (force : Bool) → ((p : ActionPlace) → action_place h k ≡ Some p → IsPlace h p)
+    → verdict h (Cancel t k force) ≡ None → (r : ℕ) (x : Rollout) → rollout_at h r ≡ Some x → StartedOnly x r h (Cancel t k force)
 cancel_started h t k force placed e =
     let (p, at, started) = cancel_place h t k force e in
     only_started h (Cancel t k force) p (placed p at) at started

@@ -1,5 +1,11 @@
 -- The numbers of a desk are within its limits.
-use Rattle.rollout_machine.proofs.Common.{◌≡◌, ℕ, zero, suc, ◌+◌, ◌<◌, ◌≤◌, Bool, true, false, ◌||◌, List, [], ◌∷◌, map, length, refl, sym, ap, subst, arith, inl, inr, Option, Some, None, filter, nat_le, slice_get, and_parts, leb-false, leb-true, ltb-false, length-append, length-map, Tree, action_places, outcome, CommandList, Make, ◌▸◌, IsWellFormed, is_plan, AddArtifact, Bytes, Command, CreateRollout, PutTargets, RolloutPlan, Good, Bad, Gone, is_outcome, HasSoundPlan, matches, IsCut, filter_of, action_in, added_artifacts, artifacts, group_in, rollout_in, rollouts_in, Rollout, chosen, created, first_of, last_of, members_of, rollout_at, rollouts, size_in, size_of, Target, target_ids, target_in, targets, IsValid, verdict, verdict_row}
+use Rattle.rollout_machine.proofs.Common.{◌≡◌, ℕ, zero, suc, ◌+◌, ◌<◌, ◌≤◌, Bool, true, false, ◌||◌, List, [], ◌∷◌, map, length, refl, sym, ap, subst, arith}
+use Rattle.rollout_machine.proofs.Common.{inl, inr, Option, Some, None, filter, nat_le, slice_get, and_parts, leb-false, leb-true, ltb-false, length-append}
+use Rattle.rollout_machine.proofs.Common.{length-map, Tree, action_places, outcome, CommandList, Make, ◌▸◌, IsWellFormed, is_plan, AddArtifact, Bytes, Command}
+use Rattle.rollout_machine.proofs.Common.{CreateRollout, PutTargets, RolloutPlan, Good, Bad, Gone, is_outcome, HasSoundPlan, matches, IsCut, filter_of}
+use Rattle.rollout_machine.proofs.Common.{action_in, added_artifacts, artifacts, group_in, rollout_in, rollouts_in, Rollout, chosen, created, first_of}
+use Rattle.rollout_machine.proofs.Common.{last_of, members_of, rollout_at, rollouts, size_in, size_of, Target, target_ids, target_in, targets, IsValid}
+use Rattle.rollout_machine.proofs.Common.{verdict, verdict_row}
 use Rattle.std.proofs.lemmas.List.Sums.{count_by-le-length, length-filter}
 use Rattle.rollout_machine.specs.Records.{records}
 use Rattle.rollout_machine.specs.WithinLimits.{CountsNoMore, IsWithinLimits, LimitsHold}
@@ -63,7 +69,8 @@ few_targets h valid = omega (arith, few_ids h valid, length-map (target_ids h) (
 chosen_few : (o : Option Tree) (ts : List Target) → length (chosen o ts) ≤ length ts
 chosen_few None ts = omega arith
 chosen_few (Some f) ts =
-    let mapped : length (map (λ (t : Target). t.id) (filter (matches f) ts)) ≡ length (filter (matches f) ts) = length-map (filter (matches f) ts) (λ (t : Target). t.id) in
+    let mapped : length (map (λ (t : Target). t.id) (filter (matches f) ts)) ≡ length (filter (matches f) ts) =
+    length-map (filter (matches f) ts) (λ (t : Target). t.id) in
     omega (arith, mapped, length-filter (matches f) ts, count_by-le-length (matches f) ts)
 
 record IsSmall (x : Rollout) : Type 0 where
@@ -77,7 +84,8 @@ few_groups : (plan : RolloutPlan) → is_plan plan ≡ true → plan.groups.coun
 few_groups plan formed = leb-true _ _ (and_parts _ _ (and_parts _ _ (and_parts _ _ formed).0).0).1
 
 -- what holds of each rollout that is created holds of all
-pub each_created : (P : Rollout → Type 0) → ((h : CommandList) (plan : RolloutPlan) → IsValid h → is_plan plan ≡ true → verdict h (CreateRollout plan) ≡ None → P (made plan (members_of plan.filter_text h))) → (h : CommandList) → IsValid h → (r : ℕ) (x : Rollout) → rollout_at h r ≡ Some x → P x
+pub each_created : (P : Rollout → Type 0) → ((h : CommandList) (plan : RolloutPlan) → IsValid h → is_plan plan ≡ true → verdict h (CreateRollout plan) ≡ None
+    → P (made plan (members_of plan.filter_text h))) → (h : CommandList) → IsValid h → (r : ℕ) (x : Rollout) → rollout_at h r ≡ Some x → P x
 each_created P new (Make approval) valid zero x e = cc
 each_created P new (Make approval) valid (suc i) x e = cc
 each_created P new (h ▸ c) valid r x e = elim (either_numbered (rollouts h) (created h c) r x e) [
@@ -140,6 +148,11 @@ limits_hold h valid = record {
   artifacts = few_artifacts h valid;
   targets = few_targets h valid;
   rollouts = omega (arith, few_rollouts h valid, length_in h 1 (rollouts h));
-  actions = omega (arith, length-map (action_places h) (action_in h), few_actions h 10000 valid (λ i x e. (are_small h valid (suc i) x e).members), few_rollouts h valid);
+  actions = omega (
+    arith,
+    length-map (action_places h) (action_in h),
+    few_actions h 10000 valid (λ i x e. (are_small h valid (suc i) x e).members),
+    few_rollouts h valid,
+  );
   each = λ r y e. let of = of_rollout h r y e in subst IsWithinLimits (sym of.is) (rollout_is_within h valid r of.rollout of.there);
 }

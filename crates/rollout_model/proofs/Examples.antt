@@ -9,17 +9,20 @@ use Rattle.std.specs.Prelude.{ℕ, List, map, replicate, codes, Some, None}
 use Rattle.std.specs.Str.{is_utf8, chars}
 use lib.Utf8.{encode}
 
-words : map is_word (codes "" ∷ codes "aZ09._-" ∷ codes "a b" ∷ codes "a*" ∷ replicate 64 97 ∷ replicate 65 97 ∷ []) ≡ false ∷ true ∷ false ∷ false ∷ true ∷ false ∷ []
+words : map is_word (codes "" ∷ codes "aZ09._-" ∷ codes "a b" ∷ codes "a*" ∷ replicate 64 97 ∷ replicate 65 97 ∷ [])
+    ≡ false ∷ true ∷ false ∷ false ∷ true ∷ false ∷ []
 words = refl
 
 tokens : map is_token (codes "1234567" ∷ codes "12345678" ∷ replicate 64 97 ∷ replicate 65 97 ∷ []) ≡ false ∷ true ∷ true ∷ false ∷ []
 tokens = refl
 
-filenames : map is_filename (codes "" ∷ codes "app-1.0_x.bin" ∷ codes "a/b" ∷ replicate 128 97 ∷ replicate 129 97 ∷ []) ≡ false ∷ true ∷ false ∷ true ∷ false ∷ []
+filenames : map is_filename (codes "" ∷ codes "app-1.0_x.bin" ∷ codes "a/b" ∷ replicate 128 97 ∷ replicate 129 97 ∷ [])
+    ≡ false ∷ true ∷ false ∷ true ∷ false ∷ []
 filenames = refl
 
 -- control characters are no part of texts; bytes that aren't UTF-8 are none
-texts : map is_text ([] ∷ codes "a b*\"" ∷ (9 ∷ []) ∷ (127 ∷ []) ∷ (31 ∷ []) ∷ (32 ∷ []) ∷ (195 ∷ 164 ∷ []) ∷ (195 ∷ []) ∷ replicate 128 97 ∷ replicate 129 97 ∷ []) ≡ false ∷ true ∷ false ∷ false ∷ false ∷ true ∷ true ∷ false ∷ true ∷ false ∷ []
+texts : map is_text ([] ∷ codes "a b*\"" ∷ (9 ∷ []) ∷ (127 ∷ []) ∷ (31 ∷ []) ∷ (32 ∷ []) ∷ (195 ∷ 164 ∷ []) ∷ (195 ∷ []) ∷ replicate 128 97 ∷ replicate 129 97
+    ∷ []) ≡ false ∷ true ∷ false ∷ false ∷ false ∷ true ∷ true ∷ false ∷ true ∷ false ∷ []
 unfolding is_utf8 chars encode
 texts = refl
 
@@ -37,7 +40,8 @@ item_numbers = refl
 eight : List ℕ
 eight = 8 ∷ 7 ∷ 6 ∷ 5 ∷ 4 ∷ 3 ∷ 2 ∷ 1 ∷ []
 
-module_lists : map is_module_list ([] ∷ (2147483647 ∷ []) ∷ (0 ∷ []) ∷ (1 ∷ 2 ∷ 1 ∷ []) ∷ eight ∷ (9 ∷ eight) ∷ []) ≡ false ∷ true ∷ false ∷ false ∷ true ∷ false ∷ []
+module_lists : map is_module_list ([] ∷ (2147483647 ∷ []) ∷ (0 ∷ []) ∷ (1 ∷ 2 ∷ 1 ∷ []) ∷ eight ∷ (9 ∷ eight) ∷ [])
+    ≡ false ∷ true ∷ false ∷ false ∷ true ∷ false ∷ []
 unfolding eight
 module_lists = refl
 
@@ -52,7 +56,8 @@ of_percent p = record { percentage = p; success = 50; error = 100 }
 groupings : map is_grouping (evenly 0 ∷ evenly 1 ∷ evenly 50 ∷ evenly 51 ∷ []) ≡ false ∷ true ∷ true ∷ false ∷ []
 groupings = refl
 
-named_groups : map (λ ps. is_grouping (defined (map of_percent ps))) ((99 ∷ []) ∷ (100 ∷ []) ∷ (10 ∷ 99 ∷ []) ∷ (100 ∷ 1 ∷ 100 ∷ []) ∷ (0 ∷ 100 ∷ []) ∷ (101 ∷ 100 ∷ []) ∷ replicate 50 100 ∷ replicate 51 100 ∷ [])
+named_groups : map (λ ps. is_grouping (defined (map of_percent ps)))
+    ((99 ∷ []) ∷ (100 ∷ []) ∷ (10 ∷ 99 ∷ []) ∷ (100 ∷ 1 ∷ 100 ∷ []) ∷ (0 ∷ 100 ∷ []) ∷ (101 ∷ 100 ∷ []) ∷ replicate 50 100 ∷ replicate 51 100 ∷ [])
     ≡ false ∷ true ∷ false ∷ true ∷ false ∷ false ∷ true ∷ false ∷ []
 unfolding of_percent
 named_groups = refl
@@ -71,6 +76,7 @@ rules : map (rule_at (plan_by (defined (of_percent 10 ∷ of_percent 100 ∷ [])
 unfolding of_percent plan_by
 rules = refl
 
-even_rules : map (rule_at (plan_by (evenly 2))) (1 ∷ 2 ∷ []) ≡ record { percentage = None; success = 80; error = 20 } ∷ record { percentage = None; success = 80; error = 20 } ∷ []
+even_rules : map (rule_at (plan_by (evenly 2))) (1 ∷ 2 ∷ []) ≡ record { percentage = None; success = 80; error = 20 }
+    ∷ record { percentage = None; success = 80; error = 20 } ∷ []
 unfolding plan_by
 even_rules = refl

@@ -1,11 +1,15 @@
 -- What foreign keys set off: their actions change tables that have some, and no others.
-use Rattle.sql_calls.proofs.Common.{◌≡◌, ◌≢◌, ℤ, ◌+◌, nat_lt, Err, MatchBool, inl, inr, ℕ, zero, suc, ◌==◌, ◌&&◌, Bool, true, false, cond, List, [], ◌∷◌, ◌++◌, Option, Some, None, Ok, refl, sym, ap, subst, ◌∙◌, flat_map, filter_map, AllByRecursion, list_any, Row, Trees, Table, Schema, Edit, edited, taken_by, Applies, Reference, ParentKey, Deed, Has, Work, pairs, loses, work_by, work_for, works, End, Goes, ActsOn, Acts, Leads, AreChildren, action_edit, refuses, max_depth, all_has, all_from, HasNoForeignKey}
+use Rattle.sql_calls.proofs.Common.{◌≡◌, ◌≢◌, ℤ, ◌+◌, nat_lt, Err, MatchBool, inl, inr, ℕ, zero, suc, ◌==◌, ◌&&◌, Bool, true, false, cond, List, [], ◌∷◌, ◌++◌}
+use Rattle.sql_calls.proofs.Common.{Option, Some, None, Ok, refl, sym, ap, subst, ◌∙◌, flat_map, filter_map, AllByRecursion, list_any, Row, Trees, Table}
+use Rattle.sql_calls.proofs.Common.{Schema, Edit, edited, taken_by, Applies, Reference, ParentKey, Deed, Has, Work, pairs, loses, work_by, work_for, works}
+use Rattle.sql_calls.proofs.Common.{End, Goes, ActsOn, Acts, Leads, AreChildren, action_edit, refuses, max_depth, all_has, all_from, HasNoForeignKey}
 use Rattle.sqlite_schema.specs.declared.schema.Keys.{Keys}
 use Rattle.sqlite_schema.specs.declared.schema.Constraint.TheVariants.{ForeignKey}
 use Rattle.sqlite_rules.specs.declared.error.Refusal.TheVariants.{Violates, TooDeep}
 use Rattle.sqlite_rules.specs.Action.{Writes as Edits}
 
-its_child : (depth tree : ℕ) (moves : List (Row × Row)) (child : Table) (ref : Reference) (deed : Option Deed) (key : Option ParentKey) (w : Work) → work_by depth tree moves child ref deed key ≡ Some w → w.child ≡ child
+its_child : (depth tree : ℕ) (moves : List (Row × Row)) (child : Table) (ref : Reference) (deed : Option Deed) (key : Option ParentKey) (w : Work)
+    → work_by depth tree moves child ref deed key ≡ Some w → w.child ≡ child
 its_child depth tree moves child ref None key w h = absurd cc
 its_child depth tree moves child ref (Some deed) None w h = absurd cc
 its_child depth tree moves child ref (Some deed) (Some key) w h = go ((key.0 == tree) && list_any (loses key.2 key.1) moves) h
@@ -17,7 +21,8 @@ its_child depth tree moves child ref (Some deed) (Some key) w h = go ((key.0 == 
     go true is = let same : work ≡ w = cc in ap (λ (x : Work). x.child) (sym same)
     go false is = absurd cc
 
-all_mapped : {A B : Type 0} (f : A → Option B) (P : B → Type 0) (xs : List A) → ((x : A) → Has xs x → (b : B) → f x ≡ Some b → P b) → AllByRecursion P (filter_map f xs)
+all_mapped : {A B : Type 0} (f : A → Option B) (P : B → Type 0) (xs : List A) → ((x : A) → Has xs x → (b : B) → f x ≡ Some b → P b)
+    → AllByRecursion P (filter_map f xs)
 all_mapped f P [] each = tt
 all_mapped {A} {B} f P (x ∷ xs) each = go (f x) refl (all_mapped f P xs (λ y there. each y (inr there)))
   where
@@ -47,26 +52,32 @@ module _ (schema : Schema) (keys : Keys) where
   IsOnChild w = Has schema.tables w.child × (w.child.references ≡ [] → ⊥)
 
   on_children : (depth tree : ℕ) (olds news : List Row) → AllByRecursion IsOnChild (works schema keys depth tree olds news)
-  on_children depth tree olds news = all_flat (λ child. filter_map (work_for schema keys depth tree olds news child) child.references) IsOnChild schema.tables (λ child listed.
+  on_children depth tree olds news = all_flat (λ child. filter_map (work_for schema keys depth tree olds news child) child.references) IsOnChild schema.tables
+      (λ child listed.
       all_mapped (work_for schema keys depth tree olds news child) IsOnChild child.references (λ ref there w is.
-      subst (λ (t : Table). Has schema.tables t × (t.references ≡ [] → ⊥)) (sym (its_child depth tree (pairs olds news) child ref _ _ w is)) (listed, has_some child.references ref there)))
+      subst (λ (t : Table). Has schema.tables t × (t.references ≡ [] → ⊥)) (sym (its_child depth tree (pairs olds news) child ref _ _ w is))
+      (listed, has_some child.references ref there)))
 
   -- a table that has none keeps its rows
-  module _ (t : Table) (listed : Has schema.tables t) (apart : (child : Table) → Has schema.tables child → (child.references ≡ [] → ⊥) → t.tree ≢ child.tree) (next : Trees) where
+  module _ (t : Table) (listed : Has schema.tables t) (apart : (child : Table) → Has schema.tables child → (child.references ≡ [] → ⊥) → t.tree ≢ child.tree)
+      (next : Trees) where
     abbrev Keeps : (Trees → List Work → End → Type 0) → Type 0
     Keeps Then = (mid : Trees) (stack : List Work) → AllByRecursion IsOnChild stack → Then mid stack (Ok next) → next t.tree ≡ mid t.tree
 
-    edit_keeps : (Then : Trees → List Work → End → Type 0) → Keeps Then → (db : Trees) (edit : Edit) (depth : ℕ) (below : List Work) → AllByRecursion IsOnChild below → t.tree ≢ edit.table.tree → Goes schema keys Then db edit depth below (Ok next) → next t.tree ≡ db t.tree
+    edit_keeps : (Then : Trees → List Work → End → Type 0) → Keeps Then → (db : Trees) (edit : Edit) (depth : ℕ) (below : List Work)
+        → AllByRecursion IsOnChild below → t.tree ≢ edit.table.tree → Goes schema keys Then db edit depth below (Ok next) → next t.tree ≡ db t.tree
     edit_keeps Then more db edit depth below all other (inl refused) = absurd (let e = refused.2 in cc)
     edit_keeps Then more db edit depth below all other (inr (inl big)) = absurd (let e = big.3 in cc)
     edit_keeps Then more db edit depth below all other (inr (inr went)) =
         more went.0 _ (all_both IsOnChild below _ all (on_children depth edit.table.tree (taken_by db edit) edit.news)) went.2
         ∙ all_has (λ (u : Table). u.tree ≢ edit.table.tree → went.0 u.tree ≡ db u.tree) schema.tables t went.1.tables listed other
 
-    action_keeps : (Then : Trees → List Work → End → Type 0) → Keeps Then → (db : Trees) (below : List Work) (w : Work) → AllByRecursion IsOnChild below → IsOnChild w → Acts schema keys Then db w below (Ok next) → next t.tree ≡ db t.tree
+    action_keeps : (Then : Trees → List Work → End → Type 0) → Keeps Then → (db : Trees) (below : List Work) (w : Work) → AllByRecursion IsOnChild below
+        → IsOnChild w → Acts schema keys Then db w below (Ok next) → next t.tree ≡ db t.tree
     action_keeps Then more db below w all on h = deep (nat_lt w.depth max_depth) h
       where
-        judged : (id : ℤ) (ids : List ℤ) (b : Bool) → MatchBool b (◌≡◌ {A = End} (Ok next) (Err (Some (Violates ForeignKey)))) (Goes schema keys Then db (action_edit db w (id ∷ ids)) (w.depth + 1) below (Ok next)) → next t.tree ≡ db t.tree
+        judged : (id : ℤ) (ids : List ℤ) (b : Bool) → MatchBool b (◌≡◌ {A = End} (Ok next) (Err (Some (Violates ForeignKey))))
+            (Goes schema keys Then db (action_edit db w (id ∷ ids)) (w.depth + 1) below (Ok next)) → next t.tree ≡ db t.tree
         judged id ids true it = absurd cc
         judged id ids false it = edit_keeps Then more db (action_edit db w (id ∷ ids)) (w.depth + 1) below all (apart w.child on.0 on.1) it
 
@@ -74,7 +85,8 @@ module _ (schema : Schema) (keys : Keys) where
         found [] it = more db below all it
         found (id ∷ ids) it = judged id ids (refuses w.deed) it
 
-        deep : (b : Bool) → MatchBool b ((ids : List ℤ) × AreChildren db w ids × ActsOn schema keys Then db w below (Ok next) ids) (◌≡◌ {A = End} (Ok next) (Err (Some TooDeep))) → next t.tree ≡ db t.tree
+        deep : (b : Bool) → MatchBool b ((ids : List ℤ) × AreChildren db w ids × ActsOn schema keys Then db w below (Ok next) ids)
+            (◌≡◌ {A = End} (Ok next) (Err (Some TooDeep))) → next t.tree ≡ db t.tree
         deep true it = found it.0 it.2
         deep false it = absurd cc
 
@@ -93,19 +105,23 @@ pub record Rewritten (schema : Schema) (db : Trees) (edit : Edit) (next : Trees)
 pub applied : (schema : Schema) (keys : Keys) (db next : Trees) (edit : Edit) → Applies schema keys db edit next → Rewritten schema db edit next
 applied schema keys db next edit a = record {
   rows = a.rows;
-  tables = all_from _ schema.tables (λ t there none other. all_has (λ (u : Table). u.tree ≢ edit.table.tree → next u.tree ≡ db u.tree) schema.tables t a.tables there other);
+  tables = all_from _ schema.tables (λ t there none other. all_has (λ (u : Table). u.tree ≢ edit.table.tree → next u.tree ≡ db u.tree) schema.tables t a.tables
+      there other);
 }
 
 -- whatever foreign keys refer to the table
-pub rewritten : (schema : Schema) (keys : Keys) (db next : Trees) (edit : Edit) → HasNoForeignKey schema edit.table.tree → Has schema.tables edit.table → Edits schema keys db edit (Ok next) → Rewritten schema db edit next
+pub rewritten : (schema : Schema) (keys : Keys) (db next : Trees) (edit : Edit) → HasNoForeignKey schema edit.table.tree → Has schema.tables edit.table
+    → Edits schema keys db edit (Ok next) → Rewritten schema db edit next
 rewritten schema keys db next edit free listed (inl refused) = absurd (let e = refused.2 in cc)
 rewritten schema keys db next edit free listed (inr (inl big)) = absurd (let e = big.3 in cc)
 rewritten schema keys db next edit free listed (inr (inr went)) = record {
   rows = stays edit.table listed free ∙ went.1.rows;
-  tables = all_from _ schema.tables (λ t there none other. stays t there none ∙ all_has (λ (u : Table). u.tree ≢ edit.table.tree → went.0 u.tree ≡ db u.tree) schema.tables t went.1.tables there other);
+  tables = all_from _ schema.tables (λ t there none other. stays t there none ∙ all_has (λ (u : Table). u.tree ≢ edit.table.tree → went.0 u.tree ≡ db u.tree)
+      schema.tables t went.1.tables there other);
 }
   where
     stays : (t : Table) → Has schema.tables t → HasNoForeignKey schema t.tree → next t.tree ≡ went.0 t.tree
     stays t there none =
-        kept schema keys t there (λ child listed' some same. some (all_has (λ (u : Table). u.tree ≡ t.tree → u.references ≡ []) schema.tables child none listed' (sym same))) next went.2.0 went.0 _
+        kept schema keys t there (λ child listed' some same. some
+        (all_has (λ (u : Table). u.tree ≡ t.tree → u.references ≡ []) schema.tables child none listed' (sym same))) next went.2.0 went.0 _
         (on_children schema keys 0 edit.table.tree (taken_by db edit) edit.news) went.2.1

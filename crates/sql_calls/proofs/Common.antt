@@ -1,10 +1,14 @@
 -- The names of other modules that the proofs here cite, passed on from one place. Declares nothing.
-pub use Rattle.std.proofs.Common.{◌≡◌, ℕ, zero, suc, ◌+◌, ◌-◌, ◌/◌, ◌^◌, ◌<◌, ◌≤◌, min, Bool, true, false, cond, not, ◌&&◌, ◌||◌, ◌≢◌, ◌⊎◌, List, [], ◌∷◌, ◌++◌, map, length, get_or, take, set, ℤ, pos, negsuc, ◌+ℤ◌, IfOk, IsTrue, nat_lt, nat_le, ◌==◌, slice_get, Some, None, Ok, Err, codes, MatchBool, fold, filter, Option, Result, Vec, option_map, IsPermutation, IsSorted, flat_map, filter_map, bytes_eq, Ordering, Less, Equal, Greater, unwrap_or, sym, refl, ap, ◌∙◌, subst, ap₂, inl, inr, true≢false, arith}
+pub use Rattle.std.proofs.Common.{◌≡◌, ℕ, zero, suc, ◌+◌, ◌-◌, ◌/◌, ◌^◌, ◌<◌, ◌≤◌, min, Bool, true, false, cond, not, ◌&&◌, ◌||◌, ◌≢◌, ◌⊎◌, List, [], ◌∷◌}
+pub use Rattle.std.proofs.Common.{◌++◌, map, length, get_or, take, set, ℤ, pos, negsuc, ◌+ℤ◌, IfOk, IsTrue, nat_lt, nat_le, ◌==◌, slice_get, Some, None, Ok}
+pub use Rattle.std.proofs.Common.{Err, codes, MatchBool, fold, filter, Option, Result, Vec, option_map, IsPermutation, IsSorted, flat_map, filter_map}
+pub use Rattle.std.proofs.Common.{bytes_eq, Ordering, Less, Equal, Greater, unwrap_or, sym, refl, ap, ◌∙◌, subst, ap₂, inl, inr, true≢false, arith}
 pub use Rattle.std.proofs.lemmas.Bool.{and_parts, both_ways, cases_Bool, eq-eqb, or_parts}
 pub use Rattle.std.proofs.lemmas.Bool.Decides.{nat_tests}
 pub use Rattle.std.proofs.lemmas.Int.{ints}
 pub use Rattle.std.proofs.lemmas.List.{length-map}
-pub use Rattle.std.proofs.lemmas.List.Sorted.{IsPermutation-cons, IsPermutation-map, IsPermutation-sym, IsPermutation-to_front, IsPermutation-trans, length_permutation, list_any-IsPermutation}
+pub use Rattle.std.proofs.lemmas.List.Sorted.{IsPermutation-cons, IsPermutation-map, IsPermutation-sym, IsPermutation-to_front, IsPermutation-trans}
+pub use Rattle.std.proofs.lemmas.List.Sorted.{length_permutation, list_any-IsPermutation}
 pub use Rattle.std.specs.List.{AllByRecursion, AllZip, list_all, list_any}
 pub use Rattle.std.specs.Ordering.{is_eq, is_gt, ordering_reverse}
 pub use Rattle.std.specs.declared.alloc.Global.{Global}
@@ -25,7 +29,8 @@ pub use Rattle.sqlite.specs.Rows.{Deletes, Inserts, Task, Updates, Written, show
 pub use Rattle.sqlite.specs.Schema.{Schema}
 pub use Rattle.sqlite.specs.Source.{Source}
 pub use Rattle.sqlite.specs.Source.TheVariants.{Values}
-pub use Rattle.sqlite.specs.State.{CommitsBy, CommitsShowing, Executes, FailsToShow, HasCleanDisk, IsNoStatement, IsRolledBack, IsUnchanged, MayCommit, Runs, RunsCommand, ShowsRows, State, Survives, Writes, mode_of, shows_rows, store_error}
+pub use Rattle.sqlite.specs.State.{CommitsBy, CommitsShowing, Executes, FailsToShow, HasCleanDisk, IsNoStatement, IsRolledBack, IsUnchanged, MayCommit, Runs}
+pub use Rattle.sqlite.specs.State.{RunsCommand, ShowsRows, State, Survives, Writes, mode_of, shows_rows, store_error}
 pub use Rattle.sqlite.specs.Table.{Table}
 pub use Rattle.sqlite.specs.Term.{Env, Term, col, eval, eval_all, holds, lit, op2}
 pub use Rattle.sqlite.specs.Tree.{Trees}
@@ -35,7 +40,8 @@ pub use Rattle.sqlite_keyed.proofs.SortLemmas.{sort_by-map, sorted_is-sort_by, s
 pub use Rattle.sqlite_keyed.specs.Lists.{insert_sorted, sort_by}
 pub use Rattle.sqlite_rules.proofs.KeyLemmas.{agree_back, agree_chain}
 pub use Rattle.sqlite_rules.proofs.ListLemmas.{all_from, all_has, has_got}
-pub use Rattle.sqlite_rules.specs.Action.{Acts, ActsOn, AreChildren, End, Goes, Leads, Work, action_edit, loses, max_depth, pairs, refuses, work_by, work_for, works}
+pub use Rattle.sqlite_rules.specs.Action.{Acts, ActsOn, AreChildren, End, Goes, Leads, Work, action_edit, loses, max_depth, pairs, refuses, work_by, work_for}
+pub use Rattle.sqlite_rules.specs.Action.{works}
 pub use Rattle.sqlite_rules.specs.Calls.{ids_of}
 pub use Rattle.sqlite_rules.specs.Cast.{cast, cast_all, cast_row}
 pub use Rattle.sqlite_rules.specs.Edit.{id_in, next_rowid, put_all, with_rowid, without_all}
@@ -62,6 +68,7 @@ pub use Rattle.sql_calls.specs.Apart.{HasNoForeignKey}
 pub use Rattle.sql_calls.specs.Calls.{AsksFew, AsksText, RunsText, TakesFirst, TakesTo, few_of}
 pub use Rattle.sql_calls.specs.Keyed.{AreIn, AreWhole, HaveKeysApart, IsHeldBy, Rise, by_column, rows_from}
 pub use Rattle.sql_calls.specs.Means.{Known, Knows, KnowsWrite, Means, writes_rows}
-pub use Rattle.sql_calls.specs.Standing.{Begins, Commits, Finds, FrameTo, GivesUp, HoldIn, IsAtRest, IsInDoubt, IsInside, IsSeeing, IsSpoiled, Keeps, Makes, Opens, Rests, Sees, Shows, Spoiled}
+pub use Rattle.sql_calls.specs.Standing.{Begins, Commits, Finds, FrameTo, GivesUp, HoldIn, IsAtRest, IsInDoubt, IsInside, IsSeeing, IsSpoiled, Keeps, Makes}
+pub use Rattle.sql_calls.specs.Standing.{Opens, Rests, Sees, Shows, Spoiled}
 pub use Rattle.sql_calls.specs.declared.fault.Fault.{Fault}
 pub use Rattle.std.proofs.Math.Bool.{and-true, or-true}

@@ -1,5 +1,7 @@
 -- What SELECT count(*) shows of a table.
-use Rattle.sql_calls.proofs.Common.{◌≡◌, ℕ, ◌+◌, suc, min, pos, List, [], ◌∷◌, map, filter, flat_map, length, Some, false, refl, sym, ap, subst, ◌∙◌, IsPermutation, list_all, AllZip, length-map, length_permutation, Value, Null, Int, Binary, Trees, Env, lit, col, eval, holds, Query, IsAnswer, Output, output, page, overlay, one_permutation, AreIn, IsHeldBy}
+use Rattle.sql_calls.proofs.Common.{◌≡◌, ℕ, ◌+◌, suc, min, pos, List, [], ◌∷◌, map, filter, flat_map, length, Some, false, refl, sym, ap, subst, ◌∙◌}
+use Rattle.sql_calls.proofs.Common.{IsPermutation, list_all, AllZip, length-map, length_permutation, Value, Null, Int, Binary, Trees, Env, lit, col, eval}
+use Rattle.sql_calls.proofs.Common.{holds, Query, IsAnswer, Output, output, page, overlay, one_permutation, AreIn, IsHeldBy}
 use Rattle.sqlite_value.specs.Order.{Row}
 use Rattle.sqlite_sql.specs.Group.{Aggregate, Grouping, Summarizes, IsSummary, value_over}
 use Rattle.sqlite_sql.specs.declared.aggregate.AggregateOp.TheVariants.{CountRows}
@@ -38,13 +40,16 @@ all_matched params [] = refl
 all_matched params (r ∷ rows) = ap suc (all_matched params rows)
 
 -- one row with the number of rows, which SQLite keeps below 2^63
-pub count_rows : (tree : ℕ) (params : Row) (db : Trees) (rows : List Row) → IsAnswer (count_query tree) (overlay db []) params rows → rows ≡ (Int (pos (min (length (db tree)) 9223372036854775807)) ∷ []) ∷ []
+pub count_rows : (tree : ℕ) (params : Row) (db : Trees) (rows : List Row) → IsAnswer (count_query tree) (overlay db []) params rows
+    → rows ≡ (Int (pos (min (length (db tree)) 9223372036854775807)) ∷ []) ∷ []
 count_rows tree params db rows a =
     let summed : Summarizes count_all params (flat_map (matched [] params) (overlay db [] tree)) a.staged = a.grouped in
     let order = summed.grouping.0 in
-    let size : length order ≡ length (db tree) = length_permutation _ order summed.grouping.1 ∙ all_matched params (overlay db [] tree) ∙ ap length (no_overlay db tree) in
+    let size : length order ≡ length (db tree) = length_permutation _ order summed.grouping.1 ∙ all_matched params (overlay db [] tree)
+    ∙ ap length (no_overlay db tree) in
     let summary = one_summary order summed.rows (subst (λ gs. AllZip (IsSummary count_all) gs summed.rows) summed.grouping.2 summed.summaries) in
-    let staged : a.staged ≡ (params ∷ (counted order ∷ []) ∷ []) ∷ [] = summed.having ∙ ap (λ rs. filter (λ env. list_all (holds env) []) (map (λ r. params ∷ r ∷ []) rs)) summary in
+    let staged : a.staged ≡ (params ∷ (counted order ∷ []) ∷ []) ∷ [] = summed.having
+    ∙ ap (λ rs. filter (λ env. list_all (holds env) []) (map (λ r. params ∷ r ∷ []) rs)) summary in
     let o : Output = ([], counted order ∷ []) in
     let kept : a.kept ≡ o ∷ [] = a.distinct ∙ ap (map (output (count_query tree))) staged in
     let ordered = one_permutation o a.ordered (subst (λ k. IsPermutation k a.ordered) kept a.same) in

@@ -1,5 +1,7 @@
 -- What one statement of a change answers, and what it makes of what the change sees.
-use Rattle.sql_calls.proofs.Common.{◌≡◌, ℕ, Bool, true, false, cond, nat_le, length, List, [], ◌∷◌, Vec, Option, Some, None, Result, Ok, Err, IfOk, sym, subst, ◌∙◌, arith, Global, Row, Command, Database, understood, State, IsUnchanged, Runs, Writes, EndsIn, statement_of, Fault, RunsText, AsksText, AsksFew, TakesFirst, TakesTo, few_of, Known, Knows, Finds, IsSeeing, Makes}
+use Rattle.sql_calls.proofs.Common.{◌≡◌, ℕ, Bool, true, false, cond, nat_le, length, List, [], ◌∷◌, Vec, Option, Some, None, Result, Ok, Err, IfOk, sym, subst}
+use Rattle.sql_calls.proofs.Common.{◌∙◌, arith, Global, Row, Command, Database, understood, State, IsUnchanged, Runs, Writes, EndsIn, statement_of, Fault}
+use Rattle.sql_calls.proofs.Common.{RunsText, AsksText, AsksFew, TakesFirst, TakesTo, few_of, Known, Knows, Finds, IsSeeing, Makes}
 use Rattle.sqlite.specs.Effect.{Reads as Shows}
 use Rattle.sql_calls.specs.declared.fault.Fault.TheVariants.{Store}
 use Rattle.sql_calls.proofs.Framing.{took}
@@ -10,7 +12,8 @@ abbrev pub ShowsFirst : Command → Database → Row → Option Row → Type 0
 ShowsFirst command db params (Some row) = (tail : List Row) × Shows command db params (row ∷ tail)
 ShowsFirst command db params None = Shows command db params []
 
-took_row : (sql : List ℕ) (params : Row) (old new : State) (row : Option Row) (k : Known old.now.schema sql) → ((db : Database) (given : Row) → EndsIn k.command db given) → TakesTo old new sql params (Ok row) → ShowsFirst k.command old.now params row
+took_row : (sql : List ℕ) (params : Row) (old new : State) (row : Option Row) (k : Known old.now.schema sql)
+    → ((db : Database) (given : Row) → EndsIn k.command db given) → TakesTo old new sql params (Ok row) → ShowsFirst k.command old.now params row
 took_row sql params old new (Some row) k last h =
     let shown = first_shown sql k.command params old new k.means last row h in
     (shown.0, shows_as sql k.command params old new k.means (row ∷ shown.0) shown.1)
@@ -27,11 +30,13 @@ few_kept most rows (Err fault) e = absurd (cc)
 
 module _ {R Q : Type 0} (Holds : Database → R → Type 0) (of : Q → R) (sql : List ℕ) (params : Row) (old new : State) where
   sees_still : (now : R) → IsSeeing Holds old now → IsUnchanged old new → IsSeeing Holds new now
-  sees_still now was same = record { mode = same.0.mode ∙ was.mode; is_open = same.0.is_open; now_holds = subst (λ d. Holds d now) (sym same.0.now_is) was.now_holds }
+  sees_still now was same =
+      record { mode = same.0.mode ∙ was.mode; is_open = same.0.is_open; now_holds = subst (λ d. Holds d now) (sym same.0.now_is) was.now_holds }
 
   module _ {A E : Type 0} (Answer : Q → A → Type 0) (knows : Knows Holds sql) where
     pub ask_finds : (rows : Vec Row Global) → AsksText old new sql params (Ok rows) → (out : Result A E)
-        → IfOk out (λ a. (db : Database) (now : Q) (holds : Holds db (of now)) → Shows (knows db (of now) holds).command db params rows.items → Answer now a) → Finds Holds of old new out Answer
+        → IfOk out (λ a. (db : Database) (now : Q) (holds : Holds db (of now)) → Shows (knows db (of now) holds).command db params rows.items → Answer now a)
+        → Finds Holds of old new out Answer
     ask_finds rows h (Err e) answers = record { wears = h.survives.clean; finds = tt }
     ask_finds rows h (Ok a) answers = record {
       wears = h.survives.clean;
@@ -50,28 +55,37 @@ module _ {R Q : Type 0} (Holds : Database → R → Type 0) (of : Q → R) (sql 
     }
 
     pub few_finds : (most : ℕ) (rows : Vec Row Global) → AsksFew old new sql params most (Ok rows) → (out : Result A E)
-        → IfOk out (λ a. (db : Database) (now : Q) (holds : Holds db (of now)) → Shows (knows db (of now) holds).command db params rows.items → Answer now a) → Finds Holds of old new out Answer
+        → IfOk out (λ a. (db : Database) (now : Q) (holds : Holds db (of now)) → Shows (knows db (of now) holds).command db params rows.items → Answer now a)
+        → Finds Holds of old new out Answer
     few_finds most rows h = ask_finds rows (subst (AsksText old new sql params) (few_kept most rows h.answer h.few) h.asks)
 
     pub first_finds : ((db : Database) (r : R) (holds : Holds db r) (at : Database) (given : Row) → EndsIn (knows db r holds).command at given)
         → (row : Option Row) → TakesFirst old new sql params (Ok row) → (out : Result A E)
-        → IfOk out (λ a. (db : Database) (now : Q) (holds : Holds db (of now)) → ShowsFirst (knows db (of now) holds).command db params row → Answer now a) → Finds Holds of old new out Answer
+        → IfOk out (λ a. (db : Database) (now : Q) (holds : Holds db (of now)) → ShowsFirst (knows db (of now) holds).command db params row → Answer now a)
+        → Finds Holds of old new out Answer
     first_finds ends row h (Err e) answers = record { wears = h.survives.clean; finds = tt }
     first_finds ends row h (Ok a) answers = record {
       wears = h.survives.clean;
       finds = λ now was. (
-        record { sees = λ clean. let first = was.sees (omega (arith, clean, h.survives.clean)) in sees_still (of now) first (took Holds sql params old new knows row (knows old.now (of now) first.now_holds) (h.answers clean)) },
+        record {
+          sees = λ clean. let first = was.sees (omega (arith, clean, h.survives.clean)) in
+              sees_still (of now) first (took Holds sql params old new knows row (knows old.now (of now) first.now_holds) (h.answers clean));
+        },
         λ clean. let first = was.sees (omega (arith, clean, h.survives.clean)) in
-            answers old.now now first.now_holds (took_row sql params old new row (knows old.now (of now) first.now_holds) (ends old.now (of now) first.now_holds) (h.answers clean)),
+            answers old.now now first.now_holds
+            (took_row sql params old new row (knows old.now (of now) first.now_holds) (ends old.now (of now) first.now_holds) (h.answers clean)),
       );
     }
 
   -- what a command that writes does to what is held
   abbrev pub Effect : Knows Holds sql → Q → Q → Type 0
-  Effect knows now next = (holds : Holds old.now (of now)) (count : ℕ) → Runs old new None (knows old.now (of now) holds).command (statement_of sql (understood old.now.schema sql)) params count
-      → (w : Writes old new None (knows old.now (of now) holds).command (statement_of sql (understood old.now.schema sql)) params count) × Holds new.now (of next)
+  Effect knows now next = (holds : Holds old.now (of now)) (count : ℕ)
+      → Runs old new None (knows old.now (of now) holds).command (statement_of sql (understood old.now.schema sql)) params count
+      → (w : Writes old new None (knows old.now (of now) holds).command (statement_of sql (understood old.now.schema sql)) params count)
+      × Holds new.now (of next)
 
-  pub run_makes : (Change : Q → Q → Type 0) (knows : Knows Holds sql) (out : Result (Unit {0}) Fault) → RunsText old new sql params out → ((now next : Q) → Change now next → Effect knows now next) → Makes Holds of old new out Change
+  pub run_makes : (Change : Q → Q → Type 0) (knows : Knows Holds sql) (out : Result (Unit {0}) Fault) → RunsText old new sql params out
+      → ((now next : Q) → Change now next → Effect knows now next) → Makes Holds of old new out Change
   run_makes Change knows (Err e) h effect = record { wears = h.survives.clean; makes = tt }
   run_makes Change knows (Ok _) h effect = record {
     wears = h.survives.clean;

@@ -1,5 +1,7 @@
 -- How a change begins and ends, by what it sees and what giving it up leaves.
-use Rattle.sql_calls.proofs.Common.{◌≡◌, inl, inr, ℕ, List, [], true, false, Result, Ok, Err, IsTrue, refl, ap, sym, subst, ◌∙◌, arith, both_ways, Trees, Begin, Commit, Rollback, Database, State, HasCleanDisk, Survives, Fault, RunsText, Means, HoldIn, IsAtRest, IsInDoubt, Opens, Rests, Sees, Shows, Spoiled, Begins, Keeps, Commits, GivesUp}
+use Rattle.sql_calls.proofs.Common.{◌≡◌, inl, inr, ℕ, List, [], true, false, Result, Ok, Err, IsTrue, refl, ap, sym, subst, ◌∙◌, arith, both_ways, Trees}
+use Rattle.sql_calls.proofs.Common.{Begin, Commit, Rollback, Database, State, HasCleanDisk, Survives, Fault, RunsText, Means, HoldIn, IsAtRest, IsInDoubt}
+use Rattle.sql_calls.proofs.Common.{Opens, Rests, Sees, Shows, Spoiled, Begins, Keeps, Commits, GivesUp}
 use Rattle.sqlite.specs.State.{CommitsBy}
 use Rattle.sql_calls.proofs.Framing.{schema_of}
 use Rattle.sql_calls.proofs.Leavings.{refused, crash_kept, never_commits_idle, runs_plain, IsSettled}
@@ -51,7 +53,12 @@ module _ {R : Type 0} (Holds : Database → R → Type 0) (sql : List ℕ) (old 
           let first = was (omega (arith, h.survives.clean, clean)) in
           let done = h.runs clean in
           let shown = (runs_plain sql Begin [] old new means done.0 done.1).1 in
-          record { mode = shown.mode; is_open = shown.is_open; fits = ap schema_of (shown.now_is ∙ first.held.ended first.mode shown.was_open) ∙ sym (ap schema_of shown.committed_is) };
+          record {
+            mode = shown.mode;
+            is_open = shown.is_open;
+            fits = ap schema_of (shown.now_is ∙ first.held.ended first.mode shown.was_open)
+                ∙ sym (ap schema_of shown.committed_is);
+          };
     }
 
     pub begins : RunsText old new sql [] (Ok tt) → Begins Holds old new
@@ -62,7 +69,8 @@ module _ {R : Type 0} (Holds : Database → R → Type 0) (sql : List ℕ) (old 
       wears = h.survives.clean;
       rests = λ r was clean.
           let first = was (omega (arith, h.survives.clean, clean)) in
-          let crash = λ (db : Trees) (left : new.may_leave db). first.held.crash db (crash_kept old new _ clean (λ db. never_commits_idle sql Begin old new means db refl) h.survives db left) in
+          let crash = λ (db : Trees) (left : new.may_leave db). first.held.crash db
+          (crash_kept old new _ clean (λ db. never_commits_idle sql Begin old new means db refl) h.survives db left) in
           let failed = h.runs clean in
           elim (refused sql [] old new failed.0 failed.2) [
             | inl same ↦ record {
@@ -97,7 +105,8 @@ module _ {R : Type 0} (Holds : Database → R → Type 0) (sql : List ℕ) (old 
           held = record {
             ended = λ _ _. shown.now_is ∙ sym shown.committed_is;
             kept_holds = λ _. subst (λ d. Holds d now) (sym shown.committed_is) first.now_holds;
-            crash = λ db left. subst (λ t. HoldIn Holds t now) (sym (settled db shown.is_open left ∙ ap (λ (d : Database). d.trees) shown.committed_is)) (old.now.schema, first.now_holds);
+            crash = λ db left. subst (λ t. HoldIn Holds t now) (sym (settled db shown.is_open left ∙ ap (λ (d : Database). d.trees) shown.committed_is))
+                (old.now.schema, first.now_holds);
           };
         }
 
@@ -108,7 +117,8 @@ module _ {R : Type 0} (Holds : Database → R → Type 0) (sql : List ℕ) (old 
       | inr it ↦ absurd (both_ways _ it.0 inside)
     ]
 
-    pub not_committed : (now kept : R) → Sees Holds old now → Spoiled Holds old kept → (fault : Fault) → RunsText old new sql [] (Err fault) → HasCleanDisk new → IsInDoubt Holds new kept now
+    pub not_committed : (now kept : R) → Sees Holds old now → Spoiled Holds old kept → (fault : Fault) → RunsText old new sql [] (Err fault) → HasCleanDisk new
+        → IsInDoubt Holds new kept now
     not_committed now kept was held fault h clean =
         let before : HasCleanDisk old = omega (arith, h.survives.clean, clean) in
         let first = was.sees before in
@@ -126,9 +136,11 @@ module _ {R : Type 0} (Holds : Database → R → Type 0) (sql : List ℕ) (old 
   -- ---- it is given up
 
   module _ (means : Means old.now.schema sql Rollback) where
-    rolled_crash : (kept : R) → Spoiled Holds old kept → HasCleanDisk new → Survives old new (CommitsBy sql [] old) → (db : Trees) → new.may_leave db → HoldIn Holds db kept
+    rolled_crash : (kept : R) → Spoiled Holds old kept → HasCleanDisk new → Survives old new (CommitsBy sql [] old) → (db : Trees) → new.may_leave db
+        → HoldIn Holds db kept
     rolled_crash kept was clean survives db left =
-        (was.spoiled (omega (arith, survives.clean, clean))).crash db (crash_kept old new _ clean (λ db. never_commits_idle sql Rollback old new means db refl) survives db left)
+        (was.spoiled (omega (arith, survives.clean, clean))).crash db
+        (crash_kept old new _ clean (λ db. never_commits_idle sql Rollback old new means db refl) survives db left)
 
     given_up_rests : (kept : R) → Spoiled Holds old kept → RunsText old new sql [] (Ok tt) → Rests Holds new kept
     given_up_rests kept was h clean =
@@ -146,4 +158,8 @@ module _ {R : Type 0} (Holds : Database → R → Type 0) (sql : List ℕ) (old 
 
     pub gives_up : (out : Result (Unit {0}) Fault) → RunsText old new sql [] out → GivesUp Holds old new out
     gives_up (Ok _) h = record { wears = h.survives.clean; gives_up = λ kept was. given_up_rests kept was h }
-    gives_up (Err fault) h = record { wears = h.survives.clean; gives_up = λ kept was clean. record { crash = λ db left. inl (rolled_crash kept was clean h.survives db left) } }
+    gives_up (Err fault) h = record {
+      wears = h.survives.clean;
+      gives_up =
+          λ kept was clean. record { crash = λ db left. inl (rolled_crash kept was clean h.survives db left) };
+    }

@@ -1,6 +1,10 @@
 -- What a SELECT in the order of one column shows of a keyed table.
 use mathlib.Core.Path.{fun_ext}
-use Rattle.sql_calls.proofs.Common.{◌≡◌, ℕ, zero, suc, ◌+◌, Bool, true, false, not, ◌||◌, List, [], ◌∷◌, ◌++◌, map, filter, slice_get, Option, Some, Ordering, Less, Equal, Greater, true≢false, refl, sym, ap, ◌∙◌, arith, AllByRecursion, is_eq, is_gt, ordering_reverse, Value, column, value_cmp, plain, then-Equal, value_cmp_total, Binary, Term, col, Query, IsAnswer, Output, output_cmp, page, overlay, Table, Trees, Schema, is_null, is_true, from_truth, agree, equal, are_present, agree_back, agree_chain, IsAscending, sort_by, insert_sorted, sort_by-map, map-map, IsHeldBy, HaveKeysApart, AreWhole, by_column, Rise, and_parts}
+use Rattle.sql_calls.proofs.Common.{◌≡◌, ℕ, zero, suc, ◌+◌, Bool, true, false, not, ◌||◌, List, [], ◌∷◌, ◌++◌, map, filter, slice_get, Option, Some, Ordering}
+use Rattle.sql_calls.proofs.Common.{Less, Equal, Greater, true≢false, refl, sym, ap, ◌∙◌, arith, AllByRecursion, is_eq, is_gt, ordering_reverse, Value, column}
+use Rattle.sql_calls.proofs.Common.{value_cmp, plain, then-Equal, value_cmp_total, Binary, Term, col, Query, IsAnswer, Output, output_cmp, page, overlay}
+use Rattle.sql_calls.proofs.Common.{Table, Trees, Schema, is_null, is_true, from_truth, agree, equal, are_present, agree_back, agree_chain, IsAscending}
+use Rattle.sql_calls.proofs.Common.{sort_by, insert_sorted, sort_by-map, map-map, IsHeldBy, HaveKeysApart, AreWhole, by_column, Rise, and_parts}
 use Rattle.sqlite_value.specs.Order.{Row}
 use Rattle.sqlite_value.specs.Keys.{first_key}
 use Rattle.sqlite_sql.specs.Ops.{binary}
@@ -19,13 +23,15 @@ is_there false true true a b h = absurd (true≢false (sym h))
 is_there false true false a b h = refl
 
 -- a column that is NOT NULL, and that the rowid doesn't stand for, has a value in each row
-present_from : (key : Option ℕ) (at : ℕ) (columns : List Column) (row : Row) (c : ℕ) (it : Column) → slice_get columns c ≡ Some it → it.not_null ≡ true → is_key key (at + c) ≡ false → are_present key at columns row ≡ true → is_null (column row (at + c + 1)) ≡ false
+present_from : (key : Option ℕ) (at : ℕ) (columns : List Column) (row : Row) (c : ℕ) (it : Column) → slice_get columns c ≡ Some it → it.not_null ≡ true
+    → is_key key (at + c) ≡ false → are_present key at columns row ≡ true → is_null (column row (at + c + 1)) ≡ false
 present_from key at [] row c it there filled unkeyed h = absurd cc
 present_from key at (x ∷ columns) row zero it there filled unkeyed h =
     let same : x ≡ it = cc in
     let here : at + 0 ≡ at = omega arith in
     ap (λ n. is_null (column row (n + 1))) here
-    ∙ is_there (is_key key at) x.not_null (is_null (column row (at + 1))) (ap (is_key key) (sym here) ∙ unkeyed) (ap (λ (y : Column). y.not_null) same ∙ filled) (and_parts _ _ h).0
+    ∙ is_there (is_key key at) x.not_null (is_null (column row (at + 1))) (ap (is_key key) (sym here) ∙ unkeyed) (ap (λ (y : Column). y.not_null) same ∙ filled)
+    (and_parts _ _ h).0
 present_from key at (x ∷ columns) row (suc c) it there filled unkeyed h =
     let on : at + suc c ≡ at + 1 + c = omega arith in
     ap (λ n. is_null (column row (n + 1))) on ∙ present_from key (at + 1) columns row c it there filled (ap (is_key key) (sym on) ∙ unkeyed) (and_parts _ _ h).1
@@ -46,7 +52,8 @@ unfolding binary
 tied_equal a b p q same = rw (p, q) (judged (is_eq (value_cmp b a)) (turned (value_cmp b a) (value_cmp a b) (value_cmp_total.antisymm b a) same))
 
 -- rows that agree in some columns and in one more
-agree_more : (ps : List ℕ) (c : ℕ) (s r : Row) → agree plain ps s ps r ≡ true → equal Binary (column s c) (column r c) ≡ true → agree plain (ps ++ c ∷ []) s (ps ++ c ∷ []) r ≡ true
+agree_more : (ps : List ℕ) (c : ℕ) (s r : Row) → agree plain ps s ps r ≡ true → equal Binary (column s c) (column r c) ≡ true
+    → agree plain (ps ++ c ∷ []) s (ps ++ c ∷ []) r ≡ true
 unfolding first_key
 agree_more [] c s r h same = rw same refl
 agree_more (p ∷ ps) c s r h same =
@@ -67,36 +74,48 @@ sort_by-risen cmp (x ∷ xs) h = ap (insert_sorted cmp x) (sort_by-risen cmp xs 
 -- ---- the rows in order
 
 -- The columns that the test fixes, and the one of the order, are a key.
-module _ (schema : Schema) (table : Table) (prefix : List ℕ) (c : ℕ) (it : Column) (listed : slice_get table.columns c ≡ Some it) (filled : it.not_null ≡ true) (unkeyed : is_key table.key c ≡ false)
-    (test : List Term) (params : Row) (blind : IsBlind (passes test params)) (ks : List ℕ) (fixed : (r : Row) → passes test params r ≡ true → agree plain prefix r ks params ≡ true)
+module _ (schema : Schema) (table : Table) (prefix : List ℕ) (c : ℕ) (it : Column) (listed : slice_get table.columns c ≡ Some it) (filled : it.not_null ≡ true)
+    (unkeyed : is_key table.key c ≡ false)
+    (test : List Term) (params : Row) (blind : IsBlind (passes test params)) (ks : List ℕ) (fixed : (r : Row) → passes test params r ≡ true
+    → agree plain prefix r ks params ≡ true)
     (shows : List Term) (fair : IsBlind (shown_of shows params)) (limit offset : Term) where
   abbrev pub rising : Query
   rising = by (simple table.tree test shows) ((col 1 (suc c), record { descending = false; collation = Binary }) ∷ []) limit offset
 
   present : (r : Row) → are_present table.key 0 table.columns r ≡ true → is_null (column r (suc c)) ≡ false
-  present r h = let on : suc c ≡ 0 + c + 1 = omega arith in let start : 0 + c ≡ c = omega arith in ap (λ n. is_null (column r n)) on ∙ present_from table.key 0 table.columns r c it listed filled (ap (is_key table.key) start ∙ unkeyed) h
+  present r h = let on : suc c ≡ 0 + c + 1 = omega arith in let start : 0 + c ≡ c = omega arith in ap (λ n. is_null (column r n)) on
+      ∙ present_from table.key 0 table.columns r c it listed filled (ap (is_key table.key) start ∙ unkeyed) h
 
-  tie : (r s : Row) → are_present table.key 0 table.columns r ≡ true → are_present table.key 0 table.columns s ≡ true → passes test params r ≡ true → passes test params s ≡ true
-      → is_eq (output_cmp rising (shown_in rising params r) (shown_in rising params s)) ≡ true → agree plain (prefix ++ suc c ∷ []) s (prefix ++ suc c ∷ []) r ≡ true
+  tie : (r s : Row) → are_present table.key 0 table.columns r ≡ true → are_present table.key 0 table.columns s ≡ true → passes test params r ≡ true
+      → passes test params s ≡ true
+      → is_eq (output_cmp rising (shown_in rising params r) (shown_in rising params s)) ≡ true → agree plain (prefix ++ suc c ∷ []) s (prefix ++ suc c ∷ []) r
+      ≡ true
   tie r s fine good p q tied =
       agree_more prefix (suc c) s r (agree_chain plain prefix ks prefix s params r (fixed s q) (agree_back plain prefix ks r params (fixed r p)))
-      (tied_equal (column r (suc c)) (column s (suc c)) (present r fine) (present s good) (sym (ap is_eq (then-Equal (value_cmp (column r (suc c)) (column s (suc c))))) ∙ tied))
+      (tied_equal (column r (suc c)) (column s (suc c)) (present r fine) (present s good)
+      (sym (ap is_eq (then-Equal (value_cmp (column r (suc c)) (column s (suc c))))) ∙ tied))
 
   -- SELECT .. WHERE .. ORDER BY column LIMIT ..
-  pub reads_rising : (db : Trees) (wanted : List Row) → HaveKeysApart (prefix ++ suc c ∷ []) (db table.tree) → AreWhole table (db table.tree) → IsHeldBy (db table.tree) wanted
+  pub reads_rising : (db : Trees) (wanted : List Row) → HaveKeysApart (prefix ++ suc c ∷ []) (db table.tree) → AreWhole table (db table.tree)
+      → IsHeldBy (db table.tree) wanted
       → (rows : List Row) → IsAnswer rising (overlay db []) params rows
       → rows ≡ page rising params (map (on_content (shown_of shows params)) (sort_by (by_column c) (filter (on_content (passes test params)) wanted)))
   reads_rising db wanted unique whole held rows answer =
       let f = on_content (shown_in rising params) in
       let kept = filter (on_content (passes test params)) wanted in
-      reads_in_order schema table (prefix ++ suc c ∷ []) test params blind shows ((col 1 (suc c), record { descending = false; collation = Binary }) ∷ []) limit offset
+      reads_in_order schema table (prefix ++ suc c ∷ []) test params blind shows ((col 1 (suc c), record { descending = false; collation = Binary }) ∷ []) limit
+      offset
       (λ id x. ap (λ (shown : Row). (column (id ∷ x) (suc c) ∷ [], shown)) (fair id x)) tie db wanted unique whole held rows answer
       ∙ ap (λ l. page rising params (map (λ (o : Output). o.1) l)) (sort_by-map (output_cmp rising) f kept)
       ∙ ap (page rising params) (map-map (λ (o : Output). o.1) f _)
-      ∙ ap (λ cmp. page rising params (map (on_content (shown_of shows params)) (sort_by cmp kept))) (fun_ext (λ (a : Row). fun_ext (λ (b : Row). then-Equal (by_column c a b))))
+      ∙ ap (λ cmp. page rising params (map (on_content (shown_of shows params)) (sort_by cmp kept)))
+      (fun_ext (λ (a : Row). fun_ext (λ (b : Row). then-Equal (by_column c a b))))
 
   -- where the contents are written in that order
-  pub reads_risen : (db : Trees) (wanted : List Row) → HaveKeysApart (prefix ++ suc c ∷ []) (db table.tree) → AreWhole table (db table.tree) → IsHeldBy (db table.tree) wanted → Rise c (filter (on_content (passes test params)) wanted)
-      → (rows : List Row) → IsAnswer rising (overlay db []) params rows → rows ≡ page rising params (map (on_content (shown_of shows params)) (filter (on_content (passes test params)) wanted))
+  pub reads_risen : (db : Trees) (wanted : List Row) → HaveKeysApart (prefix ++ suc c ∷ []) (db table.tree) → AreWhole table (db table.tree)
+      → IsHeldBy (db table.tree) wanted → Rise c (filter (on_content (passes test params)) wanted)
+      → (rows : List Row) → IsAnswer rising (overlay db []) params rows
+      → rows ≡ page rising params (map (on_content (shown_of shows params)) (filter (on_content (passes test params)) wanted))
   reads_risen db wanted unique whole held rise rows answer =
-      reads_rising db wanted unique whole held rows answer ∙ ap (λ l. page rising params (map (on_content (shown_of shows params)) l)) (sort_by-risen (by_column c) (filter (on_content (passes test params)) wanted) rise)
+      reads_rising db wanted unique whole held rows answer ∙ ap (λ l. page rising params (map (on_content (shown_of shows params)) l))
+      (sort_by-risen (by_column c) (filter (on_content (passes test params)) wanted) rise)

@@ -1,5 +1,11 @@
 -- What the statements on one key do to a table whose rowids nobody knows.
-use Rattle.sql_calls.proofs.Common.{◌≡◌, ◌⊎◌, inl, inr, ◌≤◌, ◌<◌, ℕ, ℤ, ◌+◌, ◌+ℤ◌, pos, Bool, true, false, not, ◌||◌, ◌&&◌, cond, List, [], ◌∷◌, ◌++◌, map, filter, fold, refl, sym, ap, ap₂, ◌∙◌, subst, arith, Ordering, Less, Equal, Greater, true≢false, IsPermutation, IsSorted, AllByRecursion, list_any, is_eq, ordering_reverse, ints, or_parts, both_ways, nat_tests, IsPermutation-cons, IsPermutation-sym, IsPermutation-trans, IsPermutation-map, IsPermutation-to_front, list_any-IsPermutation, Value, Null, Int, value_cmp, value_cmp-Int, rowid, has_rowid, put_row, without_rowid, IsAscending, agree, clashes, differ, id_in, next_rowid, without_all, ids_of, filter_all, all_weaker, IsPermutation-filter, along_permutation, sort_by, sorted_is-sort_by, AreIn, IsHeldBy}
+use Rattle.sql_calls.proofs.Common.{◌≡◌, ◌⊎◌, inl, inr, ◌≤◌, ◌<◌, ℕ, ℤ, ◌+◌, ◌+ℤ◌, pos, Bool, true, false, not, ◌||◌, ◌&&◌, cond, List, [], ◌∷◌, ◌++◌, map}
+use Rattle.sql_calls.proofs.Common.{filter, fold, refl, sym, ap, ap₂, ◌∙◌, subst, arith, Ordering, Less, Equal, Greater, true≢false, IsPermutation, IsSorted}
+use Rattle.sql_calls.proofs.Common.{AllByRecursion, list_any, is_eq, ordering_reverse, ints, or_parts, both_ways, nat_tests, IsPermutation-cons}
+use Rattle.sql_calls.proofs.Common.{IsPermutation-sym, IsPermutation-trans, IsPermutation-map, IsPermutation-to_front, list_any-IsPermutation, Value, Null}
+use Rattle.sql_calls.proofs.Common.{Int, value_cmp, value_cmp-Int, rowid, has_rowid, put_row, without_rowid, IsAscending, agree, clashes, differ, id_in}
+use Rattle.sql_calls.proofs.Common.{next_rowid, without_all, ids_of, filter_all, all_weaker, IsPermutation-filter, along_permutation, sort_by}
+use Rattle.sql_calls.proofs.Common.{sorted_is-sort_by, AreIn, IsHeldBy}
 use Rattle.sqlite_value.specs.declared.keys.Order.{Order}
 use Rattle.sqlite_value.specs.Order.{Row}
 use Rattle.sqlite_sql.specs.Ops.{binary}
@@ -25,14 +31,16 @@ lower j k (r ∷ rows) (x ∷ xs) h in_ = (in_.0, omega (arith, in_.1), in_.2, i
 abbrev after : List Row → ℤ → ℤ
 after rows start = fold (λ _ r. id_in (rowid r) +ℤ pos 1) start rows
 
-put_next : (k : ℕ) (rows xs : List Row) → AreIn k rows xs → (x : Row) → (m : ℕ) × (after rows (pos k) ≡ pos m) × (k ≤ m) × AreIn k (put_row (Int (pos m) ∷ x) rows) (xs ++ x ∷ [])
+put_next : (k : ℕ) (rows xs : List Row) → AreIn k rows xs → (x : Row) → (m : ℕ) × (after rows (pos k) ≡ pos m) × (k ≤ m)
+    × AreIn k (put_row (Int (pos m) ∷ x) rows) (xs ++ x ∷ [])
 put_next k [] [] h x = (k, refl, omega arith, (k, omega arith, refl, tt))
 put_next k [] (y ∷ ys) h x = absurd h
 put_next k (r ∷ rows) [] h x = absurd h
 put_next k (r ∷ rows) (y ∷ ys) h x =
     let more = put_next (h.0 + 1) rows ys h.3 x in
     let start : id_in (rowid r) +ℤ pos 1 ≡ pos (h.0 + 1) = ap (λ row. id_in (rowid row) +ℤ pos 1) h.2 in
-    let past : value_cmp (rowid r) (Int (pos more.0)) ≡ Less = ap (λ row. value_cmp (rowid row) (Int (pos more.0))) h.2 ∙ ids_less h.0 more.0 (omega (arith, more.2)) in
+    let past : value_cmp (rowid r) (Int (pos more.0)) ≡ Less = ap (λ row. value_cmp (rowid row) (Int (pos more.0))) h.2
+    ∙ ids_less h.0 more.0 (omega (arith, more.2)) in
     (more.0, ap (after rows) start ∙ more.1, omega (arith, h.1, more.2), rw past (h.0, h.1, h.2, more.3))
 
 pub held_added : (rows wanted : List Row) → IsHeldBy rows wanted → (x : Row) → IsHeldBy (put_row (Int (next_rowid rows) ∷ x) rows) (x ∷ wanted)
@@ -56,18 +64,22 @@ module _ (p : Row → Bool) (blind : IsBlind p) where
   seen_as : (k : ℕ) (r : Row) (rows : List Row) (x : Row) (xs : List Row) → (h : AreIn k (r ∷ rows) (x ∷ xs)) → p r ≡ p (Null ∷ x)
   seen_as k r rows x xs h = ap p h.2 ∙ blind _ x
 
-  pub seen : {A : Type 0} (f : Row → A) → IsBlind f → (k : ℕ) (rows xs : List Row) → AreIn k rows xs → map f (filter p rows) ≡ map (on_content f) (filter (on_content p) xs)
+  pub seen : {A : Type 0} (f : Row → A) → IsBlind f → (k : ℕ) (rows xs : List Row) → AreIn k rows xs → map f (filter p rows)
+      ≡ map (on_content f) (filter (on_content p) xs)
   seen f fair k [] [] h = refl
   seen f fair k [] (y ∷ ys) h = absurd h
   seen f fair k (r ∷ rows) [] h = absurd h
   seen f fair k (r ∷ rows) (y ∷ ys) h =
       rw (seen_as k r rows y ys h)
-      (elim (p (Null ∷ y)) as (λ b. map f (cond b (r ∷ filter p rows) (filter p rows)) ≡ map (on_content f) (cond b (y ∷ filter (on_content p) ys) (filter (on_content p) ys)))
+      (elim (p (Null ∷ y)) as (λ b. map f (cond b (r ∷ filter p rows) (filter p rows))
+      ≡ map (on_content f) (cond b (y ∷ filter (on_content p) ys) (filter (on_content p) ys)))
       [ true ↦ ap₂ ◌∷◌ (ap f h.2 ∙ fair _ y) (seen f fair (h.0 + 1) rows ys h.3) | false ↦ seen f fair (h.0 + 1) rows ys h.3 ])
 
-  pub held_seen : {A : Type 0} (f : Row → A) → IsBlind f → (rows wanted : List Row) → IsHeldBy rows wanted → IsPermutation (map (on_content f) (filter (on_content p) wanted)) (map f (filter p rows))
+  pub held_seen : {A : Type 0} (f : Row → A) → IsBlind f → (rows wanted : List Row) → IsHeldBy rows wanted
+      → IsPermutation (map (on_content f) (filter (on_content p) wanted)) (map f (filter p rows))
   held_seen f fair rows wanted h =
-      subst (IsPermutation _) (sym (seen f fair 1 rows h.order h.rising)) (IsPermutation-map (on_content f) _ _ (IsPermutation-filter (on_content p) _ _ h.same))
+      subst (IsPermutation _) (sym (seen f fair 1 rows h.order h.rising))
+      (IsPermutation-map (on_content f) _ _ (IsPermutation-filter (on_content p) _ _ h.same))
 
 -- ---- rows that go
 
@@ -79,7 +91,8 @@ filter_twice p q [] = refl
 filter_twice p q (x ∷ xs) = go (p x) (q x) refl (filter_twice p q xs)
   where
     go : (a b : Bool) → q x ≡ b → filter (λ x. not (q x)) (filter (λ x. not (p x)) xs) ≡ filter (λ x. not (p x || q x)) xs
-        → filter (λ x. not (q x)) (cond (not a) (x ∷ filter (λ x. not (p x)) xs) (filter (λ x. not (p x)) xs)) ≡ cond (not (a || b)) (x ∷ filter (λ x. not (p x || q x)) xs) (filter (λ x. not (p x || q x)) xs)
+        → filter (λ x. not (q x)) (cond (not a) (x ∷ filter (λ x. not (p x)) xs) (filter (λ x. not (p x)) xs))
+        ≡ cond (not (a || b)) (x ∷ filter (λ x. not (p x || q x)) xs) (filter (λ x. not (p x || q x)) xs)
     go true b is h = h
     go false true is h = rw is h
     go false false is h = rw is (ap (λ l. x ∷ l) h)
@@ -99,29 +112,37 @@ module _ (p : Row → Bool) (blind : IsBlind p) where
   none_below k m (r ∷ rows) [] h low = absurd h
   none_below k m (r ∷ rows) (y ∷ ys) h low =
       let more = none_below (h.0 + 1) m rows ys h.3 (omega (arith, h.1)) in
-      let apart : is_eq (value_cmp (Int (pos m)) (Int (id_in (rowid r)))) ≡ false = ap (λ row. is_eq (value_cmp (Int (pos m)) (Int (id_in (rowid row))))) h.2 ∙ ap is_eq (ids_less m h.0 (omega (arith, h.1))) in
+      let apart : is_eq (value_cmp (Int (pos m)) (Int (id_in (rowid r)))) ≡ false = ap (λ row. is_eq (value_cmp (Int (pos m)) (Int (id_in (rowid row))))) h.2
+      ∙ ap is_eq (ids_less m h.0 (omega (arith, h.1))) in
       elim (p r) as (λ b. among (ids_of (cond b (r ∷ filter p rows) (filter p rows))) (Int (pos m)) ≡ false) [ true ↦ rw apart more | false ↦ more ]
 
-  gone : (k : ℕ) (rows xs : List Row) → AreIn k rows xs → (f : Row → Bool) → ((n : ℕ) (x : Row) → k ≤ n → f (Int (pos n) ∷ x) ≡ among (ids_of (filter p rows)) (Int (pos n)))
+  gone : (k : ℕ) (rows xs : List Row) → AreIn k rows xs → (f : Row → Bool)
+      → ((n : ℕ) (x : Row) → k ≤ n → f (Int (pos n) ∷ x) ≡ among (ids_of (filter p rows)) (Int (pos n)))
       → AreIn k (filter (λ r. not (f r)) rows) (filter (λ x. not (p (Null ∷ x))) xs)
   gone k [] [] h f is = tt
   gone k [] (y ∷ ys) h f is = absurd h
   gone k (r ∷ rows) [] h f is = absurd h
   gone k (r ∷ rows) (y ∷ ys) h f is = go (p (Null ∷ y)) (seen_as p blind k r rows y ys h) (gone (h.0 + 1) rows ys h.3 f)
     where
-      go : (b : Bool) → p r ≡ b → (((n : ℕ) (x : Row) → h.0 + 1 ≤ n → f (Int (pos n) ∷ x) ≡ among (ids_of (filter p rows)) (Int (pos n))) → AreIn (h.0 + 1) (filter (λ r. not (f r)) rows) (filter (λ x. not (p (Null ∷ x))) ys))
+      go : (b : Bool) → p r ≡ b
+          → (((n : ℕ) (x : Row) → h.0 + 1 ≤ n → f (Int (pos n) ∷ x) ≡ among (ids_of (filter p rows)) (Int (pos n)))
+          → AreIn (h.0 + 1) (filter (λ r. not (f r)) rows) (filter (λ x. not (p (Null ∷ x))) ys))
           → AreIn k (filter (λ r. not (f r)) (r ∷ rows)) (cond (not b) (y ∷ filter (λ x. not (p (Null ∷ x))) ys) (filter (λ x. not (p (Null ∷ x))) ys))
       go true e more =
           let here : f r ≡ true = ap f h.2 ∙ is h.0 y h.1 ∙ ap (λ b. among (ids_of (cond b (r ∷ filter p rows) (filter p rows))) (Int (pos h.0))) e
-          ∙ ap (λ row. is_eq (value_cmp (Int (pos h.0)) (Int (id_in (rowid row)))) || among (ids_of (filter p rows)) (Int (pos h.0))) h.2 ∙ rw (ids_same h.0) refl in
+          ∙ ap (λ row. is_eq (value_cmp (Int (pos h.0)) (Int (id_in (rowid row)))) || among (ids_of (filter p rows)) (Int (pos h.0))) h.2
+          ∙ rw (ids_same h.0) refl in
           let low : k ≤ h.0 + 1 = omega (arith, h.1) in
           let later = λ (n : ℕ) (x : Row) (up : h.0 + 1 ≤ n).
           is n x (omega (arith, low, up)) ∙ ap (λ b. among (ids_of (cond b (r ∷ filter p rows) (filter p rows))) (Int (pos n))) e
-          ∙ ap (λ row. is_eq (value_cmp (Int (pos n)) (Int (id_in (rowid row)))) || among (ids_of (filter p rows)) (Int (pos n))) h.2 ∙ rw (ids_more h.0 n (omega arith)) refl in
+          ∙ ap (λ row. is_eq (value_cmp (Int (pos n)) (Int (id_in (rowid row)))) || among (ids_of (filter p rows)) (Int (pos n))) h.2
+          ∙ rw (ids_more h.0 n (omega arith)) refl in
           rw here (lower (h.0 + 1) k _ _ low (more later))
       go false e more =
-          let here : f r ≡ false = ap f h.2 ∙ is h.0 y h.1 ∙ ap (λ b. among (ids_of (cond b (r ∷ filter p rows) (filter p rows))) (Int (pos h.0))) e ∙ none_below (h.0 + 1) h.0 rows ys h.3 (omega arith) in
-          let later = λ (n : ℕ) (x : Row) (up : h.0 + 1 ≤ n). is n x (omega (arith, h.1)) ∙ ap (λ b. among (ids_of (cond b (r ∷ filter p rows) (filter p rows))) (Int (pos n))) e in
+          let here : f r ≡ false = ap f h.2 ∙ is h.0 y h.1 ∙ ap (λ b. among (ids_of (cond b (r ∷ filter p rows) (filter p rows))) (Int (pos h.0))) e
+          ∙ none_below (h.0 + 1) h.0 rows ys h.3 (omega arith) in
+          let later = λ (n : ℕ) (x : Row) (up : h.0 + 1 ≤ n). is n x (omega (arith, h.1))
+          ∙ ap (λ b. among (ids_of (cond b (r ∷ filter p rows) (filter p rows))) (Int (pos n))) e in
           rw here (h.0, h.1, h.2, more later)
 
   -- the rows that pass go, in whatever order their rowids are given
@@ -130,7 +151,8 @@ module _ (p : Row → Bool) (blind : IsBlind p) where
   held_dropped rows wanted h given same = record {
     order = filter (λ x. not (p (Null ∷ x))) h.order;
     rising = subst (λ l. AreIn 1 l (filter (λ x. not (p (Null ∷ x))) h.order)) (sym (without_is given rows))
-        (gone 1 rows h.order h.rising (λ r. among given (rowid r)) (λ n x low. sym (list_any-IsPermutation (λ id. is_eq (value_cmp (Int (pos n)) (Int id))) _ given same)));
+        (gone 1 rows h.order h.rising (λ r. among given (rowid r))
+        (λ n x low. sym (list_any-IsPermutation (λ id. is_eq (value_cmp (Int (pos n)) (Int id))) _ given same)));
     same = IsPermutation-filter (λ x. not (p (Null ∷ x))) _ _ h.same;
   }
 
@@ -149,7 +171,8 @@ put_first k m [] [] h low x = refl
 put_first k m [] (y ∷ ys) h low x = absurd h
 put_first k m (r ∷ rows) [] h low x = absurd h
 put_first k m (r ∷ rows) (y ∷ ys) h low x =
-    let over : value_cmp (rowid r) (Int (pos m)) ≡ Greater = ap (λ row. value_cmp (rowid row) (Int (pos m))) h.2 ∙ ids_more m h.0 (omega (arith, h.1)) in rw over refl
+    let over : value_cmp (rowid r) (Int (pos m)) ≡ Greater = ap (λ row. value_cmp (rowid row) (Int (pos m))) h.2 ∙ ids_more m h.0 (omega (arith, h.1)) in
+    rw over refl
 
 abbrev pub changed : (Row → Bool) → (Row → Row) → List Row → List Row
 changed q f = map (λ x. cond (q x) (f x) x)
@@ -166,26 +189,36 @@ module _ (p : Row → Bool) (blind : IsBlind p) (f : Row → Row) where
       go false e more = ap (λ l. y ∷ l) (more (rw e at none))
 
   replaced : (k : ℕ) (rows xs : List Row) → AreIn k rows xs → (found : Row) → filter p rows ≡ found ∷ []
-      → (n : ℕ) × (k ≤ n) × (x : Row) × (found ≡ Int (pos n) ∷ x) × AreIn k (put_row (Int (pos n) ∷ f x) (without_rowid (pos n) rows)) (changed (on_content p) f xs)
+      → (n : ℕ) × (k ≤ n) × (x : Row) × (found ≡ Int (pos n) ∷ x) × AreIn k (put_row (Int (pos n) ∷ f x) (without_rowid (pos n) rows))
+      (changed (on_content p) f xs)
   replaced k [] [] h found one = absurd (cc)
   replaced k [] (y ∷ ys) h found one = absurd h
   replaced k (r ∷ rows) [] h found one = absurd h
   replaced k (r ∷ rows) (y ∷ ys) h found one = go (p (Null ∷ y)) (seen_as p blind k r rows y ys h) (replaced (h.0 + 1) rows ys h.3 found)
     where
       go : (b : Bool) → p r ≡ b
-          → (filter p rows ≡ found ∷ [] → (n : ℕ) × (h.0 + 1 ≤ n) × (x : Row) × (found ≡ Int (pos n) ∷ x) × AreIn (h.0 + 1) (put_row (Int (pos n) ∷ f x) (without_rowid (pos n) rows)) (changed (on_content p) f ys))
-          → (n : ℕ) × (k ≤ n) × (x : Row) × (found ≡ Int (pos n) ∷ x) × AreIn k (put_row (Int (pos n) ∷ f x) (without_rowid (pos n) (r ∷ rows))) (cond b (f y) y ∷ changed (on_content p) f ys)
+          → (filter p rows ≡ found ∷ [] → (n : ℕ) × (h.0 + 1 ≤ n) × (x : Row) × (found ≡ Int (pos n) ∷ x)
+          × AreIn (h.0 + 1) (put_row (Int (pos n) ∷ f x) (without_rowid (pos n) rows)) (changed (on_content p) f ys))
+          → (n : ℕ) × (k ≤ n) × (x : Row) × (found ≡ Int (pos n) ∷ x) × AreIn k (put_row (Int (pos n) ∷ f x) (without_rowid (pos n) (r ∷ rows)))
+          (cond b (f y) y ∷ changed (on_content p) f ys)
       go true e more =
           let it : r ∷ filter p rows ≡ found ∷ [] = rw e at one in
           let first : r ≡ found = cc in
           let none : filter p rows ≡ [] = cc in
           let here : has_rowid (pos h.0) r ≡ true = ap (has_rowid (pos h.0)) h.2 ∙ ap is_eq (ids_same h.0) in
-          let rest : AreIn (h.0 + 1) rows (changed (on_content p) f ys) = subst (AreIn (h.0 + 1) rows) (sym (unchanged (h.0 + 1) rows ys h.3 none)) h.3 in
-          (h.0, h.1, y, sym first ∙ h.2, rw (here, all_past (h.0 + 1) h.0 rows ys h.3 (omega arith), put_first (h.0 + 1) h.0 rows ys h.3 (omega arith) (f y)) (h.0, h.1, refl, rest))
+          let rest : AreIn (h.0 + 1) rows (changed (on_content p) f ys) = subst (AreIn (h.0 + 1) rows) (sym (unchanged (h.0 + 1) rows ys h.3 none)) h.3 in (
+            h.0,
+            h.1,
+            y,
+            sym first ∙ h.2,
+            rw (here, all_past (h.0 + 1) h.0 rows ys h.3 (omega arith), put_first (h.0 + 1) h.0 rows ys h.3 (omega arith) (f y))
+                (h.0, h.1, refl, rest),
+          )
       go false e later =
           let more = later (rw e at one) in
           let apart : has_rowid (pos more.0) r ≡ false = ap (has_rowid (pos more.0)) h.2 ∙ ap is_eq (ids_less h.0 more.0 (omega (arith, more.1))) in
-          let past : value_cmp (rowid r) (Int (pos more.0)) ≡ Less = ap (λ row. value_cmp (rowid row) (Int (pos more.0))) h.2 ∙ ids_less h.0 more.0 (omega (arith, more.1)) in
+          let past : value_cmp (rowid r) (Int (pos more.0)) ≡ Less = ap (λ row. value_cmp (rowid row) (Int (pos more.0))) h.2
+          ∙ ids_less h.0 more.0 (omega (arith, more.1)) in
           (more.0, omega (arith, h.1, more.1), more.2, more.3, rw (apart, past) (h.0, h.1, h.2, more.4))
 
   pub held_unchanged : (rows wanted : List Row) → IsHeldBy rows wanted → filter p rows ≡ [] → IsHeldBy rows (changed (on_content p) f wanted)
@@ -215,27 +248,32 @@ module _ (p : Row → Bool) (o : Order) (places : List ℕ) (key : IsKey p o pla
   abbrev has_twin : Row → List Row → Bool
   has_twin r = list_any (λ other. agree o places other places r && differ (rowid other) (rowid r))
 
-  no_more : (k m : ℕ) (r : Row) (rows xs : List Row) → AreIn k rows xs → m < k → rowid r ≡ Int (pos m) → p r ≡ true → has_twin r rows ≡ false → filter p rows ≡ []
+  no_more : (k m : ℕ) (r : Row) (rows xs : List Row) → AreIn k rows xs → m < k → rowid r ≡ Int (pos m) → p r ≡ true → has_twin r rows ≡ false → filter p rows
+      ≡ []
   no_more k m r [] [] h low id passes none = refl
   no_more k m r [] (y ∷ ys) h low id passes none = absurd h
   no_more k m r (s ∷ rows) [] h low id passes none = absurd h
-  no_more k m r (s ∷ rows) (y ∷ ys) h low id passes none = go (p s) refl (no_more (h.0 + 1) m r rows ys h.3 (omega (arith, h.1)) id passes (or_parts _ _ none).1)
+  no_more k m r (s ∷ rows) (y ∷ ys) h low id passes none =
+      go (p s) refl (no_more (h.0 + 1) m r rows ys h.3 (omega (arith, h.1)) id passes (or_parts _ _ none).1)
     where
       go : (b : Bool) → p s ≡ b → filter p rows ≡ [] → cond b (s ∷ filter p rows) (filter p rows) ≡ []
       go true e more =
-          let apart : differ (rowid s) (rowid r) ≡ true = ap (λ row. differ (rowid row) (rowid r)) h.2 ∙ ap (differ (Int (pos h.0))) id ∙ ids_differ m h.0 (omega (arith, h.1)) in
+          let apart : differ (rowid s) (rowid r) ≡ true = ap (λ row. differ (rowid row) (rowid r)) h.2 ∙ ap (differ (Int (pos h.0))) id
+          ∙ ids_differ m h.0 (omega (arith, h.1)) in
           let both : (agree o places s places r && differ (rowid s) (rowid r)) ≡ true = rw (key s r e passes, apart) refl in
           absurd (both_ways _ (or_parts _ _ none).0 both)
       go false e more = more
 
-  pub one_at_most : (k : ℕ) (rows xs : List Row) → AreIn k rows xs → AllByRecursion (λ row. clashes o places rows row ≡ false) rows → (filter p rows ≡ []) ⊎ ((found : Row) × (filter p rows ≡ found ∷ []))
+  pub one_at_most : (k : ℕ) (rows xs : List Row) → AreIn k rows xs → AllByRecursion (λ row. clashes o places rows row ≡ false) rows → (filter p rows ≡ [])
+      ⊎ ((found : Row) × (filter p rows ≡ found ∷ []))
   one_at_most k [] [] h none = inl refl
   one_at_most k [] (y ∷ ys) h none = absurd h
   one_at_most k (r ∷ rows) [] h none = absurd h
   one_at_most k (r ∷ rows) (y ∷ ys) h none =
       go (p r) refl (one_at_most (h.0 + 1) rows ys h.3 (all_weaker _ (λ row. clashes o places rows row ≡ false) (λ row c. (or_parts _ _ c).1) rows none.1))
     where
-      go : (b : Bool) → p r ≡ b → (filter p rows ≡ []) ⊎ ((found : Row) × (filter p rows ≡ found ∷ [])) → (cond b (r ∷ filter p rows) (filter p rows) ≡ []) ⊎ ((found : Row) × (cond b (r ∷ filter p rows) (filter p rows) ≡ found ∷ []))
+      go : (b : Bool) → p r ≡ b → (filter p rows ≡ []) ⊎ ((found : Row) × (filter p rows ≡ found ∷ [])) → (cond b (r ∷ filter p rows) (filter p rows) ≡ [])
+          ⊎ ((found : Row) × (cond b (r ∷ filter p rows) (filter p rows) ≡ found ∷ []))
       go true e more = inr (r, ap (λ l. r ∷ l) (no_more (h.0 + 1) h.0 r rows ys h.3 (omega arith) (ap rowid h.2) e (or_parts _ _ none.0).1))
       go false e more = more
 
@@ -244,7 +282,8 @@ module _ (p : Row → Bool) (o : Order) (places : List ℕ) (key : IsKey p o pla
 module _ {A : Type 0} (p : Row → Bool) (o : Order) (places : List ℕ) (f : Row → A) (cmp : A → A → Ordering) (Fine : Row → Type 0)
     (tie : (r s : Row) → Fine r → Fine s → p r ≡ true → p s ≡ true → is_eq (cmp (f r) (f s)) ≡ true → agree o places s places r ≡ true) where
   apart_from : (k m : ℕ) (r : Row) (rows xs : List Row) → AreIn k rows xs → m < k → rowid r ≡ Int (pos m) → Fine r → AllByRecursion Fine rows → p r ≡ true
-      → list_any (λ other. agree o places other places r && differ (rowid other) (rowid r)) rows ≡ false → AllByRecursion (λ y. is_eq (cmp (f r) y) ≡ false) (map f (filter p rows))
+      → list_any (λ other. agree o places other places r && differ (rowid other) (rowid r)) rows ≡ false
+      → AllByRecursion (λ y. is_eq (cmp (f r) y) ≡ false) (map f (filter p rows))
   apart_from k m r [] [] h low id fine all passes none = tt
   apart_from k m r [] (y ∷ ys) h low id fine all passes none = absurd h
   apart_from k m r (s ∷ rows) [] h low id fine all passes none = absurd h
@@ -254,20 +293,23 @@ module _ {A : Type 0} (p : Row → Bool) (o : Order) (places : List ℕ) (f : Ro
       go : (b c : Bool) → p s ≡ b → is_eq (cmp (f r) (f s)) ≡ c → AllByRecursion (λ y. is_eq (cmp (f r) y) ≡ false) (map f (filter p rows))
           → AllByRecursion (λ y. is_eq (cmp (f r) y) ≡ false) (map f (cond b (s ∷ filter p rows) (filter p rows)))
       go true true e same more =
-          let apart : differ (rowid s) (rowid r) ≡ true = ap (λ row. differ (rowid row) (rowid r)) h.2 ∙ ap (differ (Int (pos h.0))) id ∙ ids_differ m h.0 (omega (arith, h.1)) in
+          let apart : differ (rowid s) (rowid r) ≡ true = ap (λ row. differ (rowid row) (rowid r)) h.2 ∙ ap (differ (Int (pos h.0))) id
+          ∙ ids_differ m h.0 (omega (arith, h.1)) in
           let both : (agree o places s places r && differ (rowid s) (rowid r)) ≡ true = rw (tie r s fine all.0 passes e same, apart) refl in
           absurd (both_ways _ (or_parts _ _ none).0 both)
       go true false e same more = (same, more)
       go false c e same more = more
 
-  pub no_ties : (k : ℕ) (rows xs : List Row) → AreIn k rows xs → AllByRecursion Fine rows → AllByRecursion (λ row. clashes o places rows row ≡ false) rows → IsAscending (λ a b. is_eq (cmp a b) ≡ false) (map f (filter p rows))
+  pub no_ties : (k : ℕ) (rows xs : List Row) → AreIn k rows xs → AllByRecursion Fine rows → AllByRecursion (λ row. clashes o places rows row ≡ false) rows
+      → IsAscending (λ a b. is_eq (cmp a b) ≡ false) (map f (filter p rows))
   no_ties k [] [] h fine none = tt
   no_ties k [] (y ∷ ys) h fine none = absurd h
   no_ties k (r ∷ rows) [] h fine none = absurd h
   no_ties k (r ∷ rows) (y ∷ ys) h fine none =
       go (p r) refl (no_ties (h.0 + 1) rows ys h.3 fine.1 (all_weaker _ (λ row. clashes o places rows row ≡ false) (λ row c. (or_parts _ _ c).1) rows none.1))
     where
-      go : (b : Bool) → p r ≡ b → IsAscending (λ a b. is_eq (cmp a b) ≡ false) (map f (filter p rows)) → IsAscending (λ a b. is_eq (cmp a b) ≡ false) (map f (cond b (r ∷ filter p rows) (filter p rows)))
+      go : (b : Bool) → p r ≡ b → IsAscending (λ a b. is_eq (cmp a b) ≡ false) (map f (filter p rows))
+          → IsAscending (λ a b. is_eq (cmp a b) ≡ false) (map f (cond b (r ∷ filter p rows) (filter p rows)))
       go true e more = (apart_from (h.0 + 1) h.0 r rows ys h.3 (omega arith) (ap rowid h.2) fine.0 fine.1 e (or_parts _ _ none.0).1, more)
       go false e more = more
 
@@ -297,28 +339,42 @@ module _ {A : Type 0} (cmp : A → A → Ordering) (total : IsTotalOrder cmp) wh
 
 -- ---- the row that was found
 
-none_named : (k m : ℕ) (rows xs : List Row) → AreIn k rows xs → m < k → (named : Row → Bool) → ((i : ℕ) (x : Row) → named (Int (pos i) ∷ x) ≡ is_eq (value_cmp (Int (pos i)) (Int (pos m)))) → filter named rows ≡ []
+none_named : (k m : ℕ) (rows xs : List Row) → AreIn k rows xs → m < k → (named : Row → Bool)
+    → ((i : ℕ) (x : Row) → named (Int (pos i) ∷ x) ≡ is_eq (value_cmp (Int (pos i)) (Int (pos m)))) → filter named rows ≡ []
 none_named k m [] [] h low named is = refl
 none_named k m [] (y ∷ ys) h low named is = absurd h
 none_named k m (r ∷ rows) [] h low named is = absurd h
 none_named k m (r ∷ rows) (y ∷ ys) h low named is =
-    let apart : named r ≡ false = ap named h.2 ∙ is h.0 y ∙ ap is_eq (ids_more m h.0 (omega (arith, h.1))) in rw apart (none_named (h.0 + 1) m rows ys h.3 (omega (arith, h.1)) named is)
+    let apart : named r ≡ false = ap named h.2 ∙ is h.0 y ∙ ap is_eq (ids_more m h.0 (omega (arith, h.1))) in
+    rw apart (none_named (h.0 + 1) m rows ys h.3 (omega (arith, h.1)) named is)
 
 -- it is the only one that has its rowid
 pub found_id : (p : Row → Bool) (k : ℕ) (rows xs : List Row) → AreIn k rows xs → (found : Row) → filter p rows ≡ found ∷ []
-    → (n : ℕ) × (k ≤ n) × (x : Row) × (found ≡ Int (pos n) ∷ x) × ((named : Row → Bool) → ((i : ℕ) (x : Row) → named (Int (pos i) ∷ x) ≡ is_eq (value_cmp (Int (pos i)) (Int (pos n)))) → filter named rows ≡ found ∷ [])
+    → (n : ℕ) × (k ≤ n) × (x : Row) × (found ≡ Int (pos n) ∷ x)
+    × ((named : Row → Bool) → ((i : ℕ) (x : Row) → named (Int (pos i) ∷ x) ≡ is_eq (value_cmp (Int (pos i)) (Int (pos n)))) → filter named rows
+    ≡ found ∷ [])
 found_id p k [] [] h found one = absurd (cc)
 found_id p k [] (y ∷ ys) h found one = absurd h
 found_id p k (r ∷ rows) [] h found one = absurd h
 found_id p k (r ∷ rows) (y ∷ ys) h found one = go (p r) refl (found_id p (h.0 + 1) rows ys h.3 found)
   where
     go : (b : Bool) → p r ≡ b
-        → (filter p rows ≡ found ∷ [] → (n : ℕ) × (h.0 + 1 ≤ n) × (x : Row) × (found ≡ Int (pos n) ∷ x) × ((named : Row → Bool) → ((i : ℕ) (x : Row) → named (Int (pos i) ∷ x) ≡ is_eq (value_cmp (Int (pos i)) (Int (pos n)))) → filter named rows ≡ found ∷ []))
-        → (n : ℕ) × (k ≤ n) × (x : Row) × (found ≡ Int (pos n) ∷ x) × ((named : Row → Bool) → ((i : ℕ) (x : Row) → named (Int (pos i) ∷ x) ≡ is_eq (value_cmp (Int (pos i)) (Int (pos n)))) → filter named (r ∷ rows) ≡ found ∷ [])
+        → (filter p rows ≡ found ∷ [] → (n : ℕ) × (h.0 + 1 ≤ n) × (x : Row) × (found ≡ Int (pos n) ∷ x)
+        × ((named : Row → Bool) → ((i : ℕ) (x : Row) → named (Int (pos i) ∷ x) ≡ is_eq (value_cmp (Int (pos i)) (Int (pos n)))) → filter named rows
+        ≡ found ∷ []))
+        → (n : ℕ) × (k ≤ n) × (x : Row) × (found ≡ Int (pos n) ∷ x)
+        × ((named : Row → Bool) → ((i : ℕ) (x : Row) → named (Int (pos i) ∷ x) ≡ is_eq (value_cmp (Int (pos i)) (Int (pos n)))) → filter named (r ∷ rows)
+        ≡ found ∷ [])
     go true e later =
         let it : r ∷ filter p rows ≡ found ∷ [] = rw e at one in
-        let first : r ≡ found = cc in
-        (h.0, h.1, y, sym first ∙ h.2, λ named is. let here : named r ≡ true = ap named h.2 ∙ is h.0 y ∙ ap is_eq (ids_same h.0) in rw here (ap₂ ◌∷◌ first (none_named (h.0 + 1) h.0 rows ys h.3 (omega arith) named is)))
+        let first : r ≡ found = cc in (
+          h.0,
+          h.1,
+          y,
+          sym first ∙ h.2,
+          λ named is. let here : named r ≡ true = ap named h.2 ∙ is h.0 y ∙ ap is_eq (ids_same h.0) in
+              rw here (ap₂ ◌∷◌ first (none_named (h.0 + 1) h.0 rows ys h.3 (omega arith) named is)),
+        )
     go false e later =
         let more = later (rw e at one) in (
           more.0,

@@ -1,10 +1,16 @@
 -- What the usual statements do to a table that has a text or composite key, in contents: rows less their rowids, in any order.
-use Rattle.sql_calls.proofs.Common.{get_or, ◌≡◌, ◌⊎◌, inl, inr, ◌≤◌, ℕ, pos, Bool, true, false, not, cond, List, [], ◌∷◌, map, filter, length, slice_get, Some, refl, sym, ap, ◌∙◌, subst, arith, IsPermutation, is_eq, length-map, IsPermutation-trans, IsPermutation-map, length_permutation, Null, Int, Trees, rowid, put_row, without_rowid, Table, Schema, agree, clashes, are_present, Has, cast_all, next_rowid, ids_of, agree_back, agree_chain, Chosen, Given, Term, col, IsAnswer, output_cmp, page, Output, overlay, output_cmp_total, Database, one_permutation, sort_by, all-slice_get, map-map, plain, IsSound, all_from, has_got, IsHeldBy, HaveKeysApart, AreWhole, Key, id_in}
+use Rattle.sql_calls.proofs.Common.{get_or, ◌≡◌, ◌⊎◌, inl, inr, ◌≤◌, ℕ, pos, Bool, true, false, not, cond, List, [], ◌∷◌, map, filter, length, slice_get, Some}
+use Rattle.sql_calls.proofs.Common.{refl, sym, ap, ◌∙◌, subst, arith, IsPermutation, is_eq, length-map, IsPermutation-trans, IsPermutation-map}
+use Rattle.sql_calls.proofs.Common.{length_permutation, Null, Int, Trees, rowid, put_row, without_rowid, Table, Schema, agree, clashes, are_present, Has}
+use Rattle.sql_calls.proofs.Common.{cast_all, next_rowid, ids_of, agree_back, agree_chain, Chosen, Given, Term, col, IsAnswer, output_cmp, page, Output}
+use Rattle.sql_calls.proofs.Common.{overlay, output_cmp_total, Database, one_permutation, sort_by, all-slice_get, map-map, plain, IsSound, all_from, has_got}
+use Rattle.sql_calls.proofs.Common.{IsHeldBy, HaveKeysApart, AreWhole, Key, id_in}
 use Rattle.sqlite_value.specs.Order.{Row}
 use Rattle.sqlite_schema.specs.declared.schema.Constraint.TheVariants.{NotNull}
 use Rattle.sqlite_rules.specs.Edit.{edit_of, edited}
 use Rattle.sqlite_catalog.proofs.AlterLemmas.{keys_are_unique}
-use Rattle.sql_calls.proofs.KeyedRows.{IsBlind, on_content, IsKey, changed, held_added, held_seen, held_dropped, held_unchanged, held_changed, one_at_most, no_ties, sorted_of}
+use Rattle.sql_calls.proofs.KeyedRows.{IsBlind, on_content, IsKey, changed, held_added, held_seen, held_dropped, held_unchanged, held_changed, one_at_most}
+use Rattle.sql_calls.proofs.KeyedRows.{no_ties, sorted_of}
 use Rattle.sql_calls.proofs.NumberedRows.{cast_int, cast_null}
 use Rattle.sql_calls.proofs.Selects.{simple, passes, shown_of, simple_rows, by, shown_in, ordered_rows}
 use Rattle.sql_calls.proofs.Inserts.{Inserted, given_rows}
@@ -39,27 +45,33 @@ module _ (table : Table) (rows : List Row) (f : Row → Row) where
   abbrev pub written : List Row → List Row
   written given = edited (λ t. rows) (edit_of (λ t. rows) table (ids_of given) Given 1 given)
 
-  pub one_written : (n : ℕ) (x : Row) → written ((Int (pos n) ∷ Int (pos n) ∷ x) ∷ []) ≡ put_row (Int (pos n) ∷ cast_all table.columns x) (without_rowid (pos n) rows)
+  pub one_written : (n : ℕ) (x : Row) → written ((Int (pos n) ∷ Int (pos n) ∷ x) ∷ [])
+      ≡ put_row (Int (pos n) ∷ cast_all table.columns x) (without_rowid (pos n) rows)
   one_written n x = rw (cast_int n) refl
 
 -- In a sound database a UNIQUE keeps the keys of its table apart, whatever else the database has.
-pub keys_apart : (schema : Schema) (db : Trees) (at : ℕ) (table : Table) (k : ℕ) (key : List ℕ) → IsSound schema db → slice_get schema.tables at ≡ Some table → slice_get table.uniques k ≡ Some key → get_or table.orders k plain ≡ plain
+pub keys_apart : (schema : Schema) (db : Trees) (at : ℕ) (table : Table) (k : ℕ) (key : List ℕ) → IsSound schema db → slice_get schema.tables at ≡ Some table
+    → slice_get table.uniques k ≡ Some key → get_or table.orders k plain ≡ plain
     → HaveKeysApart key (db table.tree)
 keys_apart schema db at table k key sound there unique in_order = all_from _ (db table.tree) (λ row among.
-    subst (λ o. clashes o key (db table.tree) row ≡ false) in_order (keys_are_unique schema db table k key row sound (has_got schema.tables at table there) unique among))
+    subst (λ o. clashes o key (db table.tree) row ≡ false) in_order
+    (keys_are_unique schema db table k key row sound (has_got schema.tables at table there) unique among))
 
-pub are_whole : (schema : Schema) (db : Trees) (at : ℕ) (table : Table) → IsSound schema db → slice_get schema.tables at ≡ Some table → AreWhole table (db table.tree)
+pub are_whole : (schema : Schema) (db : Trees) (at : ℕ) (table : Table) → IsSound schema db → slice_get schema.tables at ≡ Some table
+    → AreWhole table (db table.tree)
 are_whole schema db at table sound there = all-slice_get _ schema.tables at table there (sound.obeys.rules NotNull)
 
 module _ (schema : Schema) (table : Table) (key : List ℕ) where
-  module _ (test : List Term) (params : Row) (blind : IsBlind (passes test params)) (ks : List ℕ) (keyed : (r : Row) → passes test params r ≡ true → agree plain key r ks params ≡ true) where
+  module _ (test : List Term) (params : Row) (blind : IsBlind (passes test params)) (ks : List ℕ) (keyed : (r : Row) → passes test params r ≡ true
+      → agree plain key r ks params ≡ true) where
     abbrev p : Row → Bool
     p = passes test params
 
     pub key_is : IsKey p plain key
     key_is r s h k = agree_chain plain key ks key r params s (keyed r h) (agree_back plain key ks s params (keyed s k))
 
-    pub found_once : (db : Trees) (wanted : List Row) → HaveKeysApart key (db table.tree) → IsHeldBy (db table.tree) wanted → (filter p (db table.tree) ≡ []) ⊎ ((found : Row) × (filter p (db table.tree) ≡ found ∷ []))
+    pub found_once : (db : Trees) (wanted : List Row) → HaveKeysApart key (db table.tree) → IsHeldBy (db table.tree) wanted → (filter p (db table.tree) ≡ [])
+        ⊎ ((found : Row) × (filter p (db table.tree) ≡ found ∷ []))
     found_once db wanted unique held = one_at_most p plain key key_is 1 (db table.tree) held.order held.rising unique
 
     few : (rows : List Row) → (filter p rows ≡ []) ⊎ ((found : Row) × (filter p rows ≡ found ∷ [])) → length (filter p rows) ≤ 1
@@ -67,8 +79,10 @@ module _ (schema : Schema) (table : Table) (key : List ℕ) where
     few rows (inr one) = rw one.1 (omega arith)
 
     -- SELECT .. WHERE key: the one row, or none
-    pub reads_key : (shows : List Term) → IsBlind (shown_of shows params) → (db : Trees) (wanted : List Row) → HaveKeysApart key (db table.tree) → IsHeldBy (db table.tree) wanted
-        → (rows : List Row) → IsAnswer (simple table.tree test shows) (overlay db []) params rows → rows ≡ map (on_content (shown_of shows params)) (filter (on_content p) wanted)
+    pub reads_key : (shows : List Term) → IsBlind (shown_of shows params) → (db : Trees) (wanted : List Row) → HaveKeysApart key (db table.tree)
+        → IsHeldBy (db table.tree) wanted
+        → (rows : List Row) → IsAnswer (simple table.tree test shows) (overlay db []) params rows
+        → rows ≡ map (on_content (shown_of shows params)) (filter (on_content p) wanted)
     reads_key shows fair db wanted unique held rows answer =
         let f = shown_of shows params in
         let first = held_seen p blind f fair (db table.tree) wanted held in
@@ -78,7 +92,8 @@ module _ (schema : Schema) (table : Table) (key : List ℕ) where
         short _ rows (IsPermutation-trans _ _ _ first (simple_rows table.tree test shows params db rows answer)) (omega (arith, low, size, same))
 
     -- UPDATE .. WHERE key
-    pub changes_key : (values : List Term) → IsBlind (shown_of values params) → (old new : Database) (wanted : List Row) → HaveKeysApart key (old.trees table.tree) → IsHeldBy (old.trees table.tree) wanted
+    pub changes_key : (values : List Term) → IsBlind (shown_of values params) → (old new : Database) (wanted : List Row)
+        → HaveKeysApart key (old.trees table.tree) → IsHeldBy (old.trees table.tree) wanted
         → Updated schema table (record { lets = []; body = simple table.tree test (col 1 0 ∷ col 1 0 ∷ values) }) params old new
         → IsHeldBy (new.trees table.tree) (changed (on_content p) (λ x. cast_all table.columns (on_content (shown_of values params) x)) wanted)
     changes_key values fair old new wanted unique held u =
@@ -86,40 +101,54 @@ module _ (schema : Schema) (table : Table) (key : List ℕ) where
         let shows = shown_of (col 1 0 ∷ col 1 0 ∷ values) params in
         let values_of = λ (x : Row). cast_all table.columns (on_content (shown_of values params) x) in
         let next = changed (on_content p) values_of wanted in
-        let same : IsPermutation (map shows (filter p rows)) u.rows = simple_rows table.tree test (col 1 0 ∷ col 1 0 ∷ values) params old.trees u.rows (u.answers.answer Null) in
+        let same : IsPermutation (map shows (filter p rows)) u.rows = simple_rows table.tree test (col 1 0 ∷ col 1 0 ∷ values) params old.trees u.rows
+        (u.answers.answer Null) in
         elim (found_once old.trees wanted unique held) [
           | inl none ↦
               let given : u.rows ≡ [] = short [] u.rows (subst (λ l. IsPermutation (map shows l) u.rows) none same) (omega arith) in
-              subst (λ l. IsHeldBy l next) (sym (u.applies.rows ∙ ap (written table rows values_of) given)) (held_unchanged p blind values_of rows wanted held none)
+              subst (λ l. IsHeldBy l next) (sym (u.applies.rows ∙ ap (written table rows values_of) given))
+              (held_unchanged p blind values_of rows wanted held none)
           | inr one ↦
               let made = held_changed p blind values_of rows wanted held one.0 one.1 in
-              let given : u.rows ≡ shows one.0 ∷ [] = short (shows one.0 ∷ []) u.rows (subst (λ l. IsPermutation (map shows l) u.rows) one.1 same) (omega arith) in
-              let found : shows one.0 ≡ Int (pos made.0) ∷ Int (pos made.0) ∷ on_content (shown_of values params) made.1 = ap shows made.2 ∙ ap (λ l. Int (pos made.0) ∷ Int (pos made.0) ∷ l) (fair (Int (pos made.0)) made.1) in
+              let given : u.rows ≡ shows one.0 ∷ [] = short (shows one.0 ∷ []) u.rows (subst (λ l. IsPermutation (map shows l) u.rows) one.1 same)
+              (omega arith) in
+              let found : shows one.0 ≡ Int (pos made.0) ∷ Int (pos made.0) ∷ on_content (shown_of values params) made.1 = ap shows made.2
+              ∙ ap (λ l. Int (pos made.0) ∷ Int (pos made.0) ∷ l) (fair (Int (pos made.0)) made.1) in
               let all : new.trees table.tree ≡ put_row (Int (pos made.0) ∷ values_of made.1) (without_rowid (pos made.0) rows) =
-              u.applies.rows ∙ ap (written table rows values_of) (given ∙ ap (λ l. l ∷ []) found) ∙ one_written table rows values_of made.0 (on_content (shown_of values params) made.1) in
+              u.applies.rows ∙ ap (written table rows values_of) (given ∙ ap (λ l. l ∷ []) found)
+              ∙ one_written table rows values_of made.0 (on_content (shown_of values params) made.1) in
               subst (λ l. IsHeldBy l next) (sym all) made.3
         ]
 
   module _ (test : List Term) (params : Row) (blind : IsBlind (passes test params)) where
     -- DELETE .. WHERE
-    pub drops : (old new : Database) (wanted : List Row) → IsHeldBy (old.trees table.tree) wanted → Deleted schema table (record { lets = []; body = simple table.tree test (col 1 0 ∷ []) }) params old new
+    pub drops : (old new : Database) (wanted : List Row) → IsHeldBy (old.trees table.tree) wanted
+        → Deleted schema table (record { lets = []; body = simple table.tree test (col 1 0 ∷ []) }) params old new
         → IsHeldBy (new.trees table.tree) (filter (λ x. not (passes test params (Null ∷ x))) wanted)
     drops old new wanted held u =
         let p = passes test params in
         let shows = shown_of (col 1 0 ∷ []) params in
         let rows = old.trees table.tree in
-        let same : IsPermutation (map shows (filter p rows)) u.rows = simple_rows table.tree test (col 1 0 ∷ []) params old.trees u.rows (u.answers.answer Null) in
-        let ids : IsPermutation (ids_of (filter p rows)) (ids_of u.rows) = subst (λ l. IsPermutation l (ids_of u.rows)) (map-map (λ r. id_in (rowid r)) shows (filter p rows)) (IsPermutation-map (λ r. id_in (rowid r)) _ _ same) in
+        let same : IsPermutation (map shows (filter p rows)) u.rows = simple_rows table.tree test (col 1 0 ∷ []) params old.trees u.rows
+        (u.answers.answer Null) in
+        let ids : IsPermutation (ids_of (filter p rows)) (ids_of u.rows) =
+        subst (λ l. IsPermutation l (ids_of u.rows)) (map-map (λ r. id_in (rowid r)) shows (filter p rows))
+        (IsPermutation-map (λ r. id_in (rowid r)) _ _ same) in
         subst (λ l. IsHeldBy l (filter (λ x. not (p (Null ∷ x))) wanted)) (sym u.applies.rows) (held_dropped p blind rows wanted held (ids_of u.rows) ids)
 
     -- SELECT .. WHERE .. ORDER BY: the page of what passes, in the one order, where rows that tie have the same key
-    module _ (shows : List Term) (order : List (Term × Key)) (limit offset : Term) (fair : IsBlind (shown_in (by (simple table.tree test shows) order limit offset) params))
-        (tie : (r s : Row) → are_present table.key 0 table.columns r ≡ true → are_present table.key 0 table.columns s ≡ true → passes test params r ≡ true → passes test params s ≡ true
-        → is_eq (output_cmp (by (simple table.tree test shows) order limit offset) (shown_in (by (simple table.tree test shows) order limit offset) params r) (shown_in (by (simple table.tree test shows) order limit offset) params s)) ≡ true
+    module _ (shows : List Term) (order : List (Term × Key)) (limit offset : Term)
+        (fair : IsBlind (shown_in (by (simple table.tree test shows) order limit offset) params))
+        (tie : (r s : Row) → are_present table.key 0 table.columns r ≡ true → are_present table.key 0 table.columns s ≡ true → passes test params r ≡ true
+        → passes test params s ≡ true
+        → is_eq (output_cmp (by (simple table.tree test shows) order limit offset) (shown_in (by (simple table.tree test shows) order limit offset) params r)
+        (shown_in (by (simple table.tree test shows) order limit offset) params s)) ≡ true
         → agree plain key s key r ≡ true) where
-      pub reads_in_order : (db : Trees) (wanted : List Row) → HaveKeysApart key (db table.tree) → AreWhole table (db table.tree) → IsHeldBy (db table.tree) wanted
+      pub reads_in_order : (db : Trees) (wanted : List Row) → HaveKeysApart key (db table.tree) → AreWhole table (db table.tree)
+          → IsHeldBy (db table.tree) wanted
           → (rows : List Row) → IsAnswer (by (simple table.tree test shows) order limit offset) (overlay db []) params rows
-          → rows ≡ page (by (simple table.tree test shows) order limit offset) params (map (λ (o : Output). o.1) (sort_by (output_cmp (by (simple table.tree test shows) order limit offset))
+          → rows ≡ page (by (simple table.tree test shows) order limit offset) params
+          (map (λ (o : Output). o.1) (sort_by (output_cmp (by (simple table.tree test shows) order limit offset))
           (map (on_content (shown_in (by (simple table.tree test shows) order limit offset) params)) (filter (on_content (passes test params)) wanted))))
       reads_in_order db wanted unique whole held rows answer =
           let q = by (simple table.tree test shows) order limit offset in
@@ -127,11 +156,14 @@ module _ (schema : Schema) (table : Table) (key : List ℕ) where
           let f = shown_in q params in
           let it = ordered_rows table.tree test shows order limit offset params db rows answer in
           let first = held_seen p blind f fair (db table.tree) wanted held in
-          let apart = no_ties p plain key f (output_cmp q) (λ r. are_present table.key 0 table.columns r ≡ true) tie 1 (db table.tree) held.order held.rising whole unique in
-          it.is ∙ ap (λ l. page q params (map (λ (o : Output). o.1) l)) (sorted_of (output_cmp q) (output_cmp_total q) _ _ it.ordered first apart (IsPermutation-trans _ _ _ first it.same) it.sorted)
+          let apart = no_ties p plain key f (output_cmp q) (λ r. are_present table.key 0 table.columns r ≡ true) tie 1 (db table.tree) held.order held.rising
+          whole unique in
+          it.is ∙ ap (λ l. page q params (map (λ (o : Output). o.1) l))
+          (sorted_of (output_cmp q) (output_cmp_total q) _ _ it.ordered first apart (IsPermutation-trans _ _ _ first it.same) it.sorted)
 
   -- INSERT .. VALUES of one row, whose rowid SQLite chooses
-  pub adds_row : (params : Row) (terms : List Term) (width : ℕ) (source : Row) → given_rows table params terms width ≡ (Null ∷ source) ∷ [] → (old new : Database) (wanted : List Row) → IsHeldBy (old.trees table.tree) wanted
+  pub adds_row : (params : Row) (terms : List Term) (width : ℕ) (source : Row) → given_rows table params terms width ≡ (Null ∷ source) ∷ []
+      → (old new : Database) (wanted : List Row) → IsHeldBy (old.trees table.tree) wanted
       → Inserted schema table (given_rows table params terms width) old new → IsHeldBy (new.trees table.tree) (cast_all table.columns source ∷ wanted)
   adds_row params terms width source one old new wanted held made =
       let rows = old.trees table.tree in

@@ -1,5 +1,9 @@
 -- What a statement leaves, whatever the database holds.
-use Rattle.sql_calls.proofs.Common.{◌≡◌, ◌⊎◌, inl, inr, ℕ, Bool, true, false, List, [], ◌∷◌, Option, Some, None, Ok, Err, IsTrue, refl, sym, ap, subst, ◌∙◌, slice_get, cases_Bool, both_ways, Row, Trees, Command, Select, Rows, Begin, Commit, Rollback, Release, understood, Database, RefusesToRead, State, HasCleanDisk, IsUnchanged, IsRolledBack, Survives, Executes, IsNoStatement, RunsCommand, Runs, shows_rows, FailsToShow, ShowsRows, MayCommit, store_error, IsPlain, EndsIn, command_of, statement_of, runs_as, reads_as, begins_shown, Means}
+use Rattle.sql_calls.proofs.Common.{◌≡◌, ◌⊎◌, inl, inr, ℕ, Bool, true, false, List, [], ◌∷◌, Option, Some, None, Ok, Err, IsTrue, refl, sym, ap, subst, ◌∙◌}
+use Rattle.sql_calls.proofs.Common.{slice_get, cases_Bool, both_ways, Row, Trees, Command, Select, Rows, Begin, Commit, Rollback, Release, understood}
+use Rattle.sql_calls.proofs.Common.{Database, RefusesToRead, State, HasCleanDisk, IsUnchanged, IsRolledBack, Survives, Executes, IsNoStatement, RunsCommand}
+use Rattle.sql_calls.proofs.Common.{Runs, shows_rows, FailsToShow, ShowsRows, MayCommit, store_error, IsPlain, EndsIn, command_of, statement_of, runs_as}
+use Rattle.sql_calls.proofs.Common.{reads_as, begins_shown, Means}
 use Rattle.sqlite.specs.declared.error.Error.{Error}
 use Rattle.sqlite.specs.declared.error.Error.TheVariants.{QueryReturnedNoRows}
 use Rattle.sqlite_trees.specs.declared.error.StoreError.{StoreError}
@@ -32,7 +36,8 @@ refused sql params old new e (inr h) = elim (cases_Bool (shows_rows false h.0)) 
   | inr runs ↦ stopped old new sql h.0 _ e (rw runs at h.2)
 ]
 
-unshown : (old new : State) (sql : List ℕ) (c : Compiled) (params : Row) (e : Error) (o : Option Returning) → FailsToShow old new sql c params e o → Leaves old new
+unshown : (old new : State) (sql : List ℕ) (c : Compiled) (params : Row) (e : Error) (o : Option Returning) → FailsToShow old new sql c params e o
+    → Leaves old new
 unshown old new sql c params e None h = inl h.3
 unshown old new sql c params e (Some what) h = stopped old new sql c params e h
 
@@ -49,7 +54,8 @@ stays_inside Commit = false
 stays_inside (Release name) = false
 stays_inside _ = true
 
-no_commit : (s : State) (c : Compiled) (text : List ℕ) (params : Row) (db : Trees) → s.in_transaction ≡ true → stays_inside c.command ≡ true → ¬ MayCommit s c.returning c.command text params db
+no_commit : (s : State) (c : Compiled) (text : List ℕ) (params : Row) (db : Trees) → s.in_transaction ≡ true → stays_inside c.command ≡ true
+    → ¬ MayCommit s c.returning c.command text params db
 no_commit s c text params db inside stays (inl h) = elim h.0 [
   | inl is ↦ both_ways _ (ap stays_inside is) stays
   | inr named ↦ both_ways _ (ap stays_inside named.2) stays
@@ -74,7 +80,8 @@ unfolding CommitsShowing
 never_shows_inside sql params s db inside h = both_ways _ h.3.0 inside
 
 -- a crash leaves what it left before
-pub crash_kept : (old new : State) (P : Trees → Type 0) → HasCleanDisk new → ((db : Trees) → ¬ P db) → Survives old new P → (db : Trees) → new.may_leave db → old.may_leave db
+pub crash_kept : (old new : State) (P : Trees → Type 0) → HasCleanDisk new → ((db : Trees) → ¬ P db) → Survives old new P → (db : Trees) → new.may_leave db
+    → old.may_leave db
 crash_kept old new P clean never s db h = elim (s.crash clean db h) [ inl was ↦ was | inr made ↦ absurd (never db made) ]
 
 -- A law of each store: while it is open, a crash leaves the last commit.
@@ -99,7 +106,8 @@ module _ (sql : List ℕ) (command : Command) (params : Row) (old new : State) (
   pub shows_as : (rows : List Row) → Shown sql params old new rows → Shows command old.now params rows
   shows_as rows h = reads_as sql params old new old.now.schema refl command means.is means.plain means.unlisted rows h
 
-  pub runs_plain : (count : ℕ) → Executes sql params old new (Ok count) → Runs old new None command (statement_of sql (understood old.now.schema sql)) params count
+  pub runs_plain : (count : ℕ) → Executes sql params old new (Ok count) → Runs old new None command (statement_of sql (understood old.now.schema sql)) params
+      count
   runs_plain count h = runs_as sql params old new old.now.schema refl command means.is means.plain count h
 
   -- ---- the first row
@@ -113,9 +121,11 @@ module _ (sql : List ℕ) (command : Command) (params : Row) (old new : State) (
   module _ (ends : (db : Database) (given : Row) → EndsIn command db given) where
     begun_shown : (row : Row) → Begins sql params old (row ∷ []) → IsUnchanged old new → (tail : List Row) × Shown sql params old new (row ∷ tail)
     begun_shown row begins same = begins_shown sql params old new (row ∷ []) begins same (λ c db it from.
-        let is : command ≡ c.command = sym means.is ∙ ap command_of it.is in subst (λ k. EndsIn k db (Rattle.sqlite.specs.Clock.timed params c.formats it.now)) is (ends db _))
+        let is : command ≡ c.command = sym means.is ∙ ap command_of it.is in subst (λ k. EndsIn k db (Rattle.sqlite.specs.Clock.timed params c.formats it.now))
+        is (ends db _))
 
-    from_front : (rows : List Row) (row : Row) → slice_get rows 0 ≡ Some row → Shown sql params old new rows → (tail : List Row) × Shown sql params old new (row ∷ tail)
+    from_front : (rows : List Row) (row : Row) → slice_get rows 0 ≡ Some row → Shown sql params old new rows → (tail : List Row)
+        × Shown sql params old new (row ∷ tail)
     from_front [] row first h = absurd (cc)
     from_front (r ∷ rows) row first h = let same : r ≡ row = cc in (rows, subst (λ x. Shown sql params old new (x ∷ rows)) same h)
 
@@ -178,5 +188,8 @@ module _ (sql : List ℕ) (command : Command) (old new : State) (means : Means o
   never_commits_idle db idle h =
       let same : h.0.command ≡ command = ap command_of (sym h.1.is) ∙ means.is in
       let bare = subst IsPlain h.1.is means.plain in
-      let may = subst (λ k. MayCommit old h.0.returning k (Rattle.sqlite.specs.State.text_of sql h.0) (Rattle.sqlite.specs.Clock.timed [] h.0.formats h.1.now) db) same h.2 in
-      idle_commits old command _ _ db idle (subst (λ o. MayCommit old o command (Rattle.sqlite.specs.State.text_of sql h.0) (Rattle.sqlite.specs.Clock.timed [] h.0.formats h.1.now) db) bare.0 may)
+      let may = subst (λ k. MayCommit old h.0.returning k (Rattle.sqlite.specs.State.text_of sql h.0) (Rattle.sqlite.specs.Clock.timed [] h.0.formats h.1.now)
+      db) same h.2 in
+      idle_commits old command _ _ db idle
+      (subst (λ o. MayCommit old o command (Rattle.sqlite.specs.State.text_of sql h.0) (Rattle.sqlite.specs.Clock.timed [] h.0.formats h.1.now) db) bare.0
+      may)

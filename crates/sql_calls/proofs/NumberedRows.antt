@@ -1,5 +1,6 @@
 -- The rows of numbered records.
-use Rattle.sql_calls.proofs.Common.{◌≡◌, ℕ, ◌+◌, pos, List, [], ◌∷◌, ◌++◌, length, Bool, true, false, cond, refl, ap, ◌∙◌, arith, Less, Value, Null, Int, value_cmp, rowid, put_row, cast, Integer, rows_from}
+use Rattle.sql_calls.proofs.Common.{◌≡◌, ℕ, ◌+◌, pos, List, [], ◌∷◌, ◌++◌, length, Bool, true, false, cond, refl, ap, ◌∙◌, arith, Less, Value, Null, Int}
+use Rattle.sql_calls.proofs.Common.{value_cmp, rowid, put_row, cast, Integer, rows_from}
 use Rattle.sql_calls.proofs.KeyedRows.{ids_less}
 use Rattle.sqlite_value.specs.Order.{Row}
 use Rattle.sqlite_sql.specs.Ops.{unary}
@@ -10,7 +11,8 @@ pub put_next : {X : Type 0} (f : ℕ → X → Row) → ((n : ℕ) (x : X) → r
 put_next f ids n [] x = let at : n + 0 ≡ n = omega arith in ap (λ m. f m x ∷ []) at
 put_next f ids n (y ∷ ys) x =
     let more : n + length (y ∷ ys) ≡ (n + 1) + length ys = omega arith in
-    let less : value_cmp (rowid (f n y)) (rowid (f ((n + 1) + length ys) x)) ≡ Less = rw (ids n y, ids ((n + 1) + length ys) x) (ids_less n ((n + 1) + length ys) (omega arith)) in
+    let less : value_cmp (rowid (f n y)) (rowid (f ((n + 1) + length ys) x)) ≡ Less =
+    rw (ids n y, ids ((n + 1) + length ys) x) (ids_less n ((n + 1) + length ys) (omega arith)) in
     ap (λ m. put_row (f m x) (rows_from f n (y ∷ ys))) more ∙ rw less (ap (λ rows. f n y ∷ rows) (put_next f ids (n + 1) ys x))
 
 either : (b : Bool) (x : Value) → cond b x x ≡ x

@@ -1,5 +1,8 @@
 -- What a SELECT over a table whose k-th row has number k shows, where WHERE asks whether a second table has a row.
-use Rattle.sql_calls.proofs.Common.{◌≡◌, ◌<◌, ℕ, suc, ◌+◌, min, pos, List, [], ◌∷◌, ◌++◌, length, map, filter, flat_map, Bool, true, false, cond, ◌||◌, refl, sym, ap, ap₂, subst, ◌∙◌, arith, Less, IsPermutation, list_all, list_any, list_any-IsPermutation, Int, rowid, Trees, Term, Env, eval_all, holds, Query, Output, inner, counted, end, output, output_cmp, page, IsAnswer, overlay, is_true, output_cmp_total, sorted_unique, map-map, AreIn, IsHeldBy, rows_from}
+use Rattle.sql_calls.proofs.Common.{◌≡◌, ◌<◌, ℕ, suc, ◌+◌, min, pos, List, [], ◌∷◌, ◌++◌, length, map, filter, flat_map, Bool, true, false, cond, ◌||◌, refl}
+use Rattle.sql_calls.proofs.Common.{sym, ap, ap₂, subst, ◌∙◌, arith, Less, IsPermutation, list_all, list_any, list_any-IsPermutation, Int, rowid, Trees, Term}
+use Rattle.sql_calls.proofs.Common.{Env, eval_all, holds, Query, Output, inner, counted, end, output, output_cmp, page, IsAnswer, overlay, is_true}
+use Rattle.sql_calls.proofs.Common.{output_cmp_total, sorted_unique, map-map, AreIn, IsHeldBy, rows_from}
 use Rattle.sqlite_value.specs.Order.{Row}
 use Rattle.sql_calls.proofs.KeyedRows.{IsBlind, on_content, ids_less}
 use Rattle.sql_calls.proofs.NumberedTables.{number_query, rises}
@@ -15,12 +18,14 @@ abbrev pub is_beside : List Term → Row → Row → Row → Bool
 is_beside inside params r g = list_all (holds (params ∷ r ∷ g ∷ [])) inside
 
 -- the count of them, as far as one, tells whether there is any
-pub counts_any : (inside : List Term) (params r : Row) (rows : List Row) → is_true (Int (pos (min 1 (length (beside inside params r rows))))) ≡ list_any (is_beside inside params r) rows
+pub counts_any : (inside : List Term) (params r : Row) (rows : List Row) → is_true (Int (pos (min 1 (length (beside inside params r rows)))))
+    ≡ list_any (is_beside inside params r) rows
 counts_any inside params r [] = refl
 counts_any inside params r (g ∷ rows) = go (is_beside inside params r g) (counts_any inside params r rows)
   where
     go : (b : Bool) → is_true (Int (pos (min 1 (length (beside inside params r rows))))) ≡ list_any (is_beside inside params r) rows
-        → is_true (Int (pos (min 1 (length (cond b ((params ∷ r ∷ g ∷ []) ∷ []) [] ++ beside inside params r rows))))) ≡ (b || list_any (is_beside inside params r) rows)
+        → is_true (Int (pos (min 1 (length (cond b ((params ∷ r ∷ g ∷ []) ∷ []) [] ++ beside inside params r rows)))))
+        ≡ (b || list_any (is_beside inside params r) rows)
     go true h = let one : min 1 (suc (length (beside inside params r rows))) ≡ 1 = omega arith in ap (λ m. is_true (Int (pos m))) one
     go false h = h
 
@@ -39,7 +44,8 @@ module _ (p : Row → Bool) (blind : IsBlind p) where
 -- ---- the query
 
 -- SELECT .. FROM the table WHERE .. AND EXISTS (SELECT 1 FROM the other WHERE ..) ORDER BY number LIMIT .. OFFSET ..
-module _ {X : Type 0} (f : ℕ → X → Row) (ids : (n : ℕ) (x : X) → rowid (f n x) ≡ Int (pos n)) (tree other : ℕ) (inside test shows : List Term) (limit offset : Term) where
+module _ {X : Type 0} (f : ℕ → X → Row) (ids : (n : ℕ) (x : X) → rowid (f n x) ≡ Int (pos n)) (tree other : ℕ) (inside test shows : List Term)
+    (limit offset : Term) where
   abbrev pub within_query : Query
   within_query = record (number_query f ids tree test shows limit offset) { from = inner tree (counted 1 (inner other end) inside end) }
 
@@ -62,20 +68,25 @@ module _ {X : Type 0} (f : ℕ → X → Row) (ids : (n : ℕ) (x : X) → rowid
     outputs (r ∷ xs) = go (passes_within r) (outputs xs)
       where
         go : (b : Bool) → map (output within_query) (flat_map staged xs) ≡ map show (filter passes_within xs)
-            → map (output within_query) (cond b (seen r ∷ []) [] ++ flat_map staged xs) ≡ map show (cond b (r ∷ filter passes_within xs) (filter passes_within xs))
+            → map (output within_query) (cond b (seen r ∷ []) [] ++ flat_map staged xs)
+            ≡ map show (cond b (r ∷ filter passes_within xs) (filter passes_within xs))
         go true h = ap (λ l. show r ∷ l) h
         go false h = h
 
     below : (m n : ℕ) (x y : X) → m < n → output_cmp within_query (show (f m x)) (show (f n y)) ≡ Less
     below m n x y h = rw (ids m x, ids n y, ids_less m n h) refl
 
-  pub within_in_order : (params : Row) (db : Trees) (xs : List X) → db tree ≡ rows_from f 1 xs → (rows : List Row) → IsAnswer within_query (overlay db []) params rows
+  pub within_in_order : (params : Row) (db : Trees) (xs : List X) → db tree ≡ rows_from f 1 xs → (rows : List Row)
+      → IsAnswer within_query (overlay db []) params rows
       → rows ≡ page within_query params (map (λ r. eval_all shows (seen params (db other) r)) (filter (passes_within params (db other)) (rows_from f 1 xs)))
   within_in_order params db xs was rows a =
       let there = db other in
-      let on : a.staged ≡ flat_map (staged params there) (rows_from f 1 xs) = a.grouped ∙ rw (no_overlay db tree, no_overlay db other) (ap (flat_map (staged params there)) was) in
-      let kept : a.kept ≡ map (show params there) (filter (passes_within params there) (rows_from f 1 xs)) = a.distinct ∙ ap (map (output within_query)) on ∙ outputs params there (rows_from f 1 xs) in
+      let on : a.staged ≡ flat_map (staged params there) (rows_from f 1 xs) = a.grouped
+      ∙ rw (no_overlay db tree, no_overlay db other) (ap (flat_map (staged params there)) was) in
+      let kept : a.kept ≡ map (show params there) (filter (passes_within params there) (rows_from f 1 xs)) = a.distinct ∙ ap (map (output within_query)) on
+      ∙ outputs params there (rows_from f 1 xs) in
       let same = subst (λ l. IsPermutation l a.ordered) kept a.same in
       a.shown ∙ ap (λ l. page within_query params (map (λ (o : Output). o.1) l))
-      (sorted_unique (output_cmp within_query) (output_cmp_total within_query) _ a.ordered (rises f (output_cmp within_query) (show params there) (passes_within params there) (below params there) 1 xs) same a.sorted)
+      (sorted_unique (output_cmp within_query) (output_cmp_total within_query) _ a.ordered
+      (rises f (output_cmp within_query) (show params there) (passes_within params there) (below params there) 1 xs) same a.sorted)
       ∙ ap (page within_query params) (map-map (λ (o : Output). o.1) (show params there) _)

@@ -1,12 +1,15 @@
 -- Trees list one schema alone.
-use Rattle.sql_calls.proofs.Common.{◌≡◌, true, false, filter, slice_get, Some, ◌+◌, pos, List, [], ◌∷◌, Ok, refl, sym, ap, subst, ◌∙◌, arith, AllZip, Value, Null, Int, Real, Text, Blob, column, Trees, Schema, Table, Index, IsAscending, IsSound, IsTableRow, IsIndexRow, IsDefined, automatic, is_index_row}
+use Rattle.sql_calls.proofs.Common.{◌≡◌, true, false, filter, slice_get, Some, ◌+◌, pos, List, [], ◌∷◌, Ok, refl, sym, ap, subst, ◌∙◌, arith, AllZip, Value}
+use Rattle.sql_calls.proofs.Common.{Null, Int, Real, Text, Blob, column, Trees, Schema, Table, Index, IsAscending, IsSound, IsTableRow, IsIndexRow, IsDefined}
+use Rattle.sql_calls.proofs.Common.{automatic, is_index_row}
 use Rattle.sqlite_value.specs.Order.{Row}
 use Rattle.sqlite_schema.specs.Names.{same_name}
 use Rattle.sqlite_trees.specs.Objects.{catalog_tree}
 use Rattle.sqlite_catalog.proofs.StepLemmas.{same_itself, named_once}
 use Rattle.sqlite_catalog.proofs.AlterLemmas.{numbers_differ}
 
-zip_same : {A B : Type 0} (R : A → B → Type 0) → ((a : A) (x y : B) → R a x → R a y → x ≡ y) → (rs : List A) (xs ys : List B) → AllZip R rs xs → AllZip R rs ys → xs ≡ ys
+zip_same : {A B : Type 0} (R : A → B → Type 0) → ((a : A) (x y : B) → R a x → R a y → x ≡ y) → (rs : List A) (xs ys : List B) → AllZip R rs xs → AllZip R rs ys
+    → xs ≡ ys
 zip_same R one [] [] [] h k = refl
 zip_same R one [] [] (y ∷ ys) h k = absurd k
 zip_same R one [] (x ∷ xs) ys h k = absurd h
@@ -31,7 +34,8 @@ one_defined : (t : Table) (i j : Index) (sql : Value) → i.name ≡ j.name → 
 one_defined t i j Null names trees h k =
     let first : i.name ≡ (automatic t h.0 [] 0).name = ap (λ (x : Index). x.name) h.3 in
     let second : j.name ≡ (automatic t k.0 [] 0).name = ap (λ (x : Index). x.name) k.3 in
-    let alike : same_name (automatic t h.0 [] 0).name (automatic t k.0 [] 0).name ≡ true = ap (λ x. same_name x (automatic t k.0 [] 0).name) (sym first ∙ names ∙ second) ∙ same_itself (automatic t k.0 [] 0).name in
+    let alike : same_name (automatic t h.0 [] 0).name (automatic t k.0 [] 0).name ≡ true =
+    ap (λ x. same_name x (automatic t k.0 [] 0).name) (sym first ∙ names ∙ second) ∙ same_itself (automatic t k.0 [] 0).name in
     let places : h.0 ≡ k.0 = numbers_differ t h.0 k.0 h.4 k.4 alike in
     let keys : Some h.1 ≡ Some k.1 = sym h.2 ∙ ap (slice_get t.uniques) places ∙ k.2 in
     let key : h.1 ≡ k.1 = cc in
@@ -41,14 +45,17 @@ one_defined t i j (Real x) names trees h k = absurd h
 one_defined t i j (Text sql) names trees h k =
     let made : Ok h.0 ≡ Ok k.0 = sym h.1 ∙ k.1 in
     let same : h.0 ≡ k.0 = cc in
-    h.2 ∙ ap (λ (m : Index). record m { tree = i.tree; table = t.tree }) same ∙ ap (λ n. let it : Index = record k.0 { tree = n; table = t.tree } in it) trees ∙ sym k.2
+    h.2 ∙ ap (λ (m : Index). record m { tree = i.tree; table = t.tree }) same ∙ ap (λ n. let it : Index = record k.0 { tree = n; table = t.tree } in it) trees
+    ∙ sym k.2
 one_defined t i j (Blob b) names trees h k = absurd h
 
-one_index : (tables : List Table) → IsAscending (λ (a b : Table). same_name a.name b.name ≡ false) tables → (row : Row) (i j : Index) → IsIndexRow tables row i → IsIndexRow tables row j → i ≡ j
+one_index : (tables : List Table) → IsAscending (λ (a b : Table). same_name a.name b.name ≡ false) tables → (row : Row) (i j : Index) → IsIndexRow tables row i
+    → IsIndexRow tables row j → i ≡ j
 one_index tables named row i j h k =
     let owners : Text k.table.name ≡ Text h.table.name = sym k.described.owner_is ∙ h.described.owner_is in
     let owner : k.table.name ≡ h.table.name = cc in
-    let table : k.table ≡ h.table = named_once tables k.table h.table named k.listed h.listed (ap (λ x. same_name x h.table.name) owner ∙ same_itself h.table.name) in
+    let table : k.table ≡ h.table = named_once tables k.table h.table named k.listed h.listed
+    (ap (λ x. same_name x h.table.name) owner ∙ same_itself h.table.name) in
     let texts : Text i.name ≡ Text j.name = sym h.described.name_is ∙ k.described.name_is in
     let names : i.name ≡ j.name = cc in
     let ids : Int (pos (i.tree + 1)) ≡ Int (pos (j.tree + 1)) = sym h.described.id ∙ k.described.id in

@@ -1,5 +1,7 @@
 -- What a query over one table answers, for any schema.
-use Rattle.sql_calls.proofs.Common.{[], ◌≡◌, ℕ, ◌-◌, ◌^◌, pos, negsuc, List, ◌∷◌, ◌++◌, map, slice_get, flat_map, filter, Bool, true, false, cond, None, refl, sym, ap, subst, ◌∙◌, nat_le, unwrap_or, list_all, IsPermutation-map, Row, Trees, Term, Env, lit, eval_all, holds, Query, inner, end, IsAnswer, output, output_cmp, page, Output, overlay, shown, Key}
+use Rattle.sql_calls.proofs.Common.{[], ◌≡◌, ℕ, ◌-◌, ◌^◌, pos, negsuc, List, ◌∷◌, ◌++◌, map, slice_get, flat_map, filter, Bool, true, false, cond, None, refl}
+use Rattle.sql_calls.proofs.Common.{sym, ap, subst, ◌∙◌, nat_le, unwrap_or, list_all, IsPermutation-map, Row, Trees, Term, Env, lit, eval_all, holds, Query}
+use Rattle.sql_calls.proofs.Common.{inner, end, IsAnswer, output, output_cmp, page, Output, overlay, shown, Key}
 use Rattle.std.specs.List.Sorted.{IsPermutation, IsSorted}
 use Rattle.sqlite.specs.declared.types.Value.TheVariants.{Int}
 
@@ -27,12 +29,15 @@ abbrev pub matched : List Term → Row → Row → List Env
 matched test params r = cond (passes test params r) ((params ∷ r ∷ []) ∷ []) []
 
 outputs : (tree : ℕ) (test shown : List Term) (params : Row) (rows : List Row)
-    → map (λ (o : Output). o.1) (map (output (simple tree test shown)) (flat_map (matched test params) rows)) ≡ map (shown_of shown params) (filter (passes test params) rows)
+    → map (λ (o : Output). o.1) (map (output (simple tree test shown)) (flat_map (matched test params) rows))
+    ≡ map (shown_of shown params) (filter (passes test params) rows)
 outputs tree test shown params [] = refl
 outputs tree test shown params (r ∷ rows) = go (passes test params r) (outputs tree test shown params rows)
   where
-    go : (b : Bool) → map (λ (o : Output). o.1) (map (output (simple tree test shown)) (flat_map (matched test params) rows)) ≡ map (shown_of shown params) (filter (passes test params) rows)
-        → map (λ (o : Output). o.1) (map (output (simple tree test shown)) (cond b ((params ∷ r ∷ []) ∷ []) [] ++ flat_map (matched test params) rows)) ≡ map (shown_of shown params) (cond b (r ∷ filter (passes test params) rows) (filter (passes test params) rows))
+    go : (b : Bool) → map (λ (o : Output). o.1) (map (output (simple tree test shown)) (flat_map (matched test params) rows))
+        ≡ map (shown_of shown params) (filter (passes test params) rows)
+        → map (λ (o : Output). o.1) (map (output (simple tree test shown)) (cond b ((params ∷ r ∷ []) ∷ []) [] ++ flat_map (matched test params) rows))
+        ≡ map (shown_of shown params) (cond b (r ∷ filter (passes test params) rows) (filter (passes test params) rows))
     go true h = ap (λ xs. shown_of shown params r ∷ xs) h
     go false h = h
 
@@ -44,13 +49,16 @@ no_overlay db t = go (nat_le (2 ^ 31) t)
     go false = refl
 
 -- the rows of the table that pass, as the query shows them, in some order
-pub simple_rows : (tree : ℕ) (test shown : List Term) (params : Row) (db : Trees) (rows : List Row) → IsAnswer (simple tree test shown) (overlay db []) params rows
+pub simple_rows : (tree : ℕ) (test shown : List Term) (params : Row) (db : Trees) (rows : List Row)
+    → IsAnswer (simple tree test shown) (overlay db []) params rows
     → IsPermutation (map (shown_of shown params) (filter (passes test params) (db tree))) rows
 simple_rows tree test shown params db rows a =
     let staged : a.staged ≡ flat_map (matched test params) (db tree) = a.grouped ∙ ap (flat_map (matched test params)) (no_overlay db tree) in
-    let kept : a.kept ≡ map (output (simple tree test shown)) (flat_map (matched test params) (db tree)) = a.distinct ∙ ap (map (output (simple tree test shown))) staged in
+    let kept : a.kept ≡ map (output (simple tree test shown)) (flat_map (matched test params) (db tree)) = a.distinct
+    ∙ ap (map (output (simple tree test shown))) staged in
     let same = IsPermutation-map (λ (o : Output). o.1) a.kept a.ordered a.same in
-    subst (λ xs. IsPermutation xs rows) (ap (map (λ (o : Output). o.1)) kept ∙ outputs tree test shown params (db tree)) (subst (IsPermutation (map (λ (o : Output). o.1) a.kept)) (sym a.shown) same)
+    subst (λ xs. IsPermutation xs rows) (ap (map (λ (o : Output). o.1)) kept ∙ outputs tree test shown params (db tree))
+    (subst (IsPermutation (map (λ (o : Output). o.1) a.kept)) (sym a.shown) same)
 
 -- ---- in an order
 
@@ -60,12 +68,14 @@ by q order limit offset = record q { order = order; limit = limit; offset = offs
 abbrev pub shown_in : Query → Row → Row → Output
 shown_in q params r = output q (params ∷ r ∷ [])
 
-outputs_in : (q : Query) (test : List Term) (params : Row) (rows : List Row) → map (output q) (flat_map (matched test params) rows) ≡ map (shown_in q params) (filter (passes test params) rows)
+outputs_in : (q : Query) (test : List Term) (params : Row) (rows : List Row) → map (output q) (flat_map (matched test params) rows)
+    ≡ map (shown_in q params) (filter (passes test params) rows)
 outputs_in q test params [] = refl
 outputs_in q test params (r ∷ rows) = go (passes test params r) (outputs_in q test params rows)
   where
     go : (b : Bool) → map (output q) (flat_map (matched test params) rows) ≡ map (shown_in q params) (filter (passes test params) rows)
-        → map (output q) (cond b ((params ∷ r ∷ []) ∷ []) [] ++ flat_map (matched test params) rows) ≡ map (shown_in q params) (cond b (r ∷ filter (passes test params) rows) (filter (passes test params) rows))
+        → map (output q) (cond b ((params ∷ r ∷ []) ∷ []) [] ++ flat_map (matched test params) rows)
+        ≡ map (shown_in q params) (cond b (r ∷ filter (passes test params) rows) (filter (passes test params) rows))
     go true h = ap (λ xs. shown_in q params r ∷ xs) h
     go false h = h
 
@@ -77,9 +87,11 @@ pub record IsOrdered (q : Query) (params : Row) (found : List Row) (rows : List 
 
 -- the rows of the table that pass, in the order, and then the page of them
 pub ordered_rows : (tree : ℕ) (test shown : List Term) (order : List (Term × Key)) (limit offset : Term) (params : Row) (db : Trees) (rows : List Row)
-    → IsAnswer (by (simple tree test shown) order limit offset) (overlay db []) params rows → IsOrdered (by (simple tree test shown) order limit offset) params (filter (passes test params) (db tree)) rows
+    → IsAnswer (by (simple tree test shown) order limit offset) (overlay db []) params rows → IsOrdered (by (simple tree test shown) order limit offset) params
+    (filter (passes test params) (db tree)) rows
 ordered_rows tree test shown order limit offset params db rows a =
     let q = by (simple tree test shown) order limit offset in
     let staged : a.staged ≡ flat_map (matched test params) (db tree) = a.grouped ∙ ap (flat_map (matched test params)) (no_overlay db tree) in
-    let kept : a.kept ≡ map (shown_in q params) (filter (passes test params) (db tree)) = a.distinct ∙ ap (map (output q)) staged ∙ outputs_in q test params (db tree) in
+    let kept : a.kept ≡ map (shown_in q params) (filter (passes test params) (db tree)) = a.distinct ∙ ap (map (output q)) staged
+    ∙ outputs_in q test params (db tree) in
     record { ordered = a.ordered; same = subst (λ xs. IsPermutation xs a.ordered) kept a.same; sorted = a.sorted; is = a.shown }

@@ -1,5 +1,7 @@
 -- What UPDATE and DELETE do to a table that has no foreign key, for any schema, whatever foreign keys refer to the table.
-use Rattle.sql_calls.proofs.Common.{[], ◌≡◌, ℕ, List, slice_get, Option, Some, None, Ok, sym, ap, subst, Row, Trees, Table, Schema, Enforced, Program, Update, Delete, edit_of, ids_of, Given, Tally, Does, OnRows, Written, Task, Updates, Deletes, Database, Answers, State, mode_of, Writes, has_got, HasNoForeignKey}
+use Rattle.sql_calls.proofs.Common.{[], ◌≡◌, ℕ, List, slice_get, Option, Some, None, Ok, sym, ap, subst, Row, Trees, Table, Schema, Enforced, Program, Update}
+use Rattle.sql_calls.proofs.Common.{Delete, edit_of, ids_of, Given, Tally, Does, OnRows, Written, Task, Updates, Deletes, Database, Answers, State, mode_of}
+use Rattle.sql_calls.proofs.Common.{Writes, has_got, HasNoForeignKey}
 use Rattle.sqlite_rules.specs.Action.{Writes as Edits}
 use Rattle.sql_calls.proofs.Actions.{Rewritten, rewritten}
 use Rattle.sql_calls.proofs.Inserts.{went, same_value}
@@ -13,7 +15,8 @@ pub record Updated (schema : Schema) (table : Table) (q : Program) (params : Row
 
 pub updated_in : (limit : Option ℕ) (schema : Schema) (table : Table) (params : Row) (q : Program) (db : Trees) (w : Written)
     → Updates (record { limit = limit; keys = Enforced; schema = schema; table = table; params = params }) q params db (Ok w)
-    → (rows : List Row) × Answers (record { schema = schema; trees = db }) q params rows × Edits schema Enforced db (edit_of db table (ids_of rows) Given 1 rows) (Ok w.trees)
+    → (rows : List Row) × Answers (record { schema = schema; trees = db }) q params rows
+    × Edits schema Enforced db (edit_of db table (ids_of rows) Given 1 rows) (Ok w.trees)
 updated_in limit schema table params q db w h =
     let given = went h in
     let written = went given.2 in
@@ -25,7 +28,8 @@ pub updates : (schema : Schema) (at : ℕ) (table : Table) (q : Program) → sli
     → Updated schema table q params old.now new.now
 updates schema at table q there free old new has text params count w =
     let db = old.now.trees in
-    let on = subst (λ s. Does old.step_limit (mode_of old) params (record old.now { schema = s }) text None (Update at q) (Ok (w.tally, new.now))) has w.changed in
+    let on = subst (λ s. Does old.step_limit (mode_of old) params (record old.now { schema = s }) text None (Update at q) (Ok (w.tally, new.now))) has
+    w.changed in
     let task : Task = record { limit = old.step_limit; keys = Enforced; schema = schema; table = table; params = params } in
     let all : OnRows task (mode_of old) None (Update at q) db (Ok (w.tally, new.now)) = rw there at on in
     let done = went all in
@@ -36,7 +40,8 @@ updates schema at table q there free old new has text params count w =
       schema_is = ap (λ (d : Database). d.schema) now;
       rows = made.0;
       answers = made.1;
-      applies = rewritten schema Enforced db new.now.trees edit free (has_got schema.tables at table there) (subst (λ next. Edits schema Enforced db edit (Ok next)) (sym (ap (λ (d : Database). d.trees) now)) made.2);
+      applies = rewritten schema Enforced db new.now.trees edit free (has_got schema.tables at table there)
+          (subst (λ next. Edits schema Enforced db edit (Ok next)) (sym (ap (λ (d : Database). d.trees) now)) made.2);
     }
 
 -- ---- DELETE
@@ -49,7 +54,8 @@ pub record Deleted (schema : Schema) (table : Table) (q : Program) (params : Row
 
 deleted_in : (limit : Option ℕ) (schema : Schema) (table : Table) (params : Row) (q : Program) (db : Trees) (w : Written)
     → Deletes (record { limit = limit; keys = Enforced; schema = schema; table = table; params = params }) q db (Ok w)
-    → (rows : List Row) × Answers (record { schema = schema; trees = db }) q params rows × Edits schema Enforced db (edit_of db table (ids_of rows) Given 0 []) (Ok w.trees)
+    → (rows : List Row) × Answers (record { schema = schema; trees = db }) q params rows × Edits schema Enforced db (edit_of db table (ids_of rows) Given 0 [])
+    (Ok w.trees)
 deleted_in limit schema table params q db w h =
     let given = went h in
     let written = went given.2 in
@@ -61,7 +67,8 @@ pub deletes : (schema : Schema) (at : ℕ) (table : Table) (q : Program) → sli
     → Deleted schema table q params old.now new.now
 deletes schema at table q there free old new has text params count w =
     let db = old.now.trees in
-    let on = subst (λ s. Does old.step_limit (mode_of old) params (record old.now { schema = s }) text None (Delete at q) (Ok (w.tally, new.now))) has w.changed in
+    let on = subst (λ s. Does old.step_limit (mode_of old) params (record old.now { schema = s }) text None (Delete at q) (Ok (w.tally, new.now))) has
+    w.changed in
     let task : Task = record { limit = old.step_limit; keys = Enforced; schema = schema; table = table; params = params } in
     let all : OnRows task (mode_of old) None (Delete at q) db (Ok (w.tally, new.now)) = rw there at on in
     let done = went all in
@@ -72,5 +79,6 @@ deletes schema at table q there free old new has text params count w =
       schema_is = ap (λ (d : Database). d.schema) now;
       rows = made.0;
       answers = made.1;
-      applies = rewritten schema Enforced db new.now.trees edit free (has_got schema.tables at table there) (subst (λ next. Edits schema Enforced db edit (Ok next)) (sym (ap (λ (d : Database). d.trees) now)) made.2);
+      applies = rewritten schema Enforced db new.now.trees edit free (has_got schema.tables at table there)
+          (subst (λ next. Edits schema Enforced db edit (Ok next)) (sym (ap (λ (d : Database). d.trees) now)) made.2);
     }

@@ -1,5 +1,8 @@
 -- What a table that is made leaves of the tables before it, and how it stands itself.
-use Rattle.sql_front.proofs.Common.{◌≡◌, refl, sym, ap, ◌∙◌, ℕ, zero, suc, ◌+◌, ◌^◌, ◌<◌, ◌==◌, Bool, true, false, cond, List, [], ◌∷◌, ◌++◌, length, Option, Some, None, slice_get, find, arith, AllByRecursion, position_from, is_some, eq-eqb, lt-leb, Table, Index, Schema, same_name, table_named, index_named, view_named, next_tree, is_used, created, automatics, Name, table_below, Stands, HasNoForeignKey}
+use Rattle.sql_front.proofs.Common.{◌≡◌, refl, sym, ap, ◌∙◌, ℕ, zero, suc, ◌+◌, ◌^◌, ◌<◌, ◌==◌, Bool, true, false, cond, List, [], ◌∷◌, ◌++◌, length, Option}
+use Rattle.sql_front.proofs.Common.{Some, None, slice_get, find, arith, AllByRecursion, position_from, is_some, eq-eqb, lt-leb, Table, Index, Schema}
+use Rattle.sql_front.proofs.Common.{same_name, table_named, index_named, view_named, next_tree, is_used, created, automatics, Name, table_below, Stands}
+use Rattle.sql_front.proofs.Common.{HasNoForeignKey}
 use Rattle.sqlite_rules.proofs.ListLemmas.{all_from}
 use Rattle.sql_front.proofs.Past.{position_past, slice_past, find_past, unused, above_all}
 
@@ -9,7 +12,9 @@ position_front : {X : Type 0} (test : X → Bool) (i at : ℕ) (xs ys : List X) 
 position_front test i at [] ys h = absurd cc
 position_front test i at (x ∷ xs) ys h = go (test x) h (position_front test (i + 1) at xs ys)
   where
-    go : (b : Bool) → cond b (Some i) (position_from test (i + 1) xs) ≡ Some at → (position_from test (i + 1) xs ≡ Some at → position_from test (i + 1) (xs ++ ys) ≡ Some at) → cond b (Some i) (position_from test (i + 1) (xs ++ ys)) ≡ Some at
+    go : (b : Bool) → cond b (Some i) (position_from test (i + 1) xs)
+        ≡ Some at → (position_from test (i + 1) xs ≡ Some at → position_from test (i + 1) (xs ++ ys) ≡ Some at)
+        → cond b (Some i) (position_from test (i + 1) (xs ++ ys)) ≡ Some at
     go true h more = h
     go false h more = more h
 
@@ -22,7 +27,8 @@ find_front : {X : Type 0} (test : X → Bool) (x : X) (xs ys : List X) → find 
 find_front test x [] ys h = absurd cc
 find_front test x (y ∷ xs) ys h = go (test y) h (find_front test x xs ys)
   where
-    go : (b : Bool) → cond b (Some y) (find test xs) ≡ Some x → (find test xs ≡ Some x → find test (xs ++ ys) ≡ Some x) → cond b (Some y) (find test (xs ++ ys)) ≡ Some x
+    go : (b : Bool) → cond b (Some y) (find test xs) ≡ Some x → (find test xs ≡ Some x → find test (xs ++ ys) ≡ Some x) → cond b (Some y) (find test (xs ++ ys))
+        ≡ Some x
     go true h more = h
     go false h more = more h
 
@@ -35,7 +41,8 @@ keyless_more tree [] (y ∷ ys) h k = ((λ same. k.0), keyless_more tree [] ys t
 keyless_more tree (x ∷ xs) ys h k = (h.0, keyless_more tree xs ys h.1 k)
 
 -- a table stands as it stood, where those that are added have no foreign key
-pub stands_kept : (s later : Schema) (name : Name) (at : ℕ) (table : Table) (more : List Table) → later.tables ≡ s.tables ++ more → AreKeyless more → Stands s name at table → Stands later name at table
+pub stands_kept : (s later : Schema) (name : Name) (at : ℕ) (table : Table) (more : List Table) → later.tables ≡ s.tables ++ more → AreKeyless more
+    → Stands s name at table → Stands later name at table
 stands_kept s later name at table more grown bare stands = record {
   named = rw grown (position_front (λ t. same_name t.name name) 0 at s.tables more stands.named);
   got = rw grown (slice_front s.tables more at table stands.got);
@@ -45,7 +52,8 @@ stands_kept s later name at table more grown bare stands = record {
 }
 
 -- a table with a free name stands last
-pub stands_last : (s later : Schema) (table : Table) (more : List Table) → later.tables ≡ s.tables ++ record table { tree = next_tree s } ∷ more → AreKeyless (table ∷ more) → is_used s table.name ≡ false → same_name table.name table.name ≡ true
+pub stands_last : (s later : Schema) (table : Table) (more : List Table) → later.tables ≡ s.tables ++ record table { tree = next_tree s } ∷ more
+    → AreKeyless (table ∷ more) → is_used s table.name ≡ false → same_name table.name table.name ≡ true
     → next_tree s < 2 ^ 31 → Stands later table.name (length s.tables) (record table { tree = next_tree s })
 stands_last s later table more grown bare free itself low =
     let new : Table = record table { tree = next_tree s } in
@@ -53,8 +61,10 @@ stands_last s later table more grown bare free itself low =
     record {
       named = rw grown (position_past (λ t. same_name t.name table.name) 0 s.tables (new ∷ more) (unused s table.name free).0 ∙ rw itself (ap Some zero_more));
       got = rw grown (ap (slice_get (s.tables ++ new ∷ more)) (sym zero_more) ∙ slice_past s.tables (new ∷ more) 0);
-      found = rw grown (find_past (λ t. t.tree == next_tree s) s.tables (new ∷ more) (λ t h. above_all s t (next_tree s) h (omega arith)) ∙ rw (eq-eqb (next_tree s) (next_tree s) refl));
-      keyless = rw grown (keyless_more (next_tree s) s.tables (new ∷ more) (all_from _ s.tables (λ t h same. absurd (omega (arith, same, table_below s t h)))) bare);
+      found = rw grown (find_past (λ t. t.tree == next_tree s) s.tables (new ∷ more) (λ t h. above_all s t (next_tree s) h (omega arith))
+          ∙ rw (eq-eqb (next_tree s) (next_tree s) refl));
+      keyless = rw grown (keyless_more (next_tree s) s.tables (new ∷ more) (all_from _ s.tables (λ t h same. absurd (omega (arith, same, table_below s t h))))
+          bare);
       stored = lt-leb (2 ^ 31) (next_tree s) low;
     }
 
@@ -65,12 +75,15 @@ not_some o h = rw h
 
 -- no automatic index of the table has the name
 abbrev pub SparesIndexes : Table → Name → Type 0
-SparesIndexes table name = (tree next i : ℕ) → position_from (λ (x : Index). same_name x.name name) i (automatics (record table { tree = tree }) 0 next table.uniques) ≡ None
+SparesIndexes table name = (tree next i : ℕ)
+    → position_from (λ (x : Index). same_name x.name name) i (automatics (record table { tree = tree }) 0 next table.uniques) ≡ None
 
-pub still_free : (s : Schema) (table : Table) (name : Name) → is_used s name ≡ false → same_name table.name name ≡ false → SparesIndexes table name → is_used (created s table) name ≡ false
+pub still_free : (s : Schema) (table : Table) (name : Name) → is_used s name ≡ false → same_name table.name name ≡ false → SparesIndexes table name
+    → is_used (created s table) name ≡ false
 still_free s table name free other spares =
     let none = unused s name free in
     let new : Table = record table { tree = next_tree s } in
     let tables : table_named (created s table) name ≡ None = position_past (λ (t : Table). same_name t.name name) 0 s.tables (new ∷ []) none.0 ∙ rw other in
-    let indexes : index_named (created s table) name ≡ None = position_past (λ (x : Index). same_name x.name name) 0 s.indexes (automatics new 0 (next_tree s + 1) table.uniques) none.1 ∙ spares (next_tree s) (next_tree s + 1) (length s.indexes + 0) in
+    let indexes : index_named (created s table) name ≡ None = position_past (λ (x : Index). same_name x.name name) 0 s.indexes
+    (automatics new 0 (next_tree s + 1) table.uniques) none.1 ∙ spares (next_tree s) (next_tree s + 1) (length s.indexes + 0) in
     rw (not_some (table_named (created s table) name) tables, not_some (index_named (created s table) name) indexes) (not_some (view_named s name) none.2)

@@ -1,5 +1,7 @@
 -- What CREATE TABLE makes of a database, where it also makes the list of AUTOINCREMENT's numbers and where it doesn't.
-use Rattle.sql_front.proofs.Common.{◌≡◌, ◌⊎◌, inl, inr, refl, sym, ap, subst, ◌∙◌, ℕ, false, List, [], ◌∷◌, ◌++◌, append-nil, append_assoc, codes, None, Ok, Err, Result, ◌+◌, slice_index_or, cases_Bool, Index, Table, Has, Schema, same_name, next_tree, is_used, created, automatics, KeepsRows, Name}
+use Rattle.sql_front.proofs.Common.{◌≡◌, ◌⊎◌, inl, inr, refl, sym, ap, subst, ◌∙◌, ℕ, false, List, [], ◌∷◌, ◌++◌, append-nil, append_assoc, codes, None, Ok}
+use Rattle.sql_front.proofs.Common.{Err, Result, ◌+◌, slice_index_or, cases_Bool, Index, Table, Has, Schema, same_name, next_tree, is_used, created}
+use Rattle.sql_front.proofs.Common.{automatics, KeepsRows, Name}
 use Rattle.sqlite.specs.Order.{Row}
 use Rattle.sqlite.specs.Tree.{Trees}
 use Rattle.sqlite.specs.Does.{Tally, lacks_sequence, sequence_text, MakesTable, MakesSequence}
@@ -35,7 +37,8 @@ pub record Grown (s : Schema) (table : Table) (old new : Database) : Type 0 wher
   pub empty : new.trees (next_tree s) ≡ []
   pub others : KeepsRows s.tables old.trees new.trees
   pub indexes : (index : Index) → Has new.schema.indexes index → Has s.indexes index ⊎ IsIndexOf table (next_tree s) index
-  pub free : (name : Name) → is_used s name ≡ false → same_name table.name name ≡ false → SparesIndexes table name → same_name (codes "sqlite_sequence") name ≡ false → is_used new.schema name ≡ false
+  pub free : (name : Name) → is_used s name ≡ false → same_name table.name name ≡ false → SparesIndexes table name → same_name (codes "sqlite_sequence") name
+      ≡ false → is_used new.schema name ≡ false
 
 keeps_both : (front ours : List Table) (a b c : Trees) → KeepsRows front a b → KeepsRows (front ++ ours) b c → KeepsRows front a c
 keeps_both [] ours a b c h k = tt
@@ -45,9 +48,11 @@ keeps_last : (front : List Table) (t : Table) (b c : Trees) → KeepsRows (front
 keeps_last [] t b c k = k.0
 keeps_last (u ∷ front) t b c k = keeps_last front t b c k.1
 
-automatic_is : (table : Table) (tree at next : ℕ) (keys : List (List ℕ)) (index : Index) → Has (automatics (record table { tree = tree }) at next keys) index → IsIndexOf table tree index
+automatic_is : (table : Table) (tree at next : ℕ) (keys : List (List ℕ)) (index : Index) → Has (automatics (record table { tree = tree }) at next keys) index
+    → IsIndexOf table tree index
 automatic_is table tree at next [] index h = absurd h
-automatic_is table tree at next (key ∷ keys) index (inl is) = record { its = ap (λ (i : Index). i.table) is; place = at; order = ap (λ (i : Index). i.order) is }
+automatic_is table tree at next (key ∷ keys) index (inl is) =
+    record { its = ap (λ (i : Index). i.table) is; place = at; order = ap (λ (i : Index). i.order) is }
 automatic_is table tree at next (key ∷ keys) index (inr more) = automatic_is table tree (at + 1) (next + 1) keys index more
 
 created_indexes : (s : Schema) (table : Table) (index : Index) → Has (created s table).indexes index → Has s.indexes index ⊎ IsIndexOf table (next_tree s) index
@@ -58,7 +63,8 @@ created_indexes s table index h = elim (has_either s.indexes _ index h) [
 
 no_index : (s : Schema) (table : Table) (index : Index) → table.uniques ≡ [] → Has (created s table).indexes index → Has s.indexes index
 no_index s table index none h =
-    let all : (created s table).indexes ≡ s.indexes = ap (λ keys. s.indexes ++ automatics (record table { tree = next_tree s }) 0 (next_tree s + 1) keys) none ∙ append-nil s.indexes in
+    let all : (created s table).indexes ≡ s.indexes = ap (λ keys. s.indexes ++ automatics (record table { tree = next_tree s }) 0 (next_tree s + 1) keys) none
+    ∙ append-nil s.indexes in
     subst (λ l. Has l index) all h
 
 abbrev name_in : Result Table CompileError → Name
@@ -78,7 +84,8 @@ sequence_defined : (t : Table) → table_defined_by sequence_text ≡ Ok t → (
 unfolding table_defined_by first table_in everything
 sequence_defined t h = (ap name_in (sym h), ap uniques_in (sym h), ap references_in (sym h))
 
-finish : (s : Schema) (table : Table) (old mid final : Database) → mid.schema ≡ created s table → mid.trees (next_tree s) ≡ [] → KeepsRows s.tables old.trees mid.trees → MakesSequence mid (Ok final) → Grown s table old final
+finish : (s : Schema) (table : Table) (old mid final : Database) → mid.schema ≡ created s table → mid.trees (next_tree s) ≡ []
+    → KeepsRows s.tables old.trees mid.trees → MakesSequence mid (Ok final) → Grown s table old final
 finish s table old mid final is empty others h = elim (cases_Bool (lacks_sequence mid.schema)) [
   | inl lacks ↦ with_sequence (rw lacks at h)
   | inr whole ↦ let same : mid ≡ final = same_value (sym (rw whole at h)) in subst (Grown s table old) same (record {
@@ -101,14 +108,20 @@ finish s table old mid final is empty others h = elim (cases_Bool (lacks_sequenc
         record {
           more = record made.table { tree = next_tree mid.schema } ∷ [];
           bare = (known.2, tt);
-          tables = ap (λ (x : Schema). x.tables) made.is ∙ ap (λ ts. ts ++ record made.table { tree = next_tree mid.schema } ∷ []) tables ∙ append_assoc s.tables (new ∷ []) _;
+          tables = ap (λ (x : Schema). x.tables) made.is ∙ ap (λ ts. ts ++ record made.table { tree = next_tree mid.schema } ∷ []) tables
+              ∙ append_assoc s.tables (new ∷ []) _;
           empty = keeps_last s.tables new mid.trees final.trees rows ∙ empty;
           others = keeps_both s.tables (new ∷ []) old.trees mid.trees final.trees others rows;
-          indexes = λ index h. created_indexes s table index (subst (λ (x : Schema). Has x.indexes index) is (no_index mid.schema made.table index known.1 (subst (λ (x : Schema). Has x.indexes index) made.is h)));
-          free = λ name unused other spares apart. rw (made.is) (still_free mid.schema made.table name (rw is (still_free s table name unused other spares)) (rw (known.0) apart) (λ tree next i. rw (known.1) refl));
+          indexes = λ index h. created_indexes s table index
+              (subst (λ (x : Schema). Has x.indexes index) is
+              (no_index mid.schema made.table index known.1 (subst (λ (x : Schema). Has x.indexes index) made.is h)));
+          free = λ name unused other spares apart. rw (made.is)
+              (still_free mid.schema made.table name (rw is (still_free s table name unused other spares)) (rw (known.0) apart)
+              (λ tree next i. rw (known.1) refl));
         }
 
-pub grown : (s : Schema) (table : Table) (text : List ℕ) → table_defined_by text ≡ Ok table → (old new : State) → old.now.schema ≡ s → (params : Row) (count : ℕ) → Writes old new None CreateTable text params count → Grown s table old.now new.now
+pub grown : (s : Schema) (table : Table) (text : List ℕ) → table_defined_by text ≡ Ok table → (old new : State) → old.now.schema ≡ s
+    → (params : Row) (count : ℕ) → Writes old new None CreateTable text params count → Grown s table old.now new.now
 grown s table text defined old new has params count w =
     let all = went w.changed in
     let mid = went all.1 in
@@ -117,4 +130,6 @@ grown s table text defined old new has params count w =
     let same : made.table ≡ table = cc in
     let is : mid.0.schema ≡ created s table = made.is ∙ ap (λ x. created x made.table) has ∙ ap (created s) same in
     let now : new.now ≡ all.0 = ap (λ (p : Tally × Database). p.1) (same_value all.2) in
-    subst (Grown s table old.now) (sym now) (finish s table old.now mid.0 all.0 is (subst (λ x. mid.0.trees (next_tree x) ≡ []) has made.empty) (subst (λ x. KeepsRows x.tables old.now.trees mid.0.trees) has made.others) mid.2)
+    subst (Grown s table old.now) (sym now)
+    (finish s table old.now mid.0 all.0 is (subst (λ x. mid.0.trees (next_tree x) ≡ []) has made.empty)
+    (subst (λ x. KeepsRows x.tables old.now.trees mid.0.trees) has made.others) mid.2)

@@ -1,5 +1,7 @@
 -- A plain expression is lowered alike under two contexts that find the same columns.
-use Rattle.sql_front.proofs.Common.{◌≡◌, refl, sym, ◌∙◌, ℕ, zero, suc, false, Option, Some, None, ⊤, Term, lit, col, op1, op2, case, Collation, Expr, out-Expr, Select, Layer, Expr-F, Exists, operator, applied, node_at, is_identity, count_rows, function_named, star_by, counted, again, Name, Context, column, Lowering, ◌>>=◌, ◌>>◌, pure, last, spend, begin, finish, chosen, combine, passes}
+use Rattle.sql_front.proofs.Common.{◌≡◌, refl, sym, ◌∙◌, ℕ, zero, suc, false, Option, Some, None, ⊤, Term, lit, col, op1, op2, case, Collation, Expr, out-Expr}
+use Rattle.sql_front.proofs.Common.{Select, Layer, Expr-F, Exists, operator, applied, node_at, is_identity, count_rows, function_named, star_by, counted}
+use Rattle.sql_front.proofs.Common.{again, Name, Context, column, Lowering, ◌>>=◌, ◌>>◌, pure, last, spend, begin, finish, chosen, combine, passes}
 use Rattle.sqlite_sql.specs.declared.ops.BinaryOp.{BinaryOp}
 use Rattle.sqlite_sql.specs.declared.ops.BinaryOp.TheVariants as by
 use Rattle.sqlite_ast.specs.declared.Binary.{Binary}
@@ -59,11 +61,14 @@ module _ (a b : Context) (same : Same a b) where
   abbrev two_sides : (Context → Expr → Lowering Term) → Context → Binary → Expr → Expr → Lowering Term
   two_sides low cx op x y = low cx x >>= (λ t. last >>= (λ p. low cx y >>= (λ u. last >>= (λ q. applied cx (operator (chosen p q) op) t u))))
 
-  is_two_sides : (low : Context → Expr → Lowering Term) (cx : Context) (op : Binary) (x y : Expr) → IsSimple op → operation low cx op x y ≡ two_sides low cx op x y
+  is_two_sides : (low : Context → Expr → Lowering Term) (cx : Context) (op : Binary) (x y : Expr) → IsSimple op → operation low cx op x y
+      ≡ two_sides low cx op x y
   unfolding operation both wanted_truth tests_truth tests_alias
-  is_two_sides low cx op x y simple = rw simple.0 (rw simple.0 (λ i. low cx x >>= (λ t. last >>= (λ p. low cx y >>= (λ u. last >>= (λ q. simple.1 cx (chosen p q) t u i))))))
+  is_two_sides low cx op x y simple =
+      rw simple.0 (rw simple.0 (λ i. low cx x >>= (λ t. last >>= (λ p. low cx y >>= (λ u. last >>= (λ q. simple.1 cx (chosen p q) t u i))))))
 
-  bounded_same : (low : Context → Expr → Lowering Term) (op : CompareOp) (x : Term) (p : Carried) (e : Expr) → low a e ≡ low b e → bounded low a op x p e ≡ bounded low b op x p e
+  bounded_same : (low : Context → Expr → Lowering Term) (op : CompareOp) (x : Term) (p : Carried) (e : Expr) → low a e ≡ low b e → bounded low a op x p e
+      ≡ bounded low b op x p e
   unfolding bounded
   bounded_same low op x p e h = λ i. h i >>= (λ t. last >>= (λ q. pure (compared_same (by.Compare op (chosen p q)) x t i)))
 
@@ -77,7 +82,8 @@ module _ (a b : Context) (same : Same a b) where
   star_same (function.Aggregate folding.Count) = λ i. count_rows (same.aggregates i)
   star_same _ = refl
 
-  layer_same : (low : Context → Expr → Lowering Term) (Q : Select → Type 0) (P : Expr → Type 0) → ((query : Select) → Q query → counted low a Exists query ≡ counted low b Exists query) → ((e : Expr) → P e → low a e ≡ low b e)
+  layer_same : (low : Context → Expr → Lowering Term) (Q : Select → Type 0) (P : Expr → Type 0)
+      → ((query : Select) → Q query → counted low a Exists query ≡ counted low b Exists query) → ((e : Expr) → P e → low a e ≡ low b e)
       → (l : Layer) → PlainLayer Q P l → node_at low a l ≡ node_at low b l
   unfolding between star
   layer_same low Q P nested below Expr-F.Null h = refl
@@ -91,12 +97,16 @@ module _ (a b : Context) (same : Same a b) where
       ∙ (λ i. below x h.1 i >>= (λ t. last >>= (λ p. below y h.2 i >>= (λ u. last >>= (λ q. applied_same (operator (chosen p q) op) t u i)))))
       ∙ sym (is_two_sides low b op x y h.0)
   layer_same low Q P nested below (Expr-F.Between x lo hi) h =
-      λ i. below x h.0 i >>= (λ t. last >>= (λ p. again t >>= (λ t'. bounded_same low compare.Ge t' p lo (below lo h.1) i >>= (λ above. bounded_same low compare.Le t p hi (below hi h.2) i >>= (λ under. pure (op2 by.And above under))))))
+      λ i. below x h.0 i >>= (λ t. last >>=
+      (λ p. again t >>= (λ t'. bounded_same low compare.Ge t' p lo (below lo h.1) i >>=
+      (λ above. bounded_same low compare.Le t p hi (below hi h.2) i >>= (λ under. pure (op2 by.And above under))))))
   layer_same low Q P nested below (Expr-F.Exists query) h = nested query h
   layer_same low Q P nested below _ h = absurd h
 
   -- whatever the schemas are, and wherever the tables stand in them
-  pub lower_same_but : (E : ℕ → Select → Type 0) → ((n : ℕ) (query : Select) → E n query → counted (lower_to n) a Exists query ≡ counted (lower_to n) b Exists query) → (n : ℕ) (e : Expr) → IsPlainBut E n e → lower_to n a e ≡ lower_to n b e
+  pub lower_same_but : (E : ℕ → Select → Type 0)
+      → ((n : ℕ) (query : Select) → E n query → counted (lower_to n) a Exists query ≡ counted (lower_to n) b Exists query) → (n : ℕ) (e : Expr)
+      → IsPlainBut E n e → lower_to n a e ≡ lower_to n b e
   unfolding lower_to node opened
   lower_same_but E nested zero e h = refl
   lower_same_but E nested (suc n) e h =

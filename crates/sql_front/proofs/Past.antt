@@ -1,20 +1,25 @@
 -- How a table is found behind others.
-use Rattle.sql_front.proofs.Common.{◌≡◌, inl, inr, refl, ap, ◌∙◌, ℕ, suc, ◌+◌, ◌<◌, ◌≤◌, ◌==◌, Bool, true, false, cond, ◌||◌, List, [], ◌∷◌, ◌++◌, length, Option, Some, None, slice_get, find, arith, position_from, is_some, ne_eqb, Table, Schema, table_named, index_named, view_named, next_tree, is_used, table_below, Has, Name}
+use Rattle.sql_front.proofs.Common.{◌≡◌, inl, inr, refl, ap, ◌∙◌, ℕ, suc, ◌+◌, ◌<◌, ◌≤◌, ◌==◌, Bool, true, false, cond, ◌||◌, List, [], ◌∷◌, ◌++◌, length}
+use Rattle.sql_front.proofs.Common.{Option, Some, None, slice_get, find, arith, position_from, is_some, ne_eqb, Table, Schema, table_named, index_named}
+use Rattle.sql_front.proofs.Common.{view_named, next_tree, is_used, table_below, Has, Name}
 
 -- ---- the first of a longer list
 
-pub position_past : {X : Type 0} (test : X → Bool) (i : ℕ) (front ours : List X) → position_from test i front ≡ None → position_from test i (front ++ ours) ≡ position_from test (length front + i) ours
+pub position_past : {X : Type 0} (test : X → Bool) (i : ℕ) (front ours : List X) → position_from test i front ≡ None → position_from test i (front ++ ours)
+    ≡ position_from test (length front + i) ours
 position_past test i [] ours none = let same : 0 + i ≡ i = omega arith in rw same
 position_past test i (x ∷ front) ours none = go (test x) none (position_past test (i + 1) front ours)
   where
-    go : (b : Bool) → cond b (Some i) (position_from test (i + 1) front) ≡ None → (position_from test (i + 1) front ≡ None → position_from test (i + 1) (front ++ ours) ≡ position_from test (length front + (i + 1)) ours)
+    go : (b : Bool) → cond b (Some i) (position_from test (i + 1) front) ≡ None
+        → (position_from test (i + 1) front ≡ None → position_from test (i + 1) (front ++ ours) ≡ position_from test (length front + (i + 1)) ours)
         → cond b (Some i) (position_from test (i + 1) (front ++ ours)) ≡ position_from test (length (x ∷ front) + i) ours
     go true h more = absurd cc
     go false h more = let same : length front + (i + 1) ≡ length (x ∷ front) + i = omega arith in rw same at more h
 
 pub slice_past : {X : Type 0} (front ours : List X) (k : ℕ) → slice_get (front ++ ours) (length front + k) ≡ slice_get ours k
 slice_past [] ours k = let same : 0 + k ≡ k = omega arith in ap (slice_get ours) same
-slice_past (x ∷ front) ours k = let same : length (x ∷ front) + k ≡ suc (length front + k) = omega arith in ap (slice_get (x ∷ (front ++ ours))) same ∙ slice_past front ours k
+slice_past (x ∷ front) ours k = let same : length (x ∷ front) + k ≡ suc (length front + k) = omega arith in ap (slice_get (x ∷ (front ++ ours))) same
+    ∙ slice_past front ours k
 
 pub find_past : {X : Type 0} (test : X → Bool) (front ours : List X) → ((x : X) → Has front x → test x ≡ false) → find test (front ++ ours) ≡ find test ours
 find_past test [] ours none = refl
@@ -29,7 +34,8 @@ none_of None (Some y) c h = absurd cc
 none_of None None (Some z) h = absurd cc
 
 -- a name that is free belongs to no table, index or view
-pub unused : (schema : Schema) (name : Name) → is_used schema name ≡ false → (table_named schema name ≡ None) × (index_named schema name ≡ None) × (view_named schema name ≡ None)
+pub unused : (schema : Schema) (name : Name) → is_used schema name ≡ false → (table_named schema name ≡ None) × (index_named schema name ≡ None)
+    × (view_named schema name ≡ None)
 unused schema name h = none_of (table_named schema name) (index_named schema name) (view_named schema name) h
 
 pub above_all : (front : Schema) (t : Table) (tree : ℕ) → Has front.tables t → next_tree front ≤ tree → (t.tree == tree) ≡ false

@@ -1,5 +1,9 @@
 -- A SELECT over one table is the same query wherever the table stands in the schema.
-use Rattle.sql_front.proofs.Common.{◌≡◌, refl, ℕ, ◌+◌, ◌==◌, nat_lt, Bool, true, false, not, Ok, Err, List, [], ◌∷◌, ◌++◌, length, Option, Some, None, slice_get, ⊤, if◌then◌else◌, unwrap_or, is_some, Term, reads_below, TooBig, Unsupported, Expr, Shown-F, out-Shown, Source, out-Source, Core, out-Core, Select, ShownLayer, Inner, Schema, Table, table_named, Bound, Output, State, Checked, Lowering, ◌>>=◌, fail, pure, lift, last, fresh, max_budget, Name, Context, shown_again, lower, lower_to, counted, Exists, is_column, shown_at, outputs_from}
+use Rattle.sql_front.proofs.Common.{◌≡◌, refl, ℕ, ◌+◌, ◌==◌, nat_lt, Bool, true, false, not, Ok, Err, List, [], ◌∷◌, ◌++◌, length, Option, Some, None}
+use Rattle.sql_front.proofs.Common.{slice_get, ⊤, if◌then◌else◌, unwrap_or, is_some, Term, reads_below, TooBig, Unsupported, Expr, Shown-F, out-Shown, Source}
+use Rattle.sql_front.proofs.Common.{out-Source, Core, out-Core, Select, ShownLayer, Inner, Schema, Table, table_named, Bound, Output, State, Checked, Lowering}
+use Rattle.sql_front.proofs.Common.{◌>>=◌, fail, pure, lift, last, fresh, max_budget, Name, Context, shown_again, lower, lower_to, counted, Exists, is_column}
+use Rattle.sql_front.proofs.Common.{shown_at, outputs_from}
 use Rattle.sqlite_value.specs.declared.keys.Key.{Key}
 use Rattle.sqlite_ast.specs.declared.Shown.{Shown}
 use Rattle.sqlite_ast.specs.declared.Origin.TheVariants as origin
@@ -60,14 +64,25 @@ pub record IsOneTableBut (tested : Option Expr → Type 0) (name : Name) (core :
 abbrev pub IsOneTable : Name → Core → List Sort → Type 0
 IsOneTable = IsOneTableBut IsPlainTest
 
-is_from : (tested : Option Expr → Type 0) (name : Name) (core : Core) (order : List Sort) → IsOneTableBut tested name core order → IsFrom name (out-Core core).from
-is_from tested name core order one = record { source = one.source; is = one.from; table = one.table; alias = one.alias; on = one.on; using = one.using; is_inner = one.is_inner }
+is_from : (tested : Option Expr → Type 0) (name : Name) (core : Core) (order : List Sort) → IsOneTableBut tested name core order
+    → IsFrom name (out-Core core).from
+is_from tested name core order one = record {
+  source = one.source;
+  is = one.from;
+  table = one.table;
+  alias = one.alias;
+  on = one.on;
+  using = one.using;
+  is_inner = one.is_inner;
+}
 
 abbrev pub bound_at : Name → ℕ → Bound
 bound_at name = one_bound name 1 []
 
 module _ (a b : Context) (same : Same a b) where
-  pub tests_same_but : (E : ℕ → Select → Type 0) → ((n : ℕ) (query : Select) → E n query → counted (lower_to n) a Exists query ≡ counted (lower_to n) b Exists query) → (n : ℕ) (done : List Term) (e : Option Expr) → IsTestBut E n e
+  pub tests_same_but : (E : ℕ → Select → Type 0)
+      → ((n : ℕ) (query : Select) → E n query → counted (lower_to n) a Exists query ≡ counted (lower_to n) b Exists query)
+      → (n : ℕ) (done : List Term) (e : Option Expr) → IsTestBut E n e
       → tests (lower_to n) a done e ≡ tests (lower_to n) b done e
   unfolding tests
   tests_same_but E nested n done None h = refl
@@ -76,34 +91,47 @@ module _ (a b : Context) (same : Same a b) where
   pub tests_same : (done : List Term) (e : Option Expr) → IsPlainTest e → tests lower a done e ≡ tests lower b done e
   tests_same = tests_same_but (λ n query. ⊥) (λ n query h. absurd h) 700
 
-  aliased_same : a.may_aggregate ≡ b.may_aggregate → (outs : List Output) (e : Expr) → IsPlain 700 e → (o : Option ℕ) → aliased_or lower a outs e o ≡ aliased_or lower b outs e o
+  aliased_same : a.may_aggregate ≡ b.may_aggregate → (outs : List Output) (e : Expr) → IsPlain 700 e → (o : Option ℕ) → aliased_or lower a outs e o
+      ≡ aliased_or lower b outs e o
   unfolding key
-  aliased_same agg outs e h None = λ i. lower_same a b same 700 e h i >>= (λ t. if is_numeral e then lift (place_in t) >>= shown_again (agg i) outs else (if reads_below 1 t then fail Unsupported else pure t))
+  aliased_same agg outs e h None =
+      λ i. lower_same a b same 700 e h i >>=
+      (λ t. if is_numeral e then lift (place_in t) >>= shown_again (agg i) outs else (if reads_below 1 t then fail Unsupported else pure t))
   aliased_same agg outs e h (Some at) = refl
 
-  sort_same : a.may_aggregate ≡ b.may_aggregate → (outs : List Output) (done : List (Term × Key)) (s : Sort) → IsPlain 700 (peeled (out-Sort s).key) → sort lower a outs done s ≡ sort lower b outs done s
+  sort_same : a.may_aggregate ≡ b.may_aggregate → (outs : List Output) (done : List (Term × Key)) (s : Sort) → IsPlain 700 (peeled (out-Sort s).key)
+      → sort lower a outs done s ≡ sort lower b outs done s
   unfolding sort
   sort_same agg outs done s h =
       λ i. aliased_same agg outs (peeled (out-Sort s).key) h (alias_in outs (peeled (out-Sort s).key)) i >>= (λ t. collation_of (out-Sort s).key >>= (λ how.
       placed done (record { collation = how; descending = (out-Sort s).descending }) (out-Sort s).nulls_first t))
 
-  sorts_same : a.may_aggregate ≡ b.may_aggregate → (outs : List Output) (done : List (Term × Key)) (all : List Sort) → ArePlainSorts all → sorts_from lower a outs done all ≡ sorts_from lower b outs done all
+  sorts_same : a.may_aggregate ≡ b.may_aggregate → (outs : List Output) (done : List (Term × Key)) (all : List Sort) → ArePlainSorts all
+      → sorts_from lower a outs done all ≡ sorts_from lower b outs done all
   sorts_same agg outs done [] h = refl
   sorts_same agg outs done (s ∷ more) h = λ i. sort_same agg outs done s h.0 i >>= (λ longer. sorts_same agg outs longer more h.1 i)
 
-module _ (s z : Schema) (at there : ℕ) (table : Table) (got : slice_get s.tables at ≡ Some table) (own : slice_get z.tables there ≡ Some table) (name : Name) where
+module _ (s z : Schema) (at there : ℕ) (table : Table) (got : slice_get s.tables at ≡ Some table) (own : slice_get z.tables there ≡ Some table)
+    (name : Name) where
   abbrev pub over : Schema → ℕ → List Output → Bool → Context
   over schema k outs may_aggregate = over_one s z at there table got own name 1 [] outs may_aggregate true schema k
 
   pub same_over : (outs : List Output) (agg : Bool) → Same (over s at outs agg) (over z there outs agg)
   same_over outs agg = same_columns s z at there table got own name 1 [] outs agg true
 
-  one_same : (done : List Output) (l : ShownLayer) → IsPlainShown l → shown_at lower (over s at [] true) (bound_at name at ∷ []) done l ≡ shown_at lower (over z there [] true) (bound_at name there ∷ []) done l
+  one_same : (done : List Output) (l : ShownLayer) → IsPlainShown l → shown_at lower (over s at [] true) (bound_at name at ∷ []) done l
+      ≡ shown_at lower (over z there [] true) (bound_at name there ∷ []) done l
   one_same done Shown-F.All h = absurd h
   one_same done (Shown-F.AllOf other) h = absurd h
   one_same done (Shown-F.One e alias text) h =
       λ i. lower_same (over s at [] true) (over z there [] true) (same_over [] true) 700 e h i >>= (λ t. last >>= (λ c.
-      pure (done ++ record { name = unwrap_or alias (heading_same s z at there table got own name 1 [] [] true true e text i); is_alias = is_some alias; is_column = is_column e; term = t; carried = c } ∷ [])))
+      pure (done ++ record {
+        name = unwrap_or alias (heading_same s z at there table got own name 1 [] [] true true e text i);
+        is_alias = is_some alias;
+        is_column = is_column e;
+        term = t;
+        carried = c;
+      } ∷ [])))
 
   outputs_same : (done : List Output) (all : List Shown) → ArePlainShown all
       → outputs_from lower (over s at [] true) (bound_at name at ∷ []) done all ≡ outputs_from lower (over z there [] true) (bound_at name there ∷ []) done all
@@ -112,7 +140,8 @@ module _ (s z : Schema) (at there : ℕ) (table : Table) (got : slice_get s.tabl
   outputs_same done (one ∷ more) h = λ i. one_same done (out-Shown one) h.0 i >>= (λ longer. outputs_same longer more h.1 i)
 
 module _ (name : Name) (s : Schema) (at : ℕ) (table : Table) (from : List Source) (one : IsFrom name from) where
-  pub bounds_known : table_named s name ≡ Some at → (st : State) → nat_lt st.next 250 ≡ true → bounds s from st ≡ Ok (one_bound name st.next [] at ∷ [], record st { next = st.next + 1 })
+  pub bounds_known : table_named s name ≡ Some at → (st : State) → nat_lt st.next 250 ≡ true → bounds s from st
+      ≡ Ok (one_bound name st.next [] at ∷ [], record st { next = st.next + 1 })
   unfolding bounds bound table_in take_slot
   bounds_known named_at st low = rw (one.is) (rw (low, one.table, one.alias, one.using) (rw named_at))
 
@@ -125,9 +154,11 @@ module _ (name : Name) (s : Schema) (at : ℕ) (table : Table) (from : List Sour
   unfolding joins join shared inner_join tests
   joins_known got low slot cx st is = rw (one.is) (rw (one.on, one.using, one.is_inner) (rw (is, got)))
 
-module _ (s z : Schema) (at there : ℕ) (table : Table) (name : Name) (named_at : table_named s name ≡ Some at) (got : slice_get s.tables at ≡ Some table) (named_there : table_named z name ≡ Some there) (own : slice_get z.tables there ≡ Some table)
+module _ (s z : Schema) (at there : ℕ) (table : Table) (name : Name) (named_at : table_named s name ≡ Some at) (got : slice_get s.tables at ≡ Some table)
+    (named_there : table_named z name ≡ Some there) (own : slice_get z.tables there ≡ Some table)
     (core : Core) (order : List Sort) (tested : Option Expr → Type 0) (one : IsOneTableBut tested name core order)
-    (alike : (outs : List Output) (e : Option Expr) → tested e → tests lower (over s z at there table got own name s at outs false) [] e ≡ tests lower (over s z at there table got own name z there outs false) [] e) (page : Term × Term) where
+    (alike : (outs : List Output) (e : Option Expr) → tested e → tests lower (over s z at there table got own name s at outs false) [] e
+    ≡ tests lower (over s z at there table got own name z there outs false) [] e) (page : Term × Term) where
   abbrev in_s : List Output → Bool → Context
   in_s outs agg = over s z at there table got own name s at outs agg
 
@@ -153,7 +184,8 @@ module _ (s z : Schema) (at there : ℕ) (table : Table) (name : Name) (named_at
   tests_at outs st = λ i. alike outs (out-Core core).filter one.filter i st
 
   sorts_at : (outs : List Output) (st : State) → sorts_from lower (in_s outs (not (length st.aggregates == 0))) outs [] order st ≡ sorts_z outs st
-  sorts_at outs st = λ i. sorts_same (in_s outs (not (length st.aggregates == 0))) (in_z outs (not (length st.aggregates == 0))) (same_over s z at there table got own name outs (not (length st.aggregates == 0))) refl outs [] order one.sorts i st
+  sorts_at outs st = λ i. sorts_same (in_s outs (not (length st.aggregates == 0))) (in_z outs (not (length st.aggregates == 0)))
+      (same_over s z at there table got own name outs (not (length st.aggregates == 0))) refl outs [] order one.sorts i st
 
   bounds_s : bounds s (out-Core core).from (fresh 1 max_budget) ≡ Ok (bound_at name at ∷ [], start)
   bounds_s = bounds_known name s at table (out-Core core).from (is_from tested name core order one) named_at (fresh 1 max_budget) refl
@@ -161,18 +193,24 @@ module _ (s z : Schema) (at there : ℕ) (table : Table) (name : Name) (named_at
   bounds_z : bounds z (out-Core core).from (fresh 1 max_budget) ≡ Ok (bound_at name there ∷ [], start)
   bounds_z = bounds_known name z there table (out-Core core).from (is_from tested name core order one) named_there (fresh 1 max_budget) refl
 
-  joins_s : (outs : List Output) (st : State) → joins lower (in_s outs false) (bound_at name at ∷ []) (out-Core core).from st ≡ Ok (record { steps = Inner table.tree ∷ []; filter = [] }, st)
+  joins_s : (outs : List Output) (st : State) → joins lower (in_s outs false) (bound_at name at ∷ []) (out-Core core).from st
+      ≡ Ok (record { steps = Inner table.tree ∷ []; filter = [] }, st)
   joins_s outs st = joins_known name s at table (out-Core core).from (is_from tested name core order one) got lower 1 (in_s outs false) st refl
 
-  joins_z : (outs : List Output) (st : State) → joins lower (in_z outs false) (bound_at name there ∷ []) (out-Core core).from st ≡ Ok (record { steps = Inner table.tree ∷ []; filter = [] }, st)
+  joins_z : (outs : List Output) (st : State) → joins lower (in_z outs false) (bound_at name there ∷ []) (out-Core core).from st
+      ≡ Ok (record { steps = Inner table.tree ∷ []; filter = [] }, st)
   joins_z outs st = joins_known name z there table (out-Core core).from (is_from tested name core order one) own lower 1 (in_z outs false) st refl
 
-  by_sorts : (r : List Output × State) (q : List Term × State) (x : Checked (List (Term × Key) × State)) → shows_z ≡ Ok r → tests_z r.0 r.1 ≡ Ok q → sorts_z r.0 q.1 ≡ x → named s core order page ≡ named z core order page
+  by_sorts : (r : List Output × State) (q : List Term × State) (x : Checked (List (Term × Key) × State)) → shows_z ≡ Ok r → tests_z r.0 r.1 ≡ Ok q
+      → sorts_z r.0 q.1 ≡ x → named s core order page ≡ named z core order page
   unfolding named parts body result outputs matching keys having tests sorts assembled
-  by_sorts r q (Err e) shows passes h = rw (bounds_s, bounds_z) (rw (shows_at, shows) (rw (joins_s, joins_z) (rw (tests_at, passes) (rw (one.group, one.having) (rw (sorts_at, h))))))
-  by_sorts r q (Ok by) shows passes h = rw (bounds_s, bounds_z) (rw (shows_at, shows) (rw (joins_s, joins_z) (rw (tests_at, passes) (rw (one.group, one.having) (rw (sorts_at, h))))))
+  by_sorts r q (Err e) shows passes h =
+      rw (bounds_s, bounds_z) (rw (shows_at, shows) (rw (joins_s, joins_z) (rw (tests_at, passes) (rw (one.group, one.having) (rw (sorts_at, h))))))
+  by_sorts r q (Ok by) shows passes h =
+      rw (bounds_s, bounds_z) (rw (shows_at, shows) (rw (joins_s, joins_z) (rw (tests_at, passes) (rw (one.group, one.having) (rw (sorts_at, h))))))
 
-  by_tests : (r : List Output × State) (x : Checked (List Term × State)) → shows_z ≡ Ok r → tests_z r.0 r.1 ≡ x → named s core order page ≡ named z core order page
+  by_tests : (r : List Output × State) (x : Checked (List Term × State)) → shows_z ≡ Ok r → tests_z r.0 r.1 ≡ x → named s core order page
+      ≡ named z core order page
   unfolding named parts body result outputs matching
   by_tests r (Err e) shows h = rw (bounds_s, bounds_z) (rw (shows_at, shows) (rw (joins_s, joins_z) (rw (tests_at, h))))
   by_tests r (Ok q) shows h = by_sorts r q (sorts_z r.0 q.1) shows h refl
@@ -185,8 +223,10 @@ module _ (s z : Schema) (at there : ℕ) (table : Table) (name : Name) (named_at
   pub same_named_but : named s core order page ≡ named z core order page
   same_named_but = by_shows shows_z refl
 
-module _ (s z : Schema) (at there : ℕ) (table : Table) (name : Name) (named_at : table_named s name ≡ Some at) (got : slice_get s.tables at ≡ Some table) (named_there : table_named z name ≡ Some there) (own : slice_get z.tables there ≡ Some table) where
+module _ (s z : Schema) (at there : ℕ) (table : Table) (name : Name) (named_at : table_named s name ≡ Some at) (got : slice_get s.tables at ≡ Some table)
+    (named_there : table_named z name ≡ Some there) (own : slice_get z.tables there ≡ Some table) where
   pub same_named : (core : Core) (order : List Sort) → IsOneTable name core order → (page : Term × Term) → named s core order page ≡ named z core order page
   same_named core order one =
       same_named_but s z at there table name named_at got named_there own core order IsPlainTest one
-      (λ outs e h. tests_same (over s z at there table got own name s at outs false) (over s z at there table got own name z there outs false) (same_over s z at there table got own name outs false) [] e h)
+      (λ outs e h. tests_same (over s z at there table got own name s at outs false) (over s z at there table got own name z there outs false)
+      (same_over s z at there table got own name outs false) [] e h)

@@ -1,5 +1,7 @@
 -- A text's meaning under any schema that has its table, from its meaning over that table alone.
-use Rattle.sql_front.proofs.Common.{◌≡◌, refl, sym, subst, ◌∙◌, ℕ, true, false, ◌&&◌, Ok, List, [], ◌∷◌, Some, None, Query, inner, end, Term, out-Select, out-Core, Source, out-Source, Parsed, Draft, query_of, Schema, Table, table_named, accepts_program, accepts_after, is_count, row_classes, Name, named, paging, Shown, Compiled, compiled, first, Stands}
+use Rattle.sql_front.proofs.Common.{◌≡◌, refl, sym, subst, ◌∙◌, ℕ, true, false, ◌&&◌, Ok, List, [], ◌∷◌, Some, None, Query, inner, end, Term, out-Select}
+use Rattle.sql_front.proofs.Common.{out-Core, Source, out-Source, Parsed, Draft, query_of, Schema, Table, table_named, accepts_program, accepts_after}
+use Rattle.sql_front.proofs.Common.{is_count, row_classes, Name, named, paging, Shown, Compiled, compiled, first, Stands}
 use Rattle.sqlite_ast.specs.declared.Select as written_select
 use Rattle.sqlite_ast.specs.declared.Origin.TheVariants as origin
 use Rattle.sqlite_ast.specs.declared.Statement.TheVariants as written
@@ -24,8 +26,10 @@ pub record Queries (text : List ℕ) (name : Name) (table : Table) (body : Query
   pub shown : Shown
   pub read : first text ≡ Ok parsed
   pub is : (parsed.statement ≡ written.Select select) × (parsed.formats ≡ []) × ((out-Select select).with ≡ []) × ((out-Select select).others ≡ [])
-  pub core : ((out-Core (out-Select select).first).from ≡ source ∷ []) × ((out-Core (out-Select select).first).group ≡ []) × ((out-Core (out-Select select).first).having ≡ None)
-  pub from : ((out-Source source).origin ≡ origin.Table name) × ((out-Source source).alias ≡ None) × ((out-Source source).on ≡ None) × ((out-Source source).using ≡ []) × ((out-Source source).is_left ≡ false)
+  pub core : ((out-Core (out-Select select).first).from ≡ source ∷ []) × ((out-Core (out-Select select).first).group ≡ [])
+      × ((out-Core (out-Select select).first).having ≡ None)
+  pub from : ((out-Source source).origin ≡ origin.Table name) × ((out-Source source).alias ≡ None) × ((out-Source source).on ≡ None)
+      × ((out-Source source).using ≡ []) × ((out-Source source).is_left ≡ false)
   pub shows : ArePlainShown (out-Core (out-Select select).first).shown
   pub filter : IsPlainTest (out-Core (out-Select select).first).filter
   pub sorts : ArePlainSorts (out-Select select).order
@@ -34,7 +38,15 @@ pub record Queries (text : List ℕ) (name : Name) (table : Table) (body : Query
   pub becomes : (shown.1 ≡ columns) × Becomes table shown.0 body
 
 abbrev pub with_query : Parsed → Query → List Name → Compiled
-with_query p body columns = record { command = Select (record { lets = []; body = body }) columns; returning = None; names = p.names; formats = []; start = p.start; end = p.end; tail = p.tail }
+with_query p body columns = record {
+  command = Select (record { lets = []; body = body }) columns;
+  returning = None;
+  names = p.names;
+  formats = [];
+  start = p.start;
+  end = p.end;
+  tail = p.tail;
+}
 
 module _ (text : List ℕ) (name : Name) (table : Table) (body : Query) (columns : List Name) (r : Queries text name table body columns) where
   is_select : Selects r.parsed r.select
@@ -61,5 +73,6 @@ module _ (text : List ℕ) (name : Name) (table : Table) (body : Query) (columns
       let same = same_named s (alone table) at 0 table name stands.named stands.got r.named.0 refl _ _ is_one r.page in
       let fits = accepted s body table r.becomes.1.1 stands.stored stands.found r.becomes.1.2 in
       let known : compiled s text ≡ Ok (with_query r.parsed (query_of r.shown.0) r.shown.1) =
-      select_known s IsPlainTest text name r.parsed r.select r.page r.shown r.read is_select is_one (r.paged s) (same ∙ r.named.1) (subst (λ b. accepts_program s [] b [] ≡ true) (sym r.becomes.1.0) fits) in
+      select_known s IsPlainTest text name r.parsed r.select r.page r.shown r.read is_select is_one (r.paged s) (same ∙ r.named.1)
+      (subst (λ b. accepts_program s [] b [] ≡ true) (sym r.becomes.1.0) fits) in
       rw (r.becomes.1.0, r.becomes.0) at known

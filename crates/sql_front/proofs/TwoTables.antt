@@ -1,5 +1,7 @@
 -- Where an expression sees a table and, one level out, another, it is lowered alike in each schema that has them, wherever they stand in it.
-use Rattle.sql_front.proofs.Common.{◌≡◌, ◌⊎◌, inl, inr, refl, ℕ, zero, suc, ◌^◌, nat_lt, ◌==◌, Bool, true, false, not, ◌&&◌, ◌||◌, Ok, Err, [], ◌∷◌, Option, Some, None, slice_get, cases_Bool, if◌then◌else◌, is_some, Schema, Table, same_name, column_named, Bound, Level, Found, Column, Rowid, NoSuchColumn, Checked, ◌>>=◌, lift, Name, Context, is_meant, is_hidden, is_rowid, found_or, and-true}
+use Rattle.sql_front.proofs.Common.{◌≡◌, ◌⊎◌, inl, inr, refl, ℕ, zero, suc, ◌^◌, nat_lt, ◌==◌, Bool, true, false, not, ◌&&◌, ◌||◌, Ok, Err, [], ◌∷◌, Option}
+use Rattle.sql_front.proofs.Common.{Some, None, slice_get, cases_Bool, if◌then◌else◌, is_some, Schema, Table, same_name, column_named, Bound, Level, Found}
+use Rattle.sql_front.proofs.Common.{Column, Rowid, NoSuchColumn, Checked, ◌>>=◌, lift, Name, Context, is_meant, is_hidden, is_rowid, found_or, and-true}
 use Rattle.sqlite_resolve.specs.Scope.{column, find, in_level, only, hit, column_in, rowid_in, column_at, term_of, is_among}
 use Rattle.sqlite_resolve.specs.Compare.{of_column}
 use Rattle.sqlite_resolve.specs.Given.{nested}
@@ -38,7 +40,8 @@ named_or_not : (o : Option ℕ) → ((k : ℕ) × (o ≡ Some k)) ⊎ (o ≡ Non
 named_or_not None = inr refl
 named_or_not (Some k) = inl (k, refl)
 
-is_meant_by : (name : Name) (slot at : ℕ) (wanted : Option Name) (text : Name) → (is_meant wanted (bound_in name slot at) && not (is_hidden wanted text (bound_in name slot at))) ≡ means_it name wanted
+is_meant_by : (name : Name) (slot at : ℕ) (wanted : Option Name) (text : Name)
+    → (is_meant wanted (bound_in name slot at) && not (is_hidden wanted text (bound_in name slot at))) ≡ means_it name wanted
 unfolding is_among
 is_meant_by name slot at None text = refl
 is_meant_by name slot at (Some wanted) text = and-true (same_name name wanted)
@@ -47,7 +50,8 @@ outside : (w : Option Name) → ◌≡◌ {A = Checked (Option Found)} (if (fals
 outside None = refl
 outside (Some other) = refl
 
-module _ (s : Schema) (at : ℕ) (table : Table) (got : slice_get s.tables at ≡ Some table) (name : Name) (slot depth : ℕ) (wanted : Option Name) (text : Name) where
+module _ (s : Schema) (at : ℕ) (table : Table) (got : slice_get s.tables at ≡ Some table) (name : Name) (slot depth : ℕ) (wanted : Option Name)
+    (text : Name) where
   level_finds : (seen : Bool) → (is_meant wanted (bound_in name slot at) && not (is_hidden wanted text (bound_in name slot at))) ≡ seen
       → in_level s wanted text depth (level_in name slot at) ≡ Ok (found_at slot at (if seen then row_hit table text (column_named table text) else Missed))
   unfolding in_level only hit column_in rowid_in
@@ -88,9 +92,11 @@ module _ (inner outer : Table) (name other : Name) (slot far : ℕ) where
   hits s h AtRowid x = Ok (Rowid slot h.at)
   hits s h (AtColumn k) x = Ok (Column slot h.at k)
 
-  found_is : (s : Schema) (h : Holding s inner outer) (wanted : Option Name) (text : Name) → find (seeing s h) wanted text ≡ hits s h (hit_in inner name wanted text) (hit_in outer other wanted text)
+  found_is : (s : Schema) (h : Holding s inner outer) (wanted : Option Name) (text : Name) → find (seeing s h) wanted text
+      ≡ hits s h (hit_in inner name wanted text) (hit_in outer other wanted text)
   unfolding find
-  found_is s h wanted text = rw (finds s h.at inner h.got name slot 0 wanted text, finds s h.beside outer h.got_beside other far 1 wanted text) (by_hits (hit_in inner name wanted text) (hit_in outer other wanted text))
+  found_is s h wanted text = rw (finds s h.at inner h.got name slot 0 wanted text, finds s h.beside outer h.got_beside other far 1 wanted text)
+      (by_hits (hit_in inner name wanted text) (hit_in outer other wanted text))
     where
       by_hits : (x y : Hit) → found_or (found_or (Err NoSuchColumn) (found_at far h.beside y)) (found_at slot h.at x) ≡ hits s h x y
       by_hits Missed Missed = refl

@@ -1,5 +1,8 @@
 -- INSERT .. SELECT .. ON CONFLICT means the same wherever its two tables stand in the schema.
-use Rattle.sql_front.proofs.Common.{◌≡◌, inl, inr, refl, sym, ap, subst, ◌∙◌, ℕ, ◌+◌, ◌==◌, true, false, ◌&&◌, Ok, List, [], ◌∷◌, ◌++◌, length, find, Some, None, slice_get, codes, Bool, cond, ◌||◌, arith, eqb-true, eq-eqb, Collation, Query, inner, end, Term, Parsed, Draft, query_of, Schema, Table, Index, Has, table_named, accepts_program, accepts_after, is_count, row_classes, Compiled, Name, Context, named, paging, Shown, first, small, Stands}
+use Rattle.sql_front.proofs.Common.{◌≡◌, inl, inr, refl, sym, ap, subst, ◌∙◌, ℕ, ◌+◌, ◌==◌, true, false, ◌&&◌, Ok, List, [], ◌∷◌, ◌++◌, length, find, Some}
+use Rattle.sql_front.proofs.Common.{None, slice_get, codes, Bool, cond, ◌||◌, arith, eqb-true, eq-eqb, Collation, Query, inner, end, Term, Parsed, Draft}
+use Rattle.sql_front.proofs.Common.{query_of, Schema, Table, Index, Has, table_named, accepts_program, accepts_after, is_count, row_classes, Compiled, Name}
+use Rattle.sql_front.proofs.Common.{Context, named, paging, Shown, first, small, Stands}
 use Rattle.sqlite_ast.specs.declared.Rows.TheVariants as rows
 use Rattle.sqlite_ast.specs.declared.Select as written_select
 use Rattle.sqlite_ast.specs.declared.Upsert as written_clause
@@ -33,7 +36,8 @@ module _ (table : Table) (base : ℕ) where
     at = at;
     got = slice_front s.tables (given table base ∷ []) at table got;
     beside = length s.tables;
-    got_beside = let none_more : length s.tables + 0 ≡ length s.tables = omega arith in ap (slice_get (s.tables ++ given table base ∷ [])) (sym none_more) ∙ slice_past s.tables (given table base ∷ []) 0;
+    got_beside = let none_more : length s.tables + 0 ≡ length s.tables = omega arith in ap (slice_get (s.tables ++ given table base ∷ [])) (sym none_more)
+        ∙ slice_past s.tables (given table base ∷ []) 0;
   }
 
   -- what the clause reads
@@ -74,7 +78,8 @@ pub record Upserts (text : List ℕ) (name : Name) (table : Table) (from : Name)
   pub values : ArePlainSets clause.sets
   pub filter : IsPlainTest clause.filter
   pub draft : Draft
-  pub updated : updated_in (on_conflict (unstamped table) (small parsed.names + small []) (alone (unstamped table)) 0 refl) (unstamped table) clause.sets clause.filter ≡ Ok draft
+  pub updated : updated_in (on_conflict (unstamped table) (small parsed.names + small []) (alone (unstamped table)) 0 refl) (unstamped table) clause.sets
+      clause.filter ≡ Ok draft
   pub is_setter : query_of (at_rowid (small parsed.names + small []) draft) ≡ setter
   pub setter_over : setter.from ≡ inner table.tree end
   pub setter_fits : (accepts_after [] setter (Some (row_classes (unstamped table) ∷ [])) && (is_count [] setter.limit && is_count [] setter.offset)) ≡ true
@@ -83,9 +88,18 @@ abbrev pub upsert_of : List ℕ → Query → Upsert
 upsert_of key setter = record { target = Some key; update = Some (record { lets = []; body = setter }) }
 
 abbrev pub with_upsert : Parsed → ℕ → Query → Upsert → Compiled
-with_upsert p at body clause = record { command = InsertOr at how.Abort (source.Query (record { lets = []; body = body })) (clause ∷ []); returning = None; names = p.names; formats = []; start = p.start; end = p.end; tail = p.tail }
+with_upsert p at body clause = record {
+  command = InsertOr at how.Abort (source.Query (record { lets = []; body = body })) (clause ∷ []);
+  returning = None;
+  names = p.names;
+  formats = [];
+  start = p.start;
+  end = p.end;
+  tail = p.tail;
+}
 
-module _ (text : List ℕ) (name : Name) (table : Table) (from : Name) (read : Table) (body : Query) (key : List ℕ) (setter : Query) (u : Upserts text name table from read body key setter) (s : Schema) (at there : ℕ)
+module _ (text : List ℕ) (name : Name) (table : Table) (from : Name) (read : Table) (body : Query) (key : List ℕ) (setter : Query)
+    (u : Upserts text name table from read body key setter) (s : Schema) (at there : ℕ)
     (stands : Stands s name at (unstamped table)) (stands_there : Stands s from there read) (keyed : key_at s (unstamped table) key ≡ Ok key) where
   abbrev base : ℕ
   base = small u.parsed.names + small []
@@ -96,19 +110,24 @@ module _ (text : List ℕ) (name : Name) (table : Table) (from : Name) (read : T
       let same = same_named s (alone read) there 0 read from stands_there.named stands_there.got u.named_alone refl _ _ u.one u.page in
       let query = query_known s IsPlainTest from u.select u.page u.shown u.with u.others u.one (u.paged s) (same ∙ u.known) in
       let laid : Draft = record u.shown.0 { project = u.terms; collations = u.by } in
-      let fits : accepts_program s [] (query_of laid) [] ≡ true = subst (λ q. accepts_program s [] q [] ≡ true) (sym u.is_body) (accepted s body read u.over stands_there.stored stands_there.found u.fits) in
-      let is : new_rows s (unstamped table) base u.columns (rows.Select u.select) ≡ Ok (source.Query (record { lets = []; body = query_of laid })) = rw (u.placed) (rw (query) (rw (u.laid_out) (rw (fits)))) in
+      let fits : accepts_program s [] (query_of laid) [] ≡ true = subst (λ q. accepts_program s [] q [] ≡ true) (sym u.is_body)
+      (accepted s body read u.over stands_there.stored stands_there.found u.fits) in
+      let is : new_rows s (unstamped table) base u.columns (rows.Select u.select) ≡ Ok (source.Query (record { lets = []; body = query_of laid })) =
+      rw (u.placed) (rw (query) (rw (u.laid_out) (rw (fits)))) in
       is ∙ ap (λ (q : Query). Ok (source.Query (record { lets = []; body = q }))) u.is_body
 
   clause_known : upserts s at (unstamped table) base (u.clause ∷ []) ≡ Ok (upsert_of key setter ∷ [])
   unfolding upserts upsert key_meant update do_update program
   clause_known =
-      let contexts = same_two (unstamped table) (given (unstamped table) base) table.name excluded 1 0 (with_given s (unstamped table) base) (with_given (alone (unstamped table)) (unstamped table) base)
+      let contexts = same_two (unstamped table) (given (unstamped table) base) table.name excluded 1 0 (with_given s (unstamped table) base)
+      (with_given (alone (unstamped table)) (unstamped table) base)
       (with_excluded (unstamped table) base s at stands.got) (with_excluded (unstamped table) base (alone (unstamped table)) 0 refl) in
       let draft = updated_same _ _ contexts (unstamped table) u.clause.sets u.clause.filter u.values u.filter ∙ u.updated in
       let set_by = query_of (at_rowid base u.draft) in
-      let fits : accepts_program s [] set_by [] ≡ true = subst (λ q. accepts_program s [] q [] ≡ true) (sym u.is_setter) (accepted s setter (unstamped table) u.setter_over stands.stored stands.found u.setter_fits) in
-      let is : upserts s at (unstamped table) base (u.clause ∷ []) ≡ Ok (upsert_of key set_by ∷ []) = rw (u.aimed) (rw (u.key_is) (rw (keyed) (rw (u.sets) (rw (draft) (rw (fits)))))) in
+      let fits : accepts_program s [] set_by [] ≡ true = subst (λ q. accepts_program s [] q [] ≡ true) (sym u.is_setter)
+      (accepted s setter (unstamped table) u.setter_over stands.stored stands.found u.setter_fits) in
+      let is : upserts s at (unstamped table) base (u.clause ∷ []) ≡ Ok (upsert_of key set_by ∷ []) =
+      rw (u.aimed) (rw (u.key_is) (rw (keyed) (rw (u.sets) (rw (draft) (rw (fits)))))) in
       is ∙ ap (λ (q : Query). Ok (upsert_of key q ∷ [])) u.is_setter
 
   pub upserts_known : compiled s text ≡ Ok (with_upsert u.parsed at body (upsert_of key setter))
@@ -140,18 +159,21 @@ found_one : {X : Type 0} (test : X → Bool) (xs : List X) (x : X) → Has xs x 
 found_one test [] x there is = absurd there
 found_one {X} test (y ∷ xs) x there is = go (test y) refl (λ more. found_one test xs x more is) there
   where
-    go : (b : Bool) → test y ≡ b → (Has xs x → (z : X) × (find test xs ≡ Some z) × (test z ≡ true)) → Has (y ∷ xs) x → (z : X) × (cond b (Some y) (find test xs) ≡ Some z) × (test z ≡ true)
+    go : (b : Bool) → test y ≡ b → (Has xs x → (z : X) × (find test xs ≡ Some z) × (test z ≡ true)) → Has (y ∷ xs) x → (z : X)
+        × (cond b (Some y) (find test xs) ≡ Some z) × (test z ≡ true)
     go true here further at = (y, refl, here)
     go false here further (inl same) = absurd (let e : test y ≡ true = ap test (sym same) ∙ is in cc)
     go false here further (inr more) = further more
 
 -- A column that a unique index stands on alone is a key.
-pub key_found : (s : Schema) (table : Table) (c : ℕ) → (c == 0) ≡ false → (index : Index) → Has s.indexes index → index.is_unique ≡ true → index.table ≡ table.tree → index.columns ≡ c ∷ [] → key_at s table (c ∷ []) ≡ Ok (c ∷ [])
+pub key_found : (s : Schema) (table : Table) (c : ℕ) → (c == 0) ≡ false → (index : Index) → Has s.indexes index → index.is_unique ≡ true → index.table
+    ≡ table.tree → index.columns ≡ c ∷ [] → key_at s table (c ∷ []) ≡ Ok (c ∷ [])
 unfolding key_at is_key_at
 key_found s table c other index there unique its columns =
     let same : (table.tree == table.tree) ≡ true = eq-eqb table.tree table.tree refl in
     let self : (c == c) ≡ true = eq-eqb c c refl in
     let is : is_key_at table (c ∷ []) index ≡ true = rw (unique, its, columns) (rw (same, self)) in
     let it = found_one (is_key_at table (c ∷ [])) s.indexes index there is in
-    let parts = in_all it.0.is_unique (it.0.table == table.tree) (length it.0.columns == 1) (are_among (c ∷ []) it.0.columns) (are_among it.0.columns (c ∷ [])) it.2 in
+    let parts = in_all it.0.is_unique (it.0.table == table.tree) (length it.0.columns == 1) (are_among (c ∷ []) it.0.columns) (are_among it.0.columns (c ∷ []))
+    it.2 in
     rw (other) (rw (it.1) (ap (λ (l : List ℕ). Ok l) (is_one c it.0.columns parts.0 parts.1)))

@@ -1,5 +1,6 @@
 -- INSERT and CREATE TABLE under any schema that has the table, or does not use its name.
-use Rattle.sql_front.proofs.Common.{◌≡◌, sym, subst, ℕ, ◌+◌, ◌==◌, true, false, not, ◌&&◌, Ok, List, [], length, None, Parsed, Schema, Table, is_used, Name, Compiled, first, new_rows, small, is_reserved, Stands}
+use Rattle.sql_front.proofs.Common.{◌≡◌, sym, subst, ℕ, ◌+◌, ◌==◌, true, false, not, ◌&&◌, Ok, List, [], length, None, Parsed, Schema, Table, is_used, Name}
+use Rattle.sql_front.proofs.Common.{Compiled, first, new_rows, small, is_reserved, Stands}
 use Rattle.sqlite_ast.specs.declared.Rows.{Rows}
 use Rattle.sqlite_ast.specs.declared.Conflict.TheVariants as conflict
 use Rattle.sqlite_ast.specs.declared.CreateTable as definition
@@ -7,7 +8,8 @@ use Rattle.sqlite_ast.specs.declared.Statement.TheVariants as written
 use Rattle.sqlite_schema.specs.declared.command.Command.TheVariants.{Insert, CreateTable}
 use Rattle.sqlite_schema.specs.declared.command.Source.{Source}
 use Rattle.sqlite_resolve.specs.Define as define
-use Rattle.sqlite_resolve.specs.Compile.{compiled, planned, meaning, timed, returning, command, shows, insert_or_abort, insert, create_table, creates, is_attached}
+use Rattle.sqlite_resolve.specs.Compile.{compiled, planned, meaning, timed, returning, command, shows, insert_or_abort, insert, create_table, creates}
+use Rattle.sqlite_resolve.specs.Compile.{is_attached}
 use Rattle.sql_front.proofs.Past.{unused}
 
 -- ---- INSERT .. VALUES
@@ -29,7 +31,8 @@ pub record Adds (text : List ℕ) (name : Name) (table : Table) (source : Source
 abbrev pub with_insert : Parsed → ℕ → Source → Compiled
 with_insert p at source = record { command = Insert at source; returning = None; names = p.names; formats = []; start = p.start; end = p.end; tail = p.tail }
 
-pub adds_known : (text : List ℕ) (name : Name) (table : Table) (source : Source) (a : Adds text name table source) (s : Schema) (at : ℕ) → Stands s name at (unstamped table) → compiled s text ≡ Ok (with_insert a.parsed at source)
+pub adds_known : (text : List ℕ) (name : Name) (table : Table) (source : Source) (a : Adds text name table source) (s : Schema) (at : ℕ)
+    → Stands s name at (unstamped table) → compiled s text ≡ Ok (with_insert a.parsed at source)
 unfolding compiled planned meaning timed returning command shows insert_or_abort insert
 adds_known text name table source a s at stands = rw (a.read) (rw (a.statement) (rw (a.formats) (rw (stands.named) (rw (stands.got) (rw (a.fits s))))))
 
@@ -49,7 +52,8 @@ pub record Makes (text : List ℕ) (name : Name) (table : Table) : Type 0 where
 abbrev pub with_create : Parsed → Compiled
 with_create p = record { command = CreateTable; returning = None; names = p.names; formats = []; start = p.start; end = p.end; tail = p.tail }
 
-pub makes_known : (text : List ℕ) (name : Name) (table : Table) (m : Makes text name table) (s : Schema) → is_used s name ≡ false → compiled s text ≡ Ok (with_create m.parsed)
+pub makes_known : (text : List ℕ) (name : Name) (table : Table) (m : Makes text name table) (s : Schema) → is_used s name ≡ false → compiled s text
+    ≡ Ok (with_create m.parsed)
 unfolding compiled planned meaning timed returning command create_table creates is_attached
 makes_known text name table m s free =
     let none = unused s m.made.name (subst (λ n. is_used s n ≡ false) (sym m.named) free) in

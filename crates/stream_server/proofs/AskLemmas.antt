@@ -1,5 +1,6 @@
 -- A message that isn't read to a request.
-use Rattle.stream_server.proofs.Common.{◌≡◌, ◌≢◌, ◌⊎◌, None, inl, inr, refl, sym, ap, ◌∙◌, Refusal, NoMemory, StoreFailed, CommandList, Asked, Rejected, Refused, MayAnswer, DeskState, StandsFor, AppliesAt}
+use Rattle.stream_server.proofs.Common.{◌≡◌, ◌≢◌, ◌⊎◌, None, inl, inr, refl, sym, ap, ◌∙◌, Refusal, NoMemory, StoreFailed, CommandList, Asked, Rejected}
+use Rattle.stream_server.proofs.Common.{Refused, MayAnswer, DeskState, StandsFor, AppliesAt}
 use Rattle.rollout_machine.specs.Answers.{answer}
 
 rejected_answer : (h : CommandList) (r : Refusal) → record { reply = Refused r; accepted = None } ≡ answer h (Rejected r)
@@ -13,7 +14,8 @@ may_refuse h asked r why other = elim why [
 ]
 
 -- the desk isn't touched
-pub refuses : {File : Type 0} (s : DeskState File) (asked : Asked) (r : Refusal) → (r ≡ NoMemory) ⊎ (asked ≡ Rejected r) → r ≢ StoreFailed → (h : CommandList) → StandsFor s h
+pub refuses : {File : Type 0} (s : DeskState File) (asked : Asked) (r : Refusal) → (r ≡ NoMemory) ⊎ (asked ≡ Rejected r) → r ≢ StoreFailed → (h : CommandList)
+    → StandsFor s h
     → AppliesAt h s asked (Refused r)
 refuses s asked r why other h stands = record {
   accepted = None;

@@ -1,5 +1,7 @@
 -- The names of other modules that the proofs here cite, passed on from one place. Declares nothing.
-pub use Rattle.std.proofs.Common.{◌≡◌, ℕ, ◌+◌, ◌-◌, ◌^◌, ◌<◌, ◌≤◌, min, Bool, true, false, cond, not, ◌&&◌, ◌≢◌, ◌⊎◌, List, [], ◌∷◌, ◌++◌, length, take, drop, IfOk, IfErr, nat_lt, slice_get, Some, None, Ok, Err, codes, All, Option, Result, Vec, bytes_eq, sym, refl, ap, ◌∙◌, subst, inl, inr, append_assoc, append-nil, arith, length-append, take-append-drop, rules}
+pub use Rattle.std.proofs.Common.{◌≡◌, ℕ, ◌+◌, ◌-◌, ◌^◌, ◌<◌, ◌≤◌, min, Bool, true, false, cond, not, ◌&&◌, ◌≢◌, ◌⊎◌, List, [], ◌∷◌, ◌++◌, length, take, drop}
+pub use Rattle.std.proofs.Common.{IfOk, IfErr, nat_lt, slice_get, Some, None, Ok, Err, codes, All, Option, Result, Vec, bytes_eq, sym, refl, ap, ◌∙◌, subst}
+pub use Rattle.std.proofs.Common.{inl, inr, append_assoc, append-nil, arith, length-append, take-append-drop, rules}
 pub use Rattle.std.proofs.KnownBytes.{Appends-nil, Appends-trans, Consumes-nil, Consumes-trans}
 pub use Rattle.std.proofs.lemmas.Bool.{false≢true}
 pub use Rattle.std.proofs.lemmas.List.Elements.{All-append, All-cons, All-head, All-nil, All-tail}
@@ -21,10 +23,12 @@ pub use Rattle.http_wire.specs.Watched.{has_failed, inner_of}
 pub use Rattle.http_wire.specs.declared.stream.End.{End}
 pub use Rattle.http_wire.specs.declared.stream.End.TheVariants.{Cut, Fault, Input}
 pub use Rattle.mgmt_api.specs.Table.{manage_route}
-pub use Rattle.stream_server.specs.Headline.{AnswersEnd, CutsDownload, Exits, Headline, HoldsFirstPart, IsRefusedAsStopped, IsTold, StoppedThroughout, Stops, Transcript}
+pub use Rattle.stream_server.specs.Headline.{AnswersEnd, CutsDownload, Exits, Headline, HoldsFirstPart, IsRefusedAsStopped, IsTold, StoppedThroughout, Stops}
+pub use Rattle.stream_server.specs.Headline.{Transcript}
 pub use Rattle.stream_server.specs.Interfaces.{end_text, is_for_devices, reading, reading_by, reply_text}
 pub use Rattle.stream_server.specs.Listening.{Keeps, KeepsOn, StopsAtStore}
-pub use Rattle.stream_server.specs.Parts.{Answers, AnswersOne, BeginsDownload, Broken, ByStopped, Comes, Conduct, CutsReply, GivesReply, IsToldWhole, SendsPart, Serves, ServesStream, Takes, Whole, running, stopped}
+pub use Rattle.stream_server.specs.Parts.{Answers, AnswersOne, BeginsDownload, Broken, ByStopped, Comes, Conduct, CutsReply, GivesReply, IsToldWhole}
+pub use Rattle.stream_server.specs.Parts.{SendsPart, Serves, ServesStream, Takes, Whole, running, stopped}
 pub use Rattle.stream_server.specs.Run.{Answering, ByMachine, Exchange, GoesOn, IsRun, accepted_in, messages_of, texts_of}
 pub use Rattle.stream_server.specs.declared.interface.Interface.{Interface}
 pub use Rattle.stream_server.specs.declared.served.ServeFault.{ServeFault}

@@ -1,5 +1,9 @@
 -- A reply with contents, piece by piece, and the exchange that it is.
-use Rattle.stream_server.proofs.Common.{◌≡◌, ◌≢◌, ◌≤◌, ◌⊎◌, ℕ, false, List, [], ◌∷◌, ◌++◌, length, take, drop, Vec, Option, Some, None, Ok, Err, inl, inr, refl, sym, ap, ◌∙◌, subst, arith, append_assoc, append-nil, take-append-drop, codes, Appends, Appends-nil, Appends-trans, false≢true, HandsPieces, Sends, sent, WireMessage, Refusal, StoreFailed, MayAnswer, CommandList, Bytes, Refused, ContentsShown, DeskState, StandsFor, Interface, ServeFault, reading, Conduct, running, BeginsDownload, Comes, Serves}
+use Rattle.stream_server.proofs.Common.{◌≡◌, ◌≢◌, ◌≤◌, ◌⊎◌, ℕ, false, List, [], ◌∷◌, ◌++◌, length, take, drop, Vec, Option, Some, None, Ok, Err, inl, inr}
+use Rattle.stream_server.proofs.Common.{refl, sym, ap, ◌∙◌, subst, arith, append_assoc, append-nil, take-append-drop, codes, Appends, Appends-nil}
+use Rattle.stream_server.proofs.Common.{Appends-trans, false≢true, HandsPieces, Sends, sent, WireMessage, Refusal, StoreFailed, MayAnswer, CommandList, Bytes}
+use Rattle.stream_server.proofs.Common.{Refused, ContentsShown, DeskState, StandsFor, Interface, ServeFault, reading, Conduct, running, BeginsDownload, Comes}
+use Rattle.stream_server.proofs.Common.{Serves}
 use Rattle.std.proofs.Math.Seq.{take-length}
 use Rattle.std.specs.declared.alloc.Global.{Global}
 use Rattle.std.specs.Fmt.{decimal}
@@ -13,7 +17,8 @@ use Rattle.stream_server.specs.Interfaces.{reply_text}
 use Rattle.stream_server.proofs.PartLemmas.{whole_one, broken_one}
 
 -- the head is made of what stands before the size, the size, and what stands behind it
-pub head_text : (size : ℕ) → (codes "HTTP/1.1 200 OK\r\nContent-Type: application/octet-stream\r\nContent-Length: " ++ decimal size) ++ codes "\r\n\r\n" ≡ contents_head size
+pub head_text : (size : ℕ) → (codes "HTTP/1.1 200 OK\r\nContent-Type: application/octet-stream\r\nContent-Length: " ++ decimal size) ++ codes "\r\n\r\n"
+    ≡ contents_head size
 unfolding contents_head reason
 head_text size = simp append_assoc
 
@@ -28,7 +33,8 @@ begun_or_not : (contents : Bytes) (part : List ℕ) → (part ≡ []) ⊎ Begins
 begun_or_not contents [] = inl refl
 begun_or_not contents (x ∷ part) = inr (record { contents = contents; shows = refl; none = refl; begun = omega arith })
 
-module _ (File : Type 0) (interface : Interface) (new : DeskState File) (m : WireMessage) (h : CommandList) (contents : Bytes) (may : MayAnswer h (reading interface m) (ContentsShown contents) None) where
+module _ (File : Type 0) (interface : Interface) (new : DeskState File) (m : WireMessage) (h : CommandList) (contents : Bytes)
+    (may : MayAnswer h (reading interface m) (ContentsShown contents) None) where
   abbrev C : Conduct File
   C = running File interface
 
@@ -41,17 +47,27 @@ module _ (File : Type 0) (interface : Interface) (new : DeskState File) (m : Wir
     reply_text m (ContentsShown contents),
     subst (λ (t : List ℕ). Appends a b t) (sym same) w.1,
     whole_one File C h new m (ContentsShown contents)
-        (record { accepted = None; answers = may; goes_to = record { in_doubt = λ e. absurd (not_refused StoreFailed e); stands = λ goes. w.0 } }) (not_refused StoreFailed),
+        (record { accepted = None; answers = may; goes_to = record { in_doubt = λ e. absurd (not_refused StoreFailed e); stands = λ goes. w.0 } })
+        (not_refused StoreFailed),
   )
   comes a b text (Some serve_fault.Read) same w = absurd w.4
-  comes a b text (Some serve_fault.Write) same w =
-      (w.0, w.3, broken_one File C h new m (ContentsShown contents) None w.0 w.1 serve_fault.Write may (same ∙ w.2) (record { in_doubt = λ e. absurd (not_refused StoreFailed e); stands = λ goes. w.4 }))
-  comes a b text (Some serve_fault.Store) same w =
-      (w.0, w.3, broken_one File C h new m (ContentsShown contents) None w.0 w.1 serve_fault.Store may (same ∙ w.2) (w.4.0, inr (record { contents = contents; shows = refl; none = refl; begun = w.4.1 })))
+  comes a b text (Some serve_fault.Write) same w = (
+    w.0,
+    w.3,
+    broken_one File C h new m (ContentsShown contents) None w.0 w.1 serve_fault.Write may (same ∙ w.2)
+        (record { in_doubt = λ e. absurd (not_refused StoreFailed e); stands = λ goes. w.4 }),
+  )
+  comes a b text (Some serve_fault.Store) same w = (
+    w.0,
+    w.3,
+    broken_one File C h new m (ContentsShown contents) None w.0 w.1 serve_fault.Store may (same ∙ w.2)
+        (w.4.0, inr (record { contents = contents; shows = refl; none = refl; begun = w.4.1 })),
+  )
   comes a b text (Some serve_fault.Memory) same w =
       (w.0, w.3, broken_one File C h new m (ContentsShown contents) None w.0 w.1 serve_fault.Memory may (same ∙ w.2) (w.4, begun_or_not contents w.0))
 
-pub serves_download : {File : Type 0} (interface : Interface) (old begun new : DeskState File) (m : WireMessage) (d : Download) (a b : Option (List ℕ)) (fault : Option ServeFault)
+pub serves_download : {File : Type 0} (interface : Interface) (old begun new : DeskState File) (m : WireMessage) (d : Download) (a b : Option (List ℕ))
+    (fault : Option ServeFault)
     → (begun.is_clean → old.is_clean) → Begins old begun (reading interface m) (Contents d) → old.is_stopped ≡ false
     → (new.is_clean → begun.is_clean) → SendsContents begun new a b d fault → Serves interface old new a b (m ∷ []) fault
 serves_download interface old begun new m d a b fault clean_before begins runs clean_after sends = record {
@@ -59,8 +75,10 @@ serves_download interface old begun new m d a b fault clean_before begins runs c
   by_machine = λ h clean stands.
       let at = begins h (clean_after clean) stands in
       let not_failed : ContentsShown at.contents ≢ Refused StoreFailed = λ e. cc in
-      let same : reply_text m (ContentsShown at.contents) ≡ contents_head d.size ++ at.contents = contents_text m at.contents ∙ ap (λ (n : ℕ). contents_head n ++ at.contents) (sym at.sends.size) in
-      comes _ interface new m h at.contents (inr (inr (not_failed, sym at.answer))) a b (contents_head d.size ++ at.contents) fault same (sends h at.contents clean at.stands at.sends at.start);
+      let same : reply_text m (ContentsShown at.contents) ≡ contents_head d.size ++ at.contents = contents_text m at.contents
+      ∙ ap (λ (n : ℕ). contents_head n ++ at.contents) (sym at.sends.size) in
+      comes _ interface new m h at.contents (inr (inr (not_failed, sym at.answer))) a b (contents_head d.size ++ at.contents) fault same
+      (sends h at.contents clean at.stands at.sends at.start);
   by_stopped = λ h none over. absurd (false≢true (sym runs ∙ over));
   stays = λ over. absurd (false≢true (sym runs ∙ over));
 }
@@ -89,7 +107,8 @@ module _ {File : Type 0} (old : DeskState File) (out : Option (List ℕ)) (d : D
   }
 
   -- the reply stopped in its head
-  pub head_cut : (a : Option (List ℕ)) (part left : List ℕ) → contents_head d.size ≡ part ++ left → Appends out a part → SendsContents old old out a d (Some serve_fault.Write)
+  pub head_cut : (a : Option (List ℕ)) (part left : List ℕ) → contents_head d.size ≡ part ++ left → Appends out a part
+      → SendsContents old old out a d (Some serve_fault.Write)
   head_cut a part left whole written h contents clean stands sends start =
       (part, left ++ contents, ap (λ (t : List ℕ). t ++ contents) whole ∙ append_assoc part left contents, written, stands)
 
@@ -107,12 +126,14 @@ module _ {File : Type 0} (old : DeskState File) (out : Option (List ℕ)) (d : D
           let all = Appends-trans out a b (contents_head d.size ++ take (sent p) contents) piece.items so_far.2 written in (
             next.0,
             next.1,
-            subst (λ (x : List ℕ). Appends out b x) (append_assoc (contents_head d.size) (take (sent p) contents) piece.items ∙ ap (λ (x : List ℕ). contents_head d.size ++ x) (sym next.2.joined)) all,
+            subst (λ (x : List ℕ). Appends out b x) (append_assoc (contents_head d.size) (take (sent p) contents) piece.items
+                ∙ ap (λ (x : List ℕ). contents_head d.size ++ x) (sym next.2.joined)) all,
           );
     }
 
     -- the reply stopped in a piece
-    pub piece_cut : (b : Option (List ℕ)) (piece : Vec ℕ Global) (part left : List ℕ) → HandsPieces s t p q (Ok (Some piece)) → piece.items ≡ part ++ left → Appends a b part
+    pub piece_cut : (b : Option (List ℕ)) (piece : Vec ℕ Global) (part left : List ℕ) → HandsPieces s t p q (Ok (Some piece)) → piece.items ≡ part ++ left
+        → Appends a b part
         → SendsContents old t out b d (Some serve_fault.Write)
     piece_cut b piece part left hands whole written h contents is stands sends start =
         let so_far = on.handed h contents (clean is) stands sends start in
@@ -120,7 +141,8 @@ module _ {File : Type 0} (old : DeskState File) (out : Option (List ℕ)) (d : D
         let head = contents_head d.size in
         let before = take (sent p) contents in
         let behind = drop (sent q) contents in
-        let text : contents ≡ (before ++ (part ++ left)) ++ behind = sym (take-append-drop (sent q) contents) ∙ ap (λ (x : List ℕ). x ++ behind) (next.2.joined ∙ ap (λ (x : List ℕ). before ++ x) whole) in (
+        let text : contents ≡ (before ++ (part ++ left)) ++ behind = sym (take-append-drop (sent q) contents)
+        ∙ ap (λ (x : List ℕ). x ++ behind) (next.2.joined ∙ ap (λ (x : List ℕ). before ++ x) whole) in (
           (head ++ before) ++ part,
           left ++ behind,
           ap (λ (x : List ℕ). head ++ x) text ∙ simp append_assoc,
@@ -139,7 +161,8 @@ module _ {File : Type 0} (old : DeskState File) (out : Option (List ℕ)) (d : D
 
     -- what was written of the text, and what was left
     cut_at : (contents : Bytes) → contents_head d.size ++ contents ≡ (contents_head d.size ++ take (sent p) contents) ++ drop (sent p) contents
-    cut_at contents = ap (λ (x : List ℕ). contents_head d.size ++ x) (sym (take-append-drop (sent p) contents)) ∙ sym (append_assoc (contents_head d.size) (take (sent p) contents) (drop (sent p) contents))
+    cut_at contents = ap (λ (x : List ℕ). contents_head d.size ++ x) (sym (take-append-drop (sent p) contents))
+        ∙ sym (append_assoc (contents_head d.size) (take (sent p) contents) (drop (sent p) contents))
 
     -- memory was wanted, or the store failed
     pub interrupted : (refusal : Refusal) → HandsPieces s t p q (Err refusal) → SendsContents old t out a d (Some (fault_at refusal))
@@ -151,5 +174,6 @@ module _ {File : Type 0} (old : DeskState File) (out : Option (List ℕ)) (d : D
         let text = contents_head d.size ++ contents in
         elim next.1 [
           | inl memory ↦ subst (λ (r : Refusal). WritesOut t h out a text (Some (fault_at r))) (sym memory.0) (part, left, cut_at contents, so_far.2, memory.1)
-          | inr store ↦ subst (λ (r : Refusal). WritesOut t h out a text (Some (fault_at r))) (sym store.0) (part, left, cut_at contents, so_far.2, (store.1, head_begun d.size (take (sent p) contents)))
+          | inr store ↦ subst (λ (r : Refusal). WritesOut t h out a text (Some (fault_at r))) (sym store.0)
+              (part, left, cut_at contents, so_far.2, (store.1, head_begun d.size (take (sent p) contents)))
         ]

@@ -1,5 +1,9 @@
 -- The exits of the loop, for a desk of any conduct.
-use Rattle.stream_server.proofs.Common.{◌≡◌, ◌≢◌, ℕ, ◌+◌, ◌-◌, ◌^◌, ◌<◌, ◌≤◌, min, Bool, true, false, List, [], ◌++◌, length, Option, Some, None, Result, Ok, Err, inl, refl, sym, ap, ◌∙◌, subst, append-nil, arith, length-append, Appends, Consumes, IsAtEnd, Appends-nil, Consumes-nil, Consumes-trans, false≢true, End, Input, Cut, Fault, WireMessage, IsUndecided, IsFault, Begins, EndsAs, CommandList, Refused, DeskState, ServeFault, Served, end_text, Exchange, messages_of, texts_of, GoesOn, AnswersEnd, Exits, IsTold, Conduct, Answers, SendsPart}
+use Rattle.stream_server.proofs.Common.{◌≡◌, ◌≢◌, ℕ, ◌+◌, ◌-◌, ◌^◌, ◌<◌, ◌≤◌, min, Bool, true, false, List, [], ◌++◌, length, Option, Some, None, Result, Ok}
+use Rattle.stream_server.proofs.Common.{Err, inl, refl, sym, ap, ◌∙◌, subst, append-nil, arith, length-append, Appends, Consumes, IsAtEnd, Appends-nil}
+use Rattle.stream_server.proofs.Common.{Consumes-nil, Consumes-trans, false≢true, End, Input, Cut, Fault, WireMessage, IsUndecided, IsFault, Begins, EndsAs}
+use Rattle.stream_server.proofs.Common.{CommandList, Refused, DeskState, ServeFault, Served, end_text, Exchange, messages_of, texts_of, GoesOn, AnswersEnd}
+use Rattle.stream_server.proofs.Common.{Exits, IsTold, Conduct, Answers, SendsPart}
 use Rattle.std.proofs.lemmas.List.{length-map}
 use Rattle.http_wire.specs.declared.fault.WireFault.{WireFault}
 use Rattle.stream_server.specs.declared.served.ServeFault.TheVariants as serve_fault
@@ -12,7 +16,8 @@ use Rattle.stream_server.proofs.HeadlineLemmas.{AtExit, whole_exit, broken_exit}
 pub no_more : (stream a b : Option (List ℕ)) (fed : List ℕ) → Consumes stream a fed → Consumes a b [] → Consumes stream b fed
 no_more stream a b fed before step = subst (λ (t : List ℕ). Consumes stream b t) (append-nil fed) (Consumes-trans stream a b fed [] before step)
 
-counted : (run : List Exchange) (ms : List WireMessage) (answered : ℕ) → messages_of run ≡ ms → answered ≡ min (length ms) (2 ^ 64 - 1) → answered ≡ min (length run) (2 ^ 64 - 1)
+counted : (run : List Exchange) (ms : List WireMessage) (answered : ℕ) → messages_of run ≡ ms → answered ≡ min (length ms) (2 ^ 64 - 1) → answered
+    ≡ min (length run) (2 ^ 64 - 1)
 counted run ms answered same e = e ∙ ap (λ (n : ℕ). min n (2 ^ 64 - 1)) (sym (ap length same) ∙ length-map run (λ (x : Exchange). x.message))
 
 module _ (File : Type 0) (C : Conduct File) (old new : DeskState File) (stream : Option (List ℕ)) where
@@ -24,10 +29,12 @@ module _ (File : Type 0) (C : Conduct File) (old new : DeskState File) (stream :
       let r = answers h premise stands in broken_exit File C h new stream unread out out_new out_new given rest ms r.0 fault r.2 reads begins r.1
 
   -- every message was answered, and then a part of a fault's reply was written
-  exits_whole : (unread out middle out_new : Option (List ℕ)) (given rest : List ℕ) (ms : List WireMessage) (part left : List ℕ) (end : End) (result : Result Served ServeFault)
+  exits_whole : (unread out middle out_new : Option (List ℕ)) (given rest : List ℕ) (ms : List WireMessage) (part left : List ℕ) (end : End)
+      (result : Result Served ServeFault)
       → Consumes stream unread given → Begins given ms rest → Answers C old new out middle ms None → Appends middle out_new part → end_text end ≡ part ++ left
       → ((run : List Exchange) → GoesOn run → AnswersEnd run rest end)
-      → ((run : List Exchange) (written : List ℕ) → messages_of run ≡ ms → GoesOn run → written ≡ texts_of run ++ part → Exits stream unread run written rest result)
+      → ((run : List Exchange) (written : List ℕ) → messages_of run ≡ ms → GoesOn run → written ≡ texts_of run ++ part
+      → Exits stream unread run written rest result)
       → result ≢ Err serve_fault.Store
       → (h : CommandList) → C.premise new → C.stands old h → AtExit C h new stream unread out out_new result
   exits_whole unread out middle out_new given rest ms part left end result reads begins answers more cut ends exit other h premise stands =
@@ -47,51 +54,71 @@ module _ (File : Type 0) (C : Conduct File) (old new : DeskState File) (stream :
       (λ run written same goes e. exit run written same goes (e ∙ append-nil (texts_of run))) other
 
   pub exits_fault : (unread out middle out_new : Option (List ℕ)) (given rest : List ℕ) (ms : List WireMessage) (fault : WireFault) (answered : ℕ)
-      → Consumes stream unread given → Begins given ms rest → Answers C old new out middle ms None → Appends middle out_new (refusal_text (refusal_of fault)) → IsFault rest fault
+      → Consumes stream unread given → Begins given ms rest → Answers C old new out middle ms None → Appends middle out_new (refusal_text (refusal_of fault))
+      → IsFault rest fault
       → answered ≡ min (length ms) (2 ^ 64 - 1)
       → (h : CommandList) → C.premise new → C.stands old h → AtExit C h new stream unread out out_new (Ok (record { answered = answered; end = Fault fault }))
   exits_fault unread out middle out_new given rest ms fault answered reads begins answers more is count =
       let text : List ℕ = refusal_text (refusal_of fault) in
-      exits_whole unread out middle out_new given rest ms text [] (Fault fault) (Ok (record { answered = answered; end = Fault fault })) reads begins answers more
+      exits_whole unread out middle out_new given rest ms text [] (Fault fault) (Ok (record { answered = answered; end = Fault fault })) reads begins answers
+      more
       (sym (append-nil text)) (λ run goes. (goes, is))
       (λ run written same goes e. record { all_written = e; goes_on = goes; answered = counted run ms answered same count; ended = is }) (λ e. cc)
 
-  pub exits_fault_part : (unread out middle out_new : Option (List ℕ)) (given rest : List ℕ) (ms : List WireMessage) (fault : WireFault) (failed : Bool) (stop : ServeFault)
-      → Consumes stream unread given → Begins given ms rest → Answers C old new out middle ms None → SendsPart middle out_new (refusal_text (refusal_of fault)) (Refused (refusal_of fault)) failed stop → IsFault rest fault
+  pub exits_fault_part : (unread out middle out_new : Option (List ℕ)) (given rest : List ℕ) (ms : List WireMessage) (fault : WireFault) (failed : Bool)
+      (stop : ServeFault)
+      → Consumes stream unread given → Begins given ms rest → Answers C old new out middle ms None
+      → SendsPart middle out_new (refusal_text (refusal_of fault)) (Refused (refusal_of fault)) failed stop → IsFault rest fault
       → (h : CommandList) → C.premise new → C.stands old h → AtExit C h new stream unread out out_new (Err stop)
   exits_fault_part unread out middle out_new given rest ms fault failed serve_fault.Read reads begins answers part is = absurd part
   exits_fault_part unread out middle out_new given rest ms fault failed serve_fault.Store reads begins answers part is = absurd part
   exits_fault_part unread out middle out_new given rest ms fault failed serve_fault.Write reads begins answers part is =
-      exits_whole unread out middle out_new given rest ms part.1 part.2 (Fault fault) (Err serve_fault.Write) reads begins answers part.4 part.3 (λ run goes. (goes, is))
+      exits_whole unread out middle out_new given rest ms part.1 part.2 (Fault fault) (Err serve_fault.Write) reads begins answers part.4 part.3
+      (λ run goes. (goes, is))
       (λ run written same goes e. tt) (λ e. cc)
   exits_fault_part unread out middle out_new given rest ms fault failed serve_fault.Memory reads begins answers part is =
-      exits_whole unread out middle out_new given rest ms [] (refusal_text (refusal_of fault)) (Fault fault) (Err serve_fault.Memory) reads begins answers part.1 refl (λ run goes. (goes, is))
+      exits_whole unread out middle out_new given rest ms [] (refusal_text (refusal_of fault)) (Fault fault) (Err serve_fault.Memory) reads begins answers
+      part.1 refl (λ run goes. (goes, is))
       (λ run written same goes e. inl (goes, e ∙ append-nil (texts_of run))) (λ e. cc)
 
   pub exits_unread : (a unread out out_new : Option (List ℕ)) (fed held held_new : List ℕ) (ms : List WireMessage) (failed : Bool) (stop : ServeFault)
       → Consumes stream a fed → Begins fed ms held → Answers C old new out out_new ms None → IsUndecided held → ReadsOn a unread held held_new failed (Err stop)
       → (h : CommandList) → C.premise new → C.stands old h → AtExit C h new stream unread out out_new (Err stop)
   exits_unread a unread out out_new fed held held_new ms failed serve_fault.Read reads begins answers partial read =
-      exits_all unread out out_new fed held ms (Err serve_fault.Read) (no_more stream a unread fed reads read.0) begins answers (λ run written same goes e. (goes, e, partial)) (λ e. cc)
+      exits_all unread out out_new fed held ms (Err serve_fault.Read) (no_more stream a unread fed reads read.0) begins answers
+      (λ run written same goes e. (goes, e, partial)) (λ e. cc)
   exits_unread a unread out out_new fed held held_new ms failed serve_fault.Write reads begins answers partial read = absurd read
   exits_unread a unread out out_new fed held held_new ms failed serve_fault.Store reads begins answers partial read = absurd read
   exits_unread a unread out out_new fed held held_new ms failed serve_fault.Memory reads begins answers partial read =
-      exits_all unread out out_new (fed ++ read.0) read.2 ms (Err serve_fault.Memory) (Consumes-trans stream a unread fed read.0 reads read.1) (read.3 fed ms begins) answers
+      exits_all unread out out_new (fed ++ read.0) read.2 ms (Err serve_fault.Memory) (Consumes-trans stream a unread fed read.0 reads read.1)
+      (read.3 fed ms begins) answers
       (λ run written same goes e. inl (goes, e)) (λ e. cc)
 
   pub exits_input : (a unread out out_new : Option (List ℕ)) (fed : List ℕ) (ms : List WireMessage) (answered : ℕ)
-      → Consumes stream a fed → Begins fed ms [] → Answers C old new out out_new ms None → Consumes a unread [] → IsAtEnd unread → answered ≡ min (length ms) (2 ^ 64 - 1)
+      → Consumes stream a fed → Begins fed ms [] → Answers C old new out out_new ms None → Consumes a unread [] → IsAtEnd unread → answered
+      ≡ min (length ms) (2 ^ 64 - 1)
       → (h : CommandList) → C.premise new → C.stands old h → AtExit C h new stream unread out out_new (Ok (record { answered = answered; end = Input }))
   exits_input a unread out out_new fed ms answered reads begins answers none at_end count =
       exits_all unread out out_new fed [] ms (Ok (record { answered = answered; end = Input })) (no_more stream a unread fed reads none) begins answers
-      (λ run written same goes e. record { all_written = e ∙ sym (append-nil (texts_of run)); goes_on = goes; answered = counted run ms answered same count; ended = (refl, at_end) }) (λ e. cc)
+      (λ run written same goes e. record {
+        all_written = e ∙ sym (append-nil (texts_of run));
+        goes_on = goes;
+        answered = counted run ms answered same count;
+        ended = (refl, at_end);
+      }) (λ e. cc)
 
   pub exits_cut : (unread out out_new : Option (List ℕ)) (fed rest : List ℕ) (ms : List WireMessage) (answered : ℕ)
-      → Consumes stream unread fed → Begins fed ms rest → Answers C old new out out_new ms None → (IsTold stream → EndsAs rest Cut × IsAtEnd unread) → answered ≡ min (length ms) (2 ^ 64 - 1)
+      → Consumes stream unread fed → Begins fed ms rest → Answers C old new out out_new ms None → (IsTold stream → EndsAs rest Cut × IsAtEnd unread) → answered
+      ≡ min (length ms) (2 ^ 64 - 1)
       → (h : CommandList) → C.premise new → C.stands old h → AtExit C h new stream unread out out_new (Ok (record { answered = answered; end = Cut }))
   exits_cut unread out out_new fed rest ms answered reads begins answers ended count =
       exits_all unread out out_new fed rest ms (Ok (record { answered = answered; end = Cut })) reads begins answers
-      (λ run written same goes e. record { all_written = e ∙ sym (append-nil (texts_of run)); goes_on = goes; answered = counted run ms answered same count; ended = ended }) (λ e. cc)
+      (λ run written same goes e. record {
+        all_written = e ∙ sym (append-nil (texts_of run));
+        goes_on = goes;
+        answered = counted run ms answered same count;
+        ended = ended;
+      }) (λ e. cc)
 
   -- nothing was read
   pub exits_unserved : (out : Option (List ℕ)) → Answers C old new out out [] None
@@ -108,10 +135,12 @@ too_many (Some xs) (Some ys) fed reads many told =
     let all : length xs ≡ length fed + length ys = ap length reads ∙ length-append fed ys in
     omega (arith, all, many, told)
 
-pub counts_on : (answered more count : ℕ) (ms ns : List WireMessage) → answered ≡ min (length ms) (2 ^ 64 - 1) → count ≡ min (answered + length ns) (2 ^ 64 - 1) → count ≡ min (length (ms ++ ns)) (2 ^ 64 - 1)
+pub counts_on : (answered more count : ℕ) (ms ns : List WireMessage) → answered ≡ min (length ms) (2 ^ 64 - 1) → count ≡ min (answered + length ns) (2 ^ 64 - 1)
+    → count ≡ min (length (ms ++ ns)) (2 ^ 64 - 1)
 counts_on answered more count ms ns a b = omega (arith, a, b, length-append ms ns)
 
-pub read_end : (a b : Option (List ℕ)) (held held_new : List ℕ) (failed more : Bool) → more ≡ false → ReadsOn a b held held_new failed (Ok more) → Consumes a b [] × IsAtEnd b × (held_new ≡ held)
+pub read_end : (a b : Option (List ℕ)) (held held_new : List ℕ) (failed more : Bool) → more ≡ false → ReadsOn a b held held_new failed (Ok more)
+    → Consumes a b [] × IsAtEnd b × (held_new ≡ held)
 read_end a b held held_new failed true e read = absurd (false≢true (sym e))
 read_end a b held held_new failed false e read = read
 

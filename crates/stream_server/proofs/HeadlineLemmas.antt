@@ -1,5 +1,10 @@
 -- The headline from the parts.
-use Rattle.stream_server.proofs.Common.{All, ◌≡◌, ◌≢◌, ℕ, ◌⊎◌, Bool, true, false, List, [], ◌∷◌, ◌++◌, Option, None, Result, Ok, Err, inl, inr, refl, sym, ap, ◌∙◌, subst, append_assoc, append-nil, StoreFailed, Command, CommandList, followed_by, Make, Reply, Refused, one, DeskState, IsInDoubt, Interface, ServeFault, Served, Exchange, accepted_in, texts_of, IsRun, AnswersEnd, CutsDownload, Exits, HoldsFirstPart, Stops, Transcript, Headline, IsRefusedAsStopped, BeginsDownload, Conduct, Whole, Broken, CutsReply, running, stopped, ByStopped, Answers, Serves, ServesStream, WireMessage, Begins, End, Input, Appends, Consumes, Appends-trans, All-nil, All-cons, reply_text, end_text}
+use Rattle.stream_server.proofs.Common.{All, ◌≡◌, ◌≢◌, ℕ, ◌⊎◌, Bool, true, false, List, [], ◌∷◌, ◌++◌, Option, None, Result, Ok, Err, inl, inr, refl, sym, ap}
+use Rattle.stream_server.proofs.Common.{◌∙◌, subst, append_assoc, append-nil, StoreFailed, Command, CommandList, followed_by, Make, Reply, Refused, one}
+use Rattle.stream_server.proofs.Common.{DeskState, IsInDoubt, Interface, ServeFault, Served, Exchange, accepted_in, texts_of, IsRun, AnswersEnd, CutsDownload}
+use Rattle.stream_server.proofs.Common.{Exits, HoldsFirstPart, Stops, Transcript, Headline, IsRefusedAsStopped, BeginsDownload, Conduct, Whole, Broken}
+use Rattle.stream_server.proofs.Common.{CutsReply, running, stopped, ByStopped, Answers, Serves, ServesStream, WireMessage, Begins, End, Input, Appends}
+use Rattle.stream_server.proofs.Common.{Consumes, Appends-trans, All-nil, All-cons, reply_text, end_text}
 use Rattle.stream_server.specs.declared.served.ServeFault.TheVariants as serve_fault
 use Rattle.std.proofs.lemmas.List.{same_from_push}
 use Rattle.stream_server.proofs.RunLemmas.{accepted_append, texts_append, led}
@@ -21,10 +26,13 @@ place (w ∷ front) last (y ∷ before) x behind e =
     elim (place front last before x behind tail) [ inl same ↦ inl same | inr found ↦ inr (found.0, (λ i. head i ∷ found.1 i)) ]
 
 -- the commands of a list are those up to an exchange and those after it
-up_to : (xs before : List Exchange) (x : Exchange) (behind : List Exchange) → xs ≡ before ++ x ∷ behind → accepted_in xs ≡ accepted_in before ++ one x.accepted ++ accepted_in behind
-up_to xs before x behind e = ap accepted_in e ∙ accepted_append before (x ∷ behind) ∙ sym (append_assoc (accepted_in before) (one x.accepted) (accepted_in behind))
+up_to : (xs before : List Exchange) (x : Exchange) (behind : List Exchange) → xs ≡ before ++ x ∷ behind → accepted_in xs
+    ≡ accepted_in before ++ one x.accepted ++ accepted_in behind
+up_to xs before x behind e = ap accepted_in e ∙ accepted_append before (x ∷ behind)
+    ∙ sym (append_assoc (accepted_in before) (one x.accepted) (accepted_in behind))
 
-after_last : (h : CommandList) (front : List Exchange) (last : Exchange) → followed_by (followed_by h (accepted_in front)) (one last.accepted) ≡ followed_by h (accepted_in (front ++ last ∷ []))
+after_last : (h : CommandList) (front : List Exchange) (last : Exchange) → followed_by (followed_by h (accepted_in front)) (one last.accepted)
+    ≡ followed_by h (accepted_in (front ++ last ∷ []))
 after_last h front last = ap (followed_by (followed_by h (accepted_in front))) (sym (append-nil (one last.accepted))) ∙ led h front (last ∷ [])
 
 module _ (File : Type 0) (s : DeskState File) (h : CommandList) where
@@ -39,7 +47,8 @@ module _ (File : Type 0) (s : DeskState File) (h : CommandList) where
   }
 
   -- the last one's command isn't in the file
-  one_lost : (front : List Exchange) (last : Exchange) (written : List ℕ) (file : File) → last.reply ≡ Refused StoreFailed → s.holds file (followed_by h (accepted_in front))
+  one_lost : (front : List Exchange) (last : Exchange) (written : List ℕ) (file : File) → last.reply ≡ Refused StoreFailed
+      → s.holds file (followed_by h (accepted_in front))
       → HoldsFirstPart s h (front ++ last ∷ []) written file
   one_lost front last written file store holds = record {
     kept = accepted_in front;
@@ -55,7 +64,8 @@ module _ (File : Type 0) (s : DeskState File) (h : CommandList) where
 
 -- ---- what was read and written
 
-pub transcript_as : {P Q : List Exchange → Type 0} (stream unread out out_new : Option (List ℕ)) (result : Result Served ServeFault) → ((run : List Exchange) → P run → Q run)
+pub transcript_as : {P Q : List Exchange → Type 0} (stream unread out out_new : Option (List ℕ)) (result : Result Served ServeFault)
+    → ((run : List Exchange) → P run → Q run)
     → Transcript P stream unread out out_new result → Transcript Q stream unread out out_new result
 transcript_as stream unread out out_new result follows t = record {
   given = t.given;
@@ -79,7 +89,8 @@ all_refused h [] is = All-nil IsRefusedAsStopped
 all_refused h (x ∷ xs) is = All-cons IsRefusedAsStopped x xs is.0 (all_refused (followed_by h (one x.accepted)) xs is.2)
 
 -- where the desk is, seen from the run: it goes on, or it is stopped and its last command, if there is one, is in doubt
-pub record GoesOnAfter {File : Type 0} (C : Conduct File) (h : CommandList) (s : DeskState File) (run : List Exchange) (result : Result Served ServeFault) : Type 0 where
+pub record GoesOnAfter {File : Type 0} (C : Conduct File) (h : CommandList) (s : DeskState File) (run : List Exchange) (result : Result Served ServeFault) :
+    Type 0 where
   pub stands : C.stands s (followed_by h (accepted_in run))
   pub not_store : result ≢ Err serve_fault.Store
 
@@ -91,7 +102,8 @@ pub record IsInDoubtAfter {File : Type 0} (h : CommandList) (s : DeskState File)
   pub doubt : IsInDoubt s (followed_by h (accepted_in before)) last.accepted
   pub stopped_by : (result ≡ Err serve_fault.Store) ⊎ (result ≡ Err serve_fault.Write)
 
-pub record AtExit {File : Type 0} (C : Conduct File) (h : CommandList) (s : DeskState File) (stream unread out out_new : Option (List ℕ)) (result : Result Served ServeFault) : Type 0 where
+pub record AtExit {File : Type 0} (C : Conduct File) (h : CommandList) (s : DeskState File) (stream unread out out_new : Option (List ℕ))
+    (result : Result Served ServeFault) : Type 0 where
   pub transcript : Transcript (IsRun C.answers h) stream unread out out_new result
   pub after : GoesOnAfter C h s transcript.run result ⊎ IsInDoubtAfter h s transcript.run result
 
@@ -102,15 +114,18 @@ stops_while_standing is_stopped (Err serve_fault.Write) runs other = tt
 stops_while_standing is_stopped (Err serve_fault.Memory) runs other = runs
 stops_while_standing is_stopped (Err serve_fault.Store) runs other = absurd (other refl)
 
-stops_in_doubt : (is_stopped : Bool) (result : Result Served ServeFault) → is_stopped ≡ true → (result ≡ Err serve_fault.Store) ⊎ (result ≡ Err serve_fault.Write) → Stops is_stopped result
+stops_in_doubt : (is_stopped : Bool) (result : Result Served ServeFault) → is_stopped ≡ true → (result ≡ Err serve_fault.Store)
+    ⊎ (result ≡ Err serve_fault.Write) → Stops is_stopped result
 stops_in_doubt is_stopped result over (inl store) = subst (λ (r : Result Served ServeFault). Stops is_stopped r) (sym store) over
 stops_in_doubt is_stopped result over (inr write) = subst (λ (r : Result Served ServeFault). Stops is_stopped r) (sym write) tt
 
 -- nothing was accepted last
-none_last : (h : CommandList) (before : List Exchange) (last : Exchange) → last.accepted ≡ None → followed_by h (accepted_in before) ≡ followed_by h (accepted_in (before ++ last ∷ []))
+none_last : (h : CommandList) (before : List Exchange) (last : Exchange) → last.accepted ≡ None → followed_by h (accepted_in before)
+    ≡ followed_by h (accepted_in (before ++ last ∷ []))
 none_last h before last none = ap (λ (a : Option Command). followed_by (followed_by h (accepted_in before)) (one a)) (sym none) ∙ after_last h before last
 
-kept_in_doubt : {File : Type 0} (s : DeskState File) (h : CommandList) (before : List Exchange) (last : Exchange) (written : List ℕ) → (last.reply ≡ Refused StoreFailed) ⊎ (last.accepted ≡ None)
+kept_in_doubt : {File : Type 0} (s : DeskState File) (h : CommandList) (before : List Exchange) (last : Exchange) (written : List ℕ)
+    → (last.reply ≡ Refused StoreFailed) ⊎ (last.accepted ≡ None)
     → IsInDoubt s (followed_by h (accepted_in before)) last.accepted → (file : File) → s.may_leave file → HoldsFirstPart s h (before ++ last ∷ []) written file
 kept_in_doubt s h before last written lacks doubt file leaves = elim (doubt.crash file leaves) [
   | inl old ↦ elim lacks [
@@ -120,7 +135,8 @@ kept_in_doubt s h before last written lacks doubt file leaves = elim (doubt.cras
   | inr new ↦ all_kept _ s h (before ++ last ∷ []) written file (subst (λ (k : CommandList). s.holds file k) (after_last h before last) new)
 ]
 
-headline_of : {File : Type 0} (interface : Interface) (h : CommandList) (s : DeskState File) (stream unread out out_new : Option (List ℕ)) (result : Result Served ServeFault)
+headline_of : {File : Type 0} (interface : Interface) (h : CommandList) (s : DeskState File) (stream unread out out_new : Option (List ℕ))
+    (result : Result Served ServeFault)
     → AtExit (running File interface) h s stream unread out out_new result → Headline interface h s stream unread out out_new result
 headline_of interface h s stream unread out out_new result at =
     let t = at.transcript in elim at.after [
@@ -134,13 +150,16 @@ headline_of interface h s stream unread out out_new result at =
         transcript = t;
         desk = inl last.doubt.stopped;
         stops = stops_in_doubt s.is_stopped result last.doubt.stopped last.stopped_by;
-        crash = λ file leaves. subst (λ (run : List Exchange). HoldsFirstPart s h run t.written file) (sym last.place) (kept_in_doubt s h last.before last.last t.written last.lacks last.doubt file leaves);
+        crash = λ file leaves. subst (λ (run : List Exchange). HoldsFirstPart s h run t.written file) (sym last.place)
+            (kept_in_doubt s h last.before last.last t.written last.lacks last.doubt file leaves);
       }
     ]
 
 -- the promise of `serve` from one account of the exit, of any conduct
-pub both : {File : Type 0} (interface : Interface) (old new : DeskState File) (stream unread out middle out_new : Option (List ℕ)) (ms : List WireMessage) (fault : Option ServeFault) (result : Result Served ServeFault)
-    → ((C : Conduct File) → Answers C old new out middle ms fault → (h : CommandList) → C.premise new → C.stands old h → AtExit C h new stream unread out out_new result)
+pub both : {File : Type 0} (interface : Interface) (old new : DeskState File) (stream unread out middle out_new : Option (List ℕ)) (ms : List WireMessage)
+    (fault : Option ServeFault) (result : Result Served ServeFault)
+    → ((C : Conduct File) → Answers C old new out middle ms fault → (h : CommandList) → C.premise new → C.stands old h
+    → AtExit C h new stream unread out out_new result)
     → Serves interface old new out middle ms fault → ServesStream interface old new stream unread out out_new result
 both interface old new stream unread out middle out_new ms fault result exit serves = record {
   clean = serves.clean;
@@ -156,7 +175,8 @@ both interface old new stream unread out middle out_new ms fault result exit ser
 module _ (File : Type 0) (C : Conduct File) (h : CommandList) (s : DeskState File) (stream unread out middle out_new : Option (List ℕ)) where
   -- every reply was written whole, and then a part of the fault's
   pub whole_exit : (given rest : List ℕ) (ms : List WireMessage) (sent part left : List ℕ) (end : End) (result : Result Served ServeFault)
-      → (a : Whole C h s ms sent) → Consumes stream unread given → Begins given ms rest → Appends out middle sent → Appends middle out_new part → AnswersEnd a.run rest end → end_text end ≡ part ++ left
+      → (a : Whole C h s ms sent) → Consumes stream unread given → Begins given ms rest → Appends out middle sent → Appends middle out_new part
+      → AnswersEnd a.run rest end → end_text end ≡ part ++ left
       → Exits stream unread a.run (sent ++ part) rest result → result ≢ Err serve_fault.Store → AtExit C h s stream unread out out_new result
   whole_exit given rest ms sent part left end result a reads begins writes more ends cut exit other = record {
     transcript = record {
@@ -174,7 +194,8 @@ module _ (File : Type 0) (C : Conduct File) (h : CommandList) (s : DeskState Fil
       begins = (λ i. sym a.texts i ++ cut i) ∙ sym (append_assoc sent part left);
       whole = λ before last e. (
         reply_text last.message last.reply ++ part,
-        ap (λ (t : List ℕ). t ++ part) (a.texts ∙ ap texts_of e ∙ texts_append before (last ∷ []) ∙ ap (λ (t : List ℕ). texts_of before ++ t) (append-nil (reply_text last.message last.reply)))
+        ap (λ (t : List ℕ). t ++ part) (a.texts ∙ ap texts_of e ∙ texts_append before (last ∷ [])
+            ∙ ap (λ (t : List ℕ). texts_of before ++ t) (append-nil (reply_text last.message last.reply)))
             ∙ append_assoc (texts_of before) (reply_text last.message last.reply) part,
       );
       exit = exit;
@@ -185,7 +206,8 @@ module _ (File : Type 0) (C : Conduct File) (h : CommandList) (s : DeskState Fil
   broken_after : (ms : List WireMessage) (sent : List ℕ) (fault : ServeFault) (b : Broken C h s ms sent fault)
       → GoesOnAfter C h s (b.before ++ b.last ∷ []) (Err fault) ⊎ IsInDoubtAfter h s (b.before ++ b.last ∷ []) (Err fault)
   broken_after ms sent fault b =
-      let goes : C.stands s (followed_by (followed_by h (accepted_in b.before)) (one b.last.accepted)) → C.stands s (followed_by h (accepted_in (b.before ++ b.last ∷ []))) =
+      let goes : C.stands s (followed_by (followed_by h (accepted_in b.before)) (one b.last.accepted))
+      → C.stands s (followed_by h (accepted_in (b.before ++ b.last ∷ []))) =
       λ stands. subst (λ (k : CommandList). C.stands s k) (after_last h b.before b.last) stands in
       elim fault as (λ f. CutsReply C s (followed_by h (accepted_in b.before)) f b.last.reply b.last.accepted b.part b.left
       → GoesOnAfter C h s (b.before ++ b.last ∷ []) (Err f) ⊎ IsInDoubtAfter h s (b.before ++ b.last ∷ []) (Err f)) [
@@ -200,7 +222,8 @@ module _ (File : Type 0) (C : Conduct File) (h : CommandList) (s : DeskState Fil
         | serve_fault.Memory ↦ λ cut. inl (record { stands = goes cut.0; not_store = λ e. cc })
       ] b.cut
 
-  cuts : (ms : List WireMessage) (sent : List ℕ) (fault : ServeFault) (b : Broken C h s ms sent fault) → BeginsDownload b.last.reply b.last.accepted b.part → CutsDownload (b.before ++ b.last ∷ []) sent
+  cuts : (ms : List WireMessage) (sent : List ℕ) (fault : ServeFault) (b : Broken C h s ms sent fault) → BeginsDownload b.last.reply b.last.accepted b.part
+      → CutsDownload (b.before ++ b.last ∷ []) sent
   cuts ms sent fault b begun = record {
     before = b.before;
     last = b.last;
@@ -214,14 +237,16 @@ module _ (File : Type 0) (C : Conduct File) (h : CommandList) (s : DeskState Fil
     all_written = b.texts;
   }
 
-  broken_says : (rest : List ℕ) (ms : List WireMessage) (sent : List ℕ) (fault : ServeFault) (b : Broken C h s ms sent fault) → Exits stream unread (b.before ++ b.last ∷ []) sent rest (Err fault)
+  broken_says : (rest : List ℕ) (ms : List WireMessage) (sent : List ℕ) (fault : ServeFault) (b : Broken C h s ms sent fault)
+      → Exits stream unread (b.before ++ b.last ∷ []) sent rest (Err fault)
   broken_says rest ms sent serve_fault.Read b = absurd b.cut
   broken_says rest ms sent serve_fault.Write b = tt
   broken_says rest ms sent serve_fault.Store b =
       elim b.cut.1 [
         | inl store ↦
             let all : reply_text b.last.message b.last.reply ≡ b.part = b.whole ∙ ap (λ (t : List ℕ). b.part ++ t) store.1 ∙ append-nil b.part in inl (record {
-              all_written = b.texts ∙ ap (λ (t : List ℕ). texts_of b.before ++ t) (sym (append-nil (reply_text b.last.message b.last.reply) ∙ all)) ∙ sym (texts_append b.before (b.last ∷ []));
+              all_written = b.texts ∙ ap (λ (t : List ℕ). texts_of b.before ++ t) (sym (append-nil (reply_text b.last.message b.last.reply) ∙ all))
+                  ∙ sym (texts_append b.before (b.last ∷ []));
               before = b.before;
               last = b.last;
               place = refl;
@@ -231,12 +256,19 @@ module _ (File : Type 0) (C : Conduct File) (h : CommandList) (s : DeskState Fil
       ]
   broken_says rest ms sent serve_fault.Memory b =
       elim b.cut.1 [
-        | inl none ↦ inr (inl (record { before = b.before; last = b.last; place = refl; all_written = b.texts ∙ ap (λ (t : List ℕ). texts_of b.before ++ t) none ∙ append-nil (texts_of b.before) }))
+        | inl none ↦ inr (inl (record {
+          before = b.before;
+          last = b.last;
+          place = refl;
+          all_written = b.texts ∙ ap (λ (t : List ℕ). texts_of b.before ++ t) none
+              ∙ append-nil (texts_of b.before);
+        }))
         | inr begun ↦ inr (inr (cuts ms sent serve_fault.Memory b begun))
       ]
 
   -- it stopped within an exchange
-  pub broken_exit : (given rest : List ℕ) (ms : List WireMessage) (sent : List ℕ) (fault : ServeFault) → Broken C h s ms sent fault → Consumes stream unread given → Begins given ms rest → Appends out out_new sent
+  pub broken_exit : (given rest : List ℕ) (ms : List WireMessage) (sent : List ℕ) (fault : ServeFault) → Broken C h s ms sent fault
+      → Consumes stream unread given → Begins given ms rest → Appends out out_new sent
       → AtExit C h s stream unread out out_new (Err fault)
   broken_exit given rest ms sent fault b reads begins writes =
       let run : List Exchange = b.before ++ b.last ∷ [] in record {
@@ -252,7 +284,8 @@ module _ (File : Type 0) (C : Conduct File) (h : CommandList) (s : DeskState Fil
           end = Input;
           ends = tt;
           unwritten = b.left;
-          begins = append-nil (texts_of run) ∙ texts_append b.before (b.last ∷ []) ∙ ap (λ (t : List ℕ). texts_of b.before ++ t) (append-nil (reply_text b.last.message b.last.reply) ∙ b.whole)
+          begins = append-nil (texts_of run) ∙ texts_append b.before (b.last ∷ [])
+              ∙ ap (λ (t : List ℕ). texts_of b.before ++ t) (append-nil (reply_text b.last.message b.last.reply) ∙ b.whole)
               ∙ sym (append_assoc (texts_of b.before) b.part b.left) ∙ ap (λ (t : List ℕ). t ++ b.left) (sym b.texts);
           whole = λ before last e. (b.part, b.texts ∙ ap (λ (xs : List Exchange). texts_of xs ++ b.part) (same_from_push b.before before b.last last e).0);
           exit = broken_says rest ms sent fault b;

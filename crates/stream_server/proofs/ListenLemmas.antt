@@ -1,5 +1,8 @@
 -- Connections, one after the other: each leaves a desk that keeps the lists that were kept, followed by what was accepted over it.
-use Rattle.stream_server.proofs.Common.{◌≡◌, ◌+◌, ◌++◌, ◌∷◌, ℕ, true, List, [], Option, Result, Ok, Err, IfErr, inl, inr, refl, ap, subst, sym, ◌∙◌, append_assoc, append-nil, All, All-head, All-tail, Command, CommandList, followed_by, one, DeskState, StandsFor, Interface, Served, ServeFault, Headline, IsRefusedAsStopped, StoppedThroughout, Transcript, Keeps, KeepsOn, StopsAtStore, Exchange, accepted_in}
+use Rattle.stream_server.proofs.Common.{◌≡◌, ◌+◌, ◌++◌, ◌∷◌, ℕ, true, List, [], Option, Result, Ok, Err, IfErr, inl, inr, refl, ap, subst, sym, ◌∙◌}
+use Rattle.stream_server.proofs.Common.{append_assoc, append-nil, All, All-head, All-tail, Command, CommandList, followed_by, one, DeskState, StandsFor}
+use Rattle.stream_server.proofs.Common.{Interface, Served, ServeFault, Headline, IsRefusedAsStopped, StoppedThroughout, Transcript, Keeps, KeepsOn}
+use Rattle.stream_server.proofs.Common.{StopsAtStore, Exchange, accepted_in}
 use Rattle.std.proofs.lemmas.List.Concat.{flat_map-append}
 use Rattle.stream_server.specs.Listening.{AnswersBy, AreServed, ComesToEnd, IsServed, LosesInDoubt, Sockets, Talk, accepted_over}
 use Rattle.stream_server.specs.declared.listening.ListenFault.{ListenFault}
@@ -45,8 +48,11 @@ module _ (comes goes : Sockets) (interface : Interface) where
       → IsServed comes goes interface (followed_by h (accepted_over talks)) t → AreServed comes goes interface h (talks ++ t ∷ [])
   served_append h [] t all last = (last, tt)
   served_append h (x ∷ xs) t all last =
-      let next : CommandList = followed_by h (accepted_in x.run) in
-      (all.0, served_append next xs t all.1 (subst (λ (k : CommandList). IsServed comes goes interface k t) (followed_append h (accepted_in x.run) (accepted_over xs)) last))
+      let next : CommandList = followed_by h (accepted_in x.run) in (
+        all.0,
+        served_append next xs t all.1
+            (subst (λ (k : CommandList). IsServed comes goes interface k t) (followed_append h (accepted_in x.run) (accepted_over xs)) last),
+      )
 
   loses_append : (talks : List Talk) (t : Talk) (lost : List Command) → LosesInDoubt talks lost → LosesInDoubt (talks ++ t ∷ []) lost
   loses_append talks t lost loses = elim loses [
@@ -77,18 +83,21 @@ module _ (comes goes : Sockets) (interface : Interface) where
         served = served_append h talks t keeps.served (record {
           came = came;
           went = went;
-          transcript = retold _ (λ xs. (xs ≡ run) × AnswersBy interface before xs) stream unread out out_new outcome headline.transcript (refl, inl headline.transcript.is_run);
+          transcript = retold _ (λ xs. (xs ≡ run) × AnswersBy interface before xs) stream unread out out_new outcome headline.transcript
+              (refl, inl headline.transcript.is_run);
         });
         desk = elim headline.desk [
           | inl stopped ↦ inl stopped
           | inr stands ↦
-              inr (subst (λ (k : CommandList). StandsFor new k) (sym (followed_append h (accepted_over talks) (accepted_in run)) ∙ ap (followed_by h) (sym (over_append talks t))) stands)
+              inr (subst (λ (k : CommandList). StandsFor new k) (sym (followed_append h (accepted_over talks) (accepted_in run))
+              ∙ ap (followed_by h) (sym (over_append talks t))) stands)
         ];
         crash = λ file leaves.
             let part = headline.crash file leaves in (
               accepted_over talks ++ part.kept,
               part.lost,
-              over_append talks t ∙ ap (λ (cs : List Command). accepted_over talks ++ cs) part.parts ∙ sym (append_assoc (accepted_over talks) part.kept part.lost),
+              over_append talks t ∙ ap (λ (cs : List Command). accepted_over talks ++ cs) part.parts
+                  ∙ sym (append_assoc (accepted_over talks) part.kept part.lost),
               elim part.in_doubt [ inl none ↦ inl none | inr doubt ↦ inr (talks, t, [], refl, doubt) ],
               subst (λ (k : CommandList). new.holds file k) (sym (followed_append h (accepted_over talks) part.kept)) part.holds,
             );
@@ -112,7 +121,8 @@ module _ (comes goes : Sockets) (interface : Interface) where
         served = served_append h talks t keeps.served (record {
           came = came;
           went = went;
-          transcript = retold _ (λ xs. (xs ≡ run) × AnswersBy interface before xs) stream unread out out_new outcome stopped.transcript (refl, inr stopped.transcript.is_run);
+          transcript = retold _ (λ xs. (xs ≡ run) × AnswersBy interface before xs) stream unread out out_new outcome stopped.transcript
+              (refl, inr stopped.transcript.is_run);
         });
         desk = inl stopped.stays.stopped;
         crash = λ file leaves.
@@ -121,7 +131,8 @@ module _ (comes goes : Sockets) (interface : Interface) where
       }
 
   -- a connection was served, and this is told of it
-  pub keeps_on : {A : Type 0} {File : Type 0} (old new : DeskState File) (stream unread out out_new : Option (List ℕ)) (outcome : Result Served ServeFault) (told : Result A ListenFault)
+  pub keeps_on : {A : Type 0} {File : Type 0} (old new : DeskState File) (stream unread out out_new : Option (List ℕ)) (outcome : Result Served ServeFault)
+      (told : Result A ListenFault)
       → comes stream out → goes unread out_new
       → (new.is_clean → old.is_clean)
       → ((h : CommandList) → new.is_clean → StandsFor old h → Headline interface h new stream unread out out_new outcome)
@@ -152,7 +163,8 @@ module _ (comes goes : Sockets) (interface : Interface) where
 
 -- the desk is stopped where a failed store is told
 pub stops_at_store : {A : Type 0} {File : Type 0} (s : DeskState File) (outcome : Result Served ServeFault) (told : Result A ListenFault)
-    → (told ≡ Err listen_fault.Store → outcome ≡ Err serve_fault.Store) → IfErr outcome (λ fault. fault ≡ serve_fault.Store → s.is_stopped ≡ true) → StopsAtStore s told
+    → (told ≡ Err listen_fault.Store → outcome ≡ Err serve_fault.Store) → IfErr outcome (λ fault. fault ≡ serve_fault.Store → s.is_stopped ≡ true)
+    → StopsAtStore s told
 stops_at_store s outcome (Ok a) store stops = tt
 stops_at_store s outcome (Err listen_fault.Net) store stops = tt
 stops_at_store s outcome (Err listen_fault.Store) store stops =
@@ -161,6 +173,7 @@ stops_at_store s outcome (Err listen_fault.Store) store stops =
 -- ---- how many connections came
 
 -- what ends one connection ends all
-pub ends_all : (A B : Type 0) (before between after : ℕ → Type 0) (failed : Type 0) (count : ℕ) (fault : ListenFault) → ComesToEnd {A = A} between after failed 1 (Err fault) → ComesToEnd {A = B} before after failed count (Err fault)
+pub ends_all : (A B : Type 0) (before between after : ℕ → Type 0) (failed : Type 0) (count : ℕ) (fault : ListenFault)
+    → ComesToEnd {A = A} between after failed 1 (Err fault) → ComesToEnd {A = B} before after failed count (Err fault)
 ends_all A B before between after failed count listen_fault.Net ended = ended
 ends_all A B before between after failed count listen_fault.Store ended = tt

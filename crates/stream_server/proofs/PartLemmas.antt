@@ -1,12 +1,16 @@
 -- Parts of `serve`: one message, and parts one after the other.
-use Rattle.stream_server.proofs.Common.{◌≡◌, ◌≢◌, ℕ, true, List, [], ◌∷◌, ◌++◌, Option, Some, None, refl, sym, ap, ◌∙◌, subst, append_assoc, append-nil, Appends-trans, Appends-nil, WireMessage, Begins, StoreFailed, Command, CommandList, followed_by, Reply, Refused, one, DeskState, StaysStopped, Interface, ServeFault, reply_text, Exchange, messages_of, accepted_in, texts_of, IsRun, Conduct, running, stopped, AnswersOne, Whole, Broken, CutsReply, Comes, Answers, Serves, Takes}
+use Rattle.stream_server.proofs.Common.{◌≡◌, ◌≢◌, ℕ, true, List, [], ◌∷◌, ◌++◌, Option, Some, None, refl, sym, ap, ◌∙◌, subst, append_assoc, append-nil}
+use Rattle.stream_server.proofs.Common.{Appends-trans, Appends-nil, WireMessage, Begins, StoreFailed, Command, CommandList, followed_by, Reply, Refused, one}
+use Rattle.stream_server.proofs.Common.{DeskState, StaysStopped, Interface, ServeFault, reply_text, Exchange, messages_of, accepted_in, texts_of, IsRun}
+use Rattle.stream_server.proofs.Common.{Conduct, running, stopped, AnswersOne, Whole, Broken, CutsReply, Comes, Answers, Serves, Takes}
 use Rattle.stream_server.proofs.RunLemmas.{messages_append, texts_append, run_append, goes_append, led}
 
 module _ (File : Type 0) (C : Conduct File) where
   whole_nil : (h : CommandList) (s : DeskState File) → C.stands s h → Whole C h s [] []
   whole_nil h s stands = record { run = []; messages = refl; is_run = tt; goes_on = tt; texts = refl; stands = stands }
 
-  pub whole_one : (h : CommandList) (s : DeskState File) (m : WireMessage) (reply : Reply) → AnswersOne C h s m reply → reply ≢ Refused StoreFailed → Whole C h s (m ∷ []) (reply_text m reply)
+  pub whole_one : (h : CommandList) (s : DeskState File) (m : WireMessage) (reply : Reply) → AnswersOne C h s m reply → reply ≢ Refused StoreFailed
+      → Whole C h s (m ∷ []) (reply_text m reply)
   whole_one h s m reply one_answer goes = record {
     run = record { message = m; reply = reply; accepted = one_answer.accepted } ∷ [];
     messages = refl;
@@ -16,7 +20,8 @@ module _ (File : Type 0) (C : Conduct File) where
     stands = subst (λ (cs : List Command). C.stands s (followed_by h cs)) (sym (append-nil (one one_answer.accepted))) (one_answer.goes_to.stands goes);
   }
 
-  pub broken_one : (h : CommandList) (s : DeskState File) (m : WireMessage) (reply : Reply) (accepted : Option Command) (part left : List ℕ) (fault : ServeFault) → C.answers h m reply accepted
+  pub broken_one : (h : CommandList) (s : DeskState File) (m : WireMessage) (reply : Reply) (accepted : Option Command) (part left : List ℕ)
+      (fault : ServeFault) → C.answers h m reply accepted
       → reply_text m reply ≡ part ++ left → CutsReply C s h fault reply accepted part left → Broken C h s (m ∷ []) part fault
   broken_one h s m reply accepted part left fault answers whole cut = record {
     before = [];
@@ -31,7 +36,8 @@ module _ (File : Type 0) (C : Conduct File) where
     cut = cut;
   }
 
-  whole_whole : (h : CommandList) (s t : DeskState File) (ms ns : List WireMessage) (sent more : List ℕ) (a : Whole C h s ms sent) → Whole C (followed_by h (accepted_in a.run)) t ns more
+  whole_whole : (h : CommandList) (s t : DeskState File) (ms ns : List WireMessage) (sent more : List ℕ) (a : Whole C h s ms sent)
+      → Whole C (followed_by h (accepted_in a.run)) t ns more
       → Whole C h t (ms ++ ns) (sent ++ more)
   whole_whole h s t ms ns sent more a b = record {
     run = a.run ++ b.run;
@@ -49,12 +55,14 @@ module _ (File : Type 0) (C : Conduct File) where
         before = a.run ++ b.before;
         last = b.last;
         messages = ap messages_of all ∙ messages_append a.run (b.before ++ b.last ∷ []) ∙ (λ i. a.messages i ++ b.messages i);
-        is_run = subst (λ (xs : List Exchange). IsRun C.answers h xs) (sym all) (run_append C.answers h a.run (b.before ++ b.last ∷ []) a.is_run a.goes_on b.is_run);
+        is_run = subst (λ (xs : List Exchange). IsRun C.answers h xs) (sym all)
+            (run_append C.answers h a.run (b.before ++ b.last ∷ []) a.is_run a.goes_on b.is_run);
         goes_on = goes_append a.run b.before a.goes_on b.goes_on;
         part = b.part;
         left = b.left;
         whole = b.whole;
-        texts = (λ i. a.texts i ++ b.texts i) ∙ sym (append_assoc (texts_of a.run) (texts_of b.before) b.part) ∙ ap (λ (t : List ℕ). t ++ b.part) (sym (texts_append a.run b.before));
+        texts = (λ i. a.texts i ++ b.texts i) ∙ sym (append_assoc (texts_of a.run) (texts_of b.before) b.part)
+            ∙ ap (λ (t : List ℕ). t ++ b.part) (sym (texts_append a.run b.before));
         cut = subst (λ (k : CommandList). CutsReply C t k fault b.last.reply b.last.accepted b.part b.left) (led h a.run b.before) b.cut;
       }
 
@@ -87,10 +95,12 @@ takes_more old middle new ms ns before step fed given b =
 pub stays : {File : Type 0} (s : DeskState File) → s.is_stopped ≡ true → StaysStopped s s
 stays s stopped = record { stopped = stopped; crash = λ file leaves. leaves; holds = λ file h holds. holds }
 
-pub stays_on : {File : Type 0} (s t u : DeskState File) → (s.is_stopped ≡ true → StaysStopped s t) → (t.is_stopped ≡ true → StaysStopped t u) → s.is_stopped ≡ true → StaysStopped s u
+pub stays_on : {File : Type 0} (s t u : DeskState File) → (s.is_stopped ≡ true → StaysStopped s t) → (t.is_stopped ≡ true → StaysStopped t u) → s.is_stopped
+    ≡ true → StaysStopped s u
 stays_on s t u first second stopped =
     let a = first stopped in
-    let b = second a.stopped in record { stopped = b.stopped; crash = λ file leaves. a.crash file (b.crash file leaves); holds = λ file h holds. b.holds file h (a.holds file h holds) }
+    let b = second a.stopped in
+    record { stopped = b.stopped; crash = λ file leaves. a.crash file (b.crash file leaves); holds = λ file h holds. b.holds file h (a.holds file h holds) }
 
 -- ---- what a function did
 
@@ -102,7 +112,8 @@ serves_nil interface s out = record {
   stays = stays s;
 }
 
-pub serves_append : {File : Type 0} (interface : Interface) (s t u : DeskState File) (a b c : Option (List ℕ)) (ms ns : List WireMessage) (fault : Option ServeFault)
+pub serves_append : {File : Type 0} (interface : Interface) (s t u : DeskState File) (a b c : Option (List ℕ)) (ms ns : List WireMessage)
+    (fault : Option ServeFault)
     → Serves interface s t a b ms None → Serves interface t u b c ns fault → Serves interface s u a c (ms ++ ns) fault
 serves_append interface s t u a b c ms ns fault first second = record {
   clean = λ clean. first.clean (second.clean clean);

@@ -1,5 +1,6 @@
 -- The first word of a path says which interface's router can know it.
-use Rattle.stream_server.proofs.Common.{◌≡◌, ℕ, List, [], ◌∷◌, Bool, true, false, not, ◌&&◌, nat_lt, length, cond, bytes_eq, codes, Option, Some, None, refl, sym, ap, ◌∙◌, subst, slice_get, false≢true, WireMessage, manage_route, reading_by}
+use Rattle.stream_server.proofs.Common.{◌≡◌, ℕ, List, [], ◌∷◌, Bool, true, false, not, ◌&&◌, nat_lt, length, cond, bytes_eq, codes, Option, Some, None, refl}
+use Rattle.stream_server.proofs.Common.{sym, ap, ◌∙◌, subst, slice_get, false≢true, WireMessage, manage_route, reading_by}
 use Rattle.std.specs.List.{list_all}
 use Rattle.std.specs.Str.{is_utf8}
 use Rattle.std.proofs.lemmas.Slice.Eq.{bytes_eq-Decides}
@@ -41,13 +42,15 @@ module _ (P : List ℕ → Bool) where
       let behind = (both (stands_for a b) (stands_for part word && fits parts rest) fit).1 in
       stood_for part word written (both (stands_for part word) (fits parts rest) behind).0
 
-  found_open : {T : Type 0} (table : List (List ℕ × T)) (path : List ℕ) (x : T) → all_open_by P table ≡ true → route_in table path ≡ Some x → opens_by P (segments path) ≡ true
+  found_open : {T : Type 0} (table : List (List ℕ × T)) (path : List ℕ) (x : T) → all_open_by P table ≡ true → route_in table path ≡ Some x
+      → opens_by P (segments path) ≡ true
   found_open [] path x all found = absurd cc
   found_open (r ∷ table) path x all found =
       let of = both (opens_by (is_written P) (segments r.0)) (all_open_by P table) all in
       by (fits (segments r.0) (segments path)) refl found of.0 (found_open table path x of.1)
     where
-      by : (v : Bool) → fits (segments r.0) (segments path) ≡ v → cond v (Some r.1) (route_in table path) ≡ Some x → opens_by (is_written P) (segments r.0) ≡ true
+      by : (v : Bool) → fits (segments r.0) (segments path) ≡ v → cond v (Some r.1) (route_in table path) ≡ Some x → opens_by (is_written P) (segments r.0)
+          ≡ true
           → (route_in table path ≡ Some x → opens_by P (segments path) ≡ true) → opens_by P (segments path) ≡ true
       by true fit found written later = fits_open (segments r.0) (segments path) written fit
       by false fit found written later = later found
@@ -93,7 +96,8 @@ opened_by_none (a ∷ other ∷ rest) at = absurd cc
 
 module _ (path word : List ℕ) (at : Some word ≡ slice_get (segments path) 1) where
   pub not_of_management : bytes_eq word (codes "DEFAULT") ≡ true → manage_route path ≡ None
-  not_of_management is = leads_nowhere is_other manage_table path (is_utf8 path) others_open (no_other (segments path) (sym (opened_by (segments path) word at) ∙ is))
+  not_of_management is = leads_nowhere is_other manage_table path (is_utf8 path) others_open
+      (no_other (segments path) (sym (opened_by (segments path) word at) ∙ is))
 
   pub not_of_devices : bytes_eq word (codes "DEFAULT") ≡ false → device_call path ≡ None
   not_of_devices is = leads_nowhere is_devices device_table path (is_utf8 path) devices_open (sym (opened_by (segments path) word at) ∙ is)

@@ -1,5 +1,6 @@
 -- An atom that doesn't begin with a parenthesis is a comparison.
-use Rattle.target_filter.proofs.Common.{◌≡◌, ℕ, zero, suc, ◌-◌, ◌≤◌, ◌<◌, List, [], ◌∷◌, length, take, drop, Bool, true, false, cond, ◌&&◌, ◌==◌, eqb, Option, Some, None, refl, sym, ◌∙◌, ap, arith, pointwise, nat_tests, comparison_at, atom_at}
+use Rattle.target_filter.proofs.Common.{◌≡◌, ℕ, zero, suc, ◌-◌, ◌≤◌, ◌<◌, List, [], ◌∷◌, length, take, drop, Bool, true, false, cond, ◌&&◌, ◌==◌, eqb, Option}
+use Rattle.target_filter.proofs.Common.{Some, None, refl, sym, ◌∙◌, ap, arith, pointwise, nat_tests, comparison_at, atom_at}
 
 -- whether the byte stands in front, as `strip_prefix` tests it
 abbrev pub begins : ℕ → List ℕ → Bool

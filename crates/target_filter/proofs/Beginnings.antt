@@ -1,5 +1,10 @@
 -- What stands behind a beginning that the scanner went through: parts of trees.
-use Rattle.target_filter.proofs.Common.{◌≡◌, ◌⊎◌, inl, inr, ℕ, zero, suc, ◌+◌, ◌-◌, ◌≤◌, ◌<◌, max, List, [], ◌∷◌, ◌++◌, length, Bool, true, false, cond, ◌&&◌, ◌==◌, ltb, leb, Option, Some, None, refl, sym, ◌∙◌, ap, subst, arith, append_assoc, add-zero, nat_le, nat_lt, codes, list_all, false≢true, nat_tests, is_bare_byte, is_quotable_byte, is_nonempty, Field, Id, Name, Tag, Attribute, Value, Bare, Quoted, Tree, Or, And, Group, Comparison, Level, OrLevel, AndLevel, AtomLevel, is_at, allows_or, allows_and, spelling, field_text, value_text, Operator, Equal, NotEqual, operator_byte, nesting, is_field, is_value, is_word_letter, Mode, State, Move, run, next, step, state_after, mode_of_name, at_atom_start, at_operator, at_atom_end}
+use Rattle.target_filter.proofs.Common.{◌≡◌, ◌⊎◌, inl, inr, ℕ, zero, suc, ◌+◌, ◌-◌, ◌≤◌, ◌<◌, max, List, [], ◌∷◌, ◌++◌, length, Bool, true, false, cond, ◌&&◌}
+use Rattle.target_filter.proofs.Common.{◌==◌, ltb, leb, Option, Some, None, refl, sym, ◌∙◌, ap, subst, arith, append_assoc, add-zero, nat_le, nat_lt, codes}
+use Rattle.target_filter.proofs.Common.{list_all, false≢true, nat_tests, is_bare_byte, is_quotable_byte, is_nonempty, Field, Id, Name, Tag, Attribute, Value}
+use Rattle.target_filter.proofs.Common.{Bare, Quoted, Tree, Or, And, Group, Comparison, Level, OrLevel, AndLevel, AtomLevel, is_at, allows_or, allows_and}
+use Rattle.target_filter.proofs.Common.{spelling, field_text, value_text, Operator, Equal, NotEqual, operator_byte, nesting, is_field, is_value}
+use Rattle.target_filter.proofs.Common.{is_word_letter, Mode, State, Move, run, next, step, state_after, mode_of_name, at_atom_start, at_operator, at_atom_end}
 use Rattle.target_filter.specs.Scanner as scan
 use Rattle.target_filter.proofs.ScannedTrees.{both}
 
@@ -68,7 +73,8 @@ abbrev pub whole : Part → Tree → Tree
 whole p x = or_with p.ors (and_with p.ands x)
 
 pub whole_spelled : (p : Part) (x : Tree) → spelling (whole p x) ≡ part_text p ++ spelling x
-whole_spelled p x = or_spelled p.ors (and_with p.ands x) ∙ ap (λ y. before 44 p.ors ++ y) (and_spelled p.ands x) ∙ sym (append_assoc (before 44 p.ors) (before 59 p.ands) (spelling x))
+whole_spelled p x = or_spelled p.ors (and_with p.ands x) ∙ ap (λ y. before 44 p.ors ++ y) (and_spelled p.ands x)
+    ∙ sym (append_assoc (before 44 p.ors) (before 59 p.ands) (spelling x))
 
 pub whole_fits : (p : Part) (x : Tree) → PartFits p → is_at AtomLevel x ≡ true → is_at OrLevel (whole p x) ≡ true
 whole_fits p x h k = or_fits p.ors (and_with p.ands x) h.0 (and_fits p.ands x h.1 k)
@@ -91,8 +97,10 @@ Begun (scan.FieldName left false) x = (f : Field) × (is_field f ≡ true) × (x
 Begun (scan.Key n) x = (key : List ℕ) × (list_all is_word_letter key ≡ true) × (length key ≡ n) × (n ≤ 64) × (x ≡ codes "attribute." ++ key)
 Begun scan.Equals x = (f : Field) × (m : Operator) × (is_field f ≡ true) × (x ≡ field_text f ++ operator_byte m ∷ [])
 Begun scan.Value x = (f : Field) × (m : Operator) × (is_field f ≡ true) × (x ≡ field_text f ++ operator_byte m ∷ 61 ∷ [])
-Begun scan.Bare x = (f : Field) × (m : Operator) × (v : List ℕ) × (is_field f ≡ true) × (is_value (Bare v) ≡ true) × (x ≡ field_text f ++ operator_byte m ∷ 61 ∷ v)
-Begun scan.Quoted x = (f : Field) × (m : Operator) × (v : List ℕ) × (is_field f ≡ true) × (list_all is_quotable_byte v ≡ true) × (x ≡ field_text f ++ operator_byte m ∷ 61 ∷ 34 ∷ v)
+Begun scan.Bare x = (f : Field) × (m : Operator) × (v : List ℕ) × (is_field f ≡ true) × (is_value (Bare v) ≡ true)
+    × (x ≡ field_text f ++ operator_byte m ∷ 61 ∷ v)
+Begun scan.Quoted x = (f : Field) × (m : Operator) × (v : List ℕ) × (is_field f ≡ true) × (list_all is_quotable_byte v ≡ true)
+    × (x ≡ field_text f ++ operator_byte m ∷ 61 ∷ 34 ∷ v)
 Begun scan.AtomEnd x = (t : Tree) × (is_at AtomLevel t ≡ true) × (x ≡ spelling t)
 
 -- a mode behind an atom

@@ -1,5 +1,9 @@
 -- The first place of a piece serves as well as any.
-use Rattle.target_filter.proofs.Common.{◌≡◌, ◌⊎◌, inl, inr, ℕ, zero, suc, ◌+◌, ◌-◌, ◌≤◌, ◌<◌, List, [], ◌∷◌, ◌++◌, length, take, drop, get_or, Bool, true, false, cond, ◌&&◌, ◌||◌, ◌==◌, not, eqb, Option, Some, None, refl, sym, ◌∙◌, ap, subst, arith, append_assoc, append-nil, length-append, list_all, starts_with, ends_with, option_map_or, false≢true, nat_tests, Decides-eqb, drop_at, drop-append-le, take-append-drop, length-take-le, drop-cons, starts_is, ends_is, slice_eq-Decides, pointwise, with_first_byte, pieces, IsJoinedAfterStar, IsJoined, Matches, star_takes, byte_then, is_empty, matches, after, greedy}
+use Rattle.target_filter.proofs.Common.{◌≡◌, ◌⊎◌, inl, inr, ℕ, zero, suc, ◌+◌, ◌-◌, ◌≤◌, ◌<◌, List, [], ◌∷◌, ◌++◌, length, take, drop, get_or, Bool, true}
+use Rattle.target_filter.proofs.Common.{false, cond, ◌&&◌, ◌||◌, ◌==◌, not, eqb, Option, Some, None, refl, sym, ◌∙◌, ap, subst, arith, append_assoc}
+use Rattle.target_filter.proofs.Common.{append-nil, length-append, list_all, starts_with, ends_with, option_map_or, false≢true, nat_tests, Decides-eqb}
+use Rattle.target_filter.proofs.Common.{drop_at, drop-append-le, take-append-drop, length-take-le, drop-cons, starts_is, ends_is, slice_eq-Decides, pointwise}
+use Rattle.target_filter.proofs.Common.{with_first_byte, pieces, IsJoinedAfterStar, IsJoined, Matches, star_takes, byte_then, is_empty, matches, after, greedy}
 use Rattle.target_filter.proofs.ScannedTrees.{both}
 use Rattle.target_filter.proofs.Beginnings.{all_of}
 use Rattle.target_filter.proofs.ScannerMoves.{eq_true}
@@ -42,7 +46,8 @@ pieces_some (b ∷ bs) = by (b == 42) (pieces bs) (pieces_some bs)
     front [] = (b ∷ [], [], refl)
     front (p ∷ ps) = (b ∷ p, ps, refl)
 
-    by : (c : Bool) (ps : List (List ℕ)) → (r : List ℕ) × (rs : List (List ℕ)) × (ps ≡ r ∷ rs) → (r : List ℕ) × (rs : List (List ℕ)) × (cond c ([] ∷ ps) (with_first_byte b ps) ≡ r ∷ rs)
+    by : (c : Bool) (ps : List (List ℕ)) → (r : List ℕ) × (rs : List (List ℕ)) × (ps ≡ r ∷ rs) → (r : List ℕ) × (rs : List (List ℕ))
+        × (cond c ([] ∷ ps) (with_first_byte b ps) ≡ r ∷ rs)
     by true ps h = ([], ps, refl)
     by false ps h = front ps
 
@@ -51,7 +56,8 @@ behind_joins : (ps : List (List ℕ)) (x t : List ℕ) → IsJoined ps t → IsJ
 behind_joins [] x t h = absurd h
 behind_joins (p ∷ ps) x t (rest, e, g) = (x, rest, ap (λ y. x ++ y) e, g)
 
-joins_behind : (p : List ℕ) (ps : List (List ℕ)) (t : List ℕ) → IsJoinedAfterStar (p ∷ ps) t → (x : List ℕ) × (rest : List ℕ) × (t ≡ x ++ rest) × IsJoined (p ∷ ps) rest
+joins_behind : (p : List ℕ) (ps : List (List ℕ)) (t : List ℕ) → IsJoinedAfterStar (p ∷ ps) t → (x : List ℕ) × (rest : List ℕ) × (t ≡ x ++ rest)
+    × IsJoined (p ∷ ps) rest
 joins_behind p ps t (gap, rest, e, g) = (gap, p ++ rest, e, (rest, refl, g))
 
 empty_is : (t : List ℕ) → is_empty t ≡ true → t ≡ []
@@ -59,7 +65,9 @@ empty_is [] h = refl
 empty_is (b ∷ bs) h = absurd (false≢true h)
 
 -- ---- the test and the relation
-to_by : (a : ℕ) (c : Bool) (pattern t : List ℕ) → ((u : List ℕ) → matches pattern u ≡ true → IsJoined (pieces pattern) u) → cond c (star_takes (matches pattern) t) (byte_then a (matches pattern) t) ≡ true → IsJoined (cond c ([] ∷ pieces pattern) (with_first_byte a (pieces pattern))) t
+to_by : (a : ℕ) (c : Bool) (pattern t : List ℕ) → ((u : List ℕ) → matches pattern u ≡ true → IsJoined (pieces pattern) u)
+    → cond c (star_takes (matches pattern) t) (byte_then a (matches pattern) t) ≡ true
+    → IsJoined (cond c ([] ∷ pieces pattern) (with_first_byte a (pieces pattern))) t
 to_by a true pattern t f h = let (x, rest, e, k) = star_some (matches pattern) t h in (t, refl, rw e (behind_joins (pieces pattern) x rest (f rest k)))
 to_by a false pattern [] f h = absurd (false≢true h)
 to_by a false pattern (b ∷ bs) f h =
@@ -73,19 +81,23 @@ matches_joins (a ∷ pattern) t h = to_by a (a == 42) pattern t (matches_joins p
 eq_self : (n : ℕ) → (n == n) ≡ true
 eq_self n = grind (arith, nat_tests)
 
-from_star : (pattern t : List ℕ) (ps : List (List ℕ)) (r : List ℕ) (rs : List (List ℕ)) → ps ≡ r ∷ rs → ((u : List ℕ) → IsJoined ps u → matches pattern u ≡ true) → IsJoinedAfterStar ps t → star_takes (matches pattern) t ≡ true
+from_star : (pattern t : List ℕ) (ps : List (List ℕ)) (r : List ℕ) (rs : List (List ℕ)) → ps ≡ r ∷ rs
+    → ((u : List ℕ) → IsJoined ps u → matches pattern u ≡ true) → IsJoinedAfterStar ps t → star_takes (matches pattern) t ≡ true
 from_star pattern t ps r rs e f h =
     let g : IsJoinedAfterStar (r ∷ rs) t = subst (λ qs. IsJoinedAfterStar qs t) e h in
     let (x, rest, w, k) = joins_behind r rs t g in
     rw w (star_any (matches pattern) x rest (f rest (subst (λ qs. IsJoined qs rest) (sym e) k)))
 
-from_byte : (a : ℕ) (pattern t : List ℕ) (ps : List (List ℕ)) (r : List ℕ) (rs : List (List ℕ)) → ps ≡ r ∷ rs → ((u : List ℕ) → IsJoined ps u → matches pattern u ≡ true) → IsJoined (with_first_byte a ps) t → byte_then a (matches pattern) t ≡ true
+from_byte : (a : ℕ) (pattern t : List ℕ) (ps : List (List ℕ)) (r : List ℕ) (rs : List (List ℕ)) → ps ≡ r ∷ rs
+    → ((u : List ℕ) → IsJoined ps u → matches pattern u ≡ true) → IsJoined (with_first_byte a ps) t → byte_then a (matches pattern) t ≡ true
 from_byte a pattern t ps r rs e f h = elim (joins_front a ps t h) [
   | inl (c, w, k) ↦ rw w (all_of (a == a) (matches pattern c) (eq_self a) (f c k))
   | inr n ↦ cc
 ]
 
-from_by : (a : ℕ) (c : Bool) (pattern t : List ℕ) → ((u : List ℕ) → IsJoined (pieces pattern) u → matches pattern u ≡ true) → IsJoined (cond c ([] ∷ pieces pattern) (with_first_byte a (pieces pattern))) t → cond c (star_takes (matches pattern) t) (byte_then a (matches pattern) t) ≡ true
+from_by : (a : ℕ) (c : Bool) (pattern t : List ℕ) → ((u : List ℕ) → IsJoined (pieces pattern) u → matches pattern u ≡ true)
+    → IsJoined (cond c ([] ∷ pieces pattern) (with_first_byte a (pieces pattern))) t → cond c (star_takes (matches pattern) t) (byte_then a (matches pattern) t)
+    ≡ true
 from_by a true pattern t f (rest, e, g) =
     let (r, rs, w) = pieces_some pattern in
     from_star pattern t (pieces pattern) r rs w f (rw e g)
@@ -108,11 +120,17 @@ after_later p b t h = rw h refl
 abbrev Found : List ℕ → List ℕ → List ℕ → Type 0
 Found p t rest = (r : List ℕ) × (x : List ℕ) × (after p t ≡ Some r) × (r ≡ x ++ rest)
 
-first_by : (p : List ℕ) (b : ℕ) (gap rest : List ℕ) (c : Bool) → starts_with eqb (b ∷ (gap ++ (p ++ rest))) p ≡ c → Found p (gap ++ (p ++ rest)) rest → Found p (b ∷ (gap ++ (p ++ rest))) rest
+first_by : (p : List ℕ) (b : ℕ) (gap rest : List ℕ) (c : Bool) → starts_with eqb (b ∷ (gap ++ (p ++ rest))) p ≡ c → Found p (gap ++ (p ++ rest)) rest
+    → Found p (b ∷ (gap ++ (p ++ rest))) rest
 first_by p b gap rest true e f =
     let same : b ∷ (gap ++ (p ++ rest)) ≡ (b ∷ (gap ++ p)) ++ rest = ap (λ y. b ∷ y) (sym (append_assoc gap p rest)) in
-    let room : length p ≤ length (b ∷ (gap ++ p)) = omega (arith, length-append gap p) in
-    (drop (length p) (b ∷ (gap ++ (p ++ rest))), drop (length p) (b ∷ (gap ++ p)), after_here p (b ∷ (gap ++ (p ++ rest))) e, ap (drop (length p)) same ∙ drop-append-le (length p) (b ∷ (gap ++ p)) rest room)
+    let room : length p ≤ length (b ∷ (gap ++ p)) = omega (arith, length-append gap p) in (
+      drop (length p) (b ∷ (gap ++ (p ++ rest))),
+      drop (length p) (b ∷ (gap ++ p)),
+      after_here p (b ∷ (gap ++ (p ++ rest))) e,
+      ap (drop (length p)) same
+          ∙ drop-append-le (length p) (b ∷ (gap ++ p)) rest room,
+    )
 first_by p b gap rest false e (r, x, w, k) = (r, x, after_later p b (gap ++ (p ++ rest)) e ∙ w, k)
 
 first : (p gap rest : List ℕ) → Found p (gap ++ (p ++ rest)) rest
@@ -132,7 +150,8 @@ placed_here p t r h e =
     let same : drop (length p) t ≡ r = cc (after_here p t h, e) in
     ([], starts_at p t h ∙ ap (λ y. p ++ y) same)
 
-placed_by : (p : List ℕ) (b : ℕ) (t r : List ℕ) (c : Bool) → starts_with eqb (b ∷ t) p ≡ c → (after p t ≡ Some r → Placed p t r) → after p (b ∷ t) ≡ Some r → Placed p (b ∷ t) r
+placed_by : (p : List ℕ) (b : ℕ) (t r : List ℕ) (c : Bool) → starts_with eqb (b ∷ t) p ≡ c → (after p t ≡ Some r → Placed p t r) → after p (b ∷ t) ≡ Some r
+    → Placed p (b ∷ t) r
 placed_by p b t r true e f h = placed_here p (b ∷ t) r e h
 placed_by p b t r false e f h = let (gap, w) = f (sym (after_later p b t e) ∙ h) in (b ∷ gap, ap (λ y. b ∷ y) w)
 
@@ -147,13 +166,20 @@ placed p (b ∷ t) r h = placed_by p b t r (starts_with eqb (b ∷ t) p) refl (p
 more_behind : (q : List ℕ) (ps : List (List ℕ)) (x t : List ℕ) → IsJoinedAfterStar (q ∷ ps) t → IsJoinedAfterStar (q ∷ ps) (x ++ t)
 more_behind q ps x t (gap, rest, e, g) = (x ++ gap, rest, ap (λ y. x ++ y) e ∙ sym (append_assoc x gap (q ++ rest)), g)
 
-greedy_found : (q : List ℕ) (ps : List (List ℕ)) (o : Option (List ℕ)) → option_map_or (greedy (q ∷ ps)) o false ≡ true → (r : List ℕ) × (o ≡ Some r) × (greedy (q ∷ ps) r ≡ true)
+greedy_found : (q : List ℕ) (ps : List (List ℕ)) (o : Option (List ℕ)) → option_map_or (greedy (q ∷ ps)) o false ≡ true → (r : List ℕ) × (o ≡ Some r)
+    × (greedy (q ∷ ps) r ≡ true)
 greedy_found q ps None h = absurd (false≢true h)
 greedy_found q ps (Some r) h = (r, refl, h)
 
 pub greedy_behind : (ps : List (List ℕ)) (t : List ℕ) → greedy ps t ≡ true → IsJoinedAfterStar ps t
 greedy_behind [] t h = empty_is t h
-greedy_behind (p ∷ []) t h = (take (length t - length p) t, [], (ends_is Decides-eqb t p (ends_with eqb t p) refl).0 h ∙ ap (λ y. take (length t - length p) t ++ y) (sym (append-nil p)), refl)
+greedy_behind (p ∷ []) t h = (
+  take (length t - length p) t,
+  [],
+  (ends_is Decides-eqb t p (ends_with eqb t p) refl).0 h
+      ∙ ap (λ y. take (length t - length p) t ++ y) (sym (append-nil p)),
+  refl,
+)
 greedy_behind (p ∷ q ∷ ps) t h =
     let (r, e, g) = greedy_found q ps (after p t) h in
     let (gap, w) = placed p t r e in
@@ -161,7 +187,8 @@ greedy_behind (p ∷ q ∷ ps) t h =
 
 pub behind_greedy : (ps : List (List ℕ)) (t : List ℕ) → IsJoinedAfterStar ps t → greedy ps t ≡ true
 behind_greedy [] t h = rw h refl
-behind_greedy (p ∷ []) t (gap, rest, e, g) = (ends_is Decides-eqb t p (ends_with eqb t p) refl).1 gap (e ∙ ap (λ y. gap ++ (p ++ y)) g ∙ ap (λ y. gap ++ y) (append-nil p))
+behind_greedy (p ∷ []) t (gap, rest, e, g) = (ends_is Decides-eqb t p (ends_with eqb t p) refl).1 gap
+    (e ∙ ap (λ y. gap ++ (p ++ y)) g ∙ ap (λ y. gap ++ y) (append-nil p))
 behind_greedy (p ∷ q ∷ ps) t (gap, rest, e, g) =
     let (r, x, w, k) = first p gap rest in
     let found : after p t ≡ Some r = ap (after p) e ∙ w in
@@ -195,7 +222,8 @@ first_piece (b ∷ p) rest h =
 pub cut : (t : List ℕ) (k : ℕ) → k < length t → get_or t k 0 ≡ 42 → list_all no_star (take k t) ≡ true → pieces t ≡ take k t ∷ pieces (drop (k + 1) t)
 cut t k l e h =
     let one : k + 1 ≡ suc k = omega arith in
-    let whole : t ≡ take k t ++ 42 ∷ drop (k + 1) t = sym (take-append-drop k t) ∙ ap (λ y. take k t ++ y) (drop-cons t k 0 l ∙ ap (λ b. b ∷ drop (suc k) t) e ∙ ap (λ n. 42 ∷ drop n t) (sym one)) in
+    let whole : t ≡ take k t ++ 42 ∷ drop (k + 1) t = sym (take-append-drop k t)
+    ∙ ap (λ y. take k t ++ y) (drop-cons t k 0 l ∙ ap (λ b. b ∷ drop (suc k) t) e ∙ ap (λ n. 42 ∷ drop n t) (sym one)) in
     ap pieces whole ∙ first_piece (take k t) (drop (k + 1) t) h
 
 pub greedy_cut : (p q t : List ℕ) → greedy (p ∷ pieces q) t ≡ option_map_or (greedy (pieces q)) (after p t) false
@@ -214,7 +242,8 @@ whole_only pattern t e = (
   λ h. joins_matches pattern t (subst (λ ps. IsJoined ps t) (sym e) ([], h ∙ sym (append-nil pattern), refl)),
 )
 
-pub front_and_behind : (pattern t p q : List ℕ) (c : Bool) → pieces pattern ≡ p ∷ pieces q → c ≡ starts_with eqb t p → matches pattern t ≡ (c && greedy (pieces q) (drop (length p) t))
+pub front_and_behind : (pattern t p q : List ℕ) (c : Bool) → pieces pattern ≡ p ∷ pieces q → c ≡ starts_with eqb t p → matches pattern t
+    ≡ (c && greedy (pieces q) (drop (length p) t))
 front_and_behind pattern t p q c e s =
     true_both (matches pattern t) (c && greedy (pieces q) (drop (length p) t))
     (λ h.
@@ -242,7 +271,9 @@ whole_is pattern t r e h =
     let only = whole_only pattern t e in
     true_both r (matches pattern t) (λ y. only.1 (sym (same.0 y))) (λ y. same.1 (sym (only.0 y)))
 
-pub cut_true : (pattern t p : List ℕ) (k : ℕ) (c : Bool) → pieces pattern ≡ take k pattern ∷ pieces (drop (k + 1) pattern) → k < length pattern → p ≡ take k pattern → c ≡ starts_with eqb t p → matches pattern t ≡ (c && greedy (pieces (drop (k + 1) pattern)) (drop k t))
+pub cut_true : (pattern t p : List ℕ) (k : ℕ) (c : Bool) → pieces pattern ≡ take k pattern ∷ pieces (drop (k + 1) pattern) → k < length pattern
+    → p ≡ take k pattern → c ≡ starts_with eqb t p → matches pattern t ≡ (c && greedy (pieces (drop (k + 1) pattern)) (drop k t))
 cut_true pattern t p k c e l w s =
     let size : length (take k pattern) ≡ k = length-take-le k pattern (omega arith) in
-    front_and_behind pattern t (take k pattern) (drop (k + 1) pattern) c e (s ∙ ap (λ x. starts_with eqb t x) w) ∙ ap (λ n. c && greedy (pieces (drop (k + 1) pattern)) (drop n t)) size
+    front_and_behind pattern t (take k pattern) (drop (k + 1) pattern) c e (s ∙ ap (λ x. starts_with eqb t x) w)
+    ∙ ap (λ n. c && greedy (pieces (drop (k + 1) pattern)) (drop n t)) size

@@ -1,5 +1,12 @@
 -- Where the scanner stops there ends the longest beginning that some continuation makes a filter.
-use Rattle.target_filter.proofs.Common.{◌≡◌, ◌⊎◌, inl, inr, ℕ, zero, suc, ◌+◌, ◌-◌, ◌≤◌, ◌<◌, max, List, [], ◌∷◌, ◌++◌, length, take, drop, get_or, Bool, true, false, cond, ◌&&◌, ◌==◌, ltb, leb, Option, Some, None, refl, sym, ◌∙◌, ap, subst, arith, append_assoc, append-nil, add-zero, length-append, nat_le, nat_lt, codes, list_all, IfSome, option_and_then, IsUtf8, IsAscii, IsCharBoundary, false≢true, nat_tests, IsUtf8-from_ascii, IsUtf8-append, IsCharBoundary-end, IsCharBoundary-start, IsCharBoundary-before_ascii, IsCharBoundary-after_ascii, take-take, take-append-drop, take_more, take_all, is_bare_byte, is_quotable_byte, is_nonempty, Field, Id, Name, Tag, Attribute, is_field, field_text, Tree, is_at, OrLevel, spelling, nesting, IsFilter, IsInGrammar, CanContinue, IsLongestBeginning, is_word_letter, Mode, State, Move, run, next, step, state_after, mode_of_name, at_atom_start, at_operator, at_atom_end, start, accepts}
+use Rattle.target_filter.proofs.Common.{◌≡◌, ◌⊎◌, inl, inr, ℕ, zero, suc, ◌+◌, ◌-◌, ◌≤◌, ◌<◌, max, List, [], ◌∷◌, ◌++◌, length, take, drop, get_or, Bool, true}
+use Rattle.target_filter.proofs.Common.{false, cond, ◌&&◌, ◌==◌, ltb, leb, Option, Some, None, refl, sym, ◌∙◌, ap, subst, arith, append_assoc, append-nil}
+use Rattle.target_filter.proofs.Common.{add-zero, length-append, nat_le, nat_lt, codes, list_all, IfSome, option_and_then, IsUtf8, IsAscii, IsCharBoundary}
+use Rattle.target_filter.proofs.Common.{false≢true, nat_tests, IsUtf8-from_ascii, IsUtf8-append, IsCharBoundary-end, IsCharBoundary-start}
+use Rattle.target_filter.proofs.Common.{IsCharBoundary-before_ascii, IsCharBoundary-after_ascii, take-take, take-append-drop, take_more, take_all}
+use Rattle.target_filter.proofs.Common.{is_bare_byte, is_quotable_byte, is_nonempty, Field, Id, Name, Tag, Attribute, is_field, field_text, Tree, is_at}
+use Rattle.target_filter.proofs.Common.{OrLevel, spelling, nesting, IsFilter, IsInGrammar, CanContinue, IsLongestBeginning, is_word_letter, Mode, State, Move}
+use Rattle.target_filter.proofs.Common.{run, next, step, state_after, mode_of_name, at_atom_start, at_operator, at_atom_end, start, accepts}
 use Rattle.std.proofs.lemmas.Str.Ascii.{IsAscii-nil, IsAscii-cons}
 use Rattle.target_filter.specs.Scanner as scan
 use Rattle.target_filter.proofs.ScannedTrees.{both, in_mode, reads, tree_end, tree_ends, closed, lt_true}
@@ -55,7 +62,8 @@ Sound scan.Bare = Unit {0}
 Sound scan.Quoted = Unit {0}
 Sound scan.AtomEnd = Unit {0}
 
-word_tail : (d e : ℕ) (left : List ℕ) (y : ℕ) (k : Bool) (rest : List ℕ) → run (in_mode d e (scan.FieldName (y ∷ left) k)) ((y ∷ left) ++ rest) ≡ run (in_mode d e (mode_of_name [] k)) rest
+word_tail : (d e : ℕ) (left : List ℕ) (y : ℕ) (k : Bool) (rest : List ℕ) → run (in_mode d e (scan.FieldName (y ∷ left) k)) ((y ∷ left) ++ rest)
+    ≡ run (in_mode d e (mode_of_name [] k)) rest
 word_tail d e [] y k rest = rw (eq_self y) refl
 word_tail d e (z ∷ zs) y k rest = rw (eq_self y) (word_tail d e zs z k rest)
 
@@ -63,8 +71,10 @@ completes : (d e : ℕ) (m : Mode) (rest : List ℕ) → Sound m → run (in_mod
 completes d e scan.AtomStart rest h = refl
 completes d e (scan.FieldName [] true) rest h = absurd h
 completes d e (scan.FieldName [] false) rest h = refl
-completes d e (scan.FieldName (x ∷ xs) true) rest h = ap (run (in_mode d e (scan.FieldName (x ∷ xs) true))) (append_assoc (x ∷ xs) (codes "a==a") rest) ∙ word_tail d e xs x true (codes "a==a" ++ rest)
-completes d e (scan.FieldName (x ∷ xs) false) rest h = ap (run (in_mode d e (scan.FieldName (x ∷ xs) false))) (append_assoc (x ∷ xs) (codes "==a") rest) ∙ word_tail d e xs x false (codes "==a" ++ rest)
+completes d e (scan.FieldName (x ∷ xs) true) rest h = ap (run (in_mode d e (scan.FieldName (x ∷ xs) true))) (append_assoc (x ∷ xs) (codes "a==a") rest)
+    ∙ word_tail d e xs x true (codes "a==a" ++ rest)
+completes d e (scan.FieldName (x ∷ xs) false) rest h = ap (run (in_mode d e (scan.FieldName (x ∷ xs) false))) (append_assoc (x ∷ xs) (codes "==a") rest)
+    ∙ word_tail d e xs x false (codes "==a" ++ rest)
 completes d e (scan.Key zero) rest h = refl
 completes d e (scan.Key (suc n)) rest h = rw (lt_true 0 (suc n) (omega arith)) refl
 completes d e scan.Equals rest h = refl
@@ -84,7 +94,8 @@ closes : (d e : ℕ) (m : Mode) → scan.ends_atom m ≡ true → Accepted (run 
 closes zero e m h = (in_mode 0 e m, refl, all_of (scan.ends_atom m) true h refl)
 closes (suc d) e m h =
     let one : suc d ≡ d + 1 = omega arith in
-    let next : run (in_mode (suc d) e m) (41 ∷ closing d) ≡ run (in_mode d e scan.AtomEnd) (closing d) = ap (λ n. run (in_mode n e m) (41 ∷ closing d)) one ∙ closed d e m (closing d) h in
+    let next : run (in_mode (suc d) e m) (41 ∷ closing d) ≡ run (in_mode d e scan.AtomEnd) (closing d) = ap (λ n. run (in_mode n e m) (41 ∷ closing d)) one
+    ∙ closed d e m (closing d) h in
     let (s, w, a) = closes d e scan.AtomEnd refl in
     (s, next ∙ w, a)
 
@@ -123,8 +134,10 @@ ascii (x ∷ xs) h =
 
 tail_utf8 : (m : Mode) (x : List ℕ) → Begun m x → IsUtf8 (tail m)
 tail_utf8 scan.AtomStart x h = IsUtf8-from_ascii _ (ascii (codes "tag==a") refl)
-tail_utf8 (scan.FieldName left true) x h = IsUtf8-append left (codes "a==a") (IsUtf8-from_ascii left (left_ascii x left true h)) (IsUtf8-from_ascii _ (ascii (codes "a==a") refl))
-tail_utf8 (scan.FieldName left false) x h = IsUtf8-append left (codes "==a") (IsUtf8-from_ascii left (left_ascii x left false h)) (IsUtf8-from_ascii _ (ascii (codes "==a") refl))
+tail_utf8 (scan.FieldName left true) x h = IsUtf8-append left (codes "a==a") (IsUtf8-from_ascii left (left_ascii x left true h))
+    (IsUtf8-from_ascii _ (ascii (codes "a==a") refl))
+tail_utf8 (scan.FieldName left false) x h = IsUtf8-append left (codes "==a") (IsUtf8-from_ascii left (left_ascii x left false h))
+    (IsUtf8-from_ascii _ (ascii (codes "==a") refl))
 tail_utf8 (scan.Key zero) x h = IsUtf8-from_ascii _ (ascii (codes "a==a") refl)
 tail_utf8 (scan.Key (suc n)) x h = IsUtf8-from_ascii _ (ascii (codes "==a") refl)
 tail_utf8 scan.Equals x h = IsUtf8-from_ascii _ (ascii (codes "=a") refl)
@@ -155,12 +168,14 @@ sound scan.AtomEnd x h = tt
 -- in two parts
 pub run_append : (p q : List ℕ) (s : State) → run s (p ++ q) ≡ option_and_then (λ t. run t q) (run s p)
 run_append [] q s = refl
-run_append (b ∷ p) q s = elim (step s b) as (λ o. option_and_then (λ t. run t (p ++ q)) o ≡ option_and_then (λ t. run t q) (option_and_then (λ t. run t p) o)) [ None ↦ refl | Some t ↦ run_append p q t ]
+run_append (b ∷ p) q s = elim (step s b) as (λ o. option_and_then (λ t. run t (p ++ q)) o ≡ option_and_then (λ t. run t q) (option_and_then (λ t. run t p) o))
+    [ None ↦ refl | Some t ↦ run_append p q t ]
 
 pub can_continue : (p : List ℕ) (s : State) → run start p ≡ Some s → CanContinue p
 can_continue p s e =
     let h : Stands s p = run_stands p start [] s start_stands e in
-    let goes : run s (ending s) ≡ run (in_mode s.depth s.deepest (tail_end s.mode)) (closing s.depth) = completes s.depth s.deepest s.mode (closing s.depth) (sound s.mode h.atom h.is_begun) in
+    let goes : run s (ending s) ≡ run (in_mode s.depth s.deepest (tail_end s.mode)) (closing s.depth) =
+    completes s.depth s.deepest s.mode (closing s.depth) (sound s.mode h.atom h.is_begun) in
     let (t, w, a) = closes s.depth s.deepest (tail_end s.mode) (tail_ends s.mode) in
     let all : run start (p ++ ending s) ≡ Some t = run_append p (ending s) start ∙ ap (option_and_then (λ t. run t (ending s))) e ∙ goes ∙ w in
     (ending s, (IsUtf8-append (tail s.mode) (closing s.depth) (tail_utf8 s.mode h.atom h.is_begun) (closing_utf8 s.depth), accepted (p ++ ending s) t all a))
@@ -185,13 +200,16 @@ dead p more e (t, h) =
 
 pub dead_from : (text : List ℕ) (n m : ℕ) → run start (take n text) ≡ None → n ≤ m → CanContinue (take m text) → ⊥
 dead_from text n m e l (more, h) =
-    let split : take n text ++ drop n (take m text) ≡ take m text = ap (λ x. x ++ drop n (take m text)) (sym (take-take n m text l)) ∙ take-append-drop n (take m text) in
+    let split : take n text ++ drop n (take m text) ≡ take m text = ap (λ x. x ++ drop n (take m text)) (sym (take-take n m text l))
+    ∙ take-append-drop n (take m text) in
     dead (take n text) (drop n (take m text) ++ more) e (rw (← append_assoc (take n text) (drop n (take m text)) more, split) h.1)
 
 -- one byte more
-pub run_more : (text : List ℕ) (i : ℕ) (s t : State) → i < length text → run start (take i text) ≡ Some s → step s (get_or text i 0) ≡ Some t → run start (take (i + 1) text) ≡ Some t
+pub run_more : (text : List ℕ) (i : ℕ) (s t : State) → i < length text → run start (take i text) ≡ Some s → step s (get_or text i 0) ≡ Some t
+    → run start (take (i + 1) text) ≡ Some t
 run_more text i s t l e k =
-    ap (run start) (take_more text i 0 l) ∙ run_append (take i text) (get_or text i 0 ∷ []) start ∙ ap (option_and_then (λ t. run t (get_or text i 0 ∷ []))) e ∙ ap (option_and_then (λ t. run t [])) k
+    ap (run start) (take_more text i 0 l) ∙ run_append (take i text) (get_or text i 0 ∷ []) start ∙ ap (option_and_then (λ t. run t (get_or text i 0 ∷ []))) e
+    ∙ ap (option_and_then (λ t. run t [])) k
 
 pub run_all : (text : List ℕ) (i : ℕ) (s : State) → length text ≤ i → run start (take i text) ≡ Some s → run start text ≡ Some s
 run_all text i s l e = ap (run start) (sym (take_all i text l)) ∙ e

@@ -1,5 +1,12 @@
 -- The tree of a text is found, so a text has one tree.
-use Rattle.target_filter.proofs.Common.{◌≡◌, ◌⊎◌, inl, inr, ℕ, zero, suc, ◌+◌, ◌-◌, ◌*◌, ◌≤◌, ◌<◌, List, [], ◌∷◌, ◌++◌, length, take, drop, Bool, true, false, cond, ◌&&◌, ◌||◌, ◌==◌, not, eqb, Option, Some, None, refl, sym, ◌∙◌, ap, subst, arith, append_assoc, append-nil, length-append, nat_le, codes, list_all, option_and_then, option_map, option_map_or, false≢true, nat_tests, is_bare_byte, is_quotable_byte, is_nonempty, Field, Id, Name, Tag, Attribute, Value, Bare, Quoted, Tree, Or, And, Group, Comparison, Level, OrLevel, AndLevel, AtomLevel, is_at, allows_or, allows_and, spelling, field_text, value_text, Operator, Equal, NotEqual, operator_byte, is_field, is_value, IsFilter, is_word_letter, front, behind_front, attribute_field, field_of_name, operator_at, quoted_value, bare_value, value_at, comparison_at, closed, or_at, more_ors, and_at, more_ands, atom_at}
+use Rattle.target_filter.proofs.Common.{◌≡◌, ◌⊎◌, inl, inr, ℕ, zero, suc, ◌+◌, ◌-◌, ◌*◌, ◌≤◌, ◌<◌, List, [], ◌∷◌, ◌++◌, length, take, drop, Bool, true, false}
+use Rattle.target_filter.proofs.Common.{cond, ◌&&◌, ◌||◌, ◌==◌, not, eqb, Option, Some, None, refl, sym, ◌∙◌, ap, subst, arith, append_assoc, append-nil}
+use Rattle.target_filter.proofs.Common.{length-append, nat_le, codes, list_all, option_and_then, option_map, option_map_or, false≢true, nat_tests}
+use Rattle.target_filter.proofs.Common.{is_bare_byte, is_quotable_byte, is_nonempty, Field, Id, Name, Tag, Attribute, Value, Bare, Quoted, Tree, Or, And}
+use Rattle.target_filter.proofs.Common.{Group, Comparison, Level, OrLevel, AndLevel, AtomLevel, is_at, allows_or, allows_and, spelling, field_text, value_text}
+use Rattle.target_filter.proofs.Common.{Operator, Equal, NotEqual, operator_byte, is_field, is_value, IsFilter, is_word_letter, front, behind_front}
+use Rattle.target_filter.proofs.Common.{attribute_field, field_of_name, operator_at, quoted_value, bare_value, value_at, comparison_at, closed, or_at}
+use Rattle.target_filter.proofs.Common.{more_ors, and_at, more_ands, atom_at}
 use Rattle.target_filter.proofs.ScannedTrees.{both}
 
 -- what may stand behind a value without quotes
@@ -44,7 +51,8 @@ value_found : (v : Value) (rest : List ℕ) → is_value v ≡ true → stops is
 value_found (Bare []) rest h s = absurd (false≢true h)
 value_found (Bare (b ∷ v)) rest h s =
     let p = both (is_bare_byte b) (list_all is_bare_byte v) h in
-    ap (λ c. cond c (quoted_value (front is_quotable_byte (v ++ rest)) (behind_front is_quotable_byte (v ++ rest))) (bare_value (front is_bare_byte (b ∷ (v ++ rest))) (behind_front is_bare_byte (b ∷ (v ++ rest))))) (bare_not_quote b p.0)
+    ap (λ c. cond c (quoted_value (front is_quotable_byte (v ++ rest)) (behind_front is_quotable_byte (v ++ rest)))
+    (bare_value (front is_bare_byte (b ∷ (v ++ rest))) (behind_front is_bare_byte (b ∷ (v ++ rest))))) (bare_not_quote b p.0)
     ∙ ap (λ y. bare_value y (behind_front is_bare_byte (b ∷ (v ++ rest)))) (fronts is_bare_byte (b ∷ v) rest h s)
     ∙ ap (bare_value (b ∷ v)) (pasts is_bare_byte (b ∷ v) rest h s)
 value_found (Quoted v) rest h s =
@@ -60,14 +68,21 @@ mark_stops : (m : Operator) (rest : List ℕ) → stops is_word_letter (operator
 mark_stops Equal rest = refl
 mark_stops NotEqual rest = refl
 
-test_found : (f : Field) (m : Operator) (v : Value) (rest : List ℕ) → is_field f ≡ true → is_value v ≡ true → stops is_bare_byte rest ≡ true → comparison_at (spelling (Comparison f m v) ++ rest) ≡ Some (Comparison f m v, rest)
+test_found : (f : Field) (m : Operator) (v : Value) (rest : List ℕ) → is_field f ≡ true → is_value v ≡ true → stops is_bare_byte rest ≡ true
+    → comparison_at (spelling (Comparison f m v) ++ rest) ≡ Some (Comparison f m v, rest)
 test_found f m v rest h k s =
     let tail = operator_byte m ∷ 61 ∷ (value_text v ++ rest) in
     ap comparison_at (append_assoc (field_text f) (operator_byte m ∷ 61 ∷ value_text v) rest)
-    ∙ ap (λ y. option_and_then (λ g. option_and_then (λ (m : Operator × List ℕ). option_map (λ (v : Value × List ℕ). (Comparison g m.0 v.0, v.1)) (value_at m.1)) (operator_at (behind_front is_word_letter (field_text f ++ tail)))) (field_of_name y)) (fronts is_word_letter (field_text f) tail (field_letters f h) (mark_stops m (61 ∷ (value_text v ++ rest))))
-    ∙ ap (option_and_then (λ g. option_and_then (λ (m : Operator × List ℕ). option_map (λ (v : Value × List ℕ). (Comparison g m.0 v.0, v.1)) (value_at m.1)) (operator_at (behind_front is_word_letter (field_text f ++ tail))))) (field_found f)
-    ∙ ap (λ y. option_and_then (λ (m : Operator × List ℕ). option_map (λ (v : Value × List ℕ). (Comparison f m.0 v.0, v.1)) (value_at m.1)) (operator_at y)) (pasts is_word_letter (field_text f) tail (field_letters f h) (mark_stops m (61 ∷ (value_text v ++ rest))))
-    ∙ ap (option_and_then (λ (m : Operator × List ℕ). option_map (λ (v : Value × List ℕ). (Comparison f m.0 v.0, v.1)) (value_at m.1))) (mark_found m (value_text v ++ rest))
+    ∙ ap (λ y. option_and_then
+    (λ g. option_and_then (λ (m : Operator × List ℕ). option_map (λ (v : Value × List ℕ). (Comparison g m.0 v.0, v.1)) (value_at m.1))
+    (operator_at (behind_front is_word_letter (field_text f ++ tail)))) (field_of_name y))
+    (fronts is_word_letter (field_text f) tail (field_letters f h) (mark_stops m (61 ∷ (value_text v ++ rest))))
+    ∙ ap (option_and_then (λ g. option_and_then (λ (m : Operator × List ℕ). option_map (λ (v : Value × List ℕ). (Comparison g m.0 v.0, v.1)) (value_at m.1))
+    (operator_at (behind_front is_word_letter (field_text f ++ tail))))) (field_found f)
+    ∙ ap (λ y. option_and_then (λ (m : Operator × List ℕ). option_map (λ (v : Value × List ℕ). (Comparison f m.0 v.0, v.1)) (value_at m.1)) (operator_at y))
+    (pasts is_word_letter (field_text f) tail (field_letters f h) (mark_stops m (61 ∷ (value_text v ++ rest))))
+    ∙ ap (option_and_then (λ (m : Operator × List ℕ). option_map (λ (v : Value × List ℕ). (Comparison f m.0 v.0, v.1)) (value_at m.1)))
+    (mark_found m (value_text v ++ rest))
     ∙ ap (option_map (λ (v : Value × List ℕ). (Comparison f m v.0, v.1))) (value_found v rest k s)
 
 abbrev semi : ℕ → Bool
@@ -95,17 +110,21 @@ ors_stop (suc n) t [] h = refl
 ors_stop (suc n) t (b ∷ s) h = ors_stop_by n t b s (b == 44) refl h
 
 abbrev AtomReads : Tree → Type 0
-AtomReads t = (n : ℕ) (rest : List ℕ) → stops is_bare_byte rest ≡ true → 3 * length (spelling t ++ rest) + 1 ≤ n → atom_at n (spelling t ++ rest) ≡ Some (t, rest)
+AtomReads t = (n : ℕ) (rest : List ℕ) → stops is_bare_byte rest ≡ true → 3 * length (spelling t ++ rest) + 1 ≤ n → atom_at n (spelling t ++ rest)
+    ≡ Some (t, rest)
 
 abbrev AndReads : Tree → Type 0
-AndReads t = (n : ℕ) (rest : List ℕ) → stops is_bare_byte rest ≡ true → 3 * length (spelling t ++ rest) + 2 ≤ n → (m : ℕ) × (3 * length rest + 1 ≤ m) × (and_at n (spelling t ++ rest) ≡ more_ands m t rest)
+AndReads t = (n : ℕ) (rest : List ℕ) → stops is_bare_byte rest ≡ true → 3 * length (spelling t ++ rest) + 2 ≤ n → (m : ℕ) × (3 * length rest + 1 ≤ m)
+    × (and_at n (spelling t ++ rest) ≡ more_ands m t rest)
 
 abbrev OrReads : Tree → Type 0
-OrReads t = (n : ℕ) (rest : List ℕ) → stops is_bare_byte rest ≡ true → stops semi rest ≡ true → 3 * length (spelling t ++ rest) + 3 ≤ n → (m : ℕ) × (3 * length rest + 1 ≤ m) × (or_at n (spelling t ++ rest) ≡ more_ors m t rest)
+OrReads t = (n : ℕ) (rest : List ℕ) → stops is_bare_byte rest ≡ true → stops semi rest ≡ true → 3 * length (spelling t ++ rest) + 3 ≤ n → (m : ℕ)
+    × (3 * length rest + 1 ≤ m) × (or_at n (spelling t ++ rest) ≡ more_ors m t rest)
 
 and_from : (t : Tree) → AtomReads t → AndReads t
 and_from t f zero rest s b = absurd (omega arith)
-and_from t f (suc n) rest s b = (n, omega (arith, length-append (spelling t) rest), ap (option_and_then (λ (x : Tree × List ℕ). more_ands n x.0 x.1)) (f n rest s (omega arith)))
+and_from t f (suc n) rest s b =
+    (n, omega (arith, length-append (spelling t) rest), ap (option_and_then (λ (x : Tree × List ℕ). more_ands n x.0 x.1)) (f n rest s (omega arith)))
 
 or_from : (t : Tree) → AndReads t → OrReads t
 or_from t f zero rest s z b = absurd (omega arith)
@@ -113,9 +132,11 @@ or_from t f (suc n) rest s z b =
     let (m, l, e) = f n rest s (omega arith) in
     (n, omega (arith, length-append (spelling t) rest), ap (option_and_then (λ (x : Tree × List ℕ). more_ors n x.0 x.1)) (e ∙ ands_stop m t rest z))
 
-both_step : (a b : Tree) (m : ℕ) (rest : List ℕ) → AtomReads b → stops is_bare_byte rest ≡ true → 3 * length (59 ∷ (spelling b ++ rest)) + 1 ≤ m → (k : ℕ) × (3 * length rest + 1 ≤ k) × (more_ands m a (59 ∷ (spelling b ++ rest)) ≡ more_ands k (And a b) rest)
+both_step : (a b : Tree) (m : ℕ) (rest : List ℕ) → AtomReads b → stops is_bare_byte rest ≡ true → 3 * length (59 ∷ (spelling b ++ rest)) + 1 ≤ m → (k : ℕ)
+    × (3 * length rest + 1 ≤ k) × (more_ands m a (59 ∷ (spelling b ++ rest)) ≡ more_ands k (And a b) rest)
 both_step a b zero rest f s l = absurd (omega arith)
-both_step a b (suc k) rest f s l = (k, omega (arith, length-append (spelling b) rest), ap (option_and_then (λ (x : Tree × List ℕ). more_ands k (And a x.0) x.1)) (f k rest s (omega arith)))
+both_step a b (suc k) rest f s l =
+    (k, omega (arith, length-append (spelling b) rest), ap (option_and_then (λ (x : Tree × List ℕ). more_ands k (And a x.0) x.1)) (f k rest s (omega arith)))
 
 both_reads : (a b : Tree) → AndReads a → AtomReads b → AndReads (And a b)
 both_reads a b f g n rest s l =
@@ -124,7 +145,9 @@ both_reads a b f g n rest s l =
     let (k, q, w) = both_step a b m rest g s r in
     (k, q, ap (and_at n) same ∙ e ∙ w)
 
-either_step : (a b : Tree) (m : ℕ) (rest : List ℕ) → AndReads b → stops is_bare_byte rest ≡ true → stops semi rest ≡ true → 3 * length (44 ∷ (spelling b ++ rest)) + 1 ≤ m → (k : ℕ) × (3 * length rest + 1 ≤ k) × (more_ors m a (44 ∷ (spelling b ++ rest)) ≡ more_ors k (Or a b) rest)
+either_step : (a b : Tree) (m : ℕ) (rest : List ℕ) → AndReads b → stops is_bare_byte rest ≡ true → stops semi rest ≡ true
+    → 3 * length (44 ∷ (spelling b ++ rest)) + 1 ≤ m → (k : ℕ) × (3 * length rest + 1 ≤ k)
+    × (more_ors m a (44 ∷ (spelling b ++ rest)) ≡ more_ors k (Or a b) rest)
 either_step a b zero rest f s z l = absurd (omega arith)
 either_step a b (suc k) rest f s z l =
     let (i, r, e) = f k rest s (omega arith) in
@@ -160,7 +183,12 @@ reading : (t : Tree) → Reading t
 reading (Or a b) =
     let f = (reading a).ors in
     let g = (reading b).ands in
-    record { atom = λ h. absurd (false≢true h); ands = λ h. absurd (false≢true h); ors = λ h. let p = both (is_at OrLevel a) (is_at AndLevel b) h in either_reads a b (f p.0) (g p.1) }
+    record {
+      atom = λ h. absurd (false≢true h);
+      ands = λ h. absurd (false≢true h);
+      ors = λ h. let p = both (is_at OrLevel a) (is_at AndLevel b) h in
+          either_reads a b (f p.0) (g p.1);
+    }
 reading (And a b) =
     let f = (reading a).ands in
     let g = (reading b).atom in
@@ -168,7 +196,11 @@ reading (And a b) =
     record { atom = λ h. absurd (false≢true h); ands = ands; ors = λ h. or_from (And a b) (ands h) }
 reading (Group t) =
     let f = (reading t).ors in
-    record { atom = λ h. group_reads t (f h); ands = λ h. and_from (Group t) (group_reads t (f h)); ors = λ h. or_from (Group t) (and_from (Group t) (group_reads t (f h))) }
+    record {
+      atom = λ h. group_reads t (f h);
+      ands = λ h. and_from (Group t) (group_reads t (f h));
+      ors = λ h. or_from (Group t) (and_from (Group t) (group_reads t (f h)));
+    }
 reading (Comparison f e v) =
     let go = λ (h : is_at AtomLevel (Comparison f e v) ≡ true). let p = both (is_field f) (is_value v) h in test_reads f e v p.0 p.1 in
     record { atom = go; ands = λ h. and_from (Comparison f e v) (go h); ors = λ h. or_from (Comparison f e v) (and_from (Comparison f e v) (go h)) }

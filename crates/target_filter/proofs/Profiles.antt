@@ -1,5 +1,7 @@
 -- What `filter_of` computes is the tree of a text of the profile.
-use Rattle.target_filter.proofs.Common.{◌≡◌, ◌⊎◌, inl, inr, ℕ, ◌+◌, ◌*◌, ◌≤◌, List, [], length, Bool, true, false, cond, ◌&&◌, Option, Some, None, refl, ◌∙◌, ap, subst, arith, nat_le, nat_eq, option_and_then, pointwise, false≢true, nat_tests, Decides-eqb, slice_eq-Decides, Tree, IsFilter, OrLevel, is_at, spelling, nesting, or_at, IsProfileFilter, IsInProfile, is_profile_filter, filter_of}
+use Rattle.target_filter.proofs.Common.{◌≡◌, ◌⊎◌, inl, inr, ℕ, ◌+◌, ◌*◌, ◌≤◌, List, [], length, Bool, true, false, cond, ◌&&◌, Option, Some, None, refl, ◌∙◌}
+use Rattle.target_filter.proofs.Common.{ap, subst, arith, nat_le, nat_eq, option_and_then, pointwise, false≢true, nat_tests, Decides-eqb, slice_eq-Decides}
+use Rattle.target_filter.proofs.Common.{Tree, IsFilter, OrLevel, is_at, spelling, nesting, or_at, IsProfileFilter, IsInProfile, is_profile_filter, filter_of}
 use Rattle.rollout_model.specs.Limits.{filter_length_limit, filter_depth_limit}
 use Rattle.target_filter.proofs.ScannedTrees.{both}
 use Rattle.target_filter.proofs.Beginnings.{all_of}
@@ -16,7 +18,8 @@ of_le m n h = grind (arith, nat_tests)
 -- the test and the record
 passes : (text : List ℕ) (t : Tree) → is_profile_filter text t ≡ true → IsProfileFilter text t
 passes text t h =
-    let p = both (is_at OrLevel t && pointwise nat_eq text (spelling t) && nat_le (length text) filter_length_limit) (nat_le (nesting t) filter_depth_limit) h in
+    let p = both (is_at OrLevel t && pointwise nat_eq text (spelling t) && nat_le (length text) filter_length_limit) (nat_le (nesting t) filter_depth_limit)
+    h in
     let q = both (is_at OrLevel t && pointwise nat_eq text (spelling t)) (nat_le (length text) filter_length_limit) p.0 in
     let r = both (is_at OrLevel t) (pointwise nat_eq text (spelling t)) q.0 in
     record {
@@ -29,14 +32,16 @@ passed : (text : List ℕ) (t : Tree) → IsProfileFilter text t → is_profile_
 passed text t h =
     all_of (is_at OrLevel t && pointwise nat_eq text (spelling t) && nat_le (length text) filter_length_limit) (nat_le (nesting t) filter_depth_limit)
     (all_of (is_at OrLevel t && pointwise nat_eq text (spelling t)) (nat_le (length text) filter_length_limit)
-    (all_of (is_at OrLevel t) (pointwise nat_eq text (spelling t)) h.filter.level ((slice_eq-Decides Decides-eqb text (spelling t) (pointwise nat_eq text (spelling t)) refl).1 h.filter.spells))
+    (all_of (is_at OrLevel t) (pointwise nat_eq text (spelling t)) h.filter.level
+    ((slice_eq-Decides Decides-eqb text (spelling t) (pointwise nat_eq text (spelling t)) refl).1 h.filter.spells))
     (of_le (length text) filter_length_limit h.short))
     (of_le (nesting t) filter_depth_limit h.shallow)
 
 abbrev taken : List ℕ → Tree × List ℕ → Option Tree
 taken text found = cond (is_profile_filter text found.0) (Some found.0) None
 
-kept_by : (text : List ℕ) (u t : Tree) (c : Bool) → is_profile_filter text u ≡ c → ◌≡◌ {A = Option Tree} (cond c (Some u) None) (Some t) → is_profile_filter text t ≡ true
+kept_by : (text : List ℕ) (u t : Tree) (c : Bool) → is_profile_filter text u ≡ c → ◌≡◌ {A = Option Tree} (cond c (Some u) None) (Some t)
+    → is_profile_filter text t ≡ true
 kept_by text u t true e h = let same : u ≡ t = cc in rw (← same) e
 kept_by text u t false e h = cc
 
@@ -66,6 +71,7 @@ filter_none text h = none_by text (filter_of text) refl h
 pub tree_found : (text : List ℕ) (u : Tree) (r : List ℕ) → IsInProfile text → or_at (3 * length text + 3) text ≡ Some (u, r) → IsProfileFilter text u
 tree_found text u r (t, h) e = subst (IsProfileFilter text) (found text (3 * length text + 3) t u r h.filter (omega arith) e) h
 
-pub none_missing : (text : List ℕ) (e : ParseFault) → IsInProfile text → e ≡ Missing → (e ≡ Memory) ⊎ ((e ≡ Missing) × (or_at (3 * length text + 3) text ≡ None)) → ⊥
+pub none_missing : (text : List ℕ) (e : ParseFault) → IsInProfile text → e ≡ Missing → (e ≡ Memory)
+    ⊎ ((e ≡ Missing) × (or_at (3 * length text + 3) text ≡ None)) → ⊥
 none_missing text e p h (inl m) = cc
 none_missing text e (t, p) h (inr (m, none)) = let some = parsed text t (3 * length text + 3) p.filter (omega arith) in cc

@@ -1,5 +1,6 @@
 -- From the scanner's answer to the reader's.
-use Rattle.target_filter.proofs.Common.{◌≡◌, ℕ, ◌≤◌, ◌<◌, List, length, arith, ap, None, Result, Ok, Err, IsUtf8, Stops, Ends, Tree, IsInGrammar, IsFilter, nesting, IsProfileFilter, IsInProfile, filter_of}
+use Rattle.target_filter.proofs.Common.{◌≡◌, ℕ, ◌≤◌, ◌<◌, List, length, arith, ap, None, Result, Ok, Err, IsUtf8, Stops, Ends, Tree, IsInGrammar, IsFilter}
+use Rattle.target_filter.proofs.Common.{nesting, IsProfileFilter, IsInProfile, filter_of}
 use Rattle.target_filter.specs.Faults.{IsRefused}
 use Rattle.target_filter.specs.declared.fault.FilterFault.TheVariants.{Syntax, TooDeep, Memory}
 use Rattle.target_filter.specs.declared.fault.FilterFault.{FilterFault}
@@ -27,12 +28,14 @@ pub outside_none : (text : List ℕ) → (IsInGrammar text → ⊥) → filter_o
 outside_none text h = filter_none text (λ p. h (p.0, p.1.filter))
 
 pub deep_none : (text : List ℕ) → IsRefused text TooDeep → filter_of text ≡ None
-deep_none text (l, t, (f, d)) = filter_none text (λ p. let same : nesting t ≡ nesting p.0 = ap nesting (one_tree text t p.0 f p.1.filter) in absurd (omega (arith, p.1.shallow, same, d)))
+deep_none text (l, t, (f, d)) = filter_none text (λ p. let same : nesting t ≡ nesting p.0 = ap nesting (one_tree text t p.0 f p.1.filter) in
+    absurd (omega (arith, p.1.shallow, same, d)))
 
 -- a text of the profile is read, want of memory aside
 pub memory : (text : List ℕ) → IsInProfile text → (e : FilterFault) → e ≡ Memory → IsRefused text e
 memory text h e same = rw same h
 
-pub within_fault : {A : Type 0} (text : List ℕ) (P : A → Type 0) (r : Result A FilterFault) → IsInProfile text → MatchResult r P (λ e. e ≡ Memory) → IfErr r (λ e. IsRefused text e)
+pub within_fault : {A : Type 0} (text : List ℕ) (P : A → Type 0) (r : Result A FilterFault) → IsInProfile text → MatchResult r P (λ e. e ≡ Memory)
+    → IfErr r (λ e. IsRefused text e)
 within_fault text P (Ok f) h m = tt
 within_fault text P (Err e) h m = memory text h e m

@@ -1,5 +1,9 @@
 -- The scanner goes through each filter.
-use Rattle.target_filter.proofs.Common.{◌≡◌, ℕ, zero, suc, ◌+◌, ◌-◌, ◌≤◌, ◌<◌, max, List, [], ◌∷◌, ◌++◌, length, Bool, true, false, cond, ◌&&◌, ltb, leb, Option, Some, None, refl, sym, ◌∙◌, ap, arith, append_assoc, add-zero, nat_le, nat_lt, list_all, false≢true, nat_tests, is_bare_byte, is_quotable_byte, is_nonempty, Field, Id, Name, Tag, Attribute, Value, Bare, Quoted, Tree, Or, And, Group, Comparison, Level, OrLevel, AndLevel, AtomLevel, is_at, allows_or, allows_and, spelling, field_text, value_text, Operator, Equal, NotEqual, operator_byte, nesting, is_field, is_value, is_word_letter, Mode, State, run, next}
+use Rattle.target_filter.proofs.Common.{◌≡◌, ℕ, zero, suc, ◌+◌, ◌-◌, ◌≤◌, ◌<◌, max, List, [], ◌∷◌, ◌++◌, length, Bool, true, false, cond, ◌&&◌, ltb, leb}
+use Rattle.target_filter.proofs.Common.{Option, Some, None, refl, sym, ◌∙◌, ap, arith, append_assoc, add-zero, nat_le, nat_lt, list_all, false≢true, nat_tests}
+use Rattle.target_filter.proofs.Common.{is_bare_byte, is_quotable_byte, is_nonempty, Field, Id, Name, Tag, Attribute, Value, Bare, Quoted, Tree, Or, And}
+use Rattle.target_filter.proofs.Common.{Group, Comparison, Level, OrLevel, AndLevel, AtomLevel, is_at, allows_or, allows_and, spelling, field_text, value_text}
+use Rattle.target_filter.proofs.Common.{Operator, Equal, NotEqual, operator_byte, nesting, is_field, is_value, is_word_letter, Mode, State, run, next}
 use Rattle.target_filter.specs.Scanner as scan
 
 pub both : (a b : Bool) → (a && b) ≡ true → (a ≡ true) × (b ≡ true)
@@ -9,18 +13,21 @@ both false b h = absurd (false≢true h)
 abbrev pub in_mode : ℕ → ℕ → Mode → State
 in_mode d e m = record { depth = d; deepest = e; mode = m }
 
-key_step : (d e n k : ℕ) (x : List ℕ) → is_word_letter k ≡ true → nat_lt n 64 ≡ true → run (in_mode d e (scan.Key n)) (k ∷ x) ≡ run (in_mode d e (scan.Key (n + 1))) x
+key_step : (d e n k : ℕ) (x : List ℕ) → is_word_letter k ≡ true → nat_lt n 64 ≡ true → run (in_mode d e (scan.Key n)) (k ∷ x)
+    ≡ run (in_mode d e (scan.Key (n + 1))) x
 key_step d e n k x p q = rw (p, q) refl
 
 pub lt_true : (m n : ℕ) → m < n → nat_lt m n ≡ true
 lt_true m n h = grind (arith, nat_tests)
 
-keys : (d e n : ℕ) (ks rest : List ℕ) → list_all is_word_letter ks ≡ true → n + length ks ≤ 64 → run (in_mode d e (scan.Key n)) (ks ++ rest) ≡ run (in_mode d e (scan.Key (n + length ks))) rest
+keys : (d e n : ℕ) (ks rest : List ℕ) → list_all is_word_letter ks ≡ true → n + length ks ≤ 64 → run (in_mode d e (scan.Key n)) (ks ++ rest)
+    ≡ run (in_mode d e (scan.Key (n + length ks))) rest
 keys d e n [] rest h l = ap (λ k. run (in_mode d e (scan.Key k)) rest) (sym (add-zero n))
 keys d e n (k ∷ ks) rest h l =
     let p = both (is_word_letter k) (list_all is_word_letter ks) h in
     let sum : n + 1 + length ks ≡ n + length (k ∷ ks) = omega arith in
-    key_step d e n k (ks ++ rest) p.0 (lt_true n 64 (omega arith)) ∙ keys d e (n + 1) ks rest p.1 (omega arith) ∙ ap (λ k. run (in_mode d e (scan.Key k)) rest) sum
+    key_step d e n k (ks ++ rest) p.0 (lt_true n 64 (omega arith)) ∙ keys d e (n + 1) ks rest p.1 (omega arith)
+    ∙ ap (λ k. run (in_mode d e (scan.Key k)) rest) sum
 
 bares : (d e : ℕ) (v rest : List ℕ) → list_all is_bare_byte v ≡ true → run (in_mode d e scan.Bare) (v ++ rest) ≡ run (in_mode d e scan.Bare) rest
 bares d e [] rest h = refl
@@ -34,7 +41,8 @@ abbrev pub value_end : Value → Mode
 value_end (Bare v) = scan.Bare
 value_end (Quoted v) = scan.AtomEnd
 
-value_read : (d e : ℕ) (v : Value) (rest : List ℕ) → is_value v ≡ true → run (in_mode d e scan.Value) (value_text v ++ rest) ≡ run (in_mode d e (value_end v)) rest
+value_read : (d e : ℕ) (v : Value) (rest : List ℕ) → is_value v ≡ true → run (in_mode d e scan.Value) (value_text v ++ rest)
+    ≡ run (in_mode d e (value_end v)) rest
 value_read d e (Bare []) rest h = absurd (false≢true h)
 value_read d e (Bare (b ∷ v)) rest h = let p = both (is_bare_byte b) (list_all is_bare_byte v) h in rw p.0 (bares d e v rest p.1)
 value_read d e (Quoted v) rest h = ap (run (in_mode d e scan.Quoted)) (append_assoc v (34 ∷ []) rest) ∙ plains d e v (34 ∷ rest) h
@@ -45,7 +53,8 @@ field_end Name = scan.FieldName [] false
 field_end Tag = scan.FieldName [] false
 field_end (Attribute key) = scan.Key (length key)
 
-field_read : (d e : ℕ) (f : Field) (rest : List ℕ) → is_field f ≡ true → run (in_mode d e scan.AtomStart) (field_text f ++ rest) ≡ run (in_mode d e (field_end f)) rest
+field_read : (d e : ℕ) (f : Field) (rest : List ℕ) → is_field f ≡ true → run (in_mode d e scan.AtomStart) (field_text f ++ rest)
+    ≡ run (in_mode d e (field_end f)) rest
 field_read d e Id rest h = refl
 field_read d e Name rest h = refl
 field_read d e Tag rest h = refl
@@ -55,7 +64,8 @@ field_read d e (Attribute key) rest h =
     let small : 0 + length key ≤ 64 = grind (arith, nat_tests) in
     keys d e 0 key rest p.1 small ∙ ap (λ k. run (in_mode d e (scan.Key k)) rest) (omega arith)
 
-mark_read : (d e : ℕ) (f : Field) (m : Operator) (rest : List ℕ) → is_field f ≡ true → run (in_mode d e (field_end f)) (operator_byte m ∷ 61 ∷ rest) ≡ run (in_mode d e scan.Value) rest
+mark_read : (d e : ℕ) (f : Field) (m : Operator) (rest : List ℕ) → is_field f ≡ true → run (in_mode d e (field_end f)) (operator_byte m ∷ 61 ∷ rest)
+    ≡ run (in_mode d e scan.Value) rest
 mark_read d e Id Equal rest h = refl
 mark_read d e Id NotEqual rest h = refl
 mark_read d e Name Equal rest h = refl
@@ -117,7 +127,8 @@ deeper : (d : ℕ) (m : Mode) (rest : List ℕ) (e f : ℕ) → e ≡ f → run 
 deeper d m rest e f h = ap (λ k. run (in_mode d k m) rest) h
 
 -- the scanner behind a tree
-pub reads : (t : Tree) (l : Level) (d e : ℕ) (rest : List ℕ) → d ≤ e → is_at l t ≡ true → run (in_mode d e scan.AtomStart) (spelling t ++ rest) ≡ run (in_mode d (max e (d + nesting t)) (tree_end t)) rest
+pub reads : (t : Tree) (l : Level) (d e : ℕ) (rest : List ℕ) → d ≤ e → is_at l t ≡ true → run (in_mode d e scan.AtomStart) (spelling t ++ rest)
+    ≡ run (in_mode d (max e (d + nesting t)) (tree_end t)) rest
 reads (Or a b) l d e rest o h =
     let p = both (allows_or l && is_at OrLevel a) (is_at AndLevel b) h in
     let q = both (allows_or l) (is_at OrLevel a) p.0 in

@@ -1,8 +1,15 @@
 -- A move of the scanner keeps what stands behind the beginning.
-use Rattle.target_filter.proofs.Common.{◌≡◌, ◌⊎◌, inl, inr, ℕ, zero, suc, ◌+◌, ◌-◌, ◌≤◌, ◌<◌, max, List, [], ◌∷◌, ◌++◌, length, Bool, true, false, cond, ◌&&◌, ◌==◌, ltb, leb, Option, Some, None, refl, sym, ◌∙◌, ap, subst, arith, append_assoc, append-nil, add-zero, length-append, nat_le, nat_lt, codes, list_all, IfSome, option_and_then, false≢true, nat_tests, is_bare_byte, is_quotable_byte, is_nonempty, Field, Id, Name, Tag, Attribute, Value, Bare, Quoted, Tree, Or, And, Group, Comparison, Level, OrLevel, AndLevel, AtomLevel, is_at, allows_or, allows_and, spelling, field_text, value_text, Operator, Equal, NotEqual, operator_byte, nesting, is_field, is_value, IsFilter, is_word_letter, Mode, State, Move, run, next, step, state_after, mode_of_name, at_atom_start, at_operator, at_atom_end}
+use Rattle.target_filter.proofs.Common.{◌≡◌, ◌⊎◌, inl, inr, ℕ, zero, suc, ◌+◌, ◌-◌, ◌≤◌, ◌<◌, max, List, [], ◌∷◌, ◌++◌, length, Bool, true, false, cond, ◌&&◌}
+use Rattle.target_filter.proofs.Common.{◌==◌, ltb, leb, Option, Some, None, refl, sym, ◌∙◌, ap, subst, arith, append_assoc, append-nil, add-zero}
+use Rattle.target_filter.proofs.Common.{length-append, nat_le, nat_lt, codes, list_all, IfSome, option_and_then, false≢true, nat_tests, is_bare_byte}
+use Rattle.target_filter.proofs.Common.{is_quotable_byte, is_nonempty, Field, Id, Name, Tag, Attribute, Value, Bare, Quoted, Tree, Or, And, Group, Comparison}
+use Rattle.target_filter.proofs.Common.{Level, OrLevel, AndLevel, AtomLevel, is_at, allows_or, allows_and, spelling, field_text, value_text, Operator, Equal}
+use Rattle.target_filter.proofs.Common.{NotEqual, operator_byte, nesting, is_field, is_value, IsFilter, is_word_letter, Mode, State, Move, run, next, step}
+use Rattle.target_filter.proofs.Common.{state_after, mode_of_name, at_atom_start, at_operator, at_atom_end}
 use Rattle.target_filter.specs.Scanner as scan
 use Rattle.target_filter.proofs.ScannedTrees.{both}
-use Rattle.target_filter.proofs.Beginnings.{Part, before, part_text, fits, PartFits, and_with, or_with, and_spelled, and_fits, whole, whole_spelled, whole_fits, outer_text, AllFit, Begun, atom_of, all_of}
+use Rattle.target_filter.proofs.Beginnings.{Part, before, part_text, fits, PartFits, and_with, or_with, and_spelled, and_fits, whole, whole_spelled}
+use Rattle.target_filter.proofs.Beginnings.{whole_fits, outer_text, AllFit, Begun, atom_of, all_of}
 
 pub eq_true : (a b : ℕ) → (a == b) ≡ true → a ≡ b
 eq_true a b h = grind (arith, nat_tests)
@@ -59,7 +66,8 @@ key_field [] n h e l z = absurd (grind (arith, nat_tests))
 key_field (k ∷ ks) n h e l z =
     let small : nat_le (length (k ∷ ks)) 64 ≡ true = grind (arith, nat_tests) in
     let some : nat_le 1 (length (k ∷ ks)) ≡ true = grind (arith, nat_tests) in
-    all_of (nat_le 1 (length (k ∷ ks)) && nat_le (length (k ∷ ks)) 64) (list_all is_word_letter (k ∷ ks)) (all_of (nat_le 1 (length (k ∷ ks))) (nat_le (length (k ∷ ks)) 64) some small) h
+    all_of (nat_le 1 (length (k ∷ ks)) && nat_le (length (k ∷ ks)) 64) (list_all is_word_letter (k ∷ ks))
+    (all_of (nat_le 1 (length (k ∷ ks))) (nat_le (length (k ∷ ks)) 64) some small) h
 
 some_push : (v : List ℕ) (b : ℕ) → is_nonempty (v ++ b ∷ []) ≡ true
 some_push [] b = refl
@@ -81,20 +89,38 @@ good (scan.Key n) x b (key, p, e, l, t) =
     by_test P (nat_lt 0 n) (at_operator b) scan.Stop (λ s. marked_good (scan.Key n) x b (Attribute key) (key_field key n p e l s) t) (λ _. tt))
 good scan.Equals x b (f, m, p, e) =
     let P = λ (v : Move). Good scan.Equals x b v in
-    by_test P (b == 61) (scan.Go scan.Value) scan.Stop (λ h. let k = eq_true b 61 h in (f, m, p, rw (e, k) (append_assoc (field_text f) (operator_byte m ∷ []) (61 ∷ [])))) (λ _. tt)
+    by_test P (b == 61) (scan.Go scan.Value) scan.Stop
+    (λ h. let k = eq_true b 61 h in (f, m, p, rw (e, k) (append_assoc (field_text f) (operator_byte m ∷ []) (61 ∷ [])))) (λ _. tt)
 good scan.Value x b (f, m, p, e) =
     let P = λ (v : Move). Good scan.Value x b v in
-    by_test P (is_bare_byte b) _ _ (λ h. (f, m, b ∷ [], p, all_of (is_bare_byte b) true h refl, rw e (append_assoc (field_text f) (operator_byte m ∷ 61 ∷ []) (b ∷ [])))) (λ _.
-    by_test P (b == 34) (scan.Go scan.Quoted) scan.Stop (λ h. let k = eq_true b 34 h in (f, m, [], p, refl, rw (e, k) (append_assoc (field_text f) (operator_byte m ∷ 61 ∷ []) (34 ∷ [])))) (λ _. tt))
+    by_test P (is_bare_byte b) _ _
+    (λ h. (f, m, b ∷ [], p, all_of (is_bare_byte b) true h refl, rw e (append_assoc (field_text f) (operator_byte m ∷ 61 ∷ []) (b ∷ [])))) (λ _.
+    by_test P (b == 34) (scan.Go scan.Quoted) scan.Stop
+    (λ h. let k = eq_true b 34 h in (f, m, [], p, refl, rw (e, k) (append_assoc (field_text f) (operator_byte m ∷ 61 ∷ []) (34 ∷ [])))) (λ _. tt))
 good scan.Bare x b (f, m, v, p, q, e) =
     let P = λ (v : Move). Good scan.Bare x b v in
     let parts = both (is_nonempty v) (list_all is_bare_byte v) q in
-    by_test P (is_bare_byte b) _ _ (λ h. (f, m, v ++ b ∷ [], p, all_of (is_nonempty (v ++ b ∷ [])) (list_all is_bare_byte (v ++ b ∷ [])) (some_push v b) (all_push is_bare_byte v b parts.1 h), rw e (append_assoc (field_text f) (operator_byte m ∷ 61 ∷ v) (b ∷ []))))
+    by_test P (is_bare_byte b) _ _
+    (λ h. (
+      f,
+      m,
+      v ++ b ∷ [],
+      p,
+      all_of (is_nonempty (v ++ b ∷ [])) (list_all is_bare_byte (v ++ b ∷ [])) (some_push v b)
+          (all_push is_bare_byte v b parts.1 h),
+      rw e (append_assoc (field_text f) (operator_byte m ∷ 61 ∷ v) (b ∷ [])),
+    ))
     (λ _. ended_good scan.Bare x b refl)
 good scan.Quoted x b (f, m, v, p, q, e) =
     let P = λ (v : Move). Good scan.Quoted x b v in
-    by_test P (is_quotable_byte b) _ _ (λ h. (f, m, v ++ b ∷ [], p, all_push is_quotable_byte v b q h, rw e (append_assoc (field_text f) (operator_byte m ∷ 61 ∷ 34 ∷ v) (b ∷ [])))) (λ _.
-    by_test P (b == 34) (scan.Go scan.AtomEnd) scan.Stop (λ h. let k = eq_true b 34 h in (Comparison f m (Quoted v), all_of (is_field f) (list_all is_quotable_byte v) p q, rw (e, k) (append_assoc (field_text f) (operator_byte m ∷ 61 ∷ 34 ∷ v) (34 ∷ [])))) (λ _. tt))
+    by_test P (is_quotable_byte b) _ _
+    (λ h. (f, m, v ++ b ∷ [], p, all_push is_quotable_byte v b q h, rw e (append_assoc (field_text f) (operator_byte m ∷ 61 ∷ 34 ∷ v) (b ∷ [])))) (λ _.
+    by_test P (b == 34) (scan.Go scan.AtomEnd) scan.Stop
+    (λ h. let k = eq_true b 34 h in (
+      Comparison f m (Quoted v),
+      all_of (is_field f) (list_all is_quotable_byte v) p q,
+      rw (e, k) (append_assoc (field_text f) (operator_byte m ∷ 61 ∷ 34 ∷ v) (34 ∷ [])),
+    )) (λ _. tt))
 good scan.AtomEnd x b h = ended_good scan.AtomEnd x b refl
 
 -- the scanner's state, and the beginning that it went through
@@ -108,16 +134,20 @@ pub record Stands (s : State) (p : List ℕ) : Type 0 where
   pub is_begun : Begun s.mode atom
   pub text : p ≡ outer_text outer ++ (part_text part ++ atom)
 
-comma_text : (o : List ℕ) (part : Part) (t : Tree) (p x : List ℕ) (b : ℕ) → p ≡ o ++ (part_text part ++ x) → x ≡ spelling t → b ≡ 44 → p ++ b ∷ [] ≡ o ++ (part_text (record { ors = Some (whole part t); ands = None }) ++ [])
+comma_text : (o : List ℕ) (part : Part) (t : Tree) (p x : List ℕ) (b : ℕ) → p ≡ o ++ (part_text part ++ x) → x ≡ spelling t → b ≡ 44 → p ++ b ∷ []
+    ≡ o ++ (part_text (record { ors = Some (whole part t); ands = None }) ++ [])
 comma_text o part t p x b h e k = rw (h, e, k, whole_spelled part t) (simp (append_assoc, append-nil))
 
-semicolon_text : (o : List ℕ) (part : Part) (t : Tree) (p x : List ℕ) (b : ℕ) → p ≡ o ++ (part_text part ++ x) → x ≡ spelling t → b ≡ 59 → p ++ b ∷ [] ≡ o ++ (part_text (record { ors = part.ors; ands = Some (and_with part.ands t) }) ++ [])
+semicolon_text : (o : List ℕ) (part : Part) (t : Tree) (p x : List ℕ) (b : ℕ) → p ≡ o ++ (part_text part ++ x) → x ≡ spelling t → b ≡ 59 → p ++ b ∷ []
+    ≡ o ++ (part_text (record { ors = part.ors; ands = Some (and_with part.ands t) }) ++ [])
 semicolon_text o part t p x b h e k = rw (h, e, k, and_spelled part.ands t) (simp (append_assoc, append-nil))
 
-close_text : (o : List ℕ) (up part : Part) (t : Tree) (p x : List ℕ) (b : ℕ) → p ≡ (o ++ part_text up ++ 40 ∷ []) ++ (part_text part ++ x) → x ≡ spelling t → b ≡ 41 → p ++ b ∷ [] ≡ o ++ (part_text up ++ spelling (Group (whole part t)))
+close_text : (o : List ℕ) (up part : Part) (t : Tree) (p x : List ℕ) (b : ℕ) → p ≡ (o ++ part_text up ++ 40 ∷ []) ++ (part_text part ++ x) → x ≡ spelling t
+    → b ≡ 41 → p ++ b ∷ [] ≡ o ++ (part_text up ++ spelling (Group (whole part t)))
 close_text o up part t p x b h e k = rw (h, e, k, whole_spelled part t) (simp append_assoc)
 
-close_stands : (s : State) (p : List ℕ) (b : ℕ) (outer : List Part) (h : Stands s p) → h.outer ≡ outer → scan.ends_atom s.mode ≡ true → b ≡ 41 → IfSome (state_after s scan.Close) (λ t. Stands t (p ++ b ∷ []))
+close_stands : (s : State) (p : List ℕ) (b : ℕ) (outer : List Part) (h : Stands s p) → h.outer ≡ outer → scan.ends_atom s.mode ≡ true → b ≡ 41
+    → IfSome (state_after s scan.Close) (λ t. Stands t (p ++ b ∷ []))
 close_stands s p b [] h w d k =
     let none : s.depth ≡ 0 = sym h.depth ∙ ap length w in
     let no : nat_lt 0 s.depth ≡ false = rw none refl in
@@ -191,7 +221,8 @@ go_stands s p b h scan.Close (d, k) = close_stands s p b h.outer h refl d k
 step_stands : (s : State) (p : List ℕ) (b : ℕ) → Stands s p → IfSome (step s b) (λ t. Stands t (p ++ b ∷ []))
 step_stands s p b h = go_stands s p b h (next s.mode b) (good s.mode h.atom b h.is_begun)
 
-run_from : (o : Option State) (p : List ℕ) (bs : List ℕ) (t : State) → IfSome o (λ s. Stands s p) → ((s : State) → Stands s p → run s bs ≡ Some t → Stands t (p ++ bs)) → option_and_then (λ s. run s bs) o ≡ Some t → Stands t (p ++ bs)
+run_from : (o : Option State) (p : List ℕ) (bs : List ℕ) (t : State) → IfSome o (λ s. Stands s p)
+    → ((s : State) → Stands s p → run s bs ≡ Some t → Stands t (p ++ bs)) → option_and_then (λ s. run s bs) o ≡ Some t → Stands t (p ++ bs)
 run_from None p bs t h f e = cc
 run_from (Some s) p bs t h f e = f s h e
 
@@ -203,7 +234,16 @@ run_stands (b ∷ bs) s p t h e =
     rw (← append_assoc p (b ∷ []) bs) (run_from (step s b) (p ++ b ∷ []) bs t (step_stands s p b h) (λ u. run_stands bs u (p ++ b ∷ []) t) e)
 
 pub start_stands : Stands scan.start []
-start_stands = record { outer = []; part = record { ors = None; ands = None }; atom = []; depth = refl; outers = tt; fit = (tt, tt); is_begun = refl; text = refl }
+start_stands = record {
+  outer = [];
+  part = record { ors = None; ands = None };
+  atom = [];
+  depth = refl;
+  outers = tt;
+  fit = (tt, tt);
+  is_begun = refl;
+  text = refl;
+}
 
 empty_of : (o : List Part) → length o ≡ 0 → outer_text o ≡ []
 empty_of [] h = refl

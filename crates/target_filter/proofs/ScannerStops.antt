@@ -1,5 +1,11 @@
 -- The scanner stops at a character's beginning, and there ends the longest beginning that can go on.
-use Rattle.target_filter.proofs.Common.{◌≡◌, ◌⊎◌, inl, inr, ℕ, zero, suc, ◌+◌, ◌-◌, ◌≤◌, ◌<◌, max, List, [], ◌∷◌, ◌++◌, length, take, drop, get_or, Bool, true, false, cond, ◌&&◌, ◌||◌, ◌==◌, not, ltb, leb, Option, Some, None, refl, sym, ◌∙◌, ap, subst, arith, append_assoc, append-nil, add-zero, length-append, nat_le, nat_lt, codes, list_all, IfSome, option_and_then, IsUtf8, IsAscii, IsCharBoundary, false≢true, nat_tests, IsCharBoundary-end, IsCharBoundary-start, IsCharBoundary-before_ascii, IsCharBoundary-after_ascii, IsUtf8-nil, take-length, take_more, is_bare_byte, is_quotable_byte, Tree, IsFilter, IsInGrammar, CanContinue, IsLongestBeginning, nesting, is_word_letter, Mode, State, Move, run, next, step, state_after, mode_of_name, at_atom_start, at_operator, at_atom_end, start, accepts, Stops, Ends}
+use Rattle.target_filter.proofs.Common.{◌≡◌, ◌⊎◌, inl, inr, ℕ, zero, suc, ◌+◌, ◌-◌, ◌≤◌, ◌<◌, max, List, [], ◌∷◌, ◌++◌, length, take, drop, get_or, Bool, true}
+use Rattle.target_filter.proofs.Common.{false, cond, ◌&&◌, ◌||◌, ◌==◌, not, ltb, leb, Option, Some, None, refl, sym, ◌∙◌, ap, subst, arith, append_assoc}
+use Rattle.target_filter.proofs.Common.{append-nil, add-zero, length-append, nat_le, nat_lt, codes, list_all, IfSome, option_and_then, IsUtf8, IsAscii}
+use Rattle.target_filter.proofs.Common.{IsCharBoundary, false≢true, nat_tests, IsCharBoundary-end, IsCharBoundary-start, IsCharBoundary-before_ascii}
+use Rattle.target_filter.proofs.Common.{IsCharBoundary-after_ascii, IsUtf8-nil, take-length, take_more, is_bare_byte, is_quotable_byte, Tree, IsFilter}
+use Rattle.target_filter.proofs.Common.{IsInGrammar, CanContinue, IsLongestBeginning, nesting, is_word_letter, Mode, State, Move, run, next, step, state_after}
+use Rattle.target_filter.proofs.Common.{mode_of_name, at_atom_start, at_operator, at_atom_end, start, accepts, Stops, Ends}
 use Rattle.target_filter.specs.Scanner as scan
 use Rattle.std.proofs.lemmas.Option.{option_and_then_some}
 use Rattle.target_filter.proofs.Beginnings.{Begun}
@@ -31,10 +37,13 @@ letter_below : (b : ℕ) → is_word_letter b ≡ true → b < 128
 letter_below b h = grind (arith, nat_tests)
 
 marked_small : (b : ℕ) → Small b (at_operator b)
-marked_small b = by_test (Small b) (b == 61) _ _ (λ h. below b 61 h (omega arith)) (λ _. by_test (Small b) (b == 33) (scan.Go scan.Equals) scan.Stop (λ h. below b 33 h (omega arith)) (λ _. tt))
+marked_small b = by_test (Small b) (b == 61) _ _ (λ h. below b 61 h (omega arith))
+    (λ _. by_test (Small b) (b == 33) (scan.Go scan.Equals) scan.Stop (λ h. below b 33 h (omega arith)) (λ _. tt))
 
 ended_small : (b : ℕ) → Small b (at_atom_end b)
-ended_small b = by_test (Small b) (b == 44) _ _ (λ h. below b 44 h (omega arith)) (λ _. by_test (Small b) (b == 59) _ _ (λ h. below b 59 h (omega arith)) (λ _. by_test (Small b) (b == 41) scan.Close scan.Stop (λ h. below b 41 h (omega arith)) (λ _. tt)))
+ended_small b = by_test (Small b) (b == 44) _ _ (λ h. below b 44 h (omega arith))
+    (λ _. by_test (Small b) (b == 59) _ _ (λ h. below b 59 h (omega arith))
+    (λ _. by_test (Small b) (b == 41) scan.Close scan.Stop (λ h. below b 41 h (omega arith)) (λ _. tt)))
 
 named_small : (b : ℕ) (xs : List ℕ) (k : Bool) → b < 128 → Small b (scan.Go (mode_of_name xs k))
 named_small b [] true h = h
@@ -56,13 +65,17 @@ small (scan.Key n) p b g =
     by_test (Small b) (is_word_letter b) _ _ (λ h. by_test (Small b) (nat_lt n 64) (scan.Go (scan.Key (n + 1))) scan.Stop (λ _. letter_below b h) (λ _. tt))
     (λ _. by_test (Small b) (nat_lt 0 n) (at_operator b) scan.Stop (λ _. marked_small b) (λ _. tt))
 small scan.Equals p b g = by_test (Small b) (b == 61) (scan.Go scan.Value) scan.Stop (λ h. below b 61 h (omega arith)) (λ _. tt)
-small scan.Value p b g = by_test (Small b) (is_bare_byte b) _ _ (λ h. bare_below b h) (λ _. by_test (Small b) (b == 34) (scan.Go scan.Quoted) scan.Stop (λ _. tt) (λ _. tt))
+small scan.Value p b g = by_test (Small b) (is_bare_byte b) _ _ (λ h. bare_below b h)
+    (λ _. by_test (Small b) (b == 34) (scan.Go scan.Quoted) scan.Stop (λ _. tt) (λ _. tt))
 small scan.Bare p b g = by_test (Small b) (is_bare_byte b) _ _ (λ h. bare_below b h) (λ _. ended_small b)
-small scan.Quoted p b g = by_test (Small b) (is_quotable_byte b) _ _ (λ _. tt) (λ _. by_test (Small b) (b == 34) (scan.Go scan.AtomEnd) scan.Stop (λ h. below b 34 h (omega arith)) (λ _. tt))
+small scan.Quoted p b g =
+    by_test (Small b) (is_quotable_byte b) _ _ (λ _. tt)
+    (λ _. by_test (Small b) (b == 34) (scan.Go scan.AtomEnd) scan.Stop (λ h. below b 34 h (omega arith)) (λ _. tt))
 small scan.AtomEnd p b g = ended_small b
 
 quiet : (r s : State) (b : ℕ) (v : Move) → Small b v → state_after r v ≡ Some s → (b < 128) ⊎ (s.mode ≡ scan.Quoted)
-quiet r s b (scan.Go scan.Quoted) g e = let same : record { depth = r.depth; deepest = r.deepest; mode = scan.Quoted } ≡ s = cc in inr (ap (λ (u : State). u.mode) (sym same))
+quiet r s b (scan.Go scan.Quoted) g e = let same : record { depth = r.depth; deepest = r.deepest; mode = scan.Quoted } ≡ s = cc in
+    inr (ap (λ (u : State). u.mode) (sym same))
 quiet r s b (scan.Go scan.AtomStart) g e = inl g
 quiet r s b (scan.Go (scan.FieldName l k)) g e = inl g
 quiet r s b (scan.Go (scan.Key n)) g e = inl g
@@ -78,17 +91,21 @@ quiet r s b scan.Stop g e = cc
 plain_above : (b : ℕ) → nat_lt b 128 ≡ false → is_quotable_byte b ≡ true
 plain_above b h = grind (arith, nat_tests)
 
-quotes_take : (s : State) (b : ℕ) → s.mode ≡ scan.Quoted → is_quotable_byte b ≡ true → step s b ≡ Some (record { depth = s.depth; deepest = s.deepest; mode = scan.Quoted })
-quotes_take s b e p = ap (λ m. state_after s (next m b)) e ∙ ap (λ c. state_after s (cond c (scan.Go scan.Quoted) (cond (b == 34) (scan.Go scan.AtomEnd) scan.Stop))) p
+quotes_take : (s : State) (b : ℕ) → s.mode ≡ scan.Quoted → is_quotable_byte b ≡ true → step s b
+    ≡ Some (record { depth = s.depth; deepest = s.deepest; mode = scan.Quoted })
+quotes_take s b e p = ap (λ m. state_after s (next m b)) e
+    ∙ ap (λ c. state_after s (cond c (scan.Go scan.Quoted) (cond (b == 34) (scan.Go scan.AtomEnd) scan.Stop))) p
 
 in_quotes : (s : State) (b : ℕ) (c : Bool) → nat_lt b 128 ≡ c → s.mode ≡ scan.Quoted → step s b ≡ None → b < 128
 in_quotes s b true h e n = grind (arith, nat_tests)
 in_quotes s b false h e n = let some = quotes_take s b e (plain_above b h) in cc
 
-before_byte : (text : List ℕ) (k : ℕ) (s : State) → IsUtf8 text → k + 1 < length text → run start (take (k + 1) text) ≡ Some s → step s (get_or text (k + 1) 0) ≡ None → IsCharBoundary text (k + 1)
+before_byte : (text : List ℕ) (k : ℕ) (s : State) → IsUtf8 text → k + 1 < length text → run start (take (k + 1) text) ≡ Some s → step s (get_or text (k + 1) 0)
+    ≡ None → IsCharBoundary text (k + 1)
 before_byte text k s u l e n =
     let here : take (k + 1) text ≡ take k text ++ get_or text k 0 ∷ [] = take_more text k 0 (omega arith) in
-    let two : option_and_then (λ t. run t (get_or text k 0 ∷ [])) (run start (take k text)) ≡ Some s = sym (run_append (take k text) (get_or text k 0 ∷ []) start) ∙ ap (run start) (sym here) ∙ e in
+    let two : option_and_then (λ t. run t (get_or text k 0 ∷ [])) (run start (take k text)) ≡ Some s =
+    sym (run_append (take k text) (get_or text k 0 ∷ []) start) ∙ ap (run start) (sym here) ∙ e in
     option_and_then_some (λ t. run t (get_or text k 0 ∷ [])) (run start (take k text)) s two (λ r w q.
     option_and_then_some (λ t. run t []) (step r (get_or text k 0)) s q (λ t v z.
     let last : step r (get_or text k 0) ≡ Some s = v ∙ z in
@@ -104,13 +121,17 @@ boundary text zero u h = IsCharBoundary-start text u
 boundary text (suc k) u h = elim h.why [
   | inl a ↦ rw a.0 (IsCharBoundary-end text)
   | inr a ↦ let one : k + 1 ≡ suc k = omega arith in
-      subst (IsCharBoundary text) one (before_byte text k h.state u (omega (arith, a.0)) (ap (λ n. run start (take n text)) one ∙ h.went) (ap (λ n. step h.state (get_or text n 0)) one ∙ a.1))
+      subst (IsCharBoundary text) one
+      (before_byte text k h.state u (omega (arith, a.0)) (ap (λ n. run start (take n text)) one ∙ h.went)
+      (ap (λ n. step h.state (get_or text n 0)) one ∙ a.1))
 ]
 
 -- behind the byte nothing goes on
-none_after : (text : List ℕ) (n : ℕ) (s : State) → n < length text → run start (take n text) ≡ Some s → step s (get_or text n 0) ≡ None → run start (take (n + 1) text) ≡ None
+none_after : (text : List ℕ) (n : ℕ) (s : State) → n < length text → run start (take n text) ≡ Some s → step s (get_or text n 0) ≡ None
+    → run start (take (n + 1) text) ≡ None
 none_after text n s l e k =
-    ap (run start) (take_more text n 0 l) ∙ run_append (take n text) (get_or text n 0 ∷ []) start ∙ ap (option_and_then (λ t. run t (get_or text n 0 ∷ []))) e ∙ ap (option_and_then (λ t. run t [])) k
+    ap (run start) (take_more text n 0 l) ∙ run_append (take n text) (get_or text n 0 ∷ []) start ∙ ap (option_and_then (λ t. run t (get_or text n 0 ∷ []))) e
+    ∙ ap (option_and_then (λ t. run t [])) k
 
 pub stops_longest : (text : List ℕ) (n : ℕ) → IsUtf8 text → Stops text n → IsLongestBeginning text n
 stops_longest text n u h = record {
@@ -128,7 +149,8 @@ stops_outside text n h (t, f) = elim h.why [
       let all : run start text ≡ Some h.state = ap (run start) (sym (take-length text) ∙ ap (λ k. take k text) (sym a.0)) ∙ h.went in
       let yes = (filter_accepted text t h.state f all).0 in
       false≢true (sym a.1 ∙ yes)
-  | inr a ↦ dead_from text (n + 1) (length text) (none_after text n h.state a.0 h.went a.1) (omega (arith, a.0)) ([], (IsUtf8-nil, (t, rw (append-nil (take (length text) text), take-length text) f)))
+  | inr a ↦ dead_from text (n + 1) (length text) (none_after text n h.state a.0 h.went a.1) (omega (arith, a.0))
+      ([], (IsUtf8-nil, (t, rw (append-nil (take (length text) text), take-length text) f)))
 ]
 
 pub ends_filter : (text : List ℕ) (n : ℕ) → Ends text n → (t : Tree) × (IsFilter text t × (nesting t ≡ n))

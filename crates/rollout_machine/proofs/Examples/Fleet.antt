@@ -1,5 +1,8 @@
 -- A fleet of ten devices, and runs over it: what the worked examples speak of.
-use Rattle.rollout_machine.proofs.Common.{ℕ, codes, ◌+◌, replicate, Bool, true, false, ◌&&◌, List, [], ◌∷◌, ◌++◌, map, Option, None, is_none, option_map, item_numbered, CommandList, Make, followed_by, Bytes, Credential, TargetRow, RolloutPlan, Command, AddModule, AddSet, PutTargets, CreateRollout, Start, Feedback, CancelFeedback, Succeeded, Failed, RejectedCancel, offer, Offer, step_records, run_records, no_records, GroupRecord, RolloutRecord, Records, RolloutWord, rollout_word, check}
+use Rattle.rollout_machine.proofs.Common.{ℕ, codes, ◌+◌, replicate, Bool, true, false, ◌&&◌, List, [], ◌∷◌, ◌++◌, map, Option, None, is_none, option_map}
+use Rattle.rollout_machine.proofs.Common.{item_numbered, CommandList, Make, followed_by, Bytes, Credential, TargetRow, RolloutPlan, Command, AddModule, AddSet}
+use Rattle.rollout_machine.proofs.Common.{PutTargets, CreateRollout, Start, Feedback, CancelFeedback, Succeeded, Failed, RejectedCancel, offer, Offer}
+use Rattle.rollout_machine.proofs.Common.{step_records, run_records, no_records, GroupRecord, RolloutRecord, Records, RolloutWord, rollout_word, check}
 use Rattle.rollout_model.specs.Groupings.{evenly}
 
 abbrev pub device : ℕ → Bytes
@@ -15,7 +18,14 @@ abbrev pub fleet : List TargetRow
 fleet = map row_for (1 ∷ 2 ∷ 3 ∷ 4 ∷ 5 ∷ 6 ∷ 7 ∷ 8 ∷ 9 ∷ 10 ∷ [])
 
 abbrev pub plan_for : Bytes → ℕ → ℕ → ℕ → ℕ → RolloutPlan
-plan_for text name groups success error = record { name = (96 + name) ∷ []; set_number = 1; filter_text = text; groups = evenly groups; success = success; error = error }
+plan_for text name groups success error = record {
+  name = (96 + name) ∷ [];
+  set_number = 1;
+  filter_text = text;
+  groups = evenly groups;
+  success = success;
+  error = error;
+}
 
 -- all of the fleet, and one device
 abbrev pub everyone : Bytes
@@ -25,7 +35,8 @@ abbrev pub only : ℕ → Bytes
 only k = codes "controllerid==" ++ device k
 
 abbrev pub set_up : List Command
-set_up = PutTargets fleet ∷ AddModule (record { name = 97 ∷ []; kind = 97 ∷ []; version = 97 ∷ [] }) ∷ AddSet (record { name = 97 ∷ []; version = 97 ∷ []; modules = 1 ∷ [] }) ∷ []
+set_up = PutTargets fleet ∷ AddModule (record { name = 97 ∷ []; kind = 97 ∷ []; version = 97 ∷ [] })
+    ∷ AddSet (record { name = 97 ∷ []; version = 97 ∷ []; modules = 1 ∷ [] }) ∷ []
 
 abbrev pub rolled_out : Bytes → ℕ → ℕ → ℕ → List Command
 rolled_out text groups success error = set_up ++ CreateRollout (plan_for text 1 groups success error) ∷ Start 1 ∷ []

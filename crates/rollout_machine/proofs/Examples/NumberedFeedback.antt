@@ -1,5 +1,7 @@
 -- Feedback that bears numbers: what is sent again, what is overtaken, and what both leave.
-use Rattle.rollout_machine.proofs.Common.{◌≡◌, ℕ, List, [], ◌∷◌, ◌++◌, None, Option, Some, false, true, map, refl, option_map, item_numbered, Bytes, CancelFeedback, Cancel, Command, DeploymentWord, Feedback, Failed, Noted, Proceeding, RejectedCancel, Succeeded, ActionRecord, Records, Reported, check, ClosedAction, OldNumber, Unauthorized, NotFound}
+use Rattle.rollout_machine.proofs.Common.{◌≡◌, ℕ, List, [], ◌∷◌, ◌++◌, None, Option, Some, false, true, map, refl, option_map, item_numbered, Bytes}
+use Rattle.rollout_machine.proofs.Common.{CancelFeedback, Cancel, Command, DeploymentWord, Feedback, Failed, Noted, Proceeding, RejectedCancel, Succeeded}
+use Rattle.rollout_machine.proofs.Common.{ActionRecord, Records, Reported, check, ClosedAction, OldNumber, Unauthorized, NotFound}
 use Rattle.rollout_machine.proofs.Examples.Fleet.{by, device, everyone, offered, rolled_out, run_of}
 
 abbrev says : ℕ → ℕ → DeploymentWord → List Bytes → ℕ → Command
@@ -50,10 +52,14 @@ canceled_once_more : offered (under_way (Cancel (device 2) 2 false ∷ rejects_a
 canceled_once_more = refl
 
 -- without a number all is as if there were none
-unnumbered_between : numbers (under_way (goes_on 5 ∷ Feedback (record { credential = by 1; action = 1; word = Noted Proceeding; details = []; number = None }) ∷ goes_on 6 ∷ [])) 1 ≡ Some (Some 5 ∷ None ∷ Some 6 ∷ [])
+unnumbered_between : numbers
+    (under_way (goes_on 5 ∷ Feedback (record { credential = by 1; action = 1; word = Noted Proceeding; details = []; number = None }) ∷ goes_on 6 ∷ [])) 1
+    ≡ Some (Some 5 ∷ None ∷ Some 6 ∷ [])
 unnumbered_between = refl
 
-stranger_first : check (under_way (goes_on 5 ∷ [])) (Feedback (record { credential = record { id = device 1; digest = device 2 }; action = 1; word = Failed; details = []; number = Some 4 })) ≡ Some Unauthorized
+stranger_first : check (under_way (goes_on 5 ∷ []))
+    (Feedback (record { credential = record { id = device 1; digest = device 2 }; action = 1; word = Failed; details = []; number = Some 4 }))
+    ≡ Some Unauthorized
 stranger_first = refl
 
 others_first : check (under_way (goes_on 5 ∷ [])) (says 2 1 Failed [] 4) ≡ Some NotFound

@@ -1,5 +1,8 @@
 -- Small rollouts worked by hand: how members are cut, too few of them, the words of groups, and feedback.
-use Rattle.rollout_machine.proofs.Common.{◌≡◌, ℕ, List, [], ◌∷◌, ◌++◌, Option, Some, None, refl, map, codes, option_map, query_reply, item_numbered, Bytes, Command, CreateRollout, Pause, Resume, cut, RolloutRecord, ShownGroup, ReportShown, ShowReport, RolloutWord, FinishedRollout, PausedRollout, RunningRollout, GroupWord, FinishedGroup, RunningGroup, ScheduledGroup, rollout_word, group_word, check, Bounds, TooFewTargets}
+use Rattle.rollout_machine.proofs.Common.{◌≡◌, ℕ, List, [], ◌∷◌, ◌++◌, Option, Some, None, refl, map, codes, option_map, query_reply, item_numbered, Bytes}
+use Rattle.rollout_machine.proofs.Common.{Command, CreateRollout, Pause, Resume, cut, RolloutRecord, ShownGroup, ReportShown, ShowReport, RolloutWord}
+use Rattle.rollout_machine.proofs.Common.{FinishedRollout, PausedRollout, RunningRollout, GroupWord, FinishedGroup, RunningGroup, ScheduledGroup, rollout_word}
+use Rattle.rollout_machine.proofs.Common.{group_word, check, Bounds, TooFewTargets}
 use Rattle.rollout_machine.proofs.Examples.Fleet.{plan_for, everyone, only, set_up, rolled_out, succeeds, fails, run_of}
 
 abbrev three_groups : List Command
@@ -34,10 +37,12 @@ first_success_leaves_the_second = refl
 second_success_starts_it : words (three_groups ++ succeeds 1 1 ∷ succeeds 2 2 ∷ []) ≡ Some (RunningRollout, RunningGroup ∷ RunningGroup ∷ ScheduledGroup ∷ [])
 second_success_starts_it = refl
 
-paused_starts_nothing : words (three_groups ++ Pause 1 ∷ succeeds 1 1 ∷ succeeds 2 2 ∷ []) ≡ Some (PausedRollout, RunningGroup ∷ ScheduledGroup ∷ ScheduledGroup ∷ [])
+paused_starts_nothing : words (three_groups ++ Pause 1 ∷ succeeds 1 1 ∷ succeeds 2 2 ∷ [])
+    ≡ Some (PausedRollout, RunningGroup ∷ ScheduledGroup ∷ ScheduledGroup ∷ [])
 paused_starts_nothing = refl
 
-resume_starts_it : words (three_groups ++ Pause 1 ∷ succeeds 1 1 ∷ succeeds 2 2 ∷ Resume 1 ∷ []) ≡ Some (RunningRollout, RunningGroup ∷ RunningGroup ∷ ScheduledGroup ∷ [])
+resume_starts_it : words (three_groups ++ Pause 1 ∷ succeeds 1 1 ∷ succeeds 2 2 ∷ Resume 1 ∷ [])
+    ≡ Some (RunningRollout, RunningGroup ∷ RunningGroup ∷ ScheduledGroup ∷ [])
 resume_starts_it = refl
 
 -- the only member fails: the error begins, and all is over

@@ -1,5 +1,11 @@
 -- Each test of each row of the table of verdicts at its border, and the order of the tests.
-use Rattle.rollout_machine.proofs.Common.{◌≡◌, ℕ, ◌/◌, ◌%◌, Bool, true, false, List, [], ◌∷◌, ◌++◌, Option, Some, None, refl, map, replicate, Bytes, ModuleLabel, Upload, SetLabel, Command, AddModule, AddArtifact, AddSet, PutTargets, Tag, Untag, PutAttributes, CreateRollout, Approve, Deny, Start, Pause, Resume, TriggerNext, Cancel, each_from, no_records, step_records, run_records, ArtifactRecord, Records, RolloutRecord, GroupRecord, Given, Waiting, Denied, Refusal, Unauthorized, NotFound, Exists, Locked, WrongState, ClosedAction, Quota, BadFilter, TooFewTargets, WrongDigest, rollout_word, group_word, FinishedRollout, PausedRollout, ApprovalDenied, WaitingForApproval, ReadyGroup, FinishedGroup, ErrorGroup, RunningGroup, target_word, Unknown, Pending, check}
+use Rattle.rollout_machine.proofs.Common.{◌≡◌, ℕ, ◌/◌, ◌%◌, Bool, true, false, List, [], ◌∷◌, ◌++◌, Option, Some, None, refl, map, replicate, Bytes}
+use Rattle.rollout_machine.proofs.Common.{ModuleLabel, Upload, SetLabel, Command, AddModule, AddArtifact, AddSet, PutTargets, Tag, Untag, PutAttributes}
+use Rattle.rollout_machine.proofs.Common.{CreateRollout, Approve, Deny, Start, Pause, Resume, TriggerNext, Cancel, each_from, no_records, step_records}
+use Rattle.rollout_machine.proofs.Common.{run_records, ArtifactRecord, Records, RolloutRecord, GroupRecord, Given, Waiting, Denied, Refusal, Unauthorized}
+use Rattle.rollout_machine.proofs.Common.{NotFound, Exists, Locked, WrongState, ClosedAction, Quota, BadFilter, TooFewTargets, WrongDigest, rollout_word}
+use Rattle.rollout_machine.proofs.Common.{group_word, FinishedRollout, PausedRollout, ApprovalDenied, WaitingForApproval, ReadyGroup, FinishedGroup}
+use Rattle.rollout_machine.proofs.Common.{ErrorGroup, RunningGroup, target_word, Unknown, Pending, check}
 use Rattle.rollout_model.specs.Refusals.{refusal_row}
 use Rattle.sha2.specs.Sha256.{sha256, digest_bytes}
 use Rattle.rollout_machine.proofs.Examples.Fleet.{token, device, plan_for, only, everyone, set_up, rolled_out, by, succeeds, fails, run_of}
@@ -79,7 +85,17 @@ s4 = refl
 
 -- Tag, Untag: 3, 10
 abbrev tagged : ℕ → Records
-tagged n = record base { targets = record { id = device 1; name = []; digest = token 1; tags = each_from (λ k. k ∷ []) 1 n; attributes = each_from (λ k. record { key = k ∷ []; value = [] }) 1 n } ∷ [] }
+tagged n = record base {
+  targets =
+      record {
+        id = device 1;
+        name = [];
+        digest = token 1;
+        tags = each_from (λ k. k ∷ []) 1 n;
+        attributes =
+            each_from (λ k. record { key = k ∷ []; value = [] }) 1 n;
+      } ∷ [];
+}
 
 t1 : check (tagged 16) (Tag (device 2) (1 ∷ [])) ≡ Some NotFound
 t1 = refl
@@ -109,7 +125,8 @@ p2 = refl
 p3 : check (tagged 32) (PutAttributes (by 1) (record { key = 32 ∷ []; value = 1 ∷ [] } ∷ record { key = 1 ∷ []; value = [] } ∷ [])) ≡ None
 p3 = refl
 
-p4 : check (tagged 31) (PutAttributes (by 1) (record { key = 99 ∷ []; value = [] } ∷ record { key = 99 ∷ []; value = [] } ∷ record { key = 3 ∷ []; value = [] } ∷ [])) ≡ None
+p4 : check (tagged 31) (PutAttributes (by 1) (record { key = 99 ∷ []; value = [] } ∷ record { key = 99 ∷ []; value = [] } ∷ record { key = 3 ∷ []; value = [] }
+    ∷ [])) ≡ None
 p4 = refl
 
 p5 : check (tagged 31) (PutAttributes (by 1) (record { key = 99 ∷ []; value = [] } ∷ record { key = 98 ∷ []; value = [] } ∷ [])) ≡ Some Quota
@@ -203,7 +220,8 @@ no_rollout = run_of set_up
 x1 : map (λ (c : ℕ → Command). check no_rollout (c 1)) (Approve ∷ Deny ∷ Start ∷ Pause ∷ Resume ∷ TriggerNext ∷ []) ≡ replicate 6 (Some NotFound)
 x1 = refl
 
-x0 : map (λ (c : ℕ → Command). check (run_of (rolled_out everyone 3 50 100)) (c 0)) (Approve ∷ Deny ∷ Start ∷ Pause ∷ Resume ∷ TriggerNext ∷ []) ≡ replicate 6 (Some NotFound)
+x0 : map (λ (c : ℕ → Command). check (run_of (rolled_out everyone 3 50 100)) (c 0)) (Approve ∷ Deny ∷ Start ∷ Pause ∷ Resume ∷ TriggerNext ∷ [])
+    ≡ replicate 6 (Some NotFound)
 x0 = refl
 
 abbrev all_told : Records → List (Option Refusal)
@@ -259,5 +277,6 @@ k6 : check running (Cancel (device 4) 4 true) ≡ Some WrongState
 k6 = refl
 
 -- the refusals of verdicts have the numbers of the table of verdicts
-verdict_numbers : map (λ f. (refusal_row f).number) (Unauthorized ∷ NotFound ∷ Exists ∷ Locked ∷ WrongState ∷ ClosedAction ∷ Quota ∷ BadFilter ∷ TooFewTargets ∷ WrongDigest ∷ []) ≡ 2 ∷ 3 ∷ 5 ∷ 6 ∷ 7 ∷ 8 ∷ 10 ∷ 11 ∷ 12 ∷ 13 ∷ []
+verdict_numbers : map (λ f. (refusal_row f).number) (Unauthorized ∷ NotFound ∷ Exists ∷ Locked ∷ WrongState ∷ ClosedAction ∷ Quota ∷ BadFilter ∷ TooFewTargets
+    ∷ WrongDigest ∷ []) ≡ 2 ∷ 3 ∷ 5 ∷ 6 ∷ 7 ∷ 8 ∷ 10 ∷ 11 ∷ 12 ∷ 13 ∷ []
 verdict_numbers = refl

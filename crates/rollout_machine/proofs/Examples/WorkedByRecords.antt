@@ -1,5 +1,6 @@
 -- Worked examples, computed over the records.
-use Rattle.rollout_machine.proofs.Common.{◌≡◌, ℕ, true, false, List, [], ◌∷◌, ◌++◌, Some, None, refl, Command, Pause, Resume, Cancel, CreateRollout, Start, no_records, ClosedAction, WrongState, FinishedRollout, PausedRollout, RunningRollout, check}
+use Rattle.rollout_machine.proofs.Common.{◌≡◌, ℕ, true, false, List, [], ◌∷◌, ◌++◌, Some, None, refl, Command, Pause, Resume, Cancel, CreateRollout, Start}
+use Rattle.rollout_machine.proofs.Common.{no_records, ClosedAction, WrongState, FinishedRollout, PausedRollout, RunningRollout, check}
 use Rattle.rollout_machine.proofs.Examples.Fleet.{rolled_out, everyone, only, device, plan_for, succeeds, fails, rejects, run_of, all_accepted, shown, offered}
 
 abbrev R : ℕ → ℕ → ℕ → List Command
@@ -11,7 +12,8 @@ all_are_accepted = refl
 first_success_alone : shown (run_of (R 3 50 100 ++ succeeds 1 1 ∷ [])) 1 ≡ Some (RunningRollout, (true, 1, 0, 0) ∷ (false, 0, 0, 0) ∷ (false, 0, 0, 0) ∷ [])
 first_success_alone = refl
 
-second_success_starts : shown (run_of (R 3 50 100 ++ succeeds 1 1 ∷ succeeds 2 2 ∷ [])) 1 ≡ Some (RunningRollout, (true, 2, 0, 0) ∷ (true, 0, 0, 0) ∷ (false, 0, 0, 0) ∷ [])
+second_success_starts : shown (run_of (R 3 50 100 ++ succeeds 1 1 ∷ succeeds 2 2 ∷ [])) 1
+    ≡ Some (RunningRollout, (true, 2, 0, 0) ∷ (true, 0, 0, 0) ∷ (false, 0, 0, 0) ∷ [])
 second_success_starts = refl
 
 error_below_threshold : shown (run_of (R 3 100 34 ++ fails 1 1 ∷ [])) 1 ≡ Some (RunningRollout, (true, 0, 1, 0) ∷ (false, 0, 0, 0) ∷ (false, 0, 0, 0) ∷ [])
@@ -26,10 +28,12 @@ nothing_while_paused = refl
 offered_after_resume : offered (run_of (R 3 50 100 ++ Pause 1 ∷ succeeds 1 1 ∷ succeeds 2 2 ∷ Resume 1 ∷ [])) 4 ≡ Some (4, false)
 offered_after_resume = refl
 
-no_second_pause : shown (run_of (R 3 100 33 ++ fails 1 1 ∷ Resume 1 ∷ fails 2 2 ∷ [])) 1 ≡ Some (RunningRollout, (true, 0, 2, 0) ∷ (false, 0, 0, 0) ∷ (false, 0, 0, 0) ∷ [])
+no_second_pause : shown (run_of (R 3 100 33 ++ fails 1 1 ∷ Resume 1 ∷ fails 2 2 ∷ [])) 1
+    ≡ Some (RunningRollout, (true, 0, 2, 0) ∷ (false, 0, 0, 0) ∷ (false, 0, 0, 0) ∷ [])
 no_second_pause = refl
 
-repeat_counts_once : shown (run_of (R 3 50 100 ++ succeeds 1 1 ∷ succeeds 1 1 ∷ [])) 1 ≡ Some (RunningRollout, (true, 1, 0, 0) ∷ (false, 0, 0, 0) ∷ (false, 0, 0, 0) ∷ [])
+repeat_counts_once : shown (run_of (R 3 50 100 ++ succeeds 1 1 ∷ succeeds 1 1 ∷ [])) 1
+    ≡ Some (RunningRollout, (true, 1, 0, 0) ∷ (false, 0, 0, 0) ∷ (false, 0, 0, 0) ∷ [])
 repeat_counts_once = refl
 
 repeat_is_accepted : check (run_of (R 3 50 100 ++ succeeds 1 1 ∷ [])) (succeeds 1 1) ≡ None
@@ -57,7 +61,8 @@ rejected_once = refl
 canceled_once : check (run_of (two ++ Cancel (device 1) 1 false ∷ rejects 1 1 ∷ Cancel (device 1) 1 false ∷ [])) (Cancel (device 1) 1 false) ≡ Some WrongState
 canceled_once = refl
 
-next_is_offered : offered (run_of (two ++ Cancel (device 1) 1 false ∷ rejects 1 1 ∷ Cancel (device 1) 1 false ∷ Cancel (device 1) 1 true ∷ [])) 1 ≡ Some (2, false)
+next_is_offered : offered (run_of (two ++ Cancel (device 1) 1 false ∷ rejects 1 1 ∷ Cancel (device 1) 1 false ∷ Cancel (device 1) 1 true ∷ [])) 1
+    ≡ Some (2, false)
 next_is_offered = refl
 
 finished_with_error : shown (run_of (rolled_out (only 1) 1 100 100 ++ fails 1 1 ∷ [])) 1 ≡ Some (FinishedRollout, (true, 0, 1, 0) ∷ [])

@@ -7,4 +7,5 @@ returns-in-Err c = traverse_refuses detail_in view c.args.values.now c.loop-valu
 
 pub loop-value-preserved : goal.loop-value-preserved
 loop-value-preserved c =
-    rw c.in_ok-push.ensures.items (traverse_more detail_in view c.args.values.now c.loop-value.value-index _ _ _ (omega arith) c.value-item.is c.loop-value.invariant c.in-Ok.ensures)
+    rw c.in_ok-push.ensures.items
+    (traverse_more detail_in view c.args.values.now c.loop-value.value-index _ _ _ (omega arith) c.value-item.is c.loop-value.invariant c.in-Ok.ensures)

@@ -15,4 +15,5 @@ returns c =
     let writes = c.in_ok-string.ensures in
     let before : c.string.new.self.before ≡ old = writes.room.0 ∙ c.new-writer.ensures.before in
     let tokens : c.string.new.self.tokens ≡ string s ∷ [] = writes.ok ∙ ap (λ (ts : List Token). ts ++ string s ∷ []) c.new-writer.ensures.tokens in
-    c.into_inner.ensures.items ∙ ap (λ t. t ++ print c.string.new.self.tokens) before ∙ ap (λ (ts : List Token). old ++ print ts) tokens ∙ ap (λ t. old ++ t) (print-string s)
+    c.into_inner.ensures.items ∙ ap (λ t. t ++ print c.string.new.self.tokens) before ∙ ap (λ (ts : List Token). old ++ print ts) tokens
+    ∙ ap (λ t. old ++ t) (print-string s)

@@ -10,4 +10,5 @@ pub returns-clause-writes : goal.returns-clause-writes
 returns-clause-writes g t c =
     let some : 1 ≤ length c.args.bytes.now = grind (arith, nat_tests, c.if-is_empty.false, c.is_empty.ensures) in
     makes_then (rw c.split_at.ensures.front at c.in_ok-write_piece.ensures.writes)
-    (adds_first_piece c.args.number c.args.before c.min.result c.args.bytes.now some c.min.ensures) _ (rw c.split_at.ensures.back at c.write_pieces.ensures.writes)
+    (adds_first_piece c.args.number c.args.before c.min.result c.args.bytes.now some c.min.ensures) _
+    (rw c.split_at.ensures.back at c.write_pieces.ensures.writes)

@@ -14,4 +14,5 @@ pub returns-clause-reads : goal.returns-clause-reads
 returns-clause-reads g c =
     let next : c.unwrap.result ≡ c.in_ok-last.last + 1 = same_number _ _ (sym c.new.ensures ∙ c.unwrap.ensures) in
     finds_as (both_found c.in_ok-of_module.ensures.reads c.in_ok-last.ensures.reads)
-    (λ r is. has_room r c.args.module_number c.in_ok-of_module.of_module.items is.0 c.in_ok-last.last c.unwrap.result is.1 (omega (arith, c.len.ensures)) (omega arith) next)
+    (λ r is. has_room r c.args.module_number c.in_ok-of_module.of_module.items is.0 c.in_ok-last.last c.unwrap.result is.1 (omega (arith, c.len.ensures))
+    (omega arith) next)

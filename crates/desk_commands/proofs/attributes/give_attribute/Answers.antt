@@ -3,7 +3,8 @@ use Rattle.desk_commands.proofs.attributes.give_attribute.Goals as goal
 
 pub returns-then-not-has_key_since-clause-writes : goal.returns-then-not-has_key_since-clause-writes
 returns-then-not-has_key_since-clause-writes g c =
-    makes_as (λ r next. adds_one c.args.id.now c.args.had.now c.args.since.now c.args.attribute.now r next c.has_key_since.result c.has_key_since.ensures c.if-not-has_key_since.true) _
+    makes_as (λ r next. adds_one c.args.id.now c.args.had.now c.args.since.now c.args.attribute.now r next c.has_key_since.result c.has_key_since.ensures
+    c.if-not-has_key_since.true) _
     c.write_target_attribute.ensures.writes
 
 pub returns-then-keeps-clause-writes : goal.returns-then-keeps-clause-writes
@@ -13,5 +14,6 @@ returns-then-keeps-clause-writes g c =
 
 pub returns-clause-writes : goal.returns-clause-writes
 returns-clause-writes g c =
-    makes_as (λ r next. sets_one c.args.id.now c.args.had.now c.args.since.now c.args.attribute.now r next c.has_key_since.result c.has_key_since.ensures c.if-not-has_key_since.false) _
+    makes_as (λ r next. sets_one c.args.id.now c.args.had.now c.args.since.now c.args.attribute.now r next c.has_key_since.result c.has_key_since.ensures
+    c.if-not-has_key_since.false) _
     c.change_target_attribute.ensures.writes

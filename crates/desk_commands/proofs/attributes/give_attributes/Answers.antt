@@ -14,6 +14,7 @@ loop-i-preserved g c = record {
   counts = search rules;
   writes = makes_then c.loop-i.invariant.writes
       (λ r next h. more_attributes c.args.id.now c.args.had.now (take c.loop-i.i c.args.given.now) c.index-given-i.result r next
-      (subst (λ l. GivesAttributes c.args.id.now c.args.had.now l r next) (one_more c.args.given.now c.index-given-i.result c.loop-i.i c.loop-i-test.true c.index-given-i.is) h))
+      (subst (λ l. GivesAttributes c.args.id.now c.args.had.now l r next)
+      (one_more c.args.given.now c.index-given-i.result c.loop-i.i c.loop-i-test.true c.index-given-i.is) h))
       _ c.in_ok-give_attribute.ensures.writes;
 }

@@ -10,4 +10,5 @@ returns-then-not-matches-clause-reads g c =
 pub returns-in-Ok-clause-reads : goal.returns-in-Ok-clause-reads
 returns-in-Ok-clause-reads g c =
     finds_as c.in_ok-target.ensures.reads
-    (λ r is f tree. rw (ap is_ok c.in-Ok.is) at c.push.ensures.items ∙ id_added r f c.args.filter.now c.in_ok-target.target _ _ c.matches-matches.ensures.computed tree is _ c.if-not-matches.false)
+    (λ r is f tree. rw (ap is_ok c.in-Ok.is) at c.push.ensures.items
+    ∙ id_added r f c.args.filter.now c.in_ok-target.target _ _ c.matches-matches.ensures.computed tree is _ c.if-not-matches.false)

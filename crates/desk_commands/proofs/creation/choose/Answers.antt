@@ -6,4 +6,5 @@ returns-clause-reads g c =
     let known = c.in-Ok.ensures.profile in
     let tree = (c.computed_filter.ensures.tree c.as_str-words.result.now known.0).1 known.1 in
     finds_as c.in_ok-members.ensures.reads
-    (λ r is. by_filter c.args.text.now r known.0 _ (ap filter_of (sym c.as_str-words.ensures) ∙ tree) refl (is known.0 (ap filter_of c.in-Ok.ensures.text ∙ tree)))
+    (λ r is. by_filter c.args.text.now r known.0 _ (ap filter_of (sym c.as_str-words.ensures) ∙ tree) refl
+    (is known.0 (ap filter_of c.in-Ok.ensures.text ∙ tree)))

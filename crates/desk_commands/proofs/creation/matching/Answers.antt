@@ -12,5 +12,6 @@ loop-entry-preserved g c = record {
 
 pub returns-clause-reads : goal.returns-clause-reads
 returns-clause-reads g c =
-    let given = all_given c.into_iter-entry-iterator.result _ c.next.new.self _ _ c.into_iter-entry-iterator.ensures.into_iter_gives.0 c.loop-entry.yielded_by c.in-None.ensures.steps in
+    let given = all_given c.into_iter-entry-iterator.result _ c.next.new.self _ _ c.into_iter-entry-iterator.ensures.into_iter_gives.0 c.loop-entry.yielded_by
+    c.in-None.ensures.steps in
     finds_as c.loop-entry.invariant.reads (λ r is f tree. is f tree ∙ ap (λ l. ids_matching f (map (target_listed r) l)) given)

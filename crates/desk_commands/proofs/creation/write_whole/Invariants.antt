@@ -6,7 +6,8 @@ abbrev pub invariant-loop-i : goal.invariant-loop-i
 invariant-loop-i g l = record {
   stays : StaysIn g.S.Store l.fn.change l.change (Ok (tt {0}));
   counts : CountsIn g.S.Store l.fn.change l.change (Ok (tt {0}));
-  writes : MakesLedger g.S.Store {A = Unit {0}} {E = Fault} l.fn.change l.change (Ok tt) (CreatesRollout (in_part l.created l.plan (length l.members) l.i []) (first_rules l.plan l.i));
+  writes : MakesLedger g.S.Store {A = Unit {0}} {E = Fault} l.fn.change l.change (Ok tt)
+      (CreatesRollout (in_part l.created l.plan (length l.members) l.i []) (first_rules l.plan l.i));
 }
 
 -- all groups are written, and the members before this index
@@ -14,5 +15,6 @@ abbrev pub invariant-loop-i-2 : goal.invariant-loop-i-2
 invariant-loop-i-2 g l = record {
   stays : StaysIn g.S.Store l.fn.change l.change (Ok (tt {0}));
   counts : CountsIn g.S.Store l.fn.change l.change (Ok (tt {0}));
-  writes : MakesLedger g.S.Store {A = Unit {0}} {E = Fault} l.fn.change l.change (Ok tt) (CreatesRollout (in_part l.created l.plan (length l.members) l.plan.groups.count (take l.i l.members)) (rules_of l.plan));
+  writes : MakesLedger g.S.Store {A = Unit {0}} {E = Fault} l.fn.change l.change (Ok tt)
+      (CreatesRollout (in_part l.created l.plan (length l.members) l.plan.groups.count (take l.i l.members)) (rules_of l.plan));
 }

@@ -1,9 +1,11 @@
-use Rattle.desk_commands.proofs.Answering.{Ok, rules, ◌∙◌, both_found, ledger_made, ledger_of, records, GoesOn, CanStart, IsSeenIn, accepted_at, refused_at, asked_at, counted, writes_end, can_start, found_in, cant_go, gone_on, gone_reply, none_there, of_list, seen_there}
+use Rattle.desk_commands.proofs.Answering.{Ok, rules, ◌∙◌, both_found, ledger_made, ledger_of, records, GoesOn, CanStart, IsSeenIn, accepted_at, refused_at}
+use Rattle.desk_commands.proofs.Answering.{asked_at, counted, writes_end, can_start, found_in, cant_go, gone_on, gone_reply, none_there, of_list, seen_there}
 use Rattle.desk_commands.proofs.progress.go_on.Goals as goal
 
 pub returns-in_default-clause-steps : goal.returns-in_default-clause-steps
 returns-in_default-clause-steps g c =
-    refused_at (rw c.in_default.is at c.in_ok-found.ensures.reads) (λ h valid sees. cant_go c.args.going (records h) c.args.number (none_there h valid c.args.number sees))
+    refused_at (rw c.in_default.is at c.in_ok-found.ensures.reads)
+    (λ h valid sees. cant_go c.args.going (records h) c.args.number (none_there h valid c.args.number sees))
 
 pub returns-in-Some-refusal_of-clause-steps : goal.returns-in-Some-refusal_of-clause-steps
 returns-in-Some-refusal_of-clause-steps g c =
@@ -22,18 +24,22 @@ returns-clause-steps g c =
     (λ h valid sees.
     let it = seen_there h valid number seen sees.0 in
     let view = sees.1 (of_list h valid) it.rollout it.at.is_there it.at.is_seen in
-    gone_on going h number seen it c.number_is_well_formed.ensures c.in_ok-rollout.rollout view _ c.pause_of-paused.ensures _ c.start_of-starts.ensures (c.refusal_of.ensures h number it.rollout it.at view ∙ c.in_default-refusal_of.is))
+    gone_on going h number seen it c.number_is_well_formed.ensures c.in_ok-rollout.rollout view _ c.pause_of-paused.ensures _ c.start_of-starts.ensures
+    (c.refusal_of.ensures h number it.rollout it.at view ∙ c.in_default-refusal_of.is))
     (ledger_made (Ok tt) c.in_ok-write_going.ensures.writes)
     _ (λ h valid sees.
-    let it = seen_there h valid number seen sees.0 in
-    (c.refusal_of.ensures h number it.rollout it.at (sees.1 (of_list h valid) it.rollout it.at.is_there it.at.is_seen) ∙ c.in_default-refusal_of.is, gone_reply going _ number))
+    let it = seen_there h valid number seen sees.0 in (
+      c.refusal_of.ensures h number it.rollout it.at (sees.1 (of_list h valid) it.rollout it.at.is_there it.at.is_seen) ∙ c.in_default-refusal_of.is,
+      gone_reply going _ number,
+    ))
 
 pub returns-in_err-rollout-clause-fails : goal.returns-in_err-rollout-clause-fails
 returns-in_err-rollout-clause-fails g c =
     let number = c.args.number in
     let seen = c.in-Some.seen in
     writes_end (asked_at (λ l given. given.of_list) (rw c.in-Some.is at c.in_ok-found.ensures.reads) (IsSeenIn number seen) c.in_err-rollout.ensures.reads.wears
-    (λ h valid sees given. found_in h number seen (seen_there h valid number seen sees)) c.in_err-rollout.ensures.fails.to) _ c.from_residual-in_err-rollout.ensures.1
+    (λ h valid sees given. found_in h number seen (seen_there h valid number seen sees)) c.in_err-rollout.ensures.fails.to) _
+    c.from_residual-in_err-rollout.ensures.1
 
 pub returns-in_err-write_going-clause-fails : goal.returns-in_err-write_going-clause-fails
 returns-in_err-write_going-clause-fails g c =
@@ -41,14 +47,17 @@ returns-in_err-write_going-clause-fails g c =
     let number = c.args.number in
     let seen = c.in-Some.seen in
     let starts = c.start_of-starts.result in
-    writes_end (asked_at (λ l given. given.of_list) (both_found (rw c.in-Some.is at c.in_ok-found.ensures.reads) c.in_ok-rollout.ensures.reads) (λ l. CanStart seen.groups.items starts)
+    writes_end (asked_at (λ l given. given.of_list) (both_found (rw c.in-Some.is at c.in_ok-found.ensures.reads) c.in_ok-rollout.ensures.reads)
+    (λ l. CanStart seen.groups.items starts)
     c.in_err-write_going.ensures.writes.wears
     (λ h valid sees given.
     let it = seen_there h valid number seen sees.0 in
     let view = sees.1 (of_list h valid) it.rollout it.at.is_there it.at.is_seen in
     can_start number seen c.pause_of-paused.result starts _ _
-    (gone_on going h number seen it c.number_is_well_formed.ensures c.in_ok-rollout.rollout view _ c.pause_of-paused.ensures _ c.start_of-starts.ensures (c.refusal_of.ensures h number it.rollout it.at view ∙ c.in_default-refusal_of.is)))
+    (gone_on going h number seen it c.number_is_well_formed.ensures c.in_ok-rollout.rollout view _ c.pause_of-paused.ensures _ c.start_of-starts.ensures
+    (c.refusal_of.ensures h number it.rollout it.at view ∙ c.in_default-refusal_of.is)))
     (counted c.in_err-write_going.ensures.counts)) _ c.from_residual-in_err-write_going.ensures.1
 
 pub returns-in_err-write_going-clause-stays : goal.returns-in_err-write_going-clause-stays
-returns-in_err-write_going-clause-stays g c = search (c.in_ok-found.ensures.stays, c.in_ok-rollout.ensures.stays, c.in_err-write_going.ensures.stays, c.from_residual-in_err-write_going.ensures.1, rules)
+returns-in_err-write_going-clause-stays g c =
+    search (c.in_ok-found.ensures.stays, c.in_ok-rollout.ensures.stays, c.in_err-write_going.ensures.stays, c.from_residual-in_err-write_going.ensures.1, rules)

@@ -7,7 +7,8 @@ returns-in-Resumed c h r x at so =
     let word = c.word-word.result in
     let rollout = c.args.rollout in
     rw c.in-Resumed.is
-    (judged (view.Resume (Some (record { word = word; rollout = rollout }))) (Resume r) c.resume.result _ c.refusal_in.ensures (c.resume.ensures r) (records h) (records_are_sound h at.valid)
+    (judged (view.Resume (Some (record { word = word; rollout = rollout }))) (Resume r) c.resume.result _ c.refusal_in.ensures (c.resume.ensures r) (records h)
+    (records_are_sound h at.valid)
     (resume_view h r c.args.seen.now x word rollout c.word-word.ensures so at))
 
 pub returns-in-Triggered : goal.returns-in-Triggered
@@ -16,5 +17,6 @@ returns-in-Triggered c h r x at so =
     let next = c.has_next-has_next.result in
     let rollout = c.args.rollout in
     rw c.in-Triggered.is
-    (judged (view.TriggerNext (Some (record { word = word; has_next = next; rollout = rollout }))) (TriggerNext r) c.trigger.result _ c.refusal_in-in-Triggered.ensures (c.trigger.ensures r) (records h) (records_are_sound h at.valid)
+    (judged (view.TriggerNext (Some (record { word = word; has_next = next; rollout = rollout }))) (TriggerNext r) c.trigger.result _
+    c.refusal_in-in-Triggered.ensures (c.trigger.ensures r) (records h) (records_are_sound h at.valid)
     (trigger_view h r c.args.seen.now x word next rollout c.word-word.ensures (rw c.deref.ensures.value at c.has_next-has_next.ensures) so at))

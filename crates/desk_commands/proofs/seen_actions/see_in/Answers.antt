@@ -3,7 +3,15 @@ use Rattle.desk_commands.proofs.ActionGroups.{has_group, never_beyond, own_is, r
 use Rattle.desk_commands.proofs.seen_actions.see_in.Goals as goal
 
 pub returns-in_err-view-clause-stays : goal.returns-in_err-view-clause-stays
-returns-in_err-view-clause-stays g c = search (c.in_ok-read_rollout.ensures.stays, c.in_ok-found.ensures.stays, c.in_ok-read_rule.ensures.stays, c.in_err-view.ensures.0, c.from_residual-in_err-view.ensures.1, rules)
+returns-in_err-view-clause-stays g c =
+    search (
+      c.in_ok-read_rollout.ensures.stays,
+      c.in_ok-found.ensures.stays,
+      c.in_ok-read_rule.ensures.stays,
+      c.in_err-view.ensures.0,
+      c.from_residual-in_err-view.ensures.1,
+      rules,
+    )
 
 pub returns-clause-reads : goal.returns-clause-reads
 returns-clause-reads g c =
@@ -16,22 +24,27 @@ pub returns-in_err-rollout-clause-fails : goal.returns-in_err-rollout-clause-fai
 returns-in_err-rollout-clause-fails g c =
     let action = c.args.action.now in
     reads_end (never c.in_ok-read_rollout.ensures.reads
-    (λ l is given. never_missing _ _ _ _ c.in_err-rollout.ensures.value (rollout_is l action (has_group c.args.number action l given) _ is))) _ c.from_residual-in_err-rollout.ensures.1
+    (λ l is given. never_missing _ _ _ _ c.in_err-rollout.ensures.value (rollout_is l action (has_group c.args.number action l given) _ is))) _
+    c.from_residual-in_err-rollout.ensures.1
 
 pub returns-in_err-own-clause-fails : goal.returns-in_err-own-clause-fails
 returns-in_err-own-clause-fails g c =
     let action = c.args.action.now in
     reads_end (never (both_found c.in_ok-read_rollout.ensures.reads c.in_ok-found.ensures.reads)
-    (λ l is given. never_missing _ _ _ _ c.in_err-own.ensures.value (own_is l action (has_group c.args.number action l given) _ is.1))) _ c.from_residual-in_err-own.ensures.1
+    (λ l is given. never_missing _ _ _ _ c.in_err-own.ensures.value (own_is l action (has_group c.args.number action l given) _ is.1))) _
+    c.from_residual-in_err-own.ensures.1
 
 pub returns-in_err-rule-clause-fails : goal.returns-in_err-rule-clause-fails
 returns-in_err-rule-clause-fails g c =
     let action = c.args.action.now in
     reads_end (never (both_found (both_found c.in_ok-read_rollout.ensures.reads c.in_ok-found.ensures.reads) c.in_ok-read_rule.ensures.reads)
-    (λ l is given. never_missing _ _ _ _ c.in_err-rule.ensures.value (is.1 ∙ rule_is_there l action (has_group c.args.number action l given) _ is.0.1 _ (ok_or_some _ _ _ c.in_ok-own.ensures.value)))) _ c.from_residual-in_err-rule.ensures.1
+    (λ l is given. never_missing _ _ _ _ c.in_err-rule.ensures.value
+    (is.1 ∙ rule_is_there l action (has_group c.args.number action l given) _ is.0.1 _ (ok_or_some _ _ _ c.in_ok-own.ensures.value)))) _
+    c.from_residual-in_err-rule.ensures.1
 
 pub returns-in_err-view-clause-fails : goal.returns-in_err-view-clause-fails
 returns-in_err-view-clause-fails g c =
     let action = c.args.action.now in
     reads_end (never (both_found (both_found c.in_ok-read_rollout.ensures.reads c.in_ok-found.ensures.reads) c.in_ok-read_rule.ensures.reads)
-    (λ l is given. never_beyond l action (has_group c.args.number action l given) _ is.0.1 _ (ok_or_some _ _ _ c.in_ok-own.ensures.value) c.in_err-view.ensures.1)) _ c.from_residual-in_err-view.ensures.1
+    (λ l is given. never_beyond l action (has_group c.args.number action l given) _ is.0.1 _ (ok_or_some _ _ _ c.in_ok-own.ensures.value)
+    c.in_err-view.ensures.1)) _ c.from_residual-in_err-view.ensures.1

@@ -11,5 +11,6 @@ loop-i-preserved g c =
       stays = search rules;
       counts = search rules;
       writes = makes_then c.loop-i.invariant.writes
-          (one_action c.args.number c.args.last c.args.members.now c.index-members-i.result c.loop-i.i c.unwrap-action.result c.loop-i-test.true c.index-members-i.is number) _ c.in_ok-write_action.ensures.writes;
+          (one_action c.args.number c.args.last c.args.members.now c.index-members-i.result c.loop-i.i c.unwrap-action.result c.loop-i-test.true
+          c.index-members-i.is number) _ c.in_ok-write_action.ensures.writes;
     }

@@ -1,8 +1,10 @@
-use Rattle.desk_commands.proofs.Answering.{◌≡◌, refl, sym, ◌∙◌, arith, both_found, found_held, makes_nothing, Fault, accepted, refused, any_word, had_accepted, had_is_step, no_target_to_tag, tag_accepted, tag_is_step, tags_full}
+use Rattle.desk_commands.proofs.Answering.{◌≡◌, refl, sym, ◌∙◌, arith, both_found, found_held, makes_nothing, Fault, accepted, refused, any_word, had_accepted}
+use Rattle.desk_commands.proofs.Answering.{had_is_step, no_target_to_tag, tag_accepted, tag_is_step, tags_full}
 use Rattle.desk_commands.proofs.tags.tag_target.Goals as goal
 
 pub returns-then-branch-clause-steps : goal.returns-then-branch-clause-steps
-returns-then-branch-clause-steps g c = refused (rw c.if-branch.true at c.in_ok-lacks_target.ensures.reads) (λ r is. no_target_to_tag r c.args.id.now c.args.tag.now is)
+returns-then-branch-clause-steps g c = refused (rw c.if-branch.true at c.in_ok-lacks_target.ensures.reads)
+    (λ r is. no_target_to_tag r c.args.id.now c.args.tag.now is)
 
 pub returns-then-contains-clause-steps : goal.returns-then-contains-clause-steps
 returns-then-contains-clause-steps g c =

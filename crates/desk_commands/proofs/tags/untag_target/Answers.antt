@@ -2,7 +2,8 @@ use Rattle.desk_commands.proofs.Answering.{accepted, refused, refl, no_target_to
 use Rattle.desk_commands.proofs.tags.untag_target.Goals as goal
 
 pub returns-then-branch-clause-steps : goal.returns-then-branch-clause-steps
-returns-then-branch-clause-steps g c = refused (rw c.if-branch.true at c.in_ok-lacks_target.ensures.reads) (λ r is. no_target_to_untag r c.args.id.now c.args.tag.now is)
+returns-then-branch-clause-steps g c = refused (rw c.if-branch.true at c.in_ok-lacks_target.ensures.reads)
+    (λ r is. no_target_to_untag r c.args.id.now c.args.tag.now is)
 
 pub returns-clause-steps : goal.returns-clause-steps
 returns-clause-steps g c =

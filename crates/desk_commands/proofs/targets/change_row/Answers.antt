@@ -1,10 +1,13 @@
-use Rattle.desk_commands.proofs.Answering.{◌≡◌, Some, option_map, refl, subst, makes_then, records, ledger_of, HoldsLedger, Ledger, renamed, with_changed, seen_in, stored_target, target_of, PutsOver, Sees, IsReadable, in_order, writes_behind, renamed_readable, changes_row_parts}
+use Rattle.desk_commands.proofs.Answering.{◌≡◌, Some, option_map, refl, subst, makes_then, records, ledger_of, HoldsLedger, Ledger, renamed, with_changed}
+use Rattle.desk_commands.proofs.Answering.{seen_in, stored_target, target_of, PutsOver, Sees, IsReadable, in_order, writes_behind, renamed_readable}
+use Rattle.desk_commands.proofs.Answering.{changes_row_parts}
 use Rattle.desk_commands.proofs.targets.change_row.Goals as goal
 
 pub returns-clause-writes : goal.returns-clause-writes
 returns-clause-writes g c =
     let row = c.args.row.now in
-    in_order (PutsOver (Some c.args.stored.now) row) _ (makes_then c.in_ok-rename.ensures.writes (λ r next h. changes_row_parts row c.args.stored.now r next h.0 h.1.0 h.1.1) _ c.retag.ensures.writes)
+    in_order (PutsOver (Some c.args.stored.now) row) _
+    (makes_then c.in_ok-rename.ensures.writes (λ r next h. changes_row_parts row c.args.stored.now r next h.0 h.1.0 h.1.1) _ c.retag.ensures.writes)
 
 pub returns-clause-fails : goal.returns-clause-fails
 returns-clause-fails g c =

@@ -1,4 +1,5 @@
-use Rattle.desk_commands.proofs.Answering.{◌≡◌, ◌≤◌, None, Some, refl, arith, both_found, found_held, PutsOver, ChangesRow, asked_at, writes_end, room_kept, room_taken, row_put, row_refused}
+use Rattle.desk_commands.proofs.Answering.{◌≡◌, ◌≤◌, None, Some, refl, arith, both_found, found_held, PutsOver, ChangesRow, asked_at, writes_end, room_kept}
+use Rattle.desk_commands.proofs.Answering.{room_taken, row_put, row_refused}
 use Rattle.desk_commands.proofs.PutLemmas.{too_many}
 use Rattle.desk_commands.proofs.targets.put_row.Goals as goal
 
@@ -6,7 +7,8 @@ pub returns-in-Some-clause-puts : goal.returns-in-Some-clause-puts
 returns-in-Some-clause-puts g c =
     let row = c.args.row.now in
     row_put (found_held (λ db r holds. holds.sorted) (rw c.in-Some.is at c.in_ok-found.ensures.reads))
-    (PutsOver (Some c.in-Some.stored) row) (λ r is. (is.1, refl)) _ c.in_ok-change_row-in-Some.ensures.writes (λ r is room. room_kept row c.args.left r c.in-Some.stored is.0 is.1 room)
+    (PutsOver (Some c.in-Some.stored) row) (λ r is. (is.1, refl)) _ c.in_ok-change_row-in-Some.ensures.writes
+    (λ r is room. room_kept row c.args.left r c.in-Some.stored is.0 is.1 room)
 
 pub returns-then-room-eq0-clause-puts : goal.returns-then-room-eq0-clause-puts
 returns-then-room-eq0-clause-puts g c =
@@ -20,9 +22,12 @@ returns-clause-puts g c =
     let row = c.args.row.now in
     let some : 1 ≤ c.in_ok-room-in-None.room = omega (arith, c.if-room-eq0.false) in
     row_put (both_found (rw c.in-None.is at c.in_ok-found.ensures.reads) c.in_ok-room-in-None.ensures.reads)
-    (PutsOver None row) (λ r is. (is.0, refl)) _ c.in_ok-add_row-in-None.ensures.writes (λ r is room. room_taken row r c.in_ok-room-in-None.room some is.0 (is.1 room))
+    (PutsOver None row) (λ r is. (is.0, refl)) _ c.in_ok-add_row-in-None.ensures.writes
+    (λ r is room. room_taken row r c.in_ok-room-in-None.room some is.0 (is.1 room))
 
 pub returns-in_err-change_row-in-Some-clause-fails : goal.returns-in_err-change_row-in-Some-clause-fails
 returns-in_err-change_row-in-Some-clause-fails g c =
-    writes_end (asked_at (λ l given. given.of_list) (rw c.in-Some.is at c.in_ok-found.ensures.reads) (ChangesRow c.args.row.now c.in-Some.stored) c.in_err-change_row-in-Some.ensures.writes.wears
-    (λ h valid is given. record { takes = given; stored_is = is }) c.in_err-change_row-in-Some.ensures.fails.to) _ c.from_residual-in_err-change_row-in-Some.ensures.1
+    writes_end (asked_at (λ l given. given.of_list) (rw c.in-Some.is at c.in_ok-found.ensures.reads) (ChangesRow c.args.row.now c.in-Some.stored)
+    c.in_err-change_row-in-Some.ensures.writes.wears
+    (λ h valid is given. record { takes = given; stored_is = is }) c.in_err-change_row-in-Some.ensures.fails.to) _
+    c.from_residual-in_err-change_row-in-Some.ensures.1

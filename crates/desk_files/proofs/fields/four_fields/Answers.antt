@@ -17,4 +17,5 @@ returns-in_err-tags c = absurd (field-there (fields_of c.args.record.now) 3 (ome
 
 pub returns : goal.returns
 returns c =
-    four_are (fields_of c.args.record.now) c.in_ok-id.id.now c.in_ok-name.name.now c.in_ok-token.token.now c.in_ok-tags.tags.now (omega arith) c.in_ok-id.ensures.value c.in_ok-name.ensures.value c.in_ok-token.ensures.value c.in_ok-tags.ensures.value
+    four_are (fields_of c.args.record.now) c.in_ok-id.id.now c.in_ok-name.name.now c.in_ok-token.token.now c.in_ok-tags.tags.now (omega arith)
+    c.in_ok-id.ensures.value c.in_ok-name.ensures.value c.in_ok-token.ensures.value c.in_ok-tags.ensures.value

@@ -5,11 +5,13 @@ use Rattle.desk_opening.proofs.FillLemmas.{rollout_found, rollout_stays, rollout
 use Rattle.desk_opening.proofs.filling.read_rollout.Goals as goal
 
 pub returns-in_err-row-clause-stays : goal.returns-in_err-row-clause-stays
-returns-in_err-row-clause-stays g c = rollout_unread c.args.number _ _ _ (rw c.params-to_sql.ensures at c.in_err-row.ensures.takes) c.from_residual.result c.from_residual.ensures.0
+returns-in_err-row-clause-stays g c = rollout_unread c.args.number _ _ _ (rw c.params-to_sql.ensures at c.in_err-row.ensures.takes) c.from_residual.result
+    c.from_residual.ensures.0
 
 pub returns : goal.returns
 returns g c =
-    let it : TakesFirst (state g.S.Store c.args.calls.now.conn) (state g.S.Store c.first.new.calls.conn) GET_ROLLOUT.now (Int (pos c.args.number) ∷ []) (Ok c.in_ok-row.row) = rw c.params-to_sql.ensures at c.in_ok-row.ensures.takes in
+    let it : TakesFirst (state g.S.Store c.args.calls.now.conn) (state g.S.Store c.first.new.calls.conn) GET_ROLLOUT.now (Int (pos c.args.number) ∷ [])
+    (Ok c.in_ok-row.row) = rw c.params-to_sql.ensures at c.in_ok-row.ensures.takes in
     record {
       stays = rollout_stays c.args.number _ _ c.in_ok-row.row it c.rollout_in.result;
       reads = rollout_found c.args.number c.requires _ _ c.in_ok-row.row it c.rollout_in.result c.rollout_in.ensures.ok;
@@ -17,4 +19,6 @@ returns g c =
     }
 
 pub returns-in_err-row-clause-fails : goal.returns-in_err-row-clause-fails
-returns-in_err-row-clause-fails g c = fails_counted c.from_residual.result (err_counts nothing_counted c.in_err-row.field-0.0 c.in_err-row.ensures.counts c.from_residual.result c.from_residual.ensures.1)
+returns-in_err-row-clause-fails g c =
+    fails_counted c.from_residual.result
+    (err_counts nothing_counted c.in_err-row.field-0.0 c.in_err-row.ensures.counts c.from_residual.result c.from_residual.ensures.1)

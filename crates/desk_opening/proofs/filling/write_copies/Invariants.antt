@@ -7,5 +7,6 @@ abbrev pub invariant-loop-i : goal.invariant-loop-i
 invariant-loop-i g l = record {
   stays : Stays {E = Fault} (state g.S.Store l.initial.calls.conn) (state g.S.Store l.calls.conn) (Ok (tt {0}));
   counts : Counts {A = Unit {0}} l.initial.calls l.calls (Ok tt);
-  writes : MakesLedger {A = Unit {0}} {E = Fault} (state g.S.Store l.initial.calls.conn) (state g.S.Store l.calls.conn) (Ok tt) (WritesCopies l.number l.i (record { percentage = None; success = l.success; error = l.error }));
+  writes : MakesLedger {A = Unit {0}} {E = Fault} (state g.S.Store l.initial.calls.conn) (state g.S.Store l.calls.conn) (Ok tt)
+      (WritesCopies l.number l.i (record { percentage = None; success = l.success; error = l.error }));
 }

@@ -10,6 +10,7 @@ pub returns-clause-writes : goal.returns-clause-writes
 returns-clause-writes g c =
     let it : GroupRule = record { percentage = None; success = c.args.success; error = c.args.error } in
     let percentage : owned c.params-to_sql-3.result ≡ Null = c.params-to_sql-3.ensures in
-    let ran : RunsText (state g.S.Store c.args.calls.now.conn) (state g.S.Store c.run.new.calls.conn) PUT_RULE.now (rule_row c.args.number c.args.group it) c.run.result =
+    let ran : RunsText (state g.S.Store c.args.calls.now.conn) (state g.S.Store c.run.new.calls.conn) PUT_RULE.now (rule_row c.args.number c.args.group it)
+    c.run.result =
     rw (c.params-to_sql.ensures, c.params-to_sql-2.ensures, percentage, c.params-to_sql-4.ensures, c.params-to_sql-5.ensures) at c.run.ensures.runs in
     rule_put c.args.number c.args.group it _ _ c.run.result ran

@@ -15,14 +15,17 @@ loop-k-preserved g c = record {
 }
 
 pub returns-clause-writes : goal.returns-clause-writes
-returns-clause-writes g c = rules_written c.loop-k.k c.in_ok-last.last (omega (arith, c.loop-k-test.false, c.loop-k.auto.k-end)) _ _ _ c.in_ok-last.ensures.reads c.loop-k.invariant.writes
+returns-clause-writes g c = rules_written c.loop-k.k c.in_ok-last.last (omega (arith, c.loop-k-test.false, c.loop-k.auto.k-end)) _ _ _
+    c.in_ok-last.ensures.reads c.loop-k.invariant.writes
 
 pub returns-in_err-last-clause-fails : goal.returns-in_err-last-clause-fails
-returns-in_err-last-clause-fails g c = fails_err (λ l given. given.readable.few) c.in_err-last.field-0.0 c.in_err-last.ensures.fails c.from_residual.result c.from_residual.ensures.1
+returns-in_err-last-clause-fails g c = fails_err (λ l given. given.readable.few) c.in_err-last.field-0.0 c.in_err-last.ensures.fails c.from_residual.result
+    c.from_residual.ensures.1
 
 pub returns-in_err-write_rules_of-clause-fails : goal.returns-in_err-write_rules_of-clause-fails
 returns-in_err-write_rules_of-clause-fails g c =
     let fault = c.in_err-write_rules_of.field-0.0 in
-    let fails = rules_fail c.loop-k.k _ _ (omega (arith, c.loop-k-test.true)) (omega arith) c.in_ok-last.ensures.reads c.in_ok-last.ensures.fails c.loop-k.invariant.writes c.loop-k.invariant.counts c.in_err-write_rules_of.ensures.stays.wears fault
+    let fails = rules_fail c.loop-k.k _ _ (omega (arith, c.loop-k-test.true)) (omega arith) c.in_ok-last.ensures.reads c.in_ok-last.ensures.fails
+    c.loop-k.invariant.writes c.loop-k.invariant.counts c.in_err-write_rules_of.ensures.stays.wears fault
     c.in_err-write_rules_of.ensures.fails in
     fails_err (λ l given. given) fault fails c.from_residual-in_err-write_rules_of.result c.from_residual-in_err-write_rules_of.ensures.1

@@ -26,7 +26,8 @@ pub returns-in-Err : goal.returns-in-Err
 returns-in-Err g c =
     let free = subst (λ s. LeavesFree s desk_names) c.schema.ensures (c.uses_desk_name.ensures.free c.if-uses_desk_name.false) in
     record {
-      opens = makes_new _ _ c.args.approval_if_new (Err c.open_fault.result) c.open_fault.ensures.failed (makes_err _ _ c.args.approval_if_new c.in-Err.fault c.open_fault.result c.in-Err.ensures.makes) free;
+      opens = makes_new _ _ c.args.approval_if_new (Err c.open_fault.result) c.open_fault.ensures.failed
+          (makes_err _ _ c.args.approval_if_new c.in-Err.fault c.open_fault.result c.in-Err.ensures.makes) free;
       settled = g.met.S.Store.settled c.args.calls.now.conn.store;
       fails = filled_fails c.open_fault.result (named c.in-Err.fault c.in-Err.ensures.counts c.open_fault.result c.open_fault.ensures.store);
     }

@@ -17,5 +17,6 @@ returns-clause-missing c = λ no it.
 
 pub returns-in_err-wanted-clause-memory : goal.returns-in_err-wanted-clause-memory
 returns-in_err-wanted-clause-memory c =
-    let never = c.in_err-wanted.ensures.memory (table_at (place_of c.args.table) 0) (ap table_defined_by c.create_text.ensures ∙ (is_place (place_of c.args.table)).defined) in
+    let never = c.in_err-wanted.ensures.memory (table_at (place_of c.args.table) 0)
+    (ap table_defined_by c.create_text.ensures ∙ (is_place (place_of c.args.table)).defined) in
     passed_on (λ e. e ≢ Store) c.in_err-wanted.field-0.0 never c.from_residual.result c.from_residual.ensures.1

@@ -12,7 +12,8 @@ pub returns-in-Ok-clause-renews : goal.returns-in-Ok-clause-renews
 returns-in-Ok-clause-renews g c = looked_at c.args.version _ _ c.in-Ok.ensures.migrates c.look_again.result
 
 pub returns-in-Ok-clause-fails : goal.returns-in-Ok-clause-fails
-returns-in-Ok-clause-fails g c = looked_fails c.args.version c.in-Ok.ensures.fails c.in-Ok.ensures.migrates c.in-Ok.ensures.opened _ c.schema.ensures c.look_again.result c.look_again.ensures.missing
+returns-in-Ok-clause-fails g c = looked_fails c.args.version c.in-Ok.ensures.fails c.in-Ok.ensures.migrates c.in-Ok.ensures.opened _ c.schema.ensures
+    c.look_again.result c.look_again.ensures.missing
 
 pub returns-in-Err-clause-fails : goal.returns-in-Err-clause-fails
 returns-in-Err-clause-fails g c = at_named c.args.version c.in-Err.fault c.in-Err.ensures.fails c.open_fault.result c.open_fault.ensures.store

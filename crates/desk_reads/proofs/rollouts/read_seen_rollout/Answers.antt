@@ -3,7 +3,8 @@ use Rattle.desk_reads.proofs.SeenRollouts.{none_seen, one_seen}
 use Rattle.desk_reads.proofs.rollouts.read_seen_rollout.Goals as goal
 
 pub returns-in-None-clause-reads : goal.returns-in-None-clause-reads
-returns-in-None-clause-reads g c = finds_as (rw c.in-None.is at (ledger_found _ c.in_ok-stored.ensures.reads)) (λ r is of. none_seen (item_numbered r.rollouts c.args.number) is)
+returns-in-None-clause-reads g c = finds_as (rw c.in-None.is at (ledger_found _ c.in_ok-stored.ensures.reads))
+    (λ r is of. none_seen (item_numbered r.rollouts c.args.number) is)
 
 pub returns-clause-reads : goal.returns-clause-reads
 returns-clause-reads g c =

@@ -7,4 +7,5 @@ returns-in-Err-clause-err c = rw c.row_fault.ensures (fails_at has_filter unread
 
 -- a String is UTF-8
 pub returns-in-Ok-from_text-clause-kept : goal.returns-in-Ok-from_text-clause-kept
-returns-in-Ok-from_text-clause-kept c = ap has_filter c.in-Ok.ensures.ok.1 ∙ subst (λ s. is_utf8 s ≡ true) c.as_str.ensures.value (is_utf8-from_IsUtf8 _ c.as_str.utf8)
+returns-in-Ok-from_text-clause-kept c = ap has_filter c.in-Ok.ensures.ok.1
+    ∙ subst (λ s. is_utf8 s ≡ true) c.as_str.ensures.value (is_utf8-from_IsUtf8 _ c.as_str.utf8)

@@ -7,12 +7,14 @@ use Rattle.desk_server.proofs.order.import_of.Goals as goal
 pub returns-in_default-clause-err : goal.returns-in_default-clause-err
 returns-in_default-clause-err c =
     let f = found_of c.args.matches.now in
-    no_import (rows_of f) (λ db file is. no_value _ db (c.in_default.ensures ∙ first_value-rows f (codes "db")) (ap (λ found. first_of (codes "db") (values_of found)) is.subcommand ∙ is.db_is))
+    no_import (rows_of f) (λ db file is. no_value _ db (c.in_default.ensures ∙ first_value-rows f (codes "db"))
+    (ap (λ found. first_of (codes "db") (values_of found)) is.subcommand ∙ is.db_is))
 
 pub returns-in_default-get_str-clause-err : goal.returns-in_default-get_str-clause-err
 returns-in_default-get_str-clause-err c =
     let f = found_of c.args.matches.now in
-    no_import (rows_of f) (λ db file is. no_value _ file (c.in_default-get_str.ensures ∙ first_value-rows f (codes "file")) (ap (λ found. first_of (codes "file") (values_of found)) is.subcommand ∙ is.file_is))
+    no_import (rows_of f) (λ db file is. no_value _ file (c.in_default-get_str.ensures ∙ first_value-rows f (codes "file"))
+    (ap (λ found. first_of (codes "file") (values_of found)) is.subcommand ∙ is.file_is))
 
 pub returns-clause-ok : goal.returns-clause-ok
 returns-clause-ok c =

@@ -8,12 +8,14 @@ use Rattle.desk_server.proofs.order.report_of.Goals as goal
 pub returns-in_default-clause-err : goal.returns-in_default-clause-err
 returns-in_default-clause-err c =
     let f = found_of c.args.matches.now in
-    no_report (rows_of f) (λ db rollout is. no_value _ db (c.in_default.ensures ∙ first_value-rows f (codes "db")) (ap (λ found. first_of (codes "db") (values_of found)) is.subcommand ∙ is.db_is))
+    no_report (rows_of f) (λ db rollout is. no_value _ db (c.in_default.ensures ∙ first_value-rows f (codes "db"))
+    (ap (λ found. first_of (codes "db") (values_of found)) is.subcommand ∙ is.db_is))
 
 pub returns-in_default-rollout_of-clause-err : goal.returns-in_default-rollout_of-clause-err
 returns-in_default-rollout_of-clause-err c =
     let f = found_of c.args.matches.now in
-    no_report (rows_of f) (λ db rollout is. no_value _ rollout c.in_default-rollout_of.ensures (ap (λ found. number_given 1 2147483647 (first_of (codes "rollout") (values_of found))) is.subcommand ∙ is.rollout_is))
+    no_report (rows_of f) (λ db rollout is. no_value _ rollout c.in_default-rollout_of.ensures
+    (ap (λ found. number_given 1 2147483647 (first_of (codes "rollout") (values_of found))) is.subcommand ∙ is.rollout_is))
 
 pub returns-clause-ok : goal.returns-clause-ok
 returns-clause-ok c =

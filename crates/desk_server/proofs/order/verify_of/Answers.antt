@@ -7,7 +7,8 @@ use Rattle.desk_server.proofs.order.verify_of.Goals as goal
 pub returns-in_default-clause-err : goal.returns-in_default-clause-err
 returns-in_default-clause-err c =
     let f = found_of c.args.matches.now in
-    no_verify (rows_of f) (λ db is. no_value _ db (c.in_default.ensures ∙ first_value-rows f (codes "db")) (ap (λ found. first_of (codes "db") (values_of found)) is.subcommand ∙ is.db_is))
+    no_verify (rows_of f) (λ db is. no_value _ db (c.in_default.ensures ∙ first_value-rows f (codes "db"))
+    (ap (λ found. first_of (codes "db") (values_of found)) is.subcommand ∙ is.db_is))
 
 pub returns-clause-ok : goal.returns-clause-ok
 returns-clause-ok c =

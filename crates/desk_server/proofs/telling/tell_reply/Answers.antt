@@ -9,7 +9,8 @@ use Rattle.desk_server.specs.Telling.{outcome_of}
 use Rattle.desk_server.proofs.telling.tell_reply.Goals as goal
 
 -- no order gets an answer of another kind
-other : (r : Reply) → ((n : ℕ) → r ≡ told.TargetsPut n → ⊥) → ((report : RolloutReport) → r ≡ told.Report report → ⊥) → ((refusal : Refusal) → r ≡ told.Refused refusal → ⊥)
+other : (r : Reply) → ((n : ℕ) → r ≡ told.TargetsPut n → ⊥) → ((report : RolloutReport) → r ≡ told.Report report → ⊥)
+    → ((refusal : Refusal) → r ≡ told.Refused refusal → ⊥)
     → outcome_of (reply_of r) ≡ Err StoreFailed
 other (told.TargetsPut n) put shown refused = absurd (put n refl)
 other (told.Report report) put shown refused = absurd (shown report refl)
@@ -26,4 +27,5 @@ pub returns-in-Refused : goal.returns-in-Refused
 returns-in-Refused g c = rw c.in-Refused.is (c.refuse.ensures _ _)
 
 pub returns-in_default : goal.returns-in_default
-returns-in_default g c = rw (other c.args.reply.now c.in_default.not-TargetsPut c.in_default.not-Report c.in_default.not-Refused) (c.refuse-in_default.ensures _ _)
+returns-in_default g c = rw (other c.args.reply.now c.in_default.not-TargetsPut c.in_default.not-Report c.in_default.not-Refused)
+    (c.refuse-in_default.ensures _ _)

@@ -5,12 +5,14 @@ use Rattle.desk_verify.proofs.finding.check_tables.Goals as goal
 
 pub returns-then-not-branch-clause-judges : goal.returns-then-not-branch-clause-judges
 returns-then-not-branch-clause-judges g c =
-    finds_as (both_found c.loop-table.invariant.judged (rw c.if-not-branch.true at c.in_ok-check_table.ensures.judges)) (λ t is. first_named t c.loop-table.table-index c.loop-table-test.true is.0 is.1)
+    finds_as (both_found c.loop-table.invariant.judged (rw c.if-not-branch.true at c.in_ok-check_table.ensures.judges))
+    (λ t is. first_named t c.loop-table.table-index c.loop-table-test.true is.0 is.1)
 
 pub returns-in_err-check_table-clause-blames : goal.returns-in_err-check_table-clause-blames
 returns-in_err-check_table-clause-blames g c =
     let out = err_from_is_err_and c.from_residual.result c.from_residual.ensures.1 in
-    blamed_when c.loop-table.invariant.judged c.loop-table.invariant.stays.grows.failures c.in_err-check_table.ensures.judges.wears c.in_err-check_table.field-0.0 c.in_err-check_table.ensures.blames
+    blamed_when c.loop-table.invariant.judged c.loop-table.invariant.stays.grows.failures c.in_err-check_table.ensures.judges.wears
+    c.in_err-check_table.field-0.0 c.in_err-check_table.ensures.blames
     (λ t is given. so_far t c.loop-table.table-index c.loop-table-test.true is) c.from_residual.result (out.1 ∙ ap Err out.2)
 
 pub returns-clause-judges : goal.returns-clause-judges

@@ -1,11 +1,14 @@
-use Rattle.desk_verify.proofs.Common.{◌≡◌, ◌+◌, ◌∷◌, [], length, Err, sym, ap, subst, arith, rules, length-append, both_found, finds_as, Broken, blamed, missing_rule, HasOnlyRule, HaveOnlyRules, le_trans}
+use Rattle.desk_verify.proofs.Common.{◌≡◌, ◌+◌, ◌∷◌, [], length, Err, sym, ap, subst, arith, rules, length-append, both_found, finds_as, Broken, blamed}
+use Rattle.desk_verify.proofs.Common.{missing_rule, HasOnlyRule, HaveOnlyRules, le_trans}
 use Rattle.desk_verify.proofs.RuleLemmas.{found_count, one_rule_more}
 use Rattle.desk_verify.proofs.groupings.read_rules.Goals as goal
 
 pub returns-in_default-clause-blames : goal.returns-in_default-clause-blames
 returns-in_default-clause-blames g c =
-    blamed (both_found c.loop-before.invariant.reads (rw c.in_default.is at c.in_ok-rule.ensures.reads)) (le_trans c.loop-before.invariant.stays.grows.failures c.in_ok-rule.ensures.stays.grows.failures) (Err Broken)
-    (λ t is has. missing_rule c.args.rollout.now.number c.args.rollout.now.rollout.plan.groups (c.loop-before.before + 1) (found_count t c.args.rollout.now.number c.args.rollout.now.rollout has.is).there
+    blamed (both_found c.loop-before.invariant.reads (rw c.in_default.is at c.in_ok-rule.ensures.reads))
+    (le_trans c.loop-before.invariant.stays.grows.failures c.in_ok-rule.ensures.stays.grows.failures) (Err Broken)
+    (λ t is has. missing_rule c.args.rollout.now.number c.args.rollout.now.rollout.plan.groups (c.loop-before.before + 1)
+    (found_count t c.args.rollout.now.number c.args.rollout.now.rollout has.is).there
     (omega arith) (omega (arith, c.loop-before-test.true, c.get-before-end.ensures.value)) is.1)
 
 pub loop-before-preserved : goal.loop-before-preserved
@@ -16,6 +19,7 @@ loop-before-preserved g c =
       blames = search rules;
       reads = finds_as (both_found c.loop-before.invariant.reads (rw c.in-Some.is at c.in_ok-rule.ensures.reads))
           (λ t is. subst (HaveOnlyRules t c.args.rollout.now.number) (sym c.in-Ok.ensures.items)
-          (one_rule_more (HasOnlyRule t c.args.rollout.now.number) 1 c.loop-before.rules.items c.in-Some.rule is.0 (subst (λ i. HasOnlyRule t c.args.rollout.now.number i c.in-Some.rule) next is.1)));
+          (one_rule_more (HasOnlyRule t c.args.rollout.now.number) 1 c.loop-before.rules.items c.in-Some.rule is.0
+          (subst (λ i. HasOnlyRule t c.args.rollout.now.number i c.in-Some.rule) next is.1)));
       count = omega (arith, ap length c.in-Ok.ensures.items, length-append c.loop-before.rules.items (c.in-Some.rule ∷ []), c.loop-before.invariant.count);
     }

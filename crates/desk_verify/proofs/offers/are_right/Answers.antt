@@ -6,12 +6,15 @@ pub returns-then-not-branch-clause-judges : goal.returns-then-not-branch-clause-
 returns-then-not-branch-clause-judges g c =
     let wrong = rw c.if-not-branch.true at c.in_ok-is_right.ensures.judges in
     finds_as (both_found c.loop-offer.invariant.judged wrong)
-    (λ t is right. (is.1 is.0.0).0 (all_has (IsRight t) c.args.offers.now c.offer-item.result right (has_at c.args.offers.now c.loop-offer.offer-index c.offer-item.result c.loop-offer-test.true c.offer-item.is)))
+    (λ t is right. (is.1 is.0.0).0
+    (all_has (IsRight t) c.args.offers.now c.offer-item.result right
+    (has_at c.args.offers.now c.loop-offer.offer-index c.offer-item.result c.loop-offer-test.true c.offer-item.is)))
 
 pub loop-offer-preserved : goal.loop-offer-preserved
 loop-offer-preserved g c = record {
   stays = search rules;
   blames = search rules;
   judged = finds_as (both_found c.loop-offer.invariant.judged (rw c.if-not-branch.false at c.in_ok-is_right.ensures.judges))
-      (λ t is. let it = is.1 is.0.0 in (it.1, all_more (IsRight t) c.args.offers.now c.loop-offer.offer-index c.offer-item.result c.loop-offer-test.true c.offer-item.is is.0.1 it.0));
+      (λ t is. let it = is.1 is.0.0 in
+      (it.1, all_more (IsRight t) c.args.offers.now c.loop-offer.offer-index c.offer-item.result c.loop-offer-test.true c.offer-item.is is.0.1 it.0));
 }

@@ -8,5 +8,6 @@ abbrev pub invariant-loop-offer : goal.invariant-loop-offer
 invariant-loop-offer g l = record {
   stays : StaysIn g.S.Store l.fn.change l.change (Ok (tt {0}));
   blames : BlamesGiven g.S.Store (AgreeBefore Offer) l.fn.change l.change (Ok (tt {0}));
-  judged : FindsTables g.S.Store {E = Fault} l.fn.change l.change (Ok (tt {0})) (λ t u. AreKept t l.kept × AllByRecursion (IsRight t) (take l.offer-index l.offers));
+  judged : FindsTables g.S.Store {E = Fault} l.fn.change l.change (Ok (tt {0}))
+      (λ t u. AreKept t l.kept × AllByRecursion (IsRight t) (take l.offer-index l.offers));
 }

@@ -8,17 +8,22 @@ returns-in_default-clause-judges g c = finds_as (rw c.in_default.is at c.in_ok-l
 
 pub returns-then-not-branch-clause-judges : goal.returns-then-not-branch-clause-judges
 returns-then-not-branch-clause-judges g c =
-    finds_as (both_found (rw c.in-Some.is at c.in_ok-listed.ensures.reads) (rw (c.deref.ensures.value, c.if-not-branch.true) at c.in_ok-are_right.ensures.judges))
+    finds_as (both_found (rw c.in-Some.is at c.in_ok-listed.ensures.reads)
+    (rw (c.deref.ensures.value, c.if-not-branch.true) at c.in_ok-are_right.ensures.judges))
     (λ t is. one_wrong t c.in_action_order-offers.result.items (sorted_said c.in_action_order-offers.ensures is.0) is.1)
 
 pub returns-clause-judges : goal.returns-clause-judges
 returns-clause-judges g c =
     finds_as
-    (both_found (rw c.in-Some.is at c.in_ok-listed.ensures.reads) (both_found (rw (c.deref.ensures.value, c.if-not-branch.false) at c.in_ok-are_right.ensures.judges) c.in_ok-offered.ensures.judges))
-    (λ t is. subst (Decides (AgreesOffers t)) (sym c.is_some.ensures) (agrees t c.in_action_order-offers.result.items (sorted_said c.in_action_order-offers.ensures is.0) is.1.0 c.in_ok-offered.offered is.1.1))
+    (both_found (rw c.in-Some.is at c.in_ok-listed.ensures.reads)
+    (both_found (rw (c.deref.ensures.value, c.if-not-branch.false) at c.in_ok-are_right.ensures.judges) c.in_ok-offered.ensures.judges))
+    (λ t is. subst (Decides (AgreesOffers t)) (sym c.is_some.ensures)
+    (agrees t c.in_action_order-offers.result.items (sorted_said c.in_action_order-offers.ensures is.0) is.1.0 c.in_ok-offered.offered is.1.1))
 
 pub returns-in_err-offered-clause-blames : goal.returns-in_err-offered-clause-blames
 returns-in_err-offered-clause-blames g c =
     let out = err_from_is_err_and c.from_residual-in_err-offered.result c.from_residual-in_err-offered.ensures.1 in
-    blamed_when (both_found (rw c.in-Some.is at c.in_ok-listed.ensures.reads) c.in_ok-are_right.ensures.judges) (le_trans c.in_ok-listed.ensures.stays.grows.failures c.in_ok-are_right.ensures.stays.grows.failures)
-    c.in_err-offered.ensures.judges.wears c.in_err-offered.field-0.0 c.in_err-offered.ensures.blames (λ t is given. (given, all_offers t c.in-Some.listed.items is.0)) c.from_residual-in_err-offered.result (out.1 ∙ ap Err out.2)
+    blamed_when (both_found (rw c.in-Some.is at c.in_ok-listed.ensures.reads) c.in_ok-are_right.ensures.judges)
+    (le_trans c.in_ok-listed.ensures.stays.grows.failures c.in_ok-are_right.ensures.stays.grows.failures)
+    c.in_err-offered.ensures.judges.wears c.in_err-offered.field-0.0 c.in_err-offered.ensures.blames
+    (λ t is given. (given, all_offers t c.in-Some.listed.items is.0)) c.from_residual-in_err-offered.result (out.1 ∙ ap Err out.2)

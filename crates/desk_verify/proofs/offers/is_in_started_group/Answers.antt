@@ -7,5 +7,8 @@ returns-clause-judges g c =
     let told : c.holds_started.result ≡ holds_started c.keep_groups.new.kept.groups.items c.args.place = rw c.deref.ensures.value at c.holds_started.ensures in
     finds_as c.in_ok-keep_groups.ensures.reads
     (λ t is kept.
-    let it = is kept in
-    (subst (Decides (IsInStartedGroup t c.args.rollout c.args.place)) (sym told) (started_tells t c.args.rollout c.args.place c.keep_groups.new.kept.groups.items it.0), it.1))
+    let it = is kept in (
+      subst (Decides (IsInStartedGroup t c.args.rollout c.args.place)) (sym told)
+          (started_tells t c.args.rollout c.args.place c.keep_groups.new.kept.groups.items it.0),
+      it.1,
+    ))

@@ -1,13 +1,21 @@
-use Rattle.desk_verify.proofs.Common.{◌≡◌, ◌≤◌, ◌+◌, ◌^◌, Err, arith, rules, refl, ap, subst, ◌∙◌, err_from_is_err_and, Broken, both_found, finds_as, AreChecked, blamed, within, le_trans}
+use Rattle.desk_verify.proofs.Common.{◌≡◌, ◌≤◌, ◌+◌, ◌^◌, Err, arith, rules, refl, ap, subst, ◌∙◌, err_from_is_err_and, Broken, both_found, finds_as}
+use Rattle.desk_verify.proofs.Common.{AreChecked, blamed, within, le_trans}
 use Rattle.desk_verify.proofs.Causes.{blamed_when, listed_many, up_to}
 use Rattle.desk_verify.proofs.RolloutLemmas.{none_yet, one_more}
 use Rattle.desk_verify.proofs.rollouts.check_rollouts.Goals as goal
 
 pub loop-before-init : goal.loop-before-init
-loop-before-init g c = record { stays = search rules; blames = search rules; judged = finds_as c.in_ok-last.ensures.reads (λ t is. (is, none_yet g.T.ByRollout.table g.T.ByRollout.column g.T.ByRollout.is_right g.T.ByRollout.is_whole t)) }
+loop-before-init g c = record {
+  stays = search rules;
+  blames = search rules;
+  judged =
+      finds_as c.in_ok-last.ensures.reads (λ t is. (is, none_yet g.T.ByRollout.table g.T.ByRollout.column g.T.ByRollout.is_right g.T.ByRollout.is_whole t));
+}
 
 pub returns-in_default-clause-judges : goal.returns-in_default-clause-judges
-returns-in_default-clause-judges g c = finds_as (both_found c.loop-before.invariant.judged (both_found c.in_ok-rollout.ensures.reads (rw c.in_default.is at c.in_ok-count.ensures.judges))) (λ t is. is.1.1 is.1.0)
+returns-in_default-clause-judges g c =
+    finds_as (both_found c.loop-before.invariant.judged (both_found c.in_ok-rollout.ensures.reads (rw c.in_default.is at c.in_ok-count.ensures.judges)))
+    (λ t is. is.1.1 is.1.0)
 
 pub loop-before-preserved : goal.loop-before-preserved
 loop-before-preserved g c =
@@ -18,7 +26,8 @@ loop-before-preserved g c =
       judged = finds_as (both_found c.loop-before.invariant.judged (both_found c.in_ok-rollout.ensures.reads (rw c.in-Some.is at c.in_ok-count.ensures.judges)))
           (λ t is. (
             is.0.0,
-            one_more g.T.ByRollout.table g.T.ByRollout.column g.T.ByRollout.is_right g.T.ByRollout.is_whole t c.loop-before.before c.loop-before.listed c.in-Some.count c.in-Some-checked_add.sum c.in_ok-rollout.rollout.number
+            one_more g.T.ByRollout.table g.T.ByRollout.column g.T.ByRollout.is_right g.T.ByRollout.is_whole t c.loop-before.before c.loop-before.listed
+                c.in-Some.count c.in-Some-checked_add.sum c.in_ok-rollout.rollout.number
                 is.0.1 c.in_ok-rollout.ensures.number (is.1.1 is.1.0) sum,
           ));
     }
@@ -26,25 +35,36 @@ loop-before-preserved g c =
 pub returns-clause-judges : goal.returns-clause-judges
 returns-clause-judges g c =
     let last : c.loop-before.before ≡ c.in_ok-last.last = omega (arith, c.loop-before-test.false, c.loop-before.auto.before-end) in
-    finds_as c.loop-before.invariant.judged (λ t is. record { last = c.in_ok-last.last; is_last = is.0; checked = subst (λ n. AreChecked g.T.ByRollout.table g.T.ByRollout.column g.T.ByRollout.is_right g.T.ByRollout.is_whole t n c.loop-before.listed) last is.1 })
+    finds_as c.loop-before.invariant.judged
+    (λ t is. record {
+      last = c.in_ok-last.last;
+      is_last = is.0;
+      checked =
+          subst (λ n. AreChecked g.T.ByRollout.table g.T.ByRollout.column g.T.ByRollout.is_right g.T.ByRollout.is_whole t n c.loop-before.listed) last is.1;
+    })
 
 pub returns-in_err-rollout-clause-blames : goal.returns-in_err-rollout-clause-blames
 returns-in_err-rollout-clause-blames g c =
     let out = err_from_is_err_and c.from_residual-in_err-rollout.result c.from_residual-in_err-rollout.ensures.1 in
-    blamed_when c.loop-before.invariant.judged c.loop-before.invariant.stays.grows.failures c.in_err-rollout.ensures.reads.wears c.in_err-rollout.field-0.0 c.in_err-rollout.ensures.blames
+    blamed_when c.loop-before.invariant.judged c.loop-before.invariant.stays.grows.failures c.in_err-rollout.ensures.reads.wears c.in_err-rollout.field-0.0
+    c.in_err-rollout.ensures.blames
     (λ t is given. up_to t c.loop-before.before c.in_ok-last.last is.0 c.loop-before-test.true) c.from_residual-in_err-rollout.result (out.1 ∙ ap Err out.2)
 
 pub returns-in_err-count-clause-blames : goal.returns-in_err-count-clause-blames
 returns-in_err-count-clause-blames g c =
     let out = err_from_is_err_and c.from_residual-in_err-count.result c.from_residual-in_err-count.ensures.1 in
-    blamed_when (both_found c.loop-before.invariant.judged c.in_ok-rollout.ensures.reads) (le_trans c.loop-before.invariant.stays.grows.failures c.in_ok-rollout.ensures.stays.grows.failures) c.in_err-count.ensures.judges.wears
-    c.in_err-count.field-0.0 c.in_err-count.ensures.blames (λ t is given. record { has = is.1; given = given }) c.from_residual-in_err-count.result (out.1 ∙ ap Err out.2)
+    blamed_when (both_found c.loop-before.invariant.judged c.in_ok-rollout.ensures.reads)
+    (le_trans c.loop-before.invariant.stays.grows.failures c.in_ok-rollout.ensures.stays.grows.failures) c.in_err-count.ensures.judges.wears
+    c.in_err-count.field-0.0 c.in_err-count.ensures.blames (λ t is given. record { has = is.1; given = given }) c.from_residual-in_err-count.result
+    (out.1 ∙ ap Err out.2)
 
 pub returns-in-None-clause-blames : goal.returns-in-None-clause-blames
 returns-in-None-clause-blames g c =
     let large : 2 ^ 32 ≤ c.loop-before.listed + c.in-Some.count = grind (arith, c.in-None.ensures) in
     blamed (both_found c.loop-before.invariant.judged (both_found c.in_ok-rollout.ensures.reads (rw c.in-Some.is at c.in_ok-count.ensures.judges)))
-    (le_trans c.loop-before.invariant.stays.grows.failures (le_trans c.in_ok-rollout.ensures.stays.grows.failures c.in_ok-count.ensures.stays.grows.failures)) (Err Broken)
+    (le_trans c.loop-before.invariant.stays.grows.failures (le_trans c.in_ok-rollout.ensures.stays.grows.failures c.in_ok-count.ensures.stays.grows.failures))
+    (Err Broken)
     (λ t is given. listed_many t g.T.ByRollout.table (within g.T.ByRollout.column (c.loop-before.before + 1)) (c.loop-before.listed + c.in-Some.count)
-    (one_more g.T.ByRollout.table g.T.ByRollout.column g.T.ByRollout.is_right g.T.ByRollout.is_whole t c.loop-before.before c.loop-before.listed c.in-Some.count (c.loop-before.listed + c.in-Some.count) c.in_ok-rollout.rollout.number
+    (one_more g.T.ByRollout.table g.T.ByRollout.column g.T.ByRollout.is_right g.T.ByRollout.is_whole t c.loop-before.before c.loop-before.listed c.in-Some.count
+    (c.loop-before.listed + c.in-Some.count) c.in_ok-rollout.rollout.number
     is.0.1 c.in_ok-rollout.ensures.number (is.1.1 is.1.0) refl).rows.all large)

@@ -7,5 +7,6 @@ invariant-loop-before g l = record {
   stays : StaysIn g.S.Store l.fn.change l.change (Ok (tt {0}));
   blames : BlamesGiven g.S.Store g.T.ByRollout.given l.fn.change l.change (Ok (tt {0}));
   judged : FindsTables g.S.Store {E = Fault} l.fn.change l.change (Ok (tt {0}))
-      (λ t u. IsLast (t Rollouts) l.last × AreChecked g.T.ByRollout.table g.T.ByRollout.column g.T.ByRollout.is_right g.T.ByRollout.is_whole t l.before l.listed);
+      (λ t u. IsLast (t Rollouts) l.last × AreChecked g.T.ByRollout.table g.T.ByRollout.column g.T.ByRollout.is_right g.T.ByRollout.is_whole t l.before
+      l.listed);
 }

@@ -11,4 +11,5 @@ pub returns-in-None-clause-blames : goal.returns-in-None-clause-blames
 returns-in-None-clause-blames g c =
     let same : c.in-Some.number ≡ c.args.number = same_number c.args.number c.in-Some.number (sym c.new.ensures ∙ c.in-Some.is) in
     blamed (rw c.in-None.is at c.in_ok-rollout.ensures.reads) c.in_ok-rollout.ensures.stays.grows.failures (Err Broken)
-    (λ t none given. let up = subst (λ n. IsUpTo n t) (sym same) given in missing_rollout c.in-Some.number up.last up.low up.high up.there (λ it. none it.row it.among it.numbered))
+    (λ t none given. let up = subst (λ n. IsUpTo n t) (sym same) given in missing_rollout c.in-Some.number up.last up.low up.high up.there
+    (λ it. none it.row it.among it.numbered))

@@ -6,5 +6,6 @@ abbrev pub invariant-loop-one : goal.invariant-loop-one
 invariant-loop-one g l = record {
   stays : StaysIn g.S.Store l.fn.change l.change (Ok (tt {0}));
   fails : FailsAtListsIn g.S.Store l.fn.change l.change (Ok (tt {0}));
-  reads : FindsAtListsIn g.S.Store {A = Unit {0}} {E = Fault} l.fn.change l.change (Ok tt) (λ r _. l.all.items ≡ map (listed_shown r) (take l.one-index l.listed));
+  reads : FindsAtListsIn g.S.Store {A = Unit {0}} {E = Fault} l.fn.change l.change (Ok tt)
+      (λ r _. l.all.items ≡ map (listed_shown r) (take l.one-index l.listed));
 }

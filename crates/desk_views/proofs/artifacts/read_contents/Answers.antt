@@ -7,4 +7,5 @@ returns-clause-reads g c = found_if c.in_ok-bytes.ensures.reads _ c.whole_conten
 pub returns-clause-fails : goal.returns-clause-fails
 returns-clause-fails g c =
     never_answers c.in_ok-bytes.ensures.fails _ c.whole_contents.ensures.err
-    (λ fault why is. never_with c.in_ok-bytes.ensures.reads fault (told fault why) (λ r found of sized readable broken. contents_read r of c.args.number c.args.size _ found sized broken) c.whole_contents.result is)
+    (λ fault why is. never_with c.in_ok-bytes.ensures.reads fault (told fault why)
+    (λ r found of sized readable broken. contents_read r of c.args.number c.args.size _ found sized broken) c.whole_contents.result is)

@@ -2,7 +2,8 @@ use Rattle.desk_views.proofs.Answering.{sym, ◌∙◌, finds_as, item_numbered,
 use Rattle.desk_views.proofs.artifacts.read_of_module.Goals as goal
 
 pub returns-in-None-clause-reads : goal.returns-in-None-clause-reads
-returns-in-None-clause-reads g c = finds_as (rw c.in-None.is at c.in_ok-found.ensures.reads) (λ r is. no_artifact c.args.module_number (item_numbered r.artifacts c.args.number) is)
+returns-in-None-clause-reads g c = finds_as (rw c.in-None.is at c.in_ok-found.ensures.reads)
+    (λ r is. no_artifact c.args.module_number (item_numbered r.artifacts c.args.number) is)
 
 pub returns-then-ne-clause-reads : goal.returns-then-ne-clause-reads
 returns-then-ne-clause-reads g c =

@@ -1,4 +1,5 @@
-use Rattle.desk_views.proofs.Answering.{◌≤◌, ◌*◌, ◌++◌, sym, ap, ◌∙◌, arith, rules, IsSome, artifact_size_limit, piece_length, both_found, finds_as, pieces_of_artifact, item_numbered, pieces_end, pieces_grow, none_behind, passed, never_fails, told}
+use Rattle.desk_views.proofs.Answering.{◌≤◌, ◌*◌, ◌++◌, sym, ap, ◌∙◌, arith, rules, IsSome, artifact_size_limit, piece_length, both_found, finds_as}
+use Rattle.desk_views.proofs.Answering.{pieces_of_artifact, item_numbered, pieces_end, pieces_grow, none_behind, passed, never_fails, told}
 use Rattle.std.specs.Vec.{vec_items}
 use Rattle.desk_views.proofs.artifacts.read_pieces.Goals as goal
 
@@ -19,6 +20,9 @@ loop-bytes-preserved g c = record {
 
 pub returns-in_err-piece-clause-fails : goal.returns-in_err-piece-clause-fails
 returns-in_err-piece-clause-fails g c =
-    let full : IsSome c.in_ok-found.found × (artifact_size_limit ≤ c.loop-bytes.pieces * piece_length) = (c.in_err-piece.ensures.err.1, c.in_err-piece.ensures.err.2) in
-    never_fails (both_found c.loop-bytes.invariant.reads c.in_ok-found.ensures.reads) _ (told {Why = IsSome c.in_ok-found.found × (artifact_size_limit ≤ c.loop-bytes.pieces * piece_length)} _ (c.in_err-piece.ensures.err.0, full))
-    (λ r is of readable full. none_behind vec_items r of c.args.number c.loop-bytes.pieces c.in_ok-found.found is.1 full.0 full.1) _ (passed _ _ c.from_residual-in_err-piece.ensures.1)
+    let full : IsSome c.in_ok-found.found × (artifact_size_limit ≤ c.loop-bytes.pieces * piece_length) =
+    (c.in_err-piece.ensures.err.1, c.in_err-piece.ensures.err.2) in
+    never_fails (both_found c.loop-bytes.invariant.reads c.in_ok-found.ensures.reads) _
+    (told {Why = IsSome c.in_ok-found.found × (artifact_size_limit ≤ c.loop-bytes.pieces * piece_length)} _ (c.in_err-piece.ensures.err.0, full))
+    (λ r is of readable full. none_behind vec_items r of c.args.number c.loop-bytes.pieces c.in_ok-found.found is.1 full.0 full.1) _
+    (passed _ _ c.from_residual-in_err-piece.ensures.1)

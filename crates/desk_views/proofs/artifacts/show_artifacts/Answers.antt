@@ -1,4 +1,5 @@
-use Rattle.desk_views.proofs.Answering.{sym, ap, ◌∙◌, not, drop, length, take, both_found, finds_as, artifacts_shown, no_module, page_shown, artifacts_counted, passed, never_fails}
+use Rattle.desk_views.proofs.Answering.{sym, ap, ◌∙◌, not, drop, length, take, both_found, finds_as, artifacts_shown, no_module, page_shown, artifacts_counted}
+use Rattle.desk_views.proofs.Answering.{passed, never_fails}
 use Rattle.desk_views.proofs.artifacts.show_artifacts.Goals as goal
 
 pub returns-then-is_none-clause-reads : goal.returns-then-is_none-clause-reads
@@ -11,10 +12,12 @@ returns-clause-reads g c =
     (λ r is.
     let all = c.deref.ensures.value ∙ is.1 in
     rw (sym is.0)
-    (page_shown c.in_ok-read_module.field-0 c.args.page (artifacts_shown c.args.module_number 1 r.artifacts) c.in_ok-shown.shown (c.is_none.ensures ∙ ap not c.if-is_none.false)
+    (page_shown c.in_ok-read_module.field-0 c.args.page (artifacts_shown c.args.module_number 1 r.artifacts) c.in_ok-shown.shown
+    (c.is_none.ensures ∙ ap not c.if-is_none.false)
     (c.in_ok-shown.ensures.content ∙ ap (λ l. take c.args.page.limit (drop c.args.page.offset l)) all) (c.in_ok-shown.ensures.total ∙ ap length all)))
 
 pub returns-in_err-shown-clause-fails : goal.returns-in_err-shown-clause-fails
 returns-in_err-shown-clause-fails g c =
     never_fails (both_found c.in_ok-read_module.ensures.reads c.in_ok-artifacts.ensures.reads) _ c.in_err-shown.ensures.err
-    (λ r is of readable large. artifacts_counted r of c.args.module_number _ (c.deref.ensures.value ∙ is.1) large) _ (passed _ _ c.from_residual-in_err-shown.ensures.1)
+    (λ r is of readable large. artifacts_counted r of c.args.module_number _ (c.deref.ensures.value ∙ is.1) large) _
+    (passed _ _ c.from_residual-in_err-shown.ensures.1)

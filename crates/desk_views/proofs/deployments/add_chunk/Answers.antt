@@ -6,4 +6,6 @@ returns-in-None-clause-reads g c = finds_as (rw c.in-None.is at c.in_ok-label.en
 
 pub returns-clause-reads : goal.returns-clause-reads
 returns-clause-reads g c =
-    found_if (both_found (rw c.in-Some.is at c.in_ok-label.ensures.reads) c.in_ok-artifacts.ensures.reads) _ c.push.ensures.ok (λ r y is got. one_chunk r c.args.module_number c.args.chunks.now.items _ (record { module_number = c.args.module_number; label = c.in-Some.label; artifacts = c.in_ok-artifacts.artifacts }) is.0 refl is.1 got)
+    found_if (both_found (rw c.in-Some.is at c.in_ok-label.ensures.reads) c.in_ok-artifacts.ensures.reads) _ c.push.ensures.ok
+    (λ r y is got. one_chunk r c.args.module_number c.args.chunks.now.items _
+    (record { module_number = c.args.module_number; label = c.in-Some.label; artifacts = c.in_ok-artifacts.artifacts }) is.0 refl is.1 got)

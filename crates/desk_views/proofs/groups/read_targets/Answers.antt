@@ -5,10 +5,12 @@ pub loop-id-preserved : goal.loop-id-preserved
 loop-id-preserved g c = record {
   stays = search rules;
   fails = search rules;
-  reads = finds_as (both_found c.loop-id.invariant.reads c.in_ok-add_target.ensures.reads) (λ r is. targets_grow r c.loop-id.yielded c.in-Some.id _ _ is.0 is.1);
+  reads = finds_as (both_found c.loop-id.invariant.reads c.in_ok-add_target.ensures.reads)
+      (λ r is. targets_grow r c.loop-id.yielded c.in-Some.id _ _ is.0 is.1);
 }
 
 pub returns-clause-reads : goal.returns-clause-reads
 returns-clause-reads g c =
-    let given = all_given c.into_iter-id-iterator.result _ c.next.new.self _ _ c.into_iter-id-iterator.ensures.into_iter_gives.0 c.loop-id.yielded_by c.in-None.ensures.steps in
+    let given = all_given c.into_iter-id-iterator.result _ c.next.new.self _ _ c.into_iter-id-iterator.ensures.into_iter_gives.0 c.loop-id.yielded_by
+    c.in-None.ensures.steps in
     finds_as c.loop-id.invariant.reads (λ r is. is ∙ ap (λ l. targets_shown r (targets_of r l)) given)

@@ -6,5 +6,6 @@ abbrev pub invariant-loop-id : goal.invariant-loop-id
 invariant-loop-id g l = record {
   stays : StaysIn g.S.Store l.fn.change l.change (Ok (tt {0}));
   fails : FailsAtListsIn g.S.Store l.fn.change l.change (Ok (tt {0}));
-  reads : FindsIn g.S.Store {A = Unit {0}} {E = Fault} l.fn.change l.change (Ok tt) (λ r _. map shown_target l.content.items ≡ targets_shown r (targets_of r l.yielded));
+  reads : FindsIn g.S.Store {A = Unit {0}} {E = Fault} l.fn.change l.change (Ok tt)
+      (λ r _. map shown_target l.content.items ≡ targets_shown r (targets_of r l.yielded));
 }

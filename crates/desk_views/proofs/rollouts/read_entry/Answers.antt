@@ -10,8 +10,11 @@ returns-in-Some-2-clause-reads g c =
 
 pub returns-in_default-clause-fails : goal.returns-in_default-clause-fails
 returns-in_default-clause-fails g c =
-    never_with (known {x = tt {0}} {P = λ r u. Unit {0}} (λ r. tt)) Broken (tt {0}) (λ r is of within readable _. few_numbered r of c.args.number c.in_default.ensures within.0 within.1) (Err Broken) refl
+    never_with (known {x = tt {0}} {P = λ r u. Unit {0}} (λ r. tt)) Broken (tt {0})
+    (λ r is of within readable _. few_numbered r of c.args.number c.in_default.ensures within.0 within.1) (Err Broken) refl
 
 pub returns-in-None-clause-fails : goal.returns-in-None-clause-fails
 returns-in-None-clause-fails g c =
-    never_with (rw c.in-None.is at c.in_ok-seen.ensures.reads) Broken (tt {0}) (λ r is of within readable _. entry_seen r c.args.number c.in-Some.number (same_number _ _ (sym c.in-Some.ensures)) within.0 within.1 (is of)) (Err Broken) refl
+    never_with (rw c.in-None.is at c.in_ok-seen.ensures.reads) Broken (tt {0})
+    (λ r is of within readable _. entry_seen r c.args.number c.in-Some.number (same_number _ _ (sym c.in-Some.ensures)) within.0 within.1 (is of))
+    (Err Broken) refl

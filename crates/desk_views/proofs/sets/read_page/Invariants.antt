@@ -6,5 +6,6 @@ abbrev pub invariant-loop-place : goal.invariant-loop-place
 invariant-loop-place g l = record {
   stays : StaysIn g.S.Store l.fn.change l.change (Ok (tt {0}));
   fails : FailsWith g.S.Store (λ r. l.total ≡ length r.sets) l.fn.change l.change (Ok (tt {0}));
-  reads : FindsIn g.S.Store {E = Fault} l.fn.change l.change (Ok l.content.items) (λ r items. items ≡ take l.place (drop l.page.offset (numbered set_shown 1 r.sets)));
+  reads : FindsIn g.S.Store {E = Fault} l.fn.change l.change (Ok l.content.items)
+      (λ r items. items ≡ take l.place (drop l.page.offset (numbered set_shown 1 r.sets)));
 }

@@ -3,9 +3,11 @@ use Rattle.desk_views.proofs.target_pages.add.Goals as goal
 
 pub returns-then-not-is_on-clause-reads : goal.returns-then-not-is_on-clause-reads
 returns-then-not-is_on-clause-reads g c =
-    known (λ r all was. page_with c.args.page c.args.shown.now c.args.shown.now.content all (worded r c.args.target) was false (sym c.if-not-is_on.true ∙ c.is_on.ensures) c.in-Some.total (search rules) refl)
+    known (λ r all was. page_with c.args.page c.args.shown.now c.args.shown.now.content all (worded r c.args.target) was false
+    (sym c.if-not-is_on.true ∙ c.is_on.ensures) c.in-Some.total (search rules) refl)
 
 pub returns-clause-reads : goal.returns-clause-reads
 returns-clause-reads g c =
     found_if c.in_ok-entry.ensures.reads _ c.push.ensures.ok
-    (λ r y said got all was. page_with c.args.page c.args.shown.now c.push.new.content all (worded r c.args.target) was true (sym c.if-not-is_on.false ∙ c.is_on.ensures) c.in-Some.total (search rules) (got ∙ ap (λ s. c.args.shown.now.content.items ++ s ∷ []) said))
+    (λ r y said got all was. page_with c.args.page c.args.shown.now c.push.new.content all (worded r c.args.target) was true
+    (sym c.if-not-is_on.false ∙ c.is_on.ensures) c.in-Some.total (search rules) (got ∙ ap (λ s. c.args.shown.now.content.items ++ s ∷ []) said))

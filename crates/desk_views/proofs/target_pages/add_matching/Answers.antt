@@ -1,4 +1,5 @@
-use Rattle.desk_views.proofs.Answering.{◌++◌, [], ◌∷◌, map, ap, ◌∙◌, arith, rules, length-append, both_found, finds_as, page_of, matching_shown, target_listed, all_given, matching_grow, passed, some_left, with_when}
+use Rattle.desk_views.proofs.Answering.{◌++◌, [], ◌∷◌, map, ap, ◌∙◌, arith, rules, length-append, both_found, finds_as, page_of, matching_shown, target_listed}
+use Rattle.desk_views.proofs.Answering.{all_given, matching_grow, passed, some_left, with_when}
 use Rattle.desk_views.proofs.FailingViews.{listed}
 use Rattle.desk_views.proofs.target_pages.add_matching.Goals as goal
 
@@ -13,12 +14,15 @@ loop-entry-preserved g c = record {
 
 pub returns-clause-reads : goal.returns-clause-reads
 returns-clause-reads g c =
-    let given = all_given c.into_iter-entry-iterator.result _ c.next.new.self _ _ c.into_iter-entry-iterator.ensures.into_iter_gives.0 c.loop-entry.yielded_by c.in-None.ensures.steps in
+    let given = all_given c.into_iter-entry-iterator.result _ c.next.new.self _ _ c.into_iter-entry-iterator.ensures.into_iter_gives.0 c.loop-entry.yielded_by
+    c.in-None.ensures.steps in
     finds_as c.loop-entry.invariant.reads
     (λ r is f tree all was. is f tree all was ∙ ap (λ l. page_of c.args.page (all ++ matching_shown r f (map (target_listed r) l))) given)
 
 pub returns-in_err-add_if_match-clause-fails : goal.returns-in_err-add_if_match-clause-fails
 returns-in_err-add_if_match-clause-fails g c =
-    let more = some_left c.into_iter-entry-iterator.result _ c.next.new.self _ _ c.in-Some.entry c.into_iter-entry-iterator.ensures.into_iter_gives.0 c.loop-entry.yielded_by c.in-Some.ensures.steps in
-    with_when c.loop-entry.invariant.reads c.loop-entry.invariant.stays.grows.failures c.in_err-add_if_match.ensures.reads.wears _ c.in_err-add_if_match.ensures.fails
+    let more = some_left c.into_iter-entry-iterator.result _ c.next.new.self _ _ c.in-Some.entry c.into_iter-entry-iterator.ensures.into_iter_gives.0
+    c.loop-entry.yielded_by c.in-Some.ensures.steps in
+    with_when c.loop-entry.invariant.reads c.loop-entry.invariant.stays.grows.failures c.in_err-add_if_match.ensures.reads.wears _
+    c.in_err-add_if_match.ensures.fails
     (λ r is of room. record { of_list = listed of; wanted = omega (arith, more, room, c.loop-entry.invariant.counts) }) _ (passed _ _ c.from_residual.ensures.1)

@@ -1,4 +1,5 @@
-use Rattle.desk_views.proofs.Answering.{◌≡◌, ◌≤◌, ◌<◌, ◌^◌, ◌+◌, ◌++◌, List, Some, Ok, length, map, Fault, page_of, listed, ShownTarget, Tree, filter_of, FindsIn, StaysIn, matching_shown, target_listed, FailsWith}
+use Rattle.desk_views.proofs.Answering.{◌≡◌, ◌≤◌, ◌<◌, ◌^◌, ◌+◌, ◌++◌, List, Some, Ok, length, map, Fault, page_of, listed, ShownTarget, Tree, filter_of}
+use Rattle.desk_views.proofs.Answering.{FindsIn, StaysIn, matching_shown, target_listed, FailsWith}
 use Rattle.desk_views.proofs.target_pages.add_matching.Given as goal
 
 -- those that match of the ones that were gone through are added
@@ -8,5 +9,6 @@ invariant-loop-entry g l = record {
   fails : FailsWith g.S.Store (λ r. l.fn.shown.total + length l.fn.entries.items < 2 ^ 32) l.fn.change l.change (Ok (tt {0}));
   counts : l.shown.total ≤ l.fn.shown.total + length l.yielded;
   reads : FindsIn g.S.Store {A = Unit {0}} {E = Fault} l.fn.change l.change (Ok tt)
-      (λ r _. (f : Tree) → filter_of l.filter ≡ Some f → (all : List ShownTarget) → listed l.fn.shown ≡ page_of l.page all → listed l.shown ≡ page_of l.page (all ++ matching_shown r f (map (target_listed r) l.yielded)));
+      (λ r _. (f : Tree) → filter_of l.filter ≡ Some f → (all : List ShownTarget) → listed l.fn.shown ≡ page_of l.page all → listed l.shown
+      ≡ page_of l.page (all ++ matching_shown r f (map (target_listed r) l.yielded)));
 }

@@ -7,10 +7,12 @@ loop-entry-preserved g c = record {
   fails = search rules;
   reads = finds_as
       (both_found (both_found c.loop-entry.invariant.reads c.in_ok-target.ensures.reads) c.in_ok-shown.ensures.reads)
-      (λ r is. entries_grow r _ _ c.loop-entry.yielded c.in-Some.entry c.in_ok-target.target c.in_ok-shown.shown is.0.0 is.0.1 is.1 (rw (ap is_ok c.in-Ok.is) at c.push.ensures.items));
+      (λ r is. entries_grow r _ _ c.loop-entry.yielded c.in-Some.entry c.in_ok-target.target c.in_ok-shown.shown is.0.0 is.0.1 is.1
+      (rw (ap is_ok c.in-Ok.is) at c.push.ensures.items));
 }
 
 pub returns-clause-reads : goal.returns-clause-reads
 returns-clause-reads g c =
-    let all = all_given c.into_iter-entry-iterator.result _ c.next.new.self _ _ c.into_iter-entry-iterator.ensures.into_iter_gives.0 c.loop-entry.yielded_by c.in-None.ensures.steps in
+    let all = all_given c.into_iter-entry-iterator.result _ c.next.new.self _ _ c.into_iter-entry-iterator.ensures.into_iter_gives.0 c.loop-entry.yielded_by
+    c.in-None.ensures.steps in
     finds_as c.loop-entry.invariant.reads (λ r is. is ∙ ap (λ l. map (worded r) (map (target_listed r) l)) all)

@@ -17,16 +17,23 @@ loop-chunk-preserved g c = record {
   stays = search rules;
   fails = search rules;
   reads = finds_as (both_found c.loop-chunk.invariant.reads c.in_ok-add_chunk.ensures.reads)
-      (λ r is. (is.0.0, λ f tree. next_chunk c.args.page f r c.loop-chunk.shown c.add_chunk.new.shown c.loop-chunk.chunk c.in-Some.offset (search rules) (is.1 f tree) (is.0.1 f tree)));
+      (λ r is. (
+        is.0.0,
+        λ f tree. next_chunk c.args.page f r c.loop-chunk.shown c.add_chunk.new.shown c.loop-chunk.chunk c.in-Some.offset (search rules)
+            (is.1 f tree) (is.0.1 f tree),
+      ));
 }
 
 pub returns-clause-reads : goal.returns-clause-reads
 returns-clause-reads g c =
-    finds_as c.loop-chunk.invariant.reads (λ r is f tree. last_chunk c.args.page f r c.loop-chunk.shown c.loop-chunk.chunk c.in_ok-count.count (omega (arith, c.div_ceil-chunk-end.ensures)) is.0 (is.1 f tree))
+    finds_as c.loop-chunk.invariant.reads
+    (λ r is f tree. last_chunk c.args.page f r c.loop-chunk.shown c.loop-chunk.chunk c.in_ok-count.count (omega (arith, c.div_ceil-chunk-end.ensures)) is.0
+    (is.1 f tree))
 
 pub returns-in_err-add_chunk-clause-fails : goal.returns-in_err-add_chunk-clause-fails
 returns-in_err-add_chunk-clause-fails g c =
-    fails_when c.loop-chunk.invariant.reads c.loop-chunk.invariant.stays.grows.failures c.in_err-add_chunk.ensures.reads.wears _ c.in_err-add_chunk.ensures.fails
+    fails_when c.loop-chunk.invariant.reads c.loop-chunk.invariant.stays.grows.failures c.in_err-add_chunk.ensures.reads.wears _
+    c.in_err-add_chunk.ensures.fails
     (λ r is of.
     let first = one_chunk r of c.in_ok-count.count c.loop-chunk.chunk _ is.0 c.div_ceil-chunk-end.ensures c.loop-chunk-test.true in
     record { of_list = listed of; wanted = omega (arith, c.loop-chunk.invariant.begins first) }) _ (passed _ _ c.from_residual-in_err-add_chunk.ensures.1)

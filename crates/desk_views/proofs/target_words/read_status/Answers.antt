@@ -2,7 +2,8 @@ use Rattle.desk_views.proofs.Answering.{both_found, finds_as, ledger_found, word
 use Rattle.desk_views.proofs.target_words.read_status.Goals as goal
 
 pub returns-then-is_some-clause-reads : goal.returns-then-is_some-clause-reads
-returns-then-is_some-clause-reads g c = finds_as (ledger_found _ c.in_ok-read_offer.ensures.reads) (λ r is. word_pending r c.args.id.now _ is (rw c.is_some.ensures at c.if-is_some.true))
+returns-then-is_some-clause-reads g c = finds_as (ledger_found _ c.in_ok-read_offer.ensures.reads)
+    (λ r is. word_pending r c.args.id.now _ is (rw c.is_some.ensures at c.if-is_some.true))
 
 pub returns-clause-reads : goal.returns-clause-reads
 returns-clause-reads g c =

@@ -1,4 +1,5 @@
-use Rattle.http_wire.proofs.Common.{◌≡◌, ℕ, ◌+◌, ◌*◌, ◌<◌, true, List, length, get_or, take, sym, ◌∙◌, arith, Err, digits_value, and_parts, lt-ltb, cond-true, AllPass-from_list_all, body_length_limit, TooLarge, is_digits, length_of}
+use Rattle.http_wire.proofs.Common.{◌≡◌, ℕ, ◌+◌, ◌*◌, ◌<◌, true, List, length, get_or, take, sym, ◌∙◌, arith, Err, digits_value, and_parts, lt-ltb, cond-true}
+use Rattle.http_wire.proofs.Common.{AllPass-from_list_all, body_length_limit, TooLarge, is_digits, length_of}
 use Rattle.std.specs.Char.{is_ascii_digit, digit_value}
 use Rattle.std.proofs.lemmas.Int.Digits.{digits_value_more}
 use Rattle.std.proofs.lemmas.Str.Parse.{digits_value-take-le}
@@ -22,7 +23,8 @@ pub returns-then-length-gt-BODY_LENGTH_LIMIT : goal.returns-then-length-gt-BODY_
 returns-then-length-gt-BODY_LENGTH_LIMIT c =
     let digits = c.if-not-is_digits.ensures in
     let d = c.digit_of.ensures.value (digit_at c.args.text.now _ digits c.loop-b-test.true) in
-    too_large c.args.text.now c.loop-b.b-index _ digits c.if-length-gt-BODY_LENGTH_LIMIT.true (more c.args.text.now _ _ _ c.loop-b-test.true c.loop-b.invariant.value d)
+    too_large c.args.text.now c.loop-b.b-index _ digits c.if-length-gt-BODY_LENGTH_LIMIT.true
+    (more c.args.text.now _ _ _ c.loop-b-test.true c.loop-b.invariant.value d)
 
 pub loop-b-preserved : goal.loop-b-preserved
 loop-b-preserved c =

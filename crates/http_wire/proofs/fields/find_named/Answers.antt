@@ -1,4 +1,6 @@
-use Rattle.http_wire.proofs.Common.{◌≡◌, ℕ, ◌+◌, ◌<◌, ◌≤◌, true, Option, Some, None, List, [], ◌∷◌, ◌++◌, length, map, take, drop, get_or, sym, ap, ◌∙◌, arith, option_map, is_some, option_to_list, cond-true, length-append, take-append-drop, take-map, length-map, get_or-map, Field, NameAndValue, is_named, fields_named, field_view}
+use Rattle.http_wire.proofs.Common.{◌≡◌, ℕ, ◌+◌, ◌<◌, ◌≤◌, true, Option, Some, None, List, [], ◌∷◌, ◌++◌, length, map, take, drop, get_or, sym, ap, ◌∙◌, arith}
+use Rattle.http_wire.proofs.Common.{option_map, is_some, option_to_list, cond-true, length-append, take-append-drop, take-map, length-map, get_or-map, Field}
+use Rattle.http_wire.proofs.Common.{NameAndValue, is_named, fields_named, field_view}
 use Rattle.std.proofs.lemmas.List.Elements.{filter-append, filter_more}
 use Rattle.http_wire.proofs.fields.find_named.Goals as goal
 
@@ -23,7 +25,8 @@ two name fields i first d l e some here =
     let fs = map field_view fields in
     let read : get_or fs i (field_view d) ≡ field_view (get_or fields i d) = get_or-map field_view fields i d (field_view d) l in
     let test : is_named name (get_or fs i (field_view d)) ≡ true = ap (is_named name) read ∙ sym here in
-    let step = filter_more (is_named name) fs i (field_view d) (omega (arith, length-map fields field_view)) ∙ ap (λ t. fields_named name (take i fs) ++ t) (cond-true _ _ _ test) in
+    let step = filter_more (is_named name) fs i (field_view d) (omega (arith, length-map fields field_view))
+    ∙ ap (λ t. fields_named name (take i fs) ++ t) (cond-true _ _ _ test) in
     omega (
       arith,
       front_le name fs (i + 1),
@@ -36,4 +39,5 @@ two name fields i first d l e some here =
 
 pub returns-then-is_some : goal.returns-then-is_some
 returns-then-is_some c =
-    two c.args.name.now c.args.fields.now c.loop-field.field-index c.loop-field.first _ c.loop-field-test.true c.loop-field.invariant c.if-is_some.ensures c.if-is_named.ensures
+    two c.args.name.now c.args.fields.now c.loop-field.field-index c.loop-field.first _ c.loop-field-test.true c.loop-field.invariant c.if-is_some.ensures
+    c.if-is_named.ensures

@@ -18,7 +18,8 @@ step stream rest after m count total before message =
 pub loop-rest-preserved : goal.loop-rest-preserved
 loop-rest-preserved c =
     let at : IsMessage c.loop-rest.rest.now (message_of c.in-Ok.field-0-0) c.split_at.result.1.now = rw (← c.split_at.ensures.back) at c.in-Ok.ensures.1 in
-    let before : Step c.args.stream.now c.loop-rest.rest.now c.loop-rest.messages (length c.args.stream.now) = record { so_far = c.loop-rest.invariant.so_far; few = c.loop-rest.invariant.few } in
+    let before : Step c.args.stream.now c.loop-rest.rest.now c.loop-rest.messages (length c.args.stream.now) =
+    record { so_far = c.loop-rest.invariant.so_far; few = c.loop-rest.invariant.few } in
     let after = step _ _ _ _ _ _ before at in
     record { so_far = after.so_far; few = after.few }
 

@@ -9,5 +9,6 @@ use Rattle.mgmt_api.proofs.path.text_in.Goals as goal
 -- a segment that isn't UTF-8 is no word
 pub returns-in_default : goal.returns-in_default
 returns-in_default c =
-    let at : Some c.in_ok-segment.segment.now ≡ slice_get (segments (path_of (message_of c.args.message.now).target)) c.args.place = rw c.path.ensures at c.in_ok-segment.ensures in
+    let at : Some c.in_ok-segment.segment.now ≡ slice_get (segments (path_of (message_of c.args.message.now).target)) c.args.place =
+    rw c.path.ensures at c.in_ok-segment.ensures in
     sym (word_of-no_text c.in_ok-segment.segment.now c.in_default.ensures.cases.0) ∙ ap (option_and_then word_of) at

@@ -1,4 +1,5 @@
-use Rattle.mgmt_objects.proofs.Common.{◌≡◌, ◌∙◌, ap, codes, refl, string_bytes, rules, object, put, view, members_view, members_view-insert_entry, view-Object, whole}
+use Rattle.mgmt_objects.proofs.Common.{◌≡◌, ◌∙◌, ap, codes, refl, string_bytes, rules, object, put, view, members_view, members_view-insert_entry, view-Object}
+use Rattle.mgmt_objects.proofs.Common.{whole}
 use Rattle.mgmt_objects.proofs.action_object.with_number.Goals as goal
 
 pub returns-in_ok-insert-in-Object : goal.returns-in_ok-insert-in-Object

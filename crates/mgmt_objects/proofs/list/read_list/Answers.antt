@@ -7,4 +7,5 @@ returns-in-Err g c = traverse_refuses g.T.Item.reads view c.args.values.now c.lo
 
 pub loop-value-preserved : goal.loop-value-preserved
 loop-value-preserved g c =
-    rw c.in_ok-push.ensures.items (traverse_more g.T.Item.reads view c.args.values.now c.loop-value.value-index _ _ _ (omega arith) c.value-item.is c.loop-value.invariant c.in-Ok.ensures)
+    rw c.in_ok-push.ensures.items (traverse_more g.T.Item.reads view c.args.values.now c.loop-value.value-index _ _ _ (omega arith) c.value-item.is
+    c.loop-value.invariant c.in-Ok.ensures)

@@ -15,7 +15,8 @@ pub returns-in-Artifact-clause-answers : goal.returns-in-Artifact-clause-answers
 returns-in-Artifact-clause-answers g c = rw c.in-Artifact.is (other_answered (at_lists _ c.show_artifact.ensures.reads) (λ t reply. (tt, tt)))
 
 pub returns-in-Contents-clause-answers : goal.returns-in-Contents-clause-answers
-returns-in-Contents-clause-answers g c = rw c.in-Contents.is (record { shows = at_lists _ c.show_contents.ensures.reads; sized = c.show_contents.ensures.sized; kept = always (λ t reply. tt) })
+returns-in-Contents-clause-answers g c =
+    rw c.in-Contents.is (record { shows = at_lists _ c.show_contents.ensures.reads; sized = c.show_contents.ensures.sized; kept = always (λ t reply. tt) })
 
 pub returns-in-Sets-clause-answers : goal.returns-in-Sets-clause-answers
 returns-in-Sets-clause-answers g c = rw c.in-Sets.is (other_answered (at_lists _ c.show_sets.ensures.reads) (λ t reply. (tt, tt)))
@@ -30,16 +31,24 @@ pub returns-in-Target-clause-answers : goal.returns-in-Target-clause-answers
 returns-in-Target-clause-answers g c = rw c.in-Target.is (other_answered (at_lists _ c.show_target.ensures.reads) (λ t reply. (tt, tt)))
 
 pub returns-in-Poll-clause-answers : goal.returns-in-Poll-clause-answers
-returns-in-Poll-clause-answers g c = rw c.in-Poll.is (record { shows = at_lists _ c.show_poll.ensures.reads; sized = always (λ t reply. tt); kept = c.show_poll.ensures.kept })
+returns-in-Poll-clause-answers g c =
+    rw c.in-Poll.is (record { shows = at_lists _ c.show_poll.ensures.reads; sized = always (λ t reply. tt); kept = c.show_poll.ensures.kept })
 
 pub returns-in-Deployment-clause-answers : goal.returns-in-Deployment-clause-answers
-returns-in-Deployment-clause-answers g c = rw c.in-Deployment.is (record { shows = at_lists _ c.show_deployment.ensures.reads; sized = always (λ t reply. tt); kept = c.show_deployment.ensures.kept })
+returns-in-Deployment-clause-answers g c =
+    rw c.in-Deployment.is (record { shows = at_lists _ c.show_deployment.ensures.reads; sized = always (λ t reply. tt); kept = c.show_deployment.ensures.kept })
 
 pub returns-in-CancelOf-clause-answers : goal.returns-in-CancelOf-clause-answers
-returns-in-CancelOf-clause-answers g c = rw c.in-CancelOf.is (record { shows = at_lists _ c.show_cancel.ensures.reads; sized = always (λ t reply. tt); kept = c.show_cancel.ensures.kept })
+returns-in-CancelOf-clause-answers g c =
+    rw c.in-CancelOf.is (record { shows = at_lists _ c.show_cancel.ensures.reads; sized = always (λ t reply. tt); kept = c.show_cancel.ensures.kept })
 
 pub returns-in-Download-clause-answers : goal.returns-in-Download-clause-answers
-returns-in-Download-clause-answers g c = rw c.in-Download.is (record { shows = at_lists _ c.show_download.ensures.reads; sized = c.show_download.ensures.sized; kept = c.show_download.ensures.kept })
+returns-in-Download-clause-answers g c =
+    rw c.in-Download.is (record {
+      shows = at_lists _ c.show_download.ensures.reads;
+      sized = c.show_download.ensures.sized;
+      kept = c.show_download.ensures.kept;
+    })
 
 pub returns-in-Actions-clause-answers : goal.returns-in-Actions-clause-answers
 returns-in-Actions-clause-answers g c = rw c.in-Actions.is (other_answered c.show_target_actions.ensures.shows (λ t reply. (tt, tt)))

@@ -1,4 +1,5 @@
-use Rattle.rollout_desk.proofs.Common.{◌≡◌, ◌≤◌, inl, Err, subst, rules, state, Keeps, HoldsLedger, HoldsRecords, StoreFailed, Looks, FindsDamage, HasCause, IsNeverDamaged}
+use Rattle.rollout_desk.proofs.Common.{◌≡◌, ◌≤◌, inl, Err, subst, rules, state, Keeps, HoldsLedger, HoldsRecords, StoreFailed, Looks, FindsDamage, HasCause}
+use Rattle.rollout_desk.proofs.Common.{IsNeverDamaged}
 use Rattle.rollout_desk.proofs.LookLemmas.{look_failed, looked, unbegun}
 use Rattle.rollout_desk.proofs.VerifyLemmas.{failed_call, judged, never_damaged, none_found, read_in_vain}
 use Rattle.sql_calls.specs.Calls.{Grows, failures_of}
@@ -21,7 +22,8 @@ returns-in-Ok-find_damage-clause-looks g c =
     let same : c.give_up.new.change.0 ≡ c.store-in-Ok-find_damage-1.given.0 = search rules in
     subst (λ h. Looks HoldsRecords (state g.S.Store c.args.store.now.calls.conn) (state g.S.Store h.calls.conn) c.give_up.result IsNeverDamaged) same
     (looked _ _ _ _ _ c.in-Ok.ensures.begun _ c.in-Ok-find_damage.found c.in-Ok-find_damage.ensures.stays.frame c.in-Ok-find_damage.ensures.judges.wears
-    (never_damaged _ _ _ c.in-Ok-find_damage.found c.in-Ok-find_damage.ensures.judges c.in-Ok.ensures.begun c.in-Ok-find_damage.ensures.never) c.give_up.ensures.ends)
+    (never_damaged _ _ _ c.in-Ok-find_damage.found c.in-Ok-find_damage.ensures.judges c.in-Ok.ensures.begun c.in-Ok-find_damage.ensures.never)
+    c.give_up.ensures.ends)
 
 pub returns-in-Err-find_damage-clause-judges : goal.returns-in-Err-find_damage-clause-judges
 returns-in-Err-find_damage-clause-judges g c =
@@ -32,16 +34,20 @@ returns-in-Err-find_damage-clause-judges g c =
 pub returns-in-Err-find_damage-clause-looks : goal.returns-in-Err-find_damage-clause-looks
 returns-in-Err-find_damage-clause-looks g c =
     let same : c.give_up-in-Err-find_damage.new.change.0 ≡ c.store-in-Err-find_damage-1.given.0 = search rules in
-    subst (λ h. Looks HoldsRecords (state g.S.Store c.args.store.now.calls.conn) (state g.S.Store h.calls.conn) c.give_up-in-Err-find_damage.result IsNeverDamaged) same
-    (look_failed _ _ _ _ _ c.in-Ok.ensures.begun _ c.in-Err-find_damage.fault _ c.in-Err-find_damage.ensures.stays.frame c.in-Err-find_damage.ensures.judges.wears c.refusal_of-in-Err-find_damage.ensures c.give_up-in-Err-find_damage.ensures.ends)
+    subst (λ h. Looks HoldsRecords (state g.S.Store c.args.store.now.calls.conn) (state g.S.Store h.calls.conn) c.give_up-in-Err-find_damage.result
+    IsNeverDamaged) same
+    (look_failed _ _ _ _ _ c.in-Ok.ensures.begun _ c.in-Err-find_damage.fault _ c.in-Err-find_damage.ensures.stays.frame
+    c.in-Err-find_damage.ensures.judges.wears c.refusal_of-in-Err-find_damage.ensures c.give_up-in-Err-find_damage.ensures.ends)
 
 pub returns-in-Err-find_damage-clause-blames : goal.returns-in-Err-find_damage-clause-blames
 returns-in-Err-find_damage-clause-blames g c =
     let same : c.give_up-in-Err-find_damage.new.change.0 ≡ c.store-in-Err-find_damage-1.given.0 = search rules in
     let grew : c.args.store.now.calls.failures ≤ c.in-Ok.change.store.now.calls.failures = c.in-Ok.ensures.grows.failures in
     subst (λ h. c.give_up-in-Err-find_damage.result ≡ Err StoreFailed → HasCause g.S.Store c.args.store.now.calls h.calls) same
-    (read_in_vain g.S.Store c.args.store.now.calls _ _ c.give_up-in-Err-find_damage.new.change.0.calls c.in-Err-find_damage.fault _ c.give_up-in-Err-find_damage.result c.refusal_of-in-Err-find_damage.ensures c.in-Ok.ensures.tables grew c.in-Err-find_damage.ensures.blames
-    c.give_up-in-Err-find_damage.ensures.ends.wears c.give_up-in-Err-find_damage.ensures.counts c.in-Err-find_damage.ensures.stays.grows c.give_up-in-Err-find_damage.ensures.fails)
+    (read_in_vain g.S.Store c.args.store.now.calls _ _ c.give_up-in-Err-find_damage.new.change.0.calls c.in-Err-find_damage.fault _
+    c.give_up-in-Err-find_damage.result c.refusal_of-in-Err-find_damage.ensures c.in-Ok.ensures.tables grew c.in-Err-find_damage.ensures.blames
+    c.give_up-in-Err-find_damage.ensures.ends.wears c.give_up-in-Err-find_damage.ensures.counts c.in-Err-find_damage.ensures.stays.grows
+    c.give_up-in-Err-find_damage.ensures.fails)
 
 pub returns-in-Err-clause-blames : goal.returns-in-Err-clause-blames
 returns-in-Err-clause-blames g c =

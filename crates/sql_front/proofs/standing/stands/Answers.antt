@@ -6,7 +6,8 @@ pub returns-clause-found : goal.returns-clause-found
 returns-clause-found c = λ yes.
     let first = c.is_first.ensures.first yes in
     let named = subst (λ n. table_named c.args.schema.now n ≡ Some c.in-Some.at) c.as_slice.ensures (sym c.in-Some.ensures) in
-    stands_by c.args.schema.now c.args.table.now c.in-Some-get.named.now first.0 c.in-Some.at named (sym c.in-Some-get.ensures.value) first.1 (c.is_first.ensures.same yes) first.2 (c.is_first.ensures.stored yes) (c.is_first.ensures.keyless yes)
+    stands_by c.args.schema.now c.args.table.now c.in-Some-get.named.now first.0 c.in-Some.at named (sym c.in-Some-get.ensures.value) first.1
+    (c.is_first.ensures.same yes) first.2 (c.is_first.ensures.stored yes) (c.is_first.ensures.keyless yes)
 
 pub returns-clause-missing : goal.returns-clause-missing
 returns-clause-missing c = λ no bare it.

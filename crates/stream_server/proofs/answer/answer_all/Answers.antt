@@ -1,8 +1,10 @@
-use Rattle.stream_server.proofs.Common.{◌≡◌, ℕ, ◌+◌, ◌-◌, ◌^◌, min, List, [], ◌∷◌, ◌++◌, length, Some, None, refl, ◌∙◌, arith, length-append, WireMessage, message_of, err_from_is_err_and}
+use Rattle.stream_server.proofs.Common.{◌≡◌, ℕ, ◌+◌, ◌-◌, ◌^◌, min, List, [], ◌∷◌, ◌++◌, length, Some, None, refl, ◌∙◌, arith, length-append, WireMessage}
+use Rattle.stream_server.proofs.Common.{message_of, err_from_is_err_and}
 use Rattle.stream_server.proofs.PartLemmas.{serves_append, serves_nil, takes_more, takes_nil}
 use Rattle.stream_server.proofs.answer.answer_all.Goals as goal
 
-counts : (before n answered next : ℕ) (ms : List WireMessage) (m : WireMessage) → answered ≡ min (before + length ms) (2 ^ 64 - 1) → next ≡ min (answered + 1) (2 ^ 64 - 1) → next ≡ min (before + length (ms ++ m ∷ [])) (2 ^ 64 - 1)
+counts : (before n answered next : ℕ) (ms : List WireMessage) (m : WireMessage) → answered ≡ min (before + length ms) (2 ^ 64 - 1)
+    → next ≡ min (answered + 1) (2 ^ 64 - 1) → next ≡ min (before + length (ms ++ m ∷ [])) (2 ^ 64 - 1)
 counts before n answered next ms m a b = omega (arith, a, b, length-append ms (m ∷ []))
 
 pub loop-fault-init : goal.loop-fault-init
@@ -15,7 +17,13 @@ returns-in_err-answer_one-in-Some-Ok-clause-serves g c =
     let inv = c.loop-fault.invariant in
     let ms = inv.0 in
     let m = message_of c.in-Some-Ok.message in
-    rw (p.1, p.2) (ms ++ m ∷ [], takes_more _ _ _ ms (m ∷ []) inv.1 hands.so_far, tt, serves_append _ _ _ _ _ _ _ ms (m ∷ []) (Some _) inv.3 c.in_err-answer_one-in-Some-Ok.ensures.serves)
+    rw (p.1, p.2) (
+      ms ++ m ∷ [],
+      takes_more _ _ _ ms (m ∷ []) inv.1 hands.so_far,
+      tt,
+      serves_append _ _ _ _ _ _ _ ms (m ∷ []) (Some _) inv.3
+          c.in_err-answer_one-in-Some-Ok.ensures.serves,
+    )
 
 pub loop-fault-preserved : goal.loop-fault-preserved
 loop-fault-preserved g c =

@@ -5,7 +5,8 @@ use Rattle.stream_server.proofs.answer.answer_all.Given as goal
 abbrev pub invariant-loop-fault : goal.invariant-loop-fault
 invariant-loop-fault g l = (ms : List WireMessage) × Takes l.initial.inbox ms l.inbox
     × (l.answered ≡ min (l.initial.answered + length ms) (2 ^ 64 - 1))
-    × Serves l.routes.interface (g.D.Handler.state l.initial.desk) (g.D.Handler.state l.desk) (g.W.Write.contents (inner_of l.initial.writer)) (g.W.Write.contents (inner_of l.writer)) ms None
+    × Serves l.routes.interface (g.D.Handler.state l.initial.desk) (g.D.Handler.state l.desk) (g.W.Write.contents (inner_of l.initial.writer))
+    (g.W.Write.contents (inner_of l.writer)) ms None
     × (has_failed l.writer ≡ has_failed l.initial.writer)
 
 abbrev pub decreases-loop-fault : goal.decreases-loop-fault

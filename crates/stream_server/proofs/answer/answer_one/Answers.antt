@@ -14,4 +14,5 @@ returns-in-Reply-clause-serves g c =
     serves_reply _ _ _ _ _ _ (record { clean = c.ask.ensures.clean; applies = e.begins; stopped = e.stopped }) _ _ _ _ c.give_reply.ensures.gives
 
 pub returns-in-Reply-clause-stops : goal.returns-in-Reply-clause-stops
-returns-in-Reply-clause-stops g c = IfErr-weaker c.give_reply.result _ _ (λ fault tells store. c.in-Reply.ensures.stops (tells store)) c.give_reply.ensures.store
+returns-in-Reply-clause-stops g c = IfErr-weaker c.give_reply.result _ _ (λ fault tells store. c.in-Reply.ensures.stops (tells store))
+    c.give_reply.ensures.store

@@ -1,4 +1,5 @@
-use Rattle.stream_server.proofs.Common.{◌≡◌, ◌≢◌, ℕ, List, true, false, Result, Ok, Err, IfOk, refl, sym, ◌∙◌, Refusal, Reply, Refused, PollShown, DeploymentShown, CancelShown, message_of, WireMessage, is_for_devices, IsToldWhole}
+use Rattle.stream_server.proofs.Common.{◌≡◌, ◌≢◌, ℕ, List, true, false, Result, Ok, Err, IfOk, refl, sym, ◌∙◌, Refusal, Reply, Refused, PollShown}
+use Rattle.stream_server.proofs.Common.{DeploymentShown, CancelShown, message_of, WireMessage, is_for_devices, IsToldWhole}
 use Rattle.rollout_machine.specs.Views.{reply_of}
 use Rattle.http_wire.specs.Replies.{answer_text}
 use Rattle.http_wire.specs.declared.reply.Answer.{Answer}
@@ -27,7 +28,8 @@ by_manage : (m : WireMessage) (reply : Reply) → is_for_devices reply ≡ false
 unfolding reply_text
 by_manage m reply is = rw is refl
 
-told : (m : WireMessage) (reply : Reply) (r : Result Answer Refusal) (text : List ℕ) (P : Type 0) → (((refusal : Refusal) → reply ≢ Refused refusal) → P) → text ≡ reply_text m reply → IfOk r (λ answer. P → answer_text answer ≡ text)
+told : (m : WireMessage) (reply : Reply) (r : Result Answer Refusal) (text : List ℕ) (P : Type 0) → (((refusal : Refusal) → reply ≢ Refused refusal) → P)
+    → text ≡ reply_text m reply → IfOk r (λ answer. P → answer_text answer ≡ text)
     → IfOk r (λ answer. IsToldWhole m reply (answer_text answer))
 told m reply (Ok answer) text P goes same is = λ success. is (goes success) ∙ same
 told m reply (Err e) text P goes same is = is
@@ -36,7 +38,8 @@ pub returns-then-is_for_devices : goal.returns-then-is_for_devices
 returns-then-is_for_devices c =
     let reply = reply_of c.args.reply.now in
     let is : is_for_devices reply ≡ true = sym c.is_for_devices.ensures ∙ c.if-is_for_devices.true in
-    told (message_of c.args.message.now) reply c.device_reply.result (device_text reply) _ (λ success. device_goes_on reply is) (by_device (message_of c.args.message.now) reply is) c.device_reply.ensures.text
+    told (message_of c.args.message.now) reply c.device_reply.result (device_text reply) _ (λ success. device_goes_on reply is)
+    (by_device (message_of c.args.message.now) reply is) c.device_reply.ensures.text
 
 pub returns-else-is_for_devices : goal.returns-else-is_for_devices
 returns-else-is_for_devices c =

@@ -20,7 +20,8 @@ returns-in_err-send-in-Ok-Some-clause-sends g c =
     let p = err_from_is_err_and c.from_residual-in_err-send-in-Ok-Some.result c.from_residual-in_err-send-in-Ok-Some.ensures.1 in
     let hands = rw c.in-Ok-Some.field-0-is at c.in-Ok-Some.ensures.hands in
     let e = c.in_err-send-in-Ok-Some.ensures.err in
-    rw (p.1, p.2, e.0) (piece_cut _ _ _ _ _ _ _ _ c.loop-piece.invariant.0 c.next_piece.ensures.clean _ c.in-Ok-Some.piece e.2 e.3 hands (sym c.as_slice-in-Ok-Some.ensures.value ∙ e.4) e.5)
+    rw (p.1, p.2, e.0) (piece_cut _ _ _ _ _ _ _ _ c.loop-piece.invariant.0 c.next_piece.ensures.clean _ c.in-Ok-Some.piece e.2 e.3 hands
+    (sym c.as_slice-in-Ok-Some.ensures.value ∙ e.4) e.5)
 
 pub loop-piece-preserved : goal.loop-piece-preserved
 loop-piece-preserved g c =

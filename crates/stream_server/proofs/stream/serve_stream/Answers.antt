@@ -1,13 +1,28 @@
-use Rattle.stream_server.proofs.Common.{◌≡◌, ℕ, ◌<◌, List, [], ◌++◌, length, Some, None, Ok, Err, refl, sym, ◌∙◌, subst, rules, arith, Consumes-nil, Consumes-trans, false≢true, err_from_is_err_and, IsUndecided, Begins}
+use Rattle.stream_server.proofs.Common.{◌≡◌, ℕ, ◌<◌, List, [], ◌++◌, length, Some, None, Ok, Err, refl, sym, ◌∙◌, subst, rules, arith, Consumes-nil}
+use Rattle.stream_server.proofs.Common.{Consumes-trans, false≢true, err_from_is_err_and, IsUndecided, Begins}
 use Rattle.std.proofs.lemmas.List.{nil_from_length}
 use Rattle.stream_server.proofs.PartLemmas.{serves_nil, serves_append}
 use Rattle.stream_server.proofs.HeadlineLemmas.{both}
-use Rattle.stream_server.proofs.ExitLemmas.{exits_broken, exits_fault, exits_fault_part, exits_unread, exits_input, exits_cut, too_many, counts_on, read_end, read_piece, no_more, longer, some_left}
+use Rattle.stream_server.proofs.ExitLemmas.{exits_broken, exits_fault, exits_fault_part, exits_unread, exits_input, exits_cut, too_many, counts_on, read_end}
+use Rattle.stream_server.proofs.ExitLemmas.{read_piece, no_more, longer, some_left}
 use Rattle.stream_server.proofs.stream.serve_stream.Goals as goal
 use Rattle.stream_server.proofs.stream.serve_stream.Goals.{then-is_empty, else-is_empty}
 
 pub loop-init : goal.loop-init
-loop-init g c = (record { fed = []; ms = []; reads = Consumes-nil _; begins = sym c.new-inbox.ensures; most = search rules; count = refl; serves = serves_nil _ _ _ }, refl, refl)
+loop-init g c = (
+  record {
+    fed = [];
+    ms = [];
+    reads = Consumes-nil _;
+    begins = sym c.new-inbox.ensures;
+    most = search rules;
+    count = refl;
+    serves =
+        serves_nil _ _ _;
+  },
+  refl,
+  refl,
+)
 
 pub returns-in_err-stop-clause-serves : goal.returns-in_err-stop-clause-serves
 returns-in_err-stop-clause-serves g c =
@@ -16,7 +31,8 @@ returns-in_err-stop-clause-serves g c =
     let taken = c.in_err-stop.ensures.serves in
     let ms = inv.ms ++ taken.0 in
     let all = serves_append _ _ _ _ _ _ _ inv.ms taken.0 (Some _) inv.serves taken.3 in
-    rw (p.1, p.2) (both _ _ _ _ _ _ _ _ ms (Some _) (Err _) (λ C answers. exits_broken _ C _ _ _ _ _ _ inv.fed _ ms _ inv.reads (taken.1 inv.fed inv.ms inv.begins) answers) all)
+    rw (p.1, p.2) (both _ _ _ _ _ _ _ _ ms (Some _) (Err _)
+    (λ C answers. exits_broken _ C _ _ _ _ _ _ inv.fed _ ms _ inv.reads (taken.1 inv.fed inv.ms inv.begins) answers) all)
 
 pub returns-in_err-write_refusal-clause-serves : goal.returns-in_err-write_refusal-clause-serves
 returns-in_err-write_refusal-clause-serves g c =
@@ -27,7 +43,8 @@ returns-in_err-write_refusal-clause-serves g c =
     let all = serves_append _ _ _ _ _ _ _ inv.ms taken.0 None inv.serves taken.3 in
     let is = rw c.in-Some.is at c.in_ok-stop.ensures.end in
     let sent = rw c.refusal.ensures at c.in_err-write_refusal.ensures.err in
-    rw (p.1, p.2) (both _ _ _ _ _ _ _ _ ms None (Err _) (λ C answers. exits_fault_part _ C _ _ _ _ _ _ _ inv.fed _ ms c.in-Some.fault _ _ inv.reads (taken.1 inv.fed inv.ms inv.begins) answers sent is) all)
+    rw (p.1, p.2) (both _ _ _ _ _ _ _ _ ms None (Err _)
+    (λ C answers. exits_fault_part _ C _ _ _ _ _ _ _ inv.fed _ ms c.in-Some.fault _ _ inv.reads (taken.1 inv.fed inv.ms inv.begins) answers sent is) all)
 
 pub returns-in-Some-clause-serves : goal.returns-in-Some-clause-serves
 returns-in-Some-clause-serves g c =
@@ -38,7 +55,8 @@ returns-in-Some-clause-serves g c =
     let is = rw c.in-Some.is at c.in_ok-stop.ensures.end in
     let sent = rw c.refusal.ensures at c.in_ok-write_refusal.ensures.ok in
     let count = counts_on c.loop.answered 0 _ inv.ms taken.0 inv.count taken.2 in
-    both _ _ _ _ _ _ _ _ ms None (Ok _) (λ C answers. exits_fault _ C _ _ _ _ _ _ _ inv.fed _ ms c.in-Some.fault _ inv.reads (taken.1 inv.fed inv.ms inv.begins) answers sent is count) all
+    both _ _ _ _ _ _ _ _ ms None (Ok _) (λ C answers. exits_fault _ C _ _ _ _ _ _ _ inv.fed _ ms c.in-Some.fault _ inv.reads (taken.1 inv.fed inv.ms inv.begins)
+    answers sent is count) all
 
 pub returns-in_err-read_on-clause-serves : goal.returns-in_err-read_on-clause-serves
 returns-in_err-read_on-clause-serves g c =
@@ -48,7 +66,9 @@ returns-in_err-read_on-clause-serves g c =
     let ms = inv.ms ++ taken.0 in
     let all = serves_append _ _ _ _ _ _ _ inv.ms taken.0 None inv.serves taken.3 in
     let partial : IsUndecided c.answer_all.new.inbox = rw c.in_default.is at c.in_ok-stop.ensures.end in
-    rw (p.1, p.2) (both _ _ _ _ _ _ _ _ ms None (Err _) (λ C answers. exits_unread _ C _ _ _ _ _ _ _ inv.fed _ _ ms _ _ inv.reads (taken.1 inv.fed inv.ms inv.begins) answers partial c.in_err-read_on.ensures.read) all)
+    rw (p.1, p.2) (both _ _ _ _ _ _ _ _ ms None (Err _)
+    (λ C answers. exits_unread _ C _ _ _ _ _ _ _ inv.fed _ _ ms _ _ inv.reads (taken.1 inv.fed inv.ms inv.begins) answers partial
+    c.in_err-read_on.ensures.read) all)
 
 pub returns-then-not-branch-clause-serves : goal.returns-then-not-branch-clause-serves
 returns-then-not-branch-clause-serves g c =
@@ -64,10 +84,14 @@ returns-then-not-branch-clause-serves g c =
       | then-is_empty w ↦
           let empty : c.answer_all.new.inbox ≡ [] = sym read.2 ∙ nil_from_length _ (w.if-is_empty.ensures.0 refl) in
           let none_held = subst (λ (x : List ℕ). Begins inv.fed ms x) empty begins in
-          rw w.end-is (both _ _ _ _ _ _ _ _ ms None (Ok _) (λ C answers. exits_input _ C _ _ _ _ _ _ _ inv.fed ms _ inv.reads none_held answers read.0 read.1 count) all)
+          rw w.end-is (both _ _ _ _ _ _ _ _ ms None (Ok _)
+          (λ C answers. exits_input _ C _ _ _ _ _ _ _ inv.fed ms _ inv.reads none_held answers read.0 read.1 count) all)
       | else-is_empty w ↦
-          let some : 0 < length c.answer_all.new.inbox = subst (λ (x : List ℕ). 0 < length x) read.2 (some_left _ (λ z. false≢true (w.if-is_empty.ensures.1 z))) in
-          rw w.end-is (both _ _ _ _ _ _ _ _ ms None (Ok _) (λ C answers. exits_cut _ C _ _ _ _ _ _ inv.fed _ ms _ (no_more _ _ _ inv.fed inv.reads read.0) begins answers (λ told. ((some, partial), read.1)) count) all)
+          let some : 0 < length c.answer_all.new.inbox =
+          subst (λ (x : List ℕ). 0 < length x) read.2 (some_left _ (λ z. false≢true (w.if-is_empty.ensures.1 z))) in
+          rw w.end-is (both _ _ _ _ _ _ _ _ ms None (Ok _)
+          (λ C answers. exits_cut _ C _ _ _ _ _ _ inv.fed _ ms _ (no_more _ _ _ inv.fed inv.reads read.0) begins answers (λ told. ((some, partial), read.1))
+          count) all)
     ]
 
 pub loop-preserved : goal.loop-preserved
@@ -91,4 +115,6 @@ loop-preserved g c =
 pub returns-clause-serves : goal.returns-clause-serves
 returns-clause-serves g c =
     let inv = c.loop.invariant.0 in
-    both _ _ _ _ _ _ _ _ inv.ms None (Ok _) (λ C answers. exits_cut _ C _ _ _ _ _ _ inv.fed _ inv.ms c.loop.answered inv.reads inv.begins answers (λ told. absurd (too_many _ _ inv.fed inv.reads (omega (arith, inv.most, c.loop-test.false)) told)) inv.count) inv.serves
+    both _ _ _ _ _ _ _ _ inv.ms None (Ok _)
+    (λ C answers. exits_cut _ C _ _ _ _ _ _ inv.fed _ inv.ms c.loop.answered inv.reads inv.begins answers
+    (λ told. absurd (too_many _ _ inv.fed inv.reads (omega (arith, inv.most, c.loop-test.false)) told)) inv.count) inv.serves

@@ -4,7 +4,8 @@ use Rattle.target_filter.proofs.scanner.scan.Goals as goal
 
 pub loop-at-preserved : goal.loop-at-preserved
 loop-at-preserved c = record {
-  went = run_more c.args.text.now c.loop-at.at (state_of c.loop-at.state) (state_of c.in-Some.next) (omega arith) c.loop-at.invariant.went (sym c.in-Some.ensures.is);
+  went = run_more c.args.text.now c.loop-at.at (state_of c.loop-at.state) (state_of c.in-Some.next) (omega arith) c.loop-at.invariant.went
+      (sym c.in-Some.ensures.is);
   depth = omega (arith, c.in-Some.ensures.depth);
 }
 
@@ -18,7 +19,8 @@ returns-then-accepts c = record {
 
 pub returns-else-accepts : goal.returns-else-accepts
 returns-else-accepts c =
-    let all : run start c.args.text.now ≡ Some (state_of c.loop-at.state) = run_all c.args.text.now c.loop-at.at (state_of c.loop-at.state) (omega arith) c.loop-at.invariant.went in
+    let all : run start c.args.text.now ≡ Some (state_of c.loop-at.state) = run_all c.args.text.now c.loop-at.at (state_of c.loop-at.state) (omega arith)
+    c.loop-at.invariant.went in
     record {
       state = state_of c.loop-at.state;
       within = omega arith;

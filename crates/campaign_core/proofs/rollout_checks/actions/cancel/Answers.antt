@@ -11,4 +11,9 @@ pub returns-clause-decides : goal.returns-clause-decides
 returns-clause-decides c = cancels c.args.view.now _ _ _ c.in_ok-change.change (c.in_ok-change.ensures.0) (c.in_ok-change.ensures.1)
 
 pub returns-clause-makes : goal.returns-clause-makes
-returns-clause-makes c = (c.in_ok-change.change, refl, cancel_makes c.args.view.now c.args.cancel.now.force c.in_ok-change.change c.in_ok-change.ensures.0 c.in_ok-change.ensures.1)
+returns-clause-makes c = (
+  c.in_ok-change.change,
+  refl,
+  cancel_makes c.args.view.now c.args.cancel.now.force c.in_ok-change.change c.in_ok-change.ensures.0
+      c.in_ok-change.ensures.1,
+)

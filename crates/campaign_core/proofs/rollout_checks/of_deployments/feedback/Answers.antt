@@ -13,7 +13,8 @@ pub returns-clause-decides : goal.returns-clause-decides
 returns-clause-decides c =
     let own = c.in_ok-own_action in
     let makes = c.in_ok-change in
-    (λ rs sound is. report_changes (on_deployment c.args.feedback.now) c.args.view.now own.own_action own.ensures.0 own.ensures.1 rs is makes.change makes.ensures.0 makes.ensures.1 sound)
+    (λ rs sound is. report_changes (on_deployment c.args.feedback.now) c.args.view.now own.own_action own.ensures.0 own.ensures.1 rs is makes.change
+    makes.ensures.0 makes.ensures.1 sound)
 
 pub returns-clause-makes : goal.returns-clause-makes
 returns-clause-makes c = (c.in_ok-change.change, refl, (c.in_ok-own_action.own_action, c.in_ok-own_action.ensures.1, c.in_ok-change.ensures.1))

@@ -2,7 +2,17 @@ use Rattle.desk_store.proofs.Answering.{refl, set_group_is, ledger_writes, group
 use Rattle.desk_store.proofs.change.OpenChange.change_group.Goals as goal
 
 pub returns-clause-writes : goal.returns-clause-writes
-returns-clause-writes g c = group_changed c.args.number c.args.group c.args.started c.args.ok c.args.bad c.args.gone _ _ c.run.result (rw (c.params-to_sql.ensures, c.params-to_sql-2.ensures, c.params-to_sql-3.ensures, c.params-to_sql-4.ensures, c.params-to_sql-5.ensures, c.params-to_sql-6.ensures, c.get.ensures.value, c.flag_code-started_code.ensures) at c.run.ensures.runs)
+returns-clause-writes g c = group_changed c.args.number c.args.group c.args.started c.args.ok c.args.bad c.args.gone _ _ c.run.result
+    (rw (
+      c.params-to_sql.ensures,
+      c.params-to_sql-2.ensures,
+      c.params-to_sql-3.ensures,
+      c.params-to_sql-4.ensures,
+      c.params-to_sql-5.ensures,
+      c.params-to_sql-6.ensures,
+      c.get.ensures.value,
+      c.flag_code-started_code.ensures,
+    ) at c.run.ensures.runs)
 
 pub run-requires : goal.run-requires
 run-requires g c = ledger_writes (changed_at set_group_is) (λ at tree. refl)

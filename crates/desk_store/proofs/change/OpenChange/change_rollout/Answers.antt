@@ -2,7 +2,17 @@ use Rattle.desk_store.proofs.Answering.{refl, set_rollout_is, ledger_writes, rol
 use Rattle.desk_store.proofs.change.OpenChange.change_rollout.Goals as goal
 
 pub returns-clause-writes : goal.returns-clause-writes
-returns-clause-writes g c = rollout_changed c.args.number c.args.approval c.args.started c.args.paused _ _ c.run.result (rw (c.params-to_sql.ensures, c.params-to_sql-2.ensures, c.params-to_sql-3.ensures, c.params-to_sql-4.ensures, c.get.ensures.value, c.code_of_approval-approval_code.ensures, c.flag_code-started_code.ensures, c.flag_code-paused_code.ensures) at c.run.ensures.runs)
+returns-clause-writes g c = rollout_changed c.args.number c.args.approval c.args.started c.args.paused _ _ c.run.result
+    (rw (
+      c.params-to_sql.ensures,
+      c.params-to_sql-2.ensures,
+      c.params-to_sql-3.ensures,
+      c.params-to_sql-4.ensures,
+      c.get.ensures.value,
+      c.code_of_approval-approval_code.ensures,
+      c.flag_code-started_code.ensures,
+      c.flag_code-paused_code.ensures,
+    ) at c.run.ensures.runs)
 
 pub run-requires : goal.run-requires
 run-requires g c = ledger_writes (changed_at set_rollout_is) (λ at tree. refl)

@@ -2,7 +2,8 @@ use Rattle.desk_store.proofs.Answering.{refl, drop_target_tag_is, ledger_writes,
 use Rattle.desk_store.proofs.change.OpenChange.drop_target_tag.Goals as goal
 
 pub returns-clause-writes : goal.returns-clause-writes
-returns-clause-writes g c = tag_dropped c.args.id.now c.args.tag.now _ _ c.run.result (rw (c.params-to_sql.ensures, c.params-to_sql-2.ensures, c.as_str.ensures.value, c.as_str-2.ensures.value) at c.run.ensures.runs)
+returns-clause-writes g c = tag_dropped c.args.id.now c.args.tag.now _ _ c.run.result
+    (rw (c.params-to_sql.ensures, c.params-to_sql-2.ensures, c.as_str.ensures.value, c.as_str-2.ensures.value) at c.run.ensures.runs)
 
 pub run-requires : goal.run-requires
 run-requires g c = ledger_writes (dropped_at drop_target_tag_is) (λ at tree. refl)

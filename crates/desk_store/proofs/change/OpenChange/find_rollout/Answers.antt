@@ -2,10 +2,12 @@ use Rattle.desk_store.proofs.Answering.{get_rollout_is, rollout_blamed, rollout_
 use Rattle.desk_store.proofs.change.OpenChange.find_rollout.Goals as goal
 
 pub returns-clause-reads : goal.returns-clause-reads
-returns-clause-reads g c = rollout_read c.args.number _ _ c.in_ok-rows.rows (rw (c.params-to_sql.ensures, c.get.ensures.value) at c.in_ok-rows.ensures.asks) c.read_at.result (rw c.deref.ensures.value at c.read_at.ensures.ok)
+returns-clause-reads g c = rollout_read c.args.number _ _ c.in_ok-rows.rows (rw (c.params-to_sql.ensures, c.get.ensures.value) at c.in_ok-rows.ensures.asks)
+    c.read_at.result (rw c.deref.ensures.value at c.read_at.ensures.ok)
 
 pub returns-clause-blames : goal.returns-clause-blames
-returns-clause-blames g c = rollout_blamed g.S.Store _ _ c.in_ok-rows.rows c.in_ok-rows.ensures.stays.grows.failures c.read_at.result c.args.number (rw c.deref.ensures.value at c.read_at.ensures.err) (rw (c.params-to_sql.ensures, c.get.ensures.value) at c.in_ok-rows.ensures.asks)
+returns-clause-blames g c = rollout_blamed g.S.Store _ _ c.in_ok-rows.rows c.in_ok-rows.ensures.stays.grows.failures c.read_at.result c.args.number
+    (rw c.deref.ensures.value at c.read_at.ensures.err) (rw (c.params-to_sql.ensures, c.get.ensures.value) at c.in_ok-rows.ensures.asks)
 
 pub few-requires : goal.few-requires
 few-requires g c = known get_rollout_is

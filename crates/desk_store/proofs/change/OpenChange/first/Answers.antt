@@ -1,8 +1,15 @@
-use Rattle.desk_store.proofs.Answering.{rules, subst, TakesFirst, HoldsLedger, first_frames, in_ledgers, first_keeps, first_sees, HoldsTables, call_breaks, never_breaks}
+use Rattle.desk_store.proofs.Answering.{rules, subst, TakesFirst, HoldsLedger, first_frames, in_ledgers, first_keeps, first_sees, HoldsTables, call_breaks}
+use Rattle.desk_store.proofs.Answering.{never_breaks}
 use Rattle.desk_store.proofs.change.OpenChange.first.Goals as goal
 
 pub returns-clause-stays : goal.returns-clause-stays
-returns-clause-stays g c = record { same_reference = search rules; grows = search rules; frame = first_frames HoldsLedger _ _ _ _ (in_ledgers c.requires) c.first.result c.first.ensures.takes }
+returns-clause-stays g c =
+    record {
+      same_reference = search rules;
+      grows = search rules;
+      frame = first_frames HoldsLedger _ _ _ _ (in_ledgers c.requires) c.first.result
+          c.first.ensures.takes;
+    }
 
 pub returns-clause-keeps : goal.returns-clause-keeps
 returns-clause-keeps g c = record { to = first_keeps _ _ _ c.requires c.first.result c.first.ensures.takes }
@@ -11,7 +18,9 @@ pub returns-clause-sound : goal.returns-clause-sound
 returns-clause-sound g c = never_breaks c.first.result c.first.ensures.sound
 
 pub returns-clause-fails : goal.returns-clause-fails
-returns-clause-fails g c = call_breaks c.first.result (never_breaks c.first.result c.first.ensures.sound) (λ x is. first_sees HoldsLedger _ _ _ (in_ledgers c.requires) x (subst (TakesFirst _ _ _ _) is c.first.ensures.takes))
+returns-clause-fails g c = call_breaks c.first.result (never_breaks c.first.result c.first.ensures.sound)
+    (λ x is. first_sees HoldsLedger _ _ _ (in_ledgers c.requires) x (subst (TakesFirst _ _ _ _) is c.first.ensures.takes))
 
 pub returns-clause-blames : goal.returns-clause-blames
-returns-clause-blames g c = call_breaks c.first.result (never_breaks c.first.result c.first.ensures.sound) (λ x is. first_sees HoldsTables _ _ _ c.requires x (subst (TakesFirst _ _ _ _) is c.first.ensures.takes))
+returns-clause-blames g c = call_breaks c.first.result (never_breaks c.first.result c.first.ensures.sound)
+    (λ x is. first_sees HoldsTables _ _ _ c.requires x (subst (TakesFirst _ _ _ _) is c.first.ensures.takes))

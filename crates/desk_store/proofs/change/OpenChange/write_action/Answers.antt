@@ -2,7 +2,16 @@ use Rattle.desk_store.proofs.Answering.{refl, put_action_is, ledger_writes, acti
 use Rattle.desk_store.proofs.change.OpenChange.write_action.Goals as goal
 
 pub returns-clause-writes : goal.returns-clause-writes
-returns-clause-writes g c = action_written c.args.number c.args.rollout c.args.place c.args.id.now _ _ c.run.result (rw (c.params-to_sql.ensures, c.params-to_sql-2.ensures, c.params-to_sql-3.ensures, c.params-to_sql-4.ensures, c.get.ensures.value, c.get-2.ensures.value, c.as_str.ensures.value) at c.run.ensures.runs)
+returns-clause-writes g c = action_written c.args.number c.args.rollout c.args.place c.args.id.now _ _ c.run.result
+    (rw (
+      c.params-to_sql.ensures,
+      c.params-to_sql-2.ensures,
+      c.params-to_sql-3.ensures,
+      c.params-to_sql-4.ensures,
+      c.get.ensures.value,
+      c.get-2.ensures.value,
+      c.as_str.ensures.value,
+    ) at c.run.ensures.runs)
 
 pub run-requires : goal.run-requires
 run-requires g c = ledger_writes (put_at put_action_is) (λ at tree. refl)

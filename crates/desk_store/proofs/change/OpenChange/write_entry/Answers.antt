@@ -2,7 +2,16 @@ use Rattle.desk_store.proofs.Answering.{refl, put_feedback_is, ledger_writes, en
 use Rattle.desk_store.proofs.change.OpenChange.write_entry.Goals as goal
 
 pub returns-clause-writes : goal.returns-clause-writes
-returns-clause-writes g c = entry_written c.args.number c.args.sequence c.args.entry.now _ _ c.run.result (rw (c.params-to_sql.ensures, c.params-to_sql-2.ensures, c.params-to_sql-3.ensures, c.params-to_sql-4.ensures, c.params-to_sql-5.ensures, c.get.ensures.value, c.as_str.ensures.value) at c.run.ensures.runs)
+returns-clause-writes g c = entry_written c.args.number c.args.sequence c.args.entry.now _ _ c.run.result
+    (rw (
+      c.params-to_sql.ensures,
+      c.params-to_sql-2.ensures,
+      c.params-to_sql-3.ensures,
+      c.params-to_sql-4.ensures,
+      c.params-to_sql-5.ensures,
+      c.get.ensures.value,
+      c.as_str.ensures.value,
+    ) at c.run.ensures.runs)
 
 pub run-requires : goal.run-requires
 run-requires g c = ledger_writes (put_at put_feedback_is) (λ at tree. refl)

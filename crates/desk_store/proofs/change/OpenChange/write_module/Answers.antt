@@ -2,7 +2,17 @@ use Rattle.desk_store.proofs.Answering.{refl, put_module_is, ledger_writes, modu
 use Rattle.desk_store.proofs.change.OpenChange.write_module.Goals as goal
 
 pub returns-clause-writes : goal.returns-clause-writes
-returns-clause-writes g c = module_written c.args.number c.args.label.now _ _ c.run.result (rw (c.params-to_sql.ensures, c.params-to_sql-2.ensures, c.params-to_sql-3.ensures, c.params-to_sql-4.ensures, c.get.ensures.value, c.as_str.ensures.value, c.as_str-2.ensures.value, c.as_str-3.ensures.value) at c.run.ensures.runs)
+returns-clause-writes g c = module_written c.args.number c.args.label.now _ _ c.run.result
+    (rw (
+      c.params-to_sql.ensures,
+      c.params-to_sql-2.ensures,
+      c.params-to_sql-3.ensures,
+      c.params-to_sql-4.ensures,
+      c.get.ensures.value,
+      c.as_str.ensures.value,
+      c.as_str-2.ensures.value,
+      c.as_str-3.ensures.value,
+    ) at c.run.ensures.runs)
 
 pub run-requires : goal.run-requires
 run-requires g c = ledger_writes (put_at put_module_is) (λ at tree. refl)

@@ -2,7 +2,15 @@ use Rattle.desk_store.proofs.Answering.{refl, put_number_is, ledger_writes, numb
 use Rattle.desk_store.proofs.change.OpenChange.write_number.Goals as goal
 
 pub returns-clause-writes : goal.returns-clause-writes
-returns-clause-writes g c = number_written c.args.action c.args.place c.args.it.now _ _ c.run.result (rw (c.params-to_sql.ensures, c.params-to_sql-2.ensures, c.params-to_sql-3.ensures, c.params-to_sql-4.ensures, c.get.ensures.value, c.get-2.ensures.value) at c.run.ensures.runs)
+returns-clause-writes g c = number_written c.args.action c.args.place c.args.it.now _ _ c.run.result
+    (rw (
+      c.params-to_sql.ensures,
+      c.params-to_sql-2.ensures,
+      c.params-to_sql-3.ensures,
+      c.params-to_sql-4.ensures,
+      c.get.ensures.value,
+      c.get-2.ensures.value,
+    ) at c.run.ensures.runs)
 
 pub run-requires : goal.run-requires
 run-requires g c = ledger_writes (put_at put_number_is) (λ at tree. refl)

@@ -1,4 +1,5 @@
-use Rattle.desk_store.proofs.Answering.{◌≡◌, ℕ, pos, Option, Some, None, refl, state, bound_value, or_null, Int, RunsText, rule_row, PUT_RULE, put_rule_is, ledger_writes, rule_written, put_at}
+use Rattle.desk_store.proofs.Answering.{◌≡◌, ℕ, pos, Option, Some, None, refl, state, bound_value, or_null, Int, RunsText, rule_row, PUT_RULE, put_rule_is}
+use Rattle.desk_store.proofs.Answering.{ledger_writes, rule_written, put_at}
 use Rattle.sqlite_value.specs.Value.{owned}
 use Rattle.desk_store.proofs.change.OpenChange.write_rule.Goals as goal
 
@@ -10,8 +11,22 @@ bound_or_null (Some n) = refl
 pub returns-clause-writes : goal.returns-clause-writes
 returns-clause-writes g c =
     let percentage : owned c.params-to_sql-3.result ≡ or_null (λ n. Int (pos n)) c.percent_of-percentage.result = c.params-to_sql-3.ensures in
-    let ran : RunsText (state g.S.Store c.args.self.now.store.now.calls.conn) (state g.S.Store c.run.new.self.store.now.calls.conn) PUT_RULE.now (rule_row c.args.number c.args.group c.args.rule.now) c.run.result =
-    rw (c.params-to_sql.ensures, c.params-to_sql-2.ensures, percentage, c.params-to_sql-4.ensures, c.params-to_sql-5.ensures, c.percent_of-percentage.ensures, c.from-success.ensures, c.from-error.ensures, c.get.ensures.value, c.get-2.ensures.value, c.get-3.ensures.value, bound_or_null c.args.rule.now.percentage) at c.run.ensures.runs in
+    let ran : RunsText (state g.S.Store c.args.self.now.store.now.calls.conn) (state g.S.Store c.run.new.self.store.now.calls.conn) PUT_RULE.now
+    (rule_row c.args.number c.args.group c.args.rule.now) c.run.result =
+    rw (
+      c.params-to_sql.ensures,
+      c.params-to_sql-2.ensures,
+      percentage,
+      c.params-to_sql-4.ensures,
+      c.params-to_sql-5.ensures,
+      c.percent_of-percentage.ensures,
+      c.from-success.ensures,
+      c.from-error.ensures,
+      c.get.ensures.value,
+      c.get-2.ensures.value,
+      c.get-3.ensures.value,
+      bound_or_null c.args.rule.now.percentage,
+    ) at c.run.ensures.runs in
     rule_written c.args.number c.args.group c.args.rule.now _ _ c.run.result ran
 
 pub run-requires : goal.run-requires

@@ -2,7 +2,8 @@ use Rattle.desk_store.proofs.Answering.{refl, put_set_module_is, ledger_writes, 
 use Rattle.desk_store.proofs.change.OpenChange.write_set_module.Goals as goal
 
 pub returns-clause-writes : goal.returns-clause-writes
-returns-clause-writes g c = set_module_written c.args.number c.args.place c.args.added _ _ c.run.result (rw (c.params-to_sql.ensures, c.params-to_sql-2.ensures, c.params-to_sql-3.ensures, c.get.ensures.value, c.get-2.ensures.value) at c.run.ensures.runs)
+returns-clause-writes g c = set_module_written c.args.number c.args.place c.args.added _ _ c.run.result
+    (rw (c.params-to_sql.ensures, c.params-to_sql-2.ensures, c.params-to_sql-3.ensures, c.get.ensures.value, c.get-2.ensures.value) at c.run.ensures.runs)
 
 pub run-requires : goal.run-requires
 run-requires g c = ledger_writes (put_at put_set_module_is) (λ at tree. refl)

@@ -2,7 +2,16 @@ use Rattle.desk_store.proofs.Answering.{refl, put_target_is, ledger_writes, targ
 use Rattle.desk_store.proofs.change.OpenChange.write_target.Goals as goal
 
 pub returns-clause-writes : goal.returns-clause-writes
-returns-clause-writes g c = target_written c.args.id.now c.args.name.now c.args.digest.now _ _ c.run.result (rw (c.params-to_sql.ensures, c.params-to_sql-2.ensures, c.params-to_sql-3.ensures, c.as_str.ensures.value, c.as_str-2.ensures.value, c.as_slice.ensures, c.as_bytes.ensures.value) at c.run.ensures.runs)
+returns-clause-writes g c = target_written c.args.id.now c.args.name.now c.args.digest.now _ _ c.run.result
+    (rw (
+      c.params-to_sql.ensures,
+      c.params-to_sql-2.ensures,
+      c.params-to_sql-3.ensures,
+      c.as_str.ensures.value,
+      c.as_str-2.ensures.value,
+      c.as_slice.ensures,
+      c.as_bytes.ensures.value,
+    ) at c.run.ensures.runs)
 
 pub run-requires : goal.run-requires
 run-requires g c = ledger_writes (put_at put_target_is) (λ at tree. refl)

@@ -16,11 +16,15 @@ returns-then-not-are_in_place-clause-judges g c =
 pub returns-in-Ok-clause-judges : goal.returns-in-Ok-clause-judges
 returns-in-Ok-clause-judges g c =
     let told : follow 0 c.in-Some.members.items ≡ true = rw c.deref.ensures.value at (sym c.are_in_place.ensures ∙ c.if-not-are_in_place.false) in
-    let count : c.in-Ok.count ≡ length c.in-Some.members.items = c.in-Ok.ensures.1 ∙ c.len.ensures ∙ sym c.deref.ensures.len ∙ ap length c.deref.ensures.value in
+    let count : c.in-Ok.count ≡ length c.in-Some.members.items = c.in-Ok.ensures.1 ∙ c.len.ensures ∙ sym c.deref.ensures.len
+    ∙ ap length c.deref.ensures.value in
     finds_as (rw c.in-Some.is at c.in_ok-members.ensures.reads)
-    (λ t is its. fits t c.args.rollout.now.number c.in-Some.members.items c.in-Ok.count (rollout_there t c.args.rollout.now.number c.args.rollout.now.rollout its) is told count)
+    (λ t is its. fits t c.args.rollout.now.number c.in-Some.members.items c.in-Ok.count
+    (rollout_there t c.args.rollout.now.number c.args.rollout.now.rollout its) is told count)
 
 pub returns-clause-blames : goal.returns-clause-blames
 returns-clause-blames g c =
-    let large : 2 ^ 32 ≤ length c.in-Some.members.items = grind (arith, c.in-Err.ensures, c.len.ensures, c.deref.ensures.len, ap length c.deref.ensures.value) in
-    blamed (rw c.in-Some.is at c.in_ok-members.ensures.reads) c.in_ok-members.ensures.stays.grows.failures (Err Broken) (λ t is given. listed_many t Members (is_of c.args.rollout.now.number) (length c.in-Some.members.items) is.said.count large)
+    let large : 2 ^ 32 ≤ length c.in-Some.members.items =
+    grind (arith, c.in-Err.ensures, c.len.ensures, c.deref.ensures.len, ap length c.deref.ensures.value) in
+    blamed (rw c.in-Some.is at c.in_ok-members.ensures.reads) c.in_ok-members.ensures.stays.grows.failures (Err Broken)
+    (λ t is given. listed_many t Members (is_of c.args.rollout.now.number) (length c.in-Some.members.items) is.said.count large)

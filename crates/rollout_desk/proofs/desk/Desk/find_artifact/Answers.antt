@@ -1,4 +1,5 @@
-use Rattle.rollout_desk.proofs.Common.{◌≡◌, subst, Refused, Stopped, Asks, Ask, ShowArtifact, ShowContents, Applies, is_failed_store, reply_of, desk_state, RefusesContents}
+use Rattle.rollout_desk.proofs.Common.{◌≡◌, subst, Refused, Stopped, Asks, Ask, ShowArtifact, ShowContents, Applies, is_failed_store, reply_of, desk_state}
+use Rattle.rollout_desk.proofs.Common.{RefusesContents}
 use Rattle.rollout_model.specs.declared.refusal.Refusal.TheVariants.{StoreFailed}
 use Rattle.rollout_desk.specs.Causes.{FailsByCall}
 use Rattle.rollout_desk.specs.Working.{TellsFailures}
@@ -10,7 +11,8 @@ returns-in-Ok-clause-begins g c =
     let was = desk_state g.S.Store c.args.self.now in
     let now = desk_state g.S.Store c.ask-reply.new.self in
     begun was now c.args.module_number c.args.number c.in-Ok.artifact
-    (subst (λ r. Applies was now (Asks (Ask (ShowArtifact c.args.module_number c.args.number))) r) (shown_reply c.ask-reply.result c.in-Ok.artifact c.in-Ok.ensures) c.ask-reply.ensures.applies)
+    (subst (λ r. Applies was now (Asks (Ask (ShowArtifact c.args.module_number c.args.number))) r)
+    (shown_reply c.ask-reply.result c.in-Ok.artifact c.in-Ok.ensures) c.ask-reply.ensures.applies)
 
 pub returns-in-Err-clause-begins : goal.returns-in-Err-clause-begins
 returns-in-Err-clause-begins g c =

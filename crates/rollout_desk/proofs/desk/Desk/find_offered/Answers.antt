@@ -6,12 +6,14 @@ use Rattle.rollout_desk.proofs.desk.Desk.find_offered.Goals as goal
 
 pub returns-in-Ok-clause-begins : goal.returns-in-Ok-clause-begins
 returns-in-Ok-clause-begins g c =
-    offered_begins (state g.S.Store c.args.self.now.store.calls.conn) c.args.device.now c.args.module_number c.args.filename.now c.args.self.now.stopped c.if-self.false (state g.S.Store c.look_for_download.new.store.calls.conn) c.in-Ok.artifact
+    offered_begins (state g.S.Store c.args.self.now.store.calls.conn) c.args.device.now c.args.module_number c.args.filename.now c.args.self.now.stopped
+    c.if-self.false (state g.S.Store c.look_for_download.new.store.calls.conn) c.in-Ok.artifact
     (rw c.in-Ok.is at c.look_for_download.ensures.finds)
 
 pub returns-in-Err-clause-begins : goal.returns-in-Err-clause-begins
 returns-in-Err-clause-begins g c =
-    offered_refused (state g.S.Store c.args.self.now.store.calls.conn) c.args.device.now c.args.module_number c.args.filename.now c.args.self.now.stopped c.if-self.false (state g.S.Store c.look_for_download.new.store.calls.conn) c.in-Err.why _
+    offered_refused (state g.S.Store c.args.self.now.store.calls.conn) c.args.device.now c.args.module_number c.args.filename.now c.args.self.now.stopped
+    c.if-self.false (state g.S.Store c.look_for_download.new.store.calls.conn) c.in-Err.why _
     (rw c.in-Err.is at c.look_for_download.ensures.finds) c.is_failed_store-self.ensures
 
 pub returns-in-Err-clause-fails : goal.returns-in-Err-clause-fails

@@ -9,24 +9,28 @@ use Rattle.rollout_desk.proofs.desk.Desk.next_piece.Goals as goal
 pub returns-in-Ok-clause-hands : goal.returns-in-Ok-clause-hands
 returns-in-Ok-clause-hands g c =
     let more : 1 ≤ next_length c.args.download.now = search rules in
-    handed c.args.self.now.stopped (state g.S.Store c.args.self.now.store.calls.conn) (state g.S.Store c.read_piece-found.new.store.calls.conn) c.args.download.now
+    handed c.args.self.now.stopped (state g.S.Store c.args.self.now.store.calls.conn) (state g.S.Store c.read_piece-found.new.store.calls.conn)
+    c.args.download.now
     c.read_piece-found.result c.in-Ok.piece c.read_piece-found.ensures.looks c.in-Ok.ensures.0 more c.if-self.false
 
 pub returns-in-Ok-clause-own : goal.returns-in-Ok-clause-own
 returns-in-Ok-clause-own g c =
-    own_piece c.args.self.now.stopped (state g.S.Store c.args.self.now.store.calls.conn) (state g.S.Store c.read_piece-found.new.store.calls.conn) c.args.download.now
+    own_piece c.args.self.now.stopped (state g.S.Store c.args.self.now.store.calls.conn) (state g.S.Store c.read_piece-found.new.store.calls.conn)
+    c.args.download.now
     c.read_piece-found.result c.in-Ok.piece c.read_piece-found.ensures.looks c.in-Ok.ensures.0 c.if-self.false
 
 pub returns-in-Err-clause-hands : goal.returns-in-Err-clause-hands
 returns-in-Err-clause-hands g c = λ h contents clean standing sends. (
   refl,
-  interrupted c.args.self.now.stopped (state g.S.Store c.args.self.now.store.calls.conn) (state g.S.Store c.read_piece-found.new.store.calls.conn) _ h clean standing
+  interrupted c.args.self.now.stopped (state g.S.Store c.args.self.now.store.calls.conn) (state g.S.Store c.read_piece-found.new.store.calls.conn) _ h clean
+      standing
       c.read_piece-found.result c.read_piece-found.ensures.looks c.in-Err.refusal c.in-Err.ensures c.is_failed_store-self.result c.is_failed_store-self.ensures,
 )
 
 pub returns-in-Err-clause-own : goal.returns-in-Err-clause-own
 returns-in-Err-clause-own g c = λ h clean standing.
-    interrupted c.args.self.now.stopped (state g.S.Store c.args.self.now.store.calls.conn) (state g.S.Store c.read_piece-found.new.store.calls.conn) _ h clean standing
+    interrupted c.args.self.now.stopped (state g.S.Store c.args.self.now.store.calls.conn) (state g.S.Store c.read_piece-found.new.store.calls.conn) _ h clean
+    standing
     c.read_piece-found.result c.read_piece-found.ensures.looks c.in-Err.refusal c.in-Err.ensures c.is_failed_store-self.result c.is_failed_store-self.ensures
 
 pub returns-in-Err-clause-fails : goal.returns-in-Err-clause-fails
@@ -35,6 +39,8 @@ returns-in-Err-clause-fails g c = λ is h contents clean counted stands sends.
     let more : 1 ≤ next_length c.args.download.now = search rules in
     elim c.in-Err.ensures [
       | inl same ↦ c.read_piece-found.ensures.fails (same ∙ ap Err failed) h clean counted (stands_running _ c.args.self.now.stopped h c.if-self.false stands)
-      | inr other ↦ absurd (never_other c.args.self.now.stopped (state g.S.Store c.args.self.now.store.calls.conn) (state g.S.Store c.read_piece-found.new.store.calls.conn) c.args.download.now
-          c.read_piece-found.result c.read_piece-found.ensures.looks more h contents clean stands sends (subst (λ n. IsOtherThan n c.read_piece-found.result) c.next_length-wanted.ensures.length other.1))
+      | inr other ↦ absurd (never_other c.args.self.now.stopped (state g.S.Store c.args.self.now.store.calls.conn)
+          (state g.S.Store c.read_piece-found.new.store.calls.conn) c.args.download.now
+          c.read_piece-found.result c.read_piece-found.ensures.looks more h contents clean stands sends
+          (subst (λ n. IsOtherThan n c.read_piece-found.result) c.next_length-wanted.ensures.length other.1))
     ]

@@ -8,6 +8,7 @@ invariant-loop-request g l = record {
   room : length l.requests ≤ vec_capacity l.replies;
   count : vec_len l.replies ≡ l.request-index;
   clean : (desk_state g.S.Store l.self).is_clean → (desk_state g.S.Store l.initial.self).is_clean;
-  ran : Ran (desk_state g.S.Store l.initial.self) (desk_state g.S.Store l.self) (map request_of (take l.request-index l.requests)) (map reply_of l.replies.items);
+  ran : Ran (desk_state g.S.Store l.initial.self) (desk_state g.S.Store l.self) (map request_of (take l.request-index l.requests))
+      (map reply_of l.replies.items);
   none : NoneFailed l.replies.items;
 }

@@ -8,4 +8,5 @@ returns-in-Ok-clause-reopened g c = over_it _ c.new.result c.in-Ok.conn c.new.en
     (reopened_desk (image_of g.D.Disk c.args.files) c.args.approval_if_new (file_state c.in-Ok.conn) c.in-Ok.ensures.reopened)
 
 pub returns-in-Ok-clause-plain : goal.returns-in-Ok-clause-plain
-returns-in-Ok-clause-plain g c = over_it _ c.new.result c.in-Ok.conn c.new.ensures.conn c.over.result c.over.ensures (λ b x. BeginsPlain (image_of g.D.Disk c.args.files) c.args.approval_if_new x) c.in-Ok.ensures.plain
+returns-in-Ok-clause-plain g c = over_it _ c.new.result c.in-Ok.conn c.new.ensures.conn c.over.result c.over.ensures
+    (λ b x. BeginsPlain (image_of g.D.Disk c.args.files) c.args.approval_if_new x) c.in-Ok.ensures.plain

@@ -6,9 +6,11 @@ use Rattle.stream_server.proofs.routes.Routes.read_either.Goals as goal
 pub returns-then-begins_as_devices-clause-ok : goal.returns-then-begins_as_devices-clause-ok
 returns-then-begins_as_devices-clause-ok c =
     let none = subst (λ (path : List ℕ). manage_route path ≡ None) c.path.ensures (c.begins_as_devices.ensures.devices c.if-begins_as_devices.true) in
-    subst (λ (asked : Asked). IfOk c.read_device.result (λ request. asked ≡ Asks (request_of request))) (sym (as_of_device (message_of c.args.message.now) none)) c.read_device.ensures.ok
+    subst (λ (asked : Asked). IfOk c.read_device.result (λ request. asked ≡ Asks (request_of request)))
+    (sym (as_of_device (message_of c.args.message.now) none)) c.read_device.ensures.ok
 
 pub returns-then-begins_as_devices-clause-err : goal.returns-then-begins_as_devices-clause-err
 returns-then-begins_as_devices-clause-err c =
     let none = subst (λ (path : List ℕ). manage_route path ≡ None) c.path.ensures (c.begins_as_devices.ensures.devices c.if-begins_as_devices.true) in
-    subst (λ (asked : Asked). IfErr c.read_device.result (λ refusal. (refusal ≡ NoMemory) ⊎ (asked ≡ Rejected refusal))) (sym (as_of_device (message_of c.args.message.now) none)) c.read_device.ensures.err
+    subst (λ (asked : Asked). IfErr c.read_device.result (λ refusal. (refusal ≡ NoMemory) ⊎ (asked ≡ Rejected refusal)))
+    (sym (as_of_device (message_of c.args.message.now) none)) c.read_device.ensures.err
