@@ -3,7 +3,7 @@ pub use Rattle.desk_commands.proofs.Common.{makes_three, le_trans, ◌≡◌, No
 pub use Rattle.desk_commands.proofs.Common.{records, step_records, ActsBy, Cancel, Leads, makes_nothing, WritesFeedback, does_act, CancelFeedback, OfCancel}
 pub use Rattle.desk_commands.proofs.Common.{reported, canceling_after, feedback_view_seen, Feedback, OfDeployment, makes_then, ◌≤◌, length, arith, nat_tests}
 pub use Rattle.desk_commands.proofs.Common.{subst, both_found, finds_as, true, false, ap, wrong_digest, Artifact, ◌+◌, same_number, cond, sorted_from, take}
-pub use Rattle.desk_commands.proofs.Common.{in_byte_order, keys_of, keys_after, GivesAttribute, rules, GivesAttributes, Ok, Fault, MakesIn, StaysIn, CountsIn}
+pub use Rattle.desk_commands.proofs.Common.{in_byte_order, keys_of, keys_after, GivesAttribute, rules, GivesAttributes, Ok, Fault, MakesIn, StaysIn, WritesIn}
 pub use Rattle.desk_commands.proofs.Common.{◌<◌, found_held, filter_of, map, target_listed, ids_matching, Tree, FindsIn, FailsAtListsIn, nat_lt, ledger_found}
 pub use Rattle.desk_commands.proofs.Common.{[], CreatesRollout, first_rules, in_part, MakesLedger, rules_of, started, with_group, found_then_makes, GoesOn}
 pub use Rattle.desk_commands.proofs.Common.{CanStart, IsSeenIn, take_all, last_started, known, rule_at, said_of, item_numbered, Records, Resume, TriggerNext}

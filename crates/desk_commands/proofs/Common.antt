@@ -100,7 +100,7 @@ pub use Rattle.desk_records.specs.declared.rollout_row.StoredRollout.{StoredRoll
 pub use Rattle.desk_records.specs.declared.target_row.StoredTarget.{StoredTarget}
 pub use Rattle.desk_store.proofs.LedgersOfRecords.{ledger_found, ledger_made, same_ledger}
 pub use Rattle.desk_store.specs.Changing.{FindsIn, FindsLedger, MakesIn, MakesLedger, StaysIn, seen_in}
-pub use Rattle.desk_store.specs.Failing.{CountsIn, FailsGiven, NumbersActions, ReadableAs}
+pub use Rattle.desk_store.specs.Failing.{FailsGiven, NumbersActions, ReadableAs, WritesIn}
 pub use Rattle.desk_store.specs.Breaking.{HasReason}
 pub use Rattle.desk_store.specs.GroupPairs.{group_and_next}
 pub use Rattle.desk_store.specs.Readable.{BreaksColumn, IsReadable, second_shown, third_shown}

@@ -11,8 +11,8 @@ ghost use Rattle.desk_commands.specs.Additions.{AddsArtifact, AddsContents, Show
 ghost use Rattle.desk_store.specs.Changing.{FindsIn, MakesIn, StaysIn};
 ghost use Rattle.desk_commands.specs.Changing.{StepsIn};
 ghost use Rattle.desk_reads.specs.AtLists.{FailsAtListsIn};
-ghost use Rattle.desk_store.specs.Failing.{CountsIn};
 ghost use Rattle.desk_commands.specs.Failures.{FailsStepIn};
+ghost use Rattle.desk_store.specs.Failing.{WritesIn};
 
 use crate::step::Step;
 use artifact_pieces::describe;
@@ -120,9 +120,8 @@ fn write_pieces<S: Alter>(
     bytes: &[u8],
 ) -> Result<(), Fault>
     requires { before * piece_length + length bytes.now ≤ artifact_size_limit }
-    ensures stays { StaysIn S.Store change.old change.new result }
+    ensures stays { WritesIn S.Store change.old change.new result }
     ensures writes { MakesIn S.Store change.old change.new result (AddsContents number before bytes.now) }
-    ensures counts { CountsIn S.Store change.old change.new result }
 {
     if bytes.is_empty() {
         return Ok(());
@@ -139,9 +138,8 @@ fn write_whole<S: Alter>(
     artifact: &Artifact,
     contents: &Contents,
 ) -> Result<(), Fault>
-    ensures stays { StaysIn S.Store change.old change.new result }
+    ensures stays { WritesIn S.Store change.old change.new result }
     ensures writes { MakesIn S.Store change.old change.new result (AddsArtifact module_number artifact.now contents.now) }
-    ensures counts { CountsIn S.Store change.old change.new result }
 {
     change.write_artifact(
         artifact.number,

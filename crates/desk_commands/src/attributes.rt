@@ -9,8 +9,8 @@ ghost use Rattle.rollout_machine.specs.Commands.{Attribute, PutAttributes};
 ghost use Rattle.desk_commands.specs.Attributes.{GivesAttribute, GivesAttributes, has_attribute, keys_after};
 ghost use Rattle.desk_store.specs.Changing.{MakesIn, StaysIn};
 ghost use Rattle.desk_commands.specs.Changing.{StepsIn};
-ghost use Rattle.desk_store.specs.Failing.{CountsIn};
 ghost use Rattle.desk_commands.specs.Failures.{FailsStepIn};
+ghost use Rattle.desk_store.specs.Failing.{WritesIn};
 
 use crate::step::Step;
 use desk_reads::knows_device;
@@ -62,9 +62,8 @@ fn give_attribute<S: Alter>(
     had: &[Attribute],
     since: &[Attribute],
 ) -> Result<(), Fault>
-    ensures stays { StaysIn S.Store change.old change.new result }
+    ensures stays { WritesIn S.Store change.old change.new result }
     ensures writes { MakesIn S.Store change.old change.new result (GivesAttribute id.now had.now since.now attribute.now) }
-    ensures counts { CountsIn S.Store change.old change.new result }
 {
     if !has_key_since(had, since, &attribute.key) {
         return change.write_target_attribute(id, attribute);
@@ -82,9 +81,8 @@ fn give_attributes<S: Alter>(
     given: &[Attribute],
     had: &[Attribute],
 ) -> Result<(), Fault>
-    ensures stays { StaysIn S.Store change.old change.new result }
+    ensures stays { WritesIn S.Store change.old change.new result }
     ensures writes { MakesIn S.Store change.old change.new result (GivesAttributes id.now had.now given.now) }
-    ensures counts { CountsIn S.Store change.old change.new result }
 {
     for (i, attribute) in given.iter().enumerate() {
         give_attribute(change, id, attribute, had, &given[..i])?;

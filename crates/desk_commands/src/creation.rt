@@ -13,8 +13,8 @@ ghost use Rattle.desk_commands.specs.Creations.{CreatesRollout, IsChosen, IsWord
 ghost use Rattle.desk_store.specs.Changing.{FindsIn, MakesLedger, StaysIn};
 ghost use Rattle.desk_commands.specs.Changing.{StepsIn};
 ghost use Rattle.desk_reads.specs.AtLists.{FailsAtListsIn};
-ghost use Rattle.desk_store.specs.Failing.{CountsIn};
 ghost use Rattle.desk_commands.specs.Failures.{FailsStepIn};
+ghost use Rattle.desk_store.specs.Failing.{WritesIn};
 
 use crate::step::Step;
 use campaign_core::{NewRollout, PlanView, cut_grouping, new_rollout};
@@ -55,10 +55,7 @@ fn add_if_match<S: Alter>(
     if !matches {
         return Ok(());
     }
-    match members.push(id) {
-        Ok(()) => Ok(()),
-        Err(_) => Err(Fault::Memory),
-    }
+    Ok(members.push(id)?)
 }
 
 /// Those of the targets that match.
@@ -196,10 +193,9 @@ fn write_whole<S: Alter>(
 ) -> Result<(), Fault>
     requires cut { cuts.now ≡ cut_by plan.now.groups (length members.now) }
     requires few { length members.now ≤ 4294967295 }
-    ensures stays { StaysIn S.Store change.old change.new result }
+    ensures stays { WritesIn S.Store change.old change.new result }
     ensures writes { MakesLedger S.Store change.old change.new result
         (CreatesRollout (in_part created.now plan.now (length members.now) plan.now.groups.count members.now) (rules_of plan.now)) }
-    ensures counts { CountsIn S.Store change.old change.new result }
 {
     let number = created.number;
     let groups = plan.groups.count().get();

@@ -2,8 +2,8 @@
 
 ghost use Rattle.desk_store.specs.Counting.{AddsIn};
 ghost use Rattle.desk_commands.specs.GroupStarts.{StartsGroup};
-ghost use Rattle.desk_store.specs.Changing.{MakesLedger, StaysIn};
-ghost use Rattle.desk_store.specs.Failing.{CountsIn};
+ghost use Rattle.desk_store.specs.Changing.{MakesLedger};
+ghost use Rattle.desk_store.specs.Failing.{WritesIn};
 
 use desk_store::{Fault, OpenChange};
 use rollout_machine::GroupRecord;
@@ -16,9 +16,8 @@ pub(crate) fn start_group<S: Alter>(
     number: RolloutNo,
     group: &GroupRecord,
 ) -> Result<(), Fault>
-    ensures stays { StaysIn S.Store change.old change.new result }
+    ensures stays { WritesIn S.Store change.old change.new result }
     ensures writes { MakesLedger S.Store change.old change.new result (StartsGroup number group.now) }
-    ensures counts { CountsIn S.Store change.old change.new result }
     ensures work { AddsIn 2 0 change.old change.new }
 {
     change.change_group(number, group.number, true, group.ok, group.bad, group.gone)?;

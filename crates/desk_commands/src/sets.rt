@@ -8,8 +8,8 @@ ghost use Rattle.desk_commands.specs.Additions.{AddsModules, AddsWhole, GetsSetN
 ghost use Rattle.desk_store.specs.Changing.{FindsIn, MakesIn, StaysIn};
 ghost use Rattle.desk_commands.specs.Changing.{StepsIn};
 ghost use Rattle.desk_reads.specs.AtLists.{FailsAtListsIn};
-ghost use Rattle.desk_store.specs.Failing.{CountsIn};
 ghost use Rattle.desk_commands.specs.Failures.{FailsStepIn};
+ghost use Rattle.desk_store.specs.Failing.{WritesIn};
 
 use crate::step::Step;
 use desk_store::{Fault, OpenChange};
@@ -69,9 +69,8 @@ fn write_modules<S: Alter>(
     modules: &[ModuleNo],
 ) -> Result<(), Fault>
     requires { before + length modules.now ≤ 8 }
-    ensures stays { StaysIn S.Store change.old change.new result }
+    ensures stays { WritesIn S.Store change.old change.new result }
     ensures writes { MakesIn S.Store change.old change.new result (AddsModules number before modules.now) }
-    ensures counts { CountsIn S.Store change.old change.new result }
 {
     match modules {
         [] => Ok(()),
@@ -88,9 +87,8 @@ fn write_whole<S: Alter>(
     number: SetNo,
     label: &SetLabel,
 ) -> Result<(), Fault>
-    ensures stays { StaysIn S.Store change.old change.new result }
+    ensures stays { WritesIn S.Store change.old change.new result }
     ensures writes { MakesIn S.Store change.old change.new result (AddsWhole number label.now) }
-    ensures counts { CountsIn S.Store change.old change.new result }
 {
     change.write_set(number, &label.name, &label.version)?;
     write_modules(change, number, 0, label.modules.as_slice())

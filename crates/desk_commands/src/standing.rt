@@ -5,8 +5,8 @@ ghost use Rattle.rollout_machine.specs.Commands.{Approve, Deny, Pause};
 ghost use Rattle.desk_commands.specs.Standings.{Judges, WritesSaid, said_by};
 ghost use Rattle.desk_store.specs.Changing.{MakesLedger, StaysIn};
 ghost use Rattle.desk_commands.specs.Changing.{StepsIn};
-ghost use Rattle.desk_store.specs.Failing.{CountsIn};
 ghost use Rattle.desk_commands.specs.Failures.{FailsStepIn};
+ghost use Rattle.desk_store.specs.Failing.{WritesIn};
 
 use crate::step::Step;
 use campaign_core::{RolloutChange, StandingView, approve, deny, pause};
@@ -55,9 +55,8 @@ fn write_said<S: Alter>(
     seen: &SeenRollout,
     said: Said,
 ) -> Result<(), Fault>
-    ensures stays { StaysIn S.Store change.old change.new result }
+    ensures stays { WritesIn S.Store change.old change.new result }
     ensures writes { MakesLedger S.Store change.old change.new result (WritesSaid said number seen.now) }
-    ensures counts { CountsIn S.Store change.old change.new result }
 {
     match said {
         Said::Approved => {

@@ -9,8 +9,8 @@ ghost use Rattle.desk_commands.specs.Starts.{AddsActions, ReadsMembers, StartsWh
 ghost use Rattle.desk_store.specs.Changing.{FindsLedger, MakesLedger, StaysIn};
 ghost use Rattle.desk_commands.specs.Changing.{StepsIn};
 ghost use Rattle.desk_reads.specs.AtLists.{FailsAtListsIn};
-ghost use Rattle.desk_store.specs.Failing.{CountsIn};
 ghost use Rattle.desk_commands.specs.Failures.{FailsStepIn};
+ghost use Rattle.desk_store.specs.Failing.{WritesIn};
 
 use crate::groups::start_group;
 use crate::standing::refusal_in;
@@ -59,9 +59,8 @@ fn write_actions<S: Alter>(
     members: &[ControllerId],
 ) -> Result<(), Fault>
     requires { last + length members.now ≤ 2147483647 }
-    ensures stays { StaysIn S.Store change.old change.new result }
+    ensures stays { WritesIn S.Store change.old change.new result }
     ensures writes { MakesLedger S.Store change.old change.new result (AddsActions number last members.now (length members.now)) }
-    ensures counts { CountsIn S.Store change.old change.new result }
 {
     for (i, id) in members.iter().enumerate() {
         let place = i as u32 + 1;
@@ -81,9 +80,8 @@ fn write_start<S: Alter>(
     members: &[ControllerId],
 ) -> Result<(), Fault>
     requires { last + length members.now ≤ 2147483647 }
-    ensures stays { StaysIn S.Store change.old change.new result }
+    ensures stays { WritesIn S.Store change.old change.new result }
     ensures writes { MakesLedger S.Store change.old change.new result (StartsWhole number seen.now first.now last members.now) }
-    ensures counts { CountsIn S.Store change.old change.new result }
 {
     change.change_rollout(number, seen.approval, true, seen.paused)?;
     write_actions(change, number, last, members)?;

@@ -5,9 +5,9 @@ ghost use Rattle.rollout_machine.specs.Commands.{PutTargets};
 ghost use Rattle.desk_commands.specs.Imports.{AddsTags, DropsTags, LeavesRoom, PutsAll, PutsOver, PutsRow, Renames, Retags};
 ghost use Rattle.desk_store.specs.Changing.{FindsIn, MakesIn, StaysIn, seen_in};
 ghost use Rattle.desk_commands.specs.Changing.{StepsIn};
-ghost use Rattle.desk_store.specs.Failing.{CountsIn};
 ghost use Rattle.desk_commands.specs.Failures.{ChangesRow, FailsStepIn, FailsWriting, FailsWritingIn, TakesRow, TakesRows};
 ghost use Rattle.desk_reads.specs.AtLists.{FailsAtListsIn};
+ghost use Rattle.desk_store.specs.Failing.{WritesIn};
 
 use crate::step::Step;
 use desk_store::{Fault, OpenChange, StoredTarget};
@@ -22,9 +22,8 @@ fn drop_tags<S: Alter>(
     had: &[Word],
     wanted: &[Word],
 ) -> Result<(), Fault>
-    ensures stays { StaysIn S.Store change.old change.new result }
+    ensures stays { WritesIn S.Store change.old change.new result }
     ensures writes { MakesIn S.Store change.old change.new result (DropsTags id.now had.now wanted.now) }
-    ensures counts { CountsIn S.Store change.old change.new result }
 {
     match had {
         [] => Ok(()),
@@ -45,9 +44,8 @@ fn add_tags<S: Alter>(
     tags: &[Word],
     had: &[Word],
 ) -> Result<(), Fault>
-    ensures stays { StaysIn S.Store change.old change.new result }
+    ensures stays { WritesIn S.Store change.old change.new result }
     ensures writes { MakesIn S.Store change.old change.new result (AddsTags id.now tags.now had.now) }
-    ensures counts { CountsIn S.Store change.old change.new result }
 {
     match tags {
         [] => Ok(()),
@@ -82,9 +80,8 @@ fn rename<S: Alter>(
     row: &TargetRow,
     stored: &StoredTarget,
 ) -> Result<(), Fault>
-    ensures stays { StaysIn S.Store change.old change.new result }
+    ensures stays { WritesIn S.Store change.old change.new result }
     ensures writes { MakesIn S.Store change.old change.new result (Renames row.now stored.now) }
-    ensures counts { CountsIn S.Store change.old change.new result }
 {
     if stored.name == row.name && stored.digest == row.digest {
         return Ok(());
@@ -94,9 +91,8 @@ fn rename<S: Alter>(
 
 /// Puts the row of a target that isn't there.
 fn add_row<S: Alter>(change: &mut OpenChange<'_, S>, row: &TargetRow) -> Result<(), Fault>
-    ensures stays { StaysIn S.Store change.old change.new result }
+    ensures stays { WritesIn S.Store change.old change.new result }
     ensures writes { MakesIn S.Store change.old change.new result (PutsOver None row.now) }
-    ensures counts { CountsIn S.Store change.old change.new result }
 {
     change.write_target(&row.id, &row.name, &row.digest)?;
     add_tags(change, &row.id, row.tags.as_slice(), &[])

@@ -11,7 +11,7 @@ use Rattle.sql_calls.proofs.Finding.{first_finds}
 use Rattle.rollout_machine.specs.ByteStrings.{item_numbered}
 use Rattle.desk_records.specs.LedgerSteps.{with_rules}
 use Rattle.desk_records.specs.Modules.{IsLastRow}
-use Rattle.desk_records.specs.RowFaults.{IfStore}
+use Rattle.desk_records.specs.RowFaults.{IfRowsBroken}
 use Rattle.desk_records.specs.declared.rollout_row.StoredRollout.{StoredRollout}
 use Rattle.desk_records.proofs.RolloutMeaning.{rollout_names}
 use Rattle.desk_records.proofs.RolloutRecords.{gets_rollout, lasts_rollout}
@@ -34,7 +34,7 @@ number_kept (Some row) n few is none = none (within_row row 0 (Int (pos n)) is (
 
 module _ {S : Type 0} {g : Ghosts S} {old new : Calls S} where
   pub last_fails : (row : Option Row) → TakesFirst (state g old.conn) (state g new.conn) LAST_ROLLOUT.now [] (Ok row) → Counts {A = Option Row} old new (Ok row)
-      → (out : Result ℕ Fault) → IfErr out (λ fault. IfStore fault (HasNoNumber row)) → FailsGiven g (λ l. length l.records.rollouts < 2 ^ 32) old new out
+      → (out : Result ℕ Fault) → IfErr out (λ fault. IfRowsBroken fault (HasNoNumber row)) → FailsGiven g (λ l. length l.records.rollouts < 2 ^ 32) old new out
   last_fails row h counts (Ok n) why = record { to = counts.to }
   last_fails row h counts (Err Memory) why = record { to = λ failed was l sees few clean. record { before = counts.to failed was; call = never_memory } }
   last_fails row h counts (Err Store) why = absurd why
@@ -58,7 +58,7 @@ row_kept row x is readable lacks =
 module _ {S : Type 0} {g : Ghosts S} {old new : Calls S} (number : ℕ) (least : 1 ≤ number) where
   pub rollout_fails : (row : Option Row) → TakesFirst (state g old.conn) (state g new.conn) GET_ROLLOUT.now (Int (pos number) ∷ []) (Ok row)
       → Counts {A = Option Row} old new (Ok row)
-      → (out : Result StoredRollout Fault) → IfErr out (λ fault. IfStore fault (LacksRollout row)) → FailsGiven g (HasReadable number) old new out
+      → (out : Result StoredRollout Fault) → IfErr out (λ fault. IfRowsBroken fault (LacksRollout row)) → FailsGiven g (HasReadable number) old new out
   rollout_fails row h counts (Ok x) why = record { to = counts.to }
   rollout_fails row h counts (Err Memory) why = record { to = λ failed was l sees given clean. record { before = counts.to failed was; call = never_memory } }
   rollout_fails row h counts (Err Store) why = absurd why

@@ -5,7 +5,7 @@ ghost use Rattle.sqlite.specs.Held.{state};
 ghost use Rattle.desk_records.specs.LedgerSteps.{AddsRule};
 ghost use Rattle.desk_records.specs.Modules.{IsLastRow};
 ghost use Rattle.desk_records.specs.RolloutRow.{IsRolloutRow};
-ghost use Rattle.desk_records.specs.RowFaults.{IfStore};
+ghost use Rattle.desk_records.specs.RowFaults.{IfRowsBroken};
 ghost use Rattle.desk_opening.specs.Counting.{Counts, FailsGiven, HasReadable};
 ghost use Rattle.desk_opening.specs.Filling.{FillsLater, FillsRollout, FindsLedger, GivenBare, GivenRules, HasNoNumber};
 ghost use Rattle.desk_opening.specs.Filling.{IsOfNumber, LacksRollout, MakesLedger, Stays, WritesCopies, WritesRules};
@@ -129,7 +129,7 @@ fn read_rollout<S: Alter>(
 /// The number in the row of the last number, and 0 where there is none.
 fn last_number(row: Option<Row>) -> Result<u32, Fault>
     ensures ok { IfOk result (λ n. IsLastRow n row) }
-    ensures err { IfErr result (λ fault. IfStore fault (HasNoNumber row)) }
+    ensures err { IfErr result (λ fault. IfRowsBroken fault (HasNoNumber row)) }
 {
     let Some(row) = row else {
         return Ok(0);
@@ -143,7 +143,7 @@ fn last_number(row: Option<Row>) -> Result<u32, Fault>
 /// The rollout in a row, which has to be there.
 fn rollout_in(alloc: Global, row: Option<Row>) -> Result<StoredRollout, Fault>
     ensures ok { IfOk result (λ rollout. MatchOption row ⊥ (λ row. IsRolloutRow row rollout)) }
-    ensures err { IfErr result (λ fault. IfStore fault (LacksRollout row)) }
+    ensures err { IfErr result (λ fault. IfRowsBroken fault (LacksRollout row)) }
 {
     let Some(row) = row else {
         return Err(Fault::Broken);

@@ -20,7 +20,7 @@ abbrev pub IfBroken : RowFault → Type 0 → Type 0
 IfBroken row.Memory Why = Unit {0}
 IfBroken (row.Broken c) Why = Why
 
-abbrev pub IfStore : Fault → Type 0 → Type 0
-IfStore Memory Why = Unit {0}
-IfStore Store Why = ⊥
-IfStore Broken Why = Why
+abbrev pub IfRowsBroken : Fault → Type 0 → Type 0
+IfRowsBroken Memory Why = Unit {0}
+IfRowsBroken Store Why = ⊥
+IfRowsBroken Broken Why = Why

@@ -125,7 +125,7 @@ pub use Rattle.desk_records.specs.declared.texts.TheConstants.{FIND_MODULE, GET_
 pub use Rattle.desk_store.specs.Blaming.{Blames, BlamesGiven}
 pub use Rattle.desk_store.specs.Changing.{FindsTables, KeepsTo, seen_in}
 pub use Rattle.desk_store.specs.GroupPairs.{group_and_next}
-pub use Rattle.desk_store.specs.Rows.{AreReadAs, BreaksRule, HasBroken, HasNoNumber, IfStore, IsApproval, IsCount, IsReadAs}
+pub use Rattle.desk_store.specs.Rows.{AreReadAs, BreaksRule, HasBroken, HasNoNumber, IfRowsBroken, IsApproval, IsCount, IsReadAs}
 pub use Rattle.desk_store.specs.Unreadable.{IsUnreadable, broken_entry, broken_number, broken_piece, broken_rollout, broken_rule, large_count, large_number}
 pub use Rattle.desk_store.specs.Unreadable.{many_rows}
 pub use Rattle.desk_store.specs.declared.change.OpenChange.{OpenChange}

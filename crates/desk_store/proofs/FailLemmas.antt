@@ -2,7 +2,7 @@
 use Rattle.desk_store.proofs.Common.{Place, ◌≡◌, ◌≤◌, ◌-◌, ℕ, zero, suc, inl, inr, List, [], ◌∷◌, take, drop, filter, map, Option, Some, None, Ok, Err, Result}
 use Rattle.desk_store.proofs.Common.{IfErr, Vec, refl, sym, ap, subst, ◌∙◌, Global, Row, Query, Output, page, Database, Ghosts, Has, has_filtered, Fault}
 use Rattle.desk_store.proofs.Common.{Memory, Store, AsksFew, AsksText, TakesFirst, ShowsFirst, first_finds, ask_finds, few_finds, IsOrdered, by, ordered_rows}
-use Rattle.desk_store.proofs.Common.{passes, shown_in, shown_of, simple, HoldsLedger, Ledger, HoldsTables, Tables, IfStore, HasBroken, seen_in, OpenChange}
+use Rattle.desk_store.proofs.Common.{passes, shown_in, shown_of, simple, HoldsLedger, Ledger, HoldsTables, Tables, IfRowsBroken, HasBroken, seen_in, OpenChange}
 use Rattle.std.specs.Prelude.{◌≢◌}
 use Rattle.sqlite.specs.Effect.{Reads as Shows}
 use Rattle.sql_calls.specs.Standing.{Finds, Sees}
@@ -41,15 +41,15 @@ module _ {S : Type 0} {g : Ghosts S} {old new : OpenChange S} where
 module _ {S A B R : Type 0} {g : Ghosts S} {Holds : Database → R → Type 0} {Given Why : R → Type 0} {old new : OpenChange S} {x : A} {P : R → A → Type 0} where
   -- what was found leaves no broken row but for this
   pub breaks_by : Finds Holds (λ (r : R). r) {E = Fault} (seen_in g old) (seen_in g new) (Ok x) P → (out : Result B Fault)
-      → IfErr out (λ fault. IfStore fault ((r : R) → P r x → Given r → Why r)) → BreaksOnly g Holds Given Why old new out
+      → IfErr out (λ fault. IfRowsBroken fault ((r : R) → P r x → Given r → Why r)) → BreaksOnly g Holds Given Why old new out
   breaks_by read (Ok y) why = record { to = λ r seen. (read.finds r seen).0 }
   breaks_by read (Err Memory) why = record { to = λ r seen given. record { reason = λ is clean. absurd cc } }
   breaks_by read (Err Store) why = absurd why
   breaks_by read (Err Broken) why = record { to = λ r seen given. record { reason = λ is clean. why r ((read.finds r seen).1 clean) given } }
 
 -- the same at a ledger that can be read
-pub told_never : {B : Type 0} (Why : Type 0) (out : Result B Fault) → IfErr out (λ fault. IfStore fault Why)
-    → IfErr out (λ fault. IfStore fault ((l : Ledger) → (IsReadable l → Why → ⊥) → IsReadable l → ⊥))
+pub told_never : {B : Type 0} (Why : Type 0) (out : Result B Fault) → IfErr out (λ fault. IfRowsBroken fault Why)
+    → IfErr out (λ fault. IfRowsBroken fault ((l : Ledger) → (IsReadable l → Why → ⊥) → IsReadable l → ⊥))
 told_never Why (Ok y) is = tt
 told_never Why (Err Memory) is = tt
 told_never Why (Err Store) is = is
@@ -117,7 +117,7 @@ module _ {p : Place} {sql : List ℕ} {query : ℕ → Query} {names : List (Lis
     module _ {S B : Type 0} {g : Ghosts S} {old new : OpenChange S} (grows : old.store.now.calls.failures ≤ new.store.now.calls.failures) where
       -- the first row
       pub first_fails : (row : Option Row) → TakesFirst (seen_in g old) (seen_in g new) sql params (Ok row) → (out : Result B Fault)
-          → IfErr out (λ fault. IfStore fault (IsBroken is_broken row)) → FailsIn g old new out
+          → IfErr out (λ fault. IfRowsBroken fault (IsBroken is_broken row)) → FailsIn g old new out
       first_fails row h out broken =
           breaks_by (first_finds HoldsLedger (λ (l : Ledger). l) sql params (seen_in g old) (seen_in g new) (λ l u. IsReadable l → IsBroken is_broken row → ⊥)
           (in_ledgers (known text)) (λ db l holds at given. tt) row h (Ok (tt {0})) (λ db l holds shown. go db l holds row shown)) out
@@ -128,7 +128,7 @@ module _ {p : Place} {sql : List ℕ} {query : ℕ → Query} {names : List (Lis
           go db l holds None shown readable b = b
           go db l holds (Some x) shown readable b = kept db l holds (x ∷ shown.0) shown.1 readable x (inl refl) b
 
-      module _ (rows : Vec Row Global) (out : Result B Fault) (broken : IfErr out (λ fault. IfStore fault (HasBroken is_broken rows.items))) where
+      module _ (rows : Vec Row Global) (out : Result B Fault) (broken : IfErr out (λ fault. IfRowsBroken fault (HasBroken is_broken rows.items))) where
         found : FindsLedger g {E = Fault} old new (Ok (tt {0})) (λ l u. IsReadable l → HasBroken is_broken rows.items → ⊥) → FailsIn g old new out
         found read = breaks_by read out (told_never _ out broken)
 

@@ -9,7 +9,7 @@ use Rattle.desk_store.proofs.Common.{GET_ACTION, GET_OFFER, LIST_ACTIONS, LIST_E
 use Rattle.desk_store.proofs.Common.{GET_RULE, LAST_ROLLOUT, LIST_GROUPS, LIST_PLACES, get_action_is, get_offer_is, list_actions_is, list_entries_is}
 use Rattle.desk_store.proofs.Common.{list_numbers_is, list_offers_is, count_shown, get_piece_is, list_all_artifacts_is, get_rollout_is, get_rule_is}
 use Rattle.desk_store.proofs.Common.{list_groups_is, list_places_is, of_rollout, placed_columns, places_query, Blames, BlamesGiven, FindsTables, seen_in}
-use Rattle.desk_store.proofs.Common.{BreaksRule, HasBroken, HasNoNumber, IfStore, IsUnreadable, broken_entry, broken_number, broken_piece, broken_rollout}
+use Rattle.desk_store.proofs.Common.{BreaksRule, HasBroken, HasNoNumber, IfRowsBroken, IsUnreadable, broken_entry, broken_number, broken_piece, broken_rollout}
 use Rattle.desk_store.proofs.Common.{broken_rule, large_count, large_number, many_rows, OpenChange, last_rollout_is}
 use Rattle.sql_calls.specs.declared.fault.Fault.TheVariants.{Broken}
 use Rattle.std.proofs.lemmas.List.Filters.{length-filter_both}
@@ -40,15 +40,15 @@ module _ {p : Place} {sql : List ℕ} {query : ℕ → Query} {names : List (Lis
     module _ {S B : Type 0} (g : Ghosts S) (Given : Tables → Type 0) (is_broken : Row → Type 0) (blames : (t : Tables) (row : Row) → Has (t p) row
         → is_broken (shown_of (query 0).project params row) → Given t → IsUnreadable t)
         (old new : OpenChange S) (grows : old.store.now.calls.failures ≤ new.store.now.calls.failures) (out : Result B Fault)
-        (broken : IfErr out (λ fault. IfStore fault (HasBroken is_broken rows.items))) where
+        (broken : IfErr out (λ fault. IfRowsBroken fault (HasBroken is_broken rows.items))) where
       told : FindsTables g {E = Fault} old new (Ok rows) AreOf → BlamesGiven g Given old new out
       told read = blamed read grows out (go out broken)
         where
           unreadable : HasBroken is_broken rows.items → (t : Tables) → AreOf t rows → Given t → IsUnreadable t
           unreadable it t of given = let its = of it.row it.among in blames t its.0 its.1 (subst is_broken its.2 it.broken) given
 
-          go : (out : Result B Fault) → IfErr out (λ fault. IfStore fault (HasBroken is_broken rows.items))
-              → IfErr out (λ fault. IfStore fault ((t : Tables) → AreOf t rows → Given t → IsUnreadable t))
+          go : (out : Result B Fault) → IfErr out (λ fault. IfRowsBroken fault (HasBroken is_broken rows.items))
+              → IfErr out (λ fault. IfRowsBroken fault ((t : Tables) → AreOf t rows → Given t → IsUnreadable t))
           go (Ok found) is = tt
           go (Err Memory) is = tt
           go (Err Store) is = is
@@ -106,7 +106,7 @@ module _ {S B : Type 0} (g : Ghosts S) (old new : OpenChange S) (rows : Vec Row 
   AsksOne sql params = AsksFew (seen_in g old) (seen_in g new) sql params 1 (Ok rows)
 
   abbrev AreSpoiled : (Row → Type 0) → Type 0
-  AreSpoiled is_broken = IfErr out (λ fault. IfStore fault (HasBroken is_broken rows.items))
+  AreSpoiled is_broken = IfErr out (λ fault. IfRowsBroken fault (HasBroken is_broken rows.items))
 
   -- ---- by a number
 
@@ -167,7 +167,7 @@ module _ {S B : Type 0} (g : Ghosts S) (old new : OpenChange S) (rows : Vec Row 
   counted_blamed n memory = actions_blamed n (only_memory out memory)
     where
       only_memory : (out : Result B Fault) → IfErr out (λ fault. fault ≡ Memory)
-          → IfErr out (λ fault. IfStore fault (HasBroken (λ row. has_wide_count row ≡ true) rows.items))
+          → IfErr out (λ fault. IfRowsBroken fault (HasBroken (λ row. has_wide_count row ≡ true) rows.items))
       only_memory (Ok found) is = tt
       only_memory (Err Memory) is = tt
       only_memory (Err Store) is = absurd cc
@@ -217,14 +217,15 @@ module _ {S : Type 0} (g : Ghosts S) (old new : OpenChange S) (grows : old.store
           ))
 
       go : (out : Result ℕ Fault) → IfErr out (λ fault. (fault ≡ Broken) × (2 ^ 32 ≤ length rows.items))
-          → IfErr out (λ fault. IfStore fault ((t : Tables) → AreFewer t rows → Unit {0} → IsUnreadable t))
+          → IfErr out (λ fault. IfRowsBroken fault ((t : Tables) → AreFewer t rows → Unit {0} → IsUnreadable t))
       go (Ok found) is = tt
       go (Err Memory) is = tt
       go (Err Store) is = absurd (let same = is.0 in cc)
       go (Err Broken) is = λ t fewer given. many_rows Members (omega (arith, is.1, fewer))
 
   pub count_blamed : {p : Place} {sql : List ℕ} (text : Counts p sql) (row : Option Row)
-      → IfErr out (λ fault. IfStore fault ((row ≡ None) ⊎ HasNoNumber row)) → TakesFirst (seen_in g old) (seen_in g new) sql [] (Ok row) → Blames g old new out
+      → IfErr out (λ fault. IfRowsBroken fault ((row ≡ None) ⊎ HasNoNumber row)) → TakesFirst (seen_in g old) (seen_in g new) sql [] (Ok row)
+      → Blames g old new out
   count_blamed {p} {sql} text row broken h =
       blamed (first_finds HoldsTables (λ (t : Tables). t) sql [] (seen_in g old) (seen_in g new) IsCounted (tables_know (counted_at text))
       (λ db t holds at given. tt) row h (Ok row) (λ db t holds shows. row_of_count text db t holds row shows)) grows out (go out broken)
@@ -238,14 +239,15 @@ module _ {S : Type 0} (g : Ghosts S) (old new : OpenChange S) (grows : old.store
           many_rows p (many (min (length (t p)) 9223372036854775807) (length (t p))
           (λ same few. (subst HasNoNumber is unread) (omega arith) (min (length (t p)) 9223372036854775807) few refl) refl)
 
-      go : (out : Result ℕ Fault) → IfErr out (λ fault. IfStore fault ((row ≡ None) ⊎ HasNoNumber row))
-          → IfErr out (λ fault. IfStore fault ((t : Tables) → IsCounted t row → Unit {0} → IsUnreadable t))
+      go : (out : Result ℕ Fault) → IfErr out (λ fault. IfRowsBroken fault ((row ≡ None) ⊎ HasNoNumber row))
+          → IfErr out (λ fault. IfRowsBroken fault ((t : Tables) → IsCounted t row → Unit {0} → IsUnreadable t))
       go (Ok found) unread = tt
       go (Err Memory) unread = tt
       go (Err Store) unread = unread
       go (Err Broken) unread = λ t is given. unreadable t unread is
 
-  pub last_blamed : (row : Option Row) → IfErr out (λ fault. IfStore fault (HasNoNumber row)) → TakesFirst (seen_in g old) (seen_in g new) LAST_ROLLOUT.now []
+  pub last_blamed : (row : Option Row) → IfErr out (λ fault. IfRowsBroken fault (HasNoNumber row))
+      → TakesFirst (seen_in g old) (seen_in g new) LAST_ROLLOUT.now []
       (Ok row) → Blames g old new out
   last_blamed row broken h =
       blamed (first_finds HoldsTables (λ (t : Tables). t) LAST_ROLLOUT.now [] (seen_in g old) (seen_in g new) IsOfRollout (known last_rollout_is)
@@ -265,8 +267,8 @@ module _ {S : Type 0} (g : Ghosts S) (old new : OpenChange S) (grows : old.store
       unreadable t (Some shown) unread its =
           large_number its.0 its.1 (no_number (column its.0 0) (subst (λ x. HasNoNumber (Some x)) its.2 unread (omega arith)))
 
-      go : (out : Result ℕ Fault) (row : Option Row) → IfErr out (λ fault. IfStore fault (HasNoNumber row))
-          → IfErr out (λ fault. IfStore fault ((t : Tables) → IsOfRollout t row → Unit {0} → IsUnreadable t))
+      go : (out : Result ℕ Fault) (row : Option Row) → IfErr out (λ fault. IfRowsBroken fault (HasNoNumber row))
+          → IfErr out (λ fault. IfRowsBroken fault ((t : Tables) → IsOfRollout t row → Unit {0} → IsUnreadable t))
       go (Ok found) row unread = tt
       go (Err Memory) row unread = tt
       go (Err Store) row unread = unread

@@ -4,7 +4,7 @@ use Rattle.desk_store.proofs.Common.{◌≡◌, ◌<◌, ◌++◌, ◌+◌, ℕ,
 use Rattle.desk_store.proofs.Common.{IfOk, Vec, refl, sym, ap₂, subst, filter_map, ap, ◌∙◌, pos, arith, cons_option, Global, Int, Row, IsLastRow, Database}
 use Rattle.desk_store.proofs.Common.{HasCleanDisk, IsUnchanged, State, Fault, AsksFew, AsksText, TakesFirst, Finds, Sees, Wears, Known, Knows, ShowsFirst}
 use Rattle.desk_store.proofs.Common.{ask_finds, few_finds, first_finds, HoldsLedger, Ledger, HoldsTables, Has, Memory, Store, KeepsTo, AreReadAs, HasBroken}
-use Rattle.desk_store.proofs.Common.{IfStore, IsReadAs}
+use Rattle.desk_store.proofs.Common.{IfRowsBroken, IsReadAs}
 use Rattle.std.proofs.lemmas.List.{take_more}
 use Rattle.std.proofs.lemmas.Slice.Zip.{all_zipped_more}
 use Rattle.sqlite.specs.Effect.{Reads as Shows}
@@ -110,13 +110,14 @@ module _ {Q : Type 0} (of : Q → Ledger) {A V : Type 0} (items : V → List A) 
       answers (Err e) are_read = tt
 
 -- one that is broken among all
-pub told_broken : {A : Type 0} (broken : Row → Type 0) (rows : List Row) (row : Row) → Has rows row → (fault : Fault) → IfStore fault (broken row)
+pub told_broken : {A : Type 0} (broken : Row → Type 0) (rows : List Row) (row : Row) → Has rows row → (fault : Fault) → IfRowsBroken fault (broken row)
     → (out : Result A Fault) → out ≡ Err fault
-    → IfErr out (λ fault. IfStore fault (HasBroken broken rows))
-told_broken {A = A} broken rows row among fault told out is = subst (λ (o : Result A Fault). IfErr o (λ fault. IfStore fault (HasBroken broken rows))) (sym is)
+    → IfErr out (λ fault. IfRowsBroken fault (HasBroken broken rows))
+told_broken {A = A} broken rows row among fault told out is = subst (λ (o : Result A Fault). IfErr o (λ fault. IfRowsBroken fault (HasBroken broken rows)))
+    (sym is)
     (go fault told)
   where
-    go : (fault : Fault) → IfStore fault (broken row) → IfStore fault (HasBroken broken rows)
+    go : (fault : Fault) → IfRowsBroken fault (broken row) → IfRowsBroken fault (HasBroken broken rows)
     go Memory _ = tt
     go Store is = is
     go Broken is = record { row = row; among = among; broken = is }

@@ -2,7 +2,8 @@
 use Rattle.desk_store.proofs.Common.{◌≡◌, ◌⊎◌, ◌≤◌, ◌<◌, ◌^◌, ◌+◌, ℕ, suc, inl, inr, min, nat_lt, length, pos, Bool, true, false, cond, List, [], ◌∷◌, Option}
 use Rattle.desk_store.proofs.Common.{Some, None, option_map, Ok, Err, Result, IfErr, refl, ap, subst, arith, codes, is_some, Value, Int, Text, Row, column}
 use Rattle.desk_store.proofs.Common.{has_size, small_number, flag_in, first_broken, flag, Fault, Memory, Store, TakesFirst, first_finds, shown_of, Ghosts}
-use Rattle.desk_store.proofs.Common.{HoldsLedger, Ledger, IfStore, HasNoNumber, BreaksRule, broken_offer_column, told_offer, is_number, seen_in, OpenChange}
+use Rattle.desk_store.proofs.Common.{HoldsLedger, Ledger, IfRowsBroken, HasNoNumber, BreaksRule, broken_offer_column, told_offer, is_number, seen_in}
+use Rattle.desk_store.proofs.Common.{OpenChange}
 use Rattle.desk_store.proofs.Common.{COUNT_TARGETS, GET_DESK, NEXT_OFFER, Targets, get_desk_is, count_targets_is, counted_at, Place, Query}
 use Rattle.sql_calls.specs.declared.fault.Fault.TheVariants.{Broken}
 use Rattle.std.proofs.lemmas.Bool.Decides.{nat_tests}
@@ -49,11 +50,11 @@ pub last_fails : {p : Place} {sql : List ℕ} {query : ℕ → Query} {names : L
     → ((params row : Row) → (BreaksColumn p row → ⊥) → HasNoNumber (Some (shown_of (query 0).project params row)) → ⊥)
     → {params : Row} {S : Type 0} {g : Ghosts S} {old new : OpenChange S}
     → old.store.now.calls.failures ≤ new.store.now.calls.failures → (row : Option Row) → TakesFirst (seen_in g old) (seen_in g new) sql params (Ok row)
-    → (out : Result ℕ Fault) → IfErr out (λ fault. IfStore fault (HasNoNumber row)) → FailsIn g old new out
+    → (out : Result ℕ Fault) → IfErr out (λ fault. IfRowsBroken fault (HasNoNumber row)) → FailsIn g old new out
 last_fails text rule {params} grows row h out broken = first_fails text (λ r. HasNoNumber (Some r)) rule params grows row h out (as_broken row broken)
   where
-    as_broken : (row : Option Row) → IfErr out (λ fault. IfStore fault (HasNoNumber row))
-        → IfErr out (λ fault. IfStore fault (IsBroken (λ r. HasNoNumber (Some r)) row))
+    as_broken : (row : Option Row) → IfErr out (λ fault. IfRowsBroken fault (HasNoNumber row))
+        → IfErr out (λ fault. IfRowsBroken fault (IsBroken (λ r. HasNoNumber (Some r)) row))
     as_broken None is = is
     as_broken (Some x) is = is
 
@@ -111,7 +112,7 @@ never_next (Some o) (Some x) is good broken =
 
 module _ {S : Type 0} {g : Ghosts S} {old new : OpenChange S} (grows : old.store.now.calls.failures ≤ new.store.now.calls.failures) (row : Option Row) where
   pub count_fails : TakesFirst (seen_in g old) (seen_in g new) COUNT_TARGETS.now [] (Ok row) → (out : Result ℕ Fault)
-      → IfErr out (λ fault. IfStore fault ((row ≡ None) ⊎ HasNoNumber row)) → FailsIn g old new out
+      → IfErr out (λ fault. IfRowsBroken fault ((row ≡ None) ⊎ HasNoNumber row)) → FailsIn g old new out
   count_fails h out broken =
       breaks_by (first_finds HoldsLedger (λ (l : Ledger). l) COUNT_TARGETS.now [] (seen_in g old) (seen_in g new)
       (λ l u. IsReadable l → (row ≡ None) ⊎ HasNoNumber row → ⊥) (in_ledgers (tables_know (counted_at count_targets_is))) (λ db l holds at given. tt) row h
@@ -129,7 +130,8 @@ module _ {S : Type 0} {g : Ghosts S} {old new : OpenChange S} (grows : old.store
       (λ db l holds shown readable. never_untold l.records.approval row
       (gets_desk db l holds (codes "format" ∷ codes "version" ∷ codes "approval" ∷ []) row shown))) out (told_never _ out (as_store out broken))
     where
-      as_store : (out : Result Bool Fault) → IfErr out (λ fault. (fault ≡ Broken) × HasNoApproval row) → IfErr out (λ fault. IfStore fault (HasNoApproval row))
+      as_store : (out : Result Bool Fault) → IfErr out (λ fault. (fault ≡ Broken) × HasNoApproval row)
+          → IfErr out (λ fault. IfRowsBroken fault (HasNoApproval row))
       as_store (Ok b) is = tt
       as_store (Err Memory) is = tt
       as_store (Err Store) is = absurd (let same = is.0 in cc)
@@ -137,7 +139,7 @@ module _ {S : Type 0} {g : Ghosts S} {old new : OpenChange S} (grows : old.store
 
   -- the next offer
   pub next_fails : (id : Bytes) → TakesFirst (seen_in g old) (seen_in g new) NEXT_OFFER.now (Text id ∷ []) (Ok row) → (out : Result (Option Offer) Fault)
-      → IfErr out (λ fault. IfStore fault (IsBroken (λ r. BreaksRule (broken_offer_column r)) row))
+      → IfErr out (λ fault. IfRowsBroken fault (IsBroken (λ r. BreaksRule (broken_offer_column r)) row))
       → FailsSeeing g NumbersActions old new out
   next_fails id h out broken = go out broken
     where
@@ -149,7 +151,7 @@ module _ {S : Type 0} {g : Ghosts S} {old new : OpenChange S} (grows : old.store
           (gets_next_offer db l holds (codes "number" ∷ codes "canceling" ∷ []) id numbers.tallied row shown)
           (λ o is. next_in_range l.records.rollouts id l.records.actions numbers.few o is))
 
-      go : (out : Result (Option Offer) Fault) → IfErr out (λ fault. IfStore fault (IsBroken (λ r. BreaksRule (broken_offer_column r)) row))
+      go : (out : Result (Option Offer) Fault) → IfErr out (λ fault. IfRowsBroken fault (IsBroken (λ r. BreaksRule (broken_offer_column r)) row))
           → FailsSeeing g NumbersActions old new out
       go (Ok o) is = record { to = tt }
       go (Err Memory) is = record { to = λ l seen numbers. record { reason = λ e clean. absurd cc } }

@@ -5,6 +5,7 @@ use Rattle.sql_calls.specs.declared.fault.Fault.{Fault}
 use Rattle.rollout_model.specs.Limits.{number_limit}
 use Rattle.desk_records.specs.Holds.{HoldsLedger, Ledger}
 use Rattle.desk_store.specs.Breaking.{BreaksFirst, BreaksOnly, NeverBreaks}
+use Rattle.desk_store.specs.Changing.{StaysIn}
 use Rattle.desk_store.specs.Readable.{IsReadable}
 use Rattle.desk_store.specs.declared.change.OpenChange.{OpenChange}
 
@@ -24,9 +25,10 @@ module _ {S : Type 0} (g : Ghosts S) where
   abbrev pub FailsGiven : (Ledger → Type 0) → {A : Type 0} → OpenChange S → OpenChange S → Result A Fault → Type 0
   FailsGiven Given = BreaksOnly g HoldsLedger (ReadableAs Given) nothing
 
-  -- what writes
-  abbrev pub CountsIn : {A : Type 0} → OpenChange S → OpenChange S → Result A Fault → Type 0
-  CountsIn old new result = NeverBreaks g new result
+  -- what only writes: what stays, and that broken rows are never told
+  pub record WritesIn {A : Type 0} (old new : OpenChange S) (result : Result A Fault) : Type 0 where
+    pub stays : StaysIn g old new result
+    pub sound : NeverBreaks g new result
 
   -- whether or not all of it can be read
   abbrev pub FailsSeeing : (Ledger → Type 0) → {A : Type 0} → OpenChange S → OpenChange S → Result A Fault → Type 0

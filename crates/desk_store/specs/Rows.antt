@@ -6,7 +6,7 @@ use Rattle.sqlite_value.specs.Order.{Row, column}
 use Rattle.sqlite_rules.specs.Lists.{Has}
 use Rattle.desk_records.specs.Codes.{flag_in}
 -- what a row that can't be read makes of a call
-pub use Rattle.desk_records.specs.RowFaults.{BreaksRule, IfBroken, IfStore}
+pub use Rattle.desk_records.specs.RowFaults.{BreaksRule, IfBroken, IfRowsBroken}
 use Rattle.desk_records.specs.SetRow.{StoredNumber}
 
 -- no row is nothing

@@ -16,7 +16,7 @@ ghost use Rattle.desk_store.specs.Counting.{AddsIn};
 ghost use Rattle.desk_store.specs.Changing.{FindsLedger, FindsTables, KeepsTables, MakesLedger, StaysIn};
 ghost use Rattle.desk_store.specs.RawLists.{FindsFirst, SaysOfferOf};
 ghost use Rattle.desk_store.specs.Rows.{BreaksRule};
-ghost use Rattle.desk_store.specs.Failing.{CountsIn, FailsIn, FailsSeeing, NumbersActions};
+ghost use Rattle.desk_store.specs.Failing.{FailsIn, FailsSeeing, NumbersActions, WritesIn};
 
 use crate::change::OpenChange;
 use crate::codes::{code_of_outcome, flag_code};
@@ -223,9 +223,8 @@ impl<'a, S: Alter> OpenChange<'a, S> {
         place: u32,
         id: &ControllerId,
     ) -> Result<(), Fault>
-        ensures stays { StaysIn S.Store self.old self.new result }
+        ensures stays { WritesIn S.Store self.old self.new result }
         ensures writes { MakesLedger S.Store self.old self.new result (AddsAction number rollout place id.now) }
-        ensures counts { CountsIn S.Store self.old self.new result }
         ensures work { AddsIn 1 0 self.old self.new }
     {
         self.run(
@@ -243,9 +242,8 @@ impl<'a, S: Alter> OpenChange<'a, S> {
         notes: u32,
         entries: u32,
     ) -> Result<(), Fault>
-        ensures stays { StaysIn S.Store self.old self.new result }
+        ensures stays { WritesIn S.Store self.old self.new result }
         ensures writes { MakesLedger S.Store self.old self.new result (SetsAction number canceling outcome (record { notes = notes; entries = entries })) }
-        ensures counts { CountsIn S.Store self.old self.new result }
         ensures work { AddsIn 1 0 self.old self.new }
     {
         let canceling_code = flag_code(canceling);
@@ -263,9 +261,8 @@ impl<'a, S: Alter> OpenChange<'a, S> {
         sequence: u32,
         entry: &NewEntry,
     ) -> Result<(), Fault>
-        ensures stays { StaysIn S.Store self.old self.new result }
+        ensures stays { WritesIn S.Store self.old self.new result }
         ensures writes { MakesLedger S.Store self.old self.new result (AddsEntry number sequence entry.now) }
-        ensures counts { CountsIn S.Store self.old self.new result }
         ensures work { AddsIn 1 0 self.old self.new }
     {
         self.run(
@@ -282,9 +279,8 @@ impl<'a, S: Alter> OpenChange<'a, S> {
 
     /// Offers a target something in place of what it is offered.
     pub fn change_offer(&mut self, id: &ControllerId, offer: Offer) -> Result<(), Fault>
-        ensures stays { StaysIn S.Store self.old self.new result }
+        ensures stays { WritesIn S.Store self.old self.new result }
         ensures writes { MakesLedger S.Store self.old self.new result (SetsOffer id.now offer) }
-        ensures counts { CountsIn S.Store self.old self.new result }
         ensures work { AddsIn 1 0 self.old self.new }
     {
         let canceling = flag_code(offer.canceling);
@@ -296,9 +292,8 @@ impl<'a, S: Alter> OpenChange<'a, S> {
 
     /// Offers a target nothing any more.
     pub fn drop_offer(&mut self, id: &ControllerId) -> Result<(), Fault>
-        ensures stays { StaysIn S.Store self.old self.new result }
+        ensures stays { WritesIn S.Store self.old self.new result }
         ensures writes { MakesLedger S.Store self.old self.new result (λ l next. next ≡ with_offer l id.now None) }
-        ensures counts { CountsIn S.Store self.old self.new result }
         ensures work { AddsIn 1 0 self.old self.new }
     {
         self.run(DROP_OFFER, params![id.as_str()])

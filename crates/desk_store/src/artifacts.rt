@@ -10,7 +10,7 @@ ghost use Rattle.desk_records.specs.Artifacts.{is_same_artifact, piece_numbered,
 ghost use Rattle.desk_store.specs.Counting.{AddsIn};
 ghost use Rattle.desk_store.specs.Changing.{FindsIn, FindsTables, MakesIn, StaysIn};
 ghost use Rattle.desk_store.specs.RawLists.{AreListed, HasNumbered};
-ghost use Rattle.desk_store.specs.Failing.{CountsIn, FailsIn};
+ghost use Rattle.desk_store.specs.Failing.{FailsIn, WritesIn};
 
 use crate::change::OpenChange;
 use crate::reading::{last_number, read_all, read_optional};
@@ -106,10 +106,9 @@ impl<'a, S: Alter> OpenChange<'a, S> {
         size: u32,
         digest: &Digest,
     ) -> Result<(), Fault>
-        ensures stays { StaysIn S.Store self.old self.new result }
+        ensures stays { WritesIn S.Store self.old self.new result }
         ensures writes { MakesIn S.Store self.old self.new result
             (λ r next. (number ≡ length r.artifacts + 1) × (next ≡ with_artifact r module_number filename.now size digest.now)) }
-        ensures counts { CountsIn S.Store self.old self.new result }
         ensures work { AddsIn 1 0 self.old self.new }
     {
         self.run(
@@ -131,10 +130,9 @@ impl<'a, S: Alter> OpenChange<'a, S> {
         sequence: u32,
         bytes: &[u8],
     ) -> Result<(), Fault>
-        ensures stays { StaysIn S.Store self.old self.new result }
+        ensures stays { WritesIn S.Store self.old self.new result }
         ensures writes { MakesIn S.Store self.old self.new result
             (AddsPiece number sequence bytes.now) }
-        ensures counts { CountsIn S.Store self.old self.new result }
         ensures work { AddsIn 1 0 self.old self.new }
     {
         self.run(PUT_PIECE, params![number.get(), sequence, bytes])

@@ -5,7 +5,7 @@ ghost use Rattle.rollout_machine.specs.Verdicts.{target_of};
 ghost use Rattle.desk_records.specs.Targets.{AddsAttribute, SetsAttribute, attributes_of};
 ghost use Rattle.desk_store.specs.Counting.{AddsIn};
 ghost use Rattle.desk_store.specs.Changing.{FindsIn, MakesIn, StaysIn};
-ghost use Rattle.desk_store.specs.Failing.{CountsIn, FailsIn};
+ghost use Rattle.desk_store.specs.Failing.{FailsIn, WritesIn};
 
 use crate::change::OpenChange;
 use crate::reading::read_attributes;
@@ -34,10 +34,9 @@ impl<'a, S: Alter> OpenChange<'a, S> {
         id: &ControllerId,
         attribute: &Attribute,
     ) -> Result<(), Fault>
-        ensures stays { StaysIn S.Store self.old self.new result }
+        ensures stays { WritesIn S.Store self.old self.new result }
         ensures writes { MakesIn S.Store self.old self.new result
             (AddsAttribute id.now attribute.now) }
-        ensures counts { CountsIn S.Store self.old self.new result }
         ensures work { AddsIn 1 0 self.old self.new }
     {
         self.run(
@@ -56,10 +55,9 @@ impl<'a, S: Alter> OpenChange<'a, S> {
         id: &ControllerId,
         attribute: &Attribute,
     ) -> Result<(), Fault>
-        ensures stays { StaysIn S.Store self.old self.new result }
+        ensures stays { WritesIn S.Store self.old self.new result }
         ensures writes { MakesIn S.Store self.old self.new result
             (SetsAttribute id.now attribute.now) }
-        ensures counts { CountsIn S.Store self.old self.new result }
         ensures work { AddsIn 1 0 self.old self.new }
     {
         self.run(

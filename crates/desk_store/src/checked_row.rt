@@ -9,7 +9,7 @@ ghost use Rattle.desk_records.specs.Listings.{AreRead};
 ghost use Rattle.desk_records.specs.MemberRow.{IsPlacedRow, keeps_member_rules};
 ghost use Rattle.desk_records.specs.RolloutRow.{broken_group_column};
 ghost use Rattle.desk_store.specs.RawLists.{IsKeptActionRow, IsKeptGroupRow};
-ghost use Rattle.desk_store.specs.Rows.{HasBroken, IfStore};
+ghost use Rattle.desk_store.specs.Rows.{HasBroken, IfRowsBroken};
 
 use desk_records::{
     CheckedArtifact, ListedAction, OwnedOffer, PlacedMember, has_wide_count, read_checked_artifact,
@@ -32,7 +32,7 @@ pub(crate) trait FromCheckedRow: Sized + Drop {
     fn from_checked_row(row: &Row) -> Result<Option<Self>, Fault>
         ensures some { IfOk result (λ found. IfSome found (is_row row.now)) }
         ensures none { IfOk result (λ found. IfNone found (keeps_rules row.now ≡ false)) }
-        ensures err { IfErr result (λ fault. IfStore fault (is_broken row.now)) };
+        ensures err { IfErr result (λ fault. IfRowsBroken fault (is_broken row.now)) };
 }
 
 /// Of id and place.
@@ -110,17 +110,14 @@ pub(crate) fn read_checked<T: FromCheckedRow>(
     rows: &[Row],
 ) -> Result<Option<Vec<T>>, Fault>
     ensures ok { IfOk result (λ found. AreRead T.is_row T.keeps_rules rows.now (option_map vec_items found)) }
-    ensures err { IfErr result (λ fault. IfStore fault (HasBroken T.is_broken rows.now)) }
+    ensures err { IfErr result (λ fault. IfRowsBroken fault (HasBroken T.is_broken rows.now)) }
 {
     let mut found = Vec::new(alloc);
     for row in rows {
         let Some(one) = T::from_checked_row(row)? else {
             return Ok(None);
         };
-        match found.push(one) {
-            Ok(()) => {}
-            Err(_) => return Err(Fault::Memory),
-        }
+        found.push(one)?;
     }
     Ok(Some(found))
 }

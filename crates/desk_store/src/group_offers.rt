@@ -3,8 +3,8 @@
 ghost use Rattle.std.specs.Prelude.{◌≡◌, ◌≤◌, ◌+◌};
 ghost use Rattle.desk_records.specs.LedgerSteps.{OffersGroup};
 ghost use Rattle.desk_store.specs.Counting.{AddsIn};
-ghost use Rattle.desk_store.specs.Changing.{MakesLedger, StaysIn};
-ghost use Rattle.desk_store.specs.Failing.{CountsIn};
+ghost use Rattle.desk_store.specs.Changing.{MakesLedger};
+ghost use Rattle.desk_store.specs.Failing.{WritesIn};
 
 use crate::change::OpenChange;
 use desk_records::PUT_GROUP_OFFERS;
@@ -16,9 +16,8 @@ use sqlite::{Alter, params};
 impl<'a, S: Alter> OpenChange<'a, S> {
     /// Offers each action of a rollout between two places to its target, unless that is offered one of no greater number.
     pub fn write_group_offers(&mut self, number: RolloutNo, bounds: Bounds) -> Result<(), Fault>
-        ensures stays { StaysIn S.Store self.old self.new result }
+        ensures stays { WritesIn S.Store self.old self.new result }
         ensures writes { MakesLedger S.Store self.old self.new result (OffersGroup number bounds) }
-        ensures counts { CountsIn S.Store self.old self.new result }
         ensures work { AddsIn 1 0 self.old self.new }
     {
         self.run(

@@ -7,7 +7,7 @@ ghost use Rattle.desk_records.specs.NumberRow.{IsLastNumberRow, IsNumberRow, bro
 ghost use Rattle.desk_store.specs.Counting.{AddsIn};
 ghost use Rattle.desk_store.specs.Rows.{BreaksRule};
 ghost use Rattle.desk_store.specs.Changing.{FindsLedger, MakesLedger, StaysIn};
-ghost use Rattle.desk_store.specs.Failing.{CountsIn, FailsIn};
+ghost use Rattle.desk_store.specs.Failing.{FailsIn, WritesIn};
 
 use crate::change::OpenChange;
 use crate::from_row::FromRow;
@@ -76,9 +76,8 @@ impl<'a, S: Alter> OpenChange<'a, S> {
         place: u32,
         it: &PlacedNumber,
     ) -> Result<(), Fault>
-        ensures stays { StaysIn S.Store self.old self.new result }
+        ensures stays { WritesIn S.Store self.old self.new result }
         ensures writes { MakesLedger S.Store self.old self.new result (AddsNumber action place it.now) }
-        ensures counts { CountsIn S.Store self.old self.new result }
         ensures work { AddsIn 1 0 self.old self.new }
     {
         self.run(

@@ -37,10 +37,7 @@ fn read_counted(alloc: Global, rows: &[Row]) -> Result<Vec<CountedAction>, Fault
         let Some(action) = read_counted_action(row) else {
             continue;
         };
-        match found.push(action) {
-            Ok(()) => {}
-            Err(_) => return Err(Fault::Memory),
-        }
+        found.push(action)?;
     }
     Ok(found)
 }

@@ -3,7 +3,7 @@
 ghost use Rattle.std.specs.Prelude.{◌≡◌, ◌<◌, ◌≤◌, ◌^◌, ◌⊎◌, IfErr, IfOk, None, length, slice_get};
 ghost use Rattle.desk_records.specs.Modules.{IsLastRow};
 ghost use Rattle.desk_records.specs.TargetRow.{IsAttributeRow, broken_attribute_column};
-ghost use Rattle.desk_store.specs.Rows.{AreReadAs, BreaksRule, HasBroken, HasNoApproval, HasNoNumber, IfStore, IsApproval, IsBroken, IsCount, IsReadAs};
+ghost use Rattle.desk_store.specs.Rows.{AreReadAs, BreaksRule, HasBroken, HasNoApproval, HasNoNumber, IfRowsBroken, IsApproval, IsBroken, IsCount, IsReadAs};
 ghost use Rattle.desk_store.specs.Faults.{as_store};
 
 use crate::from_row::FromRow;
@@ -16,7 +16,7 @@ use std::alloc::Global;
 /// The number in the row of the last number, and 0 where there is none.
 pub(crate) fn last_number(row: Option<Row>) -> Result<u32, Fault>
     ensures ok { IfOk result (λ n. IsLastRow n row) }
-    ensures err { IfErr result (λ fault. IfStore fault (HasNoNumber row)) }
+    ensures err { IfErr result (λ fault. IfRowsBroken fault (HasNoNumber row)) }
 {
     let Some(row) = row else {
         return Ok(0);
@@ -30,7 +30,7 @@ pub(crate) fn last_number(row: Option<Row>) -> Result<u32, Fault>
 /// What the row is read as, where there is one.
 pub(crate) fn read_optional<T: FromRow>(alloc: Global, row: Option<Row>) -> Result<Option<T>, Fault>
     ensures ok { IfOk result (λ found. IsReadAs T.is_row found row) }
-    ensures err { IfErr result (λ fault. IfStore fault (IsBroken T.is_broken row)) }
+    ensures err { IfErr result (λ fault. IfRowsBroken fault (IsBroken T.is_broken row)) }
 {
     let Some(row) = row else {
         return Ok(None);
@@ -46,7 +46,7 @@ pub(crate) fn read_at<T: FromRow>(
     at: usize,
 ) -> Result<Option<T>, Fault>
     ensures ok { IfOk result (λ found. IsReadAs T.is_row found (slice_get rows.now at)) }
-    ensures err { IfErr result (λ fault. IfStore fault (HasBroken T.is_broken rows.now)) }
+    ensures err { IfErr result (λ fault. IfRowsBroken fault (HasBroken T.is_broken rows.now)) }
 {
     let Some(row) = rows.get(at) else {
         return Ok(None);
@@ -58,15 +58,12 @@ pub(crate) fn read_at<T: FromRow>(
 /// What each row is read as, in order.
 pub(crate) fn read_all<T: FromRow>(alloc: Global, rows: &[Row]) -> Result<Vec<T>, Fault>
     ensures ok { IfOk result (λ found. AreReadAs T.is_row rows.now found.items) }
-    ensures err { IfErr result (λ fault. IfStore fault (HasBroken T.is_broken rows.now)) }
+    ensures err { IfErr result (λ fault. IfRowsBroken fault (HasBroken T.is_broken rows.now)) }
 {
     let mut found = Vec::new(alloc);
     for row in rows {
         let one = read_one::<T>(alloc, row)?;
-        match found.push(one) {
-            Ok(()) => {}
-            Err(_) => return Err(Fault::Memory),
-        }
+        found.push(one)?;
     }
     Ok(found)
 }
@@ -74,22 +71,19 @@ pub(crate) fn read_all<T: FromRow>(alloc: Global, rows: &[Row]) -> Result<Vec<T>
 /// The attributes in rows of key and value.
 pub(crate) fn read_attributes(alloc: Global, rows: &[Row]) -> Result<Attributes, Fault>
     ensures ok { IfOk result (AreReadAs IsAttributeRow rows.now) }
-    ensures err { IfErr result (λ fault. IfStore fault (HasBroken (λ row. BreaksRule (broken_attribute_column row)) rows.now)) }
+    ensures err { IfErr result (λ fault. IfRowsBroken fault (HasBroken (λ row. BreaksRule (broken_attribute_column row)) rows.now)) }
 {
     let mut attributes = Attributes::new(alloc);
     for row in rows {
         let attribute = read_one::<Attribute>(alloc, row)?;
-        match attributes.push(attribute) {
-            Ok(()) => {}
-            Err(_) => return Err(Fault::Memory),
-        }
+        attributes.push(attribute)?;
     }
     Ok(attributes)
 }
 
 fn read_one<T: FromRow>(alloc: Global, row: &Row) -> Result<T, Fault>
     ensures ok { IfOk result (T.is_row row.now) }
-    ensures err { IfErr result (λ fault. IfStore fault (T.is_broken row.now)) }
+    ensures err { IfErr result (λ fault. IfRowsBroken fault (T.is_broken row.now)) }
 {
     match T::from_row(alloc, row) {
         Ok(one) => Ok(one),
@@ -100,7 +94,7 @@ fn read_one<T: FromRow>(alloc: Global, row: &Row) -> Result<T, Fault>
 /// The number in the row of a count.
 pub(crate) fn counted_in(row: Option<Row>) -> Result<u32, Fault>
     ensures count { IfOk result (λ n. IsCount n row) }
-    ensures err { IfErr result (λ fault. IfStore fault ((row ≡ None) ⊎ HasNoNumber row)) }
+    ensures err { IfErr result (λ fault. IfRowsBroken fault ((row ≡ None) ⊎ HasNoNumber row)) }
     ensures small { IfOk result (λ n. n < 2 ^ 32) }
 {
     let Some(row) = row else {

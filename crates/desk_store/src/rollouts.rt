@@ -13,7 +13,7 @@ ghost use Rattle.desk_records.specs.Rollouts.{groups_of, is_called, members_of};
 ghost use Rattle.desk_records.specs.TargetRow.{has_word};
 ghost use Rattle.desk_store.specs.Counting.{AddsIn};
 ghost use Rattle.desk_store.specs.GroupPairs.{group_and_next};
-ghost use Rattle.desk_store.specs.Rows.{BreaksRule, HasBroken, IfStore, IsReadAs};
+ghost use Rattle.desk_store.specs.Rows.{BreaksRule, HasBroken, IfRowsBroken, IsReadAs};
 ghost use Rattle.desk_store.specs.Changing.{FindsLedger, KeepsTables, MakesLedger, StaysIn};
 ghost use Rattle.desk_store.specs.Failing.{CountsIn, FailsIn};
 
@@ -75,7 +75,7 @@ impl FromRow for ControllerId {
 /// The group in the first row, and the next one in the second.
 fn read_both(alloc: Global, rows: &[Row]) -> Result<GroupAndNext, Fault>
     ensures ok { IfOk result (λ both. IsReadAs IsGroupRow both.group (slice_get rows.now 0) × IsReadAs IsGroupRow both.next (slice_get rows.now 1)) }
-    ensures err { IfErr result (λ fault. IfStore fault (HasBroken (λ row. BreaksRule (broken_group_column row)) rows.now)) }
+    ensures err { IfErr result (λ fault. IfRowsBroken fault (HasBroken (λ row. BreaksRule (broken_group_column row)) rows.now)) }
 {
     let group = read_at(alloc, rows, 0)?;
     let next = read_at(alloc, rows, 1)?;

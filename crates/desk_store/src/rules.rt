@@ -7,7 +7,7 @@ ghost use Rattle.desk_records.specs.RuleRow.{IsRuleRow, broken_rule_column};
 ghost use Rattle.desk_store.specs.Counting.{AddsIn};
 ghost use Rattle.desk_store.specs.Rows.{BreaksRule};
 ghost use Rattle.desk_store.specs.Changing.{FindsLedger, MakesLedger, StaysIn};
-ghost use Rattle.desk_store.specs.Failing.{CountsIn, FailsIn};
+ghost use Rattle.desk_store.specs.Failing.{FailsIn, WritesIn};
 
 use crate::change::OpenChange;
 use crate::from_row::FromRow;
@@ -62,9 +62,8 @@ impl<'a, S: Alter> OpenChange<'a, S> {
         group: u32,
         rule: &GroupRule,
     ) -> Result<(), Fault>
-        ensures stays { StaysIn S.Store self.old self.new result }
+        ensures stays { WritesIn S.Store self.old self.new result }
         ensures writes { MakesLedger S.Store self.old self.new result (AddsRule number group rule.now) }
-        ensures counts { CountsIn S.Store self.old self.new result }
         ensures work { AddsIn 1 0 self.old self.new }
     {
         let percentage = percent_of(&rule.percentage);

@@ -10,7 +10,7 @@ ghost use Rattle.desk_records.specs.Sets.{is_same_set, with_set, AddsSetModule};
 ghost use Rattle.desk_records.specs.SetRow.{called};
 ghost use Rattle.desk_store.specs.Counting.{AddsIn};
 ghost use Rattle.desk_store.specs.Changing.{FindsIn, KeepsTables, MakesIn, StaysIn};
-ghost use Rattle.desk_store.specs.Failing.{CountsIn, FailsIn};
+ghost use Rattle.desk_store.specs.Failing.{FailsIn, WritesIn};
 
 use crate::change::OpenChange;
 use crate::reading::{last_number, read_all, read_optional};
@@ -82,10 +82,9 @@ impl<'a, S: Alter> OpenChange<'a, S> {
 
     /// Adds the set of the next number, with no modules yet.
     pub fn write_set(&mut self, number: SetNo, name: &Text, version: &Text) -> Result<(), Fault>
-        ensures stays { StaysIn S.Store self.old self.new result }
+        ensures stays { WritesIn S.Store self.old self.new result }
         ensures writes { MakesIn S.Store self.old self.new result
             (λ r next. (number ≡ length r.sets + 1) × (next ≡ with_set r name.now version.now)) }
-        ensures counts { CountsIn S.Store self.old self.new result }
         ensures work { AddsIn 1 0 self.old self.new }
     {
         self.run(
@@ -101,10 +100,9 @@ impl<'a, S: Alter> OpenChange<'a, S> {
         place: u32,
         added: ModuleNo,
     ) -> Result<(), Fault>
-        ensures stays { StaysIn S.Store self.old self.new result }
+        ensures stays { WritesIn S.Store self.old self.new result }
         ensures writes { MakesIn S.Store self.old self.new result
             (AddsSetModule number place added) }
-        ensures counts { CountsIn S.Store self.old self.new result }
         ensures work { AddsIn 1 0 self.old self.new }
     {
         self.run(PUT_SET_MODULE, params![number.get(), place, added.get()])

@@ -7,7 +7,7 @@ ghost use Rattle.desk_records.specs.TargetRow.{listed_target, stored_target};
 ghost use Rattle.desk_records.specs.Targets.{AddsTag, AddsTarget, renamed, untagged, with_changed};
 ghost use Rattle.desk_store.specs.Counting.{AddsIn};
 ghost use Rattle.desk_store.specs.Changing.{FindsIn, KeepsTables, MakesIn, StaysIn};
-ghost use Rattle.desk_store.specs.Failing.{CountsIn, FailsIn};
+ghost use Rattle.desk_store.specs.Failing.{FailsIn, WritesIn};
 
 use crate::change::OpenChange;
 use crate::reading::{counted_in, read_all, read_optional};
@@ -77,10 +77,9 @@ impl<'a, S: Alter> OpenChange<'a, S> {
         name: &Text,
         digest: &Digest,
     ) -> Result<(), Fault>
-        ensures stays { StaysIn S.Store self.old self.new result }
+        ensures stays { WritesIn S.Store self.old self.new result }
         ensures writes { MakesIn S.Store self.old self.new result
             (AddsTarget id.now name.now digest.now) }
-        ensures counts { CountsIn S.Store self.old self.new result }
         ensures work { AddsIn 1 0 self.old self.new }
     {
         self.run(
@@ -96,9 +95,8 @@ impl<'a, S: Alter> OpenChange<'a, S> {
         name: &Text,
         digest: &Digest,
     ) -> Result<(), Fault>
-        ensures stays { StaysIn S.Store self.old self.new result }
+        ensures stays { WritesIn S.Store self.old self.new result }
         ensures writes { MakesIn S.Store self.old self.new result (λ r next. next ≡ with_changed r id.now (renamed name.now digest.now)) }
-        ensures counts { CountsIn S.Store self.old self.new result }
         ensures work { AddsIn 1 0 self.old self.new }
     {
         self.run(
@@ -109,10 +107,9 @@ impl<'a, S: Alter> OpenChange<'a, S> {
 
     /// Gives a target that is there a tag that it hasn't.
     pub fn write_target_tag(&mut self, id: &ControllerId, tag: &Word) -> Result<(), Fault>
-        ensures stays { StaysIn S.Store self.old self.new result }
+        ensures stays { WritesIn S.Store self.old self.new result }
         ensures writes { MakesIn S.Store self.old self.new result
             (AddsTag id.now tag.now) }
-        ensures counts { CountsIn S.Store self.old self.new result }
         ensures work { AddsIn 1 0 self.old self.new }
     {
         self.run(PUT_TARGET_TAG, params![id.as_str(), tag.as_str()])
@@ -120,9 +117,8 @@ impl<'a, S: Alter> OpenChange<'a, S> {
 
     /// Takes a tag from the target of an id, where it has it.
     pub fn drop_target_tag(&mut self, id: &ControllerId, tag: &Word) -> Result<(), Fault>
-        ensures stays { StaysIn S.Store self.old self.new result }
+        ensures stays { WritesIn S.Store self.old self.new result }
         ensures writes { MakesIn S.Store self.old self.new result (λ r next. next ≡ with_changed r id.now (untagged tag.now)) }
-        ensures counts { CountsIn S.Store self.old self.new result }
         ensures work { AddsIn 1 0 self.old self.new }
     {
         self.run(DROP_TARGET_TAG, params![id.as_str(), tag.as_str()])

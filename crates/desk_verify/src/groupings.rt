@@ -48,10 +48,7 @@ fn read_rules<S: Alter>(
         let Some(rule) = change.find_rule(rollout.number, before + 1)? else {
             return Err(Fault::Broken);
         };
-        match rules.push(rule) {
-            Ok(()) => {}
-            Err(_) => return Err(Fault::Memory),
-        }
+        rules.push(rule)?;
     }
     Ok(rules)
 }

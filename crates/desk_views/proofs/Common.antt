@@ -76,7 +76,7 @@ pub use Rattle.desk_records.specs.declared.target_row.ListedTarget.{ListedTarget
 pub use Rattle.desk_store.proofs.LedgersOfRecords.{ledger_found}
 pub use Rattle.desk_store.specs.Changing.{FindsIn, StaysIn, seen_in}
 pub use Rattle.desk_store.specs.Readable.{IsReadable}
-pub use Rattle.desk_store.specs.Rows.{IfStore}
+pub use Rattle.desk_store.specs.Rows.{IfRowsBroken}
 pub use Rattle.desk_reads.proofs.ListLemmas.{group_within, groups_are, made}
 pub use Rattle.desk_reads.proofs.ListedTargets.{all_given, part_seen}
 pub use Rattle.desk_reads.proofs.RuleLemmas.{rule_is, rule_there, rules_there, said_of, same_number}

@@ -1,7 +1,7 @@
 -- Why a view of a list of accepted commands is no failed store by itself.
 use Rattle.desk_views.proofs.Common.{◌≡◌, ◌≤◌, ◌<◌, ℕ, zero, suc, true, List, [], ◌∷◌, length, slice_get, Some, None, Result, Ok, Err, IfErr, refl, sym, ap}
 use Rattle.desk_views.proofs.Common.{subst, arith, Broken, Memory, Store, number_limit, is_number, number_of, records, Records, HoldsLedger, Ledger, ledger_of}
-use Rattle.desk_views.proofs.Common.{seen_in, FindsIn, IsReadable, IfStore, IsOfList, AreOfList, item_numbered, Fault, IsOfListWith}
+use Rattle.desk_views.proofs.Common.{seen_in, FindsIn, IsReadable, IfRowsBroken, IsOfList, AreOfList, item_numbered, Fault, IsOfListWith}
 use Rattle.sqlite.specs.Store.{Ghosts}
 use Rattle.sql_calls.specs.Standing.{Sees, Wears}
 use Rattle.desk_records.proofs.NumberColumns.{is_in_range}
@@ -14,7 +14,7 @@ pub listed : {r : Records} → AreOfList r → IsOfList (ledger_of r)
 listed of = record { list = of.list; valid = of.valid; is = ap ledger_of of.are }
 
 -- where broken rows are always told so
-pub told : {Why : Type 0} → (fault : Fault) → (fault ≡ Broken) × Why → IfStore fault Why
+pub told : {Why : Type 0} → (fault : Fault) → (fault ≡ Broken) × Why → IfRowsBroken fault Why
 told Memory why = tt
 told Store why = absurd (let same = why.0 in cc)
 told Broken why = why.1
@@ -24,12 +24,12 @@ told Broken why = why.1
 module _ {S A : Type 0} {g : Ghosts S} {Given : Ledger → Type 0} (at : (l : Ledger) → Given l → IsOfList l) {old : OpenChange S} {x : A} {P : Records → A
     → Type 0} where
   -- what was read leaves no such fault
-  pub never_given : {B : Type 0} {Why : Type 0} {new : OpenChange S} → FindsIn g {E = Fault} old new (Ok x) P → (fault : Fault) → IfStore fault Why
+  pub never_given : {B : Type 0} {Why : Type 0} {new : OpenChange S} → FindsIn g {E = Fault} old new (Ok x) P → (fault : Fault) → IfRowsBroken fault Why
       → ((r : Records) → P r x → AreOfList r → Given (ledger_of r) → IsReadable (ledger_of r) → Why → ⊥)
       → (out : Result B Fault) → out ≡ Err fault → FailsGiven g Given old new out
   never_given {B} {Why} {new} read fault why reason out is = subst (λ (o : Result B Fault). FailsGiven g Given old new o) (sym is) (go fault why)
     where
-      go : (fault : Fault) → IfStore fault Why → FailsGiven g Given {A = B} old new (Err fault)
+      go : (fault : Fault) → IfRowsBroken fault Why → FailsGiven g Given {A = B} old new (Err fault)
       go Memory why = record { to = λ l sees given. record { reason = λ is clean. absurd cc } }
       go Store why = absurd why
       go Broken why = record {
@@ -64,7 +64,7 @@ module _ {S A : Type 0} {g : Ghosts S} {Given : Ledger → Type 0} (at : (l : Le
 -- ---- at lists
 
 module _ {S A : Type 0} {g : Ghosts S} {old : OpenChange S} {x : A} {P : Records → A → Type 0} where
-  pub never_fails : {B : Type 0} {Why : Type 0} {new : OpenChange S} → FindsIn g {E = Fault} old new (Ok x) P → (fault : Fault) → IfStore fault Why
+  pub never_fails : {B : Type 0} {Why : Type 0} {new : OpenChange S} → FindsIn g {E = Fault} old new (Ok x) P → (fault : Fault) → IfRowsBroken fault Why
       → ((r : Records) → P r x → AreOfList r → IsReadable (ledger_of r) → Why → ⊥)
       → (out : Result B Fault) → out ≡ Err fault → FailsGiven g IsOfList old new out
   never_fails read fault why reason = never_given (λ l of. of) read fault why (λ r is of given readable. reason r is of readable)
@@ -78,7 +78,7 @@ module _ {S A : Type 0} {g : Ghosts S} {old : OpenChange S} {x : A} {P : Records
 -- ---- .. whose records are as wanted
 
 module _ {S A : Type 0} {g : Ghosts S} {Want : Records → Type 0} {old : OpenChange S} {x : A} {P : Records → A → Type 0} where
-  pub never_with : {B : Type 0} {Why : Type 0} {new : OpenChange S} → FindsIn g {E = Fault} old new (Ok x) P → (fault : Fault) → IfStore fault Why
+  pub never_with : {B : Type 0} {Why : Type 0} {new : OpenChange S} → FindsIn g {E = Fault} old new (Ok x) P → (fault : Fault) → IfRowsBroken fault Why
       → ((r : Records) → P r x → AreOfList r → Want r → IsReadable (ledger_of r) → Why → ⊥)
       → (out : Result B Fault) → out ≡ Err fault → FailsGiven g (IsOfListWith Want) old new out
   never_with read fault why reason = never_given (λ l given. given.of_list) read fault why (λ r is of given readable. reason r is of given.wanted readable)

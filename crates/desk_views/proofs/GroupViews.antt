@@ -2,7 +2,7 @@
 use Rattle.desk_views.proofs.Common.{◌≡◌, ◌≤◌, ◌<◌, ◌^◌, ◌⊎◌, ◌-◌, get_or, Result, Err, IfErr, subst, ℕ, zero, suc, slice_get, arith, List, [], ◌∷◌, map}
 use Rattle.desk_views.proofs.Common.{length, take, drop, Option, Some, None, refl, sym, ap, ◌∙◌, drop-map, length-map, take-map, Fault, group_reply, if_found}
 use Rattle.desk_views.proofs.Common.{item_numbered, group_shown, groups_shown, page_of, PageOf, Refused, ShownGroup, Page, group_numbered, size_of_group}
-use Rattle.desk_views.proofs.Common.{GroupRecord, RolloutRecord, NotFound, GroupRule, rule_at, rules_of, rule_is, parts_of, Memory, Store, Broken, IfStore}
+use Rattle.desk_views.proofs.Common.{GroupRecord, RolloutRecord, NotFound, GroupRule, rule_at, rules_of, rule_is, parts_of, Memory, Store, Broken, IfRowsBroken}
 use Rattle.desk_views.proofs.Common.{HasUnshown}
 use Rattle.rollout_machine.specs.Replies.{Reply}
 use Rattle.std.proofs.lemmas.List.Elements.{Contains-get_or}
@@ -42,11 +42,12 @@ numbered_rule plan rules (suc k) rule are least found =
 -- a group that can't be shown, among all
 pub unshown_at : {A : Type 0} (rules : List GroupRule) (groups : List GroupRecord) (at : ℕ) (d : GroupRecord) → at < length groups
     → (item_numbered rules (get_or groups at d).number ≡ None) ⊎ (2 ^ 32 ≤ size_of_group (get_or groups at d))
-    → (fault : Fault) → fault ≡ Broken → (out : Result A Fault) → out ≡ Err fault → IfErr out (λ fault. IfStore fault (HasUnshown rules groups))
-unshown_at {A = A} rules groups at d within why fault broken out is = subst (λ (o : Result A Fault). IfErr o (λ fault. IfStore fault (HasUnshown rules groups)))
+    → (fault : Fault) → fault ≡ Broken → (out : Result A Fault) → out ≡ Err fault → IfErr out (λ fault. IfRowsBroken fault (HasUnshown rules groups))
+unshown_at {A = A} rules groups at d within why fault broken out is =
+    subst (λ (o : Result A Fault). IfErr o (λ fault. IfRowsBroken fault (HasUnshown rules groups)))
     (sym is) (go fault broken)
   where
-    go : (fault : Fault) → fault ≡ Broken → IfStore fault (HasUnshown rules groups)
+    go : (fault : Fault) → fault ≡ Broken → IfRowsBroken fault (HasUnshown rules groups)
     go Memory same = tt
     go Store same = absurd cc
     go Broken same = record { group = get_or groups at d; among = has_contained groups _ (Contains-get_or groups at d within); unshown = why }

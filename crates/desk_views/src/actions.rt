@@ -13,7 +13,7 @@ ghost use Rattle.desk_views.specs.Actions.{entry_by, listed_shown, number_at, re
 ghost use Rattle.desk_reads.specs.AtLists.{FailsAtListsIn, FindsAtListsIn};
 ghost use Rattle.desk_views.specs.Showing.{ShowsIn};
 ghost use Rattle.sql_calls.specs.declared.fault.Fault.TheVariants.{Broken, Memory};
-ghost use Rattle.desk_store.specs.Rows.{IfStore};
+ghost use Rattle.desk_store.specs.Rows.{IfRowsBroken};
 ghost use Rattle.desk_store.specs.Changing.{FindsIn, StaysIn};
 
 use crate::pages::part_on;
@@ -158,7 +158,7 @@ fn numbered_after(
     numbers: &[PlacedNumber],
 ) -> Result<Vec<NumberedEntry>, Fault>
     ensures ok { IfOk result (λ all. all.items ≡ numbered (entry_by numbers.now) (before + 1) entries.items) }
-    ensures err { IfErr result (λ fault. IfStore fault (2 ^ 32 ≤ before + length entries.items)) }
+    ensures err { IfErr result (λ fault. IfRowsBroken fault (2 ^ 32 ≤ before + length entries.items)) }
 {
     let mut all = Vec::new(alloc);
     let mut last = before;
@@ -172,10 +172,7 @@ fn numbered_after(
             number: place,
             reported,
         };
-        match all.push(shown) {
-            Ok(()) => {}
-            Err(_) => return Err(Fault::Memory),
-        }
+        all.push(shown)?;
         last = place;
     }
     Ok(all)
@@ -233,10 +230,7 @@ fn read_all_shown<S: Alter>(
     let mut all = Vec::new(alloc);
     for one in listed {
         let shown = read_shown(change, one)?;
-        match all.push(shown) {
-            Ok(()) => {}
-            Err(_) => return Err(Fault::Memory),
-        }
+        all.push(shown)?;
     }
     Ok(all)
 }
@@ -253,10 +247,7 @@ fn all_shown_among(
     let mut all = Vec::new(alloc);
     for one in listed {
         let group = group_holding(groups, one.action.position);
-        match all.push(shown_in(*one, group.copied())) {
-            Ok(()) => {}
-            Err(_) => return Err(Fault::Memory),
-        }
+        all.push(shown_in(*one, group.copied()))?;
     }
     Ok(all)
 }

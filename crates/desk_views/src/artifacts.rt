@@ -13,7 +13,7 @@ ghost use Rattle.desk_views.specs.Failing.{FailsWith};
 ghost use Rattle.rollout_model.specs.Limits.{artifact_size_limit, piece_length};
 ghost use Rattle.rollout_model.specs.Rules.{is_contents};
 ghost use Rattle.sql_calls.specs.declared.fault.Fault.TheVariants.{Broken, Memory};
-ghost use Rattle.desk_store.specs.Rows.{IfStore};
+ghost use Rattle.desk_store.specs.Rows.{IfRowsBroken};
 ghost use Rattle.desk_views.specs.Sizes.{AgreesIn, IsOfNumber, KeepsSize};
 ghost use Rattle.desk_store.specs.Changing.{FindsIn, StaysIn};
 
@@ -102,17 +102,15 @@ pub(crate) fn read_contents<S: Alter>(
 fn part_of(alloc: Global, all: &[Artifact], page: Page) -> Result<PageOf<Artifact>, Fault>
     ensures content { IfOk result (λ part. part.content.items ≡ take page.limit (drop page.offset all.now)) }
     ensures total { IfOk result (λ part. part.total ≡ length all.now) }
-    ensures err { IfErr result (λ fault. IfStore fault (2 ^ 32 ≤ length all.now)) }
+    ensures err { IfErr result (λ fault. IfRowsBroken fault (2 ^ 32 ≤ length all.now)) }
 {
     let Ok(total) = u32::try_from(all.len()) else {
         return Err(Fault::Broken);
     };
     let after = &all[all.len().min(page.offset as usize)..];
     let part = &after[..after.len().min(page.limit as usize)];
-    match Vec::from_slice(alloc, part) {
-        Ok(content) => Ok(PageOf { content, total }),
-        Err(_) => Err(Fault::Memory),
-    }
+    let content = Vec::from_slice(alloc, part)?;
+    Ok(PageOf { content, total })
 }
 
 /// What is kept of the artifact of a number, where it is one of the module's.
@@ -188,10 +186,7 @@ fn append(bytes: &mut Vec<u8>, piece: &[u8]) -> Result<(), Fault>
     ensures ok { IfOk result (λ _. bytes.new.items ≡ bytes.old.items ++ piece.now) }
     ensures err { IfErr result (λ fault. fault ≡ Memory) }
 {
-    match bytes.extend_from_slice(piece) {
-        Ok(()) => Ok(()),
-        Err(_) => Err(Fault::Memory),
-    }
+    Ok(bytes.extend_from_slice(piece)?)
 }
 
 /// The contents of these bytes, where there are as many as the artifact says.

@@ -116,10 +116,7 @@ fn push(chunks: &mut Vec<Chunk>, chunk: Chunk) -> Result<(), Fault>
     ensures ok { IfOk result (λ _. chunks.new.items ≡ chunks.old.items ++ chunk ∷ []) }
     ensures err { IfErr result (λ fault. fault ≡ Memory) }
 {
-    match chunks.push(chunk) {
-        Ok(()) => Ok(()),
-        Err(_) => Err(Fault::Memory),
-    }
+    Ok(chunks.push(chunk)?)
 }
 
 /// The modules that an action installs, in the order of its set.

@@ -14,7 +14,7 @@ ghost use Rattle.rollout_machine.specs.declared.records.RolloutRecord.{RolloutRe
 ghost use Rattle.desk_reads.specs.AtLists.{FailsAtListsIn};
 ghost use Rattle.desk_reads.specs.Rollouts.{IsSeenOf};
 ghost use Rattle.sql_calls.specs.declared.fault.Fault.TheVariants.{Broken, Memory};
-ghost use Rattle.desk_store.specs.Rows.{IfStore};
+ghost use Rattle.desk_store.specs.Rows.{IfRowsBroken};
 ghost use Rattle.desk_views.specs.Failing.{FailsWith};
 ghost use Rattle.desk_views.specs.Groups.{HasUnshown, IsGroupOf};
 ghost use Rattle.desk_views.specs.Showing.{ShowsIn};
@@ -168,10 +168,7 @@ fn push(content: &mut Vec<ShownTarget>, shown: ShownTarget) -> Result<(), Fault>
     ensures ok { IfOk result (λ _. content.new.items ≡ content.old.items ++ shown ∷ []) }
     ensures err { IfErr result (λ fault. fault ≡ Memory) }
 {
-    match content.push(shown) {
-        Ok(()) => Ok(()),
-        Err(_) => Err(Fault::Memory),
-    }
+    Ok(content.push(shown)?)
 }
 
 /// How many members a group has. Where they are more than are counted, the store has failed.
@@ -193,7 +190,7 @@ fn page_shown(
 ) -> Result<PageOf<Group>, Fault>
     ensures ok { IfOk result (λ shown. (x : RolloutRecord) → IsSeenOf seen.now x → rules.now ≡ rules_of x.plan
         → listed shown ≡ page_of page (map (group_shown x) x.groups)) }
-    ensures err { IfErr result (λ fault. IfStore fault ((2 ^ 32 ≤ length seen.now.groups.items) ⊎ HasUnshown rules.now
+    ensures err { IfErr result (λ fault. IfRowsBroken fault ((2 ^ 32 ≤ length seen.now.groups.items) ⊎ HasUnshown rules.now
         (take page.limit (drop page.offset seen.now.groups.items)))) }
 {
     let Ok(total) = u32::try_from(seen.groups.len()) else {
@@ -212,16 +209,13 @@ pub(crate) fn all_shown(
 ) -> Result<Vec<Group>, Fault>
     ensures ok { IfOk result (λ shown. (x : RolloutRecord) → IsSeenOf seen.now x → rules.now ≡ rules_of x.plan
         → shown.items ≡ map (group_shown x) groups.now) }
-    ensures err { IfErr result (λ fault. IfStore fault (HasUnshown rules.now groups.now)) }
+    ensures err { IfErr result (λ fault. IfRowsBroken fault (HasUnshown rules.now groups.now)) }
 {
     let mut all = Vec::new(alloc);
     for group in groups {
         let rule = rule_of(rules, group.number)?;
         let shown = shown_in(seen, rule, group)?;
-        match all.push(shown) {
-            Ok(()) => {}
-            Err(_) => return Err(Fault::Memory),
-        }
+        all.push(shown)?;
     }
     Ok(all)
 }

@@ -62,10 +62,7 @@ fn read_page<S: Alter>(
     let mut content = Vec::new(alloc);
     for place in 0..count_on(page, total) {
         let shown = read_entry(change, page.offset + place + 1)?;
-        match content.push(shown) {
-            Ok(()) => {}
-            Err(_) => return Err(Fault::Memory),
-        }
+        content.push(shown)?;
     }
     Ok(content)
 }

@@ -8,7 +8,7 @@ ghost use Rattle.rollout_machine.specs.Views.{report};
 ghost use Rattle.rollout_machine.specs.declared.records.RolloutRecord.{RolloutRecord};
 ghost use Rattle.desk_reads.specs.AtLists.{FailsAtListsIn};
 ghost use Rattle.desk_reads.specs.Rollouts.{IsSeenOf};
-ghost use Rattle.desk_store.specs.Rows.{IfStore};
+ghost use Rattle.desk_store.specs.Rows.{IfRowsBroken};
 ghost use Rattle.desk_views.specs.Groups.{HasUnshown};
 ghost use Rattle.desk_views.specs.Showing.{ShowsIn};
 ghost use Rattle.desk_store.specs.Changing.{StaysIn};
@@ -43,7 +43,7 @@ pub fn show_report<S: Alter>(
 /// The report of a rollout, by the rules of all its groups.
 fn report_of(alloc: Global, seen: SeenRollout, rules: &[GroupRule]) -> Result<RolloutReport, Fault>
     ensures ok { IfOk result (λ whole. (x : RolloutRecord) → IsSeenOf seen x → rules.now ≡ rules_of x.plan → report whole ≡ report_of x) }
-    ensures err { IfErr result (λ fault. IfStore fault (HasUnshown rules.now seen.groups.items)) }
+    ensures err { IfErr result (λ fault. IfRowsBroken fault (HasUnshown rules.now seen.groups.items)) }
 {
     let groups = all_shown(alloc, &seen, rules, &seen.groups)?;
     let rollout = shown(seen);

@@ -78,10 +78,7 @@ fn read_entries<S: Alter>(
     for entry in entries {
         let target = read_listed(change, entry)?;
         let shown = with_word(change, target)?;
-        match content.push(shown) {
-            Ok(()) => {}
-            Err(_) => return Err(Fault::Memory),
-        }
+        content.push(shown)?;
     }
     Ok(content)
 }
@@ -229,8 +226,5 @@ fn push(content: &mut Vec<ShownTarget>, entry: ShownTarget) -> Result<(), Fault>
     ensures ok { IfOk result (λ _. content.new.items ≡ content.old.items ++ entry ∷ []) }
     ensures err { IfErr result (λ fault. fault ≡ Memory) }
 {
-    match content.push(entry) {
-        Ok(()) => Ok(()),
-        Err(_) => Err(Fault::Memory),
-    }
+    Ok(content.push(entry)?)
 }

@@ -2,13 +2,15 @@
 
 ghost use Rattle.std.specs.Prelude.{◌≡◌, ◌≢◌};
 ghost use Rattle.sql_calls.specs.Faults.{broken_named, fault_named};
+ghost use Rattle.sql_calls.specs.declared.fault.Fault.TheVariants.{Memory};
 
 use sqlite::{Error, ErrorCode};
+use std::alloc::{AllocError, AllocFailed};
 
 /// Why a statement failed.
 #[derive(Clone, Copy)]
 pub enum Fault {
-    /// `sqlite` was out of memory.
+    /// Memory was refused, to `sqlite` or to who reads its rows.
     Memory,
     /// Anything else that `sqlite` answered. It is counted as a failure.
     Store,
@@ -34,5 +36,21 @@ pub fn broken_of(error: Error) -> Fault
     match error {
         Error::SqliteFailure(ErrorCode::OutOfMemory) => Fault::Memory,
         _ => Fault::Broken,
+    }
+}
+
+impl From<AllocError> for Fault {
+    ghost from_gives = { λ _ e. e ≡ Memory };
+
+    fn from(_refused: AllocError) -> Fault {
+        Fault::Memory
+    }
+}
+
+impl<T: Drop> From<AllocFailed<T>> for Fault {
+    ghost from_gives = { λ _ e. e ≡ Memory };
+
+    fn from(_refused: AllocFailed<T>) -> Fault {
+        Fault::Memory
     }
 }

@@ -4,14 +4,12 @@ use Rattle.desk_commands.proofs.attributes.give_attributes.Goals as goal
 pub loop-i-init : goal.loop-i-init
 loop-i-init g c = record {
   stays = search rules;
-  counts = search rules;
   writes = makes_nothing (no_attributes c.args.id.now c.args.had.now);
 }
 
 pub loop-i-preserved : goal.loop-i-preserved
 loop-i-preserved g c = record {
   stays = search rules;
-  counts = search rules;
   writes = makes_then c.loop-i.invariant.writes
       (λ r next h. more_attributes c.args.id.now c.args.had.now (take c.loop-i.i c.args.given.now) c.index-given-i.result r next
       (subst (λ l. GivesAttributes c.args.id.now c.args.had.now l r next)

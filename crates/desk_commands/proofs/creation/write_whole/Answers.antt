@@ -5,7 +5,6 @@ use Rattle.desk_commands.proofs.creation.write_whole.Goals as goal
 pub loop-i-init : goal.loop-i-init
 loop-i-init g c = record {
   stays = search rules;
-  counts = search rules;
   writes = makes_as (begins c.args.created.now c.args.plan.now (length c.args.members.now)) _ c.in_ok-write_rollout.ensures.writes;
 }
 
@@ -18,7 +17,6 @@ loop-i-preserved g c =
     let size = length c.args.members.now in
     record {
       stays = search rules;
-      counts = search rules;
       writes = makes_then
           (makes_then c.loop-i.invariant.writes
           (one_group c.args.created.now c.args.plan.now size c.args.cuts.now c.requires.cut c.loop-i.i _
@@ -34,7 +32,6 @@ loop-i-2-init g c =
     let all : c.loop-i.i ≡ plan.groups.count = omega (arith, c.loop-i-test.false, c.loop-i.auto.i-end, c.get-groups.ensures.value, c.count.ensures.value) in
     record {
       stays = search rules;
-      counts = search rules;
       writes = makes_as (λ l next h. subst (λ k. CreatesRollout (in_part c.args.created.now plan size k []) (first_rules plan k) l next) (sym all) h) _
           c.loop-i.invariant.writes;
     }
@@ -45,7 +42,6 @@ loop-i-2-preserved g c =
     let members = c.args.members.now in
     record {
       stays = search rules;
-      counts = search rules;
       writes = makes_then c.loop-i-2.invariant.writes
           (one_member c.args.created.now plan (length members) plan.groups.count (first_rules plan plan.groups.count) members c.index-members-i.result
           c.loop-i-2.i c.loop-i-2-test.true c.index-members-i.is) _ c.in_ok-write_member.ensures.writes;

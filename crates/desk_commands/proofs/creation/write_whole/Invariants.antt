@@ -1,11 +1,10 @@
-use Rattle.desk_commands.proofs.Answering.{[], Ok, take, length, Fault, MakesLedger, StaysIn, rules_of, CreatesRollout, first_rules, in_part, CountsIn}
+use Rattle.desk_commands.proofs.Answering.{[], Ok, take, length, Fault, MakesLedger, rules_of, CreatesRollout, first_rules, in_part, WritesIn}
 use Rattle.desk_commands.proofs.creation.write_whole.Given as goal
 
 -- so many groups are written, with what is said of them
 abbrev pub invariant-loop-i : goal.invariant-loop-i
 invariant-loop-i g l = record {
-  stays : StaysIn g.S.Store l.fn.change l.change (Ok (tt {0}));
-  counts : CountsIn g.S.Store l.fn.change l.change (Ok (tt {0}));
+  stays : WritesIn g.S.Store l.fn.change l.change (Ok (tt {0}));
   writes : MakesLedger g.S.Store {A = Unit {0}} {E = Fault} l.fn.change l.change (Ok tt)
       (CreatesRollout (in_part l.created l.plan (length l.members) l.i []) (first_rules l.plan l.i));
 }
@@ -13,8 +12,7 @@ invariant-loop-i g l = record {
 -- all groups are written, and the members before this index
 abbrev pub invariant-loop-i-2 : goal.invariant-loop-i-2
 invariant-loop-i-2 g l = record {
-  stays : StaysIn g.S.Store l.fn.change l.change (Ok (tt {0}));
-  counts : CountsIn g.S.Store l.fn.change l.change (Ok (tt {0}));
+  stays : WritesIn g.S.Store l.fn.change l.change (Ok (tt {0}));
   writes : MakesLedger g.S.Store {A = Unit {0}} {E = Fault} l.fn.change l.change (Ok tt)
       (CreatesRollout (in_part l.created l.plan (length l.members) l.plan.groups.count (take l.i l.members)) (rules_of l.plan));
 }

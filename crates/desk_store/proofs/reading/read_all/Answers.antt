@@ -2,7 +2,7 @@ use Rattle.desk_store.proofs.Answering.{Err, ap, ◌∙◌, err_from_is_err_and,
 use Rattle.desk_store.proofs.reading.read_all.Goals as goal
 
 pub loop-row-preserved : goal.loop-row-preserved
-loop-row-preserved g c = rw c.in-Ok.ensures.items
+loop-row-preserved g c = rw c.in_ok-push.ensures.items
     (read_more g.T.FromRow.is_row c.args.rows.now c.loop-row.found.items c.loop-row.row-index _ _ c.loop-row-test.true c.row-item.is c.loop-row.invariant
     c.in_ok-one.ensures.ok)
 

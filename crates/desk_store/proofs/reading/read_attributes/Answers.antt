@@ -2,7 +2,7 @@ use Rattle.desk_store.proofs.Answering.{Err, ap, ◌∙◌, err_from_is_err_and,
 use Rattle.desk_store.proofs.reading.read_attributes.Goals as goal
 
 pub loop-row-preserved : goal.loop-row-preserved
-loop-row-preserved c = rw c.in-Ok.ensures.ok
+loop-row-preserved c = rw c.in_ok-push.ensures.ok
     (read_more IsAttributeRow c.args.rows.now c.loop-row.attributes c.loop-row.row-index _ _ c.loop-row-test.true c.row-item.is c.loop-row.invariant
     c.in_ok-attribute.ensures.ok)
 

@@ -18,8 +18,8 @@ loop-before-preserved g c =
       stays = search rules;
       blames = search rules;
       reads = finds_as (both_found c.loop-before.invariant.reads (rw c.in-Some.is at c.in_ok-rule.ensures.reads))
-          (λ t is. subst (HaveOnlyRules t c.args.rollout.now.number) (sym c.in-Ok.ensures.items)
+          (λ t is. subst (HaveOnlyRules t c.args.rollout.now.number) (sym c.in_ok-push.ensures.items)
           (one_rule_more (HasOnlyRule t c.args.rollout.now.number) 1 c.loop-before.rules.items c.in-Some.rule is.0
           (subst (λ i. HasOnlyRule t c.args.rollout.now.number i c.in-Some.rule) next is.1)));
-      count = omega (arith, ap length c.in-Ok.ensures.items, length-append c.loop-before.rules.items (c.in-Some.rule ∷ []), c.loop-before.invariant.count);
+      count = omega (arith, ap length c.in_ok-push.ensures.items, length-append c.loop-before.rules.items (c.in-Some.rule ∷ []), c.loop-before.invariant.count);
     }

@@ -1,4 +1,4 @@
-use Rattle.desk_views.proofs.Answering.{◌+◌, sym, ap, ◌∙◌, arith, ◌++◌, ◌∷◌, [], length-append, is_ok, numbered, entry_by, all_given, numbered_more}
+use Rattle.desk_views.proofs.Answering.{◌+◌, sym, ap, ◌∙◌, arith, ◌++◌, ◌∷◌, [], length-append, numbered, entry_by, all_given, numbered_more}
 use Rattle.desk_views.proofs.actions.numbered_after.Goals as goal
 
 pub loop-entry-preserved : goal.loop-entry-preserved
@@ -7,7 +7,7 @@ loop-entry-preserved c =
     record {
       last = let more = length-append c.loop-entry.yielded (c.in-Some.entry ∷ []) in
           omega (arith, more, c.loop-entry.invariant.last, c.in-Some-checked_add.ensures);
-      all = (rw (c.number_at-number.ensures, ap is_ok c.in-Ok.is) at c.push.ensures.items)
+      all = (rw c.number_at-number.ensures at c.in_ok-push.ensures.items)
           ∙ (λ i. c.loop-entry.invariant.all i ++ shown c.in-Some-checked_add.place c.in-Some.entry ∷ [])
           ∙ sym (numbered_more shown (c.args.before + 1) c.in-Some-checked_add.place c.loop-entry.yielded c.in-Some.entry
           (omega (arith, c.loop-entry.invariant.last)));

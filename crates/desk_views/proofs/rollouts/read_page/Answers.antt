@@ -1,4 +1,4 @@
-use Rattle.desk_views.proofs.Answering.{◌≡◌, length, Err, sym, ap, ◌∙◌, arith, rules, err_from_is_err_and, is_ok, both_found, finds_as, rollouts_shown}
+use Rattle.desk_views.proofs.Answering.{◌≡◌, length, Err, sym, ap, ◌∙◌, arith, rules, err_from_is_err_and, both_found, finds_as, rollouts_shown}
 use Rattle.desk_views.proofs.Answering.{with_when, page_ends, page_grows, shown_count}
 use Rattle.desk_views.proofs.FailingViews.{listed}
 use Rattle.desk_views.proofs.rollouts.read_page.Goals as goal
@@ -9,7 +9,7 @@ loop-place-preserved g c = record {
   fails = search rules;
   reads = finds_as (both_found c.loop-place.invariant.reads c.in_ok-entry.ensures.reads)
       (λ r is of. page_grows (rollouts_shown r.rollouts) _ _ c.args.page.offset c.loop-place.place _ _ (is.0 of) (is.1 of) (omega arith)
-      (rw (ap is_ok c.in-Ok.is) at c.push.ensures.items));
+      c.in_ok-push.ensures.items);
 }
 
 pub returns-clause-reads : goal.returns-clause-reads
