@@ -1,89 +1,19 @@
 -- The ledger behind a row of a put, and between its name and its tags, can be read.
 use Rattle.sqlite.specs.State.{State}
-use Rattle.desk_commands.proofs.Common.{◌≡◌, ◌≤◌, ◌<◌, ◌^◌, ◌&&◌, ℕ, zero, suc, pos, Bool, true, false, cond, inl, inr, List, [], ◌∷◌, take, get_or, length}
-use Rattle.desk_commands.proofs.Common.{Option, Some, None, Result, Err, refl, sym, ap, ◌∙◌, subst, arith, true≢false, length-map, list_all, and_parts}
-use Rattle.desk_commands.proofs.Common.{HasCleanDisk, HoldsLedger, ledger_of, IsHeld, Sees, Wears, Fault, Refusal, CommandList, ◌▸◌, IsValid, Records, records}
-use Rattle.desk_commands.proofs.Common.{records_step, step_records, put_targets, change_target, Bytes, Attribute, TargetRow, PutTargets, Target, check}
-use Rattle.desk_commands.proofs.Common.{same_bytes, renamed, with_changed, attribute_rows, tag_rows, target_row, Has, is_digest, is_tag_list, is_text}
-use Rattle.desk_commands.proofs.Common.{is_value, is_word, limits_hold, broken_attribute_column, broken_listed_column, broken_target_column, BreaksColumn}
-use Rattle.desk_commands.proofs.Common.{IsReadable, second_shown, third_shown, seen_in, OpenChange, Ghosts, FailsWriting, TakesRow, TakesRows, has_flat}
+use Rattle.desk_commands.proofs.Common.{◌≡◌, ◌≤◌, ◌<◌, ◌&&◌, ℕ, zero, suc, Bool, true, false, cond, List, [], ◌∷◌, take, get_or, length}
+use Rattle.desk_commands.proofs.Common.{Option, None, Result, Err, refl, sym, ap, ◌∙◌, subst, arith, length-map, list_all, and_parts}
+use Rattle.desk_commands.proofs.Common.{HasCleanDisk, HoldsLedger, ledger_of, Sees, Wears, Fault, Refusal, CommandList, ◌▸◌, IsValid, Records, records}
+use Rattle.desk_commands.proofs.Common.{records_step, step_records, put_targets, change_target, TargetRow, PutTargets, Target, check}
+use Rattle.desk_commands.proofs.Common.{same_bytes, renamed, with_changed, Has, is_digest, is_tag_list, is_text}
+use Rattle.desk_commands.proofs.Common.{is_word, limits_hold}
+use Rattle.desk_commands.proofs.Common.{IsReadable, seen_in, OpenChange, Ghosts, FailsWriting, TakesRow, TakesRows}
 use Rattle.desk_commands.proofs.Common.{kept_to}
-use Rattle.sqlite_value.specs.Order.{Row}
-use Rattle.sqlite_value.specs.declared.value.Value.TheVariants.{Int, Text}
-use Rattle.sqlite_rules.proofs.ListLemmas.{test_has}
-use Rattle.sql_calls.proofs.Counts.{length_held}
-use Rattle.rollout_model.specs.Pairs.{is_attribute}
 use Rattle.rollout_model.specs.Rows.{is_target_row}
-use Rattle.desk_records.specs.RowFaults.{BreaksRule}
-use Rattle.desk_records.specs.Schema.{Actions, Artifacts, Desk, Feedbacks, Groups, Members, Modules, Numbers, Offers, Pieces, Place, Rollouts, Rules}
-use Rattle.desk_records.specs.Schema.{SetModules, Sets, TargetAttributes, TargetTags, Targets}
-use Rattle.desk_records.specs.declared.module_row.Column.{Column}
-use Rattle.desk_records.proofs.HeldTables.{wanted_of}
 use Rattle.desk_records.proofs.Membership.{has_mapped}
-use Rattle.desk_reads.proofs.TargetRules.{KeepsTarget, targets_keep}
+use Rattle.desk_store.proofs.ReadableTargets.{KeepsTarget, readable_with}
+use Rattle.desk_reads.proofs.TargetRules.{targets_keep}
 use Rattle.desk_commands.proofs.FailureLemmas.{Exits}
 use Rattle.desk_commands.proofs.PutLemmas.{PutsSoFar, few_left, within_quota}
-
--- ---- other targets
-
-unbroken : (column : Option Column) → column ≡ None → BreaksRule column → ⊥
-unbroken column none broken = let told : None ≡ Some broken.first = sym none ∙ broken.is in absurd cc
-
-module _ (r : Records) (w : IsReadable (ledger_of r)) (ts : List Target) (keep : (x : Target) → Has ts x → KeepsTarget x) (few : length ts < 2 ^ 32) where
-  of_target : (n : ℕ) (x : Target) → KeepsTarget x → BreaksColumn Targets (Int (pos n) ∷ target_row x) → ⊥
-  of_target n x keeps (inl broken) =
-      unbroken _ (let is : broken_target_column (third_shown (Int (pos n) ∷ target_row x)) ≡ None = rw (keeps.name, keeps.digest) refl in is) broken
-  of_target n x keeps (inr broken) =
-      unbroken _ (let is : broken_listed_column (second_shown (Int (pos n) ∷ target_row x)) ≡ None = rw (keeps.id, keeps.name) refl in is) broken
-
-  of_tag : (n : ℕ) (x : Target) (tag : Bytes) → KeepsTarget x → Has x.tags tag → BreaksColumn TargetTags (Int (pos n) ∷ Text x.id ∷ Text tag ∷ []) → ⊥
-  of_tag n x tag keeps its broken = true≢false (sym (test_has is_word x.tags tag keeps.tags its) ∙ broken)
-
-  of_attribute : (n : ℕ) (x : Target) (a : Attribute) → KeepsTarget x → Has x.attributes a
-      → BreaksColumn TargetAttributes (Int (pos n) ∷ Text x.id ∷ Text a.key ∷ Text a.value ∷ []) → ⊥
-  of_attribute n x a keeps its broken =
-      let parts = and_parts (is_word a.key) (is_value a.value) (test_has is_attribute x.attributes a keeps.attributes its) in
-      unbroken _ (let is : broken_attribute_column (third_shown (Int (pos n) ∷ Text x.id ∷ Text a.key ∷ Text a.value ∷ [])) ≡ None =
-      rw (parts.0, parts.1) refl in is) broken
-
-  keeps : (p : Place) (rows : List Row) → IsHeld (ledger_of (record r { targets = ts })) p rows → (row : Row) → Has rows row → BreaksColumn p row → ⊥
-  keeps Targets rows held row among broken =
-      let content = wanted_of rows _ row held among in
-      let source = has_mapped target_row ts content.1 content.2 in
-      of_target content.0 source.0 (keep source.0 source.1)
-      (subst (BreaksColumn Targets) (content.3 ∙ ap (λ (z : Row). Int (pos content.0) ∷ z) source.2) broken)
-  keeps TargetTags rows held row among broken =
-      let content = wanted_of rows _ row held among in
-      let its = has_flat tag_rows ts content.1 content.2 in
-      let source = has_mapped (λ (tag : Bytes). Text its.0.id ∷ Text tag ∷ []) its.0.tags content.1 its.2 in
-      of_tag content.0 its.0 source.0 (keep its.0 its.1) source.1
-      (subst (BreaksColumn TargetTags) (content.3 ∙ ap (λ (z : Row). Int (pos content.0) ∷ z) source.2) broken)
-  keeps TargetAttributes rows held row among broken =
-      let content = wanted_of rows _ row held among in
-      let its = has_flat attribute_rows ts content.1 content.2 in
-      let source = has_mapped (λ (a : Attribute). Text its.0.id ∷ Text a.key ∷ Text a.value ∷ []) its.0.attributes content.1 its.2 in
-      of_attribute content.0 its.0 source.0 (keep its.0 its.1) source.1
-      (subst (BreaksColumn TargetAttributes) (content.3 ∙ ap (λ (z : Row). Int (pos content.0) ∷ z) source.2) broken)
-  keeps Desk rows held row among broken = w.keep Desk rows held row among broken
-  keeps Modules rows held row among broken = w.keep Modules rows held row among broken
-  keeps Sets rows held row among broken = w.keep Sets rows held row among broken
-  keeps SetModules rows held row among broken = w.keep SetModules rows held row among broken
-  keeps Artifacts rows held row among broken = w.keep Artifacts rows held row among broken
-  keeps Pieces rows held row among broken = w.keep Pieces rows held row among broken
-  keeps Rollouts rows held row among broken = w.keep Rollouts rows held row among broken
-  keeps Members rows held row among broken = w.keep Members rows held row among broken
-  keeps Groups rows held row among broken = w.keep Groups rows held row among broken
-  keeps Actions rows held row among broken = w.keep Actions rows held row among broken
-  keeps Feedbacks rows held row among broken = w.keep Feedbacks rows held row among broken
-  keeps Offers rows held row among broken = w.keep Offers rows held row among broken
-  keeps Rules rows held row among broken = w.keep Rules rows held row among broken
-  keeps Numbers rows held row among broken = w.keep Numbers rows held row among broken
-
-  pub readable_with : IsReadable (ledger_of (record r { targets = ts }))
-  readable_with = record {
-    keep = keeps;
-    few = λ rows held. (let size = length_held rows _ held in let mapped = length-map ts target_row in omega (arith, size, mapped, few));
-  }
 
 -- ---- between two rows
 

@@ -12,6 +12,7 @@ use Rattle.rollout_machine.proofs.TargetMeanings.{targets_are_named}
 use Rattle.rollout_machine.specs.Records.{records}
 use Rattle.rollout_model.specs.Limits.{attribute_limit, tag_limit}
 use Rattle.rollout_model.specs.Pairs.{is_attribute}
+use Rattle.desk_store.proofs.ReadableTargets.{KeepsTarget}
 use Rattle.desk_reads.proofs.ListMembers.{target_words}
 
 -- ---- words in byte order
@@ -241,13 +242,6 @@ attributes_keep (h ▸ PutAttributes device new) valid t = go (same_bytes t devi
     go true all = all_attributes_with new (attributes_in t h) good all
     go false all = all
 attributes_keep (h ▸ _) valid t = attributes_keep h valid.0 t
-
-pub record KeepsTarget (x : Target) : Type 0 where
-  pub id : is_word x.id ≡ true
-  pub name : is_text x.name ≡ true
-  pub digest : is_digest x.digest ≡ true
-  pub tags : list_all is_word x.tags ≡ true
-  pub attributes : list_all is_attribute x.attributes ≡ true
 
 target_keeps : (h : CommandList) → IsValid h → (t : Bytes) → Has (target_ids h) t → KeepsTarget (target_in h t)
 target_keeps h valid t among =

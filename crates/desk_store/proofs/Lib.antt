@@ -25,4 +25,6 @@ pub mod BlameLemmas
 pub mod FailLemmas
 mod RowFails
 mod RawBlames
+pub mod ReadableTargets
+pub mod ReadableHistories
 mod Answering
