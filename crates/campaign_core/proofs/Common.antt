@@ -38,7 +38,7 @@ pub use Rattle.rollout_machine.specs.StateWords.{Unknown, all_final, group_is_st
 pub use Rattle.rollout_machine.specs.StateWords.{rollout_word, started_actions_of, word_by_last, word_from}
 pub use Rattle.rollout_machine.specs.Validity.{IsValid}
 pub use Rattle.rollout_machine.specs.Verdicts.{check, first_refusal, has_next, is_at_pause, is_device_action, is_known, is_ready, is_running, is_waiting}
-pub use Rattle.rollout_machine.specs.Verdicts.{notes_of, on_action, rollout_row, same_outcome, says_note, target_of, word_is}
+pub use Rattle.rollout_machine.specs.Verdicts.{notes_of, on_action, rollout_word_row, same_outcome, says_note, target_of, word_is}
 pub use Rattle.rollout_machine.specs.declared.outcome.Outcome.{Outcome}
 pub use Rattle.rollout_machine.specs.declared.outcome.Outcome.TheVariants.{Bad, Gone, Good}
 pub use Rattle.rollout_machine.specs.declared.records.ActionRecord.{ActionRecord}
@@ -54,8 +54,8 @@ pub use Rattle.campaign_core.specs.OwnGroups.{own_view_of, waits}
 pub use Rattle.campaign_core.specs.RolloutChecks.{AreSound, BothOrNone, ChangesAction, ChangesRollout, Decides, Follows, IsActionView, IsCancelView}
 pub use Rattle.campaign_core.specs.RolloutChecks.{IsDeviceAction, IsFeedbackView, IsResumeView, IsStandingView, IsTriggerView, LeadsTo, MakesCancel}
 pub use Rattle.campaign_core.specs.RolloutChecks.{MayChangeAction, StartsRollout, action_for, action_with, cancel_feedback_refusal, cancel_refusal}
-pub use Rattle.campaign_core.specs.RolloutChecks.{canceling_after, change_by, change_if_fresh, change_numbered, decided, device_action, device_refusal}
-pub use Rattle.campaign_core.specs.RolloutChecks.{ended_by, feedback_refusal, gives_other, is_fresh, is_old, moved_by, only_if, outcome_forced, paused}
+pub use Rattle.campaign_core.specs.RolloutChecks.{canceling_after, change_by, change_if_fresh, change_numbered, with_approval, device_action, device_refusal}
+pub use Rattle.campaign_core.specs.RolloutChecks.{ended_by, feedback_refusal, gives_other, is_fresh, is_overtaken, moved_by, only_if, outcome_forced, paused}
 pub use Rattle.campaign_core.specs.RolloutChecks.{plan_refusal, report_refusal, resumed_by, rollout_with, rollouts_with, says_fresh, word_refusal}
 pub use Rattle.campaign_core.specs.declared.own_group.OwnView.{OwnView}
 pub use Rattle.campaign_core.specs.declared.rollout_checks.actions.ActionChange.{ActionChange}

@@ -6,7 +6,8 @@ use Rattle.campaign_core.proofs.Common.{DeviceFeedback, NotedCancel, RejectedCan
 use Rattle.campaign_core.proofs.Common.{is_again, reported, reported_by, says_again, says_old, standing_of, Standing, Again, Fresh, Old, ActionRecord, check}
 use Rattle.campaign_core.proofs.Common.{first_refusal, is_device_action, is_known, notes_of, on_action, same_outcome, says_note, Outcome, Refusal}
 use Rattle.campaign_core.proofs.Common.{ClosedAction, NotFound, OldNumber, Quota, Unauthorized, WrongState, AreSound, IsFeedbackView, IsDeviceAction}
-use Rattle.campaign_core.proofs.Common.{MayChangeAction, canceling_after, change_by, change_if_fresh, device_action, gives_other, is_fresh, is_old, only_if}
+use Rattle.campaign_core.proofs.Common.{MayChangeAction, canceling_after, change_by, change_if_fresh, device_action, gives_other, is_fresh, is_overtaken}
+use Rattle.campaign_core.proofs.Common.{only_if}
 use Rattle.campaign_core.proofs.Common.{report_refusal, says_fresh, ActionChange, DeviceAction}
 use Rattle.rollout_machine.specs.Verdicts as row
 use Rattle.rollout_model.specs.Limits.{note_limit}
@@ -123,8 +124,8 @@ on_cancel feedback = let new : Reported = reported OfCancel feedback in record {
     said_is (NotedCancel p) b = refl
 
 -- what isn't refused wasn't overtaken
-not_old : (gives : Option Outcome) (w : DeviceAction) (more : Option Refusal) → option_or (report_refusal gives w) more ≡ None → is_old w ≡ false
-not_old gives w more accepted = go (gives_other gives w.action) (is_old w) accepted
+not_old : (gives : Option Outcome) (w : DeviceAction) (more : Option Refusal) → option_or (report_refusal gives w) more ≡ None → is_overtaken w ≡ false
+not_old gives w more accepted = go (gives_other gives w.action) (is_overtaken w) accepted
   where
     go : (b d : Bool) → option_or (cond b (Some ClosedAction) (cond d (Some OldNumber) None)) more ≡ None → d ≡ false
     go true d e = cc
@@ -155,7 +156,7 @@ module _ {c : Command} {device : Credential} {k : ℕ} {new : Reported} {gives :
   Makes d = MayChangeAction d (reported_by c) k rs (step_action rs c (item_numbered rs.actions k))
 
   -- what an open action heard, or an action that is closed, leaves all as it is
-  may_act : AreSound rs → is_old w ≡ false → Makes (change_if_fresh w gives (canceling w.action.canceling))
+  may_act : AreSound rs → is_overtaken w ≡ false → Makes (change_if_fresh w gives (canceling w.action.canceling))
   may_act sound still = go w.action.outcome w.standing refl refl still
     where
       is_open : w.action.outcome ≡ None → it.action.outcome ≡ None

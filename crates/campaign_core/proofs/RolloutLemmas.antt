@@ -3,7 +3,7 @@ use Rattle.campaign_core.proofs.Common.{◌≡◌, ℕ, Bool, true, false, cond,
 use Rattle.campaign_core.proofs.Common.{nat_lt, not, is_none, map, option_map, eq-eqb, eqb-true, item_numbered, Resume, Start, TriggerNext, next_if}
 use Rattle.campaign_core.proofs.Common.{starts_next, begin_rollout, change_rollout, group_view, last_started, new_actions, resumed, start_group, step_records}
 use Rattle.campaign_core.proofs.Common.{triggered, view_from_group, view_of, Records, GroupRecord, RolloutRecord, RolloutWord, group_numbered, rollout_word}
-use Rattle.campaign_core.proofs.Common.{first_refusal, has_next, is_at_pause, is_running, rollout_row, word_is, Effects, RolloutView, Refusal, NotFound}
+use Rattle.campaign_core.proofs.Common.{first_refusal, has_next, is_at_pause, is_running, rollout_word_row, word_is, Effects, RolloutView, Refusal, NotFound}
 use Rattle.campaign_core.proofs.Common.{WrongState, AreSound, ChangesRollout, Decides, IsResumeView, IsStandingView, IsTriggerView, StartsRollout}
 use Rattle.campaign_core.proofs.Common.{change_numbered, moved_by, resumed_by, word_refusal}
 use Rattle.campaign_core.specs.declared.rollout_checks.RolloutChange.TheVariants as change
@@ -55,7 +55,7 @@ row_is p (Some x) = refl
 
 -- the row of a command on a rollout, by its state
 pub word_row : (p : RolloutWord → Bool) (v : StandingView) (r : ℕ) (rs : Records) (result : Option Refusal) → IsStandingView v r rs → word_refusal p v.word
-    ≡ result → first_refusal (rollout_row rs r p) ≡ result
+    ≡ result → first_refusal (rollout_word_row rs r p) ≡ result
 word_row p v r rs result is e = row_is p (item_numbered rs.rollouts r) ∙ sym (ap (word_refusal p) is.word) ∙ e
 
 -- the same where the rollout is there

@@ -11,7 +11,7 @@ use Rattle.rollout_machine.specs.RecordSteps.{change_target, put_targets, step_r
 use Rattle.rollout_machine.specs.Records.{ArtifactRecord, Records, records}
 use Rattle.rollout_machine.specs.Targets.{Target, with_attributes}
 use Rattle.rollout_machine.specs.Validity.{IsValid}
-use Rattle.rollout_machine.specs.Verdicts.{first_refusal, check, is_known, is_named_by_set, keys_of, tags_of, target_of, verdict, wrong_digest}
+use Rattle.rollout_machine.specs.Verdicts.{first_refusal, check, is_known, is_named_by_set, target_keys, tags_of, target_of, verdict, wrong_digest}
 use Rattle.rollout_model.specs.Limits.{artifact_limit, attribute_limit, module_artifact_limit, module_limit, set_limit, tag_limit, target_limit}
 use Rattle.rollout_model.specs.declared.refusal.Refusal.{Refusal}
 use Rattle.rollout_model.specs.declared.refusal.Refusal.TheVariants.{Unauthorized, NotFound, Locked, Exists, Quota, WrongDigest}
@@ -53,8 +53,8 @@ pub record AddsModule (m : NewModule) (label : ModuleLabel) (old new : Records) 
 -- ---- adding an artifact
 
 -- the module and the filename of the upload
-abbrev pub is_same_artifact : Upload → ArtifactRecord → Bool
-is_same_artifact u v = nat_eq v.module_number u.module_number && same_bytes v.filename u.filename
+abbrev pub is_same_as_upload : Upload → ArtifactRecord → Bool
+is_same_as_upload u v = nat_eq v.module_number u.module_number && same_bytes v.filename u.filename
 
 abbrev pub is_of_module : ℕ → ArtifactRecord → Bool
 is_of_module m v = nat_eq v.module_number m
@@ -63,7 +63,7 @@ is_of_module m v = nat_eq v.module_number m
 pub record IsArtifactView (v : ArtifactView) (u : Upload) (rs : Records) : Type 0 where
   pub misses_module : v.misses_module ≡ is_none (item_numbered rs.modules u.module_number)
   pub locked : v.locked ≡ is_named_by_set rs.sets u.module_number
-  pub same : v.same ≡ list_any (is_same_artifact u) rs.artifacts
+  pub same : v.same ≡ list_any (is_same_as_upload u) rs.artifacts
   pub module_count : v.module_count ≡ length (filter (is_of_module u.module_number) rs.artifacts)
   pub count : v.count ≡ length rs.artifacts
   pub wrong_digest : v.wrong_digest ≡ wrong_digest u
@@ -76,7 +76,7 @@ artifact_refusal v =
     ∷ (nat_le module_artifact_limit v.module_count || nat_le artifact_limit v.count, Quota) ∷ (v.wrong_digest, WrongDigest) ∷ [])
 
 -- the upload is put behind the artifacts that are there, with its size and digest, under the next number
-pub record AddsArtifact (a : NewArtifact) (u : Upload) (old new : Records) : Type 0 where
+pub record AddsUpload (a : NewArtifact) (u : Upload) (old new : Records) : Type 0 where
   pub next : a.number ≡ length old.artifacts + 1
   pub added : new ≡ record old {
     artifacts = old.artifacts ++ record {
@@ -91,13 +91,13 @@ pub record AddsArtifact (a : NewArtifact) (u : Upload) (old new : Records) : Typ
 -- ---- adding a distribution set
 
 -- the name and the version of the label
-abbrev pub is_same_set : SetLabel → SetLabel → Bool
-is_same_set label v = same_bytes v.name label.name && same_bytes v.version label.version
+abbrev pub is_same_as_label : SetLabel → SetLabel → Bool
+is_same_as_label label v = same_bytes v.name label.name && same_bytes v.version label.version
 
 -- of a label, in these records
 pub record IsSetView (v : SetView) (label : SetLabel) (rs : Records) : Type 0 where
   pub misses_module : v.misses_module ≡ list_any (λ m. is_none (item_numbered rs.modules m)) label.modules
-  pub same : v.same ≡ list_any (is_same_set label) rs.sets
+  pub same : v.same ≡ list_any (is_same_as_label label) rs.sets
   pub count : v.count ≡ length rs.sets
 
 abbrev pub set_refusal : SetView → Option Refusal
@@ -144,14 +144,14 @@ ChangesTags f t old new = new ≡ record old { targets = change_target t (λ (u 
 -- of what a device gives, in these records
 pub record IsAttributesView (v : AttributesView) (device : Credential) (given : List Attribute) (rs : Records) : Type 0 where
   pub misses_device : v.misses_device ≡ not (is_known rs device)
-  pub count_after : v.count_after ≡ length (with_words (map (λ (a : Attribute). a.key) given) (keys_of (target_of rs device.id)))
+  pub count_after : v.count_after ≡ length (with_words (map (λ (a : Attribute). a.key) given) (target_keys (target_of rs device.id)))
 
 abbrev pub attributes_refusal : AttributesView → Option Refusal
 attributes_refusal v = first_refusal ((v.misses_device, Unauthorized) ∷ (nat_lt attribute_limit v.count_after, Quota) ∷ [])
 
 -- the attributes of target t get the values that are given, where it is there
-abbrev pub GivesAttributes : List Attribute → Bytes → Records → Records → Type 0
-GivesAttributes given t old new = new ≡ record old {
+abbrev pub ChangesAttributes : List Attribute → Bytes → Records → Records → Type 0
+ChangesAttributes given t old new = new ≡ record old {
   targets = change_target t
       (λ (u : Target). record u { attributes = with_attributes given u.attributes }) old.targets;
 }
@@ -173,12 +173,12 @@ IsViewOf _ _ rs = ⊥
 -- the change of the command takes the old records to the new ones
 abbrev pub LeadsTo : Change → Command → Records → Records → Type 0
 LeadsTo (change.AddModule m) (AddModule label) old new = AddsModule m label old new
-LeadsTo (change.AddArtifact a) (AddArtifact u) old new = AddsArtifact a u old new
+LeadsTo (change.AddArtifact a) (AddArtifact u) old new = AddsUpload a u old new
 LeadsTo (change.AddSet s) (AddSet label) old new = AddsSet s label old new
 LeadsTo change.PutTargets (PutTargets rows) old new = new ≡ record old { targets = put_targets rows old.targets }
 LeadsTo change.Tag (Tag t x) old new = ChangesTags (with_word x) t old new
 LeadsTo change.Untag (Untag t x) old new = ChangesTags (without_word x) t old new
-LeadsTo change.PutAttributes (PutAttributes device given) old new = GivesAttributes given device.id old new
+LeadsTo change.PutAttributes (PutAttributes device given) old new = ChangesAttributes given device.id old new
 LeadsTo (change.OnRollouts on) c old new = LeadsRolloutTo on c old new
 LeadsTo _ _ old new = ⊥
 

@@ -106,7 +106,7 @@ rollout_from n plan members = record {
 }
 
 -- the rollout is put behind those that are there, under the next number, with the targets that its filter chooses
-pub record AddsRollout (n : NewRollout) (plan : RolloutPlan) (old new : Records) : Type 0 where
+pub record AddsPlannedRollout (n : NewRollout) (plan : RolloutPlan) (old new : Records) : Type 0 where
   pub next : n.number ≡ length old.rollouts + 1
   pub approval : n.approval ≡ approval_at old.approval
   pub added : new ≡ record old { rollouts = old.rollouts ++ rollout_from n plan (chosen (filter_of plan.filter_text) old.targets) ∷ [] }
@@ -123,8 +123,8 @@ word_refusal passes None = Some NotFound
 word_refusal passes (Some word) = first_refusal ((not (passes word), WrongState) ∷ [])
 
 -- approved or denied
-abbrev pub decided : Approval → RolloutRecord → RolloutRecord
-decided approval x = record x { approval = approval }
+abbrev pub with_approval : Approval → RolloutRecord → RolloutRecord
+with_approval approval x = record x { approval = approval }
 
 abbrev pub paused : RolloutRecord → RolloutRecord
 paused x = record x { paused = true }
@@ -218,24 +218,24 @@ abbrev pub is_fresh : DeviceAction → Bool
 is_fresh v = is_none v.action.outcome && says_fresh v.standing
 
 -- or one that was overtaken
-abbrev pub is_old : DeviceAction → Bool
-is_old v = is_none v.action.outcome && says_old v.standing
+abbrev pub is_overtaken : DeviceAction → Bool
+is_overtaken v = is_none v.action.outcome && says_old v.standing
 
 -- a note for which there is no room
-abbrev pub is_beyond : Bool → DeviceAction → Bool
-is_beyond note v = is_fresh v && (note && nat_le note_limit v.notes)
+abbrev pub lacks_room : Bool → DeviceAction → Bool
+lacks_room note v = is_fresh v && (note && nat_le note_limit v.notes)
 
 -- what feedback of both kinds is refused with first
 abbrev pub report_refusal : Option Outcome → DeviceAction → Option Refusal
-report_refusal gives v = first_refusal ((gives_other gives v.action, ClosedAction) ∷ (is_old v, OldNumber) ∷ [])
+report_refusal gives v = first_refusal ((gives_other gives v.action, ClosedAction) ∷ (is_overtaken v, OldNumber) ∷ [])
 
 abbrev pub feedback_refusal : DeploymentWord → DeviceAction → Option Refusal
 feedback_refusal word v = option_or (report_refusal (outcome_of_deployment word) v)
-    (first_refusal ((is_beyond (says_note (OfDeployment word)) v, Quota) ∷ []))
+    (first_refusal ((lacks_room (says_note (OfDeployment word)) v, Quota) ∷ []))
 
 abbrev pub cancel_feedback_refusal : CancelWord → DeviceAction → Option Refusal
 cancel_feedback_refusal word v = option_or (report_refusal (outcome_of_cancel word) v)
-    (first_refusal ((is_fresh v && not v.action.canceling, WrongState) ∷ (is_beyond (says_note (OfCancel word)) v, Quota) ∷ []))
+    (first_refusal ((is_fresh v && not v.action.canceling, WrongState) ∷ (lacks_room (says_note (OfCancel word)) v, Quota) ∷ []))
 
 -- the action ends so, in its own group
 abbrev pub ended_by : ActionView → Outcome → Ending
@@ -307,9 +307,9 @@ IsViewOf _ _ rs = ⊥
 
 -- the change of the command takes the old records to the new ones
 abbrev pub LeadsTo : RolloutChange → Command → Records → Records → Type 0
-LeadsTo (change.Create n) (CreateRollout plan) old new = AddsRollout n plan old new
-LeadsTo change.Approve (Approve r) old new = ChangesRollout r (decided Given) old new
-LeadsTo change.Deny (Deny r) old new = ChangesRollout r (decided Denied) old new
+LeadsTo (change.Create n) (CreateRollout plan) old new = AddsPlannedRollout n plan old new
+LeadsTo change.Approve (Approve r) old new = ChangesRollout r (with_approval Given) old new
+LeadsTo change.Deny (Deny r) old new = ChangesRollout r (with_approval Denied) old new
 LeadsTo change.Start (Start r) old new = StartsRollout r old new
 LeadsTo change.Pause (Pause r) old new = ChangesRollout r paused old new
 LeadsTo (change.Resume effects) (Resume r) old new = ChangesRollout r (resumed_by effects) old new

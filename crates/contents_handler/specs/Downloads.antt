@@ -56,13 +56,13 @@ Begins old new asked (answered.Contents p) = (h : CommandList) → new.is_clean 
 Begins old new asked (answered.Reply r) = Applies old new asked (reply_of r)
 
 -- the next piece of the contents is handed out; with it, what was handed out so far is a first part of the contents
-pub record HandsOut (contents : Bytes) (p q : Download) (piece : Bytes) : Type 0 where
+pub record HandsOutPiece (contents : Bytes) (p q : Download) (piece : Bytes) : Type 0 where
   pub next : piece ≡ take piece_length (drop (sent p) contents)
   pub joined : take (sent q) contents ≡ take (sent p) contents ++ piece
 
 -- The next piece at the list h, or all were handed out. Or memory was wanted, and the same piece is next; or the store failed, and a crash leaves the list.
 abbrev pub HandsAt : {File : Type 0} → CommandList → Bytes → DeskState File → Download → Download → Result (Option (Vec ℕ Global)) Refusal → Type 0
-HandsAt h contents new p q (Ok (Some piece)) = StandsFor new h × Sends h q contents × HandsOut contents p q piece.items
+HandsAt h contents new p q (Ok (Some piece)) = StandsFor new h × Sends h q contents × HandsOutPiece contents p q piece.items
 HandsAt h contents new p q (Ok None) = StandsFor new h × (q ≡ p) × (sent p ≡ length contents)
 HandsAt h contents new p q (Err refusal) = (q ≡ p) × (((refusal ≡ NoMemory) × StandsFor new h) ⊎ ((refusal ≡ StoreFailed) × IsInDoubt new h None))
 

@@ -1,6 +1,7 @@
 -- The texts that devices are shown, letter by letter.
 use Rattle.ddi_api.proofs.Common.{◌≡◌, ℕ, List, [], ◌∷◌, ◌++◌, Bool, true, false, Option, Some, None, codes, decimal, map, refl, append_assoc, quoted}
-use Rattle.ddi_api.proofs.Common.{items_of, Artifact, Chunk, Deployment, action_path, artifact_data, cancel_data, chunk_data, config_data, deployment_data}
+use Rattle.ddi_api.proofs.Common.{items_of, Artifact, Chunk, Deployment, action_path, device_artifact_data, cancel_data, chunk_data, config_data}
+use Rattle.ddi_api.proofs.Common.{deployment_data}
 use Rattle.ddi_api.proofs.Common.{download_path, link_data, offer_kind, poll_data, artifact_letters, behind_commas, cancel_letters, chunk_letters}
 use Rattle.ddi_api.proofs.Common.{deployment_letters, poll_letters, separated}
 use Rattle.std.specs.List.{concat}
@@ -51,12 +52,13 @@ artifact_at : (path filename digest : List ℕ) (size : ℕ)
 unfolding serde_json_on_literals
 artifact_at path filename digest size = simp append_assoc
 
-artifact_spelled : (id : List ℕ) (module_number : ℕ) (a : Artifact) → compact_text (artifact_data id module_number a) ≡ artifact_letters id module_number a
+artifact_spelled : (id : List ℕ) (module_number : ℕ) (a : Artifact) → compact_text (device_artifact_data id module_number a)
+    ≡ artifact_letters id module_number a
 artifact_spelled id module_number a = artifact_at (download_path id module_number a.filename) a.filename (digest_digits a.digest) a.size
 
 chunk_spelled : (id : List ℕ) (c : Chunk) → compact_text (chunk_data id c) ≡ chunk_letters id c
 unfolding serde_json_on_literals
-chunk_spelled id c = rw (items_spelled (artifact_data id c.module_number) (artifact_letters id c.module_number) (artifact_spelled id c.module_number)
+chunk_spelled id c = rw (items_spelled (device_artifact_data id c.module_number) (artifact_letters id c.module_number) (artifact_spelled id c.module_number)
     c.artifacts) (simp append_assoc)
 
 pub deployment_spelled : (d : Deployment) → compact_text (deployment_data d) ≡ deployment_letters d

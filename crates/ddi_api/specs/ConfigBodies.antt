@@ -15,13 +15,13 @@ abbrev pub attribute_of : List ℕ → Data → Option Attribute
 attribute_of key d = option_and_then (λ word. option_map (λ value. new_attribute word value) (option_and_then value_of (as_str d))) (word_of key)
 
 -- the members of an object, which has each key once, by their keys in byte order
-abbrev pub attributes_in : Members → Option (List Attribute)
-attributes_in no_members = Some []
-attributes_in (member key d members) = option_and_then (λ attribute. option_map (λ more. attribute ∷ more) (attributes_in members)) (attribute_of key d)
+abbrev pub member_attributes : Members → Option (List Attribute)
+member_attributes no_members = Some []
+member_attributes (member key d members) = option_and_then (λ attribute. option_map (λ more. attribute ∷ more) (member_attributes members)) (attribute_of key d)
 
 -- at most 32 attributes
 abbrev pub data_member : Data → Option (List Attribute)
-data_member d = option_and_then config_data_of (option_and_then attributes_in (option_and_then as_object (get (codes "data") d)))
+data_member d = option_and_then config_data_of (option_and_then member_attributes (option_and_then as_object (get (codes "data") d)))
 
 abbrev pub is_merge : Option Data → Bool
 is_merge None = true

@@ -5,7 +5,7 @@ use Rattle.http_wire.specs.Fields.{sole_value}
 use Rattle.artifact_pieces.specs.Digests.{digest_of}
 use Rattle.rollout_model.specs.Rules.{token_of}
 use Rattle.rollout_model.specs.declared.credential.Credential.{Credential}
-use Rattle.mgmt_api.specs.Reading.{word_in}
+use Rattle.mgmt_api.specs.Reading.{path_word}
 
 -- the scheme, as written, with the one space behind it
 abbrev pub scheme : List ℕ
@@ -27,4 +27,4 @@ digest_shown m = option_and_then digest_of_value (authorization_of m)
 
 -- the id in the path, and the digest of the token
 abbrev pub credential_of : WireMessage → Option Credential
-credential_of m = option_and_then (λ id. option_map (λ digest. record { id = id; digest = digest }) (digest_shown m)) (word_in m 4)
+credential_of m = option_and_then (λ id. option_map (λ digest. record { id = id; digest = digest }) (digest_shown m)) (path_word m 4)

@@ -32,15 +32,15 @@ cancel_rows =
     ∷ (codes "resumed", codes "none", NotedCancel Resumed) ∷ []
 
 -- the word of a pair, if it has a row
-abbrev pub said_by : {W : Type 0} → List (Row W) → List ℕ → List ℕ → Option W
-said_by [] execution finished = None
-said_by (row ∷ rows) execution finished = if bytes_eq execution row.0 && bytes_eq finished row.1 then Some row.2 else said_by rows execution finished
+abbrev pub word_by_rows : {W : Type 0} → List (Row W) → List ℕ → List ℕ → Option W
+word_by_rows [] execution finished = None
+word_by_rows (row ∷ rows) execution finished = if bytes_eq execution row.0 && bytes_eq finished row.1 then Some row.2 else word_by_rows rows execution finished
 
 abbrev pub deployment_word : List ℕ → List ℕ → Option DeploymentWord
-deployment_word execution finished = said_by deployment_rows execution finished
+deployment_word execution finished = word_by_rows deployment_rows execution finished
 
 abbrev pub cancel_word : List ℕ → List ℕ → Option CancelWord
-cancel_word execution finished = said_by cancel_rows execution finished
+cancel_word execution finished = word_by_rows cancel_rows execution finished
 
 -- a member that is a text
 abbrev pub string_member : List ℕ → Data → Option (List ℕ)
@@ -50,8 +50,8 @@ string_member key d = option_and_then as_str (get key d)
 abbrev pub finished_in : Data → Option (List ℕ)
 finished_in status = option_and_then (string_member (codes "finished")) (get (codes "result") status)
 
-abbrev pub word_member : {W : Type 0} → (List ℕ → List ℕ → Option W) → Data → Option W
-word_member words status = option_and_then (λ execution. option_and_then (words execution) (finished_in status)) (string_member (codes "execution") status)
+abbrev pub status_word : {W : Type 0} → (List ℕ → List ℕ → Option W) → Data → Option W
+status_word words status = option_and_then (λ execution. option_and_then (words execution) (finished_in status)) (string_member (codes "execution") status)
 
 -- a value that is a line
 abbrev pub detail_in : Data → Option (List ℕ)
@@ -66,12 +66,12 @@ abbrev pub details_member : Data → Option (List (List ℕ))
 details_member status = option_and_then details_of (lines_if (get (codes "details") status))
 
 -- the number of a feedback
-abbrev pub feedback_number_in : Data → Option ℕ
-feedback_number_in d = option_and_then feedback_number_of (whole_of d)
+abbrev pub json_feedback_number : Data → Option ℕ
+json_feedback_number d = option_and_then feedback_number_of (whole_of d)
 
 -- the number that the device gave, which stands beside `status`, and none where it is missing
 abbrev pub number_given : Data → Option (Option ℕ)
-number_given d = if_given feedback_number_in (get (codes "number") d)
+number_given d = if_given json_feedback_number (get (codes "number") d)
 
 abbrev pub new_feedback : {W : Type 0} → Credential → ℕ → W → List (List ℕ) → Option ℕ → DeviceFeedback W
 new_feedback device action word details number = record { credential = device; action = action; word = word; details = details; number = number }
@@ -79,7 +79,7 @@ new_feedback device action word details number = record { credential = device; a
 -- what `status` says of an action, beside the number
 abbrev pub feedback_of : {W : Type 0} → (List ℕ → List ℕ → Option W) → Credential → ℕ → Option ℕ → Data → Option (DeviceFeedback W)
 feedback_of words device action number status = option_and_then (λ word. option_map (λ details. new_feedback device action word details number)
-    (details_member status)) (word_member words status)
+    (details_member status)) (status_word words status)
 
 -- an object with `status`, and perhaps `number`
 abbrev pub feedback_in : {W : Type 0} → (List ℕ → List ℕ → Option W) → Credential → ℕ → Data → Option (DeviceFeedback W)

@@ -49,14 +49,14 @@ abbrev pub download_data : List ℕ → ℕ → List ℕ → Data
 download_data id module_number filename = object (member (codes "download-http") (link_data (download_path id module_number filename)) no_members)
 
 -- an artifact of a module, as the device of this id downloads it
-abbrev pub artifact_data : List ℕ → ℕ → Artifact → Data
-artifact_data id module_number a =
+abbrev pub device_artifact_data : List ℕ → ℕ → Artifact → Data
+device_artifact_data id module_number a =
     object (member (codes "_links") (download_data id module_number a.filename)
     (member (codes "filename") (string a.filename) (member (codes "hashes") (hashes_data a) (member (codes "size") (whole a.size) no_members))))
 
 abbrev pub chunk_data : List ℕ → Chunk → Data
 chunk_data id c =
-    object (member (codes "artifacts") (array (items_of (map (artifact_data id c.module_number) c.artifacts)))
+    object (member (codes "artifacts") (array (items_of (map (device_artifact_data id c.module_number) c.artifacts)))
     (member (codes "name") (string c.label.name) (member (codes "part") (string c.label.kind)
     (member (codes "version") (string c.label.version) no_members))))
 

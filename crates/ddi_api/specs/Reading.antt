@@ -25,27 +25,27 @@ abbrev pub filename_in : WireMessage → ℕ → Option (List ℕ)
 filename_in m place = option_and_then filename_of (slice_get (segments (path_of m.target)) place)
 
 -- no query
-abbrev pub shown_by : Query → WireMessage → Asked
-shown_by query m = without_query m (Asks (Ask query))
+abbrev pub shown_to_device : Query → WireMessage → Asked
+shown_to_device query m = without_query m (Asks (Ask query))
 
 -- an artifact of a module, by its filename, and no query
 abbrev pub downloaded_by : Credential → WireMessage → Asked
-downloaded_by device m = of_item 6 (λ number. or_rejected NotFound (λ filename. shown_by (Download device number filename) m) (filename_in m 8)) m
+downloaded_by device m = of_item 6 (λ number. or_rejected NotFound (λ filename. shown_to_device (Download device number filename) m) (filename_in m 8)) m
 
 -- what a device asks once it has said who it is: an action or an artifact is found in the path, no query is taken, and the
 -- body is looked at last
-abbrev pub asked_by : DeviceCall → Credential → WireMessage → Asked
-asked_by call.Poll device m = shown_by (Poll device) m
-asked_by call.ShowDeployment device m = of_item 6 (λ action. shown_by (ShowDeployment device action) m) m
-asked_by call.Feedback device m = of_item 6 (λ action. added_by (feedback_body deployment_word device action m.body) Feedback m) m
-asked_by call.ShowCancel device m = of_item 6 (λ action. shown_by (ShowCancel device action) m) m
-asked_by call.CancelFeedback device m = of_item 6 (λ action. added_by (feedback_body cancel_word device action m.body) CancelFeedback m) m
-asked_by call.PutAttributes device m = added_by (config_body m.body) (PutAttributes device) m
-asked_by call.Download device m = downloaded_by device m
+abbrev pub asked_by_device : DeviceCall → Credential → WireMessage → Asked
+asked_by_device call.Poll device m = shown_to_device (Poll device) m
+asked_by_device call.ShowDeployment device m = of_item 6 (λ action. shown_to_device (ShowDeployment device action) m) m
+asked_by_device call.Feedback device m = of_item 6 (λ action. added_by (feedback_body deployment_word device action m.body) Feedback m) m
+asked_by_device call.ShowCancel device m = of_item 6 (λ action. shown_to_device (ShowCancel device action) m) m
+asked_by_device call.CancelFeedback device m = of_item 6 (λ action. added_by (feedback_body cancel_word device action m.body) CancelFeedback m) m
+asked_by_device call.PutAttributes device m = added_by (config_body m.body) (PutAttributes device) m
+asked_by_device call.Download device m = downloaded_by device m
 
 -- who the device says it is, and then the call's own
 abbrev pub asked_by_one : DeviceCall → WireMessage → Asked
-asked_by_one called m = or_rejected Unauthorized (λ device. asked_by called device m) (credential_of m)
+asked_by_one called m = or_rejected Unauthorized (λ device. asked_by_device called device m) (credential_of m)
 
 -- the call's one method comes first
 abbrev pub asked_of : DeviceCall → WireMessage → Asked
@@ -56,10 +56,10 @@ abbrev pub device_reading : WireMessage → Asked
 device_reading m = or_rejected NotFound (λ called. asked_of called m) (device_call (path_of m.target))
 
 -- what a reader refuses by, beside want of memory
-abbrev pub IsReadersOwn : Refusal → Type 0
-IsReadersOwn refusal = (refusal ≡ NotFound) ⊎ (refusal ≡ BadMethod) ⊎ (refusal ≡ Unauthorized) ⊎ (refusal ≡ BadRequest)
+abbrev pub IsDeviceReadersOwn : Refusal → Type 0
+IsDeviceReadersOwn refusal = (refusal ≡ NotFound) ⊎ (refusal ≡ BadMethod) ⊎ (refusal ≡ Unauthorized) ⊎ (refusal ≡ BadRequest)
 
 -- the request that is asked, or the refusal that it is rejected by; in place of either, want of memory
 abbrev pub ReadsRequest : Asked → Result RustRequest Refusal → Type 0
 ReadsRequest asked result = MatchResult result (λ request. asked ≡ Asks (request_of request))
-    (λ refusal. (refusal ≡ NoMemory) ⊎ ((asked ≡ Rejected refusal) × IsReadersOwn refusal))
+    (λ refusal. (refusal ≡ NoMemory) ⊎ ((asked ≡ Rejected refusal) × IsDeviceReadersOwn refusal))

@@ -4,7 +4,7 @@ ghost use Rattle.std.specs.Prelude.{◌≡◌, codes, option_and_then, option_ma
 ghost use Rattle.serde_json.specs.Find.{as_object, get};
 ghost use Rattle.serde_json.specs.View.{members_view, view};
 ghost use Rattle.mgmt_objects.specs.Readings.{ReadsAs};
-ghost use Rattle.ddi_api.specs.ConfigBodies.{attribute_of, attributes_in, config_body, config_of, data_member, is_merge};
+ghost use Rattle.ddi_api.specs.ConfigBodies.{attribute_of, member_attributes, config_body, config_of, data_member, is_merge};
 
 use mgmt_objects::read_value;
 use rollout_model::{Attribute, Attributes, ConfigData, Refusal, Value as AttributeValue, Word};
@@ -28,7 +28,7 @@ fn read_attribute(alloc: Global, key: &str, value: &Value) -> Result<Attribute, 
 }
 
 fn read_attributes(alloc: Global, members: &Map<String, Value>) -> Result<Attributes, Refusal>
-    ensures { ReadsAs (attributes_in (members_view members.now.entries)) result }
+    ensures { ReadsAs (member_attributes (members_view members.now.entries)) result }
 {
     let mut attributes = Attributes::new(alloc);
     for (key, value) in members.iter() {

@@ -2,7 +2,7 @@
 
 ghost use Rattle.std.specs.Prelude.{◌≡◌, option_map};
 ghost use Rattle.http_wire.specs.Inbox.{message_of};
-ghost use Rattle.mgmt_api.specs.Reading.{word_in};
+ghost use Rattle.mgmt_api.specs.Reading.{path_word};
 ghost use Rattle.ddi_api.specs.Credentials.{after_scheme, authorization_of, credential_of, digest_shown, digest_of_value};
 
 use crate::spelled::{read_id, read_token};
@@ -44,7 +44,7 @@ fn digest_shown(message: &Message<'_>) -> Option<Digest>
 
 /// The id in the fifth segment of the path, the empty one before the first slash counted too.
 fn controller_in(message: &Message<'_>) -> Option<ControllerId>
-    ensures { result ≡ word_in (message_of message.now) 4 }
+    ensures { result ≡ path_word (message_of message.now) 4 }
 {
     let segment = segment_at(message.path(), 4)?;
     read_id(segment)

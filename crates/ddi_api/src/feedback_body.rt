@@ -6,7 +6,7 @@ ghost use Rattle.serde_json.specs.View.{view};
 ghost use Rattle.mgmt_objects.specs.Readings.{ReadsAs, ReadsBy};
 ghost use Rattle.mgmt_objects.specs.Traverse.{array_of, traverse};
 ghost use Rattle.ddi_api.specs.FeedbackBodies.{cancel_word, deployment_word, detail_in, details_member, finished_in, lines_if, feedback_body};
-ghost use Rattle.ddi_api.specs.FeedbackBodies.{feedback_in, feedback_number_in, feedback_of, number_given, string_member, word_member};
+ghost use Rattle.ddi_api.specs.FeedbackBodies.{feedback_in, json_feedback_number, feedback_of, number_given, string_member, status_word};
 
 use mgmt_objects::{read_value, read_whole};
 use rollout_model::{
@@ -134,7 +134,7 @@ fn finished_in(status: &Value) -> Option<&str>
 }
 
 fn word_in<W: FeedbackWord>(status: &Value) -> Option<W>
-    ensures { result ≡ word_member W.words (view status.now) }
+    ensures { result ≡ status_word W.words (view status.now) }
 {
     let execution = string_member(status, "execution")?;
     let finished = finished_in(status)?;
@@ -162,7 +162,7 @@ fn read_details(alloc: Global, status: &Value) -> Result<Details, Refusal>
 }
 
 fn feedback_number_in(value: &Value) -> Option<FeedbackNumber>
-    ensures { result ≡ feedback_number_in (view value.now) }
+    ensures { result ≡ json_feedback_number (view value.now) }
 {
     let number = read_whole(value)?;
     FeedbackNumber::new(number)

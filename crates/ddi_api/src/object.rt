@@ -7,7 +7,7 @@ ghost use Rattle.serde_json.specs.Written.{compact_text};
 ghost use Rattle.mgmt_objects.specs.ArtifactObjects.{hashes_data};
 ghost use Rattle.rollout_machine.specs.Views.{chunk, deployment};
 ghost use Rattle.ddi_api.specs.Letters.{offer_letters};
-ghost use Rattle.ddi_api.specs.Objects.{action_path, artifact_data, cancel_data, chunk_data, chunks_data, deployment_data, deployment_object};
+ghost use Rattle.ddi_api.specs.Objects.{action_path, device_artifact_data, cancel_data, chunk_data, chunks_data, deployment_data, deployment_object};
 ghost use Rattle.ddi_api.specs.Objects.{download_data, download_path, link_data, offer_kind, poll_data, shown_chunk};
 
 use artifact_pieces::digest_text;
@@ -189,7 +189,7 @@ fn artifact_value(
     module_number: ModuleNo,
     artifact: &Artifact,
 ) -> Result<Value, AllocError>
-    ensures { IfOk result (λ v. view v ≡ artifact_data id.now module_number artifact.now) }
+    ensures { IfOk result (λ v. view v ≡ device_artifact_data id.now module_number artifact.now) }
 {
     let links = download_link(alloc, id, module_number, &artifact.filename)?;
     let hashes = hashes_value(alloc, artifact)?;
@@ -207,7 +207,7 @@ fn artifact_values(
     module_number: ModuleNo,
     artifacts: &[Artifact],
 ) -> Result<Vec<Value>, AllocError>
-    ensures { IfOk result (λ v. map view v.items ≡ map (artifact_data id.now module_number) artifacts.now) }
+    ensures { IfOk result (λ v. map view v.items ≡ map (device_artifact_data id.now module_number) artifacts.now) }
 {
     let mut values = Vec::new(alloc);
     for artifact in artifacts {

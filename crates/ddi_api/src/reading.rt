@@ -7,7 +7,7 @@ ghost use Rattle.rollout_machine.specs.Requests.{Asks, Rejected};
 ghost use Rattle.rollout_machine.specs.Views.{request_of};
 ghost use Rattle.http_wire.specs.Inbox.{message_of};
 ghost use Rattle.mgmt_api.specs.Reading.{TakesNoQuery, item_in};
-ghost use Rattle.ddi_api.specs.Reading.{ReadsRequest, asked_by, asked_by_one, asked_of, device_reading, filename_in};
+ghost use Rattle.ddi_api.specs.Reading.{ReadsRequest, asked_by_device, asked_by_one, asked_of, device_reading, filename_in};
 
 use crate::call::{DeviceCall, method_of};
 use crate::config_body::read_config_body;
@@ -59,7 +59,7 @@ fn read_filename_in(message: &Message<'_>) -> Option<Filename>
 }
 
 fn read_poll(alloc: Global, device: Credential, message: &Message<'_>) -> Result<Request, Refusal>
-    ensures { ReadsRequest (asked_by DeviceCall.Poll device (message_of message.now)) result }
+    ensures { ReadsRequest (asked_by_device DeviceCall.Poll device (message_of message.now)) result }
 {
     take_no_query(alloc, message)?;
     Ok(Request::Ask(Query::Poll(device)))
@@ -70,7 +70,7 @@ fn read_show_deployment(
     device: Credential,
     message: &Message<'_>,
 ) -> Result<Request, Refusal>
-    ensures { ReadsRequest (asked_by DeviceCall.ShowDeployment device (message_of message.now)) result }
+    ensures { ReadsRequest (asked_by_device DeviceCall.ShowDeployment device (message_of message.now)) result }
 {
     let Some(action) = read_action_number(message) else {
         return Err(Refusal::NotFound);
@@ -84,7 +84,7 @@ fn read_show_cancel(
     device: Credential,
     message: &Message<'_>,
 ) -> Result<Request, Refusal>
-    ensures { ReadsRequest (asked_by DeviceCall.ShowCancel device (message_of message.now)) result }
+    ensures { ReadsRequest (asked_by_device DeviceCall.ShowCancel device (message_of message.now)) result }
 {
     let Some(action) = read_action_number(message) else {
         return Err(Refusal::NotFound);
@@ -98,7 +98,7 @@ fn read_download(
     device: Credential,
     message: &Message<'_>,
 ) -> Result<Request, Refusal>
-    ensures { ReadsRequest (asked_by DeviceCall.Download device (message_of message.now)) result }
+    ensures { ReadsRequest (asked_by_device DeviceCall.Download device (message_of message.now)) result }
 {
     let Some(module_number) = read_module_number(message) else {
         return Err(Refusal::NotFound);
@@ -115,7 +115,7 @@ fn read_deployment_feedback(
     device: Credential,
     message: &Message<'_>,
 ) -> Result<Request, Refusal>
-    ensures { ReadsRequest (asked_by DeviceCall.Feedback device (message_of message.now)) result }
+    ensures { ReadsRequest (asked_by_device DeviceCall.Feedback device (message_of message.now)) result }
 {
     let Some(action) = read_action_number(message) else {
         return Err(Refusal::NotFound);
@@ -130,7 +130,7 @@ fn read_cancel_feedback(
     device: Credential,
     message: &Message<'_>,
 ) -> Result<Request, Refusal>
-    ensures { ReadsRequest (asked_by DeviceCall.CancelFeedback device (message_of message.now)) result }
+    ensures { ReadsRequest (asked_by_device DeviceCall.CancelFeedback device (message_of message.now)) result }
 {
     let Some(action) = read_action_number(message) else {
         return Err(Refusal::NotFound);
@@ -145,7 +145,7 @@ fn read_put_attributes(
     device: Credential,
     message: &Message<'_>,
 ) -> Result<Request, Refusal>
-    ensures { ReadsRequest (asked_by DeviceCall.PutAttributes device (message_of message.now)) result }
+    ensures { ReadsRequest (asked_by_device DeviceCall.PutAttributes device (message_of message.now)) result }
 {
     take_no_query(alloc, message)?;
     let given = read_config_body(alloc, message.body)?;
@@ -158,7 +158,7 @@ fn read_call(
     device: Credential,
     message: &Message<'_>,
 ) -> Result<Request, Refusal>
-    ensures { ReadsRequest (asked_by call device (message_of message.now)) result }
+    ensures { ReadsRequest (asked_by_device call device (message_of message.now)) result }
 {
     match call {
         DeviceCall::Poll => read_poll(alloc, device, message),

@@ -7,10 +7,12 @@ use Rattle.desk_commands.proofs.Common.{Records, records, IsValid, check, is_not
 use Rattle.desk_commands.proofs.Common.{numbered_map, records_step, same_refl, same_true, effects_by, following, waits, ChangesAction, action_with, change_by}
 use Rattle.desk_commands.proofs.Common.{ended_by, moved_by, rollout_with, OwnView, ActionChange, StaysOpen, Ends, Tally, tally_of, borne_at, numbers_from}
 use Rattle.desk_commands.proofs.Common.{numbers_of, Ledger, ledger_of, set_numbered, with_groups, with_offer, with_rollouts, next_offer, actor}
-use Rattle.desk_commands.proofs.Common.{offers_before_start, with_actor, Acts, Follows, TellsAction, stays_offered, FollowsSo, StartsGroupOf, with_outcome}
-use Rattle.desk_commands.proofs.Common.{with_rollout, StartsGroup, started, with_group, StartsNoGroup, starts_of, MayReoffer, action_view_seen, CountsNumbers}
+use Rattle.desk_commands.proofs.Common.{offers_before_start, with_actor, Acts, FollowsChange, TellsAction, stays_offered, FollowsSo, StartsGroupOf}
+use Rattle.desk_commands.proofs.Common.{with_outcome}
+use Rattle.desk_commands.proofs.Common.{with_rollout, StartsAndOffers, started, with_group, StartsNoGroup, starts_of, MayReoffer, action_view_seen}
+use Rattle.desk_commands.proofs.Common.{CountsNumbers}
 use Rattle.desk_commands.proofs.Common.{TellsReports, entries_by, numbers_by, tally_by, with_reports, Told, SeenAction, Following}
-use Rattle.desk_commands.specs.ActionSteps.{with_changed}
+use Rattle.desk_commands.specs.ActionSteps.{with_changed_action}
 use Rattle.std.proofs.lemmas.List.Elements.{filter-append}
 use Rattle.campaign_core.specs.declared.own_group.Following.TheVariants as so
 use Rattle.offer_laws.specs.GroupOffers.{acted as acted_records}
@@ -159,7 +161,7 @@ module _ (h : CommandList) (c : Command) (valid : IsValid h) (formed : IsWellFor
     one = with_reports reports (action_with after w.action)
 
     abbrev acted : Ledger
-    acted = with_changed s after told reports (w.action, tally_of w.action) (numbers_of w.action) (ledger_of rs)
+    acted = with_changed_action s after told reports (w.action, tally_of w.action) (numbers_of w.action) (ledger_of rs)
 
     abbrev mid : Ledger
     mid = with_offer acted id (next_offer acted.records id)
@@ -211,7 +213,7 @@ module _ (h : CommandList) (c : Command) (valid : IsValid h) (formed : IsWellFor
       next_is = refl;
     }
 
-    all_acts : stays_offered w.action.canceling after ≡ false → Follows s after mid (ledger_of (step_records rs c))
+    all_acts : stays_offered w.action.canceling after ≡ false → FollowsChange s after mid (ledger_of (step_records rs c))
         → Acts s after told (ledger_of rs) (ledger_of (step_records rs c))
     all_acts changes follows = record {
       acted = acted;
@@ -361,7 +363,8 @@ module _ (h : CommandList) (c : Command) (valid : IsValid h) (formed : IsWellFor
         n = w.own.number + 1
 
         -- the group behind it
-        begins : (g : GroupRecord) → item_numbered w.rollout.groups n ≡ Some g → g.started ≡ false → StartsGroup r g counted_in (ledger_of (step_records rs c))
+        begins : (g : GroupRecord) → item_numbered w.rollout.groups n ≡ Some g → g.started ≡ false
+            → StartsAndOffers r g counted_in (ledger_of (step_records rs c))
         begins g its waiting =
             ends_with_group h c valid formed accepted r g counted_in x2 there (ap (item_numbered x2.groups) number ∙ its2)
             (record {

@@ -5,7 +5,7 @@ use Rattle.desk_commands.proofs.Common.{CommandList, Bytes, Reported, entries_in
 use Rattle.desk_commands.proofs.Common.{ActionRecord, GroupRecord, RolloutRecord, numbered_map, ActionChange, Ends, Tally, tally_of, borne_at, numbers_from}
 use Rattle.desk_commands.proofs.Common.{numbers_of, Ledger, ledger_of, set_numbered, StoredAction, PlacedNumber, Acts, MayAct, TellsAction, FollowsSo}
 use Rattle.desk_commands.proofs.Common.{StartsGroupOf, outcomes_in, MayReoffer, CountsNumbers, entries_by, notes_by, SeenAction, Told, Has, limits_hold}
-use Rattle.desk_commands.proofs.Common.{Following, Ending, CanEnd, CanEndBy, CanFollow, CanTell, HasNext, Leads, TakesSteps, NumbersActions}
+use Rattle.desk_commands.proofs.Common.{Following, Ending, CanEnd, CanEndBy, CanFollow, CanTell, HasNext, Leads, TakesSteps, AreActionsNumbered}
 use Rattle.std.proofs.lemmas.List.Sums.{count_by-le-length, length-filter}
 use Rattle.sqlite_rules.proofs.ListLemmas.{has_got}
 use Rattle.desk_commands.proofs.ItemSteps.{zip_map}
@@ -105,8 +105,8 @@ module _ (seen : SeenAction) (after : ActionChange) (told : Option Told) (l : Le
           omega (arith, few, count, same, few_numbers 1 its.a.history)
 
   -- the actions keep their numbers
-  pub numbers_stay : NumbersActions w.changes.acted
-  numbers_stay = subst NumbersActions (sym t.next_is) (record {
+  pub numbers_stay : AreActionsNumbered w.changes.acted
+  numbers_stay = subst AreActionsNumbered (sym t.next_is) (record {
     tallied = same_length l.tallies seen.number _ ∙ of ∙ sym (same_length l.records.actions seen.number _);
     few = subst (λ n. n ≤ 2147483647) (sym (same_length l.records.actions seen.number _)) (omega (arith, limit));
   })

@@ -7,7 +7,7 @@ use Rattle.desk_commands.proofs.Common.{with_words, Bytes, Attribute, Credential
 use Rattle.desk_commands.proofs.Common.{with_attributes, check, is_known, target_of, AllAbove, IsSorted, above_more, not_above, sorted_with_all, with_there}
 use Rattle.desk_commands.proofs.Common.{same_pointwise, same_refl, same_sym, same_true, Unauthorized, Quota, GivesAttribute, GivesAttributes, attributed_with}
 use Rattle.desk_commands.proofs.Common.{has_attribute, keys_after, sorted_from, not-true, or_right, or_parts}
-use Rattle.rollout_machine.specs.Verdicts.{keys_of as keys_there}
+use Rattle.rollout_machine.specs.Verdicts.{target_keys as keys_there}
 use Rattle.rollout_model.specs.Pairs.{is_same_attribute}
 use Rattle.desk_records.proofs.Attributes.{keys_with}
 use Rattle.desk_commands.proofs.ByteOrderLemmas.{count_with}

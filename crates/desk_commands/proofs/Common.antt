@@ -100,7 +100,7 @@ pub use Rattle.desk_records.specs.declared.rollout_row.StoredRollout.{StoredRoll
 pub use Rattle.desk_records.specs.declared.target_row.StoredTarget.{StoredTarget}
 pub use Rattle.desk_store.proofs.LedgersOfRecords.{ledger_found, ledger_made, same_ledger}
 pub use Rattle.desk_store.specs.Changing.{FindsIn, FindsLedger, MakesIn, MakesLedger, StaysIn, seen_in}
-pub use Rattle.desk_store.specs.Failing.{FailsGiven, NumbersActions, ReadableAs, WritesIn}
+pub use Rattle.desk_store.specs.Failing.{FailsGiven, AreActionsNumbered, ReadableAs, WritesIn}
 pub use Rattle.desk_store.specs.Breaking.{HasReason}
 pub use Rattle.desk_store.specs.GroupPairs.{group_and_next}
 pub use Rattle.desk_store.specs.Readable.{BreaksColumn, IsReadable, second_shown, third_shown}
@@ -112,15 +112,15 @@ pub use Rattle.desk_reads.specs.AtLists.{AreOfList, FailsAtListsIn, IsOfList}
 pub use Rattle.desk_reads.specs.Rollouts.{IsSeenOf}
 pub use Rattle.desk_reads.specs.Targets.{target_listed}
 pub use Rattle.desk_reads.specs.declared.rollouts.SeenRollout.{SeenRollout}
-pub use Rattle.desk_commands.specs.ActionSteps.{Acts, ActsBy, Follows, MayAct, TellsAction, WritesFeedback, action_change_of, canceling_by, does_act}
+pub use Rattle.desk_commands.specs.ActionSteps.{Acts, ActsBy, FollowsChange, MayAct, TellsAction, WritesFeedback, action_change_of, canceling_by, does_act}
 pub use Rattle.desk_commands.specs.ActionSteps.{outcome_by, stays_offered}
 pub use Rattle.desk_commands.specs.Additions.{AddsArtifact, AddsContents, AddsModules, AddsWhole, LacksModule, and_modules, is_full}
 pub use Rattle.desk_commands.specs.Attributes.{GivesAttribute, GivesAttributes, attributed_with, has_attribute, keys_after}
 pub use Rattle.desk_commands.specs.Creations.{CreatesRollout, IsChosen, IsWordOf, and_rollout, first_rules, ids_matching, in_part, shown_new}
-pub use Rattle.desk_commands.specs.Endings.{CountsOutcome, FollowsOutcome, FollowsSo, Pauses, StartsGroupOf, outcomes_in, with_outcome, with_rollout}
+pub use Rattle.desk_commands.specs.Endings.{CountsOutcome, FollowsEnding, FollowsSo, Pauses, StartsGroupOf, outcomes_in, with_outcome, with_rollout}
 pub use Rattle.desk_commands.specs.Failures.{CanEnd, CanEndBy, CanFollow, CanStart, CanTell, ChangesRow, CountsIf, FailsWriting, HasItem, HasNext, IsActionOf}
 pub use Rattle.desk_commands.specs.Failures.{IsLastOf, IsSeenFrom, IsSeenIn, Leads, TakesRow, TakesRows, TakesSteps}
-pub use Rattle.desk_commands.specs.GroupStarts.{StartsGroup, started, with_group}
+pub use Rattle.desk_commands.specs.GroupStarts.{StartsAndOffers, started, with_group}
 pub use Rattle.desk_commands.specs.GroupViews.{EndsBeyond, view_by}
 pub use Rattle.desk_commands.specs.Imports.{AddsTags, DropsTags, HasRoom, IsTooMany, LeavesRoom, PutsAll, PutsOver, PutsRow, PutsRows, Renames, Retags}
 pub use Rattle.desk_commands.specs.Imports.{ids_after, lacking, retagged, row_ids, tagged_with, untagged_from, with_row, without_words}
@@ -129,7 +129,8 @@ pub use Rattle.desk_commands.specs.Offering.{MayReoffer, Reoffers}
 pub use Rattle.desk_commands.specs.SeenActions.{IsSeen, MaySee, SeesFeedback, SeesIn, SeesTarget, action_seen, action_view_seen, cancel_view_seen}
 pub use Rattle.desk_commands.specs.SeenActions.{device_action_seen, feedback_view_seen, only_of, only_started, own_seen, seen_if}
 pub use Rattle.desk_commands.specs.SeenReports.{StandsAgainst, StandsAmong, StandsAt, asked, more_reads, number_asked, reads_for, with_number}
-pub use Rattle.desk_commands.specs.Standings.{GoesOn, IsSeenAt, StartsIf, WritesSaid, approval_after, gone_by, pause_left, paused_after, said_by, starts_by}
+pub use Rattle.desk_commands.specs.Standings.{GoesOn, IsSeenAt, StartsIf, WritesSaid, approval_after, gone_by, pause_left, paused_after, command_said}
+pub use Rattle.desk_commands.specs.Standings.{starts_by}
 pub use Rattle.desk_commands.specs.Starts.{AddsActions, ReadsMembers, StartsWhole, and_actions, new_for}
 pub use Rattle.desk_commands.specs.Telling.{CountsNumbers, TellsReports, WritesNumber, WritesTold, entries_by, if_numbered, notes_by, numbers_by, tally_by}
 pub use Rattle.desk_commands.specs.Telling.{with_reports}

@@ -1,8 +1,8 @@
 -- What follows from the outcome of an action, write by write.
 use Rattle.desk_commands.proofs.Common.{◌≡◌, ◌+◌, Bool, true, false, cond, nat_eq, Some, refl, sym, ap, ◌∙◌, subst, item_numbered, is_outcome, counted}
 use Rattle.desk_commands.proofs.Common.{Outcome, Good, Bad, Gone, GroupRecord, Ledger, SetsGroup, SetsRollout, set_numbered, with_groups, CountsOutcome}
-use Rattle.desk_commands.proofs.Common.{FollowsOutcome, FollowsSo, Pauses, with_outcome, with_rollout, SeenAction, Ending}
-use Rattle.desk_records.specs.LedgerSteps.{counted as set_counts}
+use Rattle.desk_commands.proofs.Common.{FollowsEnding, FollowsSo, Pauses, with_outcome, with_rollout, SeenAction, Ending}
+use Rattle.desk_records.specs.LedgerSteps.{group_counted as set_counts}
 
 -- ---- the counts
 
@@ -44,7 +44,7 @@ pause_set seen l next w = record {
 }
 
 -- the count first
-pub ending_parts : (seen : SeenAction) (e : Ending) (l next : Ledger) → FollowsOutcome seen e l next → (mid : Ledger) × CountsOutcome seen e.outcome l mid
+pub ending_parts : (seen : SeenAction) (e : Ending) (l next : Ledger) → FollowsEnding seen e l next → (mid : Ledger) × CountsOutcome seen e.outcome l mid
     × FollowsSo seen e.following mid next
 ending_parts seen e l next w = (
   with_rollout l seen.action.rollout (with_outcome seen e.outcome w.rollout),

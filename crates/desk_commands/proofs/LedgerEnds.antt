@@ -4,7 +4,7 @@ use Rattle.desk_commands.proofs.Common.{ap, ◌∙◌, subst, arith, nat_eq, sli
 use Rattle.desk_commands.proofs.Common.{Bytes, Command, GroupRule, rules_of, offer, each_from, Records, group_in, rollout_in, change_rollout, step_records}
 use Rattle.desk_commands.proofs.Common.{Rollout, rollout_at, group_numbered, IsValid, check, Bounds, GroupRecord, RolloutRecord, numbered_map, records_step}
 use Rattle.desk_commands.proofs.Common.{change_numbered, records_are_sound, GroupStarts, group_offers, put_offers, offers_before_start, tally_of, numbers_of}
-use Rattle.desk_commands.proofs.Common.{Ledger, ledger_of, set_numbered, with_groups, with_rollouts, StartsGroup, started, with_group, StartsNoGroup, Waits}
+use Rattle.desk_commands.proofs.Common.{Ledger, ledger_of, set_numbered, with_groups, with_rollouts, StartsAndOffers, started, with_group, StartsNoGroup, Waits}
 use Rattle.desk_commands.proofs.Common.{starts_of, no_record}
 use Rattle.rollout_machine.specs.Records.{records}
 use Rattle.rollout_machine.proofs.Whole.{rollout_numbered}
@@ -115,7 +115,7 @@ module _ (h : CommandList) (c : Command) (valid : IsValid (h ▸ c)) where
   group_last : (r : ℕ) (g : GroupRecord) (mid : Ledger) (x : RolloutRecord) → item_numbered mid.records.rollouts r ≡ Some x → item_numbered x.groups g.number
       ≡ Some g → Waits (records h) r g
       → records (h ▸ c) ≡ (with_group mid r x (started g)).records → FollowsRecords mid → ((t : Bytes) → mid.offers t ≡ offers_before_start h c t)
-      → StartsGroup r g mid (ledger_of (records (h ▸ c)))
+      → StartsAndOffers r g mid (ledger_of (records (h ▸ c)))
   group_last r g mid x there its waits after follows offers = record {
     tallied = ap length follows.tallies ∙ length-map mid.records.actions tally_of;
     rollout = x;
@@ -172,9 +172,9 @@ module _ (h : CommandList) (c : Command) (valid : IsValid h) (formed : IsWellFor
   pub ends_with_group : (r : ℕ) (g : GroupRecord) (mid : Ledger) (x : RolloutRecord) → item_numbered mid.records.rollouts r ≡ Some x
       → item_numbered x.groups g.number ≡ Some g → Waits (records h) r g
       → step_records (records h) c ≡ (with_group mid r x (started g)).records → FollowsRecords mid → ((t : Bytes) → mid.offers t ≡ offers_before_start h c t)
-      → StartsGroup r g mid (ledger_of (step_records (records h) c))
+      → StartsAndOffers r g mid (ledger_of (step_records (records h) c))
   ends_with_group r g mid x there its waits after follows offers =
-      subst (λ (rs : Records). StartsGroup r g mid (ledger_of rs)) is_step
+      subst (λ (rs : Records). StartsAndOffers r g mid (ledger_of rs)) is_step
       (group_last h c (valid, formed, accepted) r g mid x there its waits (is_step ∙ after) follows offers)
 
   pub ends_with_none : (next : Ledger) → step_records (records h) c ≡ next.records → FollowsRecords next
@@ -216,7 +216,7 @@ module _ (h : CommandList) (c : Command) (valid : IsValid h) (formed : IsWellFor
 
   -- it makes z of the rollout, and then starts a group
   pub starts_last : (z : RolloutRecord) (g : GroupRecord) → item_numbered z.groups g.number ≡ Some g → Waits (records h) r g → y ≡ then_started z g
-      → StartsGroup r g (with_rollouts (ledger_of (records h)) (set_numbered (records h).rollouts r z)) (ledger_of (step_records (records h) c))
+      → StartsAndOffers r g (with_rollouts (ledger_of (records h)) (set_numbered (records h).rollouts r z)) (ledger_of (step_records (records h) c))
   starts_last z g its waits is =
       ends_with_group h c valid formed accepted r g (with_rollouts (ledger_of (records h)) (set_numbered (records h).rollouts r z)) z
       (set_is_there (records h).rollouts r x z there) its waits

@@ -6,7 +6,7 @@ use Rattle.desk_commands.proofs.Common.{CommandList, IsWellFormed, Bytes, Rollou
 use Rattle.desk_commands.proofs.Common.{change_rollout, group_view, last_started, resumed, start_group, step_records, triggered, view_from_group, view_of}
 use Rattle.desk_commands.proofs.Common.{Done, Rollout, RolloutWord, group_numbered, rollout_word, check, GroupRecord, RolloutRecord, is_number, NotFound}
 use Rattle.desk_commands.proofs.Common.{length_each, BothOrNone, IsResumeView, IsTriggerView, offers_before_start, Ledger, ledger_of, set_numbered, turned}
-use Rattle.desk_commands.proofs.Common.{with_groups, with_rollouts, told_plan, IsSeenOf, SeenRollout, StartsGroup, started, GoesOn, IsSeenAt, StartsIf}
+use Rattle.desk_commands.proofs.Common.{with_groups, with_rollouts, told_plan, IsSeenOf, SeenRollout, StartsAndOffers, started, GoesOn, IsSeenAt, StartsIf}
 use Rattle.desk_commands.proofs.Common.{gone_by, pause_left, starts_by, view_by, at_place, and_parts}
 use Rattle.rollout_machine.specs.Effects.{next_if}
 use Rattle.rollout_machine.specs.declared.view.GroupView.{GroupView}
@@ -258,8 +258,8 @@ same_some x y is = cc
 
 -- the group that starts is the one that was looked for
 pub the_group : (r : ℕ) (groups : List GroupRecord) (i : ℕ) (g : GroupRecord) (l next : Ledger) → item_numbered groups i ≡ Some g
-    → StartsIf r groups (Some i) l next → StartsGroup r g l next
-the_group r groups i g l next at h = subst (λ (it : GroupRecord). StartsGroup r it l next) (same_some h.0 g (sym h.1 ∙ at)) h.2
+    → StartsIf r groups (Some i) l next → StartsAndOffers r g l next
+the_group r groups i g l next at h = subst (λ (it : GroupRecord). StartsAndOffers r it l next) (same_some h.0 g (sym h.1 ∙ at)) h.2
 
 -- after one more group
 pub last_step : (gs : List GroupRecord) (d : GroupRecord) (i last next : ℕ) → i < length gs → last ≡ last_started (take i gs)

@@ -3,7 +3,7 @@ use Rattle.desk_commands.proofs.Common.{◌≡◌, ℕ, true, Option, Some, None
 use Rattle.desk_commands.proofs.Common.{item_numbered, CommandList, IsWellFormed, Bytes, Command, offer, Records, records, change_rollout, step_records, Done}
 use Rattle.desk_commands.proofs.Common.{RolloutWord, rollout_word, IsValid, check, RolloutRecord, is_number, Refusal, NotFound, AreSound, BothOrNone, Decides}
 use Rattle.desk_commands.proofs.Common.{IsStandingView, IsViewOf, RolloutChange, RolloutCommandView, offers_before_start, ledger_of, turned, IsSeenOf}
-use Rattle.desk_commands.proofs.Common.{SeenRollout, IsSeenAt, WritesSaid, approval_after, paused_after, said_by, AreOfList}
+use Rattle.desk_commands.proofs.Common.{SeenRollout, IsSeenAt, WritesSaid, approval_after, paused_after, command_said, AreOfList}
 use Rattle.campaign_core.proofs.ItemLemmas.{IsFound, found}
 use Rattle.desk_commands.specs.declared.standing.Said.{Said}
 use Rattle.desk_commands.specs.declared.standing.Said.TheVariants.{Approved, Denied, Paused}
@@ -49,12 +49,12 @@ none_there h valid r sees = go (item_numbered (records h).rollouts r) (sees (of_
 
 -- ---- what is said
 
-pub not_there : (said : Said) (rs : Records) (r : ℕ) → item_numbered rs.rollouts r ≡ None → check rs (said_by said r) ≡ Some NotFound
+pub not_there : (said : Said) (rs : Records) (r : ℕ) → item_numbered rs.rollouts r ≡ None → check rs (command_said said r) ≡ Some NotFound
 not_there Approved rs r none = rw none refl
 not_there Denied rs r none = rw none refl
 not_there Paused rs r none = rw none refl
 
-pub said_reply : (said : Said) (rs : Records) (r : ℕ) → Done ≡ command_reply (said_by said r) rs
+pub said_reply : (said : Said) (rs : Records) (r : ℕ) → Done ≡ command_reply (command_said said r) rs
 said_reply Approved rs r = refl
 said_reply Denied rs r = refl
 said_reply Paused rs r = refl
@@ -62,24 +62,24 @@ said_reply Paused rs r = refl
 abbrev said_of : Said → RolloutRecord → RolloutRecord
 said_of said x = record x { approval = approval_after said x.approval; paused = paused_after said x.paused }
 
-said_step : (said : Said) (rs : Records) (r : ℕ) → step_records rs (said_by said r) ≡ record rs { rollouts = change_rollout r (said_of said) rs.rollouts }
+said_step : (said : Said) (rs : Records) (r : ℕ) → step_records rs (command_said said r) ≡ record rs { rollouts = change_rollout r (said_of said) rs.rollouts }
 said_step Approved rs r = refl
 said_step Denied rs r = refl
 said_step Paused rs r = refl
 
-said_formed : (said : Said) (r : ℕ) → is_number r ≡ true → IsWellFormed (said_by said r)
+said_formed : (said : Said) (r : ℕ) → is_number r ≡ true → IsWellFormed (command_said said r)
 said_formed Approved r is = is
 said_formed Denied r is = is
 said_formed Paused r is = is
 
-said_calm : (said : Said) (h : CommandList) (r : ℕ) (t : Bytes) → offer (records h) t ≡ offers_before_start h (said_by said r) t
+said_calm : (said : Said) (h : CommandList) (r : ℕ) (t : Bytes) → offer (records h) t ≡ offers_before_start h (command_said said r) t
 said_calm Approved h r t = refl
 said_calm Denied h r t = refl
 said_calm Paused h r t = refl
 
 -- what is written is the step
-pub said_written : (said : Said) (h : CommandList) (r : ℕ) (seen : SeenRollout) → is_number r ≡ true → Found h r seen → check (records h) (said_by said r)
-    ≡ None → WritesSaid said r seen (ledger_of (records h)) (ledger_of (step_records (records h) (said_by said r)))
+pub said_written : (said : Said) (h : CommandList) (r : ℕ) (seen : SeenRollout) → is_number r ≡ true → Found h r seen → check (records h) (command_said said r)
+    ≡ None → WritesSaid said r seen (ledger_of (records h)) (ledger_of (step_records (records h) (command_said said r)))
 said_written said h r seen number found accepted =
     let x = found.rollout in
     let s = found.at.is_seen in
@@ -89,7 +89,7 @@ said_written said h r seen number found accepted =
       rollout = x;
       is_there = found.at.is_there;
       next_is =
-          sets_alone h (said_by said r) found.at.valid (said_formed said r number) accepted r x y found.at.is_there
+          sets_alone h (command_said said r) found.at.valid (said_formed said r number) accepted r x y found.at.is_there
           (said_step said (records h) r
           ∙ ap (λ xs. record (records h) { rollouts = xs }) (changed_at h found.at.valid r (said_of said) x y found.at.is_there same)) refl
           (said_calm said h r) refl;

@@ -6,7 +6,7 @@ use Rattle.desk_commands.proofs.Common.{Start, each_from, Approval, Denied, Give
 use Rattle.desk_commands.proofs.Common.{change_rollout, new_action, new_actions, start_group, step_records, Rollout, is_finished, word_from, IsValid, check}
 use Rattle.desk_commands.proofs.Common.{is_ready, ActionRecord, GroupRecord, RolloutRecord, each_from_more, length_each, is_number, NotFound, WrongState}
 use Rattle.desk_commands.proofs.Common.{records_are_sound, actor_of, tally_of, numbers_of, Ledger, ledger_of, AddsAction, SetsRollout, scheduled, set_numbered}
-use Rattle.desk_commands.proofs.Common.{turned, with_actions, with_groups, with_numbers, with_rollouts, SeenRollout, StartsGroup, started, AddsActions}
+use Rattle.desk_commands.proofs.Common.{turned, with_actions, with_groups, with_numbers, with_rollouts, SeenRollout, StartsAndOffers, started, AddsActions}
 use Rattle.desk_commands.proofs.Common.{ReadsMembers, StartsWhole, and_actions, new_for, never_started, members_of}
 use Rattle.std.proofs.lemmas.Option.{slice_get_read}
 use Rattle.rollout_machine.specs.Actions.{places_from}
@@ -77,7 +77,7 @@ two_parts r seen last members l next h = (h.begun, h.sets, h.adds)
 
 pub three_parts : (r : ℕ) (seen : SeenRollout) (first : GroupRecord) (last : ℕ) (members : List Bytes) (l next : Ledger)
     → StartsWhole r seen first last members l next
-    → (mid : Ledger) × StartsFirst r seen last members l mid × StartsGroup r first mid next
+    → (mid : Ledger) × StartsFirst r seen last members l mid × StartsAndOffers r first mid next
 three_parts r seen first last members l next h = (h.acting, record { begun = h.begun; sets = h.sets; adds = h.adds }, h.starts)
 
 -- ---- the first group

@@ -2,10 +2,11 @@
 use Rattle.desk_commands.proofs.Common.{◌≡◌, ℕ, ◌+◌, Bool, true, false, List, [], ◌∷◌, ◌++◌, Option, Some, None, refl, sym, ap, ◌∙◌, subst, is_some, Then}
 use Rattle.desk_commands.proofs.Common.{item_numbered, Bytes, Reported, Outcome, ActionRecord, action_with, RolloutChange, ActionChange, StaysOpen, Ends}
 use Rattle.desk_commands.proofs.Common.{borne_at, Ledger, AddsEntry, AddsNumber, SetsAction, and_entry, set_numbered, with_actions, with_numbers, PlacedNumber}
-use Rattle.desk_commands.proofs.Common.{StoredAction, Acts, ActsBy, Follows, MayAct, TellsAction, action_change_of, canceling_by, outcome_by, stays_offered}
+use Rattle.desk_commands.proofs.Common.{StoredAction, Acts, ActsBy, FollowsChange, MayAct, TellsAction, action_change_of, canceling_by, outcome_by}
+use Rattle.desk_commands.proofs.Common.{stays_offered}
 use Rattle.desk_commands.proofs.Common.{MayReoffer, Reoffers, TellsReports, WritesNumber, WritesTold, entries_by, notes_by, numbers_by, tally_by, with_reports}
 use Rattle.desk_commands.proofs.Common.{SeenAction, Told}
-use Rattle.desk_records.specs.LedgerSteps.{acted}
+use Rattle.desk_records.specs.LedgerSteps.{action_turned}
 use Rattle.desk_commands.proofs.ItemSteps.{append_none, set_same, set_twice, zip_at, zip_set}
 
 -- ---- the history and its numbers
@@ -65,7 +66,7 @@ none_told k place l next w = go w.reports w.tells w.next_is
 -- ---- the action
 
 acted_with : (reports : List Reported) (had : Option Outcome) (after : ActionChange) (a : ActionRecord) → had ≡ a.outcome
-    → with_reports reports (action_with after a) ≡ acted (canceling_by after) (outcome_by had after) (with_reports reports a)
+    → with_reports reports (action_with after a) ≡ action_turned (canceling_by after) (outcome_by had after) (with_reports reports a)
 acted_with reports had (StaysOpen canceling) a is =
     λ i. record { rollout = a.rollout; position = a.position; canceling = canceling; outcome = sym is i; history = a.history ++ reports }
 acted_with reports had (Ends e) a is = refl
@@ -106,11 +107,12 @@ telling_parts seen after told l next w = (
     entries_are = ap (λ (a : StoredAction). entries_by told a.entries) w.seen_as
 
     actions_are : set_numbered l.records.actions seen.number (with_reports w.reports (action_with after w.action.0))
-        ≡ set_numbered (set_numbered l.records.actions seen.number heard) seen.number (acted (canceling_by after) (outcome_by seen.action.outcome after) heard)
+        ≡ set_numbered (set_numbered l.records.actions seen.number heard) seen.number
+        (action_turned (canceling_by after) (outcome_by seen.action.outcome after) heard)
     actions_are =
         ap (set_numbered l.records.actions seen.number)
         (acted_with w.reports seen.action.outcome after w.action.0 (ap (λ (a : StoredAction). a.outcome) w.seen_as))
-        ∙ sym (set_twice seen.number l.records.actions heard (acted (canceling_by after) (outcome_by seen.action.outcome after) heard))
+        ∙ sym (set_twice seen.number l.records.actions heard (action_turned (canceling_by after) (outcome_by seen.action.outcome after) heard))
 
     tally_is : tally_by told w.action.1 ≡ record { notes = notes_by told seen.action.notes; entries = entries_by told seen.action.entries }
     tally_is = sym (ap (λ (a : StoredAction). tally_by told (record { notes = a.notes; entries = a.entries })) w.seen_as)
@@ -118,7 +120,7 @@ telling_parts seen after told l next w = (
 -- ---- all of it
 
 pub acting_parts : (seen : SeenAction) (after : ActionChange) (told : Option Told) (l next : Ledger) → Acts seen after told l next
-    → Then (Then (TellsAction seen after told) (MayReoffer (stays_offered seen.action.canceling after) seen.action.target)) (Follows seen after) l next
+    → Then (Then (TellsAction seen after told) (MayReoffer (stays_offered seen.action.canceling after) seen.action.target)) (FollowsChange seen after) l next
 acting_parts seen after told l next w = (w.offered, (w.acted, w.tells, w.offers), w.follows)
 
 pub acts_after : (seen : Option SeenAction) (accepted : RolloutChange) (after : Option ActionChange) (told : Option Told) (l next : Ledger)

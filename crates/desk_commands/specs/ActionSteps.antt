@@ -15,7 +15,7 @@ use Rattle.desk_records.specs.Holds.{Ledger}
 use Rattle.desk_records.specs.LedgerSteps.{set_numbered, with_actions, with_numbers}
 use Rattle.desk_records.specs.NewEntries.{TellsEntry}
 use Rattle.desk_records.specs.RolloutRow.{stored_action}
-use Rattle.desk_commands.specs.Endings.{FollowsOutcome}
+use Rattle.desk_commands.specs.Endings.{FollowsEnding}
 use Rattle.desk_commands.specs.Offering.{MayReoffer}
 use Rattle.desk_commands.specs.Telling.{CountsNumbers, TellsReports, entries_by, numbers_by, tally_by, with_reports}
 use Rattle.desk_records.specs.declared.number_row.PlacedNumber.{PlacedNumber}
@@ -34,8 +34,8 @@ outcome_by had (StaysOpen canceling) = had
 outcome_by had (Ends e) = Some e.outcome
 
 -- the ledger once what was reported is told of an action and it changed, with these numbers before
-abbrev pub with_changed : SeenAction → ActionChange → Option Told → List Reported → ActionRecord × Tally → List PlacedNumber → Ledger → Ledger
-with_changed seen after told reports action numbers l = with_numbers
+abbrev pub with_changed_action : SeenAction → ActionChange → Option Told → List Reported → ActionRecord × Tally → List PlacedNumber → Ledger → Ledger
+with_changed_action seen after told reports action numbers l = with_numbers
     (with_actions l (set_numbered l.records.actions seen.number (with_reports reports (action_with after action.0)))
     (set_numbered l.tallies seen.number (tally_by told action.1)))
     (set_numbered l.numbers seen.number (numbers_by (entries_by told action.1.entries) told numbers))
@@ -51,13 +51,13 @@ pub record TellsAction (seen : SeenAction) (after : ActionChange) (told : Option
   pub numbers : List PlacedNumber
   pub are_its : item_numbered l.numbers seen.number ≡ Some numbers
   pub counted : CountsNumbers told numbers
-  pub next_is : next ≡ with_changed seen after told reports action numbers l
+  pub next_is : next ≡ with_changed_action seen after told reports action numbers l
 
 -- ---- all of it
 
-abbrev pub Follows : SeenAction → ActionChange → Ledger → Ledger → Type 0
-Follows seen (StaysOpen canceling) l next = next ≡ l
-Follows seen (Ends e) l next = FollowsOutcome seen e l next
+abbrev pub FollowsChange : SeenAction → ActionChange → Ledger → Ledger → Type 0
+FollowsChange seen (StaysOpen canceling) l next = next ≡ l
+FollowsChange seen (Ends e) l next = FollowsEnding seen e l next
 
 -- it stays open, and is canceling or not as it was
 abbrev pub stays_offered : Bool → ActionChange → Bool
@@ -70,7 +70,7 @@ pub record Acts (seen : SeenAction) (after : ActionChange) (told : Option Told) 
   pub tells : TellsAction seen after told l acted
   pub offered : Ledger
   pub offers : MayReoffer (stays_offered seen.action.canceling after) seen.action.target acted offered
-  pub follows : Follows seen after offered next
+  pub follows : FollowsChange seen after offered next
 
 abbrev pub MayAct : Option SeenAction → Option ActionChange → Option Told → Ledger → Ledger → Type 0
 MayAct seen None told l next = next ≡ l

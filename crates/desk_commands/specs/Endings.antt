@@ -11,7 +11,7 @@ use Rattle.campaign_core.specs.declared.own_group.Following.TheVariants as so
 use Rattle.campaign_core.specs.declared.rollout_checks.actions.Ending.{Ending}
 use Rattle.desk_records.specs.Holds.{Ledger}
 use Rattle.desk_records.specs.LedgerSteps.{set_numbered, with_groups, with_rollouts}
-use Rattle.desk_commands.specs.GroupStarts.{StartsGroup}
+use Rattle.desk_commands.specs.GroupStarts.{StartsAndOffers}
 use Rattle.desk_commands.specs.declared.seen_actions.SeenAction.{SeenAction}
 
 -- how many of this outcome the group counts
@@ -46,7 +46,7 @@ pub record Pauses (seen : SeenAction) (l next : Ledger) : Type 0 where
 -- the group is there and starts
 abbrev pub StartsGroupOf : ℕ → Option GroupRecord → Ledger → Ledger → Type 0
 StartsGroupOf r None l next = ⊥
-StartsGroupOf r (Some g) l next = StartsGroup r g l next
+StartsGroupOf r (Some g) l next = StartsAndOffers r g l next
 
 abbrev pub FollowsSo : SeenAction → Following → Ledger → Ledger → Type 0
 FollowsSo seen so.Nothing l next = next ≡ l
@@ -54,7 +54,7 @@ FollowsSo seen so.Pauses l next = Pauses seen l next
 FollowsSo seen so.StartsNext l next = StartsGroupOf seen.action.rollout seen.next l next
 
 -- the outcome is counted, and then the rollout pauses or its next group starts, or neither
-pub record FollowsOutcome (seen : SeenAction) (e : Ending) (l next : Ledger) : Type 0 where
+pub record FollowsEnding (seen : SeenAction) (e : Ending) (l next : Ledger) : Type 0 where
   pub rollout : RolloutRecord
   pub is_its : item_numbered l.records.rollouts seen.action.rollout ≡ Some rollout
   pub own : item_numbered rollout.groups seen.own.number ≡ Some seen.own

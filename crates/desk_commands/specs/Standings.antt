@@ -16,7 +16,7 @@ use Rattle.desk_records.specs.Holds.{Ledger}
 use Rattle.desk_records.specs.LedgerSteps.{SetsRollout}
 use Rattle.desk_reads.specs.Rollouts.{IsSeenOf}
 use Rattle.desk_reads.specs.declared.rollouts.SeenRollout.{SeenRollout}
-use Rattle.desk_commands.specs.GroupStarts.{StartsGroup}
+use Rattle.desk_commands.specs.GroupStarts.{StartsAndOffers}
 use Rattle.desk_commands.specs.declared.standing.Said.{Said}
 use Rattle.desk_commands.specs.declared.standing.Said.TheVariants.{Approved, Denied as SaidDenied, Paused}
 use Rattle.desk_commands.specs.declared.progress.Going.{Going}
@@ -29,15 +29,15 @@ pub record IsSeenAt (h : CommandList) (r : ℕ) (seen : SeenRollout) (x : Rollou
   pub is_seen : IsSeenOf seen x
 
 -- the verdict on a command on the rollout that is seen
-abbrev pub Judges : (ℕ → Command) → SeenRollout → Option Refusal → Type 0
-Judges command seen result = (h : CommandList) (r : ℕ) (x : RolloutRecord) → IsSeenAt h r seen x → check (records h) (command r) ≡ result
+abbrev pub JudgesCommand : (ℕ → Command) → SeenRollout → Option Refusal → Type 0
+JudgesCommand command seen result = (h : CommandList) (r : ℕ) (x : RolloutRecord) → IsSeenAt h r seen x → check (records h) (command r) ≡ result
 
 -- ---- as a whole
 
-abbrev pub said_by : Said → ℕ → Command
-said_by Approved r = Approve r
-said_by SaidDenied r = Deny r
-said_by Paused r = Pause r
+abbrev pub command_said : Said → ℕ → Command
+command_said Approved r = Approve r
+command_said SaidDenied r = Deny r
+command_said Paused r = Pause r
 
 abbrev pub approval_after : Said → Approval → Approval
 approval_after Approved approval = Given
@@ -75,7 +75,7 @@ starts_by Triggered v = next_if (nat_lt v.last.number v.groups) v.last.number
 -- the group of this number, if one, starts
 abbrev pub StartsIf : ℕ → List GroupRecord → Option ℕ → Ledger → Ledger → Type 0
 StartsIf r groups None l next = next ≡ l
-StartsIf r groups (Some i) l next = (g : GroupRecord) × (item_numbered groups i ≡ Some g) × StartsGroup r g l next
+StartsIf r groups (Some i) l next = (g : GroupRecord) × (item_numbered groups i ≡ Some g) × StartsAndOffers r g l next
 
 -- the rollout that is seen is paused or not, and then the group starts
 pub record GoesOn (r : ℕ) (seen : SeenRollout) (paused : Bool) (starts : Option ℕ) (l next : Ledger) : Type 0 where

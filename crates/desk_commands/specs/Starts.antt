@@ -12,7 +12,7 @@ use Rattle.desk_records.specs.Holds.{Ledger}
 use Rattle.desk_records.specs.LedgerSteps.{SetsRollout, scheduled, with_actions, with_numbers}
 use Rattle.desk_records.specs.Rollouts.{members_of}
 use Rattle.desk_reads.specs.declared.rollouts.SeenRollout.{SeenRollout}
-use Rattle.desk_commands.specs.GroupStarts.{StartsGroup}
+use Rattle.desk_commands.specs.GroupStarts.{StartsAndOffers}
 
 -- all members, where the rollout has so many
 abbrev pub ReadsMembers : ℕ → ℕ → Ledger → List Bytes → Type 0
@@ -41,4 +41,4 @@ pub record StartsWhole (r : ℕ) (seen : SeenRollout) (first : GroupRecord) (las
   pub sets : SetsRollout r seen.approval true seen.paused l begun
   pub acting : Ledger
   pub adds : AddsActions r last members (length members) begun acting
-  pub starts : StartsGroup r first acting next
+  pub starts : StartsAndOffers r first acting next

@@ -32,9 +32,9 @@ abbrev pub tally_by : Option Told → Tally → Tally
 tally_by told t = record { notes = notes_by told t.notes; entries = entries_by told t.entries }
 
 -- the number that its entry bears
-abbrev pub number_in : Option Told → Option ℕ
-number_in None = None
-number_in (Some told) = told.entry.number
+abbrev pub number_told : Option Told → Option ℕ
+number_told None = None
+number_told (Some told) = told.entry.number
 
 -- where it bears one, the numbers before are counted
 abbrev pub CountsNumbers : Option Told → List PlacedNumber → Type 0

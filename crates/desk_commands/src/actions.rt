@@ -4,15 +4,15 @@ ghost use Rattle.std.specs.Prelude.{◌≡◌, ◌+◌, cond, MatchResult, None,
 ghost use Rattle.sql_calls.specs.declared.fault.Fault.TheVariants.{Broken};
 ghost use Rattle.rollout_machine.specs.Reports.{reported};
 ghost use Rattle.rollout_machine.specs.Commands.{Cancel as CancelCommand, CancelFeedback, Feedback};
-ghost use Rattle.desk_commands.specs.ActionSteps.{Acts, ActsBy, Follows, MayAct, TellsAction, WritesFeedback};
+ghost use Rattle.desk_commands.specs.ActionSteps.{Acts, ActsBy, FollowsChange, MayAct, TellsAction, WritesFeedback};
 ghost use Rattle.desk_commands.specs.ActionSteps.{action_change_of, canceling_by, does_act, outcome_by, stays_offered};
 ghost use Rattle.desk_commands.specs.Offering.{MayReoffer};
-ghost use Rattle.desk_commands.specs.Telling.{if_numbered, number_in};
+ghost use Rattle.desk_commands.specs.Telling.{if_numbered, number_told};
 ghost use Rattle.desk_commands.specs.Failures.{CanEndBy, CanTell, CountsIf, FailsStepIn, FailsWriting, Leads};
 ghost use Rattle.desk_store.specs.Counting.{AddsIn};
 ghost use Rattle.desk_store.specs.Changing.{MakesLedger, StaysIn};
 ghost use Rattle.desk_commands.specs.Changing.{StepsIn};
-ghost use Rattle.desk_store.specs.Failing.{FailsSeeing, NumbersActions};
+ghost use Rattle.desk_store.specs.Failing.{FailsSeeing, AreActionsNumbered};
 
 use crate::endings::follow_ending;
 use crate::offering::offer_anew;
@@ -58,7 +58,7 @@ fn tell_action<S: Alter>(
     ensures stays { StaysIn S.Store change.old change.new result }
     ensures writes { MakesLedger S.Store change.old change.new result (TellsAction seen.now after.now told.now) }
     ensures counts { CountsIf S.Store (CanTell seen.now told.now) change.old change.new result }
-    ensures work { AddsIn (2 + if_numbered (number_in told.now) 1) 0 change.old change.new }
+    ensures work { AddsIn (2 + if_numbered (number_told told.now) 1) 0 change.old change.new }
 {
     let notes = notes_with(seen.action.notes, told)?;
     let entries = entries_with(seen.action.entries, told)?;
@@ -91,7 +91,7 @@ fn offer_next<S: Alter>(
 ) -> Result<(), Fault>
     ensures stays { StaysIn S.Store change.old change.new result }
     ensures writes { MakesLedger S.Store change.old change.new result (MayReoffer (stays_offered seen.now.action.canceling after.now) seen.now.action.target) }
-    ensures fails { FailsSeeing S.Store NumbersActions change.old change.new result }
+    ensures fails { FailsSeeing S.Store AreActionsNumbered change.old change.new result }
     ensures work { AddsIn 2 1 change.old change.new }
 {
     if stays_offered(seen, after) {
@@ -107,7 +107,7 @@ fn follow<S: Alter>(
     after: &ActionChange,
 ) -> Result<(), Fault>
     ensures stays { StaysIn S.Store change.old change.new result }
-    ensures writes { MakesLedger S.Store change.old change.new result (Follows seen.now after.now) }
+    ensures writes { MakesLedger S.Store change.old change.new result (FollowsChange seen.now after.now) }
     ensures counts { CountsIf S.Store (CanEndBy seen.now after.now) change.old change.new result }
     ensures work { AddsIn 3 0 change.old change.new }
 {
@@ -128,7 +128,7 @@ fn act<S: Alter>(
     ensures stays { StaysIn S.Store change.old change.new result }
     ensures writes { MakesLedger S.Store change.old change.new result (Acts seen.now after.now told.now) }
     ensures fails { FailsWriting S.Store (Leads (Acts seen.now after.now told.now)) change.old change.new result }
-    ensures work { AddsIn (7 + if_numbered (number_in told.now) 1) 1 change.old change.new }
+    ensures work { AddsIn (7 + if_numbered (number_told told.now) 1) 1 change.old change.new }
 {
     tell_action(change, seen, after, told)?;
     offer_next(change, seen, after)?;
@@ -145,7 +145,7 @@ fn may_act<S: Alter>(
     ensures stays { StaysIn S.Store change.old change.new result }
     ensures writes { MakesLedger S.Store change.old change.new result (MayAct seen.now after.now told.now) }
     ensures fails { FailsWriting S.Store (Leads (MayAct seen.now after.now told.now)) change.old change.new result }
-    ensures work { AddsIn (cond (is_some after.now) (7 + if_numbered (number_in told.now) 1) 0) (cond (is_some after.now) 1 0) change.old change.new }
+    ensures work { AddsIn (cond (is_some after.now) (7 + if_numbered (number_told told.now) 1) 0) (cond (is_some after.now) 1 0) change.old change.new }
 {
     let Some(after) = after else {
         return Ok(());
@@ -176,7 +176,7 @@ fn act_by<S: Alter>(
     ensures stays { StaysIn S.Store change.old change.new result }
     ensures writes { MakesLedger S.Store change.old change.new result (ActsBy seen.now accepted.now told.now) }
     ensures fails { FailsWriting S.Store (Leads (ActsBy seen.now accepted.now told.now)) change.old change.new result }
-    ensures work { AddsIn (cond (does_act accepted.now) (7 + if_numbered (number_in told.now) 1) 0) (cond (does_act accepted.now) 1 0) change.old change.new }
+    ensures work { AddsIn (cond (does_act accepted.now) (7 + if_numbered (number_told told.now) 1) 0) (cond (does_act accepted.now) 1 0) change.old change.new }
 {
     let after = action_change(accepted)?;
     may_act(change, seen, &after, told)

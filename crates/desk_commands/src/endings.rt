@@ -3,7 +3,7 @@
 ghost use Rattle.std.specs.Prelude.{◌≡◌, ◌≤◌, ◌+◌, ◌^◌, MatchResult};
 ghost use Rattle.sql_calls.specs.declared.fault.Fault.TheVariants.{Broken};
 ghost use Rattle.rollout_machine.specs.RecordSteps.{counted};
-ghost use Rattle.desk_commands.specs.Endings.{CountsOutcome, FollowsOutcome, FollowsSo, StartsGroupOf, outcomes_in};
+ghost use Rattle.desk_commands.specs.Endings.{CountsOutcome, FollowsEnding, FollowsSo, StartsGroupOf, outcomes_in};
 ghost use Rattle.desk_commands.specs.Failures.{CanCount, CanEnd, CanFollow, CountsIf, HasNext};
 ghost use Rattle.desk_store.specs.Counting.{AddsIn};
 ghost use Rattle.desk_store.specs.Changing.{MakesLedger, StaysIn};
@@ -98,7 +98,7 @@ pub(crate) fn follow_ending<S: Alter>(
     ending: &Ending,
 ) -> Result<(), Fault>
     ensures stays { StaysIn S.Store change.old change.new result }
-    ensures writes { MakesLedger S.Store change.old change.new result (FollowsOutcome seen.now ending.now) }
+    ensures writes { MakesLedger S.Store change.old change.new result (FollowsEnding seen.now ending.now) }
     ensures counts { CountsIf S.Store (CanEnd seen.now ending.now) change.old change.new result }
     ensures work { AddsIn 3 0 change.old change.new }
 {

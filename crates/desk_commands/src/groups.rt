@@ -1,7 +1,7 @@
 //! Groups of a rollout: starting one.
 
 ghost use Rattle.desk_store.specs.Counting.{AddsIn};
-ghost use Rattle.desk_commands.specs.GroupStarts.{StartsGroup};
+ghost use Rattle.desk_commands.specs.GroupStarts.{StartsAndOffers};
 ghost use Rattle.desk_store.specs.Changing.{MakesLedger};
 ghost use Rattle.desk_store.specs.Failing.{WritesIn};
 
@@ -17,7 +17,7 @@ pub(crate) fn start_group<S: Alter>(
     group: &GroupRecord,
 ) -> Result<(), Fault>
     ensures stays { WritesIn S.Store change.old change.new result }
-    ensures writes { MakesLedger S.Store change.old change.new result (StartsGroup number group.now) }
+    ensures writes { MakesLedger S.Store change.old change.new result (StartsAndOffers number group.now) }
     ensures work { AddsIn 2 0 change.old change.new }
 {
     change.change_group(number, group.number, true, group.ok, group.bad, group.gone)?;

@@ -3,7 +3,7 @@
 ghost use Rattle.desk_commands.specs.Offering.{Reoffers};
 ghost use Rattle.desk_store.specs.Counting.{AddsIn};
 ghost use Rattle.desk_store.specs.Changing.{MakesLedger, StaysIn};
-ghost use Rattle.desk_store.specs.Failing.{FailsSeeing, NumbersActions};
+ghost use Rattle.desk_store.specs.Failing.{FailsSeeing, AreActionsNumbered};
 
 use desk_store::{Fault, OpenChange};
 use rollout_model::ControllerId;
@@ -16,7 +16,7 @@ pub(crate) fn offer_anew<S: Alter>(
 ) -> Result<(), Fault>
     ensures stays { StaysIn S.Store change.old change.new result }
     ensures writes { MakesLedger S.Store change.old change.new result (Reoffers id.now) }
-    ensures fails { FailsSeeing S.Store NumbersActions change.old change.new result }
+    ensures fails { FailsSeeing S.Store AreActionsNumbered change.old change.new result }
     ensures work { AddsIn 2 1 change.old change.new }
 {
     let offer = change.read_next_offer(id)?;

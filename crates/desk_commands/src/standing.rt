@@ -2,7 +2,7 @@
 
 ghost use Rattle.std.specs.Prelude.{◌≡◌, MatchResult, None, Some};
 ghost use Rattle.rollout_machine.specs.Commands.{Approve, Deny, Pause};
-ghost use Rattle.desk_commands.specs.Standings.{Judges, WritesSaid, said_by};
+ghost use Rattle.desk_commands.specs.Standings.{JudgesCommand, WritesSaid, command_said};
 ghost use Rattle.desk_store.specs.Changing.{MakesLedger, StaysIn};
 ghost use Rattle.desk_commands.specs.Changing.{StepsIn};
 ghost use Rattle.desk_commands.specs.Failures.{FailsStepIn};
@@ -36,7 +36,7 @@ pub(crate) fn refusal_in(verdict: Result<RolloutChange, Refusal>) -> Option<Refu
 
 /// Why this can't be said of a rollout, if it can't.
 fn refusal_of(said: Said, seen: &SeenRollout) -> Option<Refusal>
-    ensures { Judges (said_by said) seen.now result }
+    ensures { JudgesCommand (command_said said) seen.now result }
 {
     let view = StandingView {
         word: Some(seen.word()),
@@ -76,7 +76,7 @@ fn say<S: Alter>(
     said: Said,
 ) -> Result<Step, Fault>
     ensures stays { StaysIn S.Store change.old change.new result }
-    ensures steps { StepsIn S.Store change.old change.new (said_by said number) result }
+    ensures steps { StepsIn S.Store change.old change.new (command_said said number) result }
     ensures fails { FailsStepIn S.Store change.old change.new result }
 {
     let found = read_seen_rollout(change, number)?;

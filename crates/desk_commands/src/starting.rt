@@ -4,7 +4,7 @@ ghost use Rattle.std.specs.Prelude.{◌≡◌, ◌≤◌, ◌<◌, ◌+◌, Matc
 ghost use Rattle.std.specs.Option.{ok_or};
 ghost use Rattle.sql_calls.specs.declared.fault.Fault.TheVariants.{Broken};
 ghost use Rattle.rollout_machine.specs.Commands.{Start};
-ghost use Rattle.desk_commands.specs.Standings.{Judges};
+ghost use Rattle.desk_commands.specs.Standings.{JudgesCommand};
 ghost use Rattle.desk_commands.specs.Starts.{AddsActions, ReadsMembers, StartsWhole};
 ghost use Rattle.desk_store.specs.Changing.{FindsLedger, MakesLedger, StaysIn};
 ghost use Rattle.desk_commands.specs.Changing.{StepsIn};
@@ -25,7 +25,7 @@ use sqlite::Alter;
 
 /// Why a rollout can't be started, if it can't.
 fn start_refusal(seen: &SeenRollout) -> Option<Refusal>
-    ensures { Judges Start seen.now result }
+    ensures { JudgesCommand Start seen.now result }
 {
     let view = StandingView {
         word: Some(seen.word()),

@@ -2,7 +2,7 @@
 
 ghost use Rattle.std.specs.Prelude.{◌+◌};
 ghost use Rattle.desk_commands.specs.Counts.{CountsTo};
-ghost use Rattle.desk_commands.specs.Telling.{WritesNumber, WritesTold, entries_by, if_numbered, notes_by, number_in};
+ghost use Rattle.desk_commands.specs.Telling.{WritesNumber, WritesTold, entries_by, if_numbered, notes_by, number_told};
 ghost use Rattle.desk_commands.specs.Failures.{CanNumber, CountsIf, MayNumber};
 ghost use Rattle.desk_store.specs.Counting.{AddsIn};
 ghost use Rattle.desk_store.specs.Changing.{MakesLedger, StaysIn};
@@ -91,7 +91,7 @@ pub(crate) fn write_told<S: Alter>(
     ensures stays { StaysIn S.Store change.old change.new result }
     ensures writes { MakesLedger S.Store change.old change.new result (WritesTold action place told.now) }
     ensures counts { CountsIf S.Store (MayNumber told.now) change.old change.new result }
-    ensures work { AddsIn (1 + if_numbered (number_in told.now) 1) 0 change.old change.new }
+    ensures work { AddsIn (1 + if_numbered (number_told told.now) 1) 0 change.old change.new }
 {
     match told {
         Some(told) => write_report(change, action, place, told),

@@ -14,8 +14,8 @@ pub use Rattle.rollout_model.proofs.RuleLemmas.{both, spelled_is_utf8}
 pub use Rattle.rollout_model.specs.Rules.{are_distinct_words, is_between, is_spelled, is_text, is_text_letter, is_token, is_word, is_word_letter, tag_list_of}
 pub use Rattle.rollout_model.specs.Rules.{text_of, token_of, word_of}
 pub use Rattle.rollout_model.specs.declared.target_row.TargetRow.{TargetRow}
-pub use Rattle.desk_files.specs.ImportSteps.{HasIds, Pushes, TakesRow, has_id, if_new, row_behind}
-pub use Rattle.desk_files.specs.Imports.{distinct_rows, each_row, faulty_line, ids_of, import_of, is_header, records_of, rows_of, targets_of}
-pub use Rattle.desk_files.specs.RecordReaders.{Gives, GivesNext, known}
-pub use Rattle.desk_files.specs.TargetRecords.{Record, row_of, tags_of}
+pub use Rattle.desk_files.specs.ImportSteps.{HasIds, Pushes, TakesRecord, has_id, if_new, row_behind}
+pub use Rattle.desk_files.specs.Imports.{distinct_rows, each_row, faulty_line, ids_of_rows, import_of, is_header, records_of, rows_of, targets_in_file}
+pub use Rattle.desk_files.specs.RecordReaders.{GivesRecords, GivesNext, known}
+pub use Rattle.desk_files.specs.TargetRecords.{Record, row_of, field_tags}
 pub use Rattle.desk_files.specs.declared.imported_rows.ImportedRows.{ImportedRows}

@@ -2,7 +2,8 @@
 use Rattle.desk_files.proofs.Common.{◌≡◌, ◌<◌, ◌≤◌, ◌+◌, ℕ, zero, suc, List, [], ◌∷◌, ◌++◌, length, take, Bool, true, false, Some, None, is_none, unwrap_or}
 use Rattle.desk_files.proofs.Common.{Ok, Err, Bor, refl, sym, ◌∙◌, ap, arith, add-zero, length-append, append_assoc, below_more, codes, nat_eq, ends_with}
 use Rattle.desk_files.proofs.Common.{find, range_with_len, false≢true, true≢false, append-nil, Reader, are_distinct_words, TargetRow, each_row, faulty_line}
-use Rattle.desk_files.proofs.Common.{ids_of, import_of, is_header, records_of, rows_of, targets_of, HasIds, Pushes, row_behind, Gives, GivesNext, Record}
+use Rattle.desk_files.proofs.Common.{ids_of_rows, import_of, is_header, records_of, rows_of, targets_in_file, HasIds, Pushes, row_behind, GivesRecords}
+use Rattle.desk_files.proofs.Common.{GivesNext, Record}
 use Rattle.desk_files.proofs.Common.{ImportedRows}
 use Rattle.desk_files.proofs.StepFacts.{rows_fault, rows_more}
 
@@ -13,16 +14,16 @@ pub record Imported (records : List Record) (rows : ImportedRows) (line : ℕ) (
   pub more : List Record
   pub whole : records ≡ first ∷ (done ++ more)
   pub header : is_header first ≡ true
-  pub gives : Gives reader more
+  pub gives : GivesRecords reader more
   pub taken : each_row done ≡ Some rows.rows
-  pub distinct : are_distinct_words (ids_of rows.rows) ≡ true
+  pub distinct : are_distinct_words (ids_of_rows rows.rows) ≡ true
   pub ids : HasIds rows
   pub count : line ≡ length done + 2
   -- no beginning so far is faulty
   pub clean : (n : ℕ) → n < line → 1 ≤ n → is_none (rows_of (take n records)) ≡ false
 
 -- a file that ends with a line feed says what its records say
-pub says : (bytes : List ℕ) (b : Bool) → b ≡ ends_with nat_eq bytes (codes "\n") → b ≡ true → targets_of bytes ≡ import_of (records_of bytes)
+pub says : (bytes : List ℕ) (b : Bool) → b ≡ ends_with nat_eq bytes (codes "\n") → b ≡ true → targets_in_file bytes ≡ import_of (records_of bytes)
 says bytes b told is = rw (sym told ∙ is) refl
 
 -- ---- the header
@@ -60,7 +61,8 @@ begins (first ∷ rest) new r rows h is none ids =
 
 -- ---- the end
 
-rows_are : (first : Record) (done : List Record) (rows : List TargetRow) → is_header first ≡ true → each_row done ≡ Some rows → are_distinct_words (ids_of rows)
+rows_are : (first : Record) (done : List Record) (rows : List TargetRow) → is_header first ≡ true → each_row done ≡ Some rows
+    → are_distinct_words (ids_of_rows rows)
     ≡ true → rows_of (first ∷ done) ≡ Some rows
 rows_are first done rows header taken distinct = rw (header, taken, distinct) refl
 
@@ -140,7 +142,7 @@ goes_on records old_rows rows line old new r i row h next pushes = by i.more ref
         let good : row_behind old_rows.rows x ≡ Some row = rw g.1 at next in
         let both = rows_more i.done x old_rows.rows row i.taken i.distinct good in
         let taken : each_row (i.done ++ x ∷ []) ≡ Some rows.rows = rw pushes.pushed both.0 in
-        let distinct : are_distinct_words (ids_of rows.rows) ≡ true = rw pushes.pushed both.1 in
+        let distinct : are_distinct_words (ids_of_rows rows.rows) ≡ true = rw pushes.pushed both.1 in
         let whole : records ≡ i.first ∷ (i.done ++ x ∷ rest) = i.whole ∙ ap (λ more. i.first ∷ (i.done ++ more)) e in
         let so_far : rows_of (i.first ∷ (i.done ++ x ∷ [])) ≡ Some rows.rows = rows_are i.first (i.done ++ x ∷ []) rows.rows i.header taken distinct in
         let here : is_none (rows_of (take line records)) ≡ false = rw (whole, take_here i.first i.done x rest line i.count, so_far) refl in

@@ -1,6 +1,6 @@
 -- A read of a record, by the records that the reader has left.
 use Rattle.desk_files.proofs.Common.{◌≡◌, ◌<◌, ◌≤◌, ◌==◌, ◌&&◌, ℕ, zero, suc, List, [], ◌∷◌, ◌++◌, length, Bool, true, false, cond, Option, Some, None, Bor}
-use Rattle.desk_files.proofs.Common.{refl, sym, ◌∙◌, subst, arith, inl, Reader, Gives, GivesNext, known, Record}
+use Rattle.desk_files.proofs.Common.{refl, sym, ◌∙◌, subst, arith, inl, Reader, GivesRecords, GivesNext, known, Record}
 use Rattle.csv.specs.Machine.{Read, after_end, ends_at_end, ends_with, field_after, fields_after, in_field, is_byte, is_end, next_record, start_field}
 use Rattle.csv.specs.Machine.{start_record, step}
 use Rattle.csv.specs.Reading.{Reached, ReadRecord, Ready, default_config, reader_state, reader_trim, records_from, took_first}
@@ -113,7 +113,8 @@ more_left (suc n) s xs p between enough e =
     (n, rw e refl, omega (arith, h.1), h.0)
 
 -- the end of the records
-pub gives_end : (old new : Reader (Bor (List ℕ))) (fields : List (List ℕ)) → ReadRecord known old new false fields → (records : List Record) → Gives old records
+pub gives_end : (old new : Reader (Bor (List ℕ))) (fields : List (List ℕ)) → ReadRecord known old new false fields → (records : List Record)
+    → GivesRecords old records
     → GivesNext records new false fields
 gives_end old new fields read records g =
     let none : records ≡ [] = g.left
@@ -122,13 +123,13 @@ gives_end old new fields read records g =
 
 -- a record, and those that are left behind it
 pub gives_more : (old new : Reader (Bor (List ℕ))) (fields : List (List ℕ)) → took_first new ≡ true → ReadRecord known old new true fields
-    → (records : List Record) → Gives old records → GivesNext records new true fields
+    → (records : List Record) → GivesRecords old records → GivesNext records new true fields
 unfolding Reached
 gives_more old new fields took read records g =
     let (z, source, (p, next, same, (state, rest))) = rows-more known old new fields default_config (reader_state old) g.rest g.rest [] g.config g.source
     (refl, refl) read in
     let (m, unrolled, enough, between) = more_left g.turns (reader_state old) g.rest p g.between g.enough next in
-    let behind : Gives new (records_from default_config m p.1 p.2) = record {
+    let behind : GivesRecords new (records_from default_config m p.1 p.2) = record {
       trim = read.3 ∙ g.trim;
       ready = inl took;
       config = read.2 ∙ g.config;
@@ -144,6 +145,6 @@ gives_more old new fields took read records g =
 -- a read, by the records that the reader had left
 pub next_gives : (old new : Reader (Bor (List ℕ))) (found : Bool) (fields : List (List ℕ)) → (reader_trim old ≡ trim.None → took_first new ≡ true)
     → (reader_trim old ≡ trim.None → Ready old → ReadRecord known old new found fields)
-    → (records : List Record) → Gives old records → GivesNext records new found fields
+    → (records : List Record) → GivesRecords old records → GivesNext records new found fields
 next_gives old new true fields took reads records g = gives_more old new fields (took g.trim) (reads g.trim g.ready) records g
 next_gives old new false fields took reads records g = gives_end old new fields (reads g.trim g.ready) records g

@@ -1,7 +1,8 @@
 -- How the rows and their ids go on by one record.
 use Rattle.desk_files.proofs.Common.{◌≡◌, ◌&&◌, ◌||◌, ℕ, List, [], ◌∷◌, ◌++◌, Bool, true, false, not, cond, nat_eq, nat_cmp, Option, Some, None, option_map}
 use Rattle.desk_files.proofs.Common.{option_and_then, BTreeSet, refl, sym, ◌∙◌, ap, list_any, false≢true, true≢false, map-append, list_any-append}
-use Rattle.desk_files.proofs.Common.{are_distinct_words, TargetRow, distinct_rows, each_row, ids_of, HasIds, Pushes, TakesRow, has_id, if_new, row_behind}
+use Rattle.desk_files.proofs.Common.{are_distinct_words, TargetRow, distinct_rows, each_row, ids_of_rows, HasIds, Pushes, TakesRecord, has_id, if_new}
+use Rattle.desk_files.proofs.Common.{row_behind}
 use Rattle.desk_files.proofs.Common.{Record, row_of, ImportedRows}
 use Rattle.std.specs.Option.{MatchOption}
 use Rattle.std.specs.BTreeMap.{is_at}
@@ -19,7 +20,7 @@ if_or false false = refl
 has_id-push : (id : List ℕ) (rows : List TargetRow) (row : TargetRow) → has_id id (rows ++ row ∷ []) ≡ has_id id rows || (pointwise nat_eq row.id id || false)
 has_id-push id rows row =
     ap (list_any (λ v. pointwise nat_eq v id)) (map-append (λ (r : TargetRow). r.id) rows (row ∷ []))
-    ∙ list_any-append (λ v. pointwise nat_eq v id) (ids_of rows) (row.id ∷ [])
+    ∙ list_any-append (λ v. pointwise nat_eq v id) (ids_of_rows rows) (row.id ∷ [])
 
 -- one more id in the set, for one more row
 pub ids_with : (old new : BTreeSet (List ℕ)) (rows : List TargetRow) (row : TargetRow) → ((q : List ℕ) → contains (slice_cmp nat_cmp) old q ≡ has_id q rows)
@@ -36,19 +37,19 @@ was_absent added true so e = cc (sym so ∙ e)
 was_absent added false so e = refl
 
 pub takes_new : (old new : ImportedRows) (r : Record) (row : TargetRow) → row_of r ≡ Some row → has_id row.id old.rows ≡ false → new.rows ≡ old.rows ++ row ∷ []
-    → HasIds new → TakesRow old new r true
+    → HasIds new → TakesRecord old new r true
 takes_new old new r row read fresh pushed ids = rw (read, fresh) (refl, record { pushed = pushed; ids = ids })
 
 -- ---- what a taken record says
 
-pub not_taken : (old new : ImportedRows) (r : Record) → TakesRow old new r false → row_behind old.rows r ≡ None
+pub not_taken : (old new : ImportedRows) (r : Record) → TakesRecord old new r false → row_behind old.rows r ≡ None
 not_taken old new r h = by (row_behind old.rows r) h
   where
     by : (o : Option TargetRow) → MatchOption o (false ≡ false) (λ row. (false ≡ true) × Pushes old new row) → o ≡ None
     by None t = refl
     by (Some row) t = absurd (false≢true t.0)
 
-pub taken : (old new : ImportedRows) (r : Record) → TakesRow old new r true → (row : TargetRow) × (row_behind old.rows r ≡ Some row) × Pushes old new row
+pub taken : (old new : ImportedRows) (r : Record) → TakesRecord old new r true → (row : TargetRow) × (row_behind old.rows r ≡ Some row) × Pushes old new row
 taken old new r h = by (row_behind old.rows r) h
   where
     by : (o : Option TargetRow) → MatchOption o (true ≡ false) (λ row. (true ≡ true) × Pushes old new row) → (row : TargetRow) × (o ≡ Some row)
@@ -140,14 +141,14 @@ new_parts rows (Some x) row e = by (has_id x.id rows) refl e
     by false h f = let same : x ≡ row = cc f in (f, ap (λ (r : TargetRow). has_id r.id rows) (sym same) ∙ h)
 
 -- the rows of distinct ids, and one behind them
-pub rows_more : (done : List Record) (r : Record) (rows : List TargetRow) (row : TargetRow) → each_row done ≡ Some rows → are_distinct_words (ids_of rows)
+pub rows_more : (done : List Record) (r : Record) (rows : List TargetRow) (row : TargetRow) → each_row done ≡ Some rows → are_distinct_words (ids_of_rows rows)
     ≡ true → row_behind rows r ≡ Some row
-    → (each_row (done ++ r ∷ []) ≡ Some (rows ++ row ∷ [])) × (are_distinct_words (ids_of (rows ++ row ∷ [])) ≡ true)
+    → (each_row (done ++ r ∷ []) ≡ Some (rows ++ row ∷ [])) × (are_distinct_words (ids_of_rows (rows ++ row ∷ [])) ≡ true)
 rows_more done r rows row so distinct next =
     let parts = new_parts rows (row_of r) row next in
     let one : each_row (r ∷ []) ≡ Some (row ∷ []) = rw parts.0 refl in (
       each_row-append done (r ∷ []) rows (row ∷ []) so one,
-      ap are_distinct_words (map-append (λ (x : TargetRow). x.id) rows (row ∷ [])) ∙ distinct_more (ids_of rows) row.id distinct parts.1,
+      ap are_distinct_words (map-append (λ (x : TargetRow). x.id) rows (row ∷ [])) ∙ distinct_more (ids_of_rows rows) row.id distinct parts.1,
     )
 
 old_id : (rows : List TargetRow) (row : TargetRow) → if_new rows row ≡ None → has_id row.id rows ≡ true
@@ -168,7 +169,7 @@ rows_fault done r rest rows so none = by (row_of r) (each_row rest) refl refl no
     by (Some row) None read others e = let no : each_row (r ∷ rest) ≡ None = rw (read, others) refl in rw (each_row-none done (r ∷ rest) no) refl
     by (Some row) (Some more) read others e =
         let all : each_row (r ∷ rest) ≡ Some (row ∷ more) = rw (read, others) refl in
-        let twice : are_distinct_words (ids_of (rows ++ row ∷ more)) ≡ false =
+        let twice : are_distinct_words (ids_of_rows (rows ++ row ∷ more)) ≡ false =
         ap are_distinct_words (map-append (λ (x : TargetRow). x.id) rows (row ∷ more))
-        ∙ distinct_twice (ids_of rows) row.id (ids_of more) (old_id rows row e) in
+        ∙ distinct_twice (ids_of_rows rows) row.id (ids_of_rows more) (old_id rows row e) in
         rw (each_row-append done (r ∷ rest) rows (row ∷ more) so all, twice) refl

@@ -11,7 +11,7 @@ use Rattle.rollout_model.specs.declared.action_word.ActionWord.{ActionWord}
 use Rattle.rollout_model.specs.declared.action_word.ActionWord.TheVariants as word
 use Rattle.rollout_model.specs.declared.rollout.Action.{Action}
 use Rattle.desk_files.specs.ActionTables.{action_line}
-use Rattle.desk_files.specs.Laws.{IsAction, TablesAreCsv, TagsAreJoined, action_record, table_header}
+use Rattle.desk_files.specs.Laws.{IsActionInRange, TablesAreCsv, TagsAreJoined, action_record, table_header}
 
 pub joined : TagsAreJoined
 joined [] = refl
@@ -45,16 +45,17 @@ text_is_plain word.Scheduled = refl
 text_is_plain word.Canceling = refl
 text_is_plain word.Running = refl
 
-row_is_line : (a : Action) → IsAction a → row_text default_writer (action_record a) ≡ action_line a
+row_is_line : (a : Action) → IsActionInRange a → row_text default_writer (action_record a) ≡ action_line a
 unfolding fields_text is_blank
 row_is_line a is =
     rw (decimal_is_plain a.number is.number, word_is_plain a.target is.target, decimal_is_plain a.group is.group, text_is_plain a.word)
     (simp (append_assoc, append-nil))
 
-rows_are_lines : (actions : List Action) → All IsAction actions → flat_map (row_text default_writer) (map action_record actions) ≡ flat_map action_line actions
+rows_are_lines : (actions : List Action) → All IsActionInRange actions → flat_map (row_text default_writer) (map action_record actions)
+    ≡ flat_map action_line actions
 rows_are_lines [] are = refl
 rows_are_lines (a ∷ actions) are =
-    rw (row_is_line a (All-head IsAction a actions are), rows_are_lines actions (All-tail IsAction a actions are)) refl
+    rw (row_is_line a (All-head IsActionInRange a actions are), rows_are_lines actions (All-tail IsActionInRange a actions are)) refl
 
 header_is_line : row_text default_writer table_header ≡ codes "action,controllerid,group,state\n"
 unfolding fields_text is_blank

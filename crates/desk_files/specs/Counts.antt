@@ -31,7 +31,7 @@ abbrev pub counts_together : Counts → Counts → Counts
 counts_together a b = record { size = a.size + b.size; ok = a.ok + b.ok; bad = a.bad + b.bad; gone = a.gone + b.gone; undecided = a.undecided + b.undecided }
 
 -- no count is above the limit
-pub record IsUpTo (limit : ℕ) (c : Counts) : Type 0 where
+pub record AreUpTo (limit : ℕ) (c : Counts) : Type 0 where
   pub size : c.size ≤ limit
   pub ok : c.ok ≤ limit
   pub bad : c.bad ≤ limit

@@ -6,13 +6,13 @@ use Rattle.std.specs.Ordering.{nat_cmp}
 use Rattle.std.specs.Cmp.Lexicographic.{pointwise, slice_cmp}
 use Rattle.std.specs.BTreeSet.{contains}
 use Rattle.rollout_model.specs.declared.target_row.TargetRow.{TargetRow}
-use Rattle.desk_files.specs.Imports.{ids_of}
+use Rattle.desk_files.specs.Imports.{ids_of_rows}
 use Rattle.desk_files.specs.TargetRecords.{Record, row_of}
 use Rattle.desk_files.specs.declared.imported_rows.ImportedRows.{ImportedRows}
 
 -- some row is of this id
 abbrev pub has_id : List ℕ → List TargetRow → Bool
-has_id id rows = list_any (λ v. pointwise nat_eq v id) (ids_of rows)
+has_id id rows = list_any (λ v. pointwise nat_eq v id) (ids_of_rows rows)
 
 abbrev pub if_new : List TargetRow → TargetRow → Option TargetRow
 if_new rows row = if has_id row.id rows then None else Some row
@@ -30,5 +30,5 @@ pub record Pushes (old new : ImportedRows) (row : TargetRow) : Type 0 where
   pub ids : HasIds new
 
 -- the record's row is added, or there is none
-abbrev pub TakesRow : ImportedRows → ImportedRows → Record → Bool → Type 0
-TakesRow old new r taken = MatchOption (row_behind old.rows r) (taken ≡ false) (λ row. (taken ≡ true) × Pushes old new row)
+abbrev pub TakesRecord : ImportedRows → ImportedRows → Record → Bool → Type 0
+TakesRecord old new r taken = MatchOption (row_behind old.rows r) (taken ≡ false) (λ row. (taken ≡ true) × Pushes old new row)

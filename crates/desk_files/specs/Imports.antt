@@ -28,12 +28,12 @@ abbrev pub each_row : List Record → Option (List TargetRow)
 each_row [] = Some []
 each_row (r ∷ rs) = option_and_then (λ row. option_map (λ rows. row ∷ rows) (each_row rs)) (row_of r)
 
-abbrev pub ids_of : List TargetRow → List (List ℕ)
-ids_of rows = map (λ (row : TargetRow). row.id) rows
+abbrev pub ids_of_rows : List TargetRow → List (List ℕ)
+ids_of_rows rows = map (λ (row : TargetRow). row.id) rows
 
 -- the rows, where no two are of one id
 abbrev pub distinct_rows : List TargetRow → Option (List TargetRow)
-distinct_rows rows = if are_distinct_words (ids_of rows) then Some rows else None
+distinct_rows rows = if are_distinct_words (ids_of_rows rows) then Some rows else None
 
 -- the rows of the records of an import: the header, and then rows of targets, no two of one id
 abbrev pub rows_of : List Record → Option (List TargetRow)
@@ -50,18 +50,18 @@ abbrev pub import_of : List Record → Result (List TargetRow) ℕ
 import_of rs = ok_or (rows_of rs) (faulty_line rs)
 
 -- what a file says; line 0 is the file as a whole, which is empty or whose last byte is no line feed
-abbrev pub targets_of : List ℕ → Result (List TargetRow) ℕ
-targets_of bytes = if ends_with nat_eq bytes (codes "\n") then import_of (records_of bytes) else Err 0
+abbrev pub targets_in_file : List ℕ → Result (List TargetRow) ℕ
+targets_in_file bytes = if ends_with nat_eq bytes (codes "\n") then import_of (records_of bytes) else Err 0
 
 -- want of memory says nothing of the file
-abbrev pub Tells : Result (List TargetRow) ℕ → ImportFault → Type 0
-Tells said Memory = ⊤
-Tells said (Line line) = said ≡ Err line
+abbrev pub BlamesLine : Result (List TargetRow) ℕ → ImportFault → Type 0
+BlamesLine said Memory = ⊤
+BlamesLine said (Line line) = said ≡ Err line
 
 -- the rows exactly where the file says rows, and the line exactly where it says that; in place of either, want of memory
 abbrev pub ImportsAs : Result (List TargetRow) ℕ → Result (List TargetRow) ImportFault → Type 0
-ImportsAs said result = MatchResult result (λ rows. said ≡ Ok rows) (Tells said)
+ImportsAs said result = MatchResult result (λ rows. said ≡ Ok rows) (BlamesLine said)
 
-abbrev pub refusal_of : ImportFault → Refusal
-refusal_of (Line line) = BadImportLine line
-refusal_of Memory = NoMemory
+abbrev pub refusal_of_import : ImportFault → Refusal
+refusal_of_import (Line line) = BadImportLine line
+refusal_of_import Memory = NoMemory

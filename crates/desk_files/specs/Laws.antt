@@ -11,13 +11,13 @@ use Rattle.rollout_model.specs.declared.rollout.Group.{Group}
 use Rattle.rollout_model.specs.declared.rollout.Rollout.{Rollout}
 use Rattle.rollout_model.specs.declared.rollout_word.RolloutWord.TheVariants.{Running}
 use Rattle.desk_files.specs.ActionTables.{table_text}
-use Rattle.desk_files.specs.TargetRecords.{Record, words_of}
+use Rattle.desk_files.specs.TargetRecords.{Record, field_words}
 
 abbrev pub TagsAreJoined : Type 0
-TagsAreJoined = (field : List ℕ) → join_with_byte 32 (words_of field) ≡ field
+TagsAreJoined = (field : List ℕ) → join_with_byte 32 (field_words field) ≡ field
 
 -- what the type of an action promises
-pub record IsAction (a : Action) : Type 0 where
+pub record IsActionInRange (a : Action) : Type 0 where
   pub number : a.number < 2 ^ 64
   pub target : is_word a.target ≡ true
   pub group : a.group < 2 ^ 64
@@ -29,7 +29,7 @@ abbrev pub action_record : Action → Record
 action_record a = decimal a.number ∷ a.target ∷ decimal a.group ∷ action_text a.word ∷ []
 
 abbrev pub TablesAreCsv : Type 0
-TablesAreCsv = (actions : List Action) → All IsAction actions
+TablesAreCsv = (actions : List Action) → All IsActionInRange actions
     → table_text actions ≡ flat_map (row_text default_writer) (table_header ∷ map action_record actions)
 
 -- ---- the parts of worked texts

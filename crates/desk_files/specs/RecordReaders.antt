@@ -11,7 +11,7 @@ abbrev pub known : Bor (List ℕ) → Option (List ℕ)
 known s = Some s.now
 
 -- these are the records that the reader has left
-pub record Gives (reader : Reader (Bor (List ℕ))) (records : List Record) : Type 0 where
+pub record GivesRecords (reader : Reader (Bor (List ℕ))) (records : List Record) : Type 0 where
   pub trim : reader_trim reader ≡ trim.None
   pub ready : Ready reader
   pub config : reader_config reader ≡ default_config
@@ -27,4 +27,4 @@ pub record Gives (reader : Reader (Bor (List ℕ))) (records : List Record) : Ty
 -- of the records left, the next one, if there is one, and the others after it
 abbrev pub GivesNext : List Record → Reader (Bor (List ℕ)) → Bool → Record → Type 0
 GivesNext [] reader found r = found ≡ false
-GivesNext (first ∷ rest) reader found r = (found ≡ true) × (r ≡ first) × Gives reader rest
+GivesNext (first ∷ rest) reader found r = (found ≡ true) × (r ≡ first) × GivesRecords reader rest

@@ -10,20 +10,20 @@ abbrev pub token_digest_of : List ℕ → Option (List ℕ)
 token_digest_of field = option_map digest_of (token_of field)
 
 -- what stands before, between and after the spaces of a field; in an empty one stands nothing
-abbrev pub words_of : List ℕ → List (List ℕ)
-words_of [] = []
-words_of (b ∷ bs) = slice_split (λ c. c == 32) (b ∷ bs)
+abbrev pub field_words : List ℕ → List (List ℕ)
+field_words [] = []
+field_words (b ∷ bs) = slice_split (λ c. c == 32) (b ∷ bs)
 
 -- the tags of a field: at most 16 words, none twice, with one space between two
-abbrev pub tags_of : List ℕ → Option (List (List ℕ))
-tags_of field = tag_list_of (words_of field)
+abbrev pub field_tags : List ℕ → Option (List (List ℕ))
+field_tags field = tag_list_of (field_words field)
 
 abbrev pub new_row : List ℕ → List ℕ → List ℕ → List (List ℕ) → TargetRow
 new_row id name digest tags = record { id = id; name = name; digest = digest; tags = tags }
 
 abbrev pub row_of_fields : List ℕ → List ℕ → List ℕ → List ℕ → Option TargetRow
 row_of_fields id name token tags =
-    option_and_then (λ id. option_and_then (λ name. option_and_then (λ digest. option_map (λ tags. new_row id name digest tags) (tags_of tags))
+    option_and_then (λ id. option_and_then (λ name. option_and_then (λ digest. option_map (λ tags. new_row id name digest tags) (field_tags tags))
     (token_digest_of token)) (text_of name)) (word_of id)
 
 -- the fields of a record

@@ -1,7 +1,7 @@
 //! The counts of a line of a report.
 
 ghost use Rattle.std.specs.Prelude.{◌≡◌, ◌++◌, ◌^◌, string_bytes, OnOk};
-ghost use Rattle.desk_files.specs.Counts.{IsUpTo, counts_of, counts_text, counts_together, total_counts};
+ghost use Rattle.desk_files.specs.Counts.{AreUpTo, counts_of, counts_text, counts_together, total_counts};
 
 use crate::columns::push_right;
 use rollout_model::Group;
@@ -20,7 +20,7 @@ pub(crate) struct Counts {
 /// The counts of a group.
 pub(crate) fn group_counts(group: &Group) -> Counts
     ensures value { result ≡ counts_of group.now }
-    ensures small { IsUpTo (2 ^ 32) result }
+    ensures small { AreUpTo (2 ^ 32) result }
 {
     let undecided = group
         .size
@@ -37,8 +37,8 @@ pub(crate) fn group_counts(group: &Group) -> Counts
 }
 
 fn together(a: Counts, b: Counts) -> Counts
-    requires left { IsUpTo (2 ^ 96) a }
-    requires right { IsUpTo (2 ^ 96) b }
+    requires left { AreUpTo (2 ^ 96) a }
+    requires right { AreUpTo (2 ^ 96) b }
     ensures { result ≡ counts_together a b }
 {
     Counts {

@@ -2,7 +2,7 @@
 
 ghost use Rattle.std.specs.Prelude.{◌≡◌};
 ghost use Rattle.csv.specs.Records.{fields_of};
-ghost use Rattle.desk_files.specs.Imports.{ImportsAs, is_header, targets_of};
+ghost use Rattle.desk_files.specs.Imports.{ImportsAs, is_header, targets_in_file};
 
 use crate::fields::four_fields;
 use crate::import_fault::ImportFault;
@@ -35,7 +35,7 @@ fn is_header(record: &ByteRecord) -> bool
 /// the header being 1: another header, or none; a record of another length; an id, a name, a token or a tag that breaks
 /// its rule; more than 16 tags, or one of them twice; an id that came before. `Memory` where memory is refused.
 pub fn read_targets(alloc: Global, bytes: &[u8]) -> Result<TargetRows, ImportFault>
-    ensures { ImportsAs (targets_of bytes.now) result }
+    ensures { ImportsAs (targets_in_file bytes.now) result }
 {
     if !bytes.ends_with(b"\n") {
         return Err(ImportFault::Line(0));

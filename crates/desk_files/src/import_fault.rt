@@ -1,7 +1,7 @@
 //! Why a file isn't read as an import.
 
 ghost use Rattle.std.specs.Prelude.{◌≡◌};
-ghost use Rattle.desk_files.specs.Imports.{refusal_of};
+ghost use Rattle.desk_files.specs.Imports.{refusal_of_import};
 ghost use Rattle.desk_files.specs.declared.import_fault.ImportFault.TheVariants.{Memory};
 
 use rollout_model::Refusal;
@@ -20,7 +20,7 @@ pub enum ImportFault {
 impl ImportFault {
     /// The refusal of a request that hands in such a file.
     pub fn refusal(&self) -> Refusal
-        ensures { result ≡ refusal_of self.now }
+        ensures { result ≡ refusal_of_import self.now }
     {
         match self {
             ImportFault::Line(line) => Refusal::BadImportLine(*line),

@@ -2,7 +2,7 @@
 
 ghost use Rattle.std.specs.Prelude.{◌≡◌, [], IfOk};
 ghost use Rattle.csv.specs.Records.{fields_of};
-ghost use Rattle.desk_files.specs.ImportSteps.{HasIds, TakesRow};
+ghost use Rattle.desk_files.specs.ImportSteps.{HasIds, TakesRecord};
 
 use crate::target_record::read_row;
 use csv::ByteRecord;
@@ -37,7 +37,7 @@ impl ImportedRows {
 
     /// Adds the row of a record, where it is one of an id that no row before it has; `false` where it isn't.
     pub(crate) fn take(&mut self, alloc: Global, record: &ByteRecord) -> Result<bool, AllocError>
-        ensures { IfOk result (λ taken. HasIds self.old → TakesRow self.old self.new (fields_of record.now) taken) }
+        ensures { IfOk result (λ taken. HasIds self.old → TakesRecord self.old self.new (fields_of record.now) taken) }
     {
         let Some(row) = read_row(alloc, record)? else {
             return Ok(false);

@@ -7,7 +7,7 @@ ghost use Rattle.rollout_model.specs.declared.rollout_word.RolloutWord.TheVarian
 ghost use Rattle.rollout_model.specs.Limits.{file_length_limit};
 ghost use Rattle.artifact_pieces.specs.Digests.{digest_of};
 ghost use Rattle.desk_files.specs.ActionTables.{table_text};
-ghost use Rattle.desk_files.specs.Imports.{targets_of};
+ghost use Rattle.desk_files.specs.Imports.{targets_in_file};
 ghost use Rattle.desk_files.specs.Laws.{TablesAreCsv, TagsAreJoined, worked_action, worked_group, worked_rollout};
 ghost use Rattle.desk_files.specs.Reports.{report_lines};
 ghost use Rattle.desk_files.specs.TargetRecords.{new_row};
@@ -31,7 +31,7 @@ pub fn file_limit()
 
 /// A worked file: three targets, the second of them without tags.
 pub fn worked_import()
-    ensures { targets_of (codes "controllerid,name,token,tags\ndev-01,Lab one,tok-dev-01,lab\ndev-02,Lab two,tok-dev-02,\ndev-03,Yard,tok-dev-03,lab outdoor\n")
+    ensures { targets_in_file (codes "controllerid,name,token,tags\ndev-01,Lab one,tok-dev-01,lab\ndev-02,Lab two,tok-dev-02,\ndev-03,Yard,tok-dev-03,lab outdoor\n")
         ≡ Ok (new_row (codes "dev-01") (codes "Lab one") (digest_of (codes "tok-dev-01")) (codes "lab" ∷ [])
         ∷ new_row (codes "dev-02") (codes "Lab two") (digest_of (codes "tok-dev-02")) []
         ∷ new_row (codes "dev-03") (codes "Yard") (digest_of (codes "tok-dev-03")) (codes "lab" ∷ codes "outdoor" ∷ []) ∷ []) }
@@ -39,13 +39,13 @@ pub fn worked_import()
 
 /// The same with the first id in place of the third: the fourth record is the faulty one.
 pub fn worked_fault()
-    ensures { targets_of (codes "controllerid,name,token,tags\ndev-01,Lab one,tok-dev-01,lab\ndev-02,Lab two,tok-dev-02,\ndev-01,"
+    ensures { targets_in_file (codes "controllerid,name,token,tags\ndev-01,Lab one,tok-dev-01,lab\ndev-02,Lab two,tok-dev-02,\ndev-01,"
         ++ codes "Yard,tok-dev-03,lab outdoor\n") ≡ Err 4 }
 {}
 
 /// A file that ends within a quoted field, without a line feed.
 pub fn worked_cut()
-    ensures { targets_of (codes "controllerid,name,token,tags\ndev-01,\"Lab") ≡ Err 0 }
+    ensures { targets_in_file (codes "controllerid,name,token,tags\ndev-01,\"Lab") ≡ Err 0 }
 {}
 
 /// The report of a worked rollout.

@@ -3,7 +3,7 @@ use Rattle.desk_opening.proofs.Common.{◌≡◌, inl, inr, Ok, Err, Result, IfE
 use Rattle.desk_opening.proofs.Common.{HoldIn, IsAtRest, Rests, still_holds, Wears, Records, desk_table, HoldsRecords, HoldsAt, HoldsReadable, newest, Version}
 use Rattle.desk_opening.proofs.Common.{from_newest, newest_is_readable, OpenFault, NotDesk, NewerVersion, Memory, Store, HoldsFrom, Migrates, MigratesTo}
 use Rattle.desk_opening.proofs.Common.{Adopts, HasDeskAt, HasRow, IsDeskRow, IsFailure, IsSettled, Keeps, TellsVersion}
-use Rattle.desk_opening.specs.Opening.{TakesTo}
+use Rattle.desk_opening.specs.Opening.{TakesOverTo}
 use Rattle.desk_opening.proofs.HeldLemmas.{same_version}
 use Rattle.desk_opening.proofs.Steps.{rests_as}
 
@@ -75,7 +75,7 @@ module _ (old mid : State) (table : StandsSomewhere old.now.schema (desk_table 0
   pub stood_at : (w : Version) → Wears mid new → HasCleanDisk new → (r : Records) → Rests (HoldsAt w) old r → Rests (HoldsAt v) mid r
   stood_at w wears clean r was = subst (λ u. Rests (HoldsAt u) mid r) (sym (moved_at w wears clean r was)) (k.keeps_at w r was)
 
-  still : {A : Type 0} {e : OpenFault} → Migrates {A = A} v mid new (Err e) → TakesTo {A = A} old new (Err e)
+  still : {A : Type 0} {e : OpenFault} → Migrates {A = A} v mid new (Err e) → TakesOverTo {A = A} old new (Err e)
   still m r was clean db left = one_or_other v r db (m.migrates r (stood m.wears clean r was) clean db left)
 
   still_at : {A : Type 0} (w : Version) {e : OpenFault} → Migrates {A = A} v mid new (Err e) → MigratesTo {A = A} w old new (Err e)

@@ -1,8 +1,8 @@
 -- Which of the two ways an open takes.
 use Rattle.desk_opening.proofs.Common.{Bool, codes, inl, inr, Ok, Err, Result, IfOk, IfErr, arith, both_ways, Database, State, HasCleanDisk, is_used}
 use Rattle.desk_opening.proofs.Common.{LeavesFree, Rests, still_holds, Records, Desk, desk_names, HoldsAt, HoldsPlace, HoldsReadable, Version, has_desk}
-use Rattle.desk_opening.proofs.Common.{HoldsStage, Free, Makes, told, OpenFault, NotDesk, NewerVersion, Memory, Store, Adopts, HasDesk, HasRow, LacksDesk}
-use Rattle.desk_opening.proofs.Common.{IsFailure, Tells, FindsTo, OpensDesk, OpensTo, IsKnownOpen}
+use Rattle.desk_opening.proofs.Common.{HoldsStage, Free, Makes, told, OpenFault, NotDesk, NewerVersion, Memory, Store, Adopts, HasDesk, HasRow, LacksPartOfDesk}
+use Rattle.desk_opening.proofs.Common.{IsFailure, TellsOfRow, FindsTo, OpensDesk, OpensTo, IsKnownOpen}
 use Rattle.desk_opening.proofs.Steps.{rests_as}
 use Rattle.desk_opening.proofs.VersionLemmas.{used_at}
 
@@ -37,7 +37,7 @@ module _ {A : Type 0} (old new : State) (approval : Bool) where
     makes = λ is_open. go out is_open;
   }
     where
-      finds : (result : Result A OpenFault) → Tells (λ _. HasDesk old.now) (HasRow old.now) (LacksDesk old.now) result → FindsTo old.now result
+      finds : (result : Result A OpenFault) → TellsOfRow (λ _. HasDesk old.now) (HasRow old.now) (LacksPartOfDesk old.now) result → FindsTo old.now result
       finds (Ok x) told = inl told
       finds (Err NotDesk) told = record { used = used; other = told }
       finds (Err NewerVersion) told = told

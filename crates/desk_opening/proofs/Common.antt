@@ -67,22 +67,23 @@ pub use Rattle.desk_records.specs.Readable.{HoldsAt, HoldsPlace, HoldsReadable}
 pub use Rattle.desk_records.specs.Rollouts.{flag, rule_row, rules_from, told_rollout}
 pub use Rattle.desk_records.specs.Schema.{Desk, Numbers, Offers, Place, Rollouts, Rules, desk_names, desk_table, name_of, offer_table, places, rule_table}
 pub use Rattle.desk_records.specs.Schema.{table_at}
-pub use Rattle.desk_records.specs.Versions.{IsEven, IsTellable, IsUnnumbered, later_than, newest, number_of, places_at, table_count_of}
+pub use Rattle.desk_records.specs.Versions.{IsEven, IsTellable, IsUnnumbered, later_than, newest, version_number, places_at, table_count_of}
 pub use Rattle.desk_records.specs.declared.rollout_texts.TheConstants.{GET_ROLLOUT, LAST_ROLLOUT, PUT_RULE}
 pub use Rattle.desk_records.specs.declared.texts.TheConstants.{GET_DESK, PUT_DESK, SET_VERSION}
 pub use Rattle.desk_records.specs.declared.version.Version.{Version}
 pub use Rattle.desk_records.specs.declared.version.Version.TheVariants.{One, Three, Two}
 pub use Rattle.desk_opening.specs.Filling.{FillsLater, FillsRollout, FindsLedger, IsOfNumber, Leaves, MakesLedger, Stays, WritesCopies, WritesRules}
 pub use Rattle.desk_opening.specs.Filling.{WritesUpTo, bare_ledger, no_rules, rules_up_to}
-pub use Rattle.desk_opening.specs.Making.{AreApart, At, Before, Changes, Free, HoldsBefore, HoldsPartly, HoldsStage, IsEmptyTable, LeavesDesk, LeavesNoDesk}
+pub use Rattle.desk_opening.specs.Making.{AreApart, At, Before, Changes, Free, HoldsBefore, HoldsPartly, HoldsStage, IsEmptyTable, LeavesDeskWith, LeavesNoDesk}
 pub use Rattle.desk_opening.specs.Making.{Makes, MakesTables, Nothing, Older, Partly, Stage, Standing, Whole, first_records, told}
 pub use Rattle.desk_opening.specs.Migrating.{HoldsFrom, Migrates, MigratesTo}
 pub use Rattle.desk_opening.specs.Opening.{Adopts, FindsTo, HasDesk, HasDeskAt, HasDeskTables, HasNoDesk, HasNoRow, HasRow, IsDeskRow, IsFailure, IsKnownOpen}
-pub use Rattle.desk_opening.specs.Opening.{IsNewerRow, IsOtherRow, IsSettled, IsWholeAt, Keeps, LacksAt, LacksDesk, LacksTables, OpensDesk, OpensTo, TakesRow}
-pub use Rattle.desk_opening.specs.Opening.{Tells, TellsVersion}
+pub use Rattle.desk_opening.specs.Opening.{IsNewerRow, IsOtherRow, IsSettled, IsWholeAt, Keeps, LacksAt, LacksPartOfDesk, LacksTables, OpensDesk, OpensTo}
+pub use Rattle.desk_opening.specs.Opening.{TakesDeskRow}
+pub use Rattle.desk_opening.specs.Opening.{TellsOfRow, TellsVersion}
 pub use Rattle.desk_opening.specs.Places.{create_text_of, place_of}
 pub use Rattle.desk_opening.specs.Reopening.{BeginsPlain, EachAfter, HasNewer, HoldsDesk, HoldsDeskAt, HoldsNoDesk, HoldsNone, HoldsPlain, HoldsWhatWas}
-pub use Rattle.desk_opening.specs.Reopening.{IsForeign, IsOpenable, LeavesUnharmed, Refuses, Reopens, Spares, UsesNoName}
+pub use Rattle.desk_opening.specs.Reopening.{IsForeign, IsOpenable, LeavesUnharmed, RefusesOpened, Reopens, Spares, UsesNoName}
 pub use Rattle.desk_opening.specs.declared.desk_table.DeskTable.{DeskTable}
 pub use Rattle.desk_opening.specs.declared.opening.OpenFault.{OpenFault}
 pub use Rattle.desk_opening.specs.declared.opening.OpenFault.TheVariants.{Memory, NewerVersion, NotDesk, Store}

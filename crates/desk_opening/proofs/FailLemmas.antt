@@ -15,7 +15,7 @@ use Rattle.desk_records.specs.RowFaults.{IfRowsBroken}
 use Rattle.desk_records.specs.declared.rollout_row.StoredRollout.{StoredRollout}
 use Rattle.desk_records.proofs.RolloutMeaning.{rollout_names}
 use Rattle.desk_records.proofs.RolloutRecords.{gets_rollout, lasts_rollout}
-use Rattle.desk_opening.specs.Counting.{AreReadable, Counts, FailsGiven, HasReadable, IsReadable, TellsStore}
+use Rattle.desk_opening.specs.Counting.{AreReadable, Counts, FailsGiven, HasReadable, IsRolloutReadable, TellsStore}
 use Rattle.desk_opening.specs.Filling.{GivenBare, GivenRules, HasNoNumber, LacksRollout}
 use Rattle.desk_opening.proofs.FillLemmas.{ending, getting, within}
 use Rattle.desk_opening.proofs.RowLemmas.{within_row}
@@ -49,7 +49,7 @@ module _ {S : Type 0} {g : Ghosts S} {old new : Calls S} where
 
 -- ---- a rollout
 
-row_kept : (row : Option Row) (x : RolloutRecord) → row ≡ Some (told_rollout x) → IsReadable x → LacksRollout row → ⊥
+row_kept : (row : Option Row) (x : RolloutRecord) → row ≡ Some (told_rollout x) → IsRolloutReadable x → LacksRollout row → ⊥
 row_kept row x is readable lacks =
     let broken : LacksRollout (Some (told_rollout x)) = subst LacksRollout is lacks in
     let both : None ≡ Some broken.first = sym readable ∙ broken.is in
@@ -94,7 +94,7 @@ module _ {S : Type 0} {g : Ghosts S} {a b m z : Calls S} (k last n : ℕ) (low :
         made.makes l mid seen.0 (λ known. record { none = given.none; within = omega (arith, low, count); next_is = refl }) in
         let it = within k xs (omega (arith, low, count)) in
         let there : HasReadable (suc k) mid =
-        record { rollout = it.0; is_there = it.1; readable = all-slice_get IsReadable xs k it.0 it.1 given.readable.keep } in
+        record { rollout = it.0; is_there = it.1; readable = all-slice_get IsRolloutReadable xs k it.0 it.1 given.readable.keep } in
         h.to failed (counts.to failed (before.to failed was)) mid now (subst (λ i. HasReadable i mid) (sym next) there) clean;
   }
 

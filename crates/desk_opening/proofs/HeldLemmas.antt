@@ -1,9 +1,9 @@
 -- A database that holds the records of a desk, or uses no name of one, is refused for a failure alone.
 use Rattle.desk_opening.proofs.Common.{◌≡◌, ◌<ℤ◌, inl, inr, ℤ, false, [], ◌∷◌, codes, pos, Some, Err, slice_get, refl, sym, ap, subst, ◌∙◌, arith}
 use Rattle.desk_opening.proofs.Common.{AllByRecursion, true≢false, both_ways, Int, Text, Row, column, Table, Database, has_rowid, Has, is_used, LeavesFree}
-use Rattle.desk_opening.proofs.Common.{StandsSomewhere, Records, Desk, table_at, desk_table, desk_names, desk_row, HoldsAt, HoldsPlace, newest, number_of}
+use Rattle.desk_opening.proofs.Common.{StandsSomewhere, Records, Desk, table_at, desk_table, desk_names, desk_row, HoldsAt, HoldsPlace, newest, version_number}
 use Rattle.desk_opening.proofs.Common.{places_at, Version, has_desk, is_known, one_numbered, flag, OpenFault, NotDesk, NewerVersion, Memory, Store, FindsTo}
-use Rattle.desk_opening.proofs.Common.{HasDeskTables, HasNoRow, HasRow, IsDeskRow, IsFailure, IsNewerRow, IsOtherRow, LacksDesk, same_some}
+use Rattle.desk_opening.proofs.Common.{HasDeskTables, HasNoRow, HasRow, IsDeskRow, IsFailure, IsNewerRow, IsOtherRow, LacksPartOfDesk, same_some}
 use Rattle.std.proofs.lemmas.Int.{ints}
 use Rattle.sqlite_value.specs.Order.{value_cmp}
 use Rattle.desk_opening.proofs.VersionLemmas.{used_at}
@@ -29,7 +29,7 @@ module _ (db : Database) (r : Records) (v : Version) (holds : HoldsAt v db r) wh
   only_row row (inr never) = absurd never
 
   -- the row of number 1 is a desk's
-  row_says : (Says : Row → Type 0) → HasRow db Says → Says (Text (codes "fwdesk") ∷ Int (pos (number_of v)) ∷ Int (pos (flag r.approval)) ∷ [])
+  row_says : (Says : Row → Type 0) → HasRow db Says → Says (Text (codes "fwdesk") ∷ Int (pos (version_number v)) ∷ Int (pos (flag r.approval)) ∷ [])
   row_says Says h =
       let is : h.row ≡ desk_row v r.approval = only_row h.row (subst (λ rows. Has rows h.row) (desk_rows h.table) h.among) in
       subst (λ (row : Row). Says (column row 2 ∷ column row 3 ∷ column row 4 ∷ [])) is h.says
@@ -40,9 +40,9 @@ module _ (db : Database) (r : Records) (v : Version) (holds : HoldsAt v db r) wh
   is_no_newer : ¬ HasRow db IsNewerRow
   is_no_newer h =
       let it = row_says IsNewerRow h in
-      let version : Int (pos (number_of v)) ≡ Int it.number = it.version in
-      let same : pos (number_of v) ≡ it.number = cc in
-      let later : pos (number_of newest) <ℤ pos (number_of v) = subst (λ (n : ℤ). pos (number_of newest) <ℤ n) (sym same) it.later in
+      let version : Int (pos (version_number v)) ≡ Int it.number = it.version in
+      let same : pos (version_number v) ≡ it.number = cc in
+      let later : pos (version_number newest) <ℤ pos (version_number v) = subst (λ (n : ℤ). pos (version_number newest) <ℤ n) (sym same) it.later in
       absurd (omega (arith, ints, later, is_known v))
 
   has_row : ¬ HasNoRow db
@@ -62,11 +62,11 @@ module _ (db : Database) (r : Records) (v : Version) (holds : HoldsAt v db r) wh
   -- the row names the version that it is held in
   pub same_version : (w : Version) → HasRow db (IsDeskRow w) → w ≡ v
   same_version w h =
-      let it : Int (pos (number_of v)) ≡ Int (pos (number_of w)) = (row_says (IsDeskRow w) h).version in
-      let numbers : number_of w ≡ number_of v = cc in
+      let it : Int (pos (version_number v)) ≡ Int (pos (version_number w)) = (row_says (IsDeskRow w) h).version in
+      let numbers : version_number w ≡ version_number v = cc in
       one_numbered w v numbers
 
-  lacks_none : ¬ LacksDesk db
+  lacks_none : ¬ LacksPartOfDesk db
   lacks_none (inl none) = none table_stands
   lacks_none (inr (inl none)) = has_row none
   lacks_none (inr (inr tables)) = tables.lacks (subst (λ w. HasDeskTables w db.schema) (sym (same_version tables.version tables.row)) has_tables)

@@ -4,7 +4,7 @@ use Rattle.desk_opening.proofs.Common.{IsErr, if◌then◌else◌, None, refl, s
 use Rattle.desk_opening.proofs.Common.{Insert, Values, State, HasCleanDisk, Writes, Fault, RunsText, HoldIn, Wears, Rests, Known, begin_is, commit_is}
 use Rattle.desk_opening.proofs.Common.{drop_all, length-map, take_all, HoldsRecords, ledger_of, PUT_DESK, put_desk_is, desk_terms, Place, places, BEGIN}
 use Rattle.desk_opening.proofs.Common.{COMMIT, AreApart, Before, Changes, HoldsPartly, HoldsStage, Free, Nothing, Partly, Stage, Whole, LeavesNoDesk}
-use Rattle.desk_opening.proofs.Common.{LeavesDesk, first_records, MakesTables, Makes, DeskTable, place_of, create_text_of, put_at}
+use Rattle.desk_opening.proofs.Common.{LeavesDeskWith, first_records, MakesTables, Makes, DeskTable, place_of, create_text_of, put_at}
 use Rattle.sql_calls.proofs.Leavings.{IsSettled}
 use Rattle.sql_calls.proofs.FrameEnds as frame
 use Rattle.desk_opening.proofs.Steps.{changes_as, rests_as, step, step_fails}
@@ -93,7 +93,7 @@ begun a b kept was first = let it = frame.begins HoldsStage BEGIN.now a b (begin
 
 module _ (approval : Bool) {F : Type 0} (out : Result (Unit {0}) F) where
   fails : (a z : State) → Wears a z → IsErr out
-      → (Rests HoldsStage a Free → HasCleanDisk z → (db : Trees) → z.may_leave db → LeavesNoDesk db ⊎ LeavesDesk db (first_records approval))
+      → (Rests HoldsStage a Free → HasCleanDisk z → (db : Trees) → z.may_leave db → LeavesNoDesk db ⊎ LeavesDeskWith db (first_records approval))
       → Makes a z approval out
   fails a z wears bad f = go out bad
     where

@@ -2,7 +2,7 @@
 use Rattle.desk_opening.proofs.Common.{inl, inr, [], codes, Option, Ok, Err, Result, subst, arith, Trees, Begin, Select, Database, State, HasCleanDisk, Fault}
 use Rattle.desk_opening.proofs.Common.{RunsText, TakesFirst, Wears, HoldIn, Rests, Spoiled, Knows, runs_plain, begin_is, rollback_is, begins, fails_to_begin}
 use Rattle.desk_opening.proofs.Common.{gives_up, Records, Desk, HoldsAt, HoldsPlace, HoldsReadable, Version, has_desk, GET_DESK, desk_query, get_desk_is}
-use Rattle.desk_opening.proofs.Common.{OpenFault, Keeps, TakesRow, TellsVersion, asked_at}
+use Rattle.desk_opening.proofs.Common.{OpenFault, Keeps, TakesDeskRow, TellsVersion, asked_at}
 use Rattle.sqlite.specs.Order.{Row}
 use Rattle.sql_calls.specs.Standing.{FrameTo, Opens}
 use Rattle.sql_calls.proofs.Framing.{first_frames}
@@ -60,7 +60,7 @@ module _ (a b : State) where
     opened = tt;
   }
 
-  module _ (first : RunsText a b (codes "BEGIN") [] (Ok tt)) (c : State) (row : TakesRow b c) (d : State) where
+  module _ (first : RunsText a b (codes "BEGIN") [] (Ok tt)) (c : State) (row : TakesDeskRow b c) (d : State) where
     wears : Wears c d → Wears a d
     wears last = omega (arith, first.survives.clean, row.takes.survives.clean, last)
 

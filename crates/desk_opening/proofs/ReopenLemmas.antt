@@ -4,7 +4,7 @@ use Rattle.desk_opening.proofs.Common.{subst, arith, ∥∥₁_elim, Trees, Sche
 use Rattle.desk_opening.proofs.Common.{State, HasCleanDisk, Opens, IsLive, AllZip, position_from, Row, Text, IsSound, IsViewRow, same_name, is_used, Stands}
 use Rattle.desk_opening.proofs.Common.{Has, HoldIn, IsAtRest, Rests, still_holds, LeavesFree, Records, desk_names, HoldsAt, HoldsPlace, HoldsReadable, Version}
 use Rattle.desk_opening.proofs.Common.{Database, name_of, later_than, places_at, HoldsStage, Free, told, OpenFault, OpensDesk, HasDesk, HasNoDesk, HasRow}
-use Rattle.desk_opening.proofs.Common.{IsFailure, IsNewerRow, FindsTo, IsSettled, Reopens, Refuses, BeginsPlain, HoldsDesk, HoldsDeskAt, HoldsNone}
+use Rattle.desk_opening.proofs.Common.{IsFailure, IsNewerRow, FindsTo, IsSettled, Reopens, RefusesOpened, BeginsPlain, HoldsDesk, HoldsDeskAt, HoldsNone}
 use Rattle.desk_opening.proofs.Common.{HoldsNoDesk, HasNewer, IsOpenable, UsesNoName}
 use Rattle.std.proofs.Math.Bool.{Bool-set}
 use mathlib.Core.HLevel.{Π_prop}
@@ -163,7 +163,7 @@ module _ (image : Image) (old : State) (opened : HasCleanDisk old → Opens old 
       }
 
   pub refuses : (X : Type 0) (new : State) (approval : Bool) (e : OpenFault) → OpensDesk {A = X} old new approval (Err e) → HasCleanDisk new
-      → Refuses image new.may_leave approval e
+      → RefusesOpened image new.may_leave approval e
   refuses X new approval e h clean =
       let is_open = λ (clean : HasCleanDisk old). (opened clean).0.is_open in
       record {

@@ -4,7 +4,7 @@ use Rattle.desk_opening.proofs.Common.{Some, None, Ok, Err, Result, refl, sym, a
 use Rattle.desk_opening.proofs.Common.{has_rowid, Has, AllByRecursion, length-map, Term, col, lit, Database, Schema, State, HasCleanDisk, StandsSomewhere}
 use Rattle.desk_opening.proofs.Common.{TakesFirst, first_shown, first_unchanged, none_shown, shows_as, passes, shown_of, simple_rows, desk_table, GET_DESK}
 use Rattle.desk_opening.proofs.Common.{is_equal, get_desk_is, OpenFault, NotDesk, NewerVersion, Memory, Store, Version, HasDeskAt, HasNoRow, HasRow, IsWholeAt}
-use Rattle.desk_opening.proofs.Common.{LacksAt, LacksTables, Tells, TellsVersion, IsDeskRow, IsNewerRow, IsOtherRow, and-true, nil_from_length, asked_at}
+use Rattle.desk_opening.proofs.Common.{LacksAt, LacksTables, TellsOfRow, TellsVersion, IsDeskRow, IsNewerRow, IsOtherRow, and-true, nil_from_length, asked_at}
 use Rattle.sqlite_value.specs.Order.{value_cmp}
 use Rattle.sqlite_trees.proofs.ListLemmas.{all-permutation}
 use Rattle.std.proofs.lemmas.List.Sorted.{length_permutation}
@@ -93,7 +93,8 @@ module _ (b c : State) (second : TakesFirst b c GET_DESK.now [] (Ok None)) (clea
 -- ---- what the answers tell of it
 
 tells_row : (db : Database) (row : Row) (out : Result Version OpenFault) → HasRow db (λ shown. row ≡ shown)
-    → Tells (IsWholeAt row db.schema) (λ Says. Says row) (LacksAt row db.schema) out → Tells (HasDeskAt db) (HasRow db) (HasNoRow db ⊎ LacksTables db) out
+    → TellsOfRow (IsWholeAt row db.schema) (λ Says. Says row) (LacksAt row db.schema) out → TellsOfRow (HasDeskAt db) (HasRow db) (HasNoRow db ⊎ LacksTables db)
+    out
 tells_row db row (Ok v) h told =
     record {
       tables = told.tables;
@@ -114,11 +115,11 @@ tells_row db row (Err Store) h told = tt
 -- of a row, and of the schema behind the read
 pub tells_seen : (b c : State) (found : Option Row) (row : Row) (schema : Schema) (out : Result Version OpenFault) → found ≡ Some row
     → TakesFirst b c GET_DESK.now [] (Ok found) → schema ≡ c.now.schema
-    → Tells (IsWholeAt row schema) (λ Says. Says row) (LacksAt row schema) out → HasCleanDisk c → TellsVersion b.now out
+    → TellsOfRow (IsWholeAt row schema) (λ Says. Says row) (LacksAt row schema) out → HasCleanDisk c → TellsVersion b.now out
 tells_seen b c found row schema out is took here told clean table =
     let second : TakesFirst b c GET_DESK.now [] (Ok (Some row)) = subst (λ o. TakesFirst b c GET_DESK.now [] (Ok o)) is took in
     tells_row b.now row out (reads_row b c row second clean table)
-    (subst (λ s. Tells (IsWholeAt row s) (λ Says. Says row) (LacksAt row s) out) (here ∙ same_schema b c row second clean table) told)
+    (subst (λ s. TellsOfRow (IsWholeAt row s) (λ Says. Says row) (LacksAt row s) out) (here ∙ same_schema b c row second clean table) told)
 
 pub tells_none : (b c : State) (found : Option Row) → found ≡ None → TakesFirst b c GET_DESK.now [] (Ok found) → HasCleanDisk c
     → TellsVersion b.now (Err NotDesk)

@@ -5,7 +5,7 @@ use Rattle.desk_opening.proofs.Common.{position_from, true≢false, and_parts, e
 use Rattle.desk_opening.proofs.Common.{Database, IsDatabase, CreateTable, Insert, Values, State, Writes, Has, same_name, next_tree, is_used, automatics}
 use Rattle.desk_opening.proofs.Common.{IsTableRow, IsIndexRow, IsDefined, all-slice_get, IsPermutation-same, table_defined_by, Stands, LeavesFree}
 use Rattle.desk_opening.proofs.Common.{HasNoForeignKey, ComparesBytes, Inserted, inserts, uncounted, given_rows, cast_int, cast_null, Place, Desk, Offers}
-use Rattle.desk_opening.proofs.Common.{places, table_at, name_of, desk_table, offer_table, newest, number_of, places_at, HoldsPlace, AreRowsOf, Content}
+use Rattle.desk_opening.proofs.Common.{places, table_at, name_of, desk_table, offer_table, newest, version_number, places_at, HoldsPlace, AreRowsOf, Content}
 use Rattle.desk_opening.proofs.Common.{HoldsRecords, Offered, Ordered, Spot, IsHeld, Unordered, content_at, content_of, desk_row, ledger_of, desk_terms}
 use Rattle.desk_opening.proofs.Common.{create_text_of, Before, HoldsBefore, HoldsPartly, IsEmptyTable, Nothing, Older, first_records, each_place}
 use Rattle.desk_opening.proofs.Common.{place_or_other, same_elsewhere, same_places}
@@ -191,8 +191,8 @@ only_row : (approval : Bool) (tree : ℕ)
     → put_all [] (numbered Chosen []
     (map (λ s. cast_row (uncounted (desk_table tree)) (drop 0 s))
     (given_rows (uncounted (desk_table tree)) (Int (if approval then pos 1 else pos 0) ∷ []) desk_terms 5))) ≡ desk_row newest approval ∷ []
-only_row true tree = rw (cast_int 1, cast_int (number_of newest), cast_null)
-only_row false tree = rw (cast_int 1, cast_int (number_of newest), cast_int 0, cast_null)
+only_row true tree = rw (cast_int 1, cast_int (version_number newest), cast_null)
+only_row false tree = rw (cast_int 1, cast_int (version_number newest), cast_int 0, cast_null)
 
 -- a table of another name is in another tree
 in_another : (s : Schema) (desk other : Place) (m n : ℕ) → find (λ (x : Table). x.tree == m) s.tables ≡ Some (table_at desk m)

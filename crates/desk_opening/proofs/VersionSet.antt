@@ -3,7 +3,8 @@ use Rattle.desk_opening.proofs.Common.{◌≡◌, ◌≢◌, inl, inr, ℕ, ◌+
 use Rattle.desk_opening.proofs.Common.{subst, ◌∙◌, arith, AllByRecursion, Null, Int, Text, Row, Table, Database, Update, State, Writes, all-slice_get, Stands}
 use Rattle.desk_opening.proofs.Common.{HasNoForeignKey, ComparesBytes, cast_int, cast_null, passes, Records, AreRowsOf, HoldsLedger, IsHeld, Spot, content_at}
 use Rattle.desk_opening.proofs.Common.{content_of, desk_row, ledger_of, HoldsPlace, flag, Place, Desk, Offers, desk_table, name_of, offer_table, table_at}
-use Rattle.desk_opening.proofs.Common.{later_than, newest, number_of, places_at, Version, each_place, set_version_query, version_values, is_equal, is_named}
+use Rattle.desk_opening.proofs.Common.{later_than, newest, version_number, places_at, Version, each_place, set_version_query, version_values, is_equal}
+use Rattle.desk_opening.proofs.Common.{is_named}
 use Rattle.desk_opening.proofs.Common.{place_named, place_or_other, same_elsewhere, bare_ledger, HoldsPartly, IsEmptyTable, Older, Term, lit, col, and-true}
 use Rattle.desk_opening.proofs.RowLemmas.{judged}
 use Rattle.sqlite_sql.specs.Ops.{binary}
@@ -87,8 +88,8 @@ module _ (v : Version) (r : Records) where
 
       version_set : new.now.trees tree ≡ desk_row newest r.approval ∷ []
       version_set = sets_at numbered_row (λ n x. refl) old.now.schema (desk_table tree) first_desk version_values [] old.now new.now 0
-          ((number_of v, r.approval) ∷ []) (number_of v, r.approval) (number_of newest, r.approval) refl (omega arith) first_passes
-          (rw (cast_null, cast_int (number_of newest), cast_int (flag r.approval)) refl) (held_in old.now was Desk) made
+          ((version_number v, r.approval) ∷ []) (version_number v, r.approval) (version_number newest, r.approval) refl (omega arith) first_passes
+          (rw (cast_null, cast_int (version_number newest), cast_int (flag r.approval)) refl) (held_in old.now was Desk) made
 
       one_place : (t : Place) → (spot_of t).tree ≡ tree → t ≡ Desk
       one_place t same =

@@ -39,13 +39,13 @@ pub record HasCall {S E : Type 0} (Told : E → Type 0) (calls : Calls S) (faile
   pub before : FailedBefore calls failed
   pub call : Told e → HasFailed failed calls.failures
 
-abbrev pub CountsTo : {S A E : Type 0} → (E → Type 0) → Calls S → Calls S → Result A E → Type 0
-CountsTo Told old new (Ok a) = (failed : ℕ) → FailedBefore old failed → FailedBefore new failed
-CountsTo Told old new (Err e) = (failed : ℕ) → FailedBefore old failed → HasCall Told new failed e
+abbrev pub CountsCallsTo : {S A E : Type 0} → (E → Type 0) → Calls S → Calls S → Result A E → Type 0
+CountsCallsTo Told old new (Ok a) = (failed : ℕ) → FailedBefore old failed → FailedBefore new failed
+CountsCallsTo Told old new (Err e) = (failed : ℕ) → FailedBefore old failed → HasCall Told new failed e
 
 -- No count falls, and a failed store is a call that failed, whatever is seen.
 pub record CountsBy {S A E : Type 0} (Told : E → Type 0) (old new : Calls S) (result : Result A E) : Type 0 where
-  pub to : CountsTo Told old new result
+  pub to : CountsCallsTo Told old new result
 
 abbrev pub Counts : {S A : Type 0} → Calls S → Calls S → Result A Fault → Type 0
 Counts = CountsBy TellsStore
@@ -56,19 +56,19 @@ CountsOpening = CountsBy IsStore
 -- ---- what a migration reads
 
 -- the row of the rollout keeps the rule of each column
-abbrev pub IsReadable : RolloutRecord → Type 0
-IsReadable x = broken_rollout_column (told_rollout x) ≡ None
+abbrev pub IsRolloutReadable : RolloutRecord → Type 0
+IsRolloutReadable x = broken_rollout_column (told_rollout x) ≡ None
 
 -- those of all rollouts do, and 32 bits count them
 pub record AreReadable (r : Records) : Type 0 where
-  pub keep : AllByRecursion IsReadable r.rollouts
+  pub keep : AllByRecursion IsRolloutReadable r.rollouts
   pub few : length r.rollouts < 2 ^ 32
 
 -- there is one of this number
 pub record HasReadable (number : ℕ) (l : Ledger) : Type 0 where
   pub rollout : RolloutRecord
   pub is_there : item_numbered l.records.rollouts number ≡ Some rollout
-  pub readable : IsReadable rollout
+  pub readable : IsRolloutReadable rollout
 
 module _ {S : Type 0} (g : Ghosts S) where
   module _ (Given : Ledger → Type 0) where

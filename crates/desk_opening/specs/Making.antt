@@ -80,8 +80,8 @@ abbrev pub LeavesNoDesk : Trees → Type 0
 LeavesNoDesk trees = HoldIn HoldsStage trees Free
 
 -- an open of a file with these trees finds a desk with these records
-abbrev pub LeavesDesk : Trees → Records → Type 0
-LeavesDesk trees r = HoldIn HoldsRecords trees r
+abbrev pub LeavesDeskWith : Trees → Records → Type 0
+LeavesDeskWith trees r = HoldIn HoldsRecords trees r
 
 -- the records of a new desk
 abbrev pub first_records : Bool → Records
@@ -90,7 +90,7 @@ first_records approval = records (Make approval)
 abbrev pub MakesTo : {A E : Type 0} → State → State → Bool → Result A E → Type 0
 MakesTo old new approval (Ok _) = Rests HoldsStage old Free → Rests HoldsRecords new (first_records approval)
 MakesTo old new approval (Err e) = Rests HoldsStage old Free → HasCleanDisk new → (db : Trees) → new.may_leave db → LeavesNoDesk db
-    ⊎ LeavesDesk db (first_records approval)
+    ⊎ LeavesDeskWith db (first_records approval)
 
 -- A new desk is there whole or not at all.
 pub record Makes {A E : Type 0} (old new : State) (approval : Bool) (result : Result A E) : Type 0 where

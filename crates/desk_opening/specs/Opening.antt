@@ -18,12 +18,12 @@ use Rattle.rollout_machine.specs.Records.{Records}
 use Rattle.desk_records.specs.Schema.{table_at, desk_table, name_of, desk_names}
 use Rattle.desk_records.specs.Holds.{HoldsRecords}
 use Rattle.desk_records.specs.Readable.{HoldsAt, HoldsReadable}
-use Rattle.desk_records.specs.Versions.{later_than, newest, number_of, places_at}
+use Rattle.desk_records.specs.Versions.{later_than, newest, version_number, places_at}
 use Rattle.desk_records.specs.declared.texts.TheConstants.{GET_DESK}
 use Rattle.desk_records.specs.declared.version.Version.{Version}
 use Rattle.desk_opening.specs.declared.opening.OpenFault.{OpenFault}
 use Rattle.desk_opening.specs.declared.opening.OpenFault.TheVariants.{NotDesk, NewerVersion, Memory, Store}
-use Rattle.desk_opening.specs.Making.{HoldsStage, Free, LeavesNoDesk, LeavesDesk, first_records}
+use Rattle.desk_opening.specs.Making.{HoldsStage, Free, LeavesNoDesk, LeavesDeskWith, first_records}
 use Rattle.desk_opening.specs.Migrating.{MigratesTo}
 
 -- each table of the version is there as the desk makes it, and the names of later ones are free
@@ -36,7 +36,7 @@ pub record HasDeskTables (v : Version) (schema : Schema) : Type 0 where
 -- a row of format `fwdesk` and of this version
 pub record IsDeskRow (v : Version) (row : Row) : Type 0 where
   pub format : column row 0 ≡ Text (codes "fwdesk")
-  pub version : column row 1 ≡ Int (pos (number_of v))
+  pub version : column row 1 ≡ Int (pos (version_number v))
 
 -- .. and of a version that the program reads
 abbrev pub IsReadableRow : Row → Type 0
@@ -47,7 +47,7 @@ pub record IsNewerRow (row : Row) : Type 0 where
   pub format : column row 0 ≡ Text (codes "fwdesk")
   pub number : ℤ
   pub version : column row 1 ≡ Int number
-  pub later : pos (number_of newest) <ℤ number
+  pub later : pos (version_number newest) <ℤ number
 
 -- a row of another format, or of a version below 1
 abbrev pub IsOtherRow : Row → Type 0
@@ -68,12 +68,12 @@ pub record HasNoRow (db : Database) : Type 0 where
 
 -- What each answer tells of the row: that it is a desk's, where it is taken over, a later version's, where it is refused as that, and
 -- another, where it is refused as no desk, unless no row was there to judge.
-abbrev pub Tells : {A : Type 0} → (A → Type 0) → ((Row → Type 0) → Type 0) → Type 0 → Result A OpenFault → Type 0
-Tells Found Says Lacks (Ok a) = Found a
-Tells Found Says Lacks (Err NotDesk) = Says IsOtherRow ⊎ Lacks
-Tells Found Says Lacks (Err NewerVersion) = Says IsNewerRow
-Tells Found Says Lacks (Err Memory) = Unit {0}
-Tells Found Says Lacks (Err Store) = Unit {0}
+abbrev pub TellsOfRow : {A : Type 0} → (A → Type 0) → ((Row → Type 0) → Type 0) → Type 0 → Result A OpenFault → Type 0
+TellsOfRow Found Says Lacks (Ok a) = Found a
+TellsOfRow Found Says Lacks (Err NotDesk) = Says IsOtherRow ⊎ Lacks
+TellsOfRow Found Says Lacks (Err NewerVersion) = Says IsNewerRow
+TellsOfRow Found Says Lacks (Err Memory) = Unit {0}
+TellsOfRow Found Says Lacks (Err Store) = Unit {0}
 
 -- .. of the row that is read, and of the schema: the row is of this version, and its tables are there
 pub record IsWholeAt (row : Row) (schema : Schema) (v : Version) : Type 0 where
@@ -100,8 +100,8 @@ pub record LacksTables (db : Database) : Type 0 where
 
 -- The table `desk` is not there as the desk makes it, or has no row of number 1, or the tables of its version are not there. A version
 -- later than the newest may have others, so none are asked for where the row names one.
-abbrev pub LacksDesk : Database → Type 0
-LacksDesk db = (¬ StandsSomewhere db.schema (desk_table 0)) ⊎ HasNoRow db ⊎ LacksTables db
+abbrev pub LacksPartOfDesk : Database → Type 0
+LacksPartOfDesk db = (¬ StandsSomewhere db.schema (desk_table 0)) ⊎ HasNoRow db ⊎ LacksTables db
 
 -- the fault is not of what the database holds
 abbrev pub IsFailure : OpenFault → Type 0
@@ -113,7 +113,7 @@ IsFailure Store = Unit {0}
 -- ---- reading
 
 -- the row of `desk` was asked for
-pub record TakesRow (old new : State) : Type 0 where
+pub record TakesDeskRow (old new : State) : Type 0 where
   pub took : Result (Option Row) Fault
   pub takes : TakesFirst old new GET_DESK.now [] took
 
@@ -124,7 +124,7 @@ pub record HasDeskAt (db : Database) (v : Version) : Type 0 where
 
 -- where the table `desk` stands, what is told of the version
 abbrev pub TellsVersion : Database → Result Version OpenFault → Type 0
-TellsVersion db result = StandsSomewhere db.schema (desk_table 0) → Tells (HasDeskAt db) (HasRow db) (HasNoRow db ⊎ LacksTables db) result
+TellsVersion db result = StandsSomewhere db.schema (desk_table 0) → TellsOfRow (HasDeskAt db) (HasRow db) (HasNoRow db ⊎ LacksTables db) result
 
 abbrev pub KeepsTo : {A E : Type 0} → (Database → Records → Type 0) → State → State → Result A E → Type 0
 KeepsTo Holds old new (Ok _) = (r : Records) → Rests Holds old r → Rests Holds new r
@@ -139,22 +139,22 @@ pub record Keeps {A E : Type 0} (old new : State) (result : Result A E) : Type 0
 
 -- ---- taking over
 
-abbrev pub TakesTo : {A E : Type 0} → State → State → Result A E → Type 0
-TakesTo old new (Ok _) = (r : Records) → Rests HoldsReadable old r → Rests HoldsRecords new r
-TakesTo old new (Err e) = (r : Records) → Rests HoldsReadable old r → HasCleanDisk new → (db : Trees) → new.may_leave db → HoldIn HoldsReadable db r
+abbrev pub TakesOverTo : {A E : Type 0} → State → State → Result A E → Type 0
+TakesOverTo old new (Ok _) = (r : Records) → Rests HoldsReadable old r → Rests HoldsRecords new r
+TakesOverTo old new (Err e) = (r : Records) → Rests HoldsReadable old r → HasCleanDisk new → (db : Trees) → new.may_leave db → HoldIn HoldsReadable db r
 
 -- Records that stood in the tables of any version that the program reads stand in those of the newest, and at an error every crash still
 -- leaves them: in the version that they stood in, or in the newest. The answer is by the database as it was.
 pub record Adopts {A : Type 0} (old new : State) (result : Result A OpenFault) : Type 0 where
   pub wears : Wears old new
-  pub takes : TakesTo old new result
+  pub takes : TakesOverTo old new result
   pub takes_at : (v : Version) → MigratesTo v old new result
-  pub tells : HasCleanDisk new → Tells (λ _. HasDesk old.now) (HasRow old.now) (LacksDesk old.now) result
+  pub tells : HasCleanDisk new → TellsOfRow (λ _. HasDesk old.now) (HasRow old.now) (LacksPartOfDesk old.now) result
 
 -- A name of a desk is used, and by no desk: a table or the row is another's, or is not there.
 pub record HasNoDesk (db : Database) : Type 0 where
   pub used : ¬ LeavesFree db.schema desk_names
-  pub other : HasRow db IsOtherRow ⊎ LacksDesk db
+  pub other : HasRow db IsOtherRow ⊎ LacksPartOfDesk db
 
 -- ---- the one or the other
 
@@ -165,7 +165,7 @@ IsKnownOpen s = HasCleanDisk s → IsTrue s.is_open
 abbrev pub OpensTo : {A E : Type 0} → State → State → Bool → Result A E → Type 0
 OpensTo old new approval (Ok _) = Rests HoldsStage old Free → Rests HoldsRecords new (first_records approval)
 OpensTo old new approval (Err e) = Rests HoldsStage old Free → HasCleanDisk new → (db : Trees) → new.may_leave db → LeavesNoDesk db
-    ⊎ LeavesDesk db (first_records approval)
+    ⊎ LeavesDeskWith db (first_records approval)
 
 -- What is opened is a desk, or uses no name of one. What is refused as no desk is none, and what is refused as a later one says so.
 abbrev pub FindsTo : {A : Type 0} → Database → Result A OpenFault → Type 0
@@ -179,7 +179,7 @@ FindsTo db (Err Store) = Unit {0}
 pub record OpensDesk {A : Type 0} (old new : State) (approval : Bool) (result : Result A OpenFault) : Type 0 where
   pub wears : Wears old new
   pub finds : HasCleanDisk new → FindsTo old.now result
-  pub takes : IsKnownOpen old → TakesTo old new result
+  pub takes : IsKnownOpen old → TakesOverTo old new result
   pub takes_at : IsKnownOpen old → (v : Version) → MigratesTo v old new result
   pub makes : IsKnownOpen old → OpensTo old new approval result
 

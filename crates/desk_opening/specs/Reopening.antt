@@ -34,7 +34,7 @@ use Rattle.desk_opening.specs.declared.reopening.DeskLeftover.TheVariants as des
 use Rattle.desk_opening.specs.declared.path.PathLeftover.{PathLeftover}
 use Rattle.desk_opening.specs.declared.path.PathLeftover.TheVariants as at_path
 use Rattle.desk_opening.specs.Counting.{AreReadable, HasFailed}
-use Rattle.desk_opening.specs.Making.{LeavesNoDesk, LeavesDesk, first_records}
+use Rattle.desk_opening.specs.Making.{LeavesNoDesk, LeavesDeskWith, first_records}
 use Rattle.desk_opening.specs.Migrating.{HoldsFrom}
 use Rattle.desk_opening.specs.Opening.{HasDesk, HasNoDesk, HasRow, IsFailure, IsNewerRow, OpensDesk}
 
@@ -89,12 +89,12 @@ HoldsNoDesk db = (schema : Schema) × IsSound schema db × HasNoDesk (record { s
 -- The database was opened, and this is what a crash leaves of its store. The records of a desk stay, in their version or in the newest.
 -- Where there was none there is none, or the new one is whole.
 -- Either is refused for a failure alone, and never as no desk or a later version.
-pub record Refuses (image : Image) (may_leave : Trees → Type 0) (approval : Bool) (e : OpenFault) : Type 0 where
+pub record RefusesOpened (image : Image) (may_leave : Trees → Type 0) (approval : Bool) (e : OpenFault) : Type 0 where
   pub newer : e ≡ NewerVersion → (db : Trees) × AreFoundIn image db × HasNewer db
   pub none : e ≡ NotDesk → (db : Trees) × AreFoundIn image db × HoldsNoDesk db
   pub fails : ((r : Records) × HoldsDesk HoldsDatabase image r) ⊎ HoldsNone HoldsDatabase image → IsFailure e
   pub holds : (v : Version) (r : Records) → HoldsDeskAt HoldsDatabase v image r → (db : Trees) → may_leave db → HoldIn (HoldsFrom v) db r
-  pub makes : HoldsNone HoldsDatabase image → (db : Trees) → may_leave db → LeavesNoDesk db ⊎ LeavesDesk db (first_records approval)
+  pub makes : HoldsNone HoldsDatabase image → (db : Trees) → may_leave db → LeavesNoDesk db ⊎ LeavesDeskWith db (first_records approval)
 
 -- the files are not empty, and hold no database
 abbrev pub IsForeign : Image → Type 0
@@ -125,7 +125,7 @@ module _ {D : Type 0} {g : disk.Ghosts D} where
   -- The database was opened, and its connection is left. Where it held a desk whose rollouts can be read, or none, a failed store is a call
   -- that failed, which is counted.
   pub record RefusesCalls (image : Image) (approval : Bool) (e : OpenFault) (calls : Calls (FileStore D g)) : Type 0 where
-    pub refuses : Refuses image (file_state calls.conn).may_leave approval e
+    pub refuses : RefusesOpened image (file_state calls.conn).may_leave approval e
     pub causes : ((r : Records) × HoldsDesk HoldsDatabase image r × AreReadable r) ⊎ HoldsNone HoldsDatabase image → e ≡ Store → HasFailed 0 calls.failures
 
   -- What a refused opening leaves of files, by what a crash might have left of them before and by what they read as.

@@ -16,7 +16,7 @@ ghost use Rattle.desk_opening.specs.Faults.{fault_row};
 ghost use Rattle.desk_opening.specs.Making.{told};
 ghost use Rattle.desk_records.specs.Versions.{newest};
 ghost use Rattle.desk_opening.specs.Opening.{Adopts, HasDeskTables, IsDeskRow, IsFailure, IsSettled, IsWholeAt};
-ghost use Rattle.desk_opening.specs.Opening.{Keeps, LacksAt, OpensDesk, TakesRow, Tells, TellsVersion};
+ghost use Rattle.desk_opening.specs.Opening.{Keeps, LacksAt, OpensDesk, TakesDeskRow, TellsOfRow, TellsVersion};
 ghost use Rattle.desk_opening.specs.Migrating.{Migrates};
 ghost use Rattle.desk_opening.specs.Counting.{CountsOpening, FailsAt, IsStore, TellsStore};
 ghost use Rattle.desk_opening.specs.Causes.{FailsOpening, HasCause};
@@ -114,7 +114,7 @@ fn has_tables_of(alloc: Global, schema: &Schema, version: Version) -> Result<boo
 
 /// The version that a desk's row names, if the program reads it.
 fn judge(row: &Row) -> Result<Version, OpenFault>
-    ensures tells { Tells (λ v. IsDeskRow v row.now) (λ Says. Says row.now) ⊥ result }
+    ensures tells { TellsOfRow (λ v. IsDeskRow v row.now) (λ Says. Says row.now) ⊥ result }
     ensures memory { IfErr result (λ e. e ≢ OpenFault.Store) }
 {
     if !has_format(row)? {
@@ -166,7 +166,7 @@ pub(crate) fn open_fault(fault: Fault) -> OpenFault
 
 /// The version that a desk's row names, if the program reads it and the schema has its tables.
 fn judge_whole(alloc: Global, schema: &Schema, row: &Row) -> Result<Version, OpenFault>
-    ensures tells { Tells (IsWholeAt row.now schema.now) (λ Says. Says row.now) (LacksAt row.now schema.now) result }
+    ensures tells { TellsOfRow (IsWholeAt row.now schema.now) (λ Says. Says row.now) (LacksAt row.now schema.now) result }
     ensures memory { IfErr result (λ e. e ≢ OpenFault.Store) }
 {
     let version = judge(row)?;
@@ -179,7 +179,7 @@ fn judge_whole(alloc: Global, schema: &Schema, row: &Row) -> Result<Version, Ope
 
 /// The version of the desk that a change sees: its row is read first, and then the tables of the version that it names are looked at.
 fn see_version<S: Alter>(alloc: Global, calls: &mut Calls<S>) -> Result<Version, OpenFault>
-    ensures took { TakesRow (state S.Store calls.old.conn) (state S.Store calls.new.conn) }
+    ensures took { TakesDeskRow (state S.Store calls.old.conn) (state S.Store calls.new.conn) }
     ensures counts { CountsOpening calls.old calls.new result }
     ensures tells { HasCleanDisk (state S.Store calls.new.conn) → TellsVersion (state S.Store calls.old.conn).now result }
 {

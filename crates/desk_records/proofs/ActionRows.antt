@@ -3,7 +3,7 @@ use Rattle.desk_records.proofs.Common.{◌≡◌, ℕ, pos, negsuc, List, [], �
 use Rattle.desk_records.proofs.Common.{Has, passes, has_at, Actions, HoldsTables, Tables}
 use Rattle.sqlite.specs.Effect.{Reads as Shows}
 use Rattle.desk_records.specs.CheckedRows.{counted_of}
-use Rattle.desk_records.specs.CountedActions.{AreCounted, passes_if_there}
+use Rattle.desk_records.specs.CountedActions.{CountsAgree, passes_if_there}
 use Rattle.desk_records.specs.declared.checked_rows.CountedAction.{CountedAction}
 use Rattle.desk_records.proofs.ActionMeaning.{list_actions_query, listed_columns, of_rollout}
 use Rattle.desk_records.proofs.AnyRows.{tested_shown}
@@ -23,7 +23,7 @@ module _ (db : Database) (t : Tables) (holds : HoldsTables db t) (names : List (
   judged row among = passes_integer db t holds Actions row among 1 (record { c = _; there = refl; kind_is = refl; strict = refl; filled = refl; apart = refl })
       r (Int (negsuc 0) ∷ Int (pos 0) ∷ [])
 
-  pub counts_actions : (found : List CountedAction) → found ≡ filter_map counted_of shown → AreCounted (t Actions) r found
+  pub counts_actions : (found : List CountedAction) → found ≡ filter_map counted_of shown → CountsAgree (t Actions) r found
   counts_actions found is = record {
     by = λ test.
         ap (λ l. length (filter test l)) is

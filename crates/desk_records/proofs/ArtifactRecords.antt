@@ -2,7 +2,7 @@
 use Rattle.desk_records.proofs.Common.{◌≡◌, ◌≤◌, ◌++◌, ℕ, ◌+◌, pos, List, [], ◌∷◌, length, Option, None, option_map, refl, sym, ap, subst, ◌∙◌, list_any}
 use Rattle.desk_records.proofs.Common.{is_some, Int, Blob, Row, col, Select, Insert, Values, Database, State, Writes, rows_from, IsHeldBy, ShowsFirst, simple}
 use Rattle.desk_records.proofs.Common.{inserts, Bytes, item_numbered, artifacts_shown, Records, IsLastRow, Artifacts, Pieces, artifact_table, piece_table}
-use Rattle.desk_records.proofs.Common.{told_of, artifact_row, piece_row, pieces_from, is_same_artifact, file_of, shown_rows, piece_numbered, artifact_filed}
+use Rattle.desk_records.proofs.Common.{told_of, artifact_row, piece_row, piece_rows_from, is_same_artifact, file_of, shown_rows, piece_numbered, artifact_filed}
 use Rattle.desk_records.proofs.Common.{with_artifact, and_piece, AddsPiece, HoldsRecords, ledger_of, Ordered, Unordered}
 use Rattle.sqlite.specs.Effect.{Reads as Shows}
 use Rattle.desk_records.proofs.HoldsAfter.{ChangesOnly, holds_after, records_differ}
@@ -66,8 +66,8 @@ adds_piece number sequence bytes old new text count now next holds change w =
     let after = record now { artifacts = change.before ++ and_piece change.artifact bytes ∷ [] } in
     let made = inserts old.now.schema spot.at (piece_table spot.tree) piece_terms 4 (holds.stands Pieces).got old new refl text
     (piece_row number sequence bytes) count w in
-    let were : IsHeldBy (old.now.trees spot.tree) (pieces_from 1 (change.before ++ change.artifact ∷ [])) =
-    subst (λ artifacts. IsHeldBy (old.now.trees spot.tree) (pieces_from 1 artifacts)) change.last (holds.rows Pieces) in
+    let were : IsHeldBy (old.now.trees spot.tree) (piece_rows_from 1 (change.before ++ change.artifact ∷ [])) =
+    subst (λ artifacts. IsHeldBy (old.now.trees spot.tree) (piece_rows_from 1 artifacts)) change.last (holds.rows Pieces) in
     let table = lists.piece_added number sequence bytes spot.tree old.now.schema old.now new.now change.before change.artifact were change.number_is
     change.sequence_least change.so_far change.bytes_least change.bytes_limit made in
     subst (HoldsRecords new.now) (sym change.next_is)

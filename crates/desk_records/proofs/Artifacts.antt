@@ -4,7 +4,7 @@ use Rattle.desk_records.proofs.Common.{option_map, refl, sym, ap, subst, ◌∙�
 use Rattle.desk_records.proofs.Common.{next_rowid, lit, col, Select, Schema, Database, rows_from, IsHeldBy, ShowsFirst, simple, passes, shown_of, Inserted}
 use Rattle.desk_records.proofs.Common.{given_rows, put_next, cast_int, cast_null, has_number, numbered_in_order, piece_length, Bytes, same_bytes}
 use Rattle.desk_records.proofs.Common.{item_numbered, artifact_shown, artifacts_shown, ArtifactRecord, IsLastRow, artifact_table, piece_table, told_of}
-use Rattle.desk_records.proofs.Common.{artifact_row, piece_row, pieces_in, pieces_from, is_same_artifact, file_of, shown_rows, pieces_of_artifact}
+use Rattle.desk_records.proofs.Common.{artifact_row, piece_row, pieces_in, piece_rows_from, is_same_artifact, file_of, shown_rows, pieces_of_artifact}
 use Rattle.desk_records.proofs.Common.{piece_numbered, artifact_filed, and_piece, and-true}
 use Rattle.sqlite_sql.specs.Ops.{binary}
 use Rattle.sqlite.specs.Effect.{Reads as Shows}
@@ -94,7 +94,7 @@ told_piece bytes = Blob bytes ∷ []
 
 -- an artifact without contents has none
 pub no_pieces : (m : ℕ) (filename : Bytes) (size : ℕ) (digest : Bytes) (n : ℕ) (artifacts : List ArtifactRecord)
-    → pieces_from n (artifacts ++ artifact_filed m filename size digest ∷ []) ≡ pieces_from n artifacts
+    → piece_rows_from n (artifacts ++ artifact_filed m filename size digest ∷ []) ≡ piece_rows_from n artifacts
 no_pieces m filename size digest n artifacts = no_parts piece_row pieces (artifact_filed m filename size digest) refl n artifacts
 
 -- a further piece leaves the rows of the artifacts
@@ -106,10 +106,10 @@ same_artifacts n before a bytes = same_rows artifact_row a (and_piece a bytes) (
 
 pub its_piece : (artifacts : List ArtifactRecord) (number sequence : ℕ) (p : Row → Bool) → Names told_piece pieces pieces_of_artifact refl (λ a. refl) number
     sequence p → 1 ≤ number
-    → filter p (pieces_from 1 artifacts) ≡ option_to_list (option_map (piece_row number sequence) (piece_numbered artifacts number sequence))
+    → filter p (piece_rows_from 1 artifacts) ≡ option_to_list (option_map (piece_row number sequence) (piece_numbered artifacts number sequence))
 its_piece = its_part told_piece pieces pieces_of_artifact refl (λ a. refl)
 
-pub gets_piece : (tree : ℕ) (db : Database) (artifacts : List ArtifactRecord) → IsHeldBy (db.trees tree) (pieces_from 1 artifacts)
+pub gets_piece : (tree : ℕ) (db : Database) (artifacts : List ArtifactRecord) → IsHeldBy (db.trees tree) (piece_rows_from 1 artifacts)
     → (names : List (List ℕ)) (number sequence : ℕ) → 1 ≤ number → (row : Option Row)
     → ShowsFirst (Select (record { lets = []; body = simple tree at_piece (col 1 3 ∷ []) }) names) db (Int (pos number) ∷ Int (pos sequence) ∷ []) row
     → row ≡ option_map told_piece (piece_numbered artifacts number sequence)
@@ -119,14 +119,14 @@ gets_piece tree db artifacts held names number sequence least = gets_part told_p
 -- ---- a further piece of the last artifact
 
 pub piece_added : (number sequence : ℕ) (bytes : Bytes) (tree : ℕ) (schema : Schema) (old new : Database) (before : List ArtifactRecord) (a : ArtifactRecord)
-    → IsHeldBy (old.trees tree) (pieces_from 1 (before ++ a ∷ []))
+    → IsHeldBy (old.trees tree) (piece_rows_from 1 (before ++ a ∷ []))
     → number ≡ length before + 1 → 1 ≤ sequence → length a.contents ≡ (sequence - 1) * piece_length → 1 ≤ length bytes → length bytes ≤ piece_length
     → Inserted schema (piece_table tree) (given_rows (piece_table tree) (piece_row number sequence bytes) piece_terms 4) old new
-    → IsHeldBy (new.trees tree) (pieces_from 1 (before ++ and_piece a bytes ∷ []))
+    → IsHeldBy (new.trees tree) (piece_rows_from 1 (before ++ and_piece a bytes ∷ []))
 piece_added number sequence bytes tree schema old new before a held last least whole some limit made =
     let put : new.trees tree ≡ put_row (Int (next_rowid (old.trees tree)) ∷ piece_row number sequence bytes) (old.trees tree) = made.applies.rows
     ∙ rw (cast_null, cast_int number, cast_int sequence) refl in
     let place : sequence ≡ length (pieces_in a.contents) + 1 = omega (arith, count_whole a.contents (sequence - 1) whole, least) in
-    subst (λ rows. IsHeldBy rows (pieces_from 1 (before ++ and_piece a bytes ∷ []))) (sym put)
+    subst (λ rows. IsHeldBy rows (piece_rows_from 1 (before ++ and_piece a bytes ∷ []))) (sym put)
     (part_added piece_row pieces a (and_piece a bytes) bytes (one_more a.contents bytes (sequence - 1) whole some limit) number sequence before (old.trees tree)
     held last place)

@@ -95,15 +95,16 @@ pub use Rattle.sql_calls.specs.Tables.{strict}
 pub use Rattle.sql_front.specs.Stands.{Stands}
 pub use Rattle.desk_records.specs.Actions.{Tally, action_row, actor_of, entries_of, entry_row, history_of, lines_of, outcome_code, told_entry}
 pub use Rattle.desk_records.specs.Artifacts.{AddsPiece, and_piece, artifact_filed, artifact_row, file_of, is_same_artifact, piece_numbered, piece_row}
-pub use Rattle.desk_records.specs.Artifacts.{pieces_from, pieces_in, pieces_of_artifact, shown_rows, told_of, with_artifact}
+pub use Rattle.desk_records.specs.Artifacts.{piece_rows_from, pieces_in, pieces_of_artifact, shown_rows, told_of, with_artifact}
 pub use Rattle.desk_records.specs.FeedbackNumbers.{borne_at, number_row, number_rows, numbers_from, numbers_numbered, told_number}
 pub use Rattle.desk_records.specs.FoundPieces.{ArePieces, lies_at}
 pub use Rattle.desk_records.specs.Holds.{AreRowsOf, HoldsLedger, HoldsRecords, IsHeld, Ledger, Offered, Ordered, Unordered, content_of, desk_row, ledger_of}
 pub use Rattle.desk_records.specs.Holds.{module_row}
 pub use Rattle.desk_records.specs.LedgerSteps.{AddsAction, AddsEntry, AddsGroup, AddsMember, AddsNumber, AddsRollout, AddsRule, OffersGroup, SetsAction}
-pub use Rattle.desk_records.specs.LedgerSteps.{SetsGroup, SetsOffer, SetsRollout, acted, and_entry, and_group, and_member, counted, created, cut_group}
+pub use Rattle.desk_records.specs.LedgerSteps.{SetsGroup, SetsOffer, SetsRollout, action_turned, and_entry, and_group, and_member, group_counted, bare_rollout}
+pub use Rattle.desk_records.specs.LedgerSteps.{cut_group}
 pub use Rattle.desk_records.specs.LedgerSteps.{no_tally, scheduled, turned, with_actions, with_groups, with_numbers, with_offer, with_rollouts, with_rules}
-pub use Rattle.desk_records.specs.Listings.{AreBroken, AreRead, AreSaid, IsAmong, IsLast, IsOnly, IsSaid, has_at, has_text_at, is_number_of, is_text_of}
+pub use Rattle.desk_records.specs.Listings.{AreBroken, AreRead, AreSaid, IsAmong, IsLastNumber, IsOnly, IsSaid, has_at, has_text_at, is_number_of, is_text_of}
 pub use Rattle.desk_records.specs.ModuleRow.{fault_at, has_text}
 pub use Rattle.desk_records.specs.Modules.{IsLastRow, is_same, with_module, words_of}
 pub use Rattle.desk_records.specs.Offers.{HoldsOffers, is_to, offer_row}
@@ -116,13 +117,13 @@ pub use Rattle.desk_records.specs.Schema.{Actions, Artifacts, Desk, Feedbacks, G
 pub use Rattle.desk_records.specs.Schema.{SetModules, Sets, TargetAttributes, TargetTags, Targets, action_table, artifact_table, feedback_table, group_table}
 pub use Rattle.desk_records.specs.Schema.{member_table, module_table, name_of, number_table, offer_table, piece_table, places, rollout_table, rule_table}
 pub use Rattle.desk_records.specs.Schema.{set_module_table, set_table, table_at, table_by, target_attribute_table, target_table, target_tag_table}
-pub use Rattle.desk_records.specs.Sets.{AddsSetModule, and_module, is_same_set, module_rows, names_of, place_row, places_from, set_named, set_row, with_set}
+pub use Rattle.desk_records.specs.Sets.{AddsSetModule, and_module, is_same_set, module_rows, names_of, place_row, place_rows_from, set_named, set_row, with_set}
 pub use Rattle.desk_records.specs.TableRows.{IsPiece}
 pub use Rattle.desk_records.specs.Tables.{HoldsTables, Tables}
 pub use Rattle.desk_records.specs.TargetRow.{has_value}
 pub use Rattle.desk_records.specs.Targets.{AddsAttribute, AddsTag, AddsTarget, SetsAttribute, are_sorted, attribute_rows, attributed, attributes_of, ids_of}
 pub use Rattle.desk_records.specs.Targets.{in_byte_order, is_sorted, keys_of, renamed, tag_rows, tagged, target_row, untagged, with_changed, with_target}
-pub use Rattle.desk_records.specs.Versions.{newest, number_of, places_at}
+pub use Rattle.desk_records.specs.Versions.{newest, version_number, places_at}
 pub use Rattle.desk_records.specs.declared.number_row.PlacedNumber.{PlacedNumber}
 pub use Rattle.std.proofs.Math.Bool.{and-true, and_assoc, not-not}
 pub use Rattle.sql_front.proofs.Found.{same_some}

@@ -1,7 +1,7 @@
 -- What is read of the desk's own row, where a ledger is held.
 use Rattle.desk_records.proofs.Common.{◌≡◌, List, [], ◌∷◌, map, filter, ℕ, pos, codes, Bool, Option, Some, ap, subst, ◌∙◌, refl, IsPermutation, Null, Int}
 use Rattle.desk_records.proofs.Common.{Text, Row, Term, lit, col, Select, Database, ShowsFirst, passes, shown_of, simple_rows, HoldsLedger, Ledger, desk_row}
-use Rattle.desk_records.proofs.Common.{newest, number_of, flag, Desk, and-true}
+use Rattle.desk_records.proofs.Common.{newest, version_number, flag, Desk, and-true}
 use Rattle.desk_records.proofs.Comparisons.{numbers_equal}
 use Rattle.desk_records.proofs.Meaning.{desk_query}
 use Rattle.desk_records.proofs.MeaningWords.{is_equal}
@@ -9,7 +9,7 @@ use Rattle.desk_records.proofs.NumberedReads.{first_found}
 
 -- what is told of a desk
 abbrev pub told_desk : Bool → Row
-told_desk approval = Text (codes "fwdesk") ∷ Int (pos (number_of newest)) ∷ Int (pos (flag approval)) ∷ []
+told_desk approval = Text (codes "fwdesk") ∷ Int (pos (version_number newest)) ∷ Int (pos (flag approval)) ∷ []
 
 abbrev first : List Term
 first = is_equal (col 1 0) (lit (Int (pos 1))) ∷ []

@@ -1,6 +1,6 @@
 -- What the tables of artifacts and pieces have where a ledger is held.
 use Rattle.desk_records.proofs.Common.{◌≤◌, ℕ, ◌∷◌, Option, Some, None, option_map, refl, sym, subst, AllZip, option_to_list, Null, Row, Database, Has, Bytes}
-use Rattle.desk_records.proofs.Common.{ArePieces, lies_at, artifact_row, piece_numbered, piece_row, pieces_from, HoldsLedger, Ledger, Artifacts, Pieces}
+use Rattle.desk_records.proofs.Common.{ArePieces, lies_at, artifact_row, piece_numbered, piece_row, piece_rows_from, HoldsLedger, Ledger, Artifacts, Pieces}
 use Rattle.desk_records.proofs.Common.{IsPiece, HoldsTables, Tables}
 use Rattle.desk_records.proofs.Artifacts.{its_piece}
 use Rattle.desk_records.proofs.HeldTables.{IsNumbered, held_rows, held_said, numbered}
@@ -15,7 +15,7 @@ module _ (db : Database) (l : Ledger) (held : HoldsLedger db l) (t : Tables) (ho
   held_pieces number place least =
       held_said (lies_at number place) (λ id x. refl) (λ row bytes. IsPiece row number place bytes)
       (λ id x bytes is. record { number_is = is.number_is; sequence_is = is.sequence_is; bytes_are = is.bytes_are }) (t Pieces)
-      (pieces_from 1 l.records.artifacts) (option_to_list (piece_numbered l.records.artifacts number place)) (held_rows db l held t holds Pieces)
+      (piece_rows_from 1 l.records.artifacts) (option_to_list (piece_numbered l.records.artifacts number place)) (held_rows db l held t holds Pieces)
       (subst (λ rows. AllZip (λ x bytes. IsPiece (Null ∷ x) number place bytes) rows (option_to_list (piece_numbered l.records.artifacts number place)))
       (sym (its_piece l.records.artifacts number place _ (λ n k bytes. refl) least)) (each (piece_numbered l.records.artifacts number place)))
     where

@@ -4,7 +4,8 @@ use Rattle.desk_records.proofs.Common.{subst, ◌∙◌, arith, zip, Int, Text, 
 use Rattle.desk_records.proofs.Common.{put_row, rowid, rows_from, inserts, put_next, cast_int, cast_null, has_number, sets_at, simple, shown_of, updates}
 use Rattle.desk_records.proofs.Common.{Updated, Bytes, RolloutPlan, Outcome, ActionRecord, RolloutRecord, GroupRule, Tally, action_row, entries_of, entry_row}
 use Rattle.desk_records.proofs.Common.{outcome_code, number_row, number_rows, HoldsLedger, Ledger, Ordered, Unordered, AddsRollout, AddsAction, SetsRollout}
-use Rattle.desk_records.proofs.Common.{SetsAction, acted, created, no_tally, scheduled, turned, with_actions, with_numbers, with_rollouts, with_rules}
+use Rattle.desk_records.proofs.Common.{SetsAction, action_turned, bare_rollout, no_tally, scheduled, turned, with_actions, with_numbers, with_rollouts}
+use Rattle.desk_records.proofs.Common.{with_rules}
 use Rattle.desk_records.proofs.Common.{listed_parts, parts_from, approval_code, flag, group_row, groups_from, member_row, members_from, rollout_row, rule_row}
 use Rattle.desk_records.proofs.Common.{rules_from, Place, Rollouts, Members, Groups, Actions, Feedbacks, Rules, Numbers, action_table, rollout_table}
 use Rattle.desk_records.proofs.Common.{PlacedNumber}
@@ -80,7 +81,7 @@ pub adds_rollout : (number : ℕ) (plan : RolloutPlan) (approval : Approval) (ol
 adds_rollout number plan approval old new text count l next holds change w =
     let spot = holds.spot Rollouts in
     let xs = l.records.rollouts in
-    let x = created number plan approval in
+    let x = bare_rollout number plan approval in
     let after = with_rollouts l (xs ++ x ∷ []) in
     let made = inserts old.now.schema spot.at (rollout_table spot.tree) rollout_terms 11 (holds.stands Rollouts).got old new refl text
     (created_params number plan approval) count w in
@@ -190,7 +191,7 @@ sets_action (suc k) canceling outcome tally old new text count l next holds chan
     let row = action_row l.records.rollouts in
     let as' = l.records.actions in
     let it = change.action in
-    let a = acted canceling outcome it.0 in
+    let a = action_turned canceling outcome it.0 in
     let made = updates old.now.schema spot.at (action_table spot.tree) (record { lets = []; body = set_action_query spot.tree }) stands.got stands.keyless old
     new refl text (acted_params (suc k) canceling outcome tally) count w in
     let table : new.now.trees spot.tree ≡ rows_from row 1 (zip (set as' k a) (set l.tallies k tally)) =

@@ -5,7 +5,7 @@ use Rattle.desk_records.proofs.Common.{Values, Database, State, Writes, Integer,
 use Rattle.desk_records.proofs.Common.{keys_apart, cast_int, cast_null, passes, shown_of, updates, GroupRule, Bytes, Reported, entries_in, Bounds, GroupRecord}
 use Rattle.desk_records.proofs.Common.{RolloutRecord, entries_of, entry_row, PlacedNumber, number_row, number_rows, told_number, AreRowsOf, HoldsLedger}
 use Rattle.desk_records.proofs.Common.{Ledger, Unordered, content_of, AddsMember, AddsGroup, AddsRule, AddsNumber, SetsGroup, AddsEntry, and_member, and_group}
-use Rattle.desk_records.proofs.Common.{and_entry, counted, cut_group, with_actions, with_groups, with_numbers, with_rollouts, with_rules, listed_parts}
+use Rattle.desk_records.proofs.Common.{and_entry, group_counted, cut_group, with_actions, with_groups, with_numbers, with_rollouts, with_rules, listed_parts}
 use Rattle.desk_records.proofs.Common.{part_row, flag, group_row, groups_from, member_row, members_from, rollout_row, rule_row, rules_from, told_group}
 use Rattle.desk_records.proofs.Common.{told_rule, Place, Members, Groups, Feedbacks, Rules, Numbers, feedback_table, group_table, member_table, number_table}
 use Rattle.desk_records.proofs.Common.{rule_table, are_sorted, and-true}
@@ -104,7 +104,7 @@ sets_group (suc k) (suc j) started ok bad gone old new text count l next holds c
     let xs = l.records.rollouts in
     let x = change.rollout in
     let g = change.was in
-    let after = counted started ok bad gone g in
+    let after = group_counted started ok bad gone g in
     let params = counted_params (suc k) (suc j) started ok bad gone in
     let values = λ (row : Row). cast_all table.columns (on_content (shown_of group_values params) row) in
     let made = updates old.now.schema spot.at table (record { lets = []; body = set_group_query spot.tree }) stands.got stands.keyless old new refl text params

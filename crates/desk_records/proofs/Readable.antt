@@ -1,6 +1,6 @@
 -- The tables of the newest version hold records as the program keeps them.
 use Rattle.desk_records.proofs.Common.{◌≡◌, ◌≤◌, ℕ, List, [], ◌∷◌, Option, Some, if◌then◌else◌, nat_eq, refl, sym, ap, ◌∙◌, arith, AllByRecursion, Database}
-use Rattle.desk_records.proofs.Common.{Records, Place, Desk, places, HoldsRecords, newest, number_of, places_at}
+use Rattle.desk_records.proofs.Common.{Records, Place, Desk, places, HoldsRecords, newest, version_number, places_at}
 use Rattle.desk_records.specs.Readable.{HoldsAt, HoldsPlace, HoldsReadable}
 use Rattle.desk_records.specs.declared.version.Version.{Version}
 use Rattle.desk_records.specs.declared.version.Version.TheVariants.{One, Two, Three}
@@ -39,7 +39,7 @@ has_desk One P all = all.0
 has_desk Two P all = all.0
 has_desk Three P all = all.0
 
-pub is_known : (v : Version) → number_of v ≤ number_of newest
+pub is_known : (v : Version) → version_number v ≤ version_number newest
 is_known One = omega arith
 is_known Two = omega arith
 is_known Three = omega arith
@@ -48,10 +48,10 @@ is_known Three = omega arith
 abbrev numbered : ℕ → Option Version
 numbered n = if nat_eq n 1 then Some One else (if nat_eq n 2 then Some Two else Some Three)
 
-is_numbered : (v : Version) → numbered (number_of v) ≡ Some v
+is_numbered : (v : Version) → numbered (version_number v) ≡ Some v
 is_numbered One = refl
 is_numbered Two = refl
 is_numbered Three = refl
 
-pub one_numbered : (v w : Version) → number_of v ≡ number_of w → v ≡ w
+pub one_numbered : (v w : Version) → version_number v ≡ version_number w → v ≡ w
 one_numbered v w same = let both : Some v ≡ Some w = sym (is_numbered v) ∙ ap numbered same ∙ is_numbered w in cc

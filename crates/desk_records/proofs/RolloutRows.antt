@@ -3,7 +3,8 @@ use Rattle.desk_records.proofs.Common.{◌≡◌, ◌≤◌, inl, inr, ℕ, pos,
 use Rattle.desk_records.proofs.Common.{sym, ap, subst, ◌∙◌, arith, Ordering, Less, Equal, Greater, int_cmp, is_eq, IsPermutation, is_lt, ordering_reverse}
 use Rattle.desk_records.proofs.Common.{ints, nat_tests, IsPermutation-sym, ranks_by, sorted_far, Value, Null, Int, Row, column, value_cmp, value_cmp-Int}
 use Rattle.desk_records.proofs.Common.{value_cmp_total, then-Equal, rowid, Select, Database, Query, Output, output_cmp, col, output_cmp_total, Has}
-use Rattle.desk_records.proofs.Common.{contains_had, ShowsFirst, IsOrdered, ordered_rows, passes, shown_in, IsLast, IsLastRow, Rollouts, HoldsTables, Tables}
+use Rattle.desk_records.proofs.Common.{contains_had, ShowsFirst, IsOrdered, ordered_rows, passes, shown_in, IsLastNumber, IsLastRow, Rollouts, HoldsTables}
+use Rattle.desk_records.proofs.Common.{Tables}
 use Rattle.sqlite.specs.Effect.{Reads as Shows}
 use Rattle.desk_records.proofs.Membership.{has_mapped, has_permuted, map_has}
 use Rattle.desk_records.proofs.NumberColumns.{has_own_number}
@@ -60,10 +61,10 @@ module _ (db : Database) (t : Tables) (holds : HoldsTables db t) (names : List (
         subst (λ o. is_lt (output_cmp q (shown_in q [] row) o) ≡ false) head
         (subst (λ o. is_lt (output_cmp q o (get_or it.ordered 0 (shown_in q [] row))) ≡ false) at.2 far)
 
-    pub shown_last : (row : Row) (tail : List Row) → shown ≡ row ∷ tail → (n : ℕ) → column row 0 ≡ Int (pos n) → IsLast (t Rollouts) n
+    pub shown_last : (row : Row) (tail : List Row) → shown ≡ row ∷ tail → (n : ℕ) → column row 0 ≡ Int (pos n) → IsLastNumber (t Rollouts) n
     shown_last row tail is n number = go it.ordered refl (sym is ∙ it.is)
       where
-        go : (os : List Output) → it.ordered ≡ os → row ∷ tail ≡ take 1 (map (λ (o : Output). o.1) os) → IsLast (t Rollouts) n
+        go : (os : List Output) → it.ordered ≡ os → row ∷ tail ≡ take 1 (map (λ (o : Output). o.1) os) → IsLastNumber (t Rollouts) n
         go [] ordered e = absurd cc
         go (o ∷ rest) ordered e =
             let source = from_ordered o (subst (λ l. Has l o) (sym ordered) (inl refl)) in
@@ -78,13 +79,14 @@ module _ (db : Database) (t : Tables) (holds : HoldsTables db t) (names : List (
               there = inr (record { row = source.0; among = source.1; numbered = ap (λ v. is_eq (value_cmp v (Int (pos n)))) its ∙ has_own_number n [] });
             }
 
-    pub shown_none : shown ≡ [] → IsLast (t Rollouts) 0
+    pub shown_none : shown ≡ [] → IsLastNumber (t Rollouts) 0
     shown_none is = record { greatest = λ k has. absurd (go it.ordered refl (sym is ∙ it.is) _ (is_ordered has.row has.among)); there = inl refl }
       where
         go : (os : List Output) → it.ordered ≡ os → [] ≡ take 1 (map (λ (o : Output). o.1) os) → (o : Output) → Has it.ordered o → ⊥
         go [] ordered e o among = subst (λ l. Has l o) ordered among
         go (p ∷ rest) ordered e o among = absurd cc
 
-  pub lasts_any : (row : Option Row) → ShowsFirst (Select (record { lets = []; body = q }) names) db [] row → (n : ℕ) → IsLastRow n row → IsLast (t Rollouts) n
-  lasts_any None shows n is = subst (IsLast (t Rollouts)) (sym is) (shown_none [] shows refl)
+  pub lasts_any : (row : Option Row) → ShowsFirst (Select (record { lets = []; body = q }) names) db [] row → (n : ℕ) → IsLastRow n row
+      → IsLastNumber (t Rollouts) n
+  lasts_any None shows n is = subst (IsLastNumber (t Rollouts)) (sym is) (shown_none [] shows refl)
   lasts_any (Some row) shows n is = shown_last (row ∷ shows.0) shows.1 row shows.0 refl n is

@@ -2,7 +2,8 @@
 use Rattle.desk_records.proofs.Common.{◌≡◌, ◌≤◌, ◌++◌, ℕ, ◌+◌, pos, List, [], ◌∷◌, length, Option, None, option_map, refl, sym, ap, subst, ◌∙◌, list_any}
 use Rattle.desk_records.proofs.Common.{is_some, Int, Row, col, Select, Insert, Values, Database, State, Writes, rows_from, IsHeldBy, ShowsFirst, simple}
 use Rattle.desk_records.proofs.Common.{inserts, Bytes, SetLabel, item_numbered, modules_of_set, Records, is_named_by_set, IsLastRow, Sets, SetModules}
-use Rattle.desk_records.proofs.Common.{set_table, set_module_table, set_row, place_row, places_from, is_same_set, names_of, module_rows, with_set, and_module}
+use Rattle.desk_records.proofs.Common.{set_table, set_module_table, set_row, place_row, place_rows_from, is_same_set, names_of, module_rows, with_set}
+use Rattle.desk_records.proofs.Common.{and_module}
 use Rattle.desk_records.proofs.Common.{AddsSetModule, HoldsRecords, ledger_of, Ordered, Unordered}
 use Rattle.sqlite.specs.Effect.{Reads as Shows}
 use Rattle.desk_records.proofs.HoldsAfter.{ChangesOnly, holds_after, records_differ}
@@ -64,8 +65,8 @@ adds_set_module number place m old new text count now next holds change w =
     let after = record now { sets = change.before ++ and_module change.set m ∷ [] } in
     let made = inserts old.now.schema spot.at (set_module_table spot.tree) set_module_terms 4 (holds.stands SetModules).got old new refl text
     (place_row number place m) count w in
-    let were : IsHeldBy (old.now.trees spot.tree) (places_from 1 (change.before ++ change.set ∷ [])) =
-    subst (λ sets. IsHeldBy (old.now.trees spot.tree) (places_from 1 sets)) change.last (holds.rows SetModules) in
+    let were : IsHeldBy (old.now.trees spot.tree) (place_rows_from 1 (change.before ++ change.set ∷ [])) =
+    subst (λ sets. IsHeldBy (old.now.trees spot.tree) (place_rows_from 1 sets)) change.last (holds.rows SetModules) in
     let table = lists.set_module_added number place m spot.tree old.now.schema old.now new.now change.before change.set were change.number_is change.place_is
     made in
     subst (HoldsRecords new.now) (sym change.next_is)

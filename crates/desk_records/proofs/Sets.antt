@@ -5,7 +5,8 @@ use Rattle.desk_records.proofs.Common.{AllByRecursion, is_some, ints, nat_tests,
 use Rattle.desk_records.proofs.Common.{Int, Row, value_cmp, value_cmp-Int, IsAscending, put_row, next_rowid, output_cmp_total, col, Query, Output, output_cmp}
 use Rattle.desk_records.proofs.Common.{Select, Schema, Database, sorted_unique, rows_from, IsHeldBy, ShowsFirst, simple, passes, shown_in, ordered_rows}
 use Rattle.desk_records.proofs.Common.{Inserted, given_rows, put_next, cast_int, cast_null, has_number, on_content, held_seen, Bytes, SetLabel, same_bytes}
-use Rattle.desk_records.proofs.Common.{item_numbered, modules_of_set, is_named_by_set, IsLastRow, set_table, set_module_table, set_row, place_row, places_from}
+use Rattle.desk_records.proofs.Common.{item_numbered, modules_of_set, is_named_by_set, IsLastRow, set_table, set_module_table, set_row, place_row}
+use Rattle.desk_records.proofs.Common.{place_rows_from}
 use Rattle.desk_records.proofs.Common.{is_same_set, names_of, module_rows, set_named, and_module, and-true}
 use Rattle.sqlite_sql.specs.Ops.{binary}
 use Rattle.sqlite.specs.Effect.{Reads as Shows}
@@ -57,7 +58,7 @@ abbrev modules : SetLabel → List ℕ
 modules set = set.modules
 
 -- it has no modules yet
-pub no_places : (name version : Bytes) (n : ℕ) (sets : List SetLabel) → places_from n (sets ++ set_named name version ∷ []) ≡ places_from n sets
+pub no_places : (name version : Bytes) (n : ℕ) (sets : List SetLabel) → place_rows_from n (sets ++ set_named name version ∷ []) ≡ place_rows_from n sets
 no_places name version n sets = no_parts place_row modules (set_named name version) refl n sets
 
 -- a further module leaves the rows of the sets
@@ -71,7 +72,8 @@ is_of number = on_content (passes (at_key 1 0 ∷ []) (Int (pos number) ∷ []))
 names_it : (number n place m : ℕ) → is_of number (place_row n place m) ≡ nat_eq n number
 names_it number n place m = and-true _ ∙ numbers_equal n number
 
-its_places : (k : ℕ) (sets : List SetLabel) → filter (is_of (suc k)) (places_from 1 sets) ≡ rows_from (place_row (suc k)) 1 (modules_of_set (slice_get sets k))
+its_places : (k : ℕ) (sets : List SetLabel) → filter (is_of (suc k)) (place_rows_from 1 sets)
+    ≡ rows_from (place_row (suc k)) 1 (modules_of_set (slice_get sets k))
 its_places k sets =
     let its : (place m : ℕ) → is_of (suc k) (place_row (suc k) place m) ≡ true = λ place m. names_it (suc k) (suc k) place m ∙ grind (arith, nat_tests) in
     its_parts place_row modules (is_of (suc k)) (suc k) (λ n place m apart. names_it (suc k) n place m ∙ apart) modules_of_set refl (λ set. refl) 1 k
@@ -106,7 +108,7 @@ module _ (tree number : ℕ) where
   shown_modules place [] = refl
   shown_modules place (m ∷ ms) = ap (λ l. (Int (pos m) ∷ []) ∷ l) (shown_modules (place + 1) ms)
 
-module _ (tree : ℕ) (db : Database) (sets : List SetLabel) (held : IsHeldBy (db.trees tree) (places_from 1 sets)) (names : List (List ℕ)) where
+module _ (tree : ℕ) (db : Database) (sets : List SetLabel) (held : IsHeldBy (db.trees tree) (place_rows_from 1 sets)) (names : List (List ℕ)) where
   pub lists_set_modules : (number : ℕ) → 1 ≤ number → (rows : List Row) → Shows (Select (record { lets = []; body = set_modules_query tree }) names) db
       (Int (pos number) ∷ []) rows
       → rows ≡ module_rows (modules_of_set (item_numbered sets number))
@@ -117,7 +119,7 @@ module _ (tree : ℕ) (db : Database) (sets : List SetLabel) (held : IsHeldBy (d
       let test = at_key 1 0 ∷ [] in
       let ms = modules_of_set (slice_get sets k) in
       let it = ordered_rows tree test (col 1 3 ∷ []) query.order query.limit query.offset params db.trees rows (shows.answer Null) in
-      let seen = held_seen (passes test params) (λ id x. refl) (shown_in query params) (λ id x. refl) (db.trees tree) (places_from 1 sets) held in
+      let seen = held_seen (passes test params) (λ id x. refl) (shown_in query params) (λ id x. refl) (db.trees tree) (place_rows_from 1 sets) held in
       let all : IsPermutation (map (shown tree (suc k)) (rows_from (place_row (suc k)) 1 ms)) it.ordered =
       subst (λ l. IsPermutation (map (shown tree (suc k)) l) it.ordered) (its_places k sets) (IsPermutation-trans _ _ _ seen it.same) in
       it.is ∙ ap (map (λ (o : Output). o.1)) (sorted_unique (output_cmp query) (output_cmp_total query) _ it.ordered (in_order tree (suc k) 1 ms) all it.sorted)
@@ -132,9 +134,9 @@ module _ (tree : ℕ) (db : Database) (sets : List SetLabel) (held : IsHeldBy (d
   any_place m n place [] = refl
   any_place m n place (k ∷ ms) = ap₂ ◌||◌ (and-true _ ∙ numbers_equal k m) (any_place m n (place + 1) ms)
 
-  any_set : (m n : ℕ) (sets : List SetLabel) → list_any (is_at m) (places_from n sets) ≡ is_named_by_set sets m
+  any_set : (m n : ℕ) (sets : List SetLabel) → list_any (is_at m) (place_rows_from n sets) ≡ is_named_by_set sets m
   any_set m n [] = refl
-  any_set m n (set ∷ sets) = list_any-append (is_at m) (rows_from (place_row n) 1 set.modules) (places_from (n + 1) sets)
+  any_set m n (set ∷ sets) = list_any-append (is_at m) (rows_from (place_row n) 1 set.modules) (place_rows_from (n + 1) sets)
       ∙ ap₂ ◌||◌ (any_place m n 1 set.modules) (any_set m (n + 1) sets)
 
   first_left : {X : Type 0} (xs : List X) → not (length (take 1 xs) == 0) ≡ not (length xs == 0)
@@ -149,12 +151,12 @@ module _ (tree : ℕ) (db : Database) (sets : List SetLabel) (held : IsHeldBy (d
       let test = at_key 3 0 ∷ [] in
       let f = shown_in query params in
       let it = ordered_rows tree test (col 1 1 ∷ []) query.order query.limit query.offset params db.trees rows (shows.answer Null) in
-      let seen = held_seen (passes test params) (λ id x. refl) f (λ id x. refl) (db.trees tree) (places_from 1 sets) held in
-      let found = filter (is_at m) (places_from 1 sets) in
+      let seen = held_seen (passes test params) (λ id x. refl) f (λ id x. refl) (db.trees tree) (place_rows_from 1 sets) held in
+      let found = filter (is_at m) (place_rows_from 1 sets) in
       let count : length (map (λ (o : Output). o.1) it.ordered) ≡ length found =
       length-map it.ordered (λ (o : Output). o.1) ∙ length_permutation _ _ (IsPermutation-trans _ _ _ seen it.same) ∙ length-map found (on_content f) in
       ap (λ (l : List Row). not (length l == 0)) it.is ∙ first_left (map (λ (o : Output). o.1) it.ordered) ∙ ap (λ n. not (n == 0)) count
-      ∙ some_pass (is_at m) (places_from 1 sets) ∙ any_set m 1 sets
+      ∙ some_pass (is_at m) (place_rows_from 1 sets) ∙ any_set m 1 sets
 
   pub finds_lock : (m : ℕ) (row : Option Row) → ShowsFirst (Select (record { lets = []; body = locked_query tree }) names) db (Int (pos m) ∷ []) row
       → is_some row ≡ is_named_by_set sets m
@@ -164,12 +166,12 @@ module _ (tree : ℕ) (db : Database) (sets : List SetLabel) (held : IsHeldBy (d
 -- ---- a further module of the last set
 
 pub set_module_added : (number place m tree : ℕ) (schema : Schema) (old new : Database) (before : List SetLabel) (set : SetLabel)
-    → IsHeldBy (old.trees tree) (places_from 1 (before ++ set ∷ []))
+    → IsHeldBy (old.trees tree) (place_rows_from 1 (before ++ set ∷ []))
     → number ≡ length before + 1 → place ≡ length set.modules + 1
     → Inserted schema (set_module_table tree) (given_rows (set_module_table tree) (place_row number place m) set_module_terms 4) old new
-    → IsHeldBy (new.trees tree) (places_from 1 (before ++ and_module set m ∷ []))
+    → IsHeldBy (new.trees tree) (place_rows_from 1 (before ++ and_module set m ∷ []))
 set_module_added number place m tree schema old new before set held last next made =
     let put : new.trees tree ≡ put_row (Int (next_rowid (old.trees tree)) ∷ place_row number place m) (old.trees tree) = made.applies.rows
     ∙ rw (cast_null, cast_int number, cast_int place, cast_int m) refl in
-    subst (λ rows. IsHeldBy rows (places_from 1 (before ++ and_module set m ∷ []))) (sym put)
+    subst (λ rows. IsHeldBy rows (place_rows_from 1 (before ++ and_module set m ∷ []))) (sym put)
     (part_added place_row modules set (and_module set m) m refl number place before (old.trees tree) held last next)

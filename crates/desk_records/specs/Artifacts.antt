@@ -29,8 +29,8 @@ abbrev pub pieces_in : Bytes → List Bytes
 pieces_in contents = map (piece_bytes contents) (pieces_of (length contents))
 
 -- of all pieces of artifacts that are numbered from a number on: the k-th piece of an artifact has place k
-abbrev pub pieces_from : ℕ → List ArtifactRecord → List Row
-pieces_from n artifacts = parts_from piece_row (λ (a : ArtifactRecord). pieces_in a.contents) n artifacts
+abbrev pub piece_rows_from : ℕ → List ArtifactRecord → List Row
+piece_rows_from n artifacts = parts_from piece_row (λ (a : ArtifactRecord). pieces_in a.contents) n artifacts
 
 -- ---- what is asked
 

@@ -14,5 +14,5 @@ abbrev pub is_counted : ℕ → (CountedAction → Bool) → Row → Bool
 is_counted rollout test row = has_at 2 rollout row && passes_if_there test (counted_in (column row 3) (column row 6))
 
 -- by each test as many of them pass as rows do
-pub record AreCounted (rows : List Row) (rollout : ℕ) (found : List CountedAction) : Type 0 where
+pub record CountsAgree (rows : List Row) (rollout : ℕ) (found : List CountedAction) : Type 0 where
   pub by : (test : CountedAction → Bool) → length (filter test found) ≡ length (filter (is_counted rollout test) rows)

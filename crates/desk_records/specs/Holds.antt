@@ -17,20 +17,20 @@ use Rattle.rollout_machine.specs.declared.records.RolloutRecord.{RolloutRecord}
 use Rattle.desk_records.specs.Schema.{Place, Desk, Modules, Sets, SetModules, Artifacts, Pieces, Targets, TargetTags, TargetAttributes, Rollouts}
 use Rattle.desk_records.specs.Schema.{Members, Groups, Actions, Feedbacks, Offers, Rules, Numbers, offer_table, table_at, name_of}
 use Rattle.desk_records.specs.Actions.{Tally, tally_of, action_row, entries_of, entry_row}
-use Rattle.desk_records.specs.Artifacts.{artifact_row, pieces_from}
+use Rattle.desk_records.specs.Artifacts.{artifact_row, piece_rows_from}
 use Rattle.desk_records.specs.FeedbackNumbers.{number_rows, numbers_of}
 use Rattle.desk_records.specs.Offers.{HoldsOffers}
 use Rattle.desk_records.specs.Parts.{parts_from}
 use Rattle.desk_records.specs.Rollouts.{flag, rollout_row, members_from, groups_from, rules_from}
-use Rattle.desk_records.specs.Sets.{set_row, places_from}
-use Rattle.desk_records.specs.Versions.{newest, number_of}
+use Rattle.desk_records.specs.Sets.{set_row, place_rows_from}
+use Rattle.desk_records.specs.Versions.{newest, version_number}
 use Rattle.desk_records.specs.declared.number_row.PlacedNumber.{PlacedNumber}
 use Rattle.desk_records.specs.declared.version.Version.{Version}
 use Rattle.desk_records.specs.Targets.{target_row, tag_rows, attribute_rows, are_sorted}
 
 -- format `fwdesk`, and the number of the version
 abbrev pub desk_row : Version → Bool → Row
-desk_row v approval = Int (pos 1) ∷ Null ∷ Text (codes "fwdesk") ∷ Int (pos (number_of v)) ∷ Int (pos (flag approval)) ∷ []
+desk_row v approval = Int (pos 1) ∷ Null ∷ Text (codes "fwdesk") ∷ Int (pos (version_number v)) ∷ Int (pos (flag approval)) ∷ []
 
 abbrev pub module_row : ℕ → ModuleLabel → Row
 module_row number m = Int (pos number) ∷ Null ∷ Text m.name ∷ Text m.kind ∷ Text m.version ∷ []
@@ -70,9 +70,9 @@ abbrev pub content_at : Version → Ledger → Place → Content
 content_at v l Desk = Ordered (desk_row v l.records.approval ∷ [])
 content_at v l Modules = Ordered (rows_from module_row 1 l.records.modules)
 content_at v l Sets = Ordered (rows_from set_row 1 l.records.sets)
-content_at v l SetModules = Unordered (places_from 1 l.records.sets)
+content_at v l SetModules = Unordered (place_rows_from 1 l.records.sets)
 content_at v l Artifacts = Ordered (rows_from artifact_row 1 l.records.artifacts)
-content_at v l Pieces = Unordered (pieces_from 1 l.records.artifacts)
+content_at v l Pieces = Unordered (piece_rows_from 1 l.records.artifacts)
 content_at v l Targets = Unordered (map target_row l.records.targets)
 content_at v l TargetTags = Unordered (flat_map tag_rows l.records.targets)
 content_at v l TargetAttributes = Unordered (flat_map attribute_rows l.records.targets)

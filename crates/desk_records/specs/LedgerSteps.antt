@@ -39,13 +39,13 @@ with_numbers l numbers = record l { numbers = numbers }
 -- ---- rollouts
 
 -- neither started nor paused, before its members, its groups and what is said of them are added
-abbrev pub created : ℕ → RolloutPlan → Approval → RolloutRecord
-created number plan approval = record { number = number; plan = plan; members = []; approval = approval; started = false; paused = false; groups = [] }
+abbrev pub bare_rollout : ℕ → RolloutPlan → Approval → RolloutRecord
+bare_rollout number plan approval = record { number = number; plan = plan; members = []; approval = approval; started = false; paused = false; groups = [] }
 
 -- the number is the next
 pub record AddsRollout (number : ℕ) (plan : RolloutPlan) (approval : Approval) (l next : Ledger) : Type 0 where
   pub number_is : number ≡ length l.records.rollouts + 1
-  pub next_is : next ≡ with_rules (with_rollouts l (l.records.rollouts ++ created number plan approval ∷ [])) (l.rules ++ [] ∷ [])
+  pub next_is : next ≡ with_rules (with_rollouts l (l.records.rollouts ++ bare_rollout number plan approval ∷ [])) (l.rules ++ [] ∷ [])
 
 abbrev pub turned : Approval → Bool → Bool → RolloutRecord → RolloutRecord
 turned approval started paused x = record x { approval = approval; started = started; paused = paused }
@@ -88,8 +88,8 @@ pub record AddsRule (number group : ℕ) (rule : GroupRule) (l next : Ledger) : 
   pub group_is : group ≡ length its + 1
   pub next_is : next ≡ with_rules l (set_numbered l.rules number (its ++ rule ∷ []))
 
-abbrev pub counted : Bool → ℕ → ℕ → ℕ → GroupRecord → GroupRecord
-counted started ok bad gone g = record g { started = started; ok = ok; bad = bad; gone = gone }
+abbrev pub group_counted : Bool → ℕ → ℕ → ℕ → GroupRecord → GroupRecord
+group_counted started ok bad gone g = record g { started = started; ok = ok; bad = bad; gone = gone }
 
 abbrev pub with_groups : RolloutRecord → List GroupRecord → RolloutRecord
 with_groups x gs = record x { groups = gs }
@@ -101,7 +101,7 @@ pub record SetsGroup (number group : ℕ) (started : Bool) (ok bad gone : ℕ) (
   pub was : GroupRecord
   pub is_its : item_numbered rollout.groups group ≡ Some was
   pub next_is : next ≡ with_rollouts l (set_numbered l.records.rollouts number
-      (with_groups rollout (set_numbered rollout.groups group (counted started ok bad gone was))))
+      (with_groups rollout (set_numbered rollout.groups group (group_counted started ok bad gone was))))
 
 -- ---- actions
 
@@ -120,14 +120,14 @@ pub record AddsAction (number rollout place : ℕ) (id : Bytes) (l next : Ledger
   pub next_is : next ≡ with_numbers (with_actions l (l.records.actions ++ scheduled rollout place ∷ []) (l.tallies ++ no_tally ∷ []))
       (l.numbers ++ [] ∷ [])
 
-abbrev pub acted : Bool → Option Outcome → ActionRecord → ActionRecord
-acted canceling outcome a = record a { canceling = canceling; outcome = outcome }
+abbrev pub action_turned : Bool → Option Outcome → ActionRecord → ActionRecord
+action_turned canceling outcome a = record a { canceling = canceling; outcome = outcome }
 
 -- the action is there
 pub record SetsAction (number : ℕ) (canceling : Bool) (outcome : Option Outcome) (tally : Tally) (l next : Ledger) : Type 0 where
   pub action : ActionRecord × Tally
   pub is_there : item_numbered (zip l.records.actions l.tallies) number ≡ Some action
-  pub next_is : next ≡ with_actions l (set_numbered l.records.actions number (acted canceling outcome action.0)) (set_numbered l.tallies number tally)
+  pub next_is : next ≡ with_actions l (set_numbered l.records.actions number (action_turned canceling outcome action.0)) (set_numbered l.tallies number tally)
 
 abbrev pub and_entry : ActionRecord → Reported → ActionRecord
 and_entry a reported = record a { history = a.history ++ reported ∷ [] }

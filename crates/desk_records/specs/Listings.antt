@@ -73,7 +73,7 @@ module _ {A : Type 0} (rows : List Row) (test : Row → Bool) (says : Row → A 
   FindsOne None = (row : Row) → Has rows row → test row ≡ true → ⊥
 
 -- the greatest rowid that is a number, and 0 where there is no row
-pub record IsLast (rows : List Row) (last : ℕ) : Type 0 where
+pub record IsLastNumber (rows : List Row) (last : ℕ) : Type 0 where
   pub greatest : (n : ℕ) → HasNumber rows n → n ≤ last
   pub there : (last ≡ 0) ⊎ HasNumber rows last
 

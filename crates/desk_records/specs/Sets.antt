@@ -18,8 +18,8 @@ abbrev pub place_row : ℕ → ℕ → ℕ → Row
 place_row number place m = Int (pos number) ∷ Int (pos place) ∷ Int (pos m) ∷ []
 
 -- of all modules of sets that are numbered from a number on: the k-th module of a set has place k
-abbrev pub places_from : ℕ → List SetLabel → List Row
-places_from n sets = parts_from place_row (λ (set : SetLabel). set.modules) n sets
+abbrev pub place_rows_from : ℕ → List SetLabel → List Row
+place_rows_from n sets = parts_from place_row (λ (set : SetLabel). set.modules) n sets
 
 -- ---- what is asked and written
 

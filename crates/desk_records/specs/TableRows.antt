@@ -17,38 +17,38 @@ use Rattle.desk_records.specs.declared.rollout_row.StoredRollout.{StoredRollout}
 
 -- ---- what is shown of a row
 
-abbrev pub artifact_shown : Row → Row
-artifact_shown row = column row 2 ∷ column row 3 ∷ column row 4 ∷ column row 5 ∷ column row 0 ∷ []
+abbrev pub columns_of_artifact : Row → Row
+columns_of_artifact row = column row 2 ∷ column row 3 ∷ column row 4 ∷ column row 5 ∷ column row 0 ∷ []
 
-abbrev pub rollout_shown : Row → Row
-rollout_shown row = column row 2 ∷ column row 3 ∷ column row 4 ∷ column row 5 ∷ column row 6 ∷ column row 7 ∷ column row 8 ∷ column row 9
+abbrev pub columns_of_rollout : Row → Row
+columns_of_rollout row = column row 2 ∷ column row 3 ∷ column row 4 ∷ column row 5 ∷ column row 6 ∷ column row 7 ∷ column row 8 ∷ column row 9
     ∷ column row 10 ∷ []
 
-abbrev pub group_shown : Row → Row
-group_shown row = column row 2 ∷ column row 3 ∷ column row 4 ∷ column row 5 ∷ column row 6 ∷ column row 7 ∷ column row 8 ∷ []
+abbrev pub columns_of_group : Row → Row
+columns_of_group row = column row 2 ∷ column row 3 ∷ column row 4 ∷ column row 5 ∷ column row 6 ∷ column row 7 ∷ column row 8 ∷ []
 
-abbrev pub rule_shown : Row → Row
-rule_shown row = column row 3 ∷ column row 4 ∷ column row 5 ∷ []
+abbrev pub columns_of_rule : Row → Row
+columns_of_rule row = column row 3 ∷ column row 4 ∷ column row 5 ∷ []
 
-abbrev pub action_shown : Row → Row
-action_shown row = column row 2 ∷ column row 3 ∷ column row 4 ∷ column row 5 ∷ column row 6 ∷ column row 7 ∷ column row 8 ∷ column row 0 ∷ []
+abbrev pub columns_of_action : Row → Row
+columns_of_action row = column row 2 ∷ column row 3 ∷ column row 4 ∷ column row 5 ∷ column row 6 ∷ column row 7 ∷ column row 8 ∷ column row 0 ∷ []
 
-abbrev pub entry_shown : Row → Row
-entry_shown row = column row 3 ∷ column row 4 ∷ column row 5 ∷ []
+abbrev pub columns_of_entry : Row → Row
+columns_of_entry row = column row 3 ∷ column row 4 ∷ column row 5 ∷ []
 
-abbrev pub number_shown : Row → Row
-number_shown row = column row 3 ∷ column row 4 ∷ []
+abbrev pub columns_of_number : Row → Row
+columns_of_number row = column row 3 ∷ column row 4 ∷ []
 
-abbrev pub offer_shown : Row → Row
-offer_shown row = column row 2 ∷ column row 3 ∷ column row 1 ∷ []
+abbrev pub columns_of_offer : Row → Row
+columns_of_offer row = column row 2 ∷ column row 3 ∷ column row 1 ∷ []
 
 -- ---- what it says
 
 -- the artifact of a number
 pub record IsArtifact (row : Row) (number : ℕ) (a : StoredArtifact) : Type 0 where
   pub number_is : number_in (column row 0) ≡ Some number
-  pub shows : IsStoredRow (artifact_shown row) a
-  pub kept : broken_stored_column (artifact_shown row) ≡ None
+  pub shows : IsStoredRow (columns_of_artifact row) a
+  pub kept : broken_stored_column (columns_of_artifact row) ≡ None
 
 -- the piece of an artifact at a place of the sequence
 pub record IsPiece (row : Row) (number sequence : ℕ) (bytes : Bytes) : Type 0 where
@@ -57,7 +57,7 @@ pub record IsPiece (row : Row) (number sequence : ℕ) (bytes : Bytes) : Type 0 
   pub bytes_are : column row 3 ≡ Blob bytes
 
 abbrev pub IsRollout : Row → StoredRollout → Type 0
-IsRollout row x = IsRolloutRow (rollout_shown row) x
+IsRollout row x = IsRolloutRow (columns_of_rollout row) x
 
 -- a member of a rollout, at its place
 pub record IsMember (row : Row) (rollout place : ℕ) (id : Bytes) : Type 0 where
@@ -69,23 +69,23 @@ pub record IsMember (row : Row) (rollout place : ℕ) (id : Bytes) : Type 0 wher
 -- a group of a rollout
 pub record IsGroup (row : Row) (rollout : ℕ) (g : GroupRecord) : Type 0 where
   pub rollout_is : number_in (column row 1) ≡ Some rollout
-  pub shows : IsGroupRow (group_shown row) g
-  pub kept : broken_group_column (group_shown row) ≡ None
+  pub shows : IsGroupRow (columns_of_group row) g
+  pub kept : broken_group_column (columns_of_group row) ≡ None
 
 -- The action of a number. Its counts are whole numbers of any size, since nothing limits the entries of a history.
 pub record IsAction (row : Row) (number : ℕ) (a : StoredAction) : Type 0 where
   pub number_is : number_in (column row 0) ≡ Some number
-  pub shows : IsActionRow (action_shown row) a
+  pub shows : IsActionRow (columns_of_action row) a
   pub place : has_size (column row 3) ≡ true
   pub word : has_word (column row 4) ≡ true
 
 -- the entry of an action's history at a place of its sequence
 pub record IsEntry (row : Row) (sequence : ℕ) (entry : HistoryEntry) : Type 0 where
   pub sequence_is : column row 2 ≡ Int (pos sequence)
-  pub shows : IsEntryRow (entry_shown row) entry
+  pub shows : IsEntryRow (columns_of_entry row) entry
 
 -- what a target is offered
 pub record IsOffer (row : Row) (id : Bytes) (o : Offer) : Type 0 where
   pub id_is : column row 1 ≡ Text id
   pub word : has_word (column row 1) ≡ true
-  pub shows : IsOfferRow (offer_shown row) o
+  pub shows : IsOfferRow (columns_of_offer row) o

@@ -11,10 +11,10 @@ use Rattle.desk_records.specs.declared.version.Version.{Version}
 use Rattle.desk_records.specs.declared.version.Version.TheVariants.{One, Two, Three}
 
 -- the number in the row of `desk`
-abbrev pub number_of : Version → ℕ
-number_of One = 1
-number_of Two = 2
-number_of Three = 3
+abbrev pub version_number : Version → ℕ
+version_number One = 1
+version_number Two = 2
+version_number Three = 3
 
 -- the one that the program writes
 abbrev pub newest : Version

@@ -9,7 +9,7 @@ use Rattle.clap.specs.declared.error.kind.ErrorKind.{ErrorKind}
 use Rattle.clap.specs.declared.error.kind.ErrorKind.TheVariants.{OutOfMemory}
 use Rattle.desk_server.specs.declared.order.Order.TheVariants.{Run, Serve, Import, Report, Verify}
 use Rattle.stream_server.specs.declared.interface.Interface.{Interface}
-use Rattle.desk_server.specs.Orders.{AreRefused, IsImport, IsReport, IsVerify, NamesOrder, NamesSetup, interface_word, number_given, program_app}
+use Rattle.desk_server.specs.Orders.{AreRefused, IsImport, IsReport, IsVerify, NamesOrder, NamesSetup, interface_word, number_in_range, program_app}
 
 -- no value is given
 pub no_value : {A : Type 0} (found : Option A) (value : A) → None ≡ found → found ≡ Some value → ⊥
@@ -42,9 +42,9 @@ other_name : (name other : Text) (rows more : List Row) → bytes_eq name other 
 other_name name other rows more apart same = not_from_Decides (bytes_eq name other) (bytes_eq-Decides name other) apart (ap name_of same)
 
 -- the connections are no number in the range
-pub no_connections : (rows : List Row) → None ≡ number_given 1 1000000 (first_of (codes "connections") rows) → ¬ NamesOrder (Some (codes "serve", rows))
+pub no_connections : (rows : List Row) → None ≡ number_in_range 1 1000000 (first_of (codes "connections") rows) → ¬ NamesOrder (Some (codes "serve", rows))
 no_connections rows none (Serve setup port connections, serve) =
-    no_value _ connections none (ap (λ found. number_given 1 1000000 (first_of (codes "connections") (values_of found))) serve.subcommand
+    no_value _ connections none (ap (λ found. number_in_range 1 1000000 (first_of (codes "connections") (values_of found))) serve.subcommand
     ∙ serve.connections_is)
 no_connections rows none (Run setup, is) = other_name (codes "serve") (codes "run") rows is.rows refl is.subcommand
 no_connections rows none (Import db file, is) = other_name (codes "serve") (codes "import") rows is.rows refl is.subcommand

@@ -6,14 +6,14 @@ use Rattle.rollout_model.specs.declared.refusal.Refusal.TheVariants.{TooLarge}
 use Rattle.rollout_machine.specs.CommandList.{CommandList}
 use Rattle.rollout_machine.specs.Requests.{Asked, Rejected}
 use Rattle.rollout_machine.specs.Standing.{DeskState, StandsFor, StaysStopped}
-use Rattle.desk_files.specs.Imports.{targets_of}
-use Rattle.mgmt_api.specs.Reading.{imported}
+use Rattle.desk_files.specs.Imports.{targets_in_file}
+use Rattle.mgmt_api.specs.Reading.{import_asked}
 use Rattle.desk_server.specs.Program.{Tells}
 use Rattle.desk_server.specs.Telling.{TellsReply}
 
 -- a file asks that its targets are put; one over the limit is too large, whatever it says
 abbrev pub asked_by_file : List ℕ → Asked
-asked_by_file file = if nat_le (length file) file_length_limit then imported (targets_of file) else Rejected TooLarge
+asked_by_file file = if nat_le (length file) file_length_limit then import_asked (targets_in_file file) else Rejected TooLarge
 
 -- the line of a file that can't be read
 abbrev pub file_line : List ℕ

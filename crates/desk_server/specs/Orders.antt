@@ -2,7 +2,7 @@
 use Rattle.std.specs.Prelude.{◌≡◌, ◌⊎◌, ℕ, Bool, true, false, nat_le, ◌&&◌, if◌then◌else◌, List, [], Option, Some, None, option_and_then, codes, bytes_eq}
 use Rattle.clap.specs.Words.{App, Rule, Row, Text, new_app, new_rule, with_rule, with_subcommand, fault_of, first_of, subcommand_of, takes}
 use Rattle.clap.specs.declared.builder.ArgAction.TheVariants.{Set, SetTrue}
-use Rattle.request_target.specs.Numbers.{number_of}
+use Rattle.request_target.specs.Numbers.{decimal_number}
 use Rattle.stream_server.specs.declared.interface.Interface.{Interface}
 use Rattle.stream_server.specs.declared.interface.Interface.TheVariants.{Devices, Management, Both}
 use Rattle.desk_server.specs.declared.order.Setup.{Setup}
@@ -86,9 +86,9 @@ is_given None = false
 is_given (Some text) = bytes_eq text (codes "true")
 
 -- a number of decimal digits without a leading zero, in the range
-abbrev pub number_given : ℕ → ℕ → Option Text → Option ℕ
-number_given low high None = None
-number_given low high (Some text) = option_and_then (λ n. if nat_le low n && nat_le n high then Some n else None) (number_of text)
+abbrev pub number_in_range : ℕ → ℕ → Option Text → Option ℕ
+number_in_range low high None = None
+number_in_range low high (Some text) = option_and_then (λ n. if nat_le low n && nat_le n high then Some n else None) (decimal_number text)
 
 -- what the values of a subcommand say of the desk
 pub record IsSetup (rows : List Row) (setup : Setup) : Type 0 where
@@ -111,8 +111,8 @@ pub record IsServe (found : Option (Text × List Row)) (setup : Setup) (port con
   pub rows : List Row
   pub subcommand : found ≡ Some (codes "serve", rows)
   pub setup_is : IsSetup rows setup
-  pub port_is : number_given 1 65535 (first_of (codes "port") rows) ≡ Some port
-  pub connections_is : number_given 1 1000000 (first_of (codes "connections") rows) ≡ Some connections
+  pub port_is : number_in_range 1 65535 (first_of (codes "port") rows) ≡ Some port
+  pub connections_is : number_in_range 1 1000000 (first_of (codes "connections") rows) ≡ Some connections
 
 -- the subcommand `import` was met, with these values
 pub record IsImport (found : Option (Text × List Row)) (db file : Text) : Type 0 where
@@ -126,7 +126,7 @@ pub record IsReport (found : Option (Text × List Row)) (db : Text) (rollout : �
   pub rows : List Row
   pub subcommand : found ≡ Some (codes "report", rows)
   pub db_is : first_of (codes "db") rows ≡ Some db
-  pub rollout_is : number_given 1 2147483647 (first_of (codes "rollout") rows) ≡ Some rollout
+  pub rollout_is : number_in_range 1 2147483647 (first_of (codes "rollout") rows) ≡ Some rollout
 
 -- the subcommand `verify` was met, with this value
 pub record IsVerify (found : Option (Text × List Row)) (db : Text) : Type 0 where

@@ -6,7 +6,7 @@ ghost use Rattle.clap.specs.Words.{rule_of, app_of, rows_of, found_of, first_of,
 ghost use Rattle.clap.specs.declared.builder.command.Command.TheViews.{out-Command as fields_of};
 ghost use Rattle.desk_server.specs.Orders.{db_rule, interface_rule, approval_rule, port_rule, connections_rule, file_rule, run_app, port_app};
 ghost use Rattle.desk_server.specs.Orders.{serve_app, import_app, rollout_rule, report_app, verify_app, serving_app, asking_app, program_app};
-ghost use Rattle.desk_server.specs.Orders.{interface_word, is_given, number_given, IsSetup, NamesSetup, IsOrder, NamesOrder, AreFaultless, AreRefused};
+ghost use Rattle.desk_server.specs.Orders.{interface_word, is_given, number_in_range, IsSetup, NamesSetup, IsOrder, NamesOrder, AreFaultless, AreRefused};
 
 use clap::error::ErrorKind;
 use clap::{Arg, ArgAction, ArgMatches, Command, Error};
@@ -300,7 +300,7 @@ fn setup_of<'a>(matches: &ArgMatches<'a>) -> Option<Setup<'a>>
 
 /// The number that a text writes, in a range.
 fn number_given(text: Option<&str>, low: u32, high: u32) -> Option<u32>
-    ensures { result ≡ number_given low high (option_map (λ s. s.now) text.entry) }
+    ensures { result ≡ number_in_range low high (option_map (λ s. s.now) text.entry) }
 {
     match text {
         Some(text) => number_or(low, high, low, Some(text)),
@@ -310,13 +310,13 @@ fn number_given(text: Option<&str>, low: u32, high: u32) -> Option<u32>
 
 /// The number of an option, in a range.
 fn number(matches: &ArgMatches<'_>, id: &str, low: u32, high: u32) -> Option<u32>
-    ensures { result ≡ number_given low high (first_of id.now (rows_of (found_of matches.now))) }
+    ensures { result ≡ number_in_range low high (first_of id.now (rows_of (found_of matches.now))) }
 {
     number_given(matches.get_str(id), low, high)
 }
 
 fn port_of(matches: &ArgMatches<'_>) -> Option<u16>
-    ensures { result ≡ number_given 1 65535 (first_of (codes "port") (rows_of (found_of matches.now))) }
+    ensures { result ≡ number_in_range 1 65535 (first_of (codes "port") (rows_of (found_of matches.now))) }
 {
     let number = number(matches, "port", 1, 65535)?;
     u16::try_from(number).ok()
@@ -369,7 +369,7 @@ fn import_of<'a>(matches: &ArgMatches<'a>) -> Result<Order<'a>, Misuse>
 }
 
 fn rollout_of(matches: &ArgMatches<'_>) -> Option<RolloutNo>
-    ensures { result ≡ number_given 1 2147483647 (first_of (codes "rollout") (rows_of (found_of matches.now))) }
+    ensures { result ≡ number_in_range 1 2147483647 (first_of (codes "rollout") (rows_of (found_of matches.now))) }
 {
     let number = number(matches, "rollout", 1, NUMBER_LIMIT)?;
     RolloutNo::new(number)

@@ -88,7 +88,7 @@ pub use Rattle.desk_records.specs.EntryRow.{BreaksSequenced, IsEntryRow, IsSeque
 pub use Rattle.desk_records.specs.EntryRow.{said_in}
 pub use Rattle.desk_records.specs.FeedbackNumbers.{last_number, number_row, numbers_numbered, told_number}
 pub use Rattle.desk_records.specs.Holds.{HoldsLedger, HoldsRecords, Ledger, ledger_of}
-pub use Rattle.desk_records.specs.Listings.{AreRead, AreSaid, FindsOne, IsLast, IsSaid, has_text_at}
+pub use Rattle.desk_records.specs.Listings.{AreRead, AreSaid, FindsOne, IsLastNumber, IsSaid, has_text_at}
 pub use Rattle.desk_records.specs.Modules.{IsLastRow, is_same, with_module, words_of}
 pub use Rattle.desk_records.specs.NumberRow.{IsLastNumberRow, IsNumberRow, broken_number_column}
 pub use Rattle.desk_records.specs.RolloutRow.{IsActionRow, IsGroupRow, IsListedActionRow, IsOfferRow, IsRolloutRow, actions_for, actions_of}
@@ -123,7 +123,7 @@ pub use Rattle.desk_records.specs.declared.target_texts.TheConstants.{LIST_TARGE
 pub use Rattle.desk_records.specs.declared.target_texts.TheConstants.{SET_TARGET_ATTRIBUTE}
 pub use Rattle.desk_records.specs.declared.texts.TheConstants.{FIND_MODULE, GET_DESK, GET_MODULE, LAST_MODULE, PUT_MODULE}
 pub use Rattle.desk_store.specs.Blaming.{Blames, BlamesGiven}
-pub use Rattle.desk_store.specs.Changing.{FindsTables, KeepsTo, seen_in}
+pub use Rattle.desk_store.specs.Changing.{FindsTables, KeepsSeenTables, seen_in}
 pub use Rattle.desk_store.specs.GroupPairs.{group_and_next}
 pub use Rattle.desk_store.specs.Rows.{AreReadAs, BreaksRule, HasBroken, HasNoNumber, IfRowsBroken, IsApproval, IsCount, IsReadAs}
 pub use Rattle.desk_store.specs.Unreadable.{IsUnreadable, broken_entry, broken_number, broken_piece, broken_rollout, broken_rule, large_count, large_number}

@@ -2,7 +2,7 @@
 use Rattle.desk_store.proofs.Common.{◌≡◌, ℕ, filter_map, Ok, Err, Result, IfOk, Vec, Global, Row, Database, State, Fault, AsksText, ask_finds, counted_of}
 use Rattle.desk_store.proofs.Common.{Actions, HoldsTables, Tables, LIST_ACTIONS, listed_names, list_actions_is}
 use Rattle.sqlite.specs.Effect.{Reads as Shows}
-use Rattle.desk_records.specs.CountedActions.{AreCounted}
+use Rattle.desk_records.specs.CountedActions.{CountsAgree}
 use Rattle.desk_records.specs.declared.checked_rows.CountedAction.{CountedAction}
 use Rattle.desk_records.proofs.ActionRows.{counts_actions}
 use Rattle.desk_store.proofs.Known.{known}
@@ -10,7 +10,7 @@ use Rattle.desk_store.proofs.RawCalls.{FindsOf}
 use Rattle.desk_store.proofs.RawLists.{all_of}
 
 abbrev pub CountsOf : ℕ → Tables → Vec CountedAction Global → Type 0
-CountsOf r t found = AreCounted (t Actions) r found.items
+CountsOf r t found = CountsAgree (t Actions) r found.items
 
 pub counted_read : (r : ℕ) (old new : State) (rows : Vec Row Global) → AsksText old new LIST_ACTIONS.now (all_of r) (Ok rows)
     → (out : Result (Vec CountedAction Global) Fault)

@@ -15,7 +15,7 @@ use Rattle.sql_calls.specs.declared.fault.Fault.TheVariants.{Broken}
 use Rattle.std.proofs.lemmas.List.Filters.{length-filter_both}
 use Rattle.rollout_model.specs.Limits.{number_limit}
 use Rattle.sqlite.specs.Effect.{Reads as Shows}
-use Rattle.desk_records.specs.TableRows.{IsAction, IsOffer, action_shown, offer_shown}
+use Rattle.desk_records.specs.TableRows.{IsAction, IsOffer, columns_of_action, columns_of_offer}
 use Rattle.desk_records.specs.declared.module_row.Column.TheVariants as rule
 use Rattle.desk_store.specs.RawLists.{AreActions, AreOffers}
 use Rattle.desk_store.proofs.BlameLemmas.{blamed}
@@ -64,8 +64,8 @@ module _ {p : Place} {sql : List ℕ} {query : ℕ → Query} {names : List (Lis
 -- ---- rows of tables that were judged
 
 -- an action that can't be read has a count that is too large
-wide_action : (row : Row) (number : ℕ) (a : StoredAction) → IsAction row number a → (c : Column) → broken_action_column (action_shown row) ≡ Some c
-    → has_wide_count (action_shown row) ≡ true
+wide_action : (row : Row) (number : ℕ) (a : StoredAction) → IsAction row number a → (c : Column) → broken_action_column (columns_of_action row) ≡ Some c
+    → has_wide_count (columns_of_action row) ≡ true
 wide_action row number a is c broken =
     let told : first_broken ((not (is_wide (Int (pos a.notes))), rule.ActionNotes) ∷ (not (is_wide (Int (pos a.entries))), rule.ActionEntries) ∷ []) ≡ Some c =
     rw (
@@ -87,7 +87,7 @@ wide_action row number a is c broken =
     go false false h = absurd cc
 
 -- an offer can be read
-no_offer : (row : Row) (id : List ℕ) (o : Offer) → IsOffer row id o → (c : Column) → broken_offer_column (offer_shown row) ≡ Some c → ⊥
+no_offer : (row : Row) (id : List ℕ) (o : Offer) → IsOffer row id o → (c : Column) → broken_offer_column (columns_of_offer row) ≡ Some c → ⊥
 no_offer row id o is c broken = let told : None ≡ Some c = rw (is.shows.action, is.shows.canceling) at broken in absurd cc
 
 -- where it was read, it can be read

@@ -1,7 +1,8 @@
 -- The calls on tables with whatever rows they have.
 use Rattle.desk_store.proofs.Common.{◌≡◌, ◌<◌, ◌^◌, ℕ, min, pos, true, List, [], ◌∷◌, filter, length, Option, Some, None, Ok, Err, Result, IfOk, option_map}
 use Rattle.desk_store.proofs.Common.{Vec, vec_items, sym, ap, ◌∙◌, codes, Global, Null, Int, Row, Database, State, Fault, AsksFew, AsksText, TakesFirst, Knows}
-use Rattle.desk_store.proofs.Common.{Finds, count_rows, ShowsFirst, ask_finds, few_finds, first_finds, is_number, AreRead, IsLast, IsLastRow, Members, Place}
+use Rattle.desk_store.proofs.Common.{Finds, count_rows, ShowsFirst, ask_finds, few_finds, first_finds, is_number, AreRead, IsLastNumber, IsLastRow, Members}
+use Rattle.desk_store.proofs.Common.{Place}
 use Rattle.desk_store.proofs.Common.{Rollouts, HoldsTables, Tables, LAST_ROLLOUT, LIST_PLACES, last_rollout_is, list_places_is, placed_names, IsCount}
 use Rattle.sqlite.specs.Effect.{Reads as Shows}
 use Rattle.desk_records.specs.MemberRow.{IsPlacedRow, keeps_member_rules}
@@ -86,7 +87,7 @@ place_count_read r good old new rows h out is = ask_finds HoldsTables (λ (t : T
 -- ---- rollouts
 
 abbrev pub Lasts : Tables → ℕ → Type 0
-Lasts t last = IsLast (t Rollouts) last
+Lasts t last = IsLastNumber (t Rollouts) last
 
 pub last_read : (old new : State) (row : Option Row) → TakesFirst old new LAST_ROLLOUT.now [] (Ok row) → (out : Result ℕ Fault)
     → IfOk out (λ n. IsLastRow n row) → FindsOf old new out Lasts

@@ -21,7 +21,7 @@ use Rattle.desk_records.specs.declared.checked_rows.OwnedOffer.{OwnedOffer}
 use Rattle.desk_records.specs.declared.entry_row.SequencedEntry.{SequencedEntry}
 use Rattle.desk_records.proofs.ActionMeaning.{of_rollout as of_its_rollout}
 use Rattle.desk_records.proofs.TableColumns.{passes_integer}
-use Rattle.desk_store.specs.RawLists.{AreInOrder, AreListed, IsKeptActionRow, IsKeptGroupRow, ListsRows, SaysAction, SaysArtifact, SaysEntry, SaysGroup}
+use Rattle.desk_store.specs.RawLists.{IsFoundInOrder, AreListed, IsKeptActionRow, IsKeptGroupRow, ListsRows, SaysAction, SaysArtifact, SaysEntry, SaysGroup}
 use Rattle.desk_store.specs.RawLists.{SaysListed, SaysNumber, SaysOffer, any_row}
 use Rattle.desk_records.proofs.MeaningWords.{Asks}
 use Rattle.desk_store.proofs.Known.{answer_of, known}
@@ -66,13 +66,13 @@ module _ {p : Place} {sql : List ℕ} {query : ℕ → Query} {names : List (Lis
 
       pub rows_in_order : (keeps : Row → Bool) (old new : State) (rows : Vec Row Global) → AsksText old new sql params (Ok rows)
           → (out : Result (Option (Vec A Global)) Fault) → IfOk out (λ found. AreRead is keeps rows.items (option_map vec_items found))
-          → FindsOf old new out (λ t found. AreInOrder key (option_map vec_items found))
-      rows_in_order keeps old new rows = all_read sql params old new (known text) (λ t found. AreInOrder key (option_map vec_items found))
+          → FindsOf old new out (λ t found. IsFoundInOrder key (option_map vec_items found))
+      rows_in_order keeps old new rows = all_read sql params old new (known text) (λ t found. IsFoundInOrder key (option_map vec_items found))
           (λ found. AreRead is keeps rows.items (option_map vec_items found)) rows
           (λ db t holds found shows read. go db t holds shows (option_map vec_items found) read)
         where
           go : (db : Database) (t : Tables) (holds : HoldsTables db t) → Shows (known text db t holds).command db params rows.items → (found : Option (List A))
-              → AreRead is keeps rows.items found → AreInOrder key found
+              → AreRead is keeps rows.items found → IsFoundInOrder key found
           go db t holds shows (Some found) read = in_order db t holds rows.items shows found read
           go db t holds shows None read = tt
 
@@ -236,7 +236,7 @@ module _ (n : ℕ) where
   pub actions_in_order : (old new : State) (rows : Vec Row Global) → AsksText old new LIST_ACTIONS.now (all_of n) (Ok rows)
       → (out : Result (Option (Vec ListedAction Global)) Fault)
       → IfOk out (λ found. AreRead IsKeptActionRow keeps_action_rules rows.items (option_map vec_items found))
-      → FindsOf old new out (λ t found. AreInOrder (λ (a : ListedAction). a.number) (option_map vec_items found))
+      → FindsOf old new out (λ t found. IsFoundInOrder (λ (a : ListedAction). a.number) (option_map vec_items found))
   actions_in_order = rows_in_order list_actions_is (all_of n) (λ tree xs. refl) (has_at 2 n) judges_action IsKeptActionRow SaysAction says_action
       (λ (a : ListedAction). a.number) (λ tree low high a b of_a of_b up. number_order tree of_its_rollout listed_columns (col 0 1) (col 0 2) (all_of n) 0 low
       high a.number b.number (number_in_is _ _ of_a.number_is) (number_in_is _ _ of_b.number_is) up) keeps_action_rules

@@ -3,7 +3,8 @@ use Rattle.sql_calls.specs.declared.fault.Fault.TheVariants.{Broken}
 use Rattle.desk_store.proofs.Common.{◌≡◌, ◌<◌, ◌++◌, ◌+◌, ℕ, get_or, take, List, [], ◌∷◌, length, map, Option, Some, None, option_map, Ok, Err, Result, IfErr}
 use Rattle.desk_store.proofs.Common.{IfOk, Vec, refl, sym, ap₂, subst, filter_map, ap, ◌∙◌, pos, arith, cons_option, Global, Int, Row, IsLastRow, Database}
 use Rattle.desk_store.proofs.Common.{HasCleanDisk, IsUnchanged, State, Fault, AsksFew, AsksText, TakesFirst, Finds, Sees, Wears, Known, Knows, ShowsFirst}
-use Rattle.desk_store.proofs.Common.{ask_finds, few_finds, first_finds, HoldsLedger, Ledger, HoldsTables, Has, Memory, Store, KeepsTo, AreReadAs, HasBroken}
+use Rattle.desk_store.proofs.Common.{ask_finds, few_finds, first_finds, HoldsLedger, Ledger, HoldsTables, Has, Memory, Store, KeepsSeenTables, AreReadAs}
+use Rattle.desk_store.proofs.Common.{HasBroken}
 use Rattle.desk_store.proofs.Common.{IfRowsBroken, IsReadAs}
 use Rattle.std.proofs.lemmas.List.{take_more}
 use Rattle.std.proofs.lemmas.Slice.Zip.{all_zipped_more}
@@ -167,10 +168,10 @@ module _ {R : Type 0} (Holds : Database → R → Type 0) {sql : List ℕ} (para
       (λ db now holds shown. tt)).finds r was).0
 
 module _ {sql : List ℕ} (params : Row) (old new : State) (knows : Knows HoldsTables sql) where
-  pub first_keeps : (out : Result (Option Row) Fault) → TakesFirst old new sql params out → KeepsTo old new out
+  pub first_keeps : (out : Result (Option Row) Fault) → TakesFirst old new sql params out → KeepsSeenTables old new out
   first_keeps (Ok row) h = first_sees HoldsTables params old new knows row h
   first_keeps (Err fault) h = tt
 
-  pub ask_keeps : (out : Result (Vec Row Global) Fault) → AsksText old new sql params out → KeepsTo old new out
+  pub ask_keeps : (out : Result (Vec Row Global) Fault) → AsksText old new sql params out → KeepsSeenTables old new out
   ask_keeps (Ok rows) h = ask_sees HoldsTables params old new knows rows h
   ask_keeps (Err fault) h = tt

@@ -20,7 +20,7 @@ use Rattle.desk_records.specs.Holds.{ledger_of}
 use Rattle.desk_records.specs.RolloutRow.{broken_action_column}
 use Rattle.desk_records.specs.RowFaults.{BreaksRule}
 use Rattle.desk_records.specs.Schema.{Actions}
-use Rattle.desk_records.specs.TableRows.{action_shown}
+use Rattle.desk_records.specs.TableRows.{columns_of_action}
 use Rattle.desk_records.specs.TargetRow.{has_word}
 use Rattle.desk_records.specs.declared.module_row.Column.{Column}
 use Rattle.desk_records.specs.declared.module_row.Column.TheVariants.{ActionCanceling, ActionEntries, ActionNotes, ActionOutcome, ActionPlace, ActionRollout}
@@ -67,4 +67,4 @@ history_few r readable (suc i) large = go (slice_get r.actions i) refl large
         let wide : 2 ^ 32 ≤ length a.history = omega (arith, large, length-map a.history (λ (it : Reported). it.entry)) in
         let unread : has_size (Int (pos (length a.history))) ≡ false = no_size (length a.history) wide in
         readable.keep Actions (rows_from (action_row r.rollouts) 1 its) refl (action_row r.rollouts row.0 (a, tally_of a)) row.1
-        (inr (inl (unread_entries (action_shown (action_row r.rollouts row.0 (a, tally_of a))) unread)))
+        (inr (inl (unread_entries (columns_of_action (action_row r.rollouts row.0 (a, tally_of a))) unread)))

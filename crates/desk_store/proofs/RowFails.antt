@@ -20,7 +20,7 @@ use Rattle.desk_records.proofs.NextOfferRecords.{gets_next_offer}
 use Rattle.desk_records.proofs.NumberColumns.{is_in_range, is_number_in, small_is}
 use Rattle.desk_records.proofs.TargetMeaning.{count_targets_is}
 use Rattle.desk_store.specs.Changing.{FindsLedger}
-use Rattle.desk_store.specs.Failing.{FailsIn, FailsSeeing, NumbersActions}
+use Rattle.desk_store.specs.Failing.{FailsIn, FailsSeeing, AreActionsNumbered}
 use Rattle.desk_store.specs.Readable.{BreaksColumn, HasNoKey, IsReadable}
 use Rattle.desk_store.specs.Rows.{HasNoApproval, IsBroken}
 use Rattle.desk_store.proofs.FailLemmas.{breaks_by, first_fails, tables_of, told_never}
@@ -140,19 +140,19 @@ module _ {S : Type 0} {g : Ghosts S} {old new : OpenChange S} (grows : old.store
   -- the next offer
   pub next_fails : (id : Bytes) → TakesFirst (seen_in g old) (seen_in g new) NEXT_OFFER.now (Text id ∷ []) (Ok row) → (out : Result (Option Offer) Fault)
       → IfErr out (λ fault. IfRowsBroken fault (IsBroken (λ r. BreaksRule (broken_offer_column r)) row))
-      → FailsSeeing g NumbersActions old new out
+      → FailsSeeing g AreActionsNumbered old new out
   next_fails id h out broken = go out broken
     where
-      found : FindsLedger g {E = Fault} old new (Ok (tt {0})) (λ l u. NumbersActions l → IsBroken (λ r. BreaksRule (broken_offer_column r)) row → ⊥)
+      found : FindsLedger g {E = Fault} old new (Ok (tt {0})) (λ l u. AreActionsNumbered l → IsBroken (λ r. BreaksRule (broken_offer_column r)) row → ⊥)
       found = first_finds HoldsLedger (λ (l : Ledger). l) NEXT_OFFER.now (Text id ∷ []) (seen_in g old) (seen_in g new)
-          (λ l u. NumbersActions l → IsBroken (λ r. BreaksRule (broken_offer_column r)) row → ⊥) (in_ledgers next) (λ db l holds at given. tt) row h
+          (λ l u. AreActionsNumbered l → IsBroken (λ r. BreaksRule (broken_offer_column r)) row → ⊥) (in_ledgers next) (λ db l holds at given. tt) row h
           (Ok (tt {0}))
           (λ db l holds shown numbers. never_next (next_offer l.records id) row
           (gets_next_offer db l holds (codes "number" ∷ codes "canceling" ∷ []) id numbers.tallied row shown)
           (λ o is. next_in_range l.records.rollouts id l.records.actions numbers.few o is))
 
       go : (out : Result (Option Offer) Fault) → IfErr out (λ fault. IfRowsBroken fault (IsBroken (λ r. BreaksRule (broken_offer_column r)) row))
-          → FailsSeeing g NumbersActions old new out
+          → FailsSeeing g AreActionsNumbered old new out
       go (Ok o) is = record { to = tt }
       go (Err Memory) is = record { to = λ l seen numbers. record { reason = λ e clean. absurd cc } }
       go (Err Store) is = absurd is

@@ -12,9 +12,9 @@ use Rattle.desk_records.specs.Tables.{HoldsTables, Tables}
 use Rattle.desk_store.specs.declared.change.OpenChange.{OpenChange}
 
 -- after Ok the tables that were seen are seen, whatever rows they have
-abbrev pub KeepsTo : {A : Type 0} → State → State → Result A Fault → Type 0
-KeepsTo old new (Ok a) = (t : Tables) → Sees HoldsTables old t → Sees HoldsTables new t
-KeepsTo old new (Err fault) = Unit {0}
+abbrev pub KeepsSeenTables : {A : Type 0} → State → State → Result A Fault → Type 0
+KeepsSeenTables old new (Ok a) = (t : Tables) → Sees HoldsTables old t → Sees HoldsTables new t
+KeepsSeenTables old new (Err fault) = Unit {0}
 
 module _ {S : Type 0} (g : Ghosts S) where
   -- the connection of the change
@@ -50,4 +50,4 @@ module _ {S : Type 0} (g : Ghosts S) where
 
   -- what only reads leaves the tables as they are
   pub record KeepsTables {A : Type 0} (old new : OpenChange S) (result : Result A Fault) : Type 0 where
-    pub to : KeepsTo (seen_in old) (seen_in new) result
+    pub to : KeepsSeenTables (seen_in old) (seen_in new) result

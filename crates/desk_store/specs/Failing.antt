@@ -35,6 +35,6 @@ module _ {S : Type 0} (g : Ghosts S) where
   FailsSeeing Given = BreaksFirst g HoldsLedger Given nothing
 
 -- each action has its tally, and a number within the limit
-pub record NumbersActions (l : Ledger) : Type 0 where
+pub record AreActionsNumbered (l : Ledger) : Type 0 where
   pub tallied : length l.tallies ≡ length l.records.actions
   pub few : length l.records.actions ≤ number_limit

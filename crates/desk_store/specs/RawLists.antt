@@ -16,7 +16,8 @@ use Rattle.desk_records.specs.RolloutRow.{IsActionRow, IsGroupRow, IsListedActio
 use Rattle.desk_records.specs.RuleRow.{IsRuleRow}
 use Rattle.desk_records.specs.Schema.{Actions, Artifacts, Offers}
 use Rattle.desk_records.specs.Tables.{Tables}
-use Rattle.desk_records.specs.TableRows.{IsAction, IsArtifact, IsEntry, IsGroup, IsOffer, action_shown, artifact_shown, number_shown, rule_shown}
+use Rattle.desk_records.specs.TableRows.{IsAction, IsArtifact, IsEntry, IsGroup, IsOffer, columns_of_action, columns_of_artifact, columns_of_number}
+use Rattle.desk_records.specs.TableRows.{columns_of_rule}
 use Rattle.desk_records.specs.declared.artifact_row.StoredArtifact.{StoredArtifact}
 use Rattle.desk_records.specs.declared.checked_rows.CheckedArtifact.{CheckedArtifact}
 use Rattle.desk_records.specs.declared.checked_rows.OwnedOffer.{OwnedOffer}
@@ -31,8 +32,8 @@ ListsRows rows test says (Some found) = AreSaid rows test says found
 ListsRows rows test says None = AreBroken rows test says
 
 -- what is shown of an artifact in a listing
-abbrev pub listed_shown : Row → Row
-listed_shown row = column row 0 ∷ column row 3 ∷ column row 4 ∷ column row 5 ∷ []
+abbrev pub columns_in_listing : Row → Row
+columns_in_listing row = column row 0 ∷ column row 3 ∷ column row 4 ∷ column row 5 ∷ []
 
 -- each row
 abbrev pub any_row : Row → Bool
@@ -49,7 +50,7 @@ SaysGroup rollout row g = IsGroup row rollout g
 
 -- what is said of a group that is known
 abbrev pub SaysRule : Row → GroupRule → Type 0
-SaysRule row it = IsRuleRow (rule_shown row) it
+SaysRule row it = IsRuleRow (columns_of_rule row) it
 
 abbrev pub SaysAction : Row → ListedAction → Type 0
 SaysAction row a = IsAction row a.number a.action
@@ -59,19 +60,19 @@ SaysEntry row e = IsEntry row e.sequence e.entry
 
 -- a number of an action that is known
 abbrev pub SaysNumber : Row → PlacedNumber → Type 0
-SaysNumber row it = IsNumberRow (number_shown row) it
+SaysNumber row it = IsNumberRow (columns_of_number row) it
 
 -- the action of a number that is known
 abbrev pub SaysNumbered : Row → StoredAction → Type 0
-SaysNumbered row a = IsActionRow (action_shown row) a
+SaysNumbered row a = IsActionRow (columns_of_action row) a
 
 -- the artifact of a number that is known
 abbrev pub SaysStored : Row → StoredArtifact → Type 0
-SaysStored row a = IsStoredRow (artifact_shown row) a
+SaysStored row a = IsStoredRow (columns_of_artifact row) a
 
 -- an artifact of a module that is known
 abbrev pub SaysListed : Row → Artifact → Type 0
-SaysListed row a = IsArtifactRow (listed_shown row) a
+SaysListed row a = IsArtifactRow (columns_in_listing row) a
 
 -- what the target of an id is offered
 abbrev pub SaysOfferOf : Bytes → Row → Offer → Type 0
@@ -83,9 +84,9 @@ FindsFirst rows test says (Some a) = IsSaid rows test says a
 FindsFirst rows test says None = (row : Row) → Has rows row → test row ≡ true → ⊥
 
 -- what was found is in the order of a number
-abbrev pub AreInOrder : {A : Type 0} → (A → ℕ) → Option (List A) → Type 0
-AreInOrder key (Some found) = IsNonDecreasingBy key found
-AreInOrder key None = Unit {0}
+abbrev pub IsFoundInOrder : {A : Type 0} → (A → ℕ) → Option (List A) → Type 0
+IsFoundInOrder key (Some found) = IsNonDecreasingBy key found
+IsFoundInOrder key None = Unit {0}
 
 -- the row of a group, each column keeping its rule
 pub record IsKeptGroupRow (row : Row) (g : GroupRecord) : Type 0 where

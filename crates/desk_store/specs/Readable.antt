@@ -14,10 +14,11 @@ use Rattle.desk_records.specs.RuleRow.{broken_rule_column}
 use Rattle.desk_records.specs.Schema.{Actions, Artifacts, Desk, Feedbacks, Groups, Members, Modules, Numbers, Offers, Pieces, Place, Rollouts, Rules}
 use Rattle.desk_records.specs.Schema.{SetModules, Sets, TargetAttributes, TargetTags, Targets}
 use Rattle.desk_records.specs.SetRow.{broken_set_column, has_number}
-use Rattle.desk_records.specs.TableRows.{action_shown, artifact_shown, entry_shown, group_shown, number_shown, offer_shown, rollout_shown, rule_shown}
+use Rattle.desk_records.specs.TableRows.{columns_of_action, columns_of_artifact, columns_of_entry, columns_of_group, columns_of_number, columns_of_offer}
+use Rattle.desk_records.specs.TableRows.{columns_of_rollout, columns_of_rule}
 use Rattle.desk_records.specs.TargetRow.{broken_attribute_column, broken_listed_column, broken_target_column, has_word}
 use Rattle.desk_records.specs.declared.module_row.Column.{Column}
-use Rattle.desk_store.specs.RawLists.{listed_shown}
+use Rattle.desk_store.specs.RawLists.{columns_in_listing}
 use Rattle.desk_store.specs.Rows.{BreaksRule}
 
 -- ---- what is shown of a row
@@ -50,20 +51,20 @@ BreaksColumn Modules row = HasNoKey row ⊎ BreaksRule (broken_column (label_sho
 BreaksColumn Sets row = HasNoKey row ⊎ BreaksRule (broken_set_column (third_shown row))
 BreaksColumn SetModules row = has_number (column row 3) ≡ false
 BreaksColumn Artifacts row = HasNoKey row
-    ⊎ (BreaksRule (broken_stored_column (artifact_shown row)) ⊎ BreaksRule (broken_artifact_column (listed_shown row)))
+    ⊎ (BreaksRule (broken_stored_column (columns_of_artifact row)) ⊎ BreaksRule (broken_artifact_column (columns_in_listing row)))
 BreaksColumn Pieces row = has_bytes (column row 3) ≡ false
 BreaksColumn Targets row = BreaksRule (broken_target_column (third_shown row)) ⊎ BreaksRule (broken_listed_column (second_shown row))
 BreaksColumn TargetTags row = has_word (column row 2) ≡ false
 BreaksColumn TargetAttributes row = BreaksRule (broken_attribute_column (third_shown row))
-BreaksColumn Rollouts row = HasNoKey row ⊎ BreaksRule (broken_rollout_column (rollout_shown row))
+BreaksColumn Rollouts row = HasNoKey row ⊎ BreaksRule (broken_rollout_column (columns_of_rollout row))
 BreaksColumn Members row = has_word (column row 3) ≡ false
-BreaksColumn Groups row = BreaksRule (broken_group_column (group_shown row))
+BreaksColumn Groups row = BreaksRule (broken_group_column (columns_of_group row))
 BreaksColumn Actions row = HasNoKey row
-    ⊎ (BreaksRule (broken_action_column (action_shown row)) ⊎ BreaksRule (broken_listed_action_column (action_shown row)))
-BreaksColumn Feedbacks row = (c : Column) × BreaksEntry (entry_shown row) c
-BreaksColumn Offers row = BreaksRule (broken_offer_column (offer_shown row))
-BreaksColumn Rules row = BreaksRule (broken_rule_column (rule_shown row))
-BreaksColumn Numbers row = BreaksRule (broken_number_column (number_shown row)) ⊎ BreaksRule (broken_last_number_column (placed_shown row))
+    ⊎ (BreaksRule (broken_action_column (columns_of_action row)) ⊎ BreaksRule (broken_listed_action_column (columns_of_action row)))
+BreaksColumn Feedbacks row = (c : Column) × BreaksEntry (columns_of_entry row) c
+BreaksColumn Offers row = BreaksRule (broken_offer_column (columns_of_offer row))
+BreaksColumn Rules row = BreaksRule (broken_rule_column (columns_of_rule row))
+BreaksColumn Numbers row = BreaksRule (broken_number_column (columns_of_number row)) ⊎ BreaksRule (broken_last_number_column (placed_shown row))
 
 -- none does, and there are no more targets than 32 bits count
 pub record IsReadable (l : Ledger) : Type 0 where

@@ -14,7 +14,7 @@ use Rattle.desk_records.specs.PlaceLists.{SaysMember, is_of}
 use Rattle.desk_records.specs.RuleRow.{broken_rule_column}
 use Rattle.desk_records.specs.Schema.{Actions, Feedbacks, Members, Numbers, Pieces, Place, Rollouts, Rules}
 use Rattle.desk_records.specs.RolloutRow.{broken_rollout_column}
-use Rattle.desk_records.specs.TableRows.{action_shown, number_shown, rollout_shown, rule_shown}
+use Rattle.desk_records.specs.TableRows.{columns_of_action, columns_of_number, columns_of_rollout, columns_of_rule}
 use Rattle.desk_records.specs.Tables.{Tables}
 use Rattle.desk_records.specs.declared.entry_row.SequencedEntry.{SequencedEntry}
 use Rattle.desk_records.specs.declared.member_row.PlacedMember.{PlacedMember}
@@ -43,11 +43,11 @@ pub record HasTwins {A : Type 0} (rows : List Row) (test : Row → Bool) (says :
 -- Rows that are read and that nothing is recomputed of: one that breaks a rule, a number that is missing or is there twice, rules that make no grouping,
 -- and what is past its limit.
 pub data IsUnreadable (t : Tables) : Type 0 where
-  broken_rollout : (row : Row) → Has (t Rollouts) row → BreaksRule (broken_rollout_column (rollout_shown row)) → IsUnreadable t
-  broken_rule : (row : Row) → Has (t Rules) row → BreaksRule (broken_rule_column (rule_shown row)) → IsUnreadable t
+  broken_rollout : (row : Row) → Has (t Rollouts) row → BreaksRule (broken_rollout_column (columns_of_rollout row)) → IsUnreadable t
+  broken_rule : (row : Row) → Has (t Rules) row → BreaksRule (broken_rule_column (columns_of_rule row)) → IsUnreadable t
   broken_piece : (row : Row) → Has (t Pieces) row → has_bytes (column row 3) ≡ false → IsUnreadable t
   broken_entry : (row : Row) (c : Column) → Has (t Feedbacks) row → BreaksSequenced (sequenced_shown row) c → IsUnreadable t
-  broken_number : (row : Row) → Has (t Numbers) row → BreaksRule (broken_number_column (number_shown row)) → IsUnreadable t
+  broken_number : (row : Row) → Has (t Numbers) row → BreaksRule (broken_number_column (columns_of_number row)) → IsUnreadable t
   twin_members : (rollout : ℕ) → HasTwins (t Members) (is_of rollout) (SaysMember rollout) (λ (m : PlacedMember). m.place) → IsUnreadable t
   twin_actions : (rollout : ℕ) → HasTwins (t Actions) (has_at 2 rollout) SaysAction (λ (a : ListedAction). a.number) → IsUnreadable t
   twin_entries : (action : ℕ) → HasTwins (t Feedbacks) (has_at 1 action) SaysEntry (λ (e : SequencedEntry). e.sequence) → IsUnreadable t
@@ -56,5 +56,5 @@ pub data IsUnreadable (t : Tables) : Type 0 where
   no_grouping : (rollout : ℕ) (rules : List GroupRule) → HasGroupCount t rollout (length rules) → HaveRules (HasRule t rollout) 1 rules
       → grouping_of rules ≡ None → IsUnreadable t
   large_number : (row : Row) → Has (t Rollouts) row → number_in (column row 0) ≡ None → IsUnreadable t
-  large_count : (row : Row) → Has (t Actions) row → has_wide_count (action_shown row) ≡ true → IsUnreadable t
+  large_count : (row : Row) → Has (t Actions) row → has_wide_count (columns_of_action row) ≡ true → IsUnreadable t
   many_rows : (p : Place) → 2 ^ 32 ≤ length (t p) → IsUnreadable t

@@ -16,7 +16,7 @@ ghost use Rattle.desk_store.specs.Counting.{AddsIn};
 ghost use Rattle.desk_store.specs.Changing.{FindsLedger, FindsTables, KeepsTables, MakesLedger, StaysIn};
 ghost use Rattle.desk_store.specs.RawLists.{FindsFirst, SaysOfferOf};
 ghost use Rattle.desk_store.specs.Rows.{BreaksRule};
-ghost use Rattle.desk_store.specs.Failing.{FailsIn, FailsSeeing, NumbersActions, WritesIn};
+ghost use Rattle.desk_store.specs.Failing.{FailsIn, FailsSeeing, AreActionsNumbered, WritesIn};
 
 use crate::change::OpenChange;
 use crate::codes::{code_of_outcome, flag_code};
@@ -207,7 +207,7 @@ impl<'a, S: Alter> OpenChange<'a, S> {
         ensures stays { StaysIn S.Store self.old self.new result }
         ensures reads { FindsLedger S.Store self.old self.new result
             (λ l found. length l.tallies ≡ length l.records.actions → found ≡ next_offer l.records id.now) }
-        ensures fails { FailsSeeing S.Store NumbersActions self.old self.new result }
+        ensures fails { FailsSeeing S.Store AreActionsNumbered self.old self.new result }
         ensures work { AddsIn 1 1 self.old self.new }
     {
         let alloc = self.store.alloc;

@@ -4,13 +4,13 @@ ghost use Rattle.std.specs.Prelude.{◌≡◌, ◌≤◌, ◌+◌, IfErr, IfOk, 
 ghost use Rattle.std.specs.List.Sorted.{IsNonDecreasingBy};
 ghost use Rattle.sqlite_trees.specs.Tree.{has_rowid};
 ghost use Rattle.desk_records.specs.CheckedRows.{counted_of};
-ghost use Rattle.desk_records.specs.CountedActions.{AreCounted};
+ghost use Rattle.desk_records.specs.CountedActions.{CountsAgree};
 ghost use Rattle.desk_records.specs.Listings.{AreSaid, FindsOne, has_at};
 ghost use Rattle.desk_records.specs.Schema.{Actions, Feedbacks};
 ghost use Rattle.desk_store.specs.Blaming.{Blames, BlamesGiven};
 ghost use Rattle.desk_store.specs.Changing.{FindsTables, StaysIn};
 ghost use Rattle.desk_store.specs.Counting.{AddsIn};
-ghost use Rattle.desk_store.specs.RawLists.{AreActions, AreInOrder, ListsRows, SaysAction, SaysEntry, SaysNumbered};
+ghost use Rattle.desk_store.specs.RawLists.{AreActions, IsFoundInOrder, ListsRows, SaysAction, SaysEntry, SaysNumbered};
 
 use crate::change::OpenChange;
 use crate::checked_row::read_checked;
@@ -64,7 +64,7 @@ impl<'a, S: Alter> OpenChange<'a, S> {
         ensures stays { StaysIn S.Store self.old self.new result }
         ensures reads { FindsTables S.Store self.old self.new result
             (λ t found. ListsRows (t Actions) (has_at 2 number) SaysAction (option_map vec_items found)) }
-        ensures order { FindsTables S.Store self.old self.new result (λ t found. AreInOrder (λ a. a.number) (option_map vec_items found)) }
+        ensures order { FindsTables S.Store self.old self.new result (λ t found. IsFoundInOrder (λ a. a.number) (option_map vec_items found)) }
         ensures blames { Blames S.Store self.old self.new result }
         ensures work { self.new.store.now.calls.work.statements ≤ self.old.store.now.calls.work.statements + 1 }
     {
@@ -90,7 +90,7 @@ impl<'a, S: Alter> OpenChange<'a, S> {
     /// The actions of a rollout as a count takes them, whatever rows there are: one that breaks the rule of its place or outcome is left out.
     pub fn list_counted_actions(&mut self, number: RolloutNo) -> Result<Vec<CountedAction>, Fault>
         ensures stays { StaysIn S.Store self.old self.new result }
-        ensures reads { FindsTables S.Store self.old self.new result (λ t found. AreCounted (t Actions) number found.items) }
+        ensures reads { FindsTables S.Store self.old self.new result (λ t found. CountsAgree (t Actions) number found.items) }
         ensures blames { Blames S.Store self.old self.new result }
         ensures work { self.new.store.now.calls.work.statements ≤ self.old.store.now.calls.work.statements + 1 }
     {

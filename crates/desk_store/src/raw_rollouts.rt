@@ -2,7 +2,7 @@
 
 ghost use Rattle.std.specs.Prelude.{pos};
 ghost use Rattle.sqlite_trees.specs.Tree.{has_rowid};
-ghost use Rattle.desk_records.specs.Listings.{FindsOne, IsLast};
+ghost use Rattle.desk_records.specs.Listings.{FindsOne, IsLastNumber};
 ghost use Rattle.desk_records.specs.Schema.{Rollouts};
 ghost use Rattle.desk_records.specs.TableRows.{IsRollout};
 ghost use Rattle.desk_store.specs.Blaming.{Blames};
@@ -20,7 +20,7 @@ impl<'a, S: Alter> OpenChange<'a, S> {
     /// The greatest number of a rollout, whatever rows there are.
     pub fn find_last_rollout(&mut self) -> Result<u32, Fault>
         ensures stays { StaysIn S.Store self.old self.new result }
-        ensures reads { FindsTables S.Store self.old self.new result (λ t last. IsLast (t Rollouts) last) }
+        ensures reads { FindsTables S.Store self.old self.new result (λ t last. IsLastNumber (t Rollouts) last) }
         ensures blames { Blames S.Store self.old self.new result }
         ensures work { AddsIn 1 1 self.old self.new }
     {

@@ -6,7 +6,7 @@ use Rattle.desk_verify.proofs.Common.{Outcome, ActionRecord, RolloutRecord, acti
 use Rattle.desk_verify.proofs.Common.{entry_row, tally_of, flag_in, HoldsRecords, ledger_of, stored_action, member_row, members_from, rollout_row}
 use Rattle.desk_verify.proofs.Common.{told_rollout, Actions, Feedbacks, Members, Rollouts, IsAction, HoldsTables, Tables, StoredAction, item_row, part_among}
 use Rattle.desk_verify.proofs.Common.{place_within, held_rows, numbered, of_part, row_of, wanted_of, has_own_number, is_at, is_in_range, is_number_in}
-use Rattle.desk_verify.proofs.Common.{is_small, number_in_is, number_is, one_number, small_is, AgreesActions, AreInOrder, FitsEntries, GivesOutcome}
+use Rattle.desk_verify.proofs.Common.{is_small, number_in_is, number_is, one_number, small_is, AgreesActions, AreInOrder, FitsEntries, EntryGivesOutcome}
 use Rattle.desk_verify.proofs.Common.{HasActions, HasMember, IsRightAction, IsStarted, HistoryEntry, member_at, said_by, parts_from, member_ids}
 use Rattle.rollout_machine.specs.Histories.{first_outcome}
 use Rattle.rollout_machine.proofs.Histories.{outcomes_fit_histories}
@@ -212,7 +212,8 @@ module _ (h : CommandList) (valid : IsValid h) (db : Database) (t : Tables) (hel
 
     -- ---- its entries
 
-    gives : (i : ℕ) (e : HistoryEntry) (o : Outcome) → slice_get (entries_of a) i ≡ Some e → outcome_said e.said ≡ Some o → GivesOutcome t (suc d) (suc i) o
+    gives : (i : ℕ) (e : HistoryEntry) (o : Outcome) → slice_get (entries_of a) i ≡ Some e → outcome_said e.said ≡ Some o
+        → EntryGivesOutcome t (suc d) (suc i) o
     gives i e o at said =
         let part = part_among entry_row entries_of 1 (suc d) d (records h).actions a (entry_row (suc d) (suc i) e) (omega arith) got
         (item_row (entry_row (suc d)) 1 (suc i) i (entries_of a) e (omega arith) at) in
@@ -236,7 +237,7 @@ module _ (h : CommandList) (valid : IsValid h) (db : Database) (t : Tables) (hel
       lies : slice_get (entries_of a) index ≡ Some entry
       gives : outcome_said entry.said ≡ Some o
 
-    gave : (sequence : ℕ) (o : Outcome) → GivesOutcome t (suc d) sequence o → Gives sequence o
+    gave : (sequence : ℕ) (o : Outcome) → EntryGivesOutcome t (suc d) sequence o → Gives sequence o
     gave sequence o it =
         let content = wanted_of (t Feedbacks) (parts_from entry_row entries_of 1 (records h).actions) it.row
         (held_rows db (ledger_of (records h)) held t holds Feedbacks) it.among in

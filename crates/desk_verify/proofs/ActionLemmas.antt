@@ -2,7 +2,8 @@
 use Rattle.desk_verify.proofs.Common.{◌≡◌, ◌<◌, ℕ, true, false, true≢false, List, [], ◌∷◌, length, nat_eq, pos, Some, None, inl, refl, sym, ap, subst, ◌∙◌}
 use Rattle.desk_verify.proofs.Common.{arith, AllByRecursion, Int, Text, Row, column, Has, all_from, all_has, Bytes, has_at, Actions, IsAction, Tables}
 use Rattle.desk_verify.proofs.Common.{PlacedMember, ListedAction, StoredAction, StoredRollout, is_at, number_in_is, number_in_least, number_is, one_number}
-use Rattle.desk_verify.proofs.Common.{AreActionsInTurn, AreMembersInTurn, AreWhole, FitsHistory, ListsActions, PassesHistory, are_for, count_none, is_for}
+use Rattle.desk_verify.proofs.Common.{AreActionsInTurn, AreMembersInTurn, AreActionsWhole, FitsItsEntries, ListsActions, PassesHistory, are_for, count_none}
+use Rattle.desk_verify.proofs.Common.{is_for_member}
 use Rattle.desk_verify.proofs.Common.{AgreesActions, AreInOrder, FitsEntries, HasActions, HasMember, IsRightAction, IsStarted, KeepsNumbers, PassesActions}
 use Rattle.desk_verify.proofs.Common.{Settles, AreAllChecked, HasRollout, IsChecked, JudgesOne, IsThere}
 use Rattle.desk_verify.proofs.OneRow.{one_action, one_in}
@@ -37,7 +38,7 @@ module _ (t : Tables) (r : ℕ) (rollout : StoredRollout) (there : HasRollout t 
 
   -- ---- that isn't started
 
-  none_of : rollout.started ≡ false → ListsActions t r (Some []) → IsChecked Actions 2 IsRightAction AreWhole t r 0
+  none_of : rollout.started ≡ false → ListsActions t r (Some []) → IsChecked Actions 2 IsRightAction AreActionsWhole t r 0
   none_of waits listed = record {
     rows = record { each = λ row among of. absurd (listed.said.complete row among of).among; all = listed.said.count };
     whole = record {
@@ -55,7 +56,7 @@ module _ (t : Tables) (r : ℕ) (rollout : StoredRollout) (there : HasRollout t 
       true≢false (sym (said_started (subst (IsStarted t) own it.started)) ∙ waits)
 
   pub waiting : rollout.started ≡ false → (actions : List ListedAction) → ListsActions t r (Some actions)
-      → JudgesOne Actions 2 IsRightAction AreWhole AgreesActions t r (count_none actions)
+      → JudgesOne Actions 2 IsRightAction AreActionsWhole AgreesActions t r (count_none actions)
   waiting waits [] listed = none_of waits listed
   waiting waits (x ∷ actions) listed = one_of_none waits x actions listed
 
@@ -79,7 +80,7 @@ module _ (t : Tables) (r : ℕ) (rollout : StoredRollout) (there : HasRollout t 
         record { one = it.one; among = it.among; place_is = one_in _ _ _ it.is.place_is has.is.place_is; id_is = cc }
 
     pub fits : are_for members actions ≡ true → AllByRecursion (PassesHistory t) actions → (many : ℕ) → many ≡ length actions
-        → IsChecked Actions 2 IsRightAction AreWhole t r many
+        → IsChecked Actions 2 IsRightAction AreActionsWhole t r many
     fits are histories many is = record {
       rows = record { each = each; all = is ∙ listed.said.count };
       whole = record { all = λ begun. all; in_order = in_order; numbers = numbers };
@@ -144,7 +145,7 @@ module _ (t : Tables) (r : ℕ) (rollout : StoredRollout) (there : HasRollout t 
     follows : AgreesActions t → AreFollowing members actions
     follows agree = record { its_member = own; its_action = all; order = order }
       where
-        own : (a : ListedAction) → Has actions a → (m : PlacedMember) × Has members m × (is_for m a ≡ true)
+        own : (a : ListedAction) → Has actions a → (m : PlacedMember) × Has members m × (is_for_member m a ≡ true)
         own a among =
             let said = listed.said.sound a among in
             let it = agree.each said.row said.among in
@@ -176,8 +177,8 @@ module _ (t : Tables) (r : ℕ) (rollout : StoredRollout) (there : HasRollout t 
     pub fails : are_for members actions ≡ false → AgreesActions t → ⊥
     fails other agree = true≢false (sym (following members actions placed.turn listed.turn (follows agree)) ∙ other)
 
-    pub fails_history : (AllByRecursion (FitsHistory t) actions → ⊥) → AgreesActions t → ⊥
-    fails_history other agree = other (all_from (FitsHistory t) actions (λ a among.
+    pub fails_history : (AllByRecursion (FitsItsEntries t) actions → ⊥) → AgreesActions t → ⊥
+    fails_history other agree = other (all_from (FitsItsEntries t) actions (λ a among.
         let said = listed.said.sound a among in
         let it = agree.each said.row said.among in
         let number = one_action_number said.row it.number a.number it.action a.action it.is said.is in
@@ -190,11 +191,11 @@ is_there : (t : Tables) (r : ℕ) → IsStarted t r → IsThere t r
 is_there t r it = record { row = it.row; among = it.among; numbered = it.numbered }
 
 -- the actions of all rollouts that are there, where there are no more
-pub agrees : (t : Tables) (listed all : ℕ) → AreAllChecked Actions 2 IsRightAction AreWhole t listed → all ≡ length (t Actions)
+pub agrees : (t : Tables) (listed all : ℕ) → AreAllChecked Actions 2 IsRightAction AreActionsWhole t listed → all ≡ length (t Actions)
     → Settles (PassesActions t) (AgreesActions t) (nat_eq listed all)
-agrees t listed all checked is = decided Actions 2 IsRightAction AreWhole PassesActions AgreesActions t listed all checked is
+agrees t listed all checked is = decided Actions 2 IsRightAction AreActionsWhole PassesActions AgreesActions t listed all checked is
     (λ each whole. (
-    let at : (row : Row) (number : ℕ) (action : StoredAction) → Has (t Actions) row → IsAction row number action → AreWhole t action.rollout =
+    let at : (row : Row) (number : ℕ) (action : StoredAction) → Has (t Actions) row → IsAction row number action → AreActionsWhole t action.rollout =
     (λ row number action among says.
     let it = each row among in
     let own : it.action.rollout ≡ action.rollout = ap (λ (x : StoredAction). x.rollout) (one_action row it.action action it.is.shows says.shows) in

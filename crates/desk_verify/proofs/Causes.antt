@@ -2,7 +2,8 @@
 use Rattle.desk_verify.proofs.Common.{◌≡◌, ◌≤◌, ◌<◌, ◌^◌, ◌⊎◌, ◌&&◌, inl, inr, ◌≢◌, ℕ, nat_eq, nat_le, nat_lt, pos, ◌+◌, slice_index_or, zero, suc, take, Bool}
 use Rattle.desk_verify.proofs.Common.{not, true, false, cond, List, [], ◌∷◌, length, filter, map, Option, Some, None, refl, Ok, Err, Result, sym, ap, subst}
 use Rattle.desk_verify.proofs.Common.{◌∙◌, arith, and_parts, nat_tests, AllByRecursion, Int, Row, column, value_cmp, State, Finds, Wears, Fault, is_number}
-use Rattle.desk_verify.proofs.Common.{number_of, number_in, AreSaid, HasNumber, IsLast, AreMembers, OwnedOffer, PlacedMember, Members, Offers, Place, Rollouts}
+use Rattle.desk_verify.proofs.Common.{number_of, number_in, AreSaid, HasNumber, IsLastNumber, AreMembers, OwnedOffer, PlacedMember, Members, Offers, Place}
+use Rattle.desk_verify.proofs.Common.{Rollouts}
 use Rattle.desk_verify.proofs.Common.{number_in_good, number_in_is, HoldsTables, Tables, BlamesGiven, FindsTables, seen_in, AreActions, AreOffers, SaysOffer}
 use Rattle.desk_verify.proofs.Common.{any_row, IsUnreadable, large_number, many_rows, rise, twin_members, count_on, AgreesActions, AgreeBefore, Passes}
 use Rattle.desk_verify.proofs.Common.{checked, Artifact, follow, AgreesMembers, IsUpTo, number_limit, and_from}
@@ -38,7 +39,7 @@ listed_many t p test count is large = many_rows p (omega (arith, is, large, leng
 -- ---- rollouts
 
 -- up to the last
-pub up_to : (t : Tables) (before last : ℕ) → IsLast (t Rollouts) last → before < last → IsUpTo (before + 1) t
+pub up_to : (t : Tables) (before last : ℕ) → IsLastNumber (t Rollouts) last → before < last → IsUpTo (before + 1) t
 up_to t before last is within = go is.there
   where
     go : (last ≡ 0) ⊎ HasNumber (t Rollouts) last → IsUpTo (before + 1) t

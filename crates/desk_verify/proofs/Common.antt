@@ -83,7 +83,7 @@ pub use Rattle.desk_records.specs.Codes.{percentage_or_none_in, place_in}
 pub use Rattle.desk_records.specs.EntryRow.{BreaksEntry, broken_word, keeps_details, said_by}
 pub use Rattle.desk_records.specs.FoundPieces.{ArePieces}
 pub use Rattle.desk_records.specs.Holds.{HoldsLedger, HoldsRecords, IsHeld, Ledger, desk_row, ledger_of, module_row}
-pub use Rattle.desk_records.specs.Listings.{AreBroken, AreSaid, FindsOne, HasNumber, IsLast, IsOnly, has_at, has_text_at}
+pub use Rattle.desk_records.specs.Listings.{AreBroken, AreSaid, FindsOne, HasNumber, IsLastNumber, IsOnly, has_at, has_text_at}
 pub use Rattle.desk_records.specs.Offers.{HoldsOffers, is_to, offer_row}
 pub use Rattle.desk_records.specs.Parts.{parts_from}
 pub use Rattle.desk_records.specs.PlaceLists.{AreMembers, ListsPlaces, SaysMember, is_of}
@@ -94,8 +94,9 @@ pub use Rattle.desk_records.specs.Rollouts.{told_rollout, told_rule}
 pub use Rattle.desk_records.specs.RuleRow.{IsRuleRow, broken_rule_column}
 pub use Rattle.desk_records.specs.Schema.{Actions, Artifacts, Desk, Feedbacks, Groups, Members, Modules, Numbers, Offers, Pieces, Place, Rollouts, Rules}
 pub use Rattle.desk_records.specs.Schema.{SetModules, Sets, TargetAttributes, TargetTags, Targets}
-pub use Rattle.desk_records.specs.TableRows.{IsAction, IsEntry, IsGroup, IsMember, IsOffer, IsRollout, action_shown, artifact_shown, group_shown, number_shown}
-pub use Rattle.desk_records.specs.TableRows.{offer_shown, rollout_shown, rule_shown}
+pub use Rattle.desk_records.specs.TableRows.{IsAction, IsEntry, IsGroup, IsMember, IsOffer, IsRollout, columns_of_action, columns_of_artifact}
+pub use Rattle.desk_records.specs.TableRows.{columns_of_group, columns_of_number}
+pub use Rattle.desk_records.specs.TableRows.{columns_of_offer, columns_of_rollout, columns_of_rule}
 pub use Rattle.desk_records.specs.Tables.{HoldsTables, Tables}
 pub use Rattle.desk_records.specs.declared.checked_rows.OwnedOffer.{OwnedOffer}
 pub use Rattle.desk_records.specs.declared.entry_row.SequencedEntry.{SequencedEntry}
@@ -109,24 +110,26 @@ pub use Rattle.desk_store.proofs.BlameLemmas.{blamed}
 pub use Rattle.desk_store.specs.Blaming.{Blames, BlamesGiven}
 pub use Rattle.desk_store.specs.Changing.{FindsTables, StaysIn, seen_in}
 pub use Rattle.desk_store.specs.RawLists.{AreActions, AreOffers, ListsRows, SaysAction, SaysArtifact, SaysGroup, SaysNumber, SaysNumbered, SaysOffer}
-pub use Rattle.desk_store.specs.RawLists.{SaysOfferOf, SaysRule, any_row, listed_shown}
+pub use Rattle.desk_store.specs.RawLists.{SaysOfferOf, SaysRule, any_row, columns_in_listing}
 pub use Rattle.desk_store.specs.Readable.{BreaksColumn, IsReadable, label_shown, placed_shown, second_shown, third_shown}
 pub use Rattle.desk_store.specs.RuleTables.{HasGroupCount, HasRule, HaveRules, definition_by, definitions_in, grouping_of, grouping_with}
 pub use Rattle.desk_store.specs.Unreadable.{IsUnreadable, large_number, many_rows, missing_rollout, missing_rule, no_grouping, rise, twin_actions}
 pub use Rattle.desk_store.specs.Unreadable.{twin_entries, twin_members}
 pub use Rattle.desk_reads.proofs.ListMembers.{AreIds, member_ids}
 pub use Rattle.desk_reads.specs.Counted.{AreCounted}
-pub use Rattle.desk_verify.specs.ActionChecks.{AreActionsInTurn, AreMembersInTurn, AreWhole, FitsHistory, IsGiven, IsGivenFirst, ListsActions, PassesHistory}
-pub use Rattle.desk_verify.specs.ActionChecks.{are_for, count_none, count_on, first_said, is_each_for, is_fit, is_for, numbers_rise, sequences_rise}
-pub use Rattle.desk_verify.specs.Actions.{AgreesActions, AreInOrder, FitsEntries, GivesOutcome, HasActions, HasMember, IsRightAction, IsStarted, KeepsNumbers}
+pub use Rattle.desk_verify.specs.ActionChecks.{AreActionsInTurn, AreMembersInTurn, AreActionsWhole, FitsItsEntries, IsGiven, IsGivenFirst, ListsActions}
+pub use Rattle.desk_verify.specs.ActionChecks.{PassesHistory}
+pub use Rattle.desk_verify.specs.ActionChecks.{are_for, count_none, count_on, first_said, is_each_for, is_fit, is_for_member, numbers_rise, sequences_rise}
+pub use Rattle.desk_verify.specs.Actions.{AgreesActions, AreInOrder, FitsEntries, EntryGivesOutcome, HasActions, HasMember, IsRightAction, IsStarted}
+pub use Rattle.desk_verify.specs.Actions.{KeepsNumbers}
 pub use Rattle.desk_verify.specs.Actions.{PassesActions}
-pub use Rattle.desk_verify.specs.Agreement.{AgreeBefore, Agrees, Decides, IsDamage, NamesFirst, Passes, Settles, checked}
+pub use Rattle.desk_verify.specs.Agreement.{AgreeBefore, Agrees, SettlesWhether, IsDamage, NamesFirst, Passes, Settles, checked}
 pub use Rattle.desk_verify.specs.ArtifactChecks.{HashesPieces, IsHashed}
 pub use Rattle.desk_verify.specs.Artifacts.{AgreesArtifacts, HasPieces}
-pub use Rattle.desk_verify.specs.Cuts.{are_bounds, are_right, counts_them, has_each, has_number, is_cut, is_right, same_bounds}
+pub use Rattle.desk_verify.specs.Cuts.{are_bounds, are_right, counts_them, has_each, has_group_numbered, is_cut, is_right, same_bounds}
 pub use Rattle.desk_verify.specs.Following.{follow}
 pub use Rattle.desk_verify.specs.GroupChecks.{HasEach, HasOnlyRule, HaveOnlyRules, IsCutOnlyBy, IsGroupCount}
-pub use Rattle.desk_verify.specs.Groups.{AgreesGroups, HasGroup, IsCutBy, IsInRollout, IsRightGroup, ended_in, has_ended, members_in}
+pub use Rattle.desk_verify.specs.Groups.{AgreesGroups, HasGroup, IsCutBy, IsInRollout, IsRightGroup, ended_in, has_ended, member_count}
 pub use Rattle.desk_verify.specs.Judged.{AreJudged, within}
 pub use Rattle.desk_verify.specs.Members.{AgreesMembers, HasPlace, IsInPlace}
 pub use Rattle.desk_verify.specs.OfferChecks.{Fits, IsOfferedIfDue, IsRight, IsRowOffered, holds_started, is_due, is_started_at}

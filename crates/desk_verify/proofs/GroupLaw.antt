@@ -8,7 +8,8 @@ use Rattle.desk_verify.proofs.Common.{actions_follow_members, limits_hold, actio
 use Rattle.desk_verify.proofs.Common.{is_of, group_row, groups_from, members_from, rollout_row, rule_row, rules_from, told_rollout, Actions, Groups, Members}
 use Rattle.desk_verify.proofs.Common.{Rollouts, Rules, IsGroup, HoldsTables, Tables, at_place, has_place, held_passing, item_row, own_parts, part_among}
 use Rattle.desk_verify.proofs.Common.{place_within, held_rows, numbered, of_part, row_of, wanted_of, has_own_number, is_number_in, HasGroupCount, HasRule}
-use Rattle.desk_verify.proofs.Common.{AgreesGroups, HasGroup, IsCutBy, IsInRollout, IsRightGroup, ended_in, has_ended, members_in, rows_from, HasCountedGroups}
+use Rattle.desk_verify.proofs.Common.{AgreesGroups, HasGroup, IsCutBy, IsInRollout, IsRightGroup, ended_in, has_ended, member_count, rows_from}
+use Rattle.desk_verify.proofs.Common.{HasCountedGroups}
 use Rattle.desk_verify.proofs.Common.{IsCountedGroup, count_actions, groups_are_counted, grouping_is_cut}
 use Rattle.std.proofs.lemmas.Option.{slice_get-map}
 use Rattle.std.proofs.lemmas.Int.{ints}
@@ -98,7 +99,7 @@ module _ (h : CommandList) (valid : IsValid h) (db : Database) (t : Tables) (hel
     good : is_number (suc d) ≡ true
     good = let less = place_within (records h).rollouts d x got in let few = limits.rollouts in grind (arith, nat_tests, less, few)
 
-    members_are : members_in t (suc d) ≡ length x.members
+    members_are : member_count t (suc d) ≡ length x.members
     members_are =
         held_passing (is_of (suc d)) (has_at 0 (suc d)) (λ n row. refl) (t Members) (members_from 1 (records h).rollouts)
         (held_rows db (ledger_of (records h)) held t holds Members)
@@ -192,7 +193,7 @@ module _ (h : CommandList) (valid : IsValid h) (db : Database) (t : Tables) (hel
         low = omega (arith, its.number);
         high = omega (arith, its.number, high);
         bounds = its.bounds ∙ ap (λ m. bounds_by x.plan.groups m (suc e)) (sym members_are)
-            ∙ ap (bounds_by x.plan.groups (members_in t (suc d))) (sym its.number);
+            ∙ ap (bounds_by x.plan.groups (member_count t (suc d))) (sym its.number);
         ok = its.ok ∙ sym (ended_are (suc d) g.bounds Good);
         bad = its.bad ∙ sym (ended_are (suc d) g.bounds Bad);
         gone = its.gone ∙ sym (ended_are (suc d) g.bounds Gone);

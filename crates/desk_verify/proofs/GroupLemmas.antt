@@ -3,12 +3,12 @@ use Rattle.desk_verify.proofs.Common.{◌≡◌, ◌≤◌, ◌<◌, ◌&&◌, �
 use Rattle.desk_verify.proofs.Common.{refl, sym, ap, subst, ◌∙◌, arith, nat_eq, list_all, and_from, and_parts, nat_tests, Row, column, Has, some_from}
 use Rattle.desk_verify.proofs.Common.{some_has, test_from, test_has, item_numbered, bounds_by, cut_by, leaves_empty, each_there, numbered_each, Bounds}
 use Rattle.desk_verify.proofs.Common.{Outcome, Good, Bad, Gone, GroupRecord, HasNumber, has_at, Actions, Groups, Rollouts, IsGroup, Tables, is_at}
-use Rattle.desk_verify.proofs.Common.{number_in_is, number_in_least, number_is, one_number, ListsRows, SaysGroup, HasGroupCount, Decides, are_bounds}
-use Rattle.desk_verify.proofs.Common.{are_right, counts_them, has_each, has_number, is_cut, is_right, same_bounds, HasEach, IsCutOnlyBy, IsGroupCount}
-use Rattle.desk_verify.proofs.Common.{AgreesGroups, HasGroup, IsCutBy, IsInRollout, IsRightGroup, ended_in, has_ended, members_in, AreAllChecked, IsChecked}
+use Rattle.desk_verify.proofs.Common.{number_in_is, number_in_least, number_is, one_number, ListsRows, SaysGroup, HasGroupCount, SettlesWhether, are_bounds}
+use Rattle.desk_verify.proofs.Common.{are_right, counts_them, has_each, has_group_numbered, is_cut, is_right, same_bounds, HasEach, IsCutOnlyBy, IsGroupCount}
+use Rattle.desk_verify.proofs.Common.{AgreesGroups, HasGroup, IsCutBy, IsInRollout, IsRightGroup, ended_in, has_ended, member_count, AreAllChecked, IsChecked}
 use Rattle.desk_verify.proofs.Common.{length-filter, not-true}
 use Rattle.rollout_machine.specs.Groupings.{Grouping}
-use Rattle.desk_records.specs.CountedActions.{AreCounted}
+use Rattle.desk_records.specs.CountedActions.{CountsAgree}
 use Rattle.desk_records.specs.declared.checked_rows.CountedAction.{CountedAction}
 use Rattle.desk_verify.proofs.OneRow.{one_in}
 use Rattle.desk_verify.proofs.RolloutLemmas.{decided}
@@ -40,34 +40,34 @@ is_there t r n has = record { row = has.row; among = has.among; numbered = has.n
 
 -- ---- numbers
 
-each_number : (groups : List GroupRecord) (k : ℕ) → has_each groups k ≡ true → (i : ℕ) → 1 ≤ i → i ≤ k → has_number groups i ≡ true
+each_number : (groups : List GroupRecord) (k : ℕ) → has_each groups k ≡ true → (i : ℕ) → 1 ≤ i → i ≤ k → has_group_numbered groups i ≡ true
 each_number groups zero h i low high = absurd (omega (arith, low, high))
 each_number groups (suc k) h i low high =
-    go (nat_eq i (suc k)) refl (λ less. each_number groups k (and_parts (has_each groups k) (has_number groups (suc k)) h).0 i low less)
+    go (nat_eq i (suc k)) refl (λ less. each_number groups k (and_parts (has_each groups k) (has_group_numbered groups (suc k)) h).0 i low less)
   where
-    go : (b : Bool) → nat_eq i (suc k) ≡ b → (i ≤ k → has_number groups i ≡ true) → has_number groups i ≡ true
+    go : (b : Bool) → nat_eq i (suc k) ≡ b → (i ≤ k → has_group_numbered groups i ≡ true) → has_group_numbered groups i ≡ true
     go true is earlier = let same : i ≡ suc k = grind (arith, nat_tests, is) in
-        subst (λ n. has_number groups n ≡ true) (sym same) (and_parts (has_each groups k) (has_number groups (suc k)) h).1
+        subst (λ n. has_group_numbered groups n ≡ true) (sym same) (and_parts (has_each groups k) (has_group_numbered groups (suc k)) h).1
     go false is earlier = earlier (grind (arith, nat_tests, is, high))
 
-numbers_each : (groups : List GroupRecord) (k : ℕ) → ((i : ℕ) → 1 ≤ i → i ≤ k → has_number groups i ≡ true) → has_each groups k ≡ true
+numbers_each : (groups : List GroupRecord) (k : ℕ) → ((i : ℕ) → 1 ≤ i → i ≤ k → has_group_numbered groups i ≡ true) → has_each groups k ≡ true
 numbers_each groups zero each = refl
-numbers_each groups (suc k) each = and_from (has_each groups k) (has_number groups (suc k))
+numbers_each groups (suc k) each = and_from (has_each groups k) (has_group_numbered groups (suc k))
     (numbers_each groups k (λ i low high. each i low (omega (arith, high)))) (each (suc k) (omega arith) (omega arith))
 
 -- one that is missing is missed
-pub one_missed : (groups : List GroupRecord) (k n : ℕ) → has_number groups (k + 1) ≡ false → k < n → has_each groups n ≡ false
+pub one_missed : (groups : List GroupRecord) (k n : ℕ) → has_group_numbered groups (k + 1) ≡ false → k < n → has_each groups n ≡ false
 one_missed groups k n missed few = go (has_each groups n) refl
   where
     go : (b : Bool) → has_each groups n ≡ b → b ≡ false
     go true all = absurd (true≢false (sym (each_number groups n all (k + 1) (omega arith) (omega (arith, few))) ∙ missed))
     go false all = refl
 
-pub one_further : (groups : List GroupRecord) (k : ℕ) → has_each groups k ≡ true → has_number groups (k + 1) ≡ true → has_each groups (k + 1) ≡ true
+pub one_further : (groups : List GroupRecord) (k : ℕ) → has_each groups k ≡ true → has_group_numbered groups (k + 1) ≡ true → has_each groups (k + 1) ≡ true
 one_further groups k all one = numbers_each groups (k + 1) (λ i low high. go i low (nat_eq i (k + 1)) refl high)
   where
-    go : (i : ℕ) → 1 ≤ i → (b : Bool) → nat_eq i (k + 1) ≡ b → i ≤ k + 1 → has_number groups i ≡ true
-    go i low true is high = let same : i ≡ k + 1 = grind (arith, nat_tests, is) in subst (λ n. has_number groups n ≡ true) (sym same) one
+    go : (i : ℕ) → 1 ≤ i → (b : Bool) → nat_eq i (k + 1) ≡ b → i ≤ k + 1 → has_group_numbered groups i ≡ true
+    go i low true is high = let same : i ≡ k + 1 = grind (arith, nat_tests, is) in subst (λ n. has_group_numbered groups n ≡ true) (sym same) one
     go i low false is high = each_number groups k all i low (grind (arith, nat_tests, is, high))
 
 -- ---- one rollout
@@ -101,9 +101,9 @@ cut_so by m zero bounds low high is = absurd (omega (arith, low))
 cut_so by m (suc k) bounds low high is = rw (each_there (bounds_by by m) 1 by.count k (suc k) (omega (arith, high)) (omega arith))
     (subst (λ b. same_bounds bounds b ≡ true) is (bounds_same bounds))
 
-module _ (t : Tables) (r n m : ℕ) (count : IsGroupCount t r n) (by : Grouping) (cut : IsCutOnlyBy t r by) (are : m ≡ members_in t r)
+module _ (t : Tables) (r n m : ℕ) (count : IsGroupCount t r n) (by : Grouping) (cut : IsCutOnlyBy t r by) (are : m ≡ member_count t r)
     (groups : List GroupRecord) (listed : ListsRows (t Groups) (has_at 1 r) (SaysGroup r) (Some groups)) (actions : List CountedAction)
-    (acted : AreCounted (t Actions) r actions) where
+    (acted : CountsAgree (t Actions) r actions) where
   ended_are : (bounds : Bounds) (outcome : Outcome) → count_by (has_ended bounds outcome) actions ≡ ended_in t r bounds outcome
   ended_are bounds outcome = sym (length-filter (has_ended bounds outcome) actions) ∙ acted.by (has_ended bounds outcome)
 
@@ -187,7 +187,7 @@ module _ (t : Tables) (r n m : ℕ) (count : IsGroupCount t r n) (by : Grouping)
 
     row_full : leaves_empty by m ≡ false
     row_full = ap (leaves_empty by) are
-        ∙ subst (λ k. leaves_empty by (members_in t k) ≡ false) rollout (subst (λ b. leaves_empty b (members_in t it.rollout) ≡ false) same it.enough)
+        ∙ subst (λ k. leaves_empty by (member_count t k) ≡ false) rollout (subst (λ b. leaves_empty b (member_count t it.rollout) ≡ false) same it.enough)
 
   agreeing : 1 ≤ r → AgreesGroups t → are_right by m actions groups ≡ true
   agreeing first agree = and_from _ _ (ap not full) (and_from _ _ (test_from (is_right (cut_by by m) actions) groups each) (numbers_each groups by.count all))
@@ -201,7 +201,7 @@ module _ (t : Tables) (r n m : ℕ) (count : IsGroupCount t r n) (by : Grouping)
       each : (g : GroupRecord) → Has groups g → is_right (cut_by by m) actions g ≡ true
       each g among = let said = listed.sound g among in is_right_one g (row_right agree said.row said.among g said.is)
 
-      all : (i : ℕ) → 1 ≤ i → i ≤ by.count → has_number groups i ≡ true
+      all : (i : ℕ) → 1 ≤ i → i ≤ by.count → has_group_numbered groups i ≡ true
       all i low high =
           let own = has i low high in
           let one = listed.complete own.row own.among (of_rollout own.row r own.group own.is) in
@@ -224,7 +224,7 @@ fails_broken t r broken agree =
 
 -- the groups of all rollouts that are there, where there are no more
 pub agrees : (t : Tables) (listed all : ℕ) → AreAllChecked Groups 1 IsInRollout HasEach t listed → all ≡ length (t Groups)
-    → Decides (AgreesGroups t) (nat_eq listed all)
+    → SettlesWhether (AgreesGroups t) (nat_eq listed all)
 agrees t listed all checked is = decided Groups 1 IsInRollout HasEach AgreesGroups AgreesGroups t listed all checked is
     (λ each whole. record { each = each; all = λ rollout n i low has. whole rollout low (is_there t rollout n has) n i has })
     (λ agree row among. let it = agree.each row among in

@@ -1,8 +1,9 @@
 -- What the history of an action that was read comes to.
 use Rattle.desk_verify.proofs.Common.{◌≡◌, inl, inr, ◌⊎◌, ◌≤◌, ℕ, Bool, true, false, true≢false, List, [], ◌∷◌, map, Option, Some, None, refl, sym, ap, ◌∙◌}
 use Rattle.desk_verify.proofs.Common.{arith, option_or, column, Has, outcome_said, is_outcome, Outcome, Good, Bad, Gone, AreSaid, has_at, Feedbacks, Numbers}
-use Rattle.desk_verify.proofs.Common.{IsEntry, Tables, SequencedEntry, ListedAction, is_at, number_is, one_number, SaysNumber, rise, FitsHistory, IsGiven}
-use Rattle.desk_verify.proofs.Common.{IsGivenFirst, PassesHistory, first_said, is_fit, sequences_rise, FitsEntries, GivesOutcome, KeepsNumbers, Decides}
+use Rattle.desk_verify.proofs.Common.{IsEntry, Tables, SequencedEntry, ListedAction, is_at, number_is, one_number, SaysNumber, rise, FitsItsEntries, IsGiven}
+use Rattle.desk_verify.proofs.Common.{IsGivenFirst, PassesHistory, first_said, is_fit, sequences_rise, FitsEntries, EntryGivesOutcome, KeepsNumbers}
+use Rattle.desk_verify.proofs.Common.{SettlesWhether}
 use Rattle.desk_verify.proofs.Common.{Settles, PlacedNumber}
 use Rattle.desk_verify.proofs.Rising.{above, only_one, rest_rises}
 
@@ -64,7 +65,7 @@ none_among (x ∷ es) is e o among said = go (outcome_said x.entry.said) refl is
 module _ (t : Tables) (k : ℕ) (entries : List SequencedEntry)
     (are : AreSaid (t Feedbacks) (has_at 1 k) (λ row (e : SequencedEntry). IsEntry row e.sequence e.entry) entries)
     (rises : sequences_rise entries ≡ true) where
-  gives : (e : SequencedEntry) (o : Outcome) → Has entries e → outcome_said e.entry.said ≡ Some o → GivesOutcome t k e.sequence o
+  gives : (e : SequencedEntry) (o : Outcome) → Has entries e → outcome_said e.entry.said ≡ Some o → EntryGivesOutcome t k e.sequence o
   gives e o among said = let it = are.sound e among in
       record {
         row = it.row;
@@ -82,7 +83,7 @@ module _ (t : Tables) (k : ℕ) (entries : List SequencedEntry)
     at : entry.sequence ≡ sequence
     said : outcome_said entry.entry.said ≡ Some o
 
-  gave : (sequence : ℕ) (o : Outcome) → GivesOutcome t k sequence o → Gives sequence o
+  gave : (sequence : ℕ) (o : Outcome) → EntryGivesOutcome t k sequence o → Gives sequence o
   gave sequence o it =
       let listed = are.complete it.row it.among it.of in
       let told : Some listed.one.entry.said ≡ Some it.said = sym listed.is.shows.0 ∙ it.says in
@@ -149,10 +150,10 @@ is_open_or_gone : (outcome : Option Outcome) → (outcome ≡ None) ⊎ (outcome
 is_open_or_gone outcome (inl is) = ap (is_fit None) is
 is_open_or_gone outcome (inr is) = ap (is_fit None) is
 
-decides : (t : Tables) (k : ℕ) (given outcome : Option Outcome) → IsGiven t k given → Decides (FitsEntries t k outcome) (is_fit given outcome)
+decides : (t : Tables) (k : ℕ) (given outcome : Option Outcome) → IsGiven t k given → SettlesWhether (FitsEntries t k outcome) (is_fit given outcome)
 decides t k given outcome is = go given is (is_fit given outcome) refl
   where
-    go : (given : Option Outcome) → IsGiven t k given → (b : Bool) → is_fit given outcome ≡ b → Decides (FitsEntries t k outcome) b
+    go : (given : Option Outcome) → IsGiven t k given → (b : Bool) → is_fit given outcome ≡ b → SettlesWhether (FitsEntries t k outcome) b
     go (Some o) it true fit = record {
       given = λ s p first. (same_outcome o outcome fit ∙ ap (λ q. Some q) (sym (it.only s p first)));
       not_given =
@@ -169,9 +170,9 @@ kept t k found are row among of = let it = are.complete row among of in (it.one,
 
 pub settles : (t : Tables) (a : ListedAction) (given : Option Outcome) (found : List PlacedNumber) → IsGiven t a.number given
     → AreSaid (t Numbers) (has_at 1 a.number) SaysNumber found
-    → Settles (PassesHistory t a) (FitsHistory t a) (is_fit given a.action.outcome)
+    → Settles (PassesHistory t a) (FitsItsEntries t a) (is_fit given a.action.outcome)
 settles t a given found is are = go (is_fit given a.action.outcome) (decides t a.number given a.action.outcome is)
   where
-    go : (b : Bool) → Decides (FitsHistory t a) b → Settles (PassesHistory t a) (FitsHistory t a) b
+    go : (b : Bool) → SettlesWhether (FitsItsEntries t a) b → Settles (PassesHistory t a) (FitsItsEntries t a) b
     go true fits = record { fits = fits; numbers = kept t a.number found are }
     go false other = other

@@ -1,6 +1,6 @@
 -- What the reads of the table of members come to.
 use Rattle.desk_verify.proofs.Common.{◌≡◌, ℕ, true, List, length, Some, ◌∙◌, nat_eq, column, ListsPlaces, Members, Tables, PlacedMember, is_at, number_in_is}
-use Rattle.desk_verify.proofs.Common.{number_in_least, Decides, follow, AreAllChecked, IsChecked, AgreesMembers, IsInPlace, IsThere}
+use Rattle.desk_verify.proofs.Common.{number_in_least, SettlesWhether, follow, AreAllChecked, IsChecked, AgreesMembers, IsInPlace, IsThere}
 use Rattle.desk_verify.proofs.Follow.{in_place}
 use Rattle.desk_verify.proofs.RolloutLemmas.{decided}
 
@@ -15,7 +15,7 @@ fits t r members count there are h is = record { rows = record { each = in_place
 
 -- the members of all rollouts that are there, where there are no more
 pub agrees : (t : Tables) (listed all : ℕ) → AreAllChecked Members 1 IsInPlace (λ t r. Unit) t listed → all ≡ length (t Members)
-    → Decides (AgreesMembers t) (nat_eq listed all)
+    → SettlesWhether (AgreesMembers t) (nat_eq listed all)
 agrees t listed all checked is = decided Members 1 IsInPlace (λ t r. Unit) AgreesMembers AgreesMembers t listed all checked is
     (λ each whole. each)
     (λ agree row among. let it = agree row among in

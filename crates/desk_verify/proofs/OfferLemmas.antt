@@ -3,7 +3,8 @@ use Rattle.desk_verify.proofs.Common.{◌≡◌, ℕ, Bool, true, false, List, i
 use Rattle.desk_verify.proofs.Common.{pos, AllByRecursion, and_from, and_parts, Row, column, has_rowid, Has, all_from, all_has, some_from, some_has, Offer}
 use Rattle.desk_verify.proofs.Common.{Bytes, holds_position, Outcome, GroupRecord, same_refl, FindsOne, has_at, has_text_at, Actions, Groups, Offers, IsAction}
 use Rattle.desk_verify.proofs.Common.{IsOffer, Tables, OwnedOffer, ListedAction, StoredAction, StoredRollout, is_at, number_in_is, number_in_least, number_is}
-use Rattle.desk_verify.proofs.Common.{one_number, ListsRows, SaysAction, SaysGroup, SaysNumbered, SaysOffer, SaysOfferOf, any_row, Decides, Fits, IsRight}
+use Rattle.desk_verify.proofs.Common.{one_number, ListsRows, SaysAction, SaysGroup, SaysNumbered, SaysOffer, SaysOfferOf, any_row, SettlesWhether, Fits}
+use Rattle.desk_verify.proofs.Common.{IsRight}
 use Rattle.desk_verify.proofs.Common.{IsRowOffered, IsOfferedIfDue, holds_started, is_due, is_started_at, AgreesOffers, HasNumberedAction, IsDue}
 use Rattle.desk_verify.proofs.Common.{IsInStartedGroup, IsOffered, IsRightOffer, HasRollout, IsChecked, JudgesAll, IsThere}
 use Rattle.std.proofs.lemmas.Bool.Decides.{nat_tests}
@@ -12,7 +13,7 @@ use Rattle.std.proofs.lemmas.List.Sorted.{IsPermutation-sym, length_permutation}
 use Rattle.std.specs.List.Sorted.{IsPermutation}
 use Rattle.sqlite_trees.proofs.ListLemmas.{all-permutation}
 use Rattle.desk_records.specs.Listings.{AreSaid, IsSaid}
-use Rattle.desk_verify.specs.OfferChecks.{is_of}
+use Rattle.desk_verify.specs.OfferChecks.{is_that_rollout}
 use Rattle.desk_verify.proofs.Counting.{is_within}
 use Rattle.desk_verify.proofs.GroupLemmas.{one_group}
 use Rattle.desk_verify.proofs.OneRow.{one_action, one_in, one_text}
@@ -20,11 +21,11 @@ use Rattle.desk_verify.proofs.RolloutLemmas.{rollout_there}
 
 -- ---- what is decided
 
-so_if : {P : Type 0} (b : Bool) → Decides P b → b ≡ true → P
+so_if : {P : Type 0} (b : Bool) → SettlesWhether P b → b ≡ true → P
 so_if true so is = so
 so_if false so is = cc
 
-if_so : {P : Type 0} (b : Bool) → Decides P b → P → b ≡ true
+if_so : {P : Type 0} (b : Bool) → SettlesWhether P b → P → b ≡ true
 if_so true so it = refl
 if_so false so it = absurd (so it)
 
@@ -38,15 +39,15 @@ has_id row id o is = rw is.id_is (same_refl id)
 -- ---- groups
 
 -- it is the rollout whose groups are kept
-pub kept_is : (kept : Option ℕ) (r : ℕ) → is_of kept r ≡ true → kept ≡ Some r
+pub kept_is : (kept : Option ℕ) (r : ℕ) → is_that_rollout kept r ≡ true → kept ≡ Some r
 kept_is None r same = absurd cc
 kept_is (Some n) r same = let is : n ≡ r = grind (arith, nat_tests, same) in ap Some is
 
 pub started_tells : (t : Tables) (r place : ℕ) (groups : List GroupRecord) → ListsRows (t Groups) (has_at 1 r) (SaysGroup r) (Some groups)
-    → Decides (IsInStartedGroup t r place) (holds_started groups place)
+    → SettlesWhether (IsInStartedGroup t r place) (holds_started groups place)
 started_tells t r place groups listed = go (holds_started groups place) refl
   where
-    go : (b : Bool) → holds_started groups place ≡ b → Decides (IsInStartedGroup t r place) b
+    go : (b : Bool) → holds_started groups place ≡ b → SettlesWhether (IsInStartedGroup t r place) b
     go true is =
         let found = some_has (is_started_at place) groups is in
         let both = and_parts (holds_position place found.0.bounds) found.0.started found.2 in
@@ -64,7 +65,7 @@ started_tells t r place groups listed = go (holds_started groups place) refl
 abbrev FindsAction : Tables → ℕ → Option StoredAction → Type 0
 FindsAction t number = FindsOne (t Actions) (has_rowid (pos number)) SaysNumbered
 
-pub no_action : (t : Tables) (owned : OwnedOffer) → FindsAction t owned.offer.action None → Decides (IsRight t owned) false
+pub no_action : (t : Tables) (owned : OwnedOffer) → FindsAction t owned.offer.action None → SettlesWhether (IsRight t owned) false
 no_action t owned none it = none it.of.row it.of.among it.of.numbered
 
 its_action : (t : Tables) (owned : OwnedOffer) (action : StoredAction) → FindsAction t owned.offer.action (Some action) → (it : IsRight t owned) → it.action
@@ -72,12 +73,12 @@ its_action : (t : Tables) (owned : OwnedOffer) (action : StoredAction) → Finds
 its_action t owned action one it = one_action it.of.row it.action action it.of.shows (one.each it.of.row it.of.among it.of.numbered)
 
 pub other_action : (t : Tables) (owned : OwnedOffer) (action : StoredAction) → FindsAction t owned.offer.action (Some action) → (Fits action owned → ⊥)
-    → Decides (IsRight t owned) false
+    → SettlesWhether (IsRight t owned) false
 other_action t owned action one other it = other (subst (λ a. Fits a owned) (its_action t owned action one it) it.fits)
 
 pub by_group : (t : Tables) (owned : OwnedOffer) (action : StoredAction) → FindsAction t owned.offer.action (Some action) → Fits action owned → (started : Bool)
-    → Decides (IsInStartedGroup t action.rollout action.position) started
-    → Decides (IsRight t owned) started
+    → SettlesWhether (IsInStartedGroup t action.rollout action.position) started
+    → SettlesWhether (IsRight t owned) started
 by_group t owned action one fits true started =
     record {
       action = action;
@@ -93,11 +94,11 @@ by_group t owned action one fits false none =
 abbrev FindsOffer : Tables → Bytes → Option Offer → Type 0
 FindsOffer t id = FindsOne (t Offers) (has_text_at 1 id) (SaysOfferOf id)
 
-pub no_offer : (t : Tables) (id : Bytes) (number : ℕ) → FindsOffer t id None → Decides (IsOffered t id number) false
+pub no_offer : (t : Tables) (id : Bytes) (number : ℕ) → FindsOffer t id None → SettlesWhether (IsOffered t id number) false
 no_offer t id number none it = none it.row it.among (has_id it.row id it.offer it.is)
 
 pub if_due : (t : Tables) (groups : List GroupRecord) (listed : ListedAction) → is_due groups listed.action ≡ true → (offered : Bool)
-    → Decides (IsOffered t listed.action.target listed.number) offered → Decides (IsOfferedIfDue t groups listed) offered
+    → SettlesWhether (IsOffered t listed.action.target listed.number) offered → SettlesWhether (IsOfferedIfDue t groups listed) offered
 if_due t groups listed due true offered = λ h. offered
 if_due t groups listed due false none = λ any. none (any due)
 
@@ -155,11 +156,11 @@ sorted_said {A} {rows} {test} {says} {found} {sorted} moved said = record {
     moves a among = all_has (Has sorted) found a
         (all-permutation (Has sorted) sorted found (IsPermutation-sym found sorted moved) (all_from (Has sorted) sorted (λ b has. has))) among
 
-pub row_broken : (t : Tables) → ListsRows (t Offers) any_row SaysOffer None → Decides (AgreesOffers t) false
+pub row_broken : (t : Tables) → ListsRows (t Offers) any_row SaysOffer None → SettlesWhether (AgreesOffers t) false
 row_broken t broken agree = let it = agree.each broken.row broken.among in broken.breaks (record { id = it.id; offer = it.offer }) it.is
 
 module _ (t : Tables) (offers : List OwnedOffer) (listed : ListsRows (t Offers) any_row SaysOffer (Some offers)) where
-  pub one_wrong : Decides (AllByRecursion (IsRight t) offers) false → Decides (AgreesOffers t) false
+  pub one_wrong : SettlesWhether (AllByRecursion (IsRight t) offers) false → SettlesWhether (AgreesOffers t) false
   one_wrong some agree = some (all_from (IsRight t) offers each)
     where
       each : (owned : OwnedOffer) → Has offers owned → IsRight t owned
@@ -177,7 +178,7 @@ module _ (t : Tables) (offers : List OwnedOffer) (listed : ListsRows (t Offers) 
           }
 
   pub agrees : AllByRecursion (IsRight t) offers → (found : Option ℕ) → JudgesAll Actions 2 IsRowOffered (λ t r. Unit) AgreesOffers t found
-      → Decides (AgreesOffers t) (is_some found)
+      → SettlesWhether (AgreesOffers t) (is_some found)
   agrees right None differs = differs
   agrees right (Some count) checked = record { each = each; all = all }
     where

@@ -1,5 +1,5 @@
 -- A row says one thing.
-use Rattle.desk_verify.proofs.Common.{◌≡◌, Option, Some, sym, ◌∙◌, Text, Row, column, Bytes, IsActionRow, action_shown, StoredAction, one_number}
+use Rattle.desk_verify.proofs.Common.{◌≡◌, Option, Some, sym, ◌∙◌, Text, Row, column, Bytes, IsActionRow, columns_of_action, StoredAction, one_number}
 use Rattle.sqlite_value.specs.declared.value.Value.{Value}
 
 pub one_in : {X : Type 0} (read : Option X) (x y : X) → read ≡ Some x → read ≡ Some y → x ≡ y
@@ -8,7 +8,7 @@ one_in read x y is other = let same : Some x ≡ Some y = sym is ∙ other in cc
 pub one_text : (v : Value) (a b : Bytes) → v ≡ Text a → v ≡ Text b → a ≡ b
 one_text v a b is other = let same : Text a ≡ Text b = sym is ∙ other in cc
 
-pub one_action : (row : Row) (a b : StoredAction) → IsActionRow (action_shown row) a → IsActionRow (action_shown row) b → a ≡ b
+pub one_action : (row : Row) (a b : StoredAction) → IsActionRow (columns_of_action row) a → IsActionRow (columns_of_action row) b → a ≡ b
 one_action row a b is other =
     let rollout = one_in _ a.rollout b.rollout is.rollout other.rollout in
     let position = one_number (column row 3) a.position b.position is.position other.position in

@@ -7,8 +7,9 @@ use Rattle.desk_verify.proofs.Common.{entries_in, member_at, AreWithinLimits, Is
 use Rattle.desk_verify.proofs.Common.{has_place, place_within, has_mapped, is_in_range, is_number_in, Tally, action_row, actor_of, entries_of, entry_row}
 use Rattle.desk_verify.proofs.Common.{history_of, tally_of, told_entry, has_size, feedback_number_in, first_broken, number_in, place_in, BreaksEntry}
 use Rattle.desk_verify.proofs.Common.{broken_word, keeps_details, HoldsOffers, is_to, offer_row, IsActionRow, broken_action_column}
-use Rattle.desk_verify.proofs.Common.{broken_listed_action_column, broken_offer_column, stored_action, Actions, Feedbacks, Numbers, Offers, action_shown}
-use Rattle.desk_verify.proofs.Common.{number_shown, offer_shown, Column, PlacedNumber, StoredAction, BreaksColumn, placed_shown, AreCounted, member_ids}
+use Rattle.desk_verify.proofs.Common.{broken_listed_action_column, broken_offer_column, stored_action, Actions, Feedbacks, Numbers, Offers, columns_of_action}
+use Rattle.desk_verify.proofs.Common.{columns_of_number, columns_of_offer, Column, PlacedNumber, StoredAction, BreaksColumn, placed_shown, AreCounted}
+use Rattle.desk_verify.proofs.Common.{member_ids}
 use Rattle.rollout_machine.specs.Verdicts.{is_note, notes_of}
 use Rattle.desk_records.specs.FeedbackNumbers.{number_row, numbers_of}
 use Rattle.desk_records.specs.NumberRow.{broken_last_number_column, broken_number_column}
@@ -78,10 +79,10 @@ module _ (h : CommandList) (valid : IsValid h) (d : ℕ) (a : ActionRecord) (at 
   row = action_row (records h).rollouts (suc d) (a, tally_of a)
 
   module _ (counted : length a.history < 2 ^ 32) where
-    whole : broken_action_column (action_shown row) ≡ None
+    whole : broken_action_column (columns_of_action row) ≡ None
     whole =
         let notes = few_notes a in
-        whole_action (action_shown row) (stored_action (records h).rollouts (a, tally_of a))
+        whole_action (columns_of_action row) (stored_action (records h).rollouts (a, tally_of a))
         (record {
           rollout = is_number_in a.rollout rollout_number;
           position = refl;
@@ -97,7 +98,7 @@ module _ (h : CommandList) (valid : IsValid h) (d : ℕ) (a : ActionRecord) (at 
     one_action : BreaksColumn Actions row → ⊥
     one_action (inl none) = fails_not _ (is_sized (suc d) (omega (arith, few))) none
     one_action (inr (inl broken)) = unbroken _ whole broken
-    one_action (inr (inr broken)) = unbroken _ (numbered_action (action_shown row) (suc d) whole number) broken
+    one_action (inr (inr broken)) = unbroken _ (numbered_action (columns_of_action row) (suc d) whole number) broken
 
 pub keeps_actions : (h : CommandList) → IsValid h → AreCounted (records h) → Keeps (records h) Actions
 keeps_actions h valid counted rows are = of_ordered (λ row. BreaksColumn Actions row → ⊥) (action_row (records h).rollouts)
@@ -142,7 +143,8 @@ is_offered rows offers held o among =
     go (Some p) (inl same) = ap (λ (q : TargetOffer). Some q.offer) (sym same)
     go (Some p) (inr none) = absurd none
 
-whole_offer : (n : ℕ) (o : TargetOffer) (k : ℕ) → number_in (Int (pos o.offer.action)) ≡ Some k → broken_offer_column (offer_shown (Int (pos n) ∷ offer_row o))
+whole_offer : (n : ℕ) (o : TargetOffer) (k : ℕ) → number_in (Int (pos o.offer.action)) ≡ Some k
+    → broken_offer_column (columns_of_offer (Int (pos n) ∷ offer_row o))
     ≡ None
 whole_offer n o k number = rw (number, flag_is o.offer.canceling) refl
 
@@ -160,7 +162,7 @@ keeps_offers h valid rows held = of_mapped (λ row. BreaksColumn Offers row → 
 whole_number : (place : ℕ) (it : PlacedNumber) → place_in (Int (pos it.sequence)) ≡ Some it.sequence → feedback_number_in (Int (pos it.number)) ≡ Some it.number
     → place_in (Int (pos place)) ≡ Some place → (n d : ℕ)
     → BreaksColumn Numbers (Int (pos n) ∷ number_row d place it) → ⊥
-whole_number place it sequence number at n d (inl broken) = unbroken (broken_number_column (number_shown (Int (pos n) ∷ number_row d place it)))
+whole_number place it sequence number at n d (inl broken) = unbroken (broken_number_column (columns_of_number (Int (pos n) ∷ number_row d place it)))
     (rw (sequence, number) refl) broken
 whole_number place it sequence number at n d (inr broken) = unbroken (broken_last_number_column (placed_shown (Int (pos n) ∷ number_row d place it)))
     (rw (sequence, number, at) refl) broken

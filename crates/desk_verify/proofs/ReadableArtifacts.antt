@@ -4,7 +4,8 @@ use Rattle.desk_verify.proofs.Common.{sym, ap, ◌∙◌, arith, and_parts, Comm
 use Rattle.desk_verify.proofs.Common.{limits_hold, Bytes, ModuleLabel, SetLabel, ArtifactRecord, records, are_distinct_numbers, is_digest, is_module_list}
 use Rattle.desk_verify.proofs.Common.{is_number, is_text, place_within, is_in_range, is_small, IsWhole, KeepsRules, all_keep, all_whole, digest_is_one}
 use Rattle.desk_verify.proofs.Common.{broken_artifact_column, broken_stored_column, artifact_row, piece_row, pieces_in, desk_row, module_row, Artifacts, Desk}
-use Rattle.desk_verify.proofs.Common.{Modules, Pieces, SetModules, Sets, artifact_shown, listed_shown, BreaksColumn, label_shown, third_shown, Has, Row, Int}
+use Rattle.desk_verify.proofs.Common.{Modules, Pieces, SetModules, Sets, columns_of_artifact, columns_in_listing, BreaksColumn, label_shown, third_shown, Has}
+use Rattle.desk_verify.proofs.Common.{Row, Int}
 use Rattle.desk_records.specs.ModuleRow.{broken_column}
 use Rattle.desk_records.specs.SetRow.{broken_set_column}
 use Rattle.desk_records.specs.Sets.{place_row, set_row}
@@ -93,10 +94,10 @@ module _ (h : CommandList) (valid : IsValid h) (d : ℕ) (a : ArtifactRecord) (a
   small : a.size < 2 ^ 32
   small = omega (arith, whole.0, keeps.few)
 
-  stored : broken_stored_column (artifact_shown (artifact_row (suc d) a)) ≡ None
+  stored : broken_stored_column (columns_of_artifact (artifact_row (suc d) a)) ≡ None
   stored = rw (keeps.module_number, keeps.filename, is_small a.size small, digest) refl
 
-  listed : broken_artifact_column (listed_shown (artifact_row (suc d) a)) ≡ None
+  listed : broken_artifact_column (columns_in_listing (artifact_row (suc d) a)) ≡ None
   listed = rw (is_in_range (suc d) (omega arith) (omega (arith, few)), keeps.filename, is_small a.size small, digest) refl
 
   one_artifact : BreaksColumn Artifacts (artifact_row (suc d) a) → ⊥

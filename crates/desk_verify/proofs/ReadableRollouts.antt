@@ -4,7 +4,8 @@ use Rattle.desk_verify.proofs.Common.{subst, arith, and_parts, numbered_each, Co
 use Rattle.desk_verify.proofs.Common.{grouping_is_cut, limits_hold, HasCountedGroups, IsCountedGroup, GroupRule, rule_at, rules_of, last_by, IsCut, records}
 use Rattle.desk_verify.proofs.Common.{IsWithinLimits, Bounds, GroupRecord, is_grouping, is_number, is_percentage, is_text, has_place, place_within, has_mapped}
 use Rattle.desk_verify.proofs.Common.{is_number_in, IsRolloutRow, broken_group_column, broken_rollout_column, stored_rollout, group_row, rollout_row, rule_row}
-use Rattle.desk_verify.proofs.Common.{told_rollout, told_rule, IsRuleRow, broken_rule_column, Groups, Rollouts, Rules, group_shown, rollout_shown, rule_shown}
+use Rattle.desk_verify.proofs.Common.{told_rollout, told_rule, IsRuleRow, broken_rule_column, Groups, Rollouts, Rules, columns_of_group, columns_of_rollout}
+use Rattle.desk_verify.proofs.Common.{columns_of_rule}
 use Rattle.desk_verify.proofs.Common.{StoredRollout, BreaksColumn}
 use Rattle.std.specs.Str.{is_utf8}
 use Rattle.desk_verify.proofs.CodeLemmas.{approval_is, flag_is, group_count_is, is_sized, kept_group, percentage_is}
@@ -48,7 +49,8 @@ module _ (h : CommandList) (valid : IsValid h) (d : ℕ) (x : RolloutRecord) (at
         started = flag_is x.started;
         paused = flag_is x.paused;
       } in
-      unbroken (broken_rollout_column (rollout_shown (rollout_row (suc d) x))) (whole_rollout (told_rollout x) (stored_rollout x) says name.0 rest.1) broken
+      unbroken (broken_rollout_column (columns_of_rollout (rollout_row (suc d) x))) (whole_rollout (told_rollout x) (stored_rollout x) says name.0 rest.1)
+      broken
 
   -- ---- groups
 
@@ -76,7 +78,7 @@ module _ (h : CommandList) (valid : IsValid h) (d : ℕ) (x : RolloutRecord) (at
         let last : g.bounds.last ≡ last_by x.plan.groups (length x.members) (suc e) = ap (λ (b : Bounds). b.last) its.bounds in
         let few_first = few_at (suc e - 1) (omega (arith, high)) in
         let few_last = few_at (suc e) high in
-        unbroken (broken_group_column (group_shown (Int (pos n) ∷ group_row (suc d) (suc e) g)))
+        unbroken (broken_group_column (columns_of_group (Int (pos n) ∷ group_row (suc d) (suc e) g)))
         (kept_group (suc e) g.bounds.first g.bounds.last g.ok g.bad g.gone g.started (omega (arith, high, within.groups))
         (omega (arith, first, few_first, members)) (omega (arith, last, few_last, members))
         (omega (arith, counts.ok, members)) (omega (arith, counts.bad, members)) (omega (arith, counts.gone, members)))
@@ -111,6 +113,6 @@ keeps_rules h valid rows held = of_parts (λ row. BreaksColumn Rules row → ⊥
         let formed = (plans_are h valid (suc place.0) source.0 place.1).formed in
         let one = numbered_each (rule_at source.0.plan) source.0.plan.groups.count (suc k) it
         (subst (λ (l : List GroupRule). slice_get l k ≡ Some it) source.2 lies) in
-        unbroken (broken_rule_column (rule_shown (Int (pos n) ∷ rule_row (suc d) (suc k) it)))
+        unbroken (broken_rule_column (columns_of_rule (Int (pos n) ∷ rule_row (suc d) (suc k) it)))
         (subst (λ (r : GroupRule). broken_rule_column (told_rule r) ≡ None) (sym one.2)
         (whole_rule (told_rule (rule_at source.0.plan (suc k))) (rule_at source.0.plan (suc k)) (rule_told source.0.plan (suc k) formed)))

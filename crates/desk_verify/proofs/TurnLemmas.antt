@@ -1,19 +1,19 @@
 -- Members and actions, each in its turn.
 use Rattle.desk_verify.proofs.Common.{◌≡◌, ◌⊎◌, inl, inr, ◌<◌, ℕ, ◌+◌, true, List, [], ◌∷◌, length, map, nat_eq, refl, sym, ap, ◌∙◌, arith, pointwise}
 use Rattle.desk_verify.proofs.Common.{and_from, and_parts, Decides-eqb, nat_tests, slice_eq-Decides, Has, PlacedMember, ListedAction, rise, are_for, count_on}
-use Rattle.desk_verify.proofs.Common.{is_each_for, is_for, numbers_rise}
+use Rattle.desk_verify.proofs.Common.{is_each_for, is_for_member, numbers_rise}
 use Rattle.desk_verify.proofs.Rising.{above, rest_rises}
 
 -- ---- a member and its action
 
-pub is_own : (m : PlacedMember) (a : ListedAction) → is_for m a ≡ true → (a.action.position ≡ m.place) × (a.action.target ≡ m.id)
+pub is_own : (m : PlacedMember) (a : ListedAction) → is_for_member m a ≡ true → (a.action.position ≡ m.place) × (a.action.target ≡ m.id)
 is_own m a h =
     let parts = and_parts (nat_eq a.action.position m.place) (pointwise nat_eq a.action.target m.id) h in (
       grind (arith, nat_tests, parts.0),
       (slice_eq-Decides Decides-eqb a.action.target m.id (pointwise nat_eq a.action.target m.id) refl).0 parts.1,
     )
 
-pub own_is : (m : PlacedMember) (a : ListedAction) → a.action.position ≡ m.place → a.action.target ≡ m.id → is_for m a ≡ true
+pub own_is : (m : PlacedMember) (a : ListedAction) → a.action.position ≡ m.place → a.action.target ≡ m.id → is_for_member m a ≡ true
 own_is m a place id = and_from _ _ (grind (arith, nat_tests, place))
     ((slice_eq-Decides Decides-eqb a.action.target m.id (pointwise nat_eq a.action.target m.id) refl).1 id)
 
@@ -43,25 +43,26 @@ paired : (members : List PlacedMember) (actions : List ListedAction) → are_for
 paired members actions h = let parts = and_parts (nat_eq (length actions) (length members)) (is_each_for members actions) h in
     record { as_many = grind (arith, nat_tests, parts.0); each = parts.1 }
 
-rest_paired : (m : PlacedMember) (ms : List PlacedMember) (a : ListedAction) (as' : List ListedAction) → ArePaired (m ∷ ms) (a ∷ as') → (is_for m a ≡ true)
+rest_paired : (m : PlacedMember) (ms : List PlacedMember) (a : ListedAction) (as' : List ListedAction) → ArePaired (m ∷ ms) (a ∷ as')
+    → (is_for_member m a ≡ true)
     × ArePaired ms as'
-rest_paired m ms a as' are = let parts = and_parts (is_for m a) (is_each_for ms as') are.each in
+rest_paired m ms a as' are = let parts = and_parts (is_for_member m a) (is_each_for ms as') are.each in
     (parts.0, record { as_many = (let many = are.as_many in omega (arith, many)); each = parts.1 })
 
 -- the member of an action
 member_in : (ms : List PlacedMember) (as' : List ListedAction) → ArePaired ms as' → (a : ListedAction) → Has as' a → (m : PlacedMember) × Has ms m
-    × (is_for m a ≡ true)
+    × (is_for_member m a ≡ true)
 member_in ms [] are a among = absurd among
 member_in [] (x ∷ as') are a among = absurd (let many = are.as_many in omega (arith, many))
-member_in (m ∷ ms) (x ∷ as') are a (inl same) = (m, inl refl, ap (is_for m) same ∙ (rest_paired m ms x as' are).0)
+member_in (m ∷ ms) (x ∷ as') are a (inl same) = (m, inl refl, ap (is_for_member m) same ∙ (rest_paired m ms x as' are).0)
 member_in (m ∷ ms) (x ∷ as') are a (inr among) = let it = member_in ms as' (rest_paired m ms x as' are).1 a among in (it.0, inr it.1, it.2)
 
 -- the action of a member
 action_in : (ms : List PlacedMember) (as' : List ListedAction) → ArePaired ms as' → (m : PlacedMember) → Has ms m → (a : ListedAction) × Has as' a
-    × (is_for m a ≡ true)
+    × (is_for_member m a ≡ true)
 action_in [] as' are m among = absurd among
 action_in (x ∷ ms) [] are m among = absurd (let many = are.as_many in omega (arith, many))
-action_in (x ∷ ms) (a ∷ as') are m (inl same) = (a, inl refl, ap (λ y. is_for y a) same ∙ (rest_paired x ms a as' are).0)
+action_in (x ∷ ms) (a ∷ as') are m (inl same) = (a, inl refl, ap (λ y. is_for_member y a) same ∙ (rest_paired x ms a as' are).0)
 action_in (x ∷ ms) (a ∷ as') are m (inr among) = let it = action_in ms as' (rest_paired x ms a as' are).1 m among in (it.0, inr it.1, it.2)
 
 abbrev number_of : ListedAction → ℕ
@@ -83,7 +84,7 @@ ordered last before (m ∷ ms) (x ∷ as') counts rises are a b at_a at_b = go a
     rest_as : rise x.number (map number_of as') ≡ true
     rest_as = rest_rises number_of before x as' rises
 
-    rest : (is_for m x ≡ true) × ArePaired ms as'
+    rest : (is_for_member m x ≡ true) × ArePaired ms as'
     rest = rest_paired m ms x as' are
 
     later : (c : ListedAction) → Has as' c → (x.action.position < c.action.position) × (x.number < c.number)
@@ -105,8 +106,8 @@ ordered last before (m ∷ ms) (x ∷ as') counts rises are a b at_a at_b = go a
     go (inr p) (inr q) further = further p q
 
 pub record AreTurns (members : List PlacedMember) (actions : List ListedAction) : Type 0 where
-  pub its_member : (a : ListedAction) → Has actions a → (m : PlacedMember) × Has members m × (is_for m a ≡ true)
-  pub its_action : (m : PlacedMember) → Has members m → (a : ListedAction) × Has actions a × (is_for m a ≡ true)
+  pub its_member : (a : ListedAction) → Has actions a → (m : PlacedMember) × Has members m × (is_for_member m a ≡ true)
+  pub its_action : (m : PlacedMember) → Has members m → (a : ListedAction) × Has actions a × (is_for_member m a ≡ true)
   pub order : (a b : ListedAction) → Has actions a → Has actions b → AreOrdered a b
 
 pub turns : (members : List PlacedMember) (actions : List ListedAction) → count_on 0 members ≡ true → numbers_rise actions ≡ true → are_for members actions
@@ -122,11 +123,11 @@ turns members actions counts rises are =
 -- ---- where actions follow their members, each member has the action in its turn
 
 pub record AreFollowing (members : List PlacedMember) (actions : List ListedAction) : Type 0 where
-  pub its_member : (a : ListedAction) → Has actions a → (m : PlacedMember) × Has members m × (is_for m a ≡ true)
+  pub its_member : (a : ListedAction) → Has actions a → (m : PlacedMember) × Has members m × (is_for_member m a ≡ true)
   pub its_action : (m : PlacedMember) → Has members m → (a : ListedAction) × Has actions a × (a.action.position ≡ m.place)
   pub order : (a b : ListedAction) → Has actions a → Has actions b → AreOrdered a b
 
-one_further : (m : PlacedMember) (ms : List PlacedMember) (a : ListedAction) (as' : List ListedAction) → is_for m a ≡ true → are_for ms as' ≡ true
+one_further : (m : PlacedMember) (ms : List PlacedMember) (a : ListedAction) (as' : List ListedAction) → is_for_member m a ≡ true → are_for ms as' ≡ true
     → are_for (m ∷ ms) (a ∷ as') ≡ true
 one_further m ms a as' own rest =
     let parts = and_parts (nat_eq (length as') (length ms)) (is_each_for ms as') rest in
@@ -165,11 +166,11 @@ follows last before (m ∷ ms) (x ∷ as') counts rises are = one_further m ms x
               ]
         ]
 
-    own : is_for m x ≡ true
+    own : is_for_member m x ≡ true
     own =
         let mine = are.its_member x (inl refl) in
         elim mine.1 [
-          | inl same ↦ ap (λ (n : PlacedMember). is_for n x) (sym same) ∙ mine.2
+          | inl same ↦ ap (λ (n : PlacedMember). is_for_member n x) (sym same) ∙ mine.2
           | inr later ↦ absurd (let higher = later_place m.place ms rest_ms mine.0 later in let place = (is_own mine.0 x mine.2).0 in
               omega (arith, higher, place, at_first))
         ]

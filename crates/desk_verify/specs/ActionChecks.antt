@@ -19,7 +19,7 @@ use Rattle.desk_records.specs.declared.rollout_row.ListedAction.{ListedAction}
 use Rattle.desk_records.specs.declared.rollout_row.StoredAction.{StoredAction}
 use Rattle.desk_store.specs.RawLists.{SaysAction}
 use Rattle.desk_store.specs.Unreadable.{rise}
-use Rattle.desk_verify.specs.Actions.{AreInOrder, FitsEntries, GivesFirst, GivesOutcome, HasActions, IsStarted, KeepsNumbers}
+use Rattle.desk_verify.specs.Actions.{AreInOrder, FitsEntries, GivesFirst, EntryGivesOutcome, HasActions, IsStarted, KeepsNumbers}
 
 -- ---- turns
 
@@ -36,11 +36,11 @@ count_on last [] = true
 count_on last (m ∷ members) = nat_eq m.place (last + 1) && count_on m.place members
 
 -- the action is the member's
-abbrev pub is_for : PlacedMember → ListedAction → Bool
-is_for m a = nat_eq a.action.position m.place && pointwise nat_eq a.action.target m.id
+abbrev pub is_for_member : PlacedMember → ListedAction → Bool
+is_for_member m a = nat_eq a.action.position m.place && pointwise nat_eq a.action.target m.id
 
 abbrev pub is_each_for : List PlacedMember → List ListedAction → Bool
-is_each_for members actions = list_all (λ (p : PlacedMember × ListedAction). is_for p.0 p.1) (zip members actions)
+is_each_for members actions = list_all (λ (p : PlacedMember × ListedAction). is_for_member p.0 p.1) (zip members actions)
 
 -- each member has the action in its turn, and there is no other
 abbrev pub are_for : List PlacedMember → List ListedAction → Bool
@@ -66,14 +66,14 @@ pub record IsGivenFirst (t : Tables) (action : ℕ) (outcome : Outcome) : Type 0
 -- or none gives one
 abbrev pub IsGiven : Tables → ℕ → Option Outcome → Type 0
 IsGiven t action (Some outcome) = IsGivenFirst t action outcome
-IsGiven t action None = (sequence : ℕ) (outcome : Outcome) → GivesOutcome t action sequence outcome → ⊥
+IsGiven t action None = (sequence : ℕ) (outcome : Outcome) → EntryGivesOutcome t action sequence outcome → ⊥
 
-abbrev pub FitsHistory : Tables → ListedAction → Type 0
-FitsHistory t a = FitsEntries t a.number a.action.outcome
+abbrev pub FitsItsEntries : Tables → ListedAction → Type 0
+FitsItsEntries t a = FitsEntries t a.number a.action.outcome
 
 -- .. and its numbers can be read
 pub record PassesHistory (t : Tables) (a : ListedAction) : Type 0 where
-  pub fits : FitsHistory t a
+  pub fits : FitsItsEntries t a
   pub numbers : KeepsNumbers t a.number
 
 -- ---- what is read of one rollout
@@ -101,7 +101,7 @@ count_none [] = Some 0
 count_none (a ∷ actions) = None
 
 -- where the rollout is started it has an action for each member; its actions are in the members' order, and their numbers can be read
-pub record AreWhole (t : Tables) (rollout : ℕ) : Type 0 where
+pub record AreActionsWhole (t : Tables) (rollout : ℕ) : Type 0 where
   pub all : IsStarted t rollout → HasActions t rollout
   pub in_order : (row other : Row) (j k : ℕ) (a b : StoredAction) → Has (t Actions) row → Has (t Actions) other → IsAction row j a → IsAction other k b
       → a.rollout ≡ rollout → b.rollout ≡ rollout → AreInOrder j k a b

@@ -34,7 +34,7 @@ pub record HasMember (t : Tables) (rollout place : ℕ) (id : Bytes) : Type 0 wh
   pub is : IsMember row rollout place id
 
 -- the entry at this place of the action's history gives an outcome
-pub record GivesOutcome (t : Tables) (action sequence : ℕ) (outcome : Outcome) : Type 0 where
+pub record EntryGivesOutcome (t : Tables) (action sequence : ℕ) (outcome : Outcome) : Type 0 where
   pub row : Row
   pub among : Has (t Feedbacks) row
   pub of : has_at 1 action row ≡ true
@@ -45,13 +45,13 @@ pub record GivesOutcome (t : Tables) (action sequence : ℕ) (outcome : Outcome)
 
 -- and none before it does
 pub record GivesFirst (t : Tables) (action sequence : ℕ) (outcome : Outcome) : Type 0 where
-  pub gives : GivesOutcome t action sequence outcome
-  pub first : (other : ℕ) (o : Outcome) → GivesOutcome t action other o → sequence ≤ other
+  pub gives : EntryGivesOutcome t action sequence outcome
+  pub first : (other : ℕ) (o : Outcome) → EntryGivesOutcome t action other o → sequence ≤ other
 
 -- Where entries give outcomes, the action has that of the first. Where none gives one, it is open, or gone: by a forced cancel, which leaves no entry.
 pub record FitsEntries (t : Tables) (action : ℕ) (outcome : Option Outcome) : Type 0 where
   pub given : (sequence : ℕ) (said : Outcome) → GivesFirst t action sequence said → outcome ≡ Some said
-  pub not_given : ((sequence : ℕ) (said : Outcome) → GivesOutcome t action sequence said → ⊥) → (outcome ≡ None) ⊎ (outcome ≡ Some Gone)
+  pub not_given : ((sequence : ℕ) (said : Outcome) → EntryGivesOutcome t action sequence said → ⊥) → (outcome ≡ None) ⊎ (outcome ≡ Some Gone)
 
 -- ---- actions
 
@@ -65,7 +65,7 @@ pub record IsRightAction (t : Tables) (row : Row) : Type 0 where
   pub fits : FitsEntries t number action.outcome
 
 -- the rollout has an action for the place
-pub record HasAction (t : Tables) (rollout place : ℕ) : Type 0 where
+pub record HasActionAt (t : Tables) (rollout place : ℕ) : Type 0 where
   pub row : Row
   pub among : Has (t Actions) row
   pub number : ℕ
@@ -76,7 +76,7 @@ pub record HasAction (t : Tables) (rollout place : ℕ) : Type 0 where
 
 -- the rollout has an action for each of its members
 abbrev pub HasActions : Tables → ℕ → Type 0
-HasActions t rollout = (place : ℕ) (id : Bytes) → HasMember t rollout place id → HasAction t rollout place
+HasActions t rollout = (place : ℕ) (id : Bytes) → HasMember t rollout place id → HasActionAt t rollout place
 
 -- two actions of one rollout: none but the same is at the same place, and the one at the later place has the greater number
 pub record AreInOrder (j k : ℕ) (a b : StoredAction) : Type 0 where

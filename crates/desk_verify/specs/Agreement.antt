@@ -46,8 +46,8 @@ Settles P Q true = P
 Settles P Q false = Q → ⊥
 
 -- .. of one and the same
-abbrev pub Decides : Type 0 → Bool → Type 0
-Decides P = Settles P P
+abbrev pub SettlesWhether : Type 0 → Bool → Type 0
+SettlesWhether P = Settles P P
 
 -- ---- the order of the checks
 

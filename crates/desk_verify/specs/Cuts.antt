@@ -29,13 +29,13 @@ is_cut cuts group = are_bounds (item_numbered cuts group.number) group.bounds
 abbrev pub is_right : List Bounds → List CountedAction → GroupRecord → Bool
 is_right cuts actions group = is_cut cuts group && counts_them actions group
 
-abbrev pub has_number : List GroupRecord → ℕ → Bool
-has_number groups i = list_any (λ (group : GroupRecord). nat_eq group.number i) groups
+abbrev pub has_group_numbered : List GroupRecord → ℕ → Bool
+has_group_numbered groups i = list_any (λ (group : GroupRecord). nat_eq group.number i) groups
 
 -- one of each number from 1 to n
 abbrev pub has_each : List GroupRecord → ℕ → Bool
 has_each groups zero = true
-has_each groups (suc n) = has_each groups n && has_number groups (suc n)
+has_each groups (suc n) = has_each groups n && has_group_numbered groups (suc n)
 
 -- they are the groups of m members that are cut so
 abbrev pub are_right : Grouping → ℕ → List CountedAction → List GroupRecord → Bool

@@ -28,8 +28,8 @@ pub record IsCutBy (t : Tables) (rollout : ℕ) (groups : Grouping) : Type 0 whe
   pub make : grouping_of rules ≡ Some groups
 
 -- how many members the rollout has
-abbrev pub members_in : Tables → ℕ → ℕ
-members_in t rollout = length (filter (is_of rollout) (t Members))
+abbrev pub member_count : Tables → ℕ → ℕ
+member_count t rollout = length (filter (is_of rollout) (t Members))
 
 -- the action is at a place between the bounds, and ended so
 abbrev pub has_ended : Bounds → Outcome → CountedAction → Bool
@@ -45,7 +45,7 @@ ended_in t rollout bounds outcome = length (filter (is_counted rollout (has_ende
 pub record IsRightGroup (t : Tables) (rollout : ℕ) (groups : Grouping) (group : GroupRecord) : Type 0 where
   pub low : 1 ≤ group.number
   pub high : group.number ≤ groups.count
-  pub bounds : group.bounds ≡ bounds_by groups (members_in t rollout) group.number
+  pub bounds : group.bounds ≡ bounds_by groups (member_count t rollout) group.number
   pub ok : group.ok ≡ ended_in t rollout group.bounds Good
   pub bad : group.bad ≡ ended_in t rollout group.bounds Bad
   pub gone : group.gone ≡ ended_in t rollout group.bounds Gone
@@ -57,7 +57,7 @@ pub record IsInRollout (t : Tables) (row : Row) : Type 0 where
   pub group : GroupRecord
   pub is : IsGroup row rollout group
   pub cut : IsCutBy t rollout groups
-  pub enough : leaves_empty groups (members_in t rollout) ≡ false
+  pub enough : leaves_empty groups (member_count t rollout) ≡ false
   pub right : IsRightGroup t rollout groups group
 
 -- the rollout has a group of the number

@@ -24,17 +24,17 @@ abbrev pub holds_started : List GroupRecord → ℕ → Bool
 holds_started groups place = list_any (is_started_at place) groups
 
 -- it is this rollout
-abbrev pub is_of : Option ℕ → ℕ → Bool
-is_of None rollout = false
-is_of (Some number) rollout = nat_eq number rollout
+abbrev pub is_that_rollout : Option ℕ → ℕ → Bool
+is_that_rollout None rollout = false
+is_that_rollout (Some number) rollout = nat_eq number rollout
 
 -- they are those of the rollout
 abbrev pub AreGroupsOf : Tables → ℕ → List GroupRecord → Type 0
 AreGroupsOf t rollout groups = ListsRows (t Groups) (has_at 1 rollout) (SaysGroup rollout) (Some groups)
 
 -- .. of the one that is kept, if one is
-abbrev pub AreKept : Tables → KeptGroups → Type 0
-AreKept t kept = (rollout : ℕ) → kept.rollout ≡ Some rollout → AreGroupsOf t rollout kept.groups.items
+abbrev pub AreKeptGroups : Tables → KeptGroups → Type 0
+AreKeptGroups t kept = (rollout : ℕ) → kept.rollout ≡ Some rollout → AreGroupsOf t rollout kept.groups.items
 
 -- ---- one offer
 

@@ -2,7 +2,7 @@
 use Rattle.std.specs.Prelude.{◌≤◌, ℕ, Option, Some, None, pos}
 use Rattle.sqlite_value.specs.Order.{Row}
 use Rattle.sqlite_trees.specs.Tree.{has_rowid}
-use Rattle.desk_records.specs.Listings.{IsLast, IsOnly, has_at}
+use Rattle.desk_records.specs.Listings.{IsLastNumber, IsOnly, has_at}
 use Rattle.desk_records.specs.Schema.{Place, Rollouts}
 use Rattle.desk_records.specs.TableRows.{IsRollout}
 use Rattle.desk_records.specs.Tables.{Tables}
@@ -42,7 +42,7 @@ module _ (table : Place) (column : ℕ) (IsRight : Tables → Row → Type 0) (I
   -- those of all rollouts that are there are
   pub record AreAllChecked (t : Tables) (count : ℕ) : Type 0 where
     pub last : ℕ
-    pub is_last : IsLast (t Rollouts) last
+    pub is_last : IsLastNumber (t Rollouts) last
     pub checked : AreChecked t last count
 
   -- nothing is said to be right of a table that doesn't agree

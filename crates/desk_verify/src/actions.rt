@@ -4,7 +4,7 @@ ghost use Rattle.std.specs.Prelude.{◌≡◌, option_map, vec_items};
 ghost use Rattle.desk_records.specs.Schema.{Actions};
 ghost use Rattle.desk_store.specs.Blaming.{Blames, BlamesGiven};
 ghost use Rattle.desk_store.specs.Changing.{FindsTables, StaysIn};
-ghost use Rattle.desk_verify.specs.ActionChecks.{AreMembersInTurn, AreWhole, ListsActions, count_none};
+ghost use Rattle.desk_verify.specs.ActionChecks.{AreMembersInTurn, AreActionsWhole, ListsActions, count_none};
 ghost use Rattle.desk_verify.specs.Actions.{AgreesActions, IsRightAction, PassesActions};
 ghost use Rattle.desk_verify.specs.Agreement.{AgreeBefore, Settles};
 ghost use Rattle.desk_verify.specs.declared.damage.CheckedTable.TheVariants as checked;
@@ -25,7 +25,7 @@ impl<S: Alter> ByRollout<S> for Actions {
 
     ghost is_right = { IsRightAction };
 
-    ghost is_whole = { AreWhole };
+    ghost is_whole = { AreActionsWhole };
 
     ghost agrees = { AgreesActions };
 

@@ -3,7 +3,7 @@
 ghost use Rattle.std.specs.List.{AllByRecursion};
 ghost use Rattle.desk_store.specs.Blaming.{Blames};
 ghost use Rattle.desk_store.specs.Changing.{FindsTables, StaysIn};
-ghost use Rattle.desk_verify.specs.Agreement.{Decides};
+ghost use Rattle.desk_verify.specs.Agreement.{SettlesWhether};
 ghost use Rattle.desk_verify.specs.Artifacts.{AgreesArtifacts, IsWhole};
 
 use crate::contents::{count_pieces, hash_pieces};
@@ -13,7 +13,7 @@ use sqlite::Alter;
 /// Whether the table of artifacts agrees.
 pub(crate) fn check_artifacts<S: Alter>(change: &mut OpenChange<'_, S>) -> Result<bool, Fault>
     ensures stays { StaysIn S.Store change.old change.new result }
-    ensures judges { FindsTables S.Store change.old change.new result (λ t agrees. Decides (AgreesArtifacts t) agrees) }
+    ensures judges { FindsTables S.Store change.old change.new result (λ t agrees. SettlesWhether (AgreesArtifacts t) agrees) }
     ensures blames { Blames S.Store change.old change.new result }
 {
     let Some(artifacts) = change.list_all_artifacts()? else {
@@ -28,7 +28,7 @@ fn are_whole<S: Alter>(
     artifacts: &[CheckedArtifact],
 ) -> Result<bool, Fault>
     ensures stays { StaysIn S.Store change.old change.new result }
-    ensures judges { FindsTables S.Store change.old change.new result (λ t whole. Decides (AllByRecursion (IsWhole t) artifacts.now) whole) }
+    ensures judges { FindsTables S.Store change.old change.new result (λ t whole. SettlesWhether (AllByRecursion (IsWhole t) artifacts.now) whole) }
     ensures blames { Blames S.Store change.old change.new result }
 {
     for artifact in artifacts {
@@ -45,7 +45,7 @@ fn is_whole<S: Alter>(
     checked: &CheckedArtifact,
 ) -> Result<bool, Fault>
     ensures stays { StaysIn S.Store change.old change.new result }
-    ensures judges { FindsTables S.Store change.old change.new result (λ t whole. Decides (IsWhole t checked.now) whole) }
+    ensures judges { FindsTables S.Store change.old change.new result (λ t whole. SettlesWhether (IsWhole t checked.now) whole) }
     ensures blames { Blames S.Store change.old change.new result }
 {
     let Some(digest) = hash_pieces(change, checked.number, checked.artifact.size)? else {

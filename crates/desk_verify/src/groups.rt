@@ -3,7 +3,7 @@
 ghost use Rattle.desk_store.specs.Blaming.{Blames};
 ghost use Rattle.desk_store.specs.Changing.{FindsTables, StaysIn};
 ghost use Rattle.desk_records.specs.Schema.{Groups};
-ghost use Rattle.desk_verify.specs.Agreement.{Decides};
+ghost use Rattle.desk_verify.specs.Agreement.{SettlesWhether};
 ghost use Rattle.desk_verify.specs.GroupChecks.{HasEach};
 ghost use Rattle.desk_verify.specs.Groups.{AgreesGroups, IsInRollout};
 
@@ -54,7 +54,7 @@ impl<S: Alter> ByRollout<S> for Groups {
 /// Whether the table of groups agrees.
 pub(crate) fn check_groups<S: Alter>(change: &mut OpenChange<'_, S>) -> Result<bool, Fault>
     ensures stays { StaysIn S.Store change.old change.new result }
-    ensures judges { FindsTables S.Store change.old change.new result (λ t agrees. Decides (AgreesGroups t) agrees) }
+    ensures judges { FindsTables S.Store change.old change.new result (λ t agrees. SettlesWhether (AgreesGroups t) agrees) }
     ensures blames { Blames S.Store change.old change.new result }
 {
     let Some(listed) = check_rollouts::<Groups, S>(change)? else {

@@ -4,7 +4,7 @@ ghost use Rattle.std.specs.Prelude.{◌≡◌};
 ghost use Rattle.std.specs.List.{AllByRecursion};
 ghost use Rattle.desk_store.specs.Blaming.{Blames};
 ghost use Rattle.desk_store.specs.Changing.{FindsTables, StaysIn};
-ghost use Rattle.desk_verify.specs.ActionChecks.{FitsHistory, IsGiven, PassesHistory, first_said, is_fit};
+ghost use Rattle.desk_verify.specs.ActionChecks.{FitsItsEntries, IsGiven, PassesHistory, first_said, is_fit};
 ghost use Rattle.desk_verify.specs.Agreement.{Settles};
 
 use crate::turns::sequences_rise;
@@ -20,7 +20,7 @@ pub(crate) fn fit_histories<S: Alter>(
 ) -> Result<bool, Fault>
     ensures stays { StaysIn S.Store change.old change.new result }
     ensures judges { FindsTables S.Store change.old change.new result
-        (λ t fit. Settles (AllByRecursion (PassesHistory t) actions.now) (AllByRecursion (FitsHistory t) actions.now) fit) }
+        (λ t fit. Settles (AllByRecursion (PassesHistory t) actions.now) (AllByRecursion (FitsItsEntries t) actions.now) fit) }
     ensures blames { Blames S.Store change.old change.new result }
 {
     for action in actions {
@@ -37,7 +37,7 @@ fn fits_history<S: Alter>(
     action: &ListedAction,
 ) -> Result<bool, Fault>
     ensures stays { StaysIn S.Store change.old change.new result }
-    ensures judges { FindsTables S.Store change.old change.new result (λ t fits. Settles (PassesHistory t action.now) (FitsHistory t action.now) fits) }
+    ensures judges { FindsTables S.Store change.old change.new result (λ t fits. Settles (PassesHistory t action.now) (FitsItsEntries t action.now) fits) }
     ensures blames { Blames S.Store change.old change.new result }
 {
     let given = find_given(change, action.number)?;

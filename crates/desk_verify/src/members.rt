@@ -3,7 +3,7 @@
 ghost use Rattle.desk_store.specs.Blaming.{Blames};
 ghost use Rattle.desk_store.specs.Changing.{FindsTables, StaysIn};
 ghost use Rattle.desk_records.specs.Schema.{Members};
-ghost use Rattle.desk_verify.specs.Agreement.{Decides};
+ghost use Rattle.desk_verify.specs.Agreement.{SettlesWhether};
 ghost use Rattle.desk_verify.specs.Members.{AgreesMembers, IsInPlace};
 
 use crate::places::are_in_place;
@@ -46,7 +46,7 @@ impl<S: Alter> ByRollout<S> for Members {
 /// Whether the table of members agrees.
 pub(crate) fn check_members<S: Alter>(change: &mut OpenChange<'_, S>) -> Result<bool, Fault>
     ensures stays { StaysIn S.Store change.old change.new result }
-    ensures judges { FindsTables S.Store change.old change.new result (λ t agrees. Decides (AgreesMembers t) agrees) }
+    ensures judges { FindsTables S.Store change.old change.new result (λ t agrees. SettlesWhether (AgreesMembers t) agrees) }
     ensures blames { Blames S.Store change.old change.new result }
 {
     let Some(listed) = check_rollouts::<Members, S>(change)? else {

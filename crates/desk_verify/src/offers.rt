@@ -7,9 +7,9 @@ ghost use Rattle.desk_records.specs.Schema.{Actions};
 ghost use Rattle.desk_store.specs.Blaming.{BlamesGiven};
 ghost use Rattle.desk_store.specs.Changing.{FindsTables, StaysIn};
 ghost use Rattle.desk_store.specs.RawLists.{AreOffers};
-ghost use Rattle.desk_verify.specs.Agreement.{AgreeBefore, Decides};
+ghost use Rattle.desk_verify.specs.Agreement.{AgreeBefore, SettlesWhether};
 ghost use Rattle.desk_verify.specs.declared.damage.CheckedTable.TheVariants as checked;
-ghost use Rattle.desk_verify.specs.OfferChecks.{AreGroupsOf, AreKept, Fits, IsOfferedIfDue, IsRight, IsRowOffered, holds_started, is_due, is_of, is_started_at};
+ghost use Rattle.desk_verify.specs.OfferChecks.{AreGroupsOf, AreKeptGroups, Fits, IsOfferedIfDue, IsRight, IsRowOffered, holds_started, is_due, is_that_rollout, is_started_at};
 ghost use Rattle.desk_verify.specs.Offers.{AgreesOffers, IsInStartedGroup, IsOffered};
 
 use crate::rollouts::{ByRollout, NumberedRollout, check_rollouts};
@@ -64,7 +64,7 @@ impl<S: Alter> ByRollout<S> for Actions {
 /// Whether the table of offers agrees. A row of actions or groups that breaks a rule is a failed store.
 pub(crate) fn check_offers<S: Alter>(change: &mut OpenChange<'_, S>) -> Result<bool, Fault>
     ensures stays { StaysIn S.Store change.old change.new result }
-    ensures judges { FindsTables S.Store change.old change.new result (λ t agrees. Decides (AgreesOffers t) agrees) }
+    ensures judges { FindsTables S.Store change.old change.new result (λ t agrees. SettlesWhether (AgreesOffers t) agrees) }
     ensures blames { BlamesGiven S.Store (AgreeBefore checked.Offer) change.old change.new result }
 {
     let Some(listed) = change.list_offers()? else {
@@ -89,7 +89,7 @@ fn in_action_order(mut offers: Vec<OwnedOffer>) -> Vec<OwnedOffer>
 /// Whether each of the offers is right. The groups of a rollout are read once for all its offers that stand together.
 fn are_right<S: Alter>(change: &mut OpenChange<'_, S>, offers: &[OwnedOffer]) -> Result<bool, Fault>
     ensures stays { StaysIn S.Store change.old change.new result }
-    ensures judges { FindsTables S.Store change.old change.new result (λ t right. Decides (AllByRecursion (IsRight t) offers.now) right) }
+    ensures judges { FindsTables S.Store change.old change.new result (λ t right. SettlesWhether (AllByRecursion (IsRight t) offers.now) right) }
     ensures blames { BlamesGiven S.Store (AgreeBefore checked.Offer) change.old change.new result }
 {
     let mut kept = KeptGroups {
@@ -112,7 +112,7 @@ fn is_right<S: Alter>(
 ) -> Result<bool, Fault>
     ensures stays { StaysIn S.Store change.old change.new result }
     ensures judges { FindsTables S.Store change.old change.new result
-        (λ t right. AreKept t kept.old → Decides (IsRight t owned.now) right × AreKept t kept.new) }
+        (λ t right. AreKeptGroups t kept.old → SettlesWhether (IsRight t owned.now) right × AreKeptGroups t kept.new) }
     ensures blames { BlamesGiven S.Store (AgreeBefore checked.Offer) change.old change.new result }
 {
     let Some(action) = change.find_action(owned.offer.action)? else {
@@ -126,7 +126,7 @@ fn is_right<S: Alter>(
 
 /// Whether the action is open, of the target, and to be canceled where the offer says so.
 fn fits(action: &StoredAction, owned: &OwnedOffer) -> bool
-    ensures { Decides (Fits action.now owned.now) result }
+    ensures { SettlesWhether (Fits action.now owned.now) result }
 {
     action.outcome.is_none()
         && action.target == owned.id
@@ -142,7 +142,7 @@ fn is_in_started_group<S: Alter>(
 ) -> Result<bool, Fault>
     ensures stays { StaysIn S.Store change.old change.new result }
     ensures judges { FindsTables S.Store change.old change.new result
-        (λ t started. AreKept t kept.old → Decides (IsInStartedGroup t rollout place) started × AreKept t kept.new) }
+        (λ t started. AreKeptGroups t kept.old → SettlesWhether (IsInStartedGroup t rollout place) started × AreKeptGroups t kept.new) }
     ensures blames { BlamesGiven S.Store (AgreeBefore checked.Offer) change.old change.new result }
 {
     keep_groups(change, kept, rollout)?;
@@ -157,7 +157,7 @@ fn keep_groups<S: Alter>(
 ) -> Result<(), Fault>
     ensures stays { StaysIn S.Store change.old change.new result }
     ensures reads { FindsTables S.Store change.old change.new result
-        (λ t done. AreKept t kept.old → AreGroupsOf t rollout kept.new.groups.items × AreKept t kept.new) }
+        (λ t done. AreKeptGroups t kept.old → AreGroupsOf t rollout kept.new.groups.items × AreKeptGroups t kept.new) }
     ensures blames { BlamesGiven S.Store (AgreeBefore checked.Offer) change.old change.new result }
 {
     if is_of(kept.rollout, rollout) {
@@ -173,7 +173,7 @@ fn keep_groups<S: Alter>(
 
 /// Whether it is this rollout.
 fn is_of(kept: Option<RolloutNo>, rollout: RolloutNo) -> bool
-    ensures { result ≡ is_of kept rollout }
+    ensures { result ≡ is_that_rollout kept rollout }
 {
     match kept {
         Some(number) => number.get() == rollout.get(),
@@ -202,7 +202,7 @@ fn are_offered_if_due<S: Alter>(
 ) -> Result<bool, Fault>
     ensures stays { StaysIn S.Store change.old change.new result }
     ensures judges { FindsTables S.Store change.old change.new result
-        (λ t offered. Decides (AllByRecursion (IsOfferedIfDue t groups.now) actions.now) offered) }
+        (λ t offered. SettlesWhether (AllByRecursion (IsOfferedIfDue t groups.now) actions.now) offered) }
     ensures blames { BlamesGiven S.Store (AreOffers) change.old change.new result }
 {
     for listed in actions {
@@ -219,7 +219,7 @@ fn is_offered_if_due<S: Alter>(
     listed: &ListedAction,
 ) -> Result<bool, Fault>
     ensures stays { StaysIn S.Store change.old change.new result }
-    ensures judges { FindsTables S.Store change.old change.new result (λ t offered. Decides (IsOfferedIfDue t groups.now listed.now) offered) }
+    ensures judges { FindsTables S.Store change.old change.new result (λ t offered. SettlesWhether (IsOfferedIfDue t groups.now listed.now) offered) }
     ensures blames { BlamesGiven S.Store (AreOffers) change.old change.new result }
 {
     if !is_due(groups, &listed.action) {
@@ -242,7 +242,7 @@ fn is_offered<S: Alter>(
     number: ActionNo,
 ) -> Result<bool, Fault>
     ensures stays { StaysIn S.Store change.old change.new result }
-    ensures judges { FindsTables S.Store change.old change.new result (λ t offered. Decides (IsOffered t id.now number) offered) }
+    ensures judges { FindsTables S.Store change.old change.new result (λ t offered. SettlesWhether (IsOffered t id.now number) offered) }
     ensures blames { BlamesGiven S.Store (AreOffers) change.old change.new result }
 {
     match change.find_offer(id)? {

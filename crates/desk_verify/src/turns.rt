@@ -1,7 +1,7 @@
 //! Whether actions are those of members, each in its turn.
 
 ghost use Rattle.std.specs.Prelude.{◌≡◌};
-ghost use Rattle.desk_verify.specs.ActionChecks.{are_for, count_on, is_each_for, is_for, numbers_rise, sequences_rise};
+ghost use Rattle.desk_verify.specs.ActionChecks.{are_for, count_on, is_each_for, is_for_member, numbers_rise, sequences_rise};
 
 use desk_store::{ListedAction, PlacedMember, SequencedEntry};
 
@@ -65,7 +65,7 @@ fn is_each_for(members: &[PlacedMember], actions: &[ListedAction]) -> bool
 }
 
 fn is_for(member: &PlacedMember, action: &ListedAction) -> bool
-    ensures { result ≡ is_for member.now action.now }
+    ensures { result ≡ is_for_member member.now action.now }
 {
     action.action.position == member.place && action.action.target == member.id
 }

@@ -15,7 +15,7 @@ use Rattle.desk_store.specs.RawLists.{HasListed, HasNumbered}
 use Rattle.desk_store.specs.declared.change.OpenChange.{OpenChange}
 
 -- the artifact of a number and a module
-pub record IsOfNumber (t : Tables) (module_number number : ℕ) (a : StoredArtifact) : Type 0 where
+pub record IsArtifactOf (t : Tables) (module_number number : ℕ) (a : StoredArtifact) : Type 0 where
   pub row : HasNumbered t number a
   pub module_is : a.module_number ≡ module_number
 
@@ -31,7 +31,7 @@ IfContents _ Is = Unit {0}
 
 -- Contents that are shown are as many bytes as the row of an artifact tells: of the one that was asked for by its number, or of one that has the name.
 abbrev pub KeepsSize : Tables → Query → Reply → Type 0
-KeepsSize t (ShowContents m k) reply = IfContents reply (λ contents. (a : StoredArtifact) × IsOfNumber t m k a × (a.size ≡ length contents))
+KeepsSize t (ShowContents m k) reply = IfContents reply (λ contents. (a : StoredArtifact) × IsArtifactOf t m k a × (a.size ≡ length contents))
 KeepsSize t (Download device m filename) reply = IfContents reply (λ contents. (a : Artifact) × IsOfName t m filename a × (a.size ≡ length contents))
 KeepsSize t _ reply = Unit {0}
 

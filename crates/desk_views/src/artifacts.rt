@@ -14,7 +14,7 @@ ghost use Rattle.rollout_model.specs.Limits.{artifact_size_limit, piece_length};
 ghost use Rattle.rollout_model.specs.Rules.{is_contents};
 ghost use Rattle.sql_calls.specs.declared.fault.Fault.TheVariants.{Broken, Memory};
 ghost use Rattle.desk_store.specs.Rows.{IfRowsBroken};
-ghost use Rattle.desk_views.specs.Sizes.{AgreesIn, IsOfNumber, KeepsSize};
+ghost use Rattle.desk_views.specs.Sizes.{AgreesIn, IsArtifactOf, KeepsSize};
 ghost use Rattle.desk_store.specs.Changing.{FindsIn, StaysIn};
 
 use desk_store::{Fault, OpenChange, StoredArtifact};
@@ -123,7 +123,7 @@ fn read_of_module<S: Alter>(
     ensures reads { FindsIn S.Store change.old change.new result
         (λ now found. found ≡ option_map stored (artifact_of_module now module_number number)) }
     ensures fails { FailsAtListsIn S.Store change.old change.new result }
-    ensures agrees { AgreesIn S.Store change.old change.new result (λ t found. IfSome found (IsOfNumber t module_number number)) }
+    ensures agrees { AgreesIn S.Store change.old change.new result (λ t found. IfSome found (IsArtifactOf t module_number number)) }
 {
     let found = match change.read_artifact(number)? {
         Some(found) => found,

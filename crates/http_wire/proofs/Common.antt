@@ -17,7 +17,7 @@ pub use Rattle.http_wire.specs.BodyLengths.{body_length, is_digits, length_by, l
 pub use Rattle.http_wire.specs.Faults.{BadCoding, BadHead, BadLength, Cut, End, Fault, HeadTooLarge, Input, TooLarge, WireFault}
 pub use Rattle.http_wire.specs.Fields.{fields_named, is_named, sole_value}
 pub use Rattle.http_wire.specs.Heads.{FieldLine, HeadParts, IsFieldLine, IsOriginForm, NameAndValue, SpellsHead, is_target_byte, line_text, name_and_value}
-pub use Rattle.http_wire.specs.Inbox.{Answers, HandsOut, field_view, message_of}
+pub use Rattle.http_wire.specs.Inbox.{StandsInFront, HandsOut, field_view, message_of}
 pub use Rattle.http_wire.specs.Messages.{IsBadRegion, IsFault, IsHeadWith, IsMessage, IsUndecided, WireMessage}
 pub use Rattle.http_wire.specs.Parse.{IsHeadAt, IsStrict, is_no_line_break, lf_follows_cr}
 pub use Rattle.http_wire.specs.Regions.{AreLines, HasFewFields, HasLines, HasNoRegion, HasRegion, IsHeadEndAt, line_ends}

@@ -6,7 +6,7 @@ use Rattle.httparse.specs.Grammar.{trim_ows}
 use Rattle.rollout_model.specs.declared.Refusal.TheVariants as refusals
 use Rattle.http_wire.specs.Heads.{is_target_byte}
 use Rattle.http_wire.specs.BodyLengths.{body_length}
-use Rattle.http_wire.specs.Targets.{path_of, query_of}
+use Rattle.http_wire.specs.Targets.{path_of, query_text}
 use Rattle.http_wire.specs.Replies.{reason, reply_text, refusal_body, refusal_text, Octets, Text, Csv}
 
 -- ---- lengths of bodies
@@ -73,10 +73,10 @@ trimmed = refl
 
 -- ---- targets and fields
 
-path_only : (path_of (codes "/a/b") ≡ codes "/a/b") × (query_of (codes "/a/b") ≡ [])
+path_only : (path_of (codes "/a/b") ≡ codes "/a/b") × (query_text (codes "/a/b") ≡ [])
 path_only = (refl, refl)
 
-path_and_query : (path_of (codes "/a?b?c") ≡ codes "/a") × (query_of (codes "/a?b?c") ≡ codes "b?c")
+path_and_query : (path_of (codes "/a?b?c") ≡ codes "/a") × (query_text (codes "/a?b?c") ≡ codes "b?c")
 path_and_query = (refl, refl)
 
 one_of_name : sole_value (codes "authorization") ((codes "a", []) ∷ (codes "Authorization", codes "x") ∷ []) ≡ Some (codes "x")

@@ -5,7 +5,7 @@ use Rattle.http_wire.proofs.Common.{take-append-drop, length-take-le, digits_val
 use Rattle.http_wire.proofs.Common.{WireFault, TooLarge, BadHead, BadLength, HeadTooLarge, BadCoding, HasRegion, HasNoRegion, HasFewFields, line_ends}
 use Rattle.http_wire.proofs.Common.{FieldLine, HeadParts, SpellsHead, NameAndValue, name_and_value, is_digits, length_of, length_by, unless_coded}
 use Rattle.http_wire.proofs.Common.{fields_named, WireMessage, IsHeadWith, IsMessage, IsBadRegion, IsFault, IsUndecided, Begins, HasMessages, EndsAs}
-use Rattle.http_wire.proofs.Common.{message_of, Answers, HandsOut, End, Input, Cut, Fault}
+use Rattle.http_wire.proofs.Common.{message_of, StandsInFront, HandsOut, End, Input, Cut, Fault}
 use Rattle.httparse.proofs.GrammarLemmas.{request_unique}
 use Rattle.http_wire.specs.BodyLengths.{body_length}
 use Rattle.http_wire.specs.declared.message.Message.{Message}
@@ -323,7 +323,7 @@ same_front : (bytes left : List ℕ) → left ≡ bytes → (fed : List ℕ) (gi
 same_front bytes left same fed given b =
     subst (λ (x : List ℕ). Begins fed (given ++ []) x) (sym same) (subst (λ (ms : List WireMessage). Begins fed ms bytes) (sym (append-nil given)) b)
 
-pub hands_out : (bytes left : List ℕ) (r : Option (Result Message WireFault)) → Answers bytes r left → HandsOut bytes r left
+pub hands_out : (bytes left : List ℕ) (r : Option (Result Message WireFault)) → StandsInFront bytes r left → HandsOut bytes r left
 hands_out bytes left None a = record { answer = a; so_far = same_front bytes left a.1; progress = omega (arith, ap length a.1) }
 hands_out bytes left (Some (Err f)) a = record { answer = a; so_far = same_front bytes left a.1; progress = omega (arith, ap length a.1) }
 hands_out bytes left (Some (Ok m)) a = record {

@@ -24,10 +24,10 @@ message_of m = record {
 }
 
 -- what stands at the front of the bytes, and what is left when it is handed out
-abbrev pub Answers : List ℕ → Option (Result Message WireFault) → List ℕ → Type 0
-Answers bytes None left = IsUndecided bytes × (left ≡ bytes)
-Answers bytes (Some (Err f)) left = IsFault bytes f × (left ≡ bytes)
-Answers bytes (Some (Ok m)) left = IsMessage bytes (message_of m) left
+abbrev pub StandsInFront : List ℕ → Option (Result Message WireFault) → List ℕ → Type 0
+StandsInFront bytes None left = IsUndecided bytes × (left ≡ bytes)
+StandsInFront bytes (Some (Err f)) left = IsFault bytes f × (left ≡ bytes)
+StandsInFront bytes (Some (Ok m)) left = IsMessage bytes (message_of m) left
 
 -- the message, if there is one
 abbrev pub handed_out : Option (Result Message WireFault) → List WireMessage
@@ -37,7 +37,7 @@ handed_out (Some (Ok m)) = message_of m ∷ []
 
 -- one call hands out what stands at the front, or nothing where neither a message nor a fault does
 pub record HandsOut (bytes : List ℕ) (r : Option (Result Message WireFault)) (left : List ℕ) : Type 0 where
-  pub answer : Answers bytes r left
+  pub answer : StandsInFront bytes r left
   -- the messages handed out so far are the first messages of all bytes fed so far
   pub so_far : (fed : List ℕ) (given : List WireMessage) → Begins fed given bytes → Begins fed (given ++ handed_out r) left
   -- each message takes some bytes

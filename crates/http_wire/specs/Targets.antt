@@ -10,5 +10,5 @@ abbrev pub path_of : List ℕ → List ℕ
 path_of target = before_first is_question_mark target
 
 -- what follows the first question mark, or nothing
-abbrev pub query_of : List ℕ → List ℕ
-query_of target = after_first is_question_mark target
+abbrev pub query_text : List ℕ → List ℕ
+query_text target = after_first is_question_mark target

@@ -58,7 +58,7 @@ impl<'a> Message<'a> {
 
     /// What follows the first `?` of the target, or nothing.
     pub fn query(&self) -> &'a [u8]
-        ensures { result.now ≡ targets.query_of (message_of self.now).target }
+        ensures { result.now ≡ targets.query_text (message_of self.now).target }
     {
         query_of(self.target)
     }

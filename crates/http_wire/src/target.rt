@@ -1,6 +1,6 @@
 //! Path and query of a target.
 ghost use Rattle.std.specs.Prelude.{◌≡◌, position};
-ghost use Rattle.http_wire.specs.Targets.{is_question_mark, path_of, query_of};
+ghost use Rattle.http_wire.specs.Targets.{is_question_mark, path_of, query_text};
 
 fn first_question_mark(target: &[u8]) -> Option<usize>
     ensures { result ≡ position is_question_mark target.now }
@@ -20,7 +20,7 @@ pub fn path_of(target: &[u8]) -> &[u8]
 
 /// What follows the first `?` of the target, or nothing.
 pub fn query_of(target: &[u8]) -> &[u8]
-    ensures { result.now ≡ query_of target.now }
+    ensures { result.now ≡ query_text target.now }
 {
     match first_question_mark(target) {
         Some(place) => &target[place + 1..],

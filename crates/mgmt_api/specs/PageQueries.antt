@@ -14,9 +14,9 @@ offset_of pairs = number_or 0 number_limit 0 (value_of (codes "offset") pairs)
 abbrev pub limit_of : List Pair → Option ℕ
 limit_of pairs = number_or 1 page_limit page_default (value_of (codes "limit") pairs)
 
-abbrev pub page_of : List Pair → Option Page
-page_of pairs = option_and_then (λ offset. option_map (λ limit. record { offset = offset; limit = limit }) (limit_of pairs)) (offset_of pairs)
+abbrev pub query_page : List Pair → Option Page
+query_page pairs = option_and_then (λ offset. option_map (λ limit. record { offset = offset; limit = limit }) (limit_of pairs)) (offset_of pairs)
 
 -- a query that holds no other key, and none twice
 abbrev pub page_asked : List ℕ → Option Page
-page_asked query = option_and_then page_of (query_pairs_of page_keys query)
+page_asked query = option_and_then query_page (query_pairs_of page_keys query)

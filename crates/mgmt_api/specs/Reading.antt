@@ -3,7 +3,7 @@ use Rattle.std.specs.Prelude.{◌≡◌, ◌⊎◌, ℕ, Bool, true, false, List
 use Rattle.std.specs.Prelude.{option_and_then, slice_get}
 use Rattle.std.specs.Option.{is_some}
 use Rattle.http_wire.specs.Messages.{WireMessage}
-use Rattle.http_wire.specs.Targets.{path_of, query_of}
+use Rattle.http_wire.specs.Targets.{path_of, query_text}
 use Rattle.rollout_model.specs.declared.refusal.Refusal.{Refusal}
 use Rattle.rollout_model.specs.declared.refusal.Refusal.TheVariants.{BadRequest, NotFound, BadMethod, BadImportLine, NoMemory}
 use Rattle.rollout_model.specs.declared.request.Request.{Request as RustRequest}
@@ -14,14 +14,14 @@ use Rattle.rollout_machine.specs.Requests.{Do, Ask, Query, Page, ShowModules, Sh
 use Rattle.rollout_machine.specs.Requests.{ShowSet, ShowTargets, ShowTarget, ShowTargetActions, ShowAction, ShowHistory, ShowRollouts, ShowRollout}
 use Rattle.rollout_machine.specs.Requests.{ShowGroups, ShowGroup, ShowGroupTargets, ShowReport, ShowActionsTable, Asked, Rejected, Asks}
 use Rattle.rollout_machine.specs.Views.{request_of}
-use Rattle.request_target.specs.Numbers.{number_of}
+use Rattle.request_target.specs.Numbers.{decimal_number}
 use Rattle.request_target.specs.Queries.{query_pairs_of}
 use Rattle.request_target.specs.Routes.{segments}
 use Rattle.mgmt_objects.specs.ModuleBodies.{module_body}
 use Rattle.mgmt_objects.specs.RolloutBodies.{rollout_body}
 use Rattle.mgmt_objects.specs.SetBodies.{set_body}
 use Rattle.mgmt_objects.specs.TargetBodies.{targets_body}
-use Rattle.desk_files.specs.Imports.{targets_of}
+use Rattle.desk_files.specs.Imports.{targets_in_file}
 use Rattle.mgmt_api.specs.Table.{manage_route}
 use Rattle.mgmt_api.specs.Calls.{call_of}
 use Rattle.mgmt_api.specs.CancelQueries.{force_asked}
@@ -50,7 +50,7 @@ or_rejected refusal asked (Some part) = asked part
 
 -- the query holds nothing
 abbrev pub has_no_query : WireMessage → Bool
-has_no_query m = is_some (query_pairs_of [] (query_of m.target))
+has_no_query m = is_some (query_pairs_of [] (query_text m.target))
 
 -- what is asked by a call that takes no query
 abbrev pub without_query : WireMessage → Asked → Asked
@@ -62,7 +62,7 @@ added_by body command m = without_query m (or_rejected BadRequest (λ label. Ask
 
 -- the number that the segment at this place of the path writes
 abbrev pub path_number : WireMessage → ℕ → Option ℕ
-path_number m place = option_and_then number_of (slice_get (segments (path_of m.target)) place)
+path_number m place = option_and_then decimal_number (slice_get (segments (path_of m.target)) place)
 
 -- the number of an item, from 1 to 2,147,483,647
 abbrev pub item_in : WireMessage → ℕ → Option ℕ
@@ -81,12 +81,12 @@ abbrev pub of_artifact : (ℕ → ℕ → Query) → WireMessage → Asked
 of_artifact query m = of_item 4 (λ number. of_item 6 (λ artifact. without_query m (Asks (Ask (query number artifact)))) m) m
 
 -- the word that the segment at this place of the path is
-abbrev pub word_in : WireMessage → ℕ → Option (List ℕ)
-word_in m place = option_and_then word_of (slice_get (segments (path_of m.target)) place)
+abbrev pub path_word : WireMessage → ℕ → Option (List ℕ)
+path_word m place = option_and_then word_of (slice_get (segments (path_of m.target)) place)
 
 -- what is asked of the target or tag that stands at this place of the path; what is no word is not found
 abbrev pub of_word : ℕ → (List ℕ → Asked) → WireMessage → Asked
-of_word place asked m = or_rejected NotFound asked (word_in m place)
+of_word place asked m = or_rejected NotFound asked (path_word m place)
 
 -- a tag of a target, and no query
 abbrev pub of_tag : (List ℕ → List ℕ → Command) → WireMessage → Asked
@@ -102,24 +102,24 @@ of_group asked m = of_item 4 (λ number. of_item 6 (λ group. asked number group
 
 -- the cancel of an action, forced or not
 abbrev pub canceled_by : List ℕ → ℕ → WireMessage → Asked
-canceled_by id action m = or_rejected BadRequest (λ force. Asks (Do (Cancel id action force))) (force_asked (query_of m.target))
+canceled_by id action m = or_rejected BadRequest (λ force. Asks (Do (Cancel id action force))) (force_asked (query_text m.target))
 
 -- a page of a list
 abbrev pub listed_by : (Page → Query) → WireMessage → Asked
-listed_by query m = or_rejected BadRequest (λ page. Asks (Ask (query page))) (page_asked (query_of m.target))
+listed_by query m = or_rejected BadRequest (λ page. Asks (Ask (query page))) (page_asked (query_text m.target))
 
 -- a page of the targets that match a filter, or of all
 abbrev pub selected_by : WireMessage → Asked
-selected_by m = or_rejected BadRequest (λ selection. Asks (Ask (ShowTargets selection.filter_text selection.page))) (selection_asked (query_of m.target))
+selected_by m = or_rejected BadRequest (λ selection. Asks (Ask (ShowTargets selection.filter_text selection.page))) (selection_asked (query_text m.target))
 
 -- an artifact for a module
 abbrev pub uploaded_to : ℕ → WireMessage → Asked
-uploaded_to number m = or_rejected BadRequest (λ upload. Asks (Do (AddArtifact upload))) (upload_asked number (query_of m.target) m.body)
+uploaded_to number m = or_rejected BadRequest (λ upload. Asks (Do (AddArtifact upload))) (upload_asked number (query_text m.target) m.body)
 
 -- a file of targets, or the line that it is refused by
-abbrev pub imported : Result (List TargetRow) ℕ → Asked
-imported (Ok rows) = Asks (Do (PutTargets rows))
-imported (Err line) = Rejected (BadImportLine line)
+abbrev pub import_asked : Result (List TargetRow) ℕ → Asked
+import_asked (Ok rows) = Asks (Do (PutTargets rows))
+import_asked (Err line) = Rejected (BadImportLine line)
 
 abbrev pub asked_by : ManageCall → WireMessage → Asked
 asked_by ShowModulesCall m = listed_by ShowModules m
@@ -150,7 +150,7 @@ asked_by ShowGroupCall m = of_group (λ number group. without_query m (Asks (Ask
 asked_by ShowGroupTargetsCall m = of_group (λ number group. listed_by (ShowGroupTargets number group) m) m
 asked_by ShowReportCall m = shown_by ShowReport m
 asked_by ShowActionsTableCall m = shown_by ShowActionsTable m
-asked_by ImportCall m = without_query m (imported (targets_of m.body))
+asked_by ImportCall m = without_query m (import_asked (targets_in_file m.body))
 
 -- the first refusal that applies: the route, the method, and then the call's own
 abbrev pub manage_reading : WireMessage → Asked

@@ -114,5 +114,5 @@ pub record Has (parts : ReplyParts) (answer : Answer) : Type 0 where
   pub body : answer.body.items ≡ parts.body
 
 -- an answer of these parts, or want of memory
-abbrev pub Answers : ReplyParts → Result Answer Refusal → Type 0
-Answers parts result = MatchResult result (Has parts) (λ refusal. refusal ≡ NoMemory)
+abbrev pub GivesAnswer : ReplyParts → Result Answer Refusal → Type 0
+GivesAnswer parts result = MatchResult result (Has parts) (λ refusal. refusal ≡ NoMemory)

@@ -2,7 +2,7 @@
 use Rattle.std.specs.Prelude.{ℕ, List, [], ◌∷◌, codes, Option, option_and_then, option_map}
 use Rattle.request_target.specs.Pairs.{Pair}
 use Rattle.request_target.specs.Queries.{query_pairs_of, value_of}
-use Rattle.mgmt_api.specs.PageQueries.{page_of}
+use Rattle.mgmt_api.specs.PageQueries.{query_page}
 use Rattle.mgmt_api.specs.declared.target_query.Selection.{Selection}
 
 abbrev pub selection_keys : List (List ℕ)
@@ -13,7 +13,7 @@ abbrev pub filter_given : List Pair → Option (List ℕ)
 filter_given pairs = value_of (codes "q") pairs
 
 abbrev pub selection_of : List Pair → Option Selection
-selection_of pairs = option_map (λ page. record { filter_text = filter_given pairs; page = page }) (page_of pairs)
+selection_of pairs = option_map (λ page. record { filter_text = filter_given pairs; page = page }) (query_page pairs)
 
 -- a query that holds no other key, and none twice
 abbrev pub selection_asked : List ℕ → Option Selection

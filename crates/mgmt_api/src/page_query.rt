@@ -3,7 +3,7 @@
 ghost use Rattle.std.specs.Prelude.{◌≡◌, map};
 ghost use Rattle.request_target.specs.Pairs.{seen};
 ghost use Rattle.mgmt_objects.specs.Readings.{ReadsAs};
-ghost use Rattle.mgmt_api.specs.PageQueries.{limit_of, offset_of, page_asked, page_of};
+ghost use Rattle.mgmt_api.specs.PageQueries.{limit_of, offset_of, page_asked, query_page};
 
 use request_target::{number_or, read_query, value_of};
 use rollout_model::limits::{NUMBER_LIMIT, PAGE_DEFAULT, PAGE_LIMIT};
@@ -23,7 +23,7 @@ fn limit_of(pairs: &[(String, String)]) -> Option<u32>
 }
 
 pub(crate) fn page_of(pairs: &[(String, String)]) -> Option<Page>
-    ensures { result ≡ page_of (map seen pairs.now) }
+    ensures { result ≡ query_page (map seen pairs.now) }
 {
     let offset = offset_of(pairs)?;
     let limit = limit_of(pairs)?;

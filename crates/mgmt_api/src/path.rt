@@ -3,7 +3,7 @@
 ghost use Rattle.std.specs.Prelude.{◌≡◌, option_and_then, option_map};
 ghost use Rattle.rollout_model.specs.Rules.{word_of};
 ghost use Rattle.http_wire.specs.Inbox.{message_of};
-ghost use Rattle.mgmt_api.specs.Reading.{TakesNoQuery, item_in, path_number, word_in};
+ghost use Rattle.mgmt_api.specs.Reading.{TakesNoQuery, item_in, path_number, path_word};
 
 use http_wire::Message;
 use request_target::{number_at, segment_at, takes_query};
@@ -47,7 +47,7 @@ pub(crate) fn read_group(message: &Message<'_>) -> Option<u32>
 
 /// The text of the segment at a place; `None` where there is none, or it is no UTF-8.
 fn text_in<'a>(message: &'a Message<'_>, place: usize) -> Option<&'a str>
-    ensures { option_and_then word_of (option_map (λ s. s.now) result) ≡ word_in (message_of message.now) place }
+    ensures { option_and_then word_of (option_map (λ s. s.now) result) ≡ path_word (message_of message.now) place }
 {
     let segment = segment_at(message.path(), place)?;
     let Ok(text) = str::from_utf8(segment) else {
@@ -58,7 +58,7 @@ fn text_in<'a>(message: &'a Message<'_>, place: usize) -> Option<&'a str>
 
 /// The target whose id stands in the fifth segment.
 pub(crate) fn read_target_id(message: &Message<'_>) -> Option<ControllerId>
-    ensures { result ≡ word_in (message_of message.now) 4 }
+    ensures { result ≡ path_word (message_of message.now) 4 }
 {
     let text = text_in(message, 4)?;
     ControllerId::read(text)
@@ -66,7 +66,7 @@ pub(crate) fn read_target_id(message: &Message<'_>) -> Option<ControllerId>
 
 /// The tag that stands in the seventh segment.
 pub(crate) fn read_tag(message: &Message<'_>) -> Option<Word>
-    ensures { result ≡ word_in (message_of message.now) 6 }
+    ensures { result ≡ path_word (message_of message.now) 6 }
 {
     let text = text_in(message, 6)?;
     Word::read(text)

@@ -1,12 +1,12 @@
 //! From a message to the request that it asks.
 
 ghost use Rattle.std.specs.Prelude.{◌≡◌, ◌≢◌, ◌⊎◌, IfOk, IfErr};
-ghost use Rattle.desk_files.specs.Imports.{targets_of};
+ghost use Rattle.desk_files.specs.Imports.{targets_in_file};
 ghost use Rattle.rollout_model.specs.declared.refusal.Refusal.TheVariants.{NoMemory, StoreFailed, Stopped};
 ghost use Rattle.rollout_machine.specs.Requests.{Asks, Rejected};
 ghost use Rattle.rollout_machine.specs.Views.{request_of};
 ghost use Rattle.http_wire.specs.Inbox.{message_of};
-ghost use Rattle.mgmt_api.specs.Reading.{ReadsRequest, asked_by, imported, manage_reading};
+ghost use Rattle.mgmt_api.specs.Reading.{ReadsRequest, asked_by, import_asked, manage_reading};
 
 use crate::call::{ManageCall, call_of};
 use crate::page_query::read_page;
@@ -175,7 +175,7 @@ fn read_untag_target(alloc: Global, message: &Message<'_>) -> Result<Request, Re
 
 /// What a file of targets asks: that all of them are put. A faulty file is refused by its line, as [`read_targets`] finds it.
 pub fn read_file(alloc: Global, file: &[u8]) -> Result<Request, Refusal>
-    ensures { ReadsRequest (imported (targets_of file.now)) result }
+    ensures { ReadsRequest (import_asked (targets_in_file file.now)) result }
 {
     match read_targets(alloc, file) {
         Ok(rows) => Ok(Request::Do(Command::PutTargets(rows))),

@@ -8,7 +8,7 @@ ghost use Rattle.rollout_machine.specs.Views.{listed, listed_targets, reply_of, 
 ghost use Rattle.http_wire.specs.Inbox.{message_of};
 ghost use Rattle.http_wire.specs.Replies.{answer_text};
 ghost use Rattle.mgmt_objects.specs.Pages.{single};
-ghost use Rattle.mgmt_api.specs.Replies.{Answers, Has, file_reply, is_import, parts_of, parts_to, put_status, reply_text, json_reply, octets_reply};
+ghost use Rattle.mgmt_api.specs.Replies.{GivesAnswer, Has, file_reply, is_import, parts_of, parts_to, put_status, reply_text, json_reply, octets_reply};
 ghost use Rattle.mgmt_api.specs.Replies.{page_reply, put_reply, shown_target_data};
 
 use desk_files::{actions_csv, rollout_report};
@@ -39,7 +39,7 @@ fn file_answer(content_type: ContentType, body: Vec<u8>) -> Answer
 }
 
 fn object_answer<T: Shown>(alloc: Global, status: StatusCode, shown: &T) -> Result<Answer, Refusal>
-    ensures { Answers (json_reply status (compact_text (T.shows shown.now))) result }
+    ensures { GivesAnswer (json_reply status (compact_text (T.shows shown.now))) result }
 {
     let body = object_text(alloc, shown)?;
     Ok(json_answer(status, body))
@@ -47,55 +47,55 @@ fn object_answer<T: Shown>(alloc: Global, status: StatusCode, shown: &T) -> Resu
 
 /// An array of what was added.
 fn single_answer<T: Shown>(alloc: Global, added: &T) -> Result<Answer, Refusal>
-    ensures { Answers (json_reply 201 (compact_text (single (T.shows added.now)))) result }
+    ensures { GivesAnswer (json_reply 201 (compact_text (single (T.shows added.now)))) result }
 {
     let body = single_text(alloc, added)?;
     Ok(json_answer(StatusCode::CREATED, body))
 }
 
 fn page_answer<T: Shown>(alloc: Global, page: &PageOf<T>) -> Result<Answer, Refusal>
-    ensures { Answers (page_reply T.shows (listed page.now)) result }
+    ensures { GivesAnswer (page_reply T.shows (listed page.now)) result }
 {
     let body = page_text(alloc, page.content.as_slice(), page.total)?;
     Ok(json_answer(StatusCode::OK, body))
 }
 
 fn targets_answer(alloc: Global, page: &PageOf<ShownTarget>) -> Result<Answer, Refusal>
-    ensures { Answers (page_reply shown_target_data (listed_targets page.now)) result }
+    ensures { GivesAnswer (page_reply shown_target_data (listed_targets page.now)) result }
 {
     page_answer(alloc, page)
 }
 
 fn octets_answer(alloc: Global, contents: &Contents) -> Result<Answer, Refusal>
-    ensures { Answers (octets_reply contents.now) result }
+    ensures { GivesAnswer (octets_reply contents.now) result }
 {
     let body = Vec::from_slice(alloc, contents.as_slice())?;
     Ok(file_answer(ContentType::Octets, body))
 }
 
 fn report_answer(alloc: Global, shown: &RolloutReport) -> Result<Answer, Refusal>
-    ensures { Answers (parts_of (ReportShown (report shown.now))) result }
+    ensures { GivesAnswer (parts_of (ReportShown (report shown.now))) result }
 {
     let text = rollout_report(alloc, shown)?;
     Ok(file_answer(ContentType::Text, text.into_bytes()))
 }
 
 fn table_answer(alloc: Global, actions: &[Action]) -> Result<Answer, Refusal>
-    ensures { Answers (parts_of (ActionsTableShown actions.now)) result }
+    ensures { GivesAnswer (parts_of (ActionsTableShown actions.now)) result }
 {
     let text = actions_csv(alloc, actions)?;
     Ok(file_answer(ContentType::Csv, text.into_bytes()))
 }
 
 fn refused_answer(alloc: Global, refusal: Refusal) -> Result<Answer, Refusal>
-    ensures { Answers (parts_of (Refused refusal)) result }
+    ensures { GivesAnswer (parts_of (Refused refusal)) result }
 {
     let answer = refusal_answer(alloc, refusal)?;
     Ok(answer)
 }
 
 fn done_answer(alloc: Global) -> Result<Answer, Refusal>
-    ensures { Answers (parts_of Done) result }
+    ensures { GivesAnswer (parts_of Done) result }
 {
     let body = done_text(alloc)?;
     Ok(json_answer(StatusCode::OK, body))
@@ -109,14 +109,14 @@ fn empty_answer(alloc: Global) -> Answer
 }
 
 fn put_answer(alloc: Global, status: StatusCode, accepted: u32) -> Result<Answer, Refusal>
-    ensures { Answers (put_reply status accepted) result }
+    ensures { GivesAnswer (put_reply status accepted) result }
 {
     let body = accepted_text(alloc, accepted)?;
     Ok(json_answer(status, body))
 }
 
 fn answer_of(alloc: Global, reply: &Reply) -> Result<Answer, Refusal>
-    ensures { Answers (parts_of (reply_of reply.now)) result }
+    ensures { GivesAnswer (parts_of (reply_of reply.now)) result }
 {
     match reply {
         Reply::Done => done_answer(alloc),
@@ -176,7 +176,7 @@ fn put_status(message: &Message<'_>) -> StatusCode
 }
 
 fn answer_to(alloc: Global, message: &Message<'_>, reply: &Reply) -> Result<Answer, Refusal>
-    ensures { Answers (parts_to (message_of message.now) (reply_of reply.now)) result }
+    ensures { GivesAnswer (parts_to (message_of message.now) (reply_of reply.now)) result }
 {
     match reply {
         Reply::TargetsPut(accepted) => put_answer(alloc, put_status(message), *accepted),

@@ -10,5 +10,5 @@ pub use Rattle.serde_json.specs.View.{items_of, items_view, members_view, view}
 pub use Rattle.serde_json.specs.declared.value.Value.{Array, Value}
 pub use Rattle.mgmt_objects.specs.Floats.{items_have_float-map}
 pub use Rattle.mgmt_objects.specs.Pages.{page_data, whole}
-pub use Rattle.mgmt_objects.specs.TargetObjects.{with_attributes}
+pub use Rattle.mgmt_objects.specs.TargetObjects.{with_attribute_members}
 pub use Rattle.mgmt_objects.specs.Traverse.{array_of, list_of, traverse}

@@ -88,11 +88,11 @@ abbrev pub entry_members : ℕ → HistoryEntry → Data
 entry_members number e = entry_object (kind_text e.said) (execution_text e.said) (finished_text e.said) number e.details
 
 -- an object, and the number that the device gave as one more member, if it gave one
-abbrev pub with_number : Option ℕ → Data → Data
-with_number None d = d
-with_number (Some n) (object members) = object (put (codes "number") (whole n) members)
-with_number (Some n) d = d
+abbrev pub with_number_member : Option ℕ → Data → Data
+with_number_member None d = d
+with_number_member (Some n) (object members) = object (put (codes "number") (whole n) members)
+with_number_member (Some n) d = d
 
 -- an entry, and the number that the device gave it
 abbrev pub entry_data : NumberedEntry → Data
-entry_data e = with_number e.reported.number (entry_members e.number e.reported.entry)
+entry_data e = with_number_member e.reported.number (entry_members e.number e.reported.entry)

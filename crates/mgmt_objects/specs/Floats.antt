@@ -10,8 +10,8 @@ use Rattle.rollout_model.specs.declared.target.Attribute.{Attribute}
 use Rattle.rollout_model.specs.declared.feedback.HistoryEntry.{HistoryEntry}
 use Rattle.rollout_model.specs.declared.rollout.NumberedEntry.{NumberedEntry}
 use Rattle.rollout_model.specs.declared.shown_target.ShownTarget.{ShownTarget}
-use Rattle.mgmt_objects.specs.ActionObjects.{entry_data, entry_members, with_number}
-use Rattle.mgmt_objects.specs.TargetObjects.{target_data, with_attributes, word_data}
+use Rattle.mgmt_objects.specs.ActionObjects.{entry_data, entry_members, with_number_member}
+use Rattle.mgmt_objects.specs.TargetObjects.{target_data, with_attribute_members, word_data}
 
 pub items_have_float-map : {A : Type 0} (show : A → Data) → ((x : A) → has_float (show x) ≡ false) → (xs : List A)
     → items_have_float (items_of (map show xs)) ≡ false
@@ -37,14 +37,14 @@ members_have_float-put k text (member l d ms) none =
     put_at (slice_cmp nat_cmp k l) k l text d ms parts (members_have_float-put k text ms parts.1)
 
 members_have_float-with : (ms : Members) (attributes : List Attribute) → members_have_float ms ≡ false
-    → members_have_float (with_attributes ms attributes) ≡ false
+    → members_have_float (with_attribute_members ms attributes) ≡ false
 members_have_float-with ms [] none = none
 members_have_float-with ms (a ∷ more) none = members_have_float-with (put a.key (string a.value) ms) more (members_have_float-put a.key a.value ms none)
 
 pub target_has_no_float : (t : ShownTarget) → has_float (target_data t) ≡ false
 target_has_no_float t = rw (members_have_float-with no_members t.attributes refl, items_have_float-map word_data (λ word. refl) t.tags) refl
 
-numbered_has_no_float : (number : Option ℕ) (id : ℕ) (entry : HistoryEntry) → has_float (with_number number (entry_members id entry)) ≡ false
+numbered_has_no_float : (number : Option ℕ) (id : ℕ) (entry : HistoryEntry) → has_float (with_number_member number (entry_members id entry)) ≡ false
 numbered_has_no_float None id entry = rw (items_have_float-map word_data (λ line. refl) entry.details) refl
 numbered_has_no_float (Some n) id entry = rw (items_have_float-map word_data (λ line. refl) entry.details) refl
 

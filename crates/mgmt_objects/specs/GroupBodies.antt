@@ -31,16 +31,16 @@ abbrev pub new_definition : ℕ → ℕ → ℕ → GroupDefinition
 new_definition percentage success error = record { percentage = percentage; success = success; error = error }
 
 -- a group's definition: its own thresholds, or the rollout's where it has none
-abbrev pub definition_by : ℕ → ℕ → GroupItem → GroupDefinition
-definition_by success error it = new_definition it.percentage (unwrap_or it.success success) (unwrap_or it.error error)
+abbrev pub item_definition : ℕ → ℕ → GroupItem → GroupDefinition
+item_definition success error it = new_definition it.percentage (unwrap_or it.success success) (unwrap_or it.error error)
 
 -- the definitions that an array has, one an item
-abbrev pub definitions_in : ℕ → ℕ → Data → Option (List GroupDefinition)
-definitions_in success error d = option_map (λ items. map (definition_by success error) items) (array_of group_item_of d)
+abbrev pub item_definitions : ℕ → ℕ → Data → Option (List GroupDefinition)
+item_definitions success error d = option_map (λ items. map (item_definition success error) items) (array_of group_item_of d)
 
 -- 1 to 50 groups, each with its definition, the last of 100 percent
 abbrev pub defined_groups : ℕ → ℕ → Data → Option Grouping
-defined_groups success error d = option_map defined (option_and_then definitions_of (definitions_in success error d))
+defined_groups success error d = option_map defined (option_and_then definitions_of (item_definitions success error d))
 
 -- a whole number from 1 to 50
 abbrev pub even_count : Data → Option ℕ

@@ -9,12 +9,12 @@ use Rattle.rollout_model.specs.declared.shown_target.ShownTarget.{ShownTarget}
 use Rattle.mgmt_objects.specs.Pages.{whole}
 
 -- the members with those of attributes, which stand by their keys in byte order, each key once
-abbrev pub with_attributes : Members → List Attribute → Members
-with_attributes members [] = members
-with_attributes members (a ∷ more) = with_attributes (put a.key (string a.value) members) more
+abbrev pub with_attribute_members : Members → List Attribute → Members
+with_attribute_members members [] = members
+with_attribute_members members (a ∷ more) = with_attribute_members (put a.key (string a.value) members) more
 
 abbrev pub attributes_data : List Attribute → Data
-attributes_data attributes = object (with_attributes no_members attributes)
+attributes_data attributes = object (with_attribute_members no_members attributes)
 
 abbrev pub word_data : List ℕ → Data
 word_data word = string word

@@ -19,17 +19,17 @@ percent_written [] = None
 percent_written (c ∷ cs) = if c == 48 then None else percent_after 0 (c ∷ cs)
 
 -- a percentage from 1 to 100
-abbrev pub percentage_in : List ℕ → Option ℕ
-percentage_in text = option_and_then percentage_of (percent_written text)
+abbrev pub percentage_of_text : List ℕ → Option ℕ
+percentage_of_text text = option_and_then percentage_of (percent_written text)
 
-abbrev pub is_given : List ℕ → Option (List ℕ) → Bool
-is_given word None = false
-is_given word (Some text) = bytes_eq text word
+abbrev pub is_given_as : List ℕ → Option (List ℕ) → Bool
+is_given_as word None = false
+is_given_as word (Some text) = bytes_eq text word
 
 -- a member is this word
 abbrev pub says : List ℕ → List ℕ → Data → Bool
-says key word d = is_given word (string_member key d)
+says key word d = is_given_as word (string_member key d)
 
 -- an object with `condition`, which is `THRESHOLD`, and `expression`, a percentage
 abbrev pub threshold_of : Data → Option ℕ
-threshold_of d = if says (codes "condition") (codes "THRESHOLD") d then option_and_then percentage_in (string_member (codes "expression") d) else None
+threshold_of d = if says (codes "condition") (codes "THRESHOLD") d then option_and_then percentage_of_text (string_member (codes "expression") d) else None

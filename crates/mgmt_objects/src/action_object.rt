@@ -3,7 +3,7 @@
 ghost use Rattle.std.specs.Prelude.{◌≡◌, Some, IfOk, refl};
 ghost use Rattle.serde_json.specs.View.{view};
 ghost use Rattle.mgmt_objects.specs.ActionObjects.{action_data, cancel_execution, cancel_finished, deployment_execution, deployment_finished};
-ghost use Rattle.mgmt_objects.specs.ActionObjects.{entry_data, entry_members, execution_text, finished_text, kind_text, note_text, with_number};
+ghost use Rattle.mgmt_objects.specs.ActionObjects.{entry_data, entry_members, execution_text, finished_text, kind_text, note_text, with_number_member};
 ghost use Rattle.mgmt_objects.specs.Floats.{entry_has_no_float};
 ghost use Rattle.mgmt_objects.specs.TargetObjects.{word_data};
 
@@ -139,7 +139,7 @@ fn entry_members(alloc: Global, number: u32, entry: &HistoryEntry) -> Result<Val
 
 /// An object, and the number that the device gave as one more member.
 fn with_number(alloc: Global, object: Value, number: FeedbackNumber) -> Result<Value, AllocError>
-    ensures { IfOk result (λ v. view v ≡ with_number (Some number) (view object)) }
+    ensures { IfOk result (λ v. view v ≡ with_number_member (Some number) (view object)) }
 {
     match object {
         Value::Object(mut members) => {

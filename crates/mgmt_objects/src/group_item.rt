@@ -3,7 +3,7 @@
 ghost use Rattle.std.specs.Prelude.{◌≡◌};
 ghost use Rattle.serde_json.specs.Find.{get};
 ghost use Rattle.serde_json.specs.View.{view};
-ghost use Rattle.mgmt_objects.specs.GroupBodies.{definition_by, group_item_of, own_threshold, percentage_member};
+ghost use Rattle.mgmt_objects.specs.GroupBodies.{item_definition, group_item_of, own_threshold, percentage_member};
 ghost use Rattle.mgmt_objects.specs.Readings.{ReadsAs};
 
 use crate::list::Item;
@@ -24,7 +24,7 @@ pub struct GroupItem {
 impl GroupItem {
     /// The group's definition in a rollout of these thresholds.
     pub fn definition(&self, success: Percentage, error: Percentage) -> GroupDefinition
-        ensures { result ≡ definition_by success error self.now }
+        ensures { result ≡ item_definition success error self.now }
     {
         GroupDefinition {
             percentage: self.percentage,

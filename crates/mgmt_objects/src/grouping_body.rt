@@ -2,7 +2,7 @@
 
 ghost use Rattle.std.specs.Prelude.{◌≡◌, IfOk, map};
 ghost use Rattle.serde_json.specs.View.{view};
-ghost use Rattle.mgmt_objects.specs.GroupBodies.{defined_groups, definition_by, definitions_in, even_count, even_groups, grouping_member};
+ghost use Rattle.mgmt_objects.specs.GroupBodies.{defined_groups, item_definition, item_definitions, even_count, even_groups, grouping_member};
 ghost use Rattle.mgmt_objects.specs.Readings.{ReadsAs, ReadsBy};
 
 use crate::group_item::GroupItem;
@@ -19,7 +19,7 @@ fn definitions_by(
     success: Percentage,
     error: Percentage,
 ) -> Result<Vec<GroupDefinition>, AllocError>
-    ensures { IfOk result (λ v. v.items ≡ map (definition_by success error) items.now) }
+    ensures { IfOk result (λ v. v.items ≡ map (item_definition success error) items.now) }
 {
     items
         .iter()
@@ -33,7 +33,7 @@ fn read_definitions(
     success: Percentage,
     error: Percentage,
 ) -> Result<Vec<GroupDefinition>, Refusal>
-    ensures { ReadsBy (λ v. v.items) (definitions_in success error (view groups.now)) result }
+    ensures { ReadsBy (λ v. v.items) (item_definitions success error (view groups.now)) result }
 {
     let items = read_array::<GroupItem>(alloc, groups)?;
     let definitions = definitions_by(alloc, &items, success, error)?;

@@ -26,7 +26,7 @@ ghost use Rattle.mgmt_objects.specs.SetBodies.{new_set_label, set_body};
 ghost use Rattle.mgmt_objects.specs.SetObjects.{set_data};
 ghost use Rattle.artifact_pieces.specs.Digests.{digest_of};
 ghost use Rattle.rollout_model.specs.declared.target_word.TargetWord.TheVariants.{InSync};
-ghost use Rattle.mgmt_objects.specs.Thresholds.{percentage_in};
+ghost use Rattle.mgmt_objects.specs.Thresholds.{percentage_of_text};
 ghost use Rattle.mgmt_objects.specs.TargetBodies.{new_row, targets_body};
 ghost use Rattle.mgmt_objects.specs.TargetObjects.{accepted_data, target_data};
 
@@ -91,13 +91,13 @@ pub fn worked_accepted_text()
 
 /// A percentage has digits alone, and no leading zero.
 pub fn worked_percentages()
-    ensures least { percentage_in (codes "1") ≡ Some 1 }
-    ensures greatest { percentage_in (codes "100") ≡ Some 100 }
-    ensures zero { percentage_in (codes "0") ≡ None }
-    ensures more { percentage_in (codes "101") ≡ None }
-    ensures leading_zero { percentage_in (codes "050") ≡ None }
-    ensures sign { percentage_in (codes "+5") ≡ None }
-    ensures none { percentage_in [] ≡ None }
+    ensures least { percentage_of_text (codes "1") ≡ Some 1 }
+    ensures greatest { percentage_of_text (codes "100") ≡ Some 100 }
+    ensures zero { percentage_of_text (codes "0") ≡ None }
+    ensures more { percentage_of_text (codes "101") ≡ None }
+    ensures leading_zero { percentage_of_text (codes "050") ≡ None }
+    ensures sign { percentage_of_text (codes "+5") ≡ None }
+    ensures none { percentage_of_text [] ≡ None }
 {}
 
 /// A worked body plans the rollout that it spells.

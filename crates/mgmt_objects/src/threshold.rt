@@ -3,7 +3,7 @@
 ghost use Rattle.std.specs.Prelude.{◌≡◌, ◌≤◌, option_map};
 ghost use Rattle.serde_json.specs.View.{view};
 ghost use Rattle.mgmt_objects.specs.Bodies.{string_member};
-ghost use Rattle.mgmt_objects.specs.Thresholds.{percent_after, percent_written, percentage_in, says, threshold_of};
+ghost use Rattle.mgmt_objects.specs.Thresholds.{percent_after, percent_written, percentage_of_text, says, threshold_of};
 
 use rollout_model::Percentage;
 use serde_json::Value;
@@ -40,7 +40,7 @@ fn percent_written(digits: &[u8]) -> Option<u8>
 }
 
 fn percentage_in(text: &str) -> Option<Percentage>
-    ensures { result ≡ percentage_in text.now }
+    ensures { result ≡ percentage_of_text text.now }
 {
     let percent = percent_written(text.as_bytes())?;
     Percentage::new(percent)

@@ -33,5 +33,5 @@ pub use Rattle.rollout_machine.specs.declared.records.RolloutRecord.{RolloutReco
 pub use Rattle.offer_laws.specs.GroupOffers.{GroupOffersStay, GroupStarts, IsOnOther, OfferOfOthers, OffersAfterGroup, OffersAfterNoGroup, OffersAfterNone}
 pub use Rattle.offer_laws.specs.GroupOffers.{OffersAfterStart, OffersById, OffersOfActor, OffersOfNoStart, OffersOfStart, OffersStep, StartedByAny}
 pub use Rattle.offer_laws.specs.GroupOffers.{StartedByAnyThen, acted, actor, group_offers, lesser, member_of, offers_before_start, offers_from, put_offer}
-pub use Rattle.offer_laws.specs.GroupOffers.{put_offers, with_actor, with_offer}
+pub use Rattle.offer_laws.specs.GroupOffers.{put_offers, with_actor, with_offer_at}
 pub use Rattle.std.proofs.Math.Bool.{and-false, or-false}

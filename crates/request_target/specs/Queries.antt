@@ -2,15 +2,15 @@
 use Rattle.std.specs.Prelude.{ℕ, List, [], ◌∷◌, Bool, true, not, nat_le, ◌&&◌, bytes_eq, Option, Some, None, option_and_then, if◌then◌else◌}
 use Rattle.std.specs.List.{list_any}
 use Rattle.request_target.specs.Pairs.{Pair, query_pairs, has_replacement}
-use Rattle.request_target.specs.Numbers.{number_of}
+use Rattle.request_target.specs.Numbers.{decimal_number}
 
 -- the key is one that the call names
-abbrev pub is_named : List (List ℕ) → List ℕ → Bool
-is_named keys key = list_any (λ k. bytes_eq key k) keys
+abbrev pub is_among_keys : List (List ℕ) → List ℕ → Bool
+is_among_keys keys key = list_any (λ k. bytes_eq key k) keys
 
 -- a pair without U+FFFD, whose key the call names
 abbrev pub is_clean : List (List ℕ) → Pair → Bool
-is_clean keys p = not (has_replacement p.0) && not (has_replacement p.1) && is_named keys p.0
+is_clean keys p = not (has_replacement p.0) && not (has_replacement p.1) && is_among_keys keys p.0
 
 -- so are all, and no key is given twice
 abbrev pub are_clean : List (List ℕ) → List Pair → Bool
@@ -29,4 +29,4 @@ value_of key (p ∷ pairs) = if bytes_eq p.0 key then Some p.1 else value_of key
 -- a number in the range, or its default
 abbrev pub number_or : ℕ → ℕ → ℕ → Option (List ℕ) → Option ℕ
 number_or low high default None = Some default
-number_or low high default (Some text) = option_and_then (λ n. if nat_le low n && nat_le n high then Some n else None) (number_of text)
+number_or low high default (Some text) = option_and_then (λ n. if nat_le low n && nat_le n high then Some n else None) (decimal_number text)

@@ -21,11 +21,11 @@ tokens (part ∷ []) = part_tokens part
 tokens (part ∷ next ∷ rest) = part_tokens part ++ 47 ∷ tokens (next ∷ rest)
 
 -- bytes without a slash
-abbrev pub is_word : List ℕ → Bool
-is_word part = list_all (λ b. nat_lt b 256 && not (b == 47)) part
+abbrev pub is_literal_part : List ℕ → Bool
+is_literal_part part = list_all (λ b. nat_lt b 256 && not (b == 47)) part
 
 abbrev pub is_part : List ℕ → Bool
-is_part part = is_parameter part || is_word part
+is_part part = is_parameter part || is_literal_part part
 
 module _ {T : Type 0} where
   abbrev pub added : Result Scan InsertError → T → RowsOf (RouteOf T) → RowsOf (RouteOf T)

@@ -1,7 +1,7 @@
 //! Numbers of paths and queries.
 
 ghost use Rattle.std.specs.Prelude.{◌≡◌, ◌≤◌};
-ghost use Rattle.request_target.specs.Numbers.{number_after, number_of};
+ghost use Rattle.request_target.specs.Numbers.{number_after, decimal_number};
 
 const LAST: u32 = 2147483647;
 
@@ -27,7 +27,7 @@ fn number_after(n: u32, digits: &[u8]) -> Option<u32>
 
 /// A number written in digits without a leading zero.
 pub(crate) fn read_digits(digits: &[u8]) -> Option<u32>
-    ensures { result ≡ number_of digits.now }
+    ensures { result ≡ decimal_number digits.now }
 {
     match digits {
         [] => None,
@@ -38,7 +38,7 @@ pub(crate) fn read_digits(digits: &[u8]) -> Option<u32>
 
 /// A number written in digits without a leading zero, at most 2,147,483,647.
 pub fn read_number(text: &str) -> Option<u32>
-    ensures { result ≡ number_of text.now }
+    ensures { result ≡ decimal_number text.now }
 {
     read_digits(text.as_bytes())
 }

@@ -2,7 +2,7 @@
 
 ghost use Rattle.std.specs.Prelude.{◌≡◌, ◌<◌, ◌≤◌, ◌+◌, [], ◌∷◌, length, take, drop, slice_get, option_and_then, option_map};
 ghost use Rattle.std.specs.Option.{MatchOption};
-ghost use Rattle.request_target.specs.Numbers.{number_of};
+ghost use Rattle.request_target.specs.Numbers.{decimal_number};
 ghost use Rattle.request_target.specs.Routes.{segments};
 
 use crate::numbers::read_digits;
@@ -52,7 +52,7 @@ pub fn segment_at(path: &[u8], place: usize) -> Option<&[u8]>
 
 /// The number that the segment at a place writes, in digits without a leading zero.
 pub fn number_at(path: &[u8], place: usize) -> Option<u32>
-    ensures { result ≡ option_and_then number_of (slice_get (segments path.now) place) }
+    ensures { result ≡ option_and_then decimal_number (slice_get (segments path.now) place) }
 {
     let digits = segment_at(path, place)?;
     read_digits(digits)

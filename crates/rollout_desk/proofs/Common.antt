@@ -58,7 +58,7 @@ pub use Rattle.rollout_desk.specs.Downloads.{BeginsOffered, DownloadsGoOn, Hands
 pub use Rattle.rollout_desk.specs.Looks.{EndsLook, FindsDownload, Looks, bytes_of}
 pub use Rattle.rollout_desk.specs.Openings.{AllHold, GivesBack, GoesOnOver, ReopensDesk}
 pub use Rattle.rollout_desk.specs.Promises.{Describes, DownloadsItsOffer, IsPromised, IsTarget, KeepsToOffers, NamesItsOffer, ShowsWhole, asker, offer_named}
-pub use Rattle.rollout_desk.specs.Runs.{BreaksOff, EndsRun, Exchange, GoesOn, IsRun, RunsThrough, accepted_in}
+pub use Rattle.rollout_desk.specs.Runs.{BreaksOff, EndsRun, RequestExchange, GoesOn, IsRun, RunsThrough, accepted_of}
 pub use Rattle.rollout_desk.specs.Sizes.{AnswersIn, KeepsOffer, KeepsOffers, KeepsSizes}
 pub use Rattle.rollout_desk.specs.Verifying.{FindsDamage, HasCause, IsNeverDamaged}
 pub use Rattle.rollout_machine.specs.Objects.{artifacts_shown}

@@ -1,8 +1,9 @@
 -- What comes again in a run leaves no trace.
 use Rattle.rollout_desk.proofs.Common.{◌≡◌, inl, inr, Bool, List, [], ◌∷◌, ◌++◌, Option, Some, None, sym, subst, ap, ◌∙◌, Database, State, Trees, HoldIn}
 use Rattle.rollout_desk.proofs.Common.{IsAtRest, Answer, answer, MayAnswer, CommandList, ◌▸◌, followed_by, Command, step_records, Records, Reply, Asked, Asks}
-use Rattle.rollout_desk.proofs.Common.{Request, one, StandsFor, IsInDoubt, IsValid, records_step, HoldsReadable, HoldsList, desk_state_at, EndsRun, Exchange}
-use Rattle.rollout_desk.proofs.Common.{IsRun, accepted_in}
+use Rattle.rollout_desk.proofs.Common.{Request, one, StandsFor, IsInDoubt, IsValid, records_step, HoldsReadable, HoldsList, desk_state_at, EndsRun}
+use Rattle.rollout_desk.proofs.Common.{RequestExchange}
+use Rattle.rollout_desk.proofs.Common.{IsRun, accepted_of}
 use Rattle.rollout_machine.specs.Repeats.{without_repeats, IsTraceless}
 use Rattle.rollout_machine.proofs.Once.{repeats_leave_no_trace}
 use Rattle.rollout_desk.specs.Once.{AnswersOnce, EndsOnce}
@@ -29,24 +30,25 @@ valid_before h [] valid = valid
 valid_before h (c ∷ cs) valid = (valid_before (h ▸ c) cs valid).0
 
 -- the list after the first exchange of a run
-after_first : (h : CommandList) (x : Exchange) (xs : List Exchange) → IsValid (followed_by h (accepted_in (x ∷ xs)))
-    → IsValid (followed_by (followed_by h (one x.accepted)) (accepted_in xs))
-after_first h x xs valid = subst IsValid (followed_append h (one x.accepted) (accepted_in xs)) valid
+after_first : (h : CommandList) (x : RequestExchange) (xs : List RequestExchange) → IsValid (followed_by h (accepted_of (x ∷ xs)))
+    → IsValid (followed_by (followed_by h (one x.accepted)) (accepted_of xs))
+after_first h x xs valid = subst IsValid (followed_append h (one x.accepted) (accepted_of xs)) valid
 
-all_once : (h : CommandList) (run : List Exchange) → IsRun h run → IsValid (followed_by h (accepted_in run)) → AnswersOnce h run
+all_once : (h : CommandList) (run : List RequestExchange) → IsRun h run → IsValid (followed_by h (accepted_of run)) → AnswersOnce h run
 all_once h [] is valid = tt
 all_once h (x ∷ xs) is valid = (
-  may_answer h (Asks x.request) x.reply x.accepted (valid_before h (accepted_in (x ∷ xs)) valid) is.0,
+  may_answer h (Asks x.request) x.reply x.accepted (valid_before h (accepted_of (x ∷ xs)) valid) is.0,
   all_once (followed_by h (one x.accepted)) xs is.1
       (after_first h x xs valid),
 )
 
 -- up to an exchange whose command may not be kept
-last_once : (h : CommandList) (before : List Exchange) (last : Exchange) → IsRun h (before ++ last ∷ []) → IsValid (followed_by h (accepted_in before))
+last_once : (h : CommandList) (before : List RequestExchange) (last : RequestExchange) → IsRun h (before ++ last ∷ [])
+    → IsValid (followed_by h (accepted_of before))
     → AnswersOnce h (before ++ last ∷ [])
 last_once h [] last is valid = (may_answer h (Asks last.request) last.reply last.accepted valid is.0, tt)
 last_once h (x ∷ xs) last is valid = (
-  may_answer h (Asks x.request) x.reply x.accepted (valid_before h (accepted_in (x ∷ xs)) valid) is.0,
+  may_answer h (Asks x.request) x.reply x.accepted (valid_before h (accepted_of (x ∷ xs)) valid) is.0,
   last_once (followed_by h (one x.accepted)) xs last
       is.1 (after_first h x xs valid),
 )

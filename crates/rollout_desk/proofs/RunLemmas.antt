@@ -1,8 +1,8 @@
 -- Runs grow at their end by one request.
 use Rattle.rollout_desk.proofs.Common.{Contains, inl, inr, ◌≡◌, ◌≢◌, ◌≤◌, ◌<◌, ◌+◌, ℕ, true, false, zero, suc, length, take, drop, get_or, List, [], ◌∷◌, ◌++◌}
 use Rattle.rollout_desk.proofs.Common.{map, refl, sym, ap, ◌∙◌, subst, append-nil, arith, false≢true, StoreFailed, MayAnswer, Command, CommandList, ◌▸◌}
-use Rattle.rollout_desk.proofs.Common.{followed_by, Reply, Refused, Request, Asks, one, DeskState, StandsFor, Applies, request_of, reply_of, Exchange}
-use Rattle.rollout_desk.proofs.Common.{accepted_in, IsRun, GoesOn, RunsThrough, BreaksOff, is_failed_store, failed_true}
+use Rattle.rollout_desk.proofs.Common.{followed_by, Reply, Refused, Request, Asks, one, DeskState, StandsFor, Applies, request_of, reply_of, RequestExchange}
+use Rattle.rollout_desk.proofs.Common.{accepted_of, IsRun, GoesOn, RunsThrough, BreaksOff, is_failed_store, failed_true}
 use Rattle.std.proofs.lemmas.List.{map-append, take_all, take_more, take-append-drop}
 use Rattle.std.proofs.lemmas.List.Concat.{flat_map-append}
 use Rattle.std.proofs.lemmas.List.Elements.{All-append, Contains-push_cases}
@@ -13,29 +13,30 @@ pub followed_append : (h : CommandList) (cs ds : List Command) → followed_by h
 followed_append h [] ds = refl
 followed_append h (c ∷ cs) ds = followed_append (h ▸ c) cs ds
 
-accepted_more : (xs : List Exchange) (x : Exchange) → accepted_in (xs ++ x ∷ []) ≡ accepted_in xs ++ one x.accepted
-accepted_more xs x = flat_map-append (λ (y : Exchange). one y.accepted) xs (x ∷ [])
-    ∙ ap (λ (cs : List Command). accepted_in xs ++ cs) (append-nil (one x.accepted))
+accepted_more : (xs : List RequestExchange) (x : RequestExchange) → accepted_of (xs ++ x ∷ []) ≡ accepted_of xs ++ one x.accepted
+accepted_more xs x = flat_map-append (λ (y : RequestExchange). one y.accepted) xs (x ∷ [])
+    ∙ ap (λ (cs : List Command). accepted_of xs ++ cs) (append-nil (one x.accepted))
 
 -- the list that one more exchange leads to
-led : (h : CommandList) (xs : List Exchange) (x : Exchange) → followed_by (followed_by h (accepted_in xs)) (one x.accepted)
-    ≡ followed_by h (accepted_in (xs ++ x ∷ []))
-led h xs x = sym (followed_append h (accepted_in xs) (one x.accepted)) ∙ ap (followed_by h) (sym (accepted_more xs x))
+led : (h : CommandList) (xs : List RequestExchange) (x : RequestExchange) → followed_by (followed_by h (accepted_of xs)) (one x.accepted)
+    ≡ followed_by h (accepted_of (xs ++ x ∷ []))
+led h xs x = sym (followed_append h (accepted_of xs) (one x.accepted)) ∙ ap (followed_by h) (sym (accepted_more xs x))
 
-run_more : (h : CommandList) (xs : List Exchange) (x : Exchange) → IsRun h xs → MayAnswer (followed_by h (accepted_in xs)) (Asks x.request) x.reply x.accepted
+run_more : (h : CommandList) (xs : List RequestExchange) (x : RequestExchange) → IsRun h xs
+    → MayAnswer (followed_by h (accepted_of xs)) (Asks x.request) x.reply x.accepted
     → IsRun h (xs ++ x ∷ [])
 run_more h [] x run answers = (answers, tt)
 run_more h (y ∷ xs) x run answers =
     let k : CommandList = followed_by h (one y.accepted) in
-    let later : MayAnswer (followed_by k (accepted_in xs)) (Asks x.request) x.reply x.accepted =
-    subst (λ (l : CommandList). MayAnswer l (Asks x.request) x.reply x.accepted) (followed_append h (one y.accepted) (accepted_in xs)) answers in
+    let later : MayAnswer (followed_by k (accepted_of xs)) (Asks x.request) x.reply x.accepted =
+    subst (λ (l : CommandList). MayAnswer l (Asks x.request) x.reply x.accepted) (followed_append h (one y.accepted) (accepted_of xs)) answers in
     (run.0, run_more k xs x run.1 later)
 
 -- these requests got these replies, from any list, and no store failed
 abbrev pub Ran : {File : Type 0} → DeskState File → DeskState File → List Request → List Reply → Type 0
 Ran old new requests replies = (h : CommandList) → new.is_clean → StandsFor old h → RunsThrough h new requests replies
 
-one_goes : (x : Exchange) → x.reply ≢ Refused StoreFailed → GoesOn (x ∷ [])
+one_goes : (x : RequestExchange) → x.reply ≢ Refused StoreFailed → GoesOn (x ∷ [])
 one_goes x goes zero d few = goes
 one_goes x goes (suc k) d few = absurd (omega (arith, few))
 
@@ -55,13 +56,13 @@ module _ {File : Type 0} (old middle new : DeskState File) (requests : List Requ
       → Ran old new (requests ++ request ∷ []) (replies ++ reply ∷ [])
   ran_more so_far worn applies goes h clean stands =
       let r = so_far h (worn clean) stands in
-      let a = applies (followed_by h (accepted_in r.run)) clean r.stands in
-      let x : Exchange = record { request = request; reply = reply; accepted = a.accepted } in record {
+      let a = applies (followed_by h (accepted_of r.run)) clean r.stands in
+      let x : RequestExchange = record { request = request; reply = reply; accepted = a.accepted } in record {
         run = r.run ++ x ∷ [];
-        requests_are = map-append (λ (y : Exchange). y.request) r.run (x ∷ []) ∙ ap (λ (l : List Request). l ++ request ∷ []) r.requests_are;
-        replies_are = map-append (λ (y : Exchange). y.reply) r.run (x ∷ []) ∙ ap (λ (l : List Reply). l ++ reply ∷ []) r.replies_are;
+        requests_are = map-append (λ (y : RequestExchange). y.request) r.run (x ∷ []) ∙ ap (λ (l : List Request). l ++ request ∷ []) r.requests_are;
+        replies_are = map-append (λ (y : RequestExchange). y.reply) r.run (x ∷ []) ∙ ap (λ (l : List Reply). l ++ reply ∷ []) r.replies_are;
         is_run = run_more h r.run x r.is_run a.answers;
-        goes_on = All-append (λ (y : Exchange). y.reply ≢ Refused StoreFailed) r.run (x ∷ []) r.goes_on (one_goes x goes);
+        goes_on = All-append (λ (y : RequestExchange). y.reply ≢ Refused StoreFailed) r.run (x ∷ []) r.goes_on (one_goes x goes);
         stands = subst (λ (l : CommandList). StandsFor new l) (led h r.run x) (a.becomes.stands goes);
       }
 
@@ -71,14 +72,14 @@ module _ {File : Type 0} (old middle new : DeskState File) (requests : List Requ
       → BreaksOff h new (requests ++ request ∷ [] ++ unanswered) (replies ++ reply ∷ [])
   broke_off so_far worn applies failed unanswered h clean stands =
       let r = so_far h (worn clean) stands in
-      let a = applies (followed_by h (accepted_in r.run)) clean r.stands in
-      let x : Exchange = record { request = request; reply = reply; accepted = a.accepted } in record {
+      let a = applies (followed_by h (accepted_of r.run)) clean r.stands in
+      let x : RequestExchange = record { request = request; reply = reply; accepted = a.accepted } in record {
         before = r.run;
         last = x;
         unanswered = unanswered;
-        requests_are = ap (λ (l : List Request). l ++ unanswered) (map-append (λ (y : Exchange). y.request) r.run (x ∷ [])
+        requests_are = ap (λ (l : List Request). l ++ unanswered) (map-append (λ (y : RequestExchange). y.request) r.run (x ∷ [])
             ∙ ap (λ (l : List Request). l ++ request ∷ []) r.requests_are);
-        replies_are = map-append (λ (y : Exchange). y.reply) r.run (x ∷ []) ∙ ap (λ (l : List Reply). l ++ reply ∷ []) r.replies_are;
+        replies_are = map-append (λ (y : RequestExchange). y.reply) r.run (x ∷ []) ∙ ap (λ (l : List Reply). l ++ reply ∷ []) r.replies_are;
         is_run = run_more h r.run x r.is_run a.answers;
         goes_on = r.goes_on;
         valid = r.stands.valid;

@@ -6,10 +6,10 @@ use Rattle.rollout_machine.specs.Repeats.{without_repeats}
 use Rattle.rollout_machine.specs.Replies.{Reply}
 use Rattle.rollout_machine.specs.Requests.{Request, Asks, one}
 use Rattle.rollout_machine.specs.Standing.{DeskState, StandsFor, IsInDoubt}
-use Rattle.rollout_desk.specs.Runs.{Exchange, RunsThrough, BreaksOff, accepted_in}
+use Rattle.rollout_desk.specs.Runs.{RequestExchange, RunsThrough, BreaksOff, accepted_of}
 
 -- each request is answered as at the list so far without its repeats
-abbrev pub AnswersOnce : CommandList → List Exchange → Type 0
+abbrev pub AnswersOnce : CommandList → List RequestExchange → Type 0
 AnswersOnce h [] = Unit {0}
 AnswersOnce h (x ∷ xs) = MayAnswer (without_repeats h) (Asks x.request) x.reply x.accepted × AnswersOnce (followed_by h (one x.accepted)) xs
 
@@ -17,13 +17,13 @@ AnswersOnce h (x ∷ xs) = MayAnswer (without_repeats h) (Asks x.request) x.repl
 pub record RunsOnce {File : Type 0} (h : CommandList) (s : DeskState File) (requests : List Request) (replies : List Reply) : Type 0 where
   pub through : RunsThrough h s requests replies
   pub answers : AnswersOnce h through.run
-  pub stands : StandsFor s (without_repeats (followed_by h (accepted_in through.run)))
+  pub stands : StandsFor s (without_repeats (followed_by h (accepted_of through.run)))
 
 -- the store failed at a request: a crash leaves the list without its repeats, or that with what was asked
 pub record BreaksOffOnce {File : Type 0} (h : CommandList) (s : DeskState File) (requests : List Request) (replies : List Reply) : Type 0 where
   pub broken : BreaksOff h s requests replies
   pub answers : AnswersOnce h (broken.before ++ broken.last ∷ [])
-  pub in_doubt : IsInDoubt s (without_repeats (followed_by h (accepted_in broken.before))) broken.last.accepted
+  pub in_doubt : IsInDoubt s (without_repeats (followed_by h (accepted_of broken.before))) broken.last.accepted
 
 -- how a run over requests ends, for a desk that stood for h, where nothing counts twice
 abbrev pub EndsOnce : {File : Type 0} → CommandList → DeskState File → List Request → List Reply → Type 0

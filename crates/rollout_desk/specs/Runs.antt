@@ -11,50 +11,50 @@ use Rattle.rollout_machine.specs.Standing.{DeskState, StandsFor, IsInDoubt}
 use Rattle.rollout_machine.specs.Validity.{IsValid}
 
 -- a request, its reply, and the command that was accepted for it
-pub record Exchange : Type 0 where
+pub record RequestExchange : Type 0 where
   pub request : Request
   pub reply : Reply
   pub accepted : Option Command
 
-abbrev pub requests_of : List Exchange → List Request
+abbrev pub requests_of : List RequestExchange → List Request
 requests_of run = map (λ x. x.request) run
 
-abbrev pub replies_of : List Exchange → List Reply
+abbrev pub replies_of : List RequestExchange → List Reply
 replies_of run = map (λ x. x.reply) run
 
-abbrev pub accepted_in : List Exchange → List Command
-accepted_in run = flat_map (λ x. one x.accepted) run
+abbrev pub accepted_of : List RequestExchange → List Command
+accepted_of run = flat_map (λ x. one x.accepted) run
 
 -- each request is answered at the list so far
-abbrev pub IsRun : CommandList → List Exchange → Type 0
+abbrev pub IsRun : CommandList → List RequestExchange → Type 0
 IsRun h [] = Unit {0}
 IsRun h (x ∷ xs) = MayAnswer h (Asks x.request) x.reply x.accepted × IsRun (followed_by h (one x.accepted)) xs
 
 -- no store failed
-abbrev pub GoesOn : List Exchange → Type 0
-GoesOn run = All (λ (x : Exchange). x.reply ≢ Refused StoreFailed) run
+abbrev pub GoesOn : List RequestExchange → Type 0
+GoesOn run = All (λ (x : RequestExchange). x.reply ≢ Refused StoreFailed) run
 
 -- every request was answered, and the desk stands for the list followed by what was accepted
 pub record RunsThrough {File : Type 0} (h : CommandList) (s : DeskState File) (requests : List Request) (replies : List Reply) : Type 0 where
-  pub run : List Exchange
+  pub run : List RequestExchange
   pub requests_are : requests_of run ≡ requests
   pub replies_are : replies_of run ≡ replies
   pub is_run : IsRun h run
   pub goes_on : GoesOn run
-  pub stands : StandsFor s (followed_by h (accepted_in run))
+  pub stands : StandsFor s (followed_by h (accepted_of run))
 
 -- the store failed at a request: its reply is the last one, and what it asked may be kept or not
 pub record BreaksOff {File : Type 0} (h : CommandList) (s : DeskState File) (requests : List Request) (replies : List Reply) : Type 0 where
-  pub before : List Exchange
-  pub last : Exchange
+  pub before : List RequestExchange
+  pub last : RequestExchange
   pub unanswered : List Request
   pub requests_are : requests_of (before ++ last ∷ []) ++ unanswered ≡ requests
   pub replies_are : replies_of (before ++ last ∷ []) ≡ replies
   pub is_run : IsRun h (before ++ last ∷ [])
   pub goes_on : GoesOn before
-  pub valid : IsValid (followed_by h (accepted_in before))
+  pub valid : IsValid (followed_by h (accepted_of before))
   pub failed : last.reply ≡ Refused StoreFailed
-  pub in_doubt : IsInDoubt s (followed_by h (accepted_in before)) last.accepted
+  pub in_doubt : IsInDoubt s (followed_by h (accepted_of before)) last.accepted
 
 -- how a run over requests ends, for a desk that stood for h
 abbrev pub EndsRun : {File : Type 0} → CommandList → DeskState File → List Request → List Reply → Type 0

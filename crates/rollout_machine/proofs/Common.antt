@@ -37,7 +37,8 @@ pub use Rattle.rollout_machine.specs.Effects.{IsView, OutcomesStarted, StartedOn
 pub use Rattle.rollout_machine.specs.Filters.{matches}
 pub use Rattle.rollout_machine.specs.Groupings.{GroupDefinition, GroupingCovers, cut_by, last_defined, leaves_empty, percentages, some_empty}
 pub use Rattle.rollout_machine.specs.Groups.{IsCut, cut, holds_position, last_position}
-pub use Rattle.rollout_machine.specs.Meanings.{CancelingIsLast, Ends, FinalIsAll, FirstOutcome, FirstStartedIs, IsLeastOffer, IsOfferable, LastIsCancel}
+pub use Rattle.rollout_machine.specs.Meanings.{CancelingIsLast, EndsInCommand, FinalIsAll, FirstOutcome, FirstStartedIs, IsLeastOffer, IsOfferable}
+pub use Rattle.rollout_machine.specs.Meanings.{LastIsCancel}
 pub use Rattle.rollout_machine.specs.Meanings.{LastRow, NeverNamed, NextIsStarted, NoResume, NoneGave, NoneSpeaks, NotNamed, NumbersActions, NumbersDiffer}
 pub use Rattle.rollout_machine.specs.Meanings.{OfferIsLeast, OutcomeIsFirst, PauseBegins, PausedIs, RowIsLast, Says, SomePause, SpeaksOfCancel, StartIsIn}
 pub use Rattle.rollout_machine.specs.Meanings.{StartedIs, TagsAreSaid, TargetsAreNamed, ValueIsLast, last_given, last_value, size_at, started_by}

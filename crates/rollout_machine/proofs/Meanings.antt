@@ -6,7 +6,7 @@ use Rattle.rollout_machine.proofs.Common.{outcome_given, outcome, outcome_of_dep
 use Rattle.rollout_machine.proofs.Common.{reports, is_again, same_bytes, item_numbered, CommandList, Make, ◌▸◌, followed_by, Bytes, TargetRow, Command}
 use Rattle.rollout_machine.proofs.Common.{PutTargets, Start, Pause, TriggerNext, Cancel, Feedback, CancelFeedback, Succeeded, Failed, Noted, ClosedCancel}
 use Rattle.rollout_machine.proofs.Common.{CanceledCancel, RejectedCancel, NotedCancel, DeploymentWord, CancelWord, Outcome, Good, Bad, Gone, Rejected}
-use Rattle.rollout_machine.proofs.Common.{success_holds, error_holds, NoneGave, CancelingIsLast, NotNamed, LastRow, SpeaksOfCancel, Ends, NoneSpeaks}
+use Rattle.rollout_machine.proofs.Common.{success_holds, error_holds, NoneGave, CancelingIsLast, NotNamed, LastRow, SpeaksOfCancel, EndsInCommand, NoneSpeaks}
 use Rattle.rollout_machine.proofs.Common.{StartedIs, NeverNamed, Says, PauseBegins, OutcomeIsFirst, NumbersActions, FirstOutcome, size_at, NextIsStarted}
 use Rattle.rollout_machine.proofs.Common.{LastIsCancel, started_sizes, started_by, Offer, offer, first_offer, is_paused, is_trigger_of, is_pause_of}
 use Rattle.rollout_machine.proofs.Common.{next_started, is_group_started, pause_begins, error_begins_at, some_up_to, Records, ActionRecord, Rollout}
@@ -17,7 +17,7 @@ pub one_more : (h : CommandList) (cs : List Command) (c : Command) → followed_
 one_more h [] c = refl
 one_more h (d ∷ cs) c = one_more (h ▸ d) cs c
 
-abbrev pub longer : (h : CommandList) (c : Command) → Ends h → Ends (h ▸ c)
+abbrev pub longer : (h : CommandList) (c : Command) → EndsInCommand h → EndsInCommand (h ▸ c)
 longer h c e = record {
   before = e.before;
   command = e.command;
@@ -59,7 +59,7 @@ is_trigger r _ e = cc
 
 -- the same over any earlier group
 pub record SomeNext (x : Rollout) (r i : ℕ) (earlier : CommandList → Bool) (h : CommandList) : Type 0 where
-  pub at_end : Ends h
+  pub at_end : EndsInCommand h
   pub this_group : earlier (at_end.before ▸ at_end.command) ≡ true
   pub starts : ((is_paused x r (at_end.before ▸ at_end.command) ≡ false) × (success_holds x r i (at_end.before ▸ at_end.command) ≡ true))
       ⊎ ((at_end.command ≡ TriggerNext r) × (earlier at_end.before ≡ true) × (next_started x r i earlier at_end.before ≡ false))

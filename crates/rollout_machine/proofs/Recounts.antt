@@ -6,7 +6,7 @@ use Rattle.rollout_machine.proofs.Common.{IsCut, holds_position, is_rollout_star
 use Rattle.rollout_machine.proofs.Common.{group_in, rollout_in, rollouts_in, approval_of, GroupRecord, Rollout, rollout_at, rollouts, size_of, bounds_in}
 use Rattle.rollout_machine.proofs.Common.{last_of, created, is_finished, IsValid, verdict, verdict_row, is_ready, Bounds, cases_eq, ne_eqb, eq-eqb, lt-leb}
 use Rattle.rollout_machine.proofs.Common.{le-leb}
-use Rattle.rollout_machine.specs.Kinds.{count_actions, counted_group, counted_rollout, stored_group, stored_rollout}
+use Rattle.rollout_machine.specs.Kinds.{count_actions, counted_group, counted_rollout, uncounted_group, uncounted_rollout}
 use Rattle.rollout_machine.specs.Promises.{StoredSayAll}
 use Rattle.rollout_machine.specs.Records.{records}
 use Rattle.rollout_machine.proofs.Counts.{count_same, count_none}
@@ -187,24 +187,24 @@ map_both f g [] = refl
 map_both f g (x ∷ xs) = ap (λ ys. f (g x) ∷ ys) (map_both f g xs)
 
 group_again : (x : Rollout) (r i : ℕ) (h : CommandList) → IsValid h → rollout_at h r ≡ Some x → 1 ≤ i → i ≤ x.plan.groups.count → group_in x r h i
-    ≡ counted_group (map (action_in h) (action_places h)) r (stored_group (group_in x r h i))
+    ≡ counted_group (map (action_in h) (action_places h)) r (uncounted_group (group_in x r h i))
 group_again x r i h v d a u = rw (tally_is Good x r i h v d a u, tally_is Bad x r i h v d a u, tally_is Gone x r i h v d a u) refl
 
 rollout_again : (x : Rollout) (r : ℕ) (h : CommandList) → IsValid h → rollout_at h r ≡ Some x
-    → counted_rollout (map (action_in h) (action_places h)) (stored_rollout (rollout_in h r x)) ≡ rollout_in h r x
+    → counted_rollout (map (action_in h) (action_places h)) (uncounted_rollout (rollout_in h r x)) ≡ rollout_in h r x
 rollout_again x r h v d =
     let groups : each_from (group_in x r h) 1 x.plan.groups.count
-    ≡ map (λ (g : GroupRecord). counted_group (map (action_in h) (action_places h)) r (stored_group g)) (each_from (group_in x r h) 1 x.plan.groups.count) =
-    groups_go (λ (g : GroupRecord). counted_group (map (action_in h) (action_places h)) r (stored_group g)) x r h h
+    ≡ map (λ (g : GroupRecord). counted_group (map (action_in h) (action_places h)) r (uncounted_group g)) (each_from (group_in x r h) 1 x.plan.groups.count) =
+    groups_go (λ (g : GroupRecord). counted_group (map (action_in h) (action_places h)) r (uncounted_group g)) x r h h
     (λ i a u. group_again x r i h v d a u) in
-    let again : map (counted_group (map (action_in h) (action_places h)) r) (map stored_group (each_from (group_in x r h) 1 x.plan.groups.count))
-    ≡ each_from (group_in x r h) 1 x.plan.groups.count = map_both (counted_group (map (action_in h) (action_places h)) r) stored_group
+    let again : map (counted_group (map (action_in h) (action_places h)) r) (map uncounted_group (each_from (group_in x r h) 1 x.plan.groups.count))
+    ≡ each_from (group_in x r h) 1 x.plan.groups.count = map_both (counted_group (map (action_in h) (action_places h)) r) uncounted_group
     (each_from (group_in x r h) 1 x.plan.groups.count) ∙ sym groups in
     ap (λ gs. record (rollout_in h r x) { groups = gs }) again
 
 rollouts_again : (h : CommandList) (actions : List ActionRecord) (a : ℕ) (xs : List Rollout)
-    → AllNumbered (λ r x. counted_rollout actions (stored_rollout (rollout_in h r x)) ≡ rollout_in h r x) a xs
-    → map (counted_rollout actions) (map stored_rollout (rollouts_in h a xs)) ≡ rollouts_in h a xs
+    → AllNumbered (λ r x. counted_rollout actions (uncounted_rollout (rollout_in h r x)) ≡ rollout_in h r x) a xs
+    → map (counted_rollout actions) (map uncounted_rollout (rollouts_in h a xs)) ≡ rollouts_in h a xs
 unfolding AllNumbered
 rollouts_again h actions a [] w = refl
 rollouts_again h actions a (x ∷ xs) w = rw (w.0, rollouts_again h actions (suc a) xs w.1) refl

@@ -31,29 +31,29 @@ pub record StoredRecords : Type 0 where
   pub rollouts : List StoredRollout
   pub actions : List ActionRecord
 
-abbrev pub stored_group : GroupRecord → StoredGroup
-stored_group g = record { number = g.number; bounds = g.bounds; started = g.started }
+abbrev pub uncounted_group : GroupRecord → StoredGroup
+uncounted_group g = record { number = g.number; bounds = g.bounds; started = g.started }
 
-abbrev pub stored_rollout : RolloutRecord → StoredRollout
-stored_rollout x = record {
+abbrev pub uncounted_rollout : RolloutRecord → StoredRollout
+uncounted_rollout x = record {
   number = x.number;
   plan = x.plan;
   members = x.members;
   approval = x.approval;
   started = x.started;
   paused = x.paused;
-  groups = map stored_group x.groups;
+  groups = map uncounted_group x.groups;
 }
 
 -- the records without the counts of groups. They alone are what a desk of version 0 holds
-abbrev pub stored : Records → StoredRecords
-stored rs = record {
+abbrev pub uncounted_records : Records → StoredRecords
+uncounted_records rs = record {
   approval = rs.approval;
   modules = rs.modules;
   artifacts = rs.artifacts;
   sets = rs.sets;
   targets = rs.targets;
-  rollouts = map stored_rollout rs.rollouts;
+  rollouts = map uncounted_rollout rs.rollouts;
   actions = rs.actions;
 }
 

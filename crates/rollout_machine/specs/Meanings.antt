@@ -18,7 +18,7 @@ use Rattle.std.specs.Option.{option_or}
 use Rattle.std.specs.Prelude.{cond, ◌≡◌, ◌⊎◌, ⊤, ℕ, suc, ◌+◌, ◌≤◌, ◌<◌, Bool, true, false, List, [], ◌∷◌, ◌++◌, Option, Some, None, is_some}
 
 -- ---- a prefix of h that ends in a command
-pub record Ends (h : CommandList) : Type 0 where
+pub record EndsInCommand (h : CommandList) : Type 0 where
   pub before : CommandList
   pub command : Command
   pub rest : List Command
@@ -108,7 +108,7 @@ NoneGave (Make approval) r j = ⊤
 NoneGave (h ▸ c) r j = NoneGave h r j × ((o : Outcome) → GivesOutcome h c r j o → ⊥)
 
 pub record FirstOutcome (h : CommandList) (r j : ℕ) (o : Outcome) : Type 0 where
-  pub at_end : Ends h
+  pub at_end : EndsInCommand h
   pub gives : GivesOutcome at_end.before at_end.command r j o
   pub first : NoneGave at_end.before r j
 
@@ -154,7 +154,7 @@ NoResume r (c ∷ cs) = (c ≡ Resume r → ⊥) × NoResume r cs
 
 -- a pause begins at some prefix of h, and no resume follows
 pub record SomePause (x : Rollout) (r : ℕ) (h : CommandList) : Type 0 where
-  pub at_end : Ends h
+  pub at_end : EndsInCommand h
   pub begins : PauseBegins x r at_end.before at_end.command
   pub no_resume : NoResume r at_end.rest
 
@@ -168,7 +168,7 @@ StartsNext x r i before c =
     ⊎ ((c ≡ TriggerNext r) × (is_group_started x r i before ≡ true) × (is_group_started x r (suc i) before ≡ false))
 
 pub record NextIsStarted (x : Rollout) (r i : ℕ) (h : CommandList) : Type 0 where
-  pub at_end : Ends h
+  pub at_end : EndsInCommand h
   pub this_group : is_group_started x r i (at_end.before ▸ at_end.command) ≡ true
   pub starts : StartsNext x r i at_end.before at_end.command
 
@@ -179,7 +179,7 @@ StartedIs = (x : Rollout) (r i : ℕ) (h : CommandList) → 1 ≤ i → i < x.pl
 
 -- the first group is, where the start is in h
 abbrev pub StartIsIn : ℕ → CommandList → Type 0
-StartIsIn r h = (at_end : Ends h) × (at_end.command ≡ Start r)
+StartIsIn r h = (at_end : EndsInCommand h) × (at_end.command ≡ Start r)
 
 abbrev pub FirstStartedIs : Type 0
 FirstStartedIs = (x : Rollout) (r : ℕ) (h : CommandList) → (is_group_started x r 1 h ≡ true → StartIsIn r h) × (StartIsIn r h → is_group_started x r 1 h ≡ true)

@@ -11,7 +11,7 @@ use Rattle.rollout_machine.specs.ByteStrings.{item_numbered}
 use Rattle.rollout_machine.specs.CommandList.{CommandList, ◌▸◌}
 use Rattle.rollout_machine.specs.Commands.{Bytes, Command, Credential, Approve, Deny, Start, Pause, Resume, TriggerNext}
 use Rattle.rollout_machine.specs.Counts.{success_holds}
-use Rattle.rollout_machine.specs.Kinds.{recounted, stored}
+use Rattle.rollout_machine.specs.Kinds.{recounted, uncounted_records}
 use Rattle.rollout_machine.specs.Meanings.{IsOfferable}
 use Rattle.rollout_machine.specs.Objects.{modules_of_action}
 use Rattle.rollout_machine.specs.Offers.{Offer, offer}
@@ -87,7 +87,7 @@ DownloadsAreOffered = (h : CommandList) (device : Credential) (m : ℕ) (filenam
 
 -- the records are found again from the stored kinds: the counts of groups are those of their actions
 abbrev pub StoredSayAll : Type 0
-StoredSayAll = (h : CommandList) → IsValid h → recounted (stored (records h)) ≡ records h
+StoredSayAll = (h : CommandList) → IsValid h → recounted (uncounted_records (records h)) ≡ records h
 
 -- ---- what one command does to offers and notes
 

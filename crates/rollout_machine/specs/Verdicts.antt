@@ -39,9 +39,9 @@ abbrev pub tags_of : Option Target → List Bytes
 tags_of None = []
 tags_of (Some x) = x.tags
 
-abbrev pub keys_of : Option Target → List Bytes
-keys_of None = []
-keys_of (Some x) = map (λ (a : Attribute). a.key) x.attributes
+abbrev pub target_keys : Option Target → List Bytes
+target_keys None = []
+target_keys (Some x) = map (λ (a : Attribute). a.key) x.attributes
 
 abbrev pub word_is : (RolloutWord → Bool) → Option RolloutRecord → Bool
 word_is p None = false
@@ -68,8 +68,8 @@ has_next None = false
 has_next (Some x) = list_any (λ (g : GroupRecord). not g.started) x.groups
 
 -- a command on a rollout: it is there, and the test holds
-abbrev pub rollout_row : Records → ℕ → (RolloutWord → Bool) → List (Bool × Refusal)
-rollout_row rs r p = (is_none (item_numbered rs.rollouts r), NotFound) ∷ (not (word_is p (item_numbered rs.rollouts r)), WrongState) ∷ []
+abbrev pub rollout_word_row : Records → ℕ → (RolloutWord → Bool) → List (Bool × Refusal)
+rollout_word_row rs r p = (is_none (item_numbered rs.rollouts r), NotFound) ∷ (not (word_is p (item_numbered rs.rollouts r)), WrongState) ∷ []
 
 abbrev pub says_note : Said → Bool
 says_note (OfDeployment word) = is_none (outcome_of_deployment word)
@@ -150,14 +150,14 @@ verdict_row rs (Tag t x) =
 verdict_row rs (Untag t x) = (is_none (target_of rs t), NotFound) ∷ []
 verdict_row rs (PutAttributes device attributes) =
     (not (is_known rs device), Unauthorized)
-    ∷ (nat_lt attribute_limit (length (with_words (map (λ (a : Attribute). a.key) attributes) (keys_of (target_of rs device.id)))), Quota) ∷ []
+    ∷ (nat_lt attribute_limit (length (with_words (map (λ (a : Attribute). a.key) attributes) (target_keys (target_of rs device.id)))), Quota) ∷ []
 verdict_row rs (CreateRollout plan) = plan_row rs plan
-verdict_row rs (Approve r) = rollout_row rs r is_waiting
-verdict_row rs (Deny r) = rollout_row rs r is_waiting
-verdict_row rs (Start r) = rollout_row rs r is_ready
-verdict_row rs (Pause r) = rollout_row rs r is_running
-verdict_row rs (Resume r) = rollout_row rs r is_at_pause
-verdict_row rs (TriggerNext r) = rollout_row rs r is_running ++ (not (has_next (item_numbered rs.rollouts r)), WrongState) ∷ []
+verdict_row rs (Approve r) = rollout_word_row rs r is_waiting
+verdict_row rs (Deny r) = rollout_word_row rs r is_waiting
+verdict_row rs (Start r) = rollout_word_row rs r is_ready
+verdict_row rs (Pause r) = rollout_word_row rs r is_running
+verdict_row rs (Resume r) = rollout_word_row rs r is_at_pause
+verdict_row rs (TriggerNext r) = rollout_word_row rs r is_running ++ (not (has_next (item_numbered rs.rollouts r)), WrongState) ∷ []
 verdict_row rs (Cancel t k force) =
     (is_none (target_of rs t) || not (on_action (is_for rs t) (item_numbered rs.actions k)), NotFound)
     ∷ (on_action (λ a. is_some a.outcome) (item_numbered rs.actions k), ClosedAction)

@@ -46,5 +46,5 @@ pub use Rattle.sqlite_sql.specs.Term.{Term, case, col, lit, op1, op2, reads_belo
 pub use Rattle.sqlite_syntax.specs.declared.statement.Parsed.{Parsed}
 pub use Rattle.sqlite_typing.specs.Types.{accepts_after, accepts_program, are_tests, integer, is_count, row_classes}
 pub use Rattle.sqlite_value.specs.declared.keys.Collation.{Collation}
-pub use Rattle.sql_front.specs.Stands.{HasNoForeignKey, Stands}
+pub use Rattle.sql_front.specs.Stands.{NoneHasForeignKey, Stands}
 pub use Rattle.std.proofs.Math.Bool.{and-true}

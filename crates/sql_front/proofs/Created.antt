@@ -2,7 +2,7 @@
 use Rattle.sql_front.proofs.Common.{◌≡◌, refl, sym, ap, ◌∙◌, ℕ, zero, suc, ◌+◌, ◌^◌, ◌<◌, ◌==◌, Bool, true, false, cond, List, [], ◌∷◌, ◌++◌, length, Option}
 use Rattle.sql_front.proofs.Common.{Some, None, slice_get, find, arith, AllByRecursion, position_from, is_some, eq-eqb, lt-leb, Table, Index, Schema}
 use Rattle.sql_front.proofs.Common.{same_name, table_named, index_named, view_named, next_tree, is_used, created, automatics, Name, table_below, Stands}
-use Rattle.sql_front.proofs.Common.{HasNoForeignKey}
+use Rattle.sql_front.proofs.Common.{NoneHasForeignKey}
 use Rattle.sqlite_rules.proofs.ListLemmas.{all_from}
 use Rattle.sql_front.proofs.Past.{position_past, slice_past, find_past, unused, above_all}
 
@@ -35,7 +35,7 @@ find_front test x (y ∷ xs) ys h = go (test y) h (find_front test x xs ys)
 abbrev pub AreKeyless : List Table → Type 0
 AreKeyless = AllByRecursion (λ t. t.references ≡ [])
 
-keyless_more : (tree : ℕ) (xs ys : List Table) → HasNoForeignKey xs tree → AreKeyless ys → HasNoForeignKey (xs ++ ys) tree
+keyless_more : (tree : ℕ) (xs ys : List Table) → NoneHasForeignKey xs tree → AreKeyless ys → NoneHasForeignKey (xs ++ ys) tree
 keyless_more tree [] [] h k = tt
 keyless_more tree [] (y ∷ ys) h k = ((λ same. k.0), keyless_more tree [] ys tt k.1)
 keyless_more tree (x ∷ xs) ys h k = (h.0, keyless_more tree xs ys h.1 k)

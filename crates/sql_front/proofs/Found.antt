@@ -1,6 +1,6 @@
 -- A table that is found by its name and by its tree stands there.
 use Rattle.sql_front.proofs.Common.{◌≡◌, refl, sym, ap, subst, ◌∙◌, ℕ, ◌^◌, ◌<◌, ◌==◌, Bool, true, false, cond, List, [], ◌∷◌, Some, slice_get, find, eqb-true}
-use Rattle.sql_front.proofs.Common.{lt-leb, leb-false, Table, Schema, table_named, HasNoForeignKey}
+use Rattle.sql_front.proofs.Common.{lt-leb, leb-false, Table, Schema, table_named, NoneHasForeignKey}
 use Rattle.sql_front.specs.Found.{StandsSomewhere, HasFirst}
 
 find_meets : {X : Type 0} (test : X → Bool) (x : X) (xs : List X) → find test xs ≡ Some x → test x ≡ true
@@ -13,7 +13,7 @@ find_meets {X} test x (y ∷ xs) h = go (test y) refl h (find_meets test x xs)
 
 pub stands_by : (s : Schema) (table named first : Table) (at : ℕ) → table_named s table.name ≡ Some at → slice_get s.tables at ≡ Some named
     → find (λ t. t.tree == named.tree) s.tables ≡ Some first
-    → named ≡ record table { tree = named.tree } → first ≡ record table { tree = first.tree } → named.tree < 2 ^ 31 → HasNoForeignKey s.tables named.tree
+    → named ≡ record table { tree = named.tree } → first ≡ record table { tree = first.tree } → named.tree < 2 ^ 31 → NoneHasForeignKey s.tables named.tree
     → StandsSomewhere s table
 stands_by s table named first at name got found one other low keyless =
     let trees : first.tree ≡ named.tree = eqb-true first.tree named.tree (find_meets (λ (t : Table). t.tree == named.tree) first s.tables found) in
@@ -35,11 +35,11 @@ same_some x y h = cc
 -- what stands is where its name is found, and is the first of its tree
 pub stands_first : (s : Schema) (table named : Table) (at : ℕ) → table_named s table.name ≡ Some at → slice_get s.tables at ≡ Some named
     → StandsSomewhere s table
-    → (named ≡ record table { tree = named.tree }) × (named.tree < 2 ^ 31) × HasFirst s named table × HasNoForeignKey s.tables named.tree
+    → (named ≡ record table { tree = named.tree }) × (named.tree < 2 ^ 31) × HasFirst s named table × NoneHasForeignKey s.tables named.tree
 stands_first s table named at name got it =
     let there : Table = record table { tree = it.tree } in
     let place : it.at ≡ at = same_some it.at at (sym it.stands.named ∙ name) in
     let same : there ≡ named = same_some there named (sym it.stands.got ∙ ap (slice_get s.tables) place ∙ got) in
     let low : it.tree < 2 ^ 31 = leb-false (2 ^ 31) it.tree it.stands.stored in
-    subst (λ n. (n ≡ record table { tree = n.tree }) × (n.tree < 2 ^ 31) × HasFirst s n table × HasNoForeignKey s.tables n.tree) same
+    subst (λ n. (n ≡ record table { tree = n.tree }) × (n.tree < 2 ^ 31) × HasFirst s n table × NoneHasForeignKey s.tables n.tree) same
     (refl, low, (there, it.stands.found, refl), it.stands.keyless)

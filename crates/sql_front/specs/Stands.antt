@@ -6,13 +6,13 @@ use Rattle.sqlite_schema.specs.declared.schema.Table.{Table}
 use Rattle.sqlite_schema.specs.Names.{table_named}
 
 -- no table that has its rows in this tree has a foreign key
-abbrev pub HasNoForeignKey : List Table → ℕ → Type 0
-HasNoForeignKey tables tree = AllByRecursion (λ t. t.tree ≡ tree → t.references ≡ []) tables
+abbrev pub NoneHasForeignKey : List Table → ℕ → Type 0
+NoneHasForeignKey tables tree = AllByRecursion (λ t. t.tree ≡ tree → t.references ≡ []) tables
 
 -- the table has the name, the place and a tree that no table before it has, and that no foreign key changes
 pub record Stands (s : Schema) (name : List ℕ) (at : ℕ) (table : Table) : Type 0 where
   pub named : table_named s name ≡ Some at
   pub got : slice_get s.tables at ≡ Some table
   pub found : find (λ t. t.tree == table.tree) s.tables ≡ Some table
-  pub keyless : HasNoForeignKey s.tables table.tree
+  pub keyless : NoneHasForeignKey s.tables table.tree
   pub stored : nat_le (2 ^ 31) table.tree ≡ false

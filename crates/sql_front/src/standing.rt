@@ -6,7 +6,7 @@ ghost use Rattle.std.specs.Option.{option_copied};
 ghost use Rattle.sqlite_catalog.specs.Change.{is_used};
 ghost use Rattle.sql_front.specs.Bare.{IsBareTable};
 ghost use Rattle.sql_front.specs.Found.{StandsSomewhere, HasFirst};
-ghost use Rattle.sql_front.specs.Stands.{HasNoForeignKey};
+ghost use Rattle.sql_front.specs.Stands.{NoneHasForeignKey};
 
 use crate::comparison::same_table;
 use sqlite_catalog::layout;
@@ -39,11 +39,11 @@ fn is_first(schema: &Schema, named: &Table, table: &Table) -> bool
     ensures same { IsTrue result → named.now ≡ record table.now { tree = named.now.tree } }
     ensures stored { IsTrue result → named.now.tree < 2 ^ 31 }
     ensures first { IsTrue result → HasFirst schema.now named.now table.now }
-    ensures keyless { IsTrue result → HasNoForeignKey schema.now.tables named.now.tree }
+    ensures keyless { IsTrue result → NoneHasForeignKey schema.now.tables named.now.tree }
     ensures bare { IsTrue result → IsBareTable table.now }
     ensures missing { result ≡ false → IsBareTable table.now
         → named.now ≡ record table.now { tree = named.now.tree } → named.now.tree < 2 ^ 31
-        → HasFirst schema.now named.now table.now → HasNoForeignKey schema.now.tables named.now.tree → ⊥ }
+        → HasFirst schema.now named.now table.now → NoneHasForeignKey schema.now.tables named.now.tree → ⊥ }
 {
     let Some(first) = first_beside(schema.tables.as_slice(), named) else {
         return false;
@@ -59,8 +59,8 @@ fn is_first(schema: &Schema, named: &Table, table: &Table) -> bool
 
 /// Whether no table that has its rows in this tree has a foreign key.
 fn has_no_foreign_key(tables: &[Table], tree: u32) -> bool
-    ensures none { IsTrue result → HasNoForeignKey tables.now tree }
-    ensures some { result ≡ false → HasNoForeignKey tables.now tree → ⊥ }
+    ensures none { IsTrue result → NoneHasForeignKey tables.now tree }
+    ensures some { result ≡ false → NoneHasForeignKey tables.now tree → ⊥ }
 {
     match tables {
         [] => true,

@@ -12,7 +12,7 @@ use Rattle.contents_handler.specs.declared.download.Download.{Download}
 use Rattle.contents_handler.specs.declared.answered.Answered.TheVariants.{Contents}
 use Rattle.http_wire.specs.Replies.{reason}
 use Rattle.stream_server.specs.declared.served.ServeFault.TheVariants as serve_fault
-use Rattle.stream_server.specs.Contents.{contents_head, fault_at, SendsContents, WritesOut}
+use Rattle.stream_server.specs.Contents.{contents_head, download_fault, SendsContents, WritesOut}
 use Rattle.stream_server.specs.Interfaces.{reply_text}
 use Rattle.stream_server.proofs.PartLemmas.{whole_one, broken_one}
 
@@ -165,7 +165,7 @@ module _ {File : Type 0} (old : DeskState File) (out : Option (List ℕ)) (d : D
         ∙ sym (append_assoc (contents_head d.size) (take (sent p) contents) (drop (sent p) contents))
 
     -- memory was wanted, or the store failed
-    pub interrupted : (refusal : Refusal) → HandsPieces s t p q (Err refusal) → SendsContents old t out a d (Some (fault_at refusal))
+    pub interrupted : (refusal : Refusal) → HandsPieces s t p q (Err refusal) → SendsContents old t out a d (Some (download_fault refusal))
     interrupted refusal hands h contents is stands sends start =
         let so_far = on.handed h contents (clean is) stands sends start in
         let next = hands h contents is so_far.0 so_far.1 in
@@ -173,7 +173,8 @@ module _ {File : Type 0} (old : DeskState File) (out : Option (List ℕ)) (d : D
         let left = drop (sent p) contents in
         let text = contents_head d.size ++ contents in
         elim next.1 [
-          | inl memory ↦ subst (λ (r : Refusal). WritesOut t h out a text (Some (fault_at r))) (sym memory.0) (part, left, cut_at contents, so_far.2, memory.1)
-          | inr store ↦ subst (λ (r : Refusal). WritesOut t h out a text (Some (fault_at r))) (sym store.0)
+          | inl memory ↦ subst (λ (r : Refusal). WritesOut t h out a text (Some (download_fault r))) (sym memory.0)
+              (part, left, cut_at contents, so_far.2, memory.1)
+          | inr store ↦ subst (λ (r : Refusal). WritesOut t h out a text (Some (download_fault r))) (sym store.0)
               (part, left, cut_at contents, so_far.2, (store.1, head_begun d.size (take (sent p) contents)))
         ]

@@ -18,8 +18,8 @@ unfoldable pub contents_head : ℕ → List ℕ
 contents_head size = reply_head 200 Octets false size
 
 -- why a download is interrupted: its store failed, or memory was wanted
-abbrev pub fault_at : Refusal → ServeFault
-fault_at refusal = if is_store refusal then serve_fault.Store else serve_fault.Memory
+abbrev pub download_fault : Refusal → ServeFault
+download_fault refusal = if is_store refusal then serve_fault.Store else serve_fault.Memory
 
 -- what the desk is where this part of the reply was written: after a failed store at least one byte was
 abbrev pub StopsWithin : {File : Type 0} → DeskState File → CommandList → ServeFault → List ℕ → Type 0

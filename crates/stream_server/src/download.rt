@@ -3,7 +3,7 @@
 ghost use Rattle.std.specs.Prelude.{◌≡◌, ◌≢◌, true, IfOk, IfErr};
 ghost use Rattle.http_wire.specs.Watched.{inner_of, has_failed};
 ghost use Rattle.rollout_model.specs.declared.refusal.Refusal.TheVariants.{StoreFailed};
-ghost use Rattle.stream_server.specs.Contents.{SendsContents, contents_head, fault_at};
+ghost use Rattle.stream_server.specs.Contents.{SendsContents, contents_head, download_fault};
 ghost use Rattle.stream_server.specs.Headline.{FailsBy};
 ghost use Rattle.stream_server.specs.Parts.{fault_of};
 
@@ -34,7 +34,7 @@ fn contents_head(alloc: Global, size: u32) -> Result<Vec<u8>, AllocError>
 
 /// Why a download is interrupted.
 fn fault_at(refusal: Refusal) -> ServeFault
-    ensures is { result ≡ fault_at refusal }
+    ensures is { result ≡ download_fault refusal }
     ensures only { result ≡ ServeFault.Store → refusal ≡ StoreFailed }
 {
     if is_failed_store(refusal) {

@@ -3,7 +3,7 @@ use Rattle.target_filter.proofs.Common.{◌≡◌, ◌⊎◌, inl, inr, ℕ, zer
 use Rattle.target_filter.proofs.Common.{◌==◌, ltb, leb, Option, Some, None, refl, sym, ◌∙◌, ap, subst, arith, append_assoc, add-zero, nat_le, nat_lt, codes}
 use Rattle.target_filter.proofs.Common.{list_all, false≢true, nat_tests, is_bare_byte, is_quotable_byte, is_nonempty, Field, Id, Name, Tag, Attribute, Value}
 use Rattle.target_filter.proofs.Common.{Bare, Quoted, Tree, Or, And, Group, Comparison, Level, OrLevel, AndLevel, AtomLevel, is_at, allows_or, allows_and}
-use Rattle.target_filter.proofs.Common.{spelling, field_text, value_text, Operator, Equal, NotEqual, operator_byte, nesting, is_field, is_value}
+use Rattle.target_filter.proofs.Common.{spelling, field_text, value_text, Operator, Equal, NotEqual, operator_byte, nesting, is_field, is_filter_value}
 use Rattle.target_filter.proofs.Common.{is_word_letter, Mode, State, Move, run, next, step, state_after, mode_of_name, at_atom_start, at_operator, at_atom_end}
 use Rattle.target_filter.specs.Scanner as scan
 use Rattle.target_filter.proofs.ScannedTrees.{both}
@@ -97,7 +97,7 @@ Begun (scan.FieldName left false) x = (f : Field) × (is_field f ≡ true) × (x
 Begun (scan.Key n) x = (key : List ℕ) × (list_all is_word_letter key ≡ true) × (length key ≡ n) × (n ≤ 64) × (x ≡ codes "attribute." ++ key)
 Begun scan.Equals x = (f : Field) × (m : Operator) × (is_field f ≡ true) × (x ≡ field_text f ++ operator_byte m ∷ [])
 Begun scan.Value x = (f : Field) × (m : Operator) × (is_field f ≡ true) × (x ≡ field_text f ++ operator_byte m ∷ 61 ∷ [])
-Begun scan.Bare x = (f : Field) × (m : Operator) × (v : List ℕ) × (is_field f ≡ true) × (is_value (Bare v) ≡ true)
+Begun scan.Bare x = (f : Field) × (m : Operator) × (v : List ℕ) × (is_field f ≡ true) × (is_filter_value (Bare v) ≡ true)
     × (x ≡ field_text f ++ operator_byte m ∷ 61 ∷ v)
 Begun scan.Quoted x = (f : Field) × (m : Operator) × (v : List ℕ) × (is_field f ≡ true) × (list_all is_quotable_byte v ≡ true)
     × (x ≡ field_text f ++ operator_byte m ∷ 61 ∷ 34 ∷ v)
@@ -111,5 +111,5 @@ atom_of (scan.Key n) x h b = absurd (false≢true h)
 atom_of scan.Equals x h b = absurd (false≢true h)
 atom_of scan.Value x h b = absurd (false≢true h)
 atom_of scan.Quoted x h b = absurd (false≢true h)
-atom_of scan.Bare x h (f, m, v, p, q, e) = (Comparison f m (Bare v), all_of (is_field f) (is_value (Bare v)) p q, e)
+atom_of scan.Bare x h (f, m, v, p, q, e) = (Comparison f m (Bare v), all_of (is_field f) (is_filter_value (Bare v)) p q, e)
 atom_of scan.AtomEnd x h b = b

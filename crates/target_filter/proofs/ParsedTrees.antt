@@ -4,7 +4,7 @@ use Rattle.target_filter.proofs.Common.{cond, ◌&&◌, ◌||◌, ◌==◌, not,
 use Rattle.target_filter.proofs.Common.{length-append, nat_le, codes, list_all, option_and_then, option_map, option_map_or, false≢true, nat_tests}
 use Rattle.target_filter.proofs.Common.{is_bare_byte, is_quotable_byte, is_nonempty, Field, Id, Name, Tag, Attribute, Value, Bare, Quoted, Tree, Or, And}
 use Rattle.target_filter.proofs.Common.{Group, Comparison, Level, OrLevel, AndLevel, AtomLevel, is_at, allows_or, allows_and, spelling, field_text, value_text}
-use Rattle.target_filter.proofs.Common.{Operator, Equal, NotEqual, operator_byte, is_field, is_value, IsFilter, is_word_letter, front, behind_front}
+use Rattle.target_filter.proofs.Common.{Operator, Equal, NotEqual, operator_byte, is_field, is_filter_value, IsFilter, is_word_letter, front, behind_front}
 use Rattle.target_filter.proofs.Common.{attribute_field, field_of_name, operator_at, quoted_value, bare_value, value_at, comparison_at, closed, or_at}
 use Rattle.target_filter.proofs.Common.{more_ors, and_at, more_ands, atom_at}
 use Rattle.target_filter.proofs.ScannedTrees.{both}
@@ -47,7 +47,7 @@ field_letters (Attribute key) h = (both (nat_le 1 (length key) && nat_le (length
 bare_not_quote : (b : ℕ) → is_bare_byte b ≡ true → (b == 34) ≡ false
 bare_not_quote b h = grind (arith, nat_tests)
 
-value_found : (v : Value) (rest : List ℕ) → is_value v ≡ true → stops is_bare_byte rest ≡ true → value_at (value_text v ++ rest) ≡ Some (v, rest)
+value_found : (v : Value) (rest : List ℕ) → is_filter_value v ≡ true → stops is_bare_byte rest ≡ true → value_at (value_text v ++ rest) ≡ Some (v, rest)
 value_found (Bare []) rest h s = absurd (false≢true h)
 value_found (Bare (b ∷ v)) rest h s =
     let p = both (is_bare_byte b) (list_all is_bare_byte v) h in
@@ -68,7 +68,7 @@ mark_stops : (m : Operator) (rest : List ℕ) → stops is_word_letter (operator
 mark_stops Equal rest = refl
 mark_stops NotEqual rest = refl
 
-test_found : (f : Field) (m : Operator) (v : Value) (rest : List ℕ) → is_field f ≡ true → is_value v ≡ true → stops is_bare_byte rest ≡ true
+test_found : (f : Field) (m : Operator) (v : Value) (rest : List ℕ) → is_field f ≡ true → is_filter_value v ≡ true → stops is_bare_byte rest ≡ true
     → comparison_at (spelling (Comparison f m v) ++ rest) ≡ Some (Comparison f m v, rest)
 test_found f m v rest h k s =
     let tail = operator_byte m ∷ 61 ∷ (value_text v ++ rest) in
@@ -167,7 +167,7 @@ group_reads t f (suc n) rest s l =
     let (m, r, e) = f n (41 ∷ rest) refl refl (omega (arith, ap length same)) in
     ap (λ y. option_and_then closed (or_at n y)) same ∙ ap (option_and_then closed) (e ∙ ors_stop m t (41 ∷ rest) refl)
 
-test_reads : (f : Field) (e : Operator) (v : Value) → is_field f ≡ true → is_value v ≡ true → AtomReads (Comparison f e v)
+test_reads : (f : Field) (e : Operator) (v : Value) → is_field f ≡ true → is_filter_value v ≡ true → AtomReads (Comparison f e v)
 test_reads f e v h k zero rest s l = absurd (omega arith)
 test_reads Id e v h k (suc n) rest s l = test_found Id e v rest h k s
 test_reads Name e v h k (suc n) rest s l = test_found Name e v rest h k s
@@ -202,7 +202,7 @@ reading (Group t) =
       ors = λ h. or_from (Group t) (and_from (Group t) (group_reads t (f h)));
     }
 reading (Comparison f e v) =
-    let go = λ (h : is_at AtomLevel (Comparison f e v) ≡ true). let p = both (is_field f) (is_value v) h in test_reads f e v p.0 p.1 in
+    let go = λ (h : is_at AtomLevel (Comparison f e v) ≡ true). let p = both (is_field f) (is_filter_value v) h in test_reads f e v p.0 p.1 in
     record { atom = go; ands = λ h. and_from (Comparison f e v) (go h); ors = λ h. or_from (Comparison f e v) (and_from (Comparison f e v) (go h)) }
 
 -- the tree of a text is found

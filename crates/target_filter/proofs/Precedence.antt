@@ -1,11 +1,11 @@
 -- How `,` and `;` bind.
 use Rattle.target_filter.proofs.Common.{◌≡◌, ℕ, List, ◌∷◌, ◌++◌, Bool, true, ◌&&◌, refl, ap, Target, Tree, Or, And, OrLevel, AndLevel, AtomLevel, is_at}
 use Rattle.target_filter.proofs.Common.{IsFilter, holds}
-use Rattle.target_filter.specs.Laws.{Means, BindsAndOnTheRight, BindsAndOnTheLeft}
+use Rattle.target_filter.specs.Laws.{HasMeaning, BindsAndOnTheRight, BindsAndOnTheLeft}
 use Rattle.target_filter.proofs.Beginnings.{all_of, or_from_and}
 use Rattle.target_filter.proofs.ParsedTrees.{one_tree}
 
-means_tree : (text : List ℕ) (t : Tree) → IsFilter text t → Means text (λ target. holds t target)
+means_tree : (text : List ℕ) (t : Tree) → IsFilter text t → HasMeaning text (λ target. holds t target)
 means_tree text t f = ((t, f), λ u target g. ap (λ (x : Tree). holds x target) (one_tree text u t g f))
 
 pub binds_right : BindsAndOnTheRight

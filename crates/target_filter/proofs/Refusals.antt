@@ -1,5 +1,6 @@
 -- From the scanner's answer to the reader's.
-use Rattle.target_filter.proofs.Common.{◌≡◌, ℕ, ◌≤◌, ◌<◌, List, length, arith, ap, None, Result, Ok, Err, IsUtf8, Stops, Ends, Tree, IsInGrammar, IsFilter}
+use Rattle.target_filter.proofs.Common.{◌≡◌, ℕ, ◌≤◌, ◌<◌, List, length, arith, ap, None, Result, Ok, Err, IsUtf8, StopsBehind, Ends, Tree, IsInGrammar}
+use Rattle.target_filter.proofs.Common.{IsFilter}
 use Rattle.target_filter.proofs.Common.{nesting, IsProfileFilter, IsInProfile, filter_of}
 use Rattle.target_filter.specs.Faults.{IsRefused}
 use Rattle.target_filter.specs.declared.fault.FilterFault.TheVariants.{Syntax, TooDeep, Memory}
@@ -9,7 +10,7 @@ use Rattle.target_filter.proofs.ParsedTrees.{one_tree}
 use Rattle.target_filter.proofs.Profiles.{filter_none}
 use Rattle.target_filter.proofs.ScannerStops.{stops_longest, stops_outside, ends_filter}
 
-pub syntax : (text : List ℕ) (n : ℕ) → IsUtf8 text → length text ≤ 512 → Stops text n → IsRefused text (Syntax n)
+pub syntax : (text : List ℕ) (n : ℕ) → IsUtf8 text → length text ≤ 512 → StopsBehind text n → IsRefused text (Syntax n)
 syntax text n u l h = (l, stops_outside text n h, stops_longest text n u h)
 
 pub too_deep : (text : List ℕ) (n : ℕ) → length text ≤ 512 → Ends text n → 16 < n → IsRefused text TooDeep

@@ -3,7 +3,7 @@ use Rattle.target_filter.proofs.Common.{◌≡◌, ℕ, zero, suc, ◌+◌, ◌-
 use Rattle.target_filter.proofs.Common.{Option, Some, None, refl, sym, ◌∙◌, ap, arith, append_assoc, add-zero, nat_le, nat_lt, list_all, false≢true, nat_tests}
 use Rattle.target_filter.proofs.Common.{is_bare_byte, is_quotable_byte, is_nonempty, Field, Id, Name, Tag, Attribute, Value, Bare, Quoted, Tree, Or, And}
 use Rattle.target_filter.proofs.Common.{Group, Comparison, Level, OrLevel, AndLevel, AtomLevel, is_at, allows_or, allows_and, spelling, field_text, value_text}
-use Rattle.target_filter.proofs.Common.{Operator, Equal, NotEqual, operator_byte, nesting, is_field, is_value, is_word_letter, Mode, State, run, next}
+use Rattle.target_filter.proofs.Common.{Operator, Equal, NotEqual, operator_byte, nesting, is_field, is_filter_value, is_word_letter, Mode, State, run, next}
 use Rattle.target_filter.specs.Scanner as scan
 
 pub both : (a b : Bool) → (a && b) ≡ true → (a ≡ true) × (b ≡ true)
@@ -41,7 +41,7 @@ abbrev pub value_end : Value → Mode
 value_end (Bare v) = scan.Bare
 value_end (Quoted v) = scan.AtomEnd
 
-value_read : (d e : ℕ) (v : Value) (rest : List ℕ) → is_value v ≡ true → run (in_mode d e scan.Value) (value_text v ++ rest)
+value_read : (d e : ℕ) (v : Value) (rest : List ℕ) → is_filter_value v ≡ true → run (in_mode d e scan.Value) (value_text v ++ rest)
     ≡ run (in_mode d e (value_end v)) rest
 value_read d e (Bare []) rest h = absurd (false≢true h)
 value_read d e (Bare (b ∷ v)) rest h = let p = both (is_bare_byte b) (list_all is_bare_byte v) h in rw p.0 (bares d e v rest p.1)
@@ -151,7 +151,7 @@ reads (Group t) l d e rest o h =
     ∙ closed d (max (max e (d + 1)) (d + 1 + nesting t)) (tree_end t) rest (tree_ends t)
     ∙ deeper d scan.AtomEnd rest _ _ (omega arith)
 reads (Comparison f m v) l d e rest o h =
-    let p = both (is_field f) (is_value v) h in
+    let p = both (is_field f) (is_filter_value v) h in
     ap (run (in_mode d e scan.AtomStart)) (append_assoc (field_text f) (operator_byte m ∷ 61 ∷ value_text v) rest)
     ∙ field_read d e f (operator_byte m ∷ 61 ∷ (value_text v ++ rest)) p.0
     ∙ mark_read d e f m (value_text v ++ rest) p.0

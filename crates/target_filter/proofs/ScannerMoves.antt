@@ -4,7 +4,8 @@ use Rattle.target_filter.proofs.Common.{◌==◌, ltb, leb, Option, Some, None, 
 use Rattle.target_filter.proofs.Common.{length-append, nat_le, nat_lt, codes, list_all, IfSome, option_and_then, false≢true, nat_tests, is_bare_byte}
 use Rattle.target_filter.proofs.Common.{is_quotable_byte, is_nonempty, Field, Id, Name, Tag, Attribute, Value, Bare, Quoted, Tree, Or, And, Group, Comparison}
 use Rattle.target_filter.proofs.Common.{Level, OrLevel, AndLevel, AtomLevel, is_at, allows_or, allows_and, spelling, field_text, value_text, Operator, Equal}
-use Rattle.target_filter.proofs.Common.{NotEqual, operator_byte, nesting, is_field, is_value, IsFilter, is_word_letter, Mode, State, Move, run, next, step}
+use Rattle.target_filter.proofs.Common.{NotEqual, operator_byte, nesting, is_field, is_filter_value, IsFilter, is_word_letter, Mode, State, Move, run, next}
+use Rattle.target_filter.proofs.Common.{step}
 use Rattle.target_filter.proofs.Common.{state_after, mode_of_name, at_atom_start, at_operator, at_atom_end}
 use Rattle.target_filter.specs.Scanner as scan
 use Rattle.target_filter.proofs.ScannedTrees.{both}

@@ -5,7 +5,7 @@ use Rattle.target_filter.proofs.Common.{append-nil, add-zero, length-append, nat
 use Rattle.target_filter.proofs.Common.{IsCharBoundary, false≢true, nat_tests, IsCharBoundary-end, IsCharBoundary-start, IsCharBoundary-before_ascii}
 use Rattle.target_filter.proofs.Common.{IsCharBoundary-after_ascii, IsUtf8-nil, take-length, take_more, is_bare_byte, is_quotable_byte, Tree, IsFilter}
 use Rattle.target_filter.proofs.Common.{IsInGrammar, CanContinue, IsLongestBeginning, nesting, is_word_letter, Mode, State, Move, run, next, step, state_after}
-use Rattle.target_filter.proofs.Common.{mode_of_name, at_atom_start, at_operator, at_atom_end, start, accepts, Stops, Ends}
+use Rattle.target_filter.proofs.Common.{mode_of_name, at_atom_start, at_operator, at_atom_end, start, accepts, StopsBehind, Ends}
 use Rattle.target_filter.specs.Scanner as scan
 use Rattle.std.proofs.lemmas.Option.{option_and_then_some}
 use Rattle.target_filter.proofs.Beginnings.{Begun}
@@ -116,7 +116,7 @@ before_byte text k s u l e n =
       | inr a ↦ IsCharBoundary-before_ascii text (k + 1) l (in_quotes s (get_or text (k + 1) 0) (nat_lt (get_or text (k + 1) 0) 128) refl a n)
     ]))
 
-boundary : (text : List ℕ) (n : ℕ) → IsUtf8 text → Stops text n → IsCharBoundary text n
+boundary : (text : List ℕ) (n : ℕ) → IsUtf8 text → StopsBehind text n → IsCharBoundary text n
 boundary text zero u h = IsCharBoundary-start text u
 boundary text (suc k) u h = elim h.why [
   | inl a ↦ rw a.0 (IsCharBoundary-end text)
@@ -133,7 +133,7 @@ none_after text n s l e k =
     ap (run start) (take_more text n 0 l) ∙ run_append (take n text) (get_or text n 0 ∷ []) start ∙ ap (option_and_then (λ t. run t (get_or text n 0 ∷ []))) e
     ∙ ap (option_and_then (λ t. run t [])) k
 
-pub stops_longest : (text : List ℕ) (n : ℕ) → IsUtf8 text → Stops text n → IsLongestBeginning text n
+pub stops_longest : (text : List ℕ) (n : ℕ) → IsUtf8 text → StopsBehind text n → IsLongestBeginning text n
 stops_longest text n u h = record {
   whole = boundary text n u h;
   continues = can_continue (take n text) h.state h.went;
@@ -143,7 +143,7 @@ stops_longest text n u h = record {
   ];
 }
 
-pub stops_outside : (text : List ℕ) (n : ℕ) → Stops text n → IsInGrammar text → ⊥
+pub stops_outside : (text : List ℕ) (n : ℕ) → StopsBehind text n → IsInGrammar text → ⊥
 stops_outside text n h (t, f) = elim h.why [
   | inl a ↦
       let all : run start text ≡ Some h.state = ap (run start) (sym (take-length text) ∙ ap (λ k. take k text) (sym a.0)) ∙ h.went in

@@ -74,9 +74,9 @@ is_field Name = true
 is_field Tag = true
 is_field (Attribute key) = is_word key
 
-abbrev pub is_value : Value → Bool
-is_value (Bare pattern) = is_nonempty pattern && list_all is_bare_byte pattern
-is_value (Quoted pattern) = list_all is_quotable_byte pattern
+abbrev pub is_filter_value : Value → Bool
+is_filter_value (Bare pattern) = is_nonempty pattern && list_all is_bare_byte pattern
+is_filter_value (Quoted pattern) = list_all is_quotable_byte pattern
 
 -- the three rules of the grammar
 pub data Level : Type 0 where
@@ -99,7 +99,7 @@ abbrev pub is_at : Level → Tree → Bool
 is_at l (Or left right) = allows_or l && is_at OrLevel left && is_at AndLevel right
 is_at l (And left right) = allows_and l && is_at AndLevel left && is_at AtomLevel right
 is_at l (Group tree) = is_at OrLevel tree
-is_at l (Comparison field operator value) = is_field field && is_value value
+is_at l (Comparison field operator value) = is_field field && is_filter_value value
 
 -- how deep its parentheses nest
 abbrev pub nesting : Tree → ℕ

@@ -26,15 +26,15 @@ NegatesEqual = (field : Field) (value : Value) (target : Target)
     → holds (Comparison field NotEqual value) target ≡ not (holds (Comparison field Equal value) target)
 
 -- the text is a filter, and each tree of it has this meaning
-abbrev pub Means : List ℕ → (Target → Bool) → Type 0
-Means text meaning = IsInGrammar text × ((tree : Tree) (target : Target) → IsFilter text tree → holds tree target ≡ meaning target)
+abbrev pub HasMeaning : List ℕ → (Target → Bool) → Type 0
+HasMeaning text meaning = IsInGrammar text × ((tree : Tree) (target : Target) → IsFilter text tree → holds tree target ≡ meaning target)
 
 -- `a,b;c` is `a,(b;c)`: 44 is `,` and 59 is `;`
 abbrev pub BindsAndOnTheRight : Type 0
 BindsAndOnTheRight = (a b c : Tree) → is_at OrLevel a ≡ true → is_at AndLevel b ≡ true → is_at AtomLevel c ≡ true
-    → Means (spelling a ++ 44 ∷ (spelling b ++ 59 ∷ spelling c)) (λ target. holds a target || (holds b target && holds c target))
+    → HasMeaning (spelling a ++ 44 ∷ (spelling b ++ 59 ∷ spelling c)) (λ target. holds a target || (holds b target && holds c target))
 
 -- `a;b,c` is `(a;b),c`
 abbrev pub BindsAndOnTheLeft : Type 0
 BindsAndOnTheLeft = (a b c : Tree) → is_at AndLevel a ≡ true → is_at AtomLevel b ≡ true → is_at AndLevel c ≡ true
-    → Means ((spelling a ++ 59 ∷ spelling b) ++ 44 ∷ spelling c) (λ target. (holds a target && holds b target) || holds c target)
+    → HasMeaning ((spelling a ++ 59 ∷ spelling b) ++ 44 ∷ spelling c) (λ target. (holds a target && holds b target) || holds c target)

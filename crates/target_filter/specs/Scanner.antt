@@ -91,7 +91,7 @@ abbrev pub accepts : State → Bool
 accepts s = ends_atom s.mode && s.depth == 0
 
 -- the scanner stops behind so many bytes: it takes no further byte, or the text ends too early
-pub record Stops (text : List ℕ) (n : ℕ) : Type 0 where
+pub record StopsBehind (text : List ℕ) (n : ℕ) : Type 0 where
   pub state : State
   pub within : n ≤ length text
   pub went : run start (take n text) ≡ Some state

@@ -3,7 +3,7 @@
 ghost use Rattle.std.specs.Prelude.{◌≡◌, ◌≤◌, length, take, drop};
 ghost use Rattle.rollout_model.specs.Rules.{is_word_letter};
 ghost use Rattle.target_filter.specs.Grammar.{is_bare_byte, is_quotable_byte};
-ghost use Rattle.target_filter.specs.ByteKinds.{is_of};
+ghost use Rattle.target_filter.specs.ByteKinds.{is_byte_of};
 ghost use Rattle.target_filter.specs.Descent.{front, behind_front};
 
 /// What a field's name or a part of a value is made of.
@@ -37,7 +37,7 @@ pub(crate) fn is_quotable_byte(byte: u8) -> bool
 
 impl ByteKind {
     fn contains(self, byte: u8) -> bool
-        ensures { result ≡ is_of self byte }
+        ensures { result ≡ is_byte_of self byte }
     {
         match self {
             ByteKind::Letter => is_word_letter(byte),
@@ -50,8 +50,8 @@ impl ByteKind {
 /// How many bytes of the kind stand in front.
 fn run_length(kind: ByteKind, text: &[u8]) -> usize
     ensures bound { result ≤ length text.now }
-    ensures front { take result text.now ≡ front (is_of kind) text.now }
-    ensures behind { drop result text.now ≡ behind_front (is_of kind) text.now }
+    ensures front { take result text.now ≡ front (is_byte_of kind) text.now }
+    ensures behind { drop result text.now ≡ behind_front (is_byte_of kind) text.now }
 {
     for (at, byte) in text.iter().enumerate() {
         if !kind.contains(*byte) {
@@ -63,8 +63,8 @@ fn run_length(kind: ByteKind, text: &[u8]) -> usize
 
 /// The bytes of the kind in front of the text, and what stands behind them.
 pub(crate) fn split_run(kind: ByteKind, text: &[u8]) -> (&[u8], &[u8])
-    ensures front { result.0.now ≡ front (is_of kind) text.now }
-    ensures behind { result.1.now ≡ behind_front (is_of kind) text.now }
+    ensures front { result.0.now ≡ front (is_byte_of kind) text.now }
+    ensures behind { result.1.now ≡ behind_front (is_byte_of kind) text.now }
 {
     text.split_at(run_length(kind, text))
 }

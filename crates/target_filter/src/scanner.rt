@@ -4,7 +4,7 @@ ghost use Rattle.std.specs.Prelude.{◌≡◌, ◌≤◌, ◌<◌, ◌+◌, ◌^
 ghost use Rattle.std.specs.Option.{IfSome, option_map};
 ghost use Rattle.std.specs.Result.{MatchResult};
 ghost use Rattle.target_filter.specs.Scanner as scan;
-ghost use Rattle.target_filter.specs.Scanner.{Ends, Stops};
+ghost use Rattle.target_filter.specs.Scanner.{Ends, StopsBehind};
 ghost use Rattle.target_filter.specs.ScannerViews.{mode_of, move_of, state_of};
 
 use crate::byte_kind::{is_bare_byte, is_quotable_byte, is_word_letter};
@@ -229,7 +229,7 @@ fn accepts(state: State) -> bool
 /// How deep the parentheses of a filter nest, or behind how many bytes the text can't go on as one.
 pub(crate) fn scan(text: &[u8]) -> Result<usize, usize>
     requires { length text.now ≤ 512 }
-    ensures { MatchResult result (λ deepest. Ends text.now deepest) (λ at. Stops text.now at) }
+    ensures { MatchResult result (λ deepest. Ends text.now deepest) (λ at. StopsBehind text.now at) }
 {
     let mut state = State {
         depth: 0,

@@ -1,7 +1,7 @@
 use Rattle.std.proofs.Common.{refl, sym, ap, ◌∙◌, codes}
 use Rattle.clap.specs.Words.{first_of, found_of, rows_of}
 use Rattle.clap.proofs.WalkLemmas.{first_value-rows}
-use Rattle.desk_server.specs.Orders.{number_given}
+use Rattle.desk_server.specs.Orders.{number_in_range}
 use Rattle.desk_server.proofs.OrderLemmas.{no_report, no_value, values_of}
 use Rattle.desk_server.proofs.order.report_of.Goals as goal
 
@@ -15,7 +15,7 @@ pub returns-in_default-rollout_of-clause-err : goal.returns-in_default-rollout_o
 returns-in_default-rollout_of-clause-err c =
     let f = found_of c.args.matches.now in
     no_report (rows_of f) (λ db rollout is. no_value _ rollout c.in_default-rollout_of.ensures
-    (ap (λ found. number_given 1 2147483647 (first_of (codes "rollout") (values_of found))) is.subcommand ∙ is.rollout_is))
+    (ap (λ found. number_in_range 1 2147483647 (first_of (codes "rollout") (values_of found))) is.subcommand ∙ is.rollout_is))
 
 pub returns-clause-ok : goal.returns-clause-ok
 returns-clause-ok c =

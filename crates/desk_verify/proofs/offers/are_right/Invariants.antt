@@ -1,6 +1,6 @@
 use Rattle.desk_verify.proofs.Common.{Ok, take, AllByRecursion, Fault, BlamesGiven, FindsTables, StaysIn, IsRight, AgreeBefore}
 use Rattle.desk_verify.specs.declared.damage.CheckedTable.TheVariants.{Offer}
-use Rattle.desk_verify.specs.OfferChecks.{AreKept}
+use Rattle.desk_verify.specs.OfferChecks.{AreKeptGroups}
 use Rattle.desk_verify.proofs.offers.are_right.Given as goal
 
 -- those so far are right, and the groups that are kept are those of their rollout
@@ -9,5 +9,5 @@ invariant-loop-offer g l = record {
   stays : StaysIn g.S.Store l.fn.change l.change (Ok (tt {0}));
   blames : BlamesGiven g.S.Store (AgreeBefore Offer) l.fn.change l.change (Ok (tt {0}));
   judged : FindsTables g.S.Store {E = Fault} l.fn.change l.change (Ok (tt {0}))
-      (λ t u. AreKept t l.kept × AllByRecursion (IsRight t) (take l.offer-index l.offers));
+      (λ t u. AreKeptGroups t l.kept × AllByRecursion (IsRight t) (take l.offer-index l.offers));
 }

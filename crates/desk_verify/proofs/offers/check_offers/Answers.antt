@@ -1,4 +1,4 @@
-use Rattle.desk_verify.proofs.Common.{Err, sym, ap, subst, ◌∙◌, err_from_is_err_and, both_found, finds_as, Decides, AgreesOffers, le_trans}
+use Rattle.desk_verify.proofs.Common.{Err, sym, ap, subst, ◌∙◌, err_from_is_err_and, both_found, finds_as, SettlesWhether, AgreesOffers, le_trans}
 use Rattle.desk_verify.proofs.Causes.{all_offers, blamed_when}
 use Rattle.desk_verify.proofs.OfferLemmas.{agrees, one_wrong, row_broken, sorted_said}
 use Rattle.desk_verify.proofs.offers.check_offers.Goals as goal
@@ -17,7 +17,7 @@ returns-clause-judges g c =
     finds_as
     (both_found (rw c.in-Some.is at c.in_ok-listed.ensures.reads)
     (both_found (rw (c.deref.ensures.value, c.if-not-branch.false) at c.in_ok-are_right.ensures.judges) c.in_ok-offered.ensures.judges))
-    (λ t is. subst (Decides (AgreesOffers t)) (sym c.is_some.ensures)
+    (λ t is. subst (SettlesWhether (AgreesOffers t)) (sym c.is_some.ensures)
     (agrees t c.in_action_order-offers.result.items (sorted_said c.in_action_order-offers.ensures is.0) is.1.0 c.in_ok-offered.offered is.1.1))
 
 pub returns-in_err-offered-clause-blames : goal.returns-in_err-offered-clause-blames

@@ -1,4 +1,4 @@
-use Rattle.desk_verify.proofs.Common.{◌≡◌, subst, sym, finds_as, Decides, holds_started, IsInStartedGroup}
+use Rattle.desk_verify.proofs.Common.{◌≡◌, subst, sym, finds_as, SettlesWhether, holds_started, IsInStartedGroup}
 use Rattle.desk_verify.proofs.OfferLemmas.{started_tells}
 use Rattle.desk_verify.proofs.offers.is_in_started_group.Goals as goal
 
@@ -8,7 +8,7 @@ returns-clause-judges g c =
     finds_as c.in_ok-keep_groups.ensures.reads
     (λ t is kept.
     let it = is kept in (
-      subst (Decides (IsInStartedGroup t c.args.rollout c.args.place)) (sym told)
+      subst (SettlesWhether (IsInStartedGroup t c.args.rollout c.args.place)) (sym told)
           (started_tells t c.args.rollout c.args.place c.keep_groups.new.kept.groups.items it.0),
       it.1,
     ))

@@ -1,5 +1,5 @@
 use Rattle.mgmt_objects.proofs.Common.{◌≡◌, ◌∙◌, ap, sym, arith, string_bytes, drop, rules, object, put, string, view, members_view, members_view-insert_entry}
-use Rattle.mgmt_objects.proofs.Common.{view-Object, with_attributes}
+use Rattle.mgmt_objects.proofs.Common.{view-Object, with_attribute_members}
 use Rattle.std.proofs.lemmas.List.{at_drop_all}
 use Rattle.mgmt_objects.proofs.TargetLemmas.{with_attributes_more}
 use Rattle.mgmt_objects.proofs.target_object.attributes_value.Goals as goal
@@ -19,7 +19,7 @@ loop-attribute-preserved c =
 
 pub returns : goal.returns
 returns c =
-    let all : with_attributes (members_view c.loop-attribute.members.entries) (drop c.loop-attribute.attribute-index c.args.attributes.now)
+    let all : with_attribute_members (members_view c.loop-attribute.members.entries) (drop c.loop-attribute.attribute-index c.args.attributes.now)
     ≡ members_view c.loop-attribute.members.entries =
-    at_drop_all (with_attributes (members_view c.loop-attribute.members.entries)) c.args.attributes.now c.loop-attribute.attribute-index (omega arith) in
+    at_drop_all (with_attribute_members (members_view c.loop-attribute.members.entries)) c.args.attributes.now c.loop-attribute.attribute-index (omega arith) in
     view-Object c.loop-attribute.members ∙ ap object (sym all ∙ c.loop-attribute.invariant)

@@ -1,6 +1,6 @@
-use Rattle.campaign_core.proofs.Common.{None, Denied, is_waiting, decided}
+use Rattle.campaign_core.proofs.Common.{None, Denied, is_waiting, with_approval}
 use Rattle.campaign_core.proofs.RolloutLemmas.{changes_rollout, word_row}
 use Rattle.campaign_core.proofs.rollout_checks.standing.deny.Goals as goal
 
 pub returns : goal.returns
-returns c r rs sound is = (word_row is_waiting c.args.view.now r rs None is c.in_ok-must_wait.ensures, changes_rollout rs sound r (decided Denied))
+returns c r rs sound is = (word_row is_waiting c.args.view.now r rs None is c.in_ok-must_wait.ensures, changes_rollout rs sound r (with_approval Denied))

@@ -1,5 +1,5 @@
 use Rattle.desk_verify.proofs.Common.{◌≡◌, ◌≤◌, ◌^◌, arith, Err, true, false, length, sym, ap, subst, ◌∙◌, both_found, finds_as, Broken, has_at, blamed}
-use Rattle.desk_verify.proofs.Common.{Actions, AreWhole, are_for, count_none, AgreesActions, IsRightAction, JudgesOne, le_trans}
+use Rattle.desk_verify.proofs.Common.{Actions, AreActionsWhole, are_for, count_none, AgreesActions, IsRightAction, JudgesOne, le_trans}
 use Rattle.desk_verify.proofs.Causes.{listed_many}
 use Rattle.desk_verify.proofs.ActionLemmas.{fails, fails_broken, fails_history, fits, waiting}
 use Rattle.desk_verify.proofs.actions.ActionsByRollout.check_rollout.Goals as goal
@@ -12,7 +12,7 @@ pub returns-then-not-rollout-clause-judges : goal.returns-then-not-rollout-claus
 returns-then-not-rollout-clause-judges g c =
     let count : c.count_none.result ≡ count_none c.in-Some.actions.items = c.count_none.ensures ∙ ap count_none c.deref.ensures.value in
     finds_as (rw c.in-Some.is at c.in_ok-actions.ensures.reads)
-    (λ t is there. subst (JudgesOne Actions 2 IsRightAction AreWhole AgreesActions t c.args.rollout.now.number) (sym count)
+    (λ t is there. subst (JudgesOne Actions 2 IsRightAction AreActionsWhole AgreesActions t c.args.rollout.now.number) (sym count)
     (waiting t c.args.rollout.now.number c.args.rollout.now.rollout there c.if-not-rollout.true c.in-Some.actions.items is))
 
 pub returns-then-not-are_for-clause-judges : goal.returns-then-not-are_for-clause-judges

@@ -1,4 +1,4 @@
-use Rattle.target_filter.proofs.Common.{List, ℕ, inr, subst, arith, Stops, Ends}
+use Rattle.target_filter.proofs.Common.{List, ℕ, inr, subst, arith, StopsBehind, Ends}
 use Rattle.target_filter.proofs.Refusals.{syntax, too_deep, in_profile, outside_none, deep_none, within_fault}
 use Rattle.target_filter.proofs.filter_text.Filter.read.Goals as goal
 
@@ -8,12 +8,13 @@ of-requires c = in_profile c.args.text.now c.in-Ok.deepest (omega arith)
 
 pub returns-in-Err-clause-fault : goal.returns-in-Err-clause-fault
 returns-in-Err-clause-fault c = syntax c.args.text.now c.in-Err.at c.utf8.text (omega arith)
-    (subst (λ (x : List ℕ). Stops x c.in-Err.at) c.as_bytes.ensures.value c.in-Err.ensures)
+    (subst (λ (x : List ℕ). StopsBehind x c.in-Err.at) c.as_bytes.ensures.value c.in-Err.ensures)
 
 pub returns-in-Err-clause-refused : goal.returns-in-Err-clause-refused
 returns-in-Err-clause-refused c =
     inr (outside_none c.args.text.now
-    (syntax c.args.text.now c.in-Err.at c.utf8.text (omega arith) (subst (λ (x : List ℕ). Stops x c.in-Err.at) c.as_bytes.ensures.value c.in-Err.ensures)).1)
+    (syntax c.args.text.now c.in-Err.at c.utf8.text (omega arith)
+    (subst (λ (x : List ℕ). StopsBehind x c.in-Err.at) c.as_bytes.ensures.value c.in-Err.ensures)).1)
 
 pub returns-in-Ok-clause-fault : goal.returns-in-Ok-clause-fault
 returns-in-Ok-clause-fault c =
