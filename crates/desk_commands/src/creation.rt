@@ -55,7 +55,10 @@ fn add_if_match<S: Alter>(
     if !matches {
         return Ok(());
     }
-    Ok(members.push(id)?)
+    match members.push(id) {
+        Ok(()) => Ok(()),
+        Err(_) => Err(Fault::Memory),
+    }
 }
 
 /// Those of the targets that match.

@@ -1,5 +1,5 @@
 -- Why a call over a ledger that can be read is no failed store by itself.
-use Rattle.desk_store.proofs.Common.{Place, ◌≡◌, ◌≤◌, ◌-◌, ℕ, zero, suc, inl, inr, List, [], ◌∷◌, take, drop, filter, map, Option, Some, None, Ok, Err, Result}
+use Rattle.desk_store.proofs.Common.{Place, ◌≡◌, ◌-◌, ℕ, zero, suc, inl, inr, List, [], ◌∷◌, take, drop, filter, map, Option, Some, None, Ok, Err, Result}
 use Rattle.desk_store.proofs.Common.{IfErr, Vec, refl, sym, ap, subst, ◌∙◌, Global, Row, Query, Output, page, Database, Ghosts, Has, has_filtered, Fault}
 use Rattle.desk_store.proofs.Common.{Memory, Store, AsksFew, AsksText, TakesFirst, ShowsFirst, first_finds, ask_finds, few_finds, IsOrdered, by, ordered_rows}
 use Rattle.desk_store.proofs.Common.{passes, shown_in, shown_of, simple, HoldsLedger, Ledger, HoldsTables, Tables, IfRowsBroken, HasBroken, seen_in, OpenChange}
@@ -114,7 +114,7 @@ module _ {p : Place} {sql : List ℕ} {query : ℕ → Query} {names : List (Lis
         let its = from_table params db (rows_of db l holds) (tables_of db l holds) shown shows x among in
         rule params its.0 (readable.keep p (db.trees (holds.spot p).tree) (holds.rows p) its.0 its.1) (subst is_broken its.2 broken)
 
-    module _ {S B : Type 0} {g : Ghosts S} {old new : OpenChange S} (grows : old.store.now.calls.failures ≤ new.store.now.calls.failures) where
+    module _ {S B : Type 0} {g : Ghosts S} {old new : OpenChange S} where
       -- the first row
       pub first_fails : (row : Option Row) → TakesFirst (seen_in g old) (seen_in g new) sql params (Ok row) → (out : Result B Fault)
           → IfErr out (λ fault. IfRowsBroken fault (IsBroken is_broken row)) → FailsIn g old new out

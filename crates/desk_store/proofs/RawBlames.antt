@@ -39,10 +39,10 @@ module _ {p : Place} {sql : List ℕ} {query : ℕ → Query} {names : List (Lis
 
     module _ {S B : Type 0} (g : Ghosts S) (Given : Tables → Type 0) (is_broken : Row → Type 0) (blames : (t : Tables) (row : Row) → Has (t p) row
         → is_broken (shown_of (query 0).project params row) → Given t → IsUnreadable t)
-        (old new : OpenChange S) (grows : old.store.now.calls.failures ≤ new.store.now.calls.failures) (out : Result B Fault)
+        (old new : OpenChange S) (out : Result B Fault)
         (broken : IfErr out (λ fault. IfRowsBroken fault (HasBroken is_broken rows.items))) where
       told : FindsTables g {E = Fault} old new (Ok rows) AreOf → BlamesGiven g Given old new out
-      told read = blamed read grows out (go out broken)
+      told read = blamed read out (go out broken)
         where
           unreadable : HasBroken is_broken rows.items → (t : Tables) → AreOf t rows → Given t → IsUnreadable t
           unreadable it t of given = let its = of it.row it.among in blames t its.0 its.1 (subst is_broken its.2 it.broken) given
@@ -97,7 +97,7 @@ nothing t = Unit {0}
 abbrev never : Row → Type 0
 never row = ⊥
 
-module _ {S B : Type 0} (g : Ghosts S) (old new : OpenChange S) (rows : Vec Row Global) (grows : old.store.now.calls.failures ≤ new.store.now.calls.failures)
+module _ {S B : Type 0} (g : Ghosts S) (old new : OpenChange S) (rows : Vec Row Global)
     (out : Result B Fault) where
   abbrev AsksAll : List ℕ → Row → Type 0
   AsksAll sql params = AsksText (seen_in g old) (seen_in g new) sql params (Ok rows)
@@ -112,56 +112,56 @@ module _ {S B : Type 0} (g : Ghosts S) (old new : OpenChange S) (rows : Vec Row 
 
   pub rollout_blamed : (r : ℕ) → AreSpoiled (λ row. BreaksRule (broken_rollout_column row)) → AsksOne GET_ROLLOUT.now (Int (pos r) ∷ []) → Blames g old new out
   rollout_blamed r broken = few_blamed get_rollout_is (Int (pos r) ∷ []) rows g nothing (λ row. BreaksRule (broken_rollout_column row))
-      (λ t row among is given. broken_rollout row among is) old new grows out broken 1
+      (λ t row among is given. broken_rollout row among is) old new out broken 1
 
   pub rule_blamed : (number group : ℕ) → AreSpoiled (λ row. BreaksRule (broken_rule_column row))
       → AsksOne GET_RULE.now (Int (pos number) ∷ Int (pos group) ∷ []) → Blames g old new out
   rule_blamed number group broken = few_blamed get_rule_is (Int (pos number) ∷ Int (pos group) ∷ []) rows g nothing (λ row. BreaksRule (broken_rule_column row))
-      (λ t row among is given. broken_rule row among is) old new grows out broken 1
+      (λ t row among is given. broken_rule row among is) old new out broken 1
 
   pub action_blamed : (k : ℕ) → AreSpoiled (λ row. BreaksRule (broken_action_column row)) → AsksOne GET_ACTION.now (Int (pos k) ∷ [])
       → BlamesGiven g AreActions old new out
   action_blamed k broken =
       few_blamed get_action_is (Int (pos k) ∷ []) rows g AreActions (λ row. BreaksRule (broken_action_column row))
-      (λ t row among is given. let it = given row among in large_count row among (wide_action row it.0 it.1 it.2 is.first is.is)) old new grows out broken 1
+      (λ t row among is given. let it = given row among in large_count row among (wide_action row it.0 it.1 it.2 is.first is.is)) old new out broken 1
 
   pub offer_blamed : (id : List ℕ) → AreSpoiled (λ row. BreaksRule (broken_offer_column row)) → AsksOne GET_OFFER.now (Text id ∷ [])
       → BlamesGiven g AreOffers old new out
   offer_blamed id broken =
       few_blamed get_offer_is (Text id ∷ []) rows g AreOffers (λ row. BreaksRule (broken_offer_column row)) (λ t row among is given. let it = given row among in
-      absurd (no_offer row it.0 it.1 it.2 is.first is.is)) old new grows out broken 1
+      absurd (no_offer row it.0 it.1 it.2 is.first is.is)) old new out broken 1
 
   -- ---- lists
 
   pub actions_blamed : (n : ℕ) → AreSpoiled (λ row. has_wide_count row ≡ true) → AsksAll LIST_ACTIONS.now (all_of n) → Blames g old new out
   actions_blamed n broken = all_blamed list_actions_is (all_of n) rows g nothing (λ row. has_wide_count row ≡ true)
-      (λ t row among is given. large_count row among is) old new grows out broken
+      (λ t row among is given. large_count row among is) old new out broken
 
   pub history_blamed : (n : ℕ) → AreSpoiled (λ row. (c : Column) × BreaksSequenced row c) → AsksAll LIST_ENTRIES.now (all_of n) → Blames g old new out
   history_blamed n broken = all_blamed list_entries_is (all_of n) rows g nothing (λ row. (c : Column) × BreaksSequenced row c)
-      (λ t row among is given. broken_entry row is.0 among is.1) old new grows out broken
+      (λ t row among is given. broken_entry row is.0 among is.1) old new out broken
 
   pub numbers_blamed : (n : ℕ) → AreSpoiled (λ row. BreaksRule (broken_number_column row)) → AsksAll LIST_NUMBERS.now (Int (pos n) ∷ []) → Blames g old new out
   numbers_blamed n broken = all_blamed list_numbers_is (Int (pos n) ∷ []) rows g nothing (λ row. BreaksRule (broken_number_column row))
-      (λ t row among is given. broken_number row among is) old new grows out broken
+      (λ t row among is given. broken_number row among is) old new out broken
 
   pub pieces_blamed : (number place : ℕ) → AreSpoiled (λ row. has_bytes (column row 0) ≡ false)
       → AsksAll GET_PIECE.now (Int (pos number) ∷ Int (pos place) ∷ []) → Blames g old new out
   pieces_blamed number place broken = all_blamed get_piece_is (Int (pos number) ∷ Int (pos place) ∷ []) rows g nothing (λ row. has_bytes (column row 0) ≡ false)
-      (λ t row among is given. broken_piece row among is) old new grows out broken
+      (λ t row among is given. broken_piece row among is) old new out broken
 
   -- nothing of these rows can't be read
   pub groups_blamed : (r : ℕ) → AreSpoiled never → AsksAll LIST_GROUPS.now (Int (pos r) ∷ []) → Blames g old new out
-  groups_blamed r broken = all_blamed list_groups_is (Int (pos r) ∷ []) rows g nothing never (λ t row among is given. absurd is) old new grows out broken
+  groups_blamed r broken = all_blamed list_groups_is (Int (pos r) ∷ []) rows g nothing never (λ t row among is given. absurd is) old new out broken
 
   pub places_blamed : (r : ℕ) → AreSpoiled never → AsksAll LIST_PLACES.now (Int (pos r) ∷ []) → Blames g old new out
-  places_blamed r broken = all_blamed list_places_is (Int (pos r) ∷ []) rows g nothing never (λ t row among is given. absurd is) old new grows out broken
+  places_blamed r broken = all_blamed list_places_is (Int (pos r) ∷ []) rows g nothing never (λ t row among is given. absurd is) old new out broken
 
   pub artifacts_blamed : AreSpoiled never → AsksAll LIST_ALL_ARTIFACTS.now [] → Blames g old new out
-  artifacts_blamed broken = all_blamed list_all_artifacts_is [] rows g nothing never (λ t row among is given. absurd is) old new grows out broken
+  artifacts_blamed broken = all_blamed list_all_artifacts_is [] rows g nothing never (λ t row among is given. absurd is) old new out broken
 
   pub offers_blamed : AreSpoiled never → AsksAll LIST_OFFERS.now [] → Blames g old new out
-  offers_blamed broken = all_blamed list_offers_is [] rows g nothing never (λ t row among is given. absurd is) old new grows out broken
+  offers_blamed broken = all_blamed list_offers_is [] rows g nothing never (λ t row among is given. absurd is) old new out broken
 
   pub counted_blamed : (n : ℕ) → IfErr out (λ fault. fault ≡ Memory) → AsksAll LIST_ACTIONS.now (all_of n) → Blames g old new out
   counted_blamed n memory = actions_blamed n (only_memory out memory)
@@ -193,12 +193,12 @@ no_number v unread = go (number_in v) refl
         let high : nat_le n number_limit ≡ true = (and_parts (nat_le 1 n) (nat_le n number_limit) (number_in_good v n is)).1 in
         absurd (unread n (grind (arith, nat_tests, high)) (number_in_is v n is))
 
-module _ {S : Type 0} (g : Ghosts S) (old new : OpenChange S) (grows : old.store.now.calls.failures ≤ new.store.now.calls.failures) (out : Result ℕ Fault) where
+module _ {S : Type 0} (g : Ghosts S) (old new : OpenChange S) (out : Result ℕ Fault) where
   pub place_count_blamed : (r : ℕ) (rows : Vec Row Global) → IfErr out (λ fault. (fault ≡ Broken) × (2 ^ 32 ≤ length rows.items))
       → AsksText (seen_in g old) (seen_in g new) LIST_PLACES.now (Int (pos r) ∷ []) (Ok rows) → Blames g old new out
   place_count_blamed r rows large h =
       blamed (all_read LIST_PLACES.now (Int (pos r) ∷ []) (seen_in g old) (seen_in g new) (known list_places_is) AreFewer (λ found. found ≡ rows) rows counts h
-      (Ok rows) refl) grows out (go out large)
+      (Ok rows) refl) out (go out large)
     where
       AreFewer : Tables → Vec Row Global → Type 0
       AreFewer t rows = length rows.items ≤ length (t Members)
@@ -228,7 +228,7 @@ module _ {S : Type 0} (g : Ghosts S) (old new : OpenChange S) (grows : old.store
       → Blames g old new out
   count_blamed {p} {sql} text row broken h =
       blamed (first_finds HoldsTables (λ (t : Tables). t) sql [] (seen_in g old) (seen_in g new) IsCounted (tables_know (counted_at text))
-      (λ db t holds at given. tt) row h (Ok row) (λ db t holds shows. row_of_count text db t holds row shows)) grows out (go out broken)
+      (λ db t holds at given. tt) row h (Ok row) (λ db t holds shows. row_of_count text db t holds row shows)) out (go out broken)
     where
       IsCounted : Tables → Option Row → Type 0
       IsCounted t row = row ≡ Some (Int (pos (min (length (t p)) 9223372036854775807)) ∷ [])
@@ -251,7 +251,7 @@ module _ {S : Type 0} (g : Ghosts S) (old new : OpenChange S) (grows : old.store
       (Ok row) → Blames g old new out
   last_blamed row broken h =
       blamed (first_finds HoldsTables (λ (t : Tables). t) LAST_ROLLOUT.now [] (seen_in g old) (seen_in g new) IsOfRollout (known last_rollout_is)
-      (λ db t holds at given. tt) row h (Ok row) (λ db t holds shows. rollout_of db t holds row shows)) grows out (go out row broken)
+      (λ db t holds at given. tt) row h (Ok row) (λ db t holds shows. rollout_of db t holds row shows)) out (go out row broken)
     where
       IsOfRollout : Tables → Option Row → Type 0
       IsOfRollout t None = Unit {0}

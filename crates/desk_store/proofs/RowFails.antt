@@ -49,9 +49,9 @@ no_key row unread = no_size (column row 0) (unread (omega arith))
 pub last_fails : {p : Place} {sql : List ℕ} {query : ℕ → Query} {names : List (List ℕ)} (text : Asks p sql query names)
     → ((params row : Row) → (BreaksColumn p row → ⊥) → HasNoNumber (Some (shown_of (query 0).project params row)) → ⊥)
     → {params : Row} {S : Type 0} {g : Ghosts S} {old new : OpenChange S}
-    → old.store.now.calls.failures ≤ new.store.now.calls.failures → (row : Option Row) → TakesFirst (seen_in g old) (seen_in g new) sql params (Ok row)
+    → (row : Option Row) → TakesFirst (seen_in g old) (seen_in g new) sql params (Ok row)
     → (out : Result ℕ Fault) → IfErr out (λ fault. IfRowsBroken fault (HasNoNumber row)) → FailsIn g old new out
-last_fails text rule {params} grows row h out broken = first_fails text (λ r. HasNoNumber (Some r)) rule params grows row h out (as_broken row broken)
+last_fails text rule {params} row h out broken = first_fails text (λ r. HasNoNumber (Some r)) rule params row h out (as_broken row broken)
   where
     as_broken : (row : Option Row) → IfErr out (λ fault. IfRowsBroken fault (HasNoNumber row))
         → IfErr out (λ fault. IfRowsBroken fault (IsBroken (λ r. HasNoNumber (Some r)) row))
@@ -110,7 +110,7 @@ never_next (Some o) (Some x) is good broken =
         told true e = absurd cc
         told false e = absurd cc
 
-module _ {S : Type 0} {g : Ghosts S} {old new : OpenChange S} (grows : old.store.now.calls.failures ≤ new.store.now.calls.failures) (row : Option Row) where
+module _ {S : Type 0} {g : Ghosts S} {old new : OpenChange S} (row : Option Row) where
   pub count_fails : TakesFirst (seen_in g old) (seen_in g new) COUNT_TARGETS.now [] (Ok row) → (out : Result ℕ Fault)
       → IfErr out (λ fault. IfRowsBroken fault ((row ≡ None) ⊎ HasNoNumber row)) → FailsIn g old new out
   count_fails h out broken =

@@ -15,7 +15,7 @@ ghost use Rattle.desk_store.specs.Counting.{AddsIn};
 ghost use Rattle.desk_store.specs.GroupPairs.{group_and_next};
 ghost use Rattle.desk_store.specs.Rows.{BreaksRule, HasBroken, IfRowsBroken, IsReadAs};
 ghost use Rattle.desk_store.specs.Changing.{FindsLedger, KeepsTables, MakesLedger, StaysIn};
-ghost use Rattle.desk_store.specs.Failing.{CountsIn, FailsIn};
+ghost use Rattle.desk_store.specs.Failing.{FailsIn, WritesIn};
 
 use crate::change::OpenChange;
 use crate::codes::{code_of_approval, flag_code};
@@ -219,9 +219,8 @@ impl<'a, S: Alter> OpenChange<'a, S> {
         plan: &RolloutPlan,
         approval: Approval,
     ) -> Result<(), Fault>
-        ensures stays { StaysIn S.Store self.old self.new result }
+        ensures stays { WritesIn S.Store self.old self.new result }
         ensures writes { MakesLedger S.Store self.old self.new result (AddsRollout number plan.now approval) }
-        ensures counts { CountsIn S.Store self.old self.new result }
         ensures work { AddsIn 1 0 self.old self.new }
     {
         let success = u32::from(plan.success.get());
@@ -250,9 +249,8 @@ impl<'a, S: Alter> OpenChange<'a, S> {
         started: bool,
         paused: bool,
     ) -> Result<(), Fault>
-        ensures stays { StaysIn S.Store self.old self.new result }
+        ensures stays { WritesIn S.Store self.old self.new result }
         ensures writes { MakesLedger S.Store self.old self.new result (SetsRollout number approval started paused) }
-        ensures counts { CountsIn S.Store self.old self.new result }
         ensures work { AddsIn 1 0 self.old self.new }
     {
         let approval_code = code_of_approval(approval);
@@ -271,9 +269,8 @@ impl<'a, S: Alter> OpenChange<'a, S> {
         place: u32,
         id: &ControllerId,
     ) -> Result<(), Fault>
-        ensures stays { StaysIn S.Store self.old self.new result }
+        ensures stays { WritesIn S.Store self.old self.new result }
         ensures writes { MakesLedger S.Store self.old self.new result (AddsMember number place id.now) }
-        ensures counts { CountsIn S.Store self.old self.new result }
         ensures work { AddsIn 1 0 self.old self.new }
     {
         self.run(PUT_MEMBER, params![number.get(), place, id.as_str()])
@@ -286,9 +283,8 @@ impl<'a, S: Alter> OpenChange<'a, S> {
         group: u32,
         bounds: Bounds,
     ) -> Result<(), Fault>
-        ensures stays { StaysIn S.Store self.old self.new result }
+        ensures stays { WritesIn S.Store self.old self.new result }
         ensures writes { MakesLedger S.Store self.old self.new result (AddsGroup number group bounds) }
-        ensures counts { CountsIn S.Store self.old self.new result }
         ensures work { AddsIn 1 0 self.old self.new }
     {
         self.run(
@@ -307,9 +303,8 @@ impl<'a, S: Alter> OpenChange<'a, S> {
         bad: u32,
         gone: u32,
     ) -> Result<(), Fault>
-        ensures stays { StaysIn S.Store self.old self.new result }
+        ensures stays { WritesIn S.Store self.old self.new result }
         ensures writes { MakesLedger S.Store self.old self.new result (SetsGroup number group started ok bad gone) }
-        ensures counts { CountsIn S.Store self.old self.new result }
         ensures work { AddsIn 1 0 self.old self.new }
     {
         let started_code = flag_code(started);

@@ -14,15 +14,12 @@ use Rattle.desk_store.specs.declared.change.OpenChange.{OpenChange}
 use Rattle.desk_verify.proofs.Follow.{differs}
 use Rattle.desk_verify.proofs.GroupLaw.{one_rowid}
 
-pub even : (n : ℕ) → n ≤ n
-even n = omega arith
-
 -- what is given to a call is known by what was read before it
 pub blamed_when : {S A B C : Type 0} {g : Ghosts S} {Given G : Tables → Type 0} {old mid new : OpenChange S} {x : A} {P : Tables → A → Type 0}
-    → FindsTables g {E = Fault} old mid (Ok x) P → old.store.now.calls.failures ≤ mid.store.now.calls.failures
+    → FindsTables g {E = Fault} old mid (Ok x) P
     → Wears (seen_in g mid) (seen_in g new) → (fault : Fault) → BlamesGiven g G {A = C} mid new (Err fault) → ((t : Tables) → P t x → Given t → G t)
     → (out : Result B Fault) → out ≡ Err fault → BlamesGiven g Given old new out
-blamed_when {B = B} {g = g} {Given = Given} {old = old} {new = new} read grows wears fault blames means out is =
+blamed_when {B = B} {g = g} {Given = Given} {old = old} {new = new} read wears fault blames means out is =
     subst (BlamesGiven g Given {A = B} old new) (sym is)
     (record {
       to = λ t sees given. record {

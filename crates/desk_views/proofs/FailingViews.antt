@@ -44,10 +44,10 @@ module _ {S A : Type 0} {g : Ghosts S} {Given : Ledger → Type 0} (at : (l : Le
 
   -- what is given to a call is known by what was read before it
   pub when_given : {B C : Type 0} {G : Ledger → Type 0} {mid new : OpenChange S} → FindsIn g {E = Fault} old mid (Ok x) P
-      → old.store.now.calls.failures ≤ mid.store.now.calls.failures → Wears (seen_in g mid) (seen_in g new)
+      → Wears (seen_in g mid) (seen_in g new)
       → (fault : Fault) → FailsGiven g G {A = C} mid new (Err fault) → ((r : Records) → P r x → AreOfList r → Given (ledger_of r) → G (ledger_of r))
       → (out : Result B Fault) → out ≡ Err fault → FailsGiven g Given old new out
-  when_given {B} {G = G} {mid = mid} {new = new} read grows wears fault fails means out is = subst (λ (o : Result B Fault). FailsGiven g Given old new o)
+  when_given {B} {G = G} {mid = mid} {new = new} read wears fault fails means out is = subst (λ (o : Result B Fault). FailsGiven g Given old new o)
       (sym is)
       (record {
         to = λ l sees all. record {
@@ -70,10 +70,10 @@ module _ {S A : Type 0} {g : Ghosts S} {old : OpenChange S} {x : A} {P : Records
   never_fails read fault why reason = never_given (λ l of. of) read fault why (λ r is of given readable. reason r is of readable)
 
   pub fails_when : {B C : Type 0} {G : Ledger → Type 0} {mid new : OpenChange S} → FindsIn g {E = Fault} old mid (Ok x) P
-      → old.store.now.calls.failures ≤ mid.store.now.calls.failures → Wears (seen_in g mid) (seen_in g new)
+      → Wears (seen_in g mid) (seen_in g new)
       → (fault : Fault) → FailsGiven g G {A = C} mid new (Err fault) → ((r : Records) → P r x → AreOfList r → G (ledger_of r)) → (out : Result B Fault)
       → out ≡ Err fault → FailsGiven g IsOfList old new out
-  fails_when read grows wears fault fails means = when_given (λ l of. of) read grows wears fault fails (λ r is of given. means r is of)
+  fails_when read wears fault fails means = when_given (λ l of. of) read wears fault fails (λ r is of given. means r is of)
 
 -- ---- .. whose records are as wanted
 
@@ -84,10 +84,10 @@ module _ {S A : Type 0} {g : Ghosts S} {Want : Records → Type 0} {old : OpenCh
   never_with read fault why reason = never_given (λ l given. given.of_list) read fault why (λ r is of given readable. reason r is of given.wanted readable)
 
   pub with_when : {B C : Type 0} {G : Ledger → Type 0} {mid new : OpenChange S} → FindsIn g {E = Fault} old mid (Ok x) P
-      → old.store.now.calls.failures ≤ mid.store.now.calls.failures → Wears (seen_in g mid) (seen_in g new)
+      → Wears (seen_in g mid) (seen_in g new)
       → (fault : Fault) → FailsGiven g G {A = C} mid new (Err fault) → ((r : Records) → P r x → AreOfList r → Want r → G (ledger_of r)) → (out : Result B Fault)
       → out ≡ Err fault → FailsGiven g (IsOfListWith Want) old new out
-  with_when read grows wears fault fails means = when_given (λ l given. given.of_list) read grows wears fault fails
+  with_when read wears fault fails means = when_given (λ l given. given.of_list) read wears fault fails
       (λ r is of given. means r is of given.wanted)
 
 -- ---- where the answer is a call's

@@ -230,7 +230,10 @@ fn read_all_shown<S: Alter>(
     let mut all = Vec::new(alloc);
     for one in listed {
         let shown = read_shown(change, one)?;
-        all.push(shown)?;
+        match all.push(shown) {
+            Ok(()) => {}
+            Err(_) => return Err(Fault::Memory),
+        }
     }
     Ok(all)
 }

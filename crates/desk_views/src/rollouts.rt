@@ -81,7 +81,10 @@ fn read_page<S: Alter>(
     let mut content = Vec::new(alloc);
     for place in 0..count_on(page, total) {
         let entry = read_entry(change, page.offset + place + 1)?;
-        content.push(entry)?;
+        match content.push(entry) {
+            Ok(()) => {}
+            Err(_) => return Err(Fault::Memory),
+        }
     }
     Ok(content)
 }

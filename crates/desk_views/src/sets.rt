@@ -62,7 +62,10 @@ fn read_page<S: Alter>(
     let mut content = Vec::new(alloc);
     for place in 0..count_on(page, total) {
         let shown = read_entry(change, page.offset + place + 1)?;
-        content.push(shown)?;
+        match content.push(shown) {
+            Ok(()) => {}
+            Err(_) => return Err(Fault::Memory),
+        }
     }
     Ok(content)
 }

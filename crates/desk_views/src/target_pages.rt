@@ -78,7 +78,10 @@ fn read_entries<S: Alter>(
     for entry in entries {
         let target = read_listed(change, entry)?;
         let shown = with_word(change, target)?;
-        content.push(shown)?;
+        match content.push(shown) {
+            Ok(()) => {}
+            Err(_) => return Err(Fault::Memory),
+        }
     }
     Ok(content)
 }

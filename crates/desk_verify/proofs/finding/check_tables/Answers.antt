@@ -11,7 +11,7 @@ returns-then-not-branch-clause-judges g c =
 pub returns-in_err-check_table-clause-blames : goal.returns-in_err-check_table-clause-blames
 returns-in_err-check_table-clause-blames g c =
     let out = err_from_is_err_and c.from_residual.result c.from_residual.ensures.1 in
-    blamed_when c.loop-table.invariant.judged c.loop-table.invariant.stays.grows.failures c.in_err-check_table.ensures.judges.wears
+    blamed_when c.loop-table.invariant.judged c.in_err-check_table.ensures.judges.wears
     c.in_err-check_table.field-0.0 c.in_err-check_table.ensures.blames
     (λ t is given. so_far t c.loop-table.table-index c.loop-table-test.true is) c.from_residual.result (out.1 ∙ ap Err out.2)
 

@@ -1,12 +1,11 @@
 use Rattle.desk_verify.proofs.Common.{◌≡◌, ◌+◌, ◌∷◌, [], length, Err, sym, ap, subst, arith, rules, length-append, both_found, finds_as, Broken, blamed}
-use Rattle.desk_verify.proofs.Common.{missing_rule, HasOnlyRule, HaveOnlyRules, le_trans}
+use Rattle.desk_verify.proofs.Common.{missing_rule, HasOnlyRule, HaveOnlyRules}
 use Rattle.desk_verify.proofs.RuleLemmas.{found_count, one_rule_more}
 use Rattle.desk_verify.proofs.groupings.read_rules.Goals as goal
 
 pub returns-in_default-clause-blames : goal.returns-in_default-clause-blames
 returns-in_default-clause-blames g c =
-    blamed (both_found c.loop-before.invariant.reads (rw c.in_default.is at c.in_ok-rule.ensures.reads))
-    (le_trans c.loop-before.invariant.stays.grows.failures c.in_ok-rule.ensures.stays.grows.failures) (Err Broken)
+    blamed (both_found c.loop-before.invariant.reads (rw c.in_default.is at c.in_ok-rule.ensures.reads)) (Err Broken)
     (λ t is has. missing_rule c.args.rollout.now.number c.args.rollout.now.rollout.plan.groups (c.loop-before.before + 1)
     (found_count t c.args.rollout.now.number c.args.rollout.now.rollout has.is).there
     (omega arith) (omega (arith, c.loop-before-test.true, c.get-before-end.ensures.value)) is.1)

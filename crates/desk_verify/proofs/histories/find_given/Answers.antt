@@ -15,5 +15,5 @@ pub returns-then-not-sequences_rise-clause-blames : goal.returns-then-not-sequen
 returns-then-not-sequences_rise-clause-blames g c =
     let told : rise 0 (map (λ (e : SequencedEntry). e.sequence) c.in_ok-entries.entries.items) ≡ false =
     rw c.deref.ensures.value at (sym c.sequences_rise.ensures ∙ c.if-not-sequences_rise.true) in
-    blamed (together c.in_ok-entries.ensures.reads c.in_ok-entries.ensures.order) c.in_ok-entries.ensures.stays.grows.failures (Err Broken)
+    blamed (together c.in_ok-entries.ensures.reads c.in_ok-entries.ensures.order) (Err Broken)
     (λ t is given. twin_entries c.args.number (record { found = c.in_ok-entries.entries.items; said = is.0; in_order = is.1; twins = told }))

@@ -9,5 +9,5 @@ returns-then-is_of-clause-reads g c =
     known (λ t kept. (kept c.args.rollout same, kept))
 
 pub returns-in_default-clause-blames : goal.returns-in_default-clause-blames
-returns-in_default-clause-blames g c = blamed (rw c.in_default.is at c.in_ok-groups.ensures.reads) c.in_ok-groups.ensures.stays.grows.failures (Err Broken)
+returns-in_default-clause-blames g c = blamed (rw c.in_default.is at c.in_ok-groups.ensures.reads) (Err Broken)
     (λ t is given. absurd (fails_broken t c.args.rollout is given.1.1.0))

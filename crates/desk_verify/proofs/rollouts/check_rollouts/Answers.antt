@@ -1,5 +1,5 @@
 use Rattle.desk_verify.proofs.Common.{◌≡◌, ◌≤◌, ◌+◌, ◌^◌, Err, arith, rules, refl, ap, subst, ◌∙◌, err_from_is_err_and, Broken, both_found, finds_as}
-use Rattle.desk_verify.proofs.Common.{AreChecked, blamed, within, le_trans}
+use Rattle.desk_verify.proofs.Common.{AreChecked, blamed, within}
 use Rattle.desk_verify.proofs.Causes.{blamed_when, listed_many, up_to}
 use Rattle.desk_verify.proofs.RolloutLemmas.{none_yet, one_more}
 use Rattle.desk_verify.proofs.rollouts.check_rollouts.Goals as goal
@@ -46,15 +46,14 @@ returns-clause-judges g c =
 pub returns-in_err-rollout-clause-blames : goal.returns-in_err-rollout-clause-blames
 returns-in_err-rollout-clause-blames g c =
     let out = err_from_is_err_and c.from_residual-in_err-rollout.result c.from_residual-in_err-rollout.ensures.1 in
-    blamed_when c.loop-before.invariant.judged c.loop-before.invariant.stays.grows.failures c.in_err-rollout.ensures.reads.wears c.in_err-rollout.field-0.0
+    blamed_when c.loop-before.invariant.judged c.in_err-rollout.ensures.reads.wears c.in_err-rollout.field-0.0
     c.in_err-rollout.ensures.blames
     (λ t is given. up_to t c.loop-before.before c.in_ok-last.last is.0 c.loop-before-test.true) c.from_residual-in_err-rollout.result (out.1 ∙ ap Err out.2)
 
 pub returns-in_err-count-clause-blames : goal.returns-in_err-count-clause-blames
 returns-in_err-count-clause-blames g c =
     let out = err_from_is_err_and c.from_residual-in_err-count.result c.from_residual-in_err-count.ensures.1 in
-    blamed_when (both_found c.loop-before.invariant.judged c.in_ok-rollout.ensures.reads)
-    (le_trans c.loop-before.invariant.stays.grows.failures c.in_ok-rollout.ensures.stays.grows.failures) c.in_err-count.ensures.judges.wears
+    blamed_when (both_found c.loop-before.invariant.judged c.in_ok-rollout.ensures.reads) c.in_err-count.ensures.judges.wears
     c.in_err-count.field-0.0 c.in_err-count.ensures.blames (λ t is given. record { has = is.1; given = given }) c.from_residual-in_err-count.result
     (out.1 ∙ ap Err out.2)
 
@@ -62,7 +61,6 @@ pub returns-in-None-clause-blames : goal.returns-in-None-clause-blames
 returns-in-None-clause-blames g c =
     let large : 2 ^ 32 ≤ c.loop-before.listed + c.in-Some.count = grind (arith, c.in-None.ensures) in
     blamed (both_found c.loop-before.invariant.judged (both_found c.in_ok-rollout.ensures.reads (rw c.in-Some.is at c.in_ok-count.ensures.judges)))
-    (le_trans c.loop-before.invariant.stays.grows.failures (le_trans c.in_ok-rollout.ensures.stays.grows.failures c.in_ok-count.ensures.stays.grows.failures))
     (Err Broken)
     (λ t is given. listed_many t g.T.ByRollout.table (within g.T.ByRollout.column (c.loop-before.before + 1)) (c.loop-before.listed + c.in-Some.count)
     (one_more g.T.ByRollout.table g.T.ByRollout.column g.T.ByRollout.is_right g.T.ByRollout.is_whole t c.loop-before.before c.loop-before.listed c.in-Some.count

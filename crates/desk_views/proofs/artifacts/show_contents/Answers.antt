@@ -20,7 +20,7 @@ returns-clause-sized g c = record {
 
 pub returns-in_err-contents-clause-fails : goal.returns-in_err-contents-clause-fails
 returns-in_err-contents-clause-fails g c =
-    fails_when (rw c.in-Some.is at c.in_ok-found.ensures.reads) c.in_ok-found.ensures.stays.grows.failures c.in_err-contents.ensures.reads.wears _
+    fails_when (rw c.in-Some.is at c.in_ok-found.ensures.reads) c.in_err-contents.ensures.reads.wears _
     c.in_err-contents.ensures.fails
     (λ r is of. record { of_list = listed of; wanted = size_of_found r of c.args.module_number c.args.number c.in-Some.found is }) _
     (passed _ _ c.from_residual-in_err-contents.ensures.1)

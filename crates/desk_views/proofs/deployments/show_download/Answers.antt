@@ -19,7 +19,7 @@ returns-in_ok-contents-in-Ok-clause-sized g c = record {
 
 pub returns-in_err-contents-in-Ok-clause-fails : goal.returns-in_err-contents-in-Ok-clause-fails
 returns-in_err-contents-in-Ok-clause-fails g c =
-    fails_when (rw c.in-Ok.is at c.in_ok-artifact.ensures.reads) c.in_ok-artifact.ensures.stays.grows.failures c.in_err-contents-in-Ok.ensures.reads.wears _
+    fails_when (rw c.in-Ok.is at c.in_ok-artifact.ensures.reads) c.in_err-contents-in-Ok.ensures.reads.wears _
     c.in_err-contents-in-Ok.ensures.fails
     (λ r is of.
     let it = answered_by c.args.module_number c.args.filename.now r c.args.device.now (Ok c.in-Ok.artifact) is in

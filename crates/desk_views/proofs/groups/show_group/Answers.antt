@@ -1,5 +1,5 @@
 use Rattle.desk_views.proofs.Answering.{Err, Some, ap, subst, ◌∙◌, err_from_is_err_and, both_found, finds_as, BothOrNone, group_reply, item_numbered}
-use Rattle.desk_views.proofs.Answering.{group_shown, GroupShown, group_numbered, ledger_found, IsSeenOf, groups_are, le_trans, group_there, fails_when}
+use Rattle.desk_views.proofs.Answering.{group_shown, GroupShown, group_numbered, ledger_found, IsSeenOf, groups_are, group_there, fails_when}
 use Rattle.desk_views.proofs.Answering.{no_group, one_group, none_replied}
 use Rattle.desk_views.proofs.FailingViews.{listed}
 use Rattle.desk_views.proofs.groups.show_group.Goals as goal
@@ -28,7 +28,6 @@ pub returns-in_err-shown-clause-fails : goal.returns-in_err-shown-clause-fails
 returns-in_err-shown-clause-fails g c =
     let out = err_from_is_err_and c.from_residual-in_err-shown.result c.from_residual-in_err-shown.ensures.1 in
     fails_when (both_found c.in_ok-seen.ensures.reads (rw c.in-Some-2.is at (ledger_found _ c.in_ok-found.ensures.reads)))
-    (le_trans c.in_ok-seen.ensures.stays.grows.failures c.in_ok-found.ensures.stays.grows.failures)
     c.in_err-shown.ensures.reads.wears c.in_err-shown.field-0.0 c.in_err-shown.ensures.fails
     (λ r is of. record { of_list = listed of; wanted = group_there r of c.args.number c.args.group c.in-Some-2.found is.1 })
     c.from_residual-in_err-shown.result (out.1 ∙ ap Err out.2)

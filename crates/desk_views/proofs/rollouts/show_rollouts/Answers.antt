@@ -11,6 +11,6 @@ returns-clause-shows g c =
 pub returns-in_err-content-clause-fails : goal.returns-in_err-content-clause-fails
 returns-in_err-content-clause-fails g c =
     let out = err_from_is_err_and c.from_residual-in_err-content.result c.from_residual-in_err-content.ensures.1 in
-    fails_when (ledger_found _ c.in_ok-total.ensures.reads) c.in_ok-total.ensures.stays.grows.failures c.in_err-content.ensures.reads.wears
+    fails_when (ledger_found _ c.in_ok-total.ensures.reads) c.in_err-content.ensures.reads.wears
     c.in_err-content.field-0.0 c.in_err-content.ensures.fails
     (λ r is of. record { of_list = listed of; wanted = is }) c.from_residual-in_err-content.result (out.1 ∙ ap Err out.2)

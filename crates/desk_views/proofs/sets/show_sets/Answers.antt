@@ -10,5 +10,5 @@ returns-clause-reads g c =
 
 pub returns-in_err-content-clause-fails : goal.returns-in_err-content-clause-fails
 returns-in_err-content-clause-fails g c =
-    fails_when c.in_ok-total.ensures.reads c.in_ok-total.ensures.stays.grows.failures c.in_err-content.ensures.reads.wears _ c.in_err-content.ensures.fails
+    fails_when c.in_ok-total.ensures.reads c.in_err-content.ensures.reads.wears _ c.in_err-content.ensures.fails
     (λ r is of. record { of_list = listed of; wanted = is }) _ (passed _ _ c.from_residual-in_err-content.ensures.1)

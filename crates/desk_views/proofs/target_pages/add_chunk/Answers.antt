@@ -9,7 +9,7 @@ returns-clause-reads g c =
 
 pub returns-in_err-add_matching-clause-fails : goal.returns-in_err-add_matching-clause-fails
 returns-in_err-add_matching-clause-fails g c =
-    with_when c.in_ok-entries.ensures.reads c.in_ok-entries.ensures.stays.grows.failures c.in_err-add_matching.ensures.reads.wears _
+    with_when c.in_ok-entries.ensures.reads c.in_err-add_matching.ensures.reads.wears _
     c.in_err-add_matching.ensures.fails
     (λ r is of room. record { of_list = listed of; wanted = (let few = chunk_few c.args.offset r.targets _ is in omega (arith, few, room)) }) _
     (passed _ _ c.from_residual-in_err-add_matching.ensures.1)

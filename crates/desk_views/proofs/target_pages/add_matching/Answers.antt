@@ -23,6 +23,6 @@ pub returns-in_err-add_if_match-clause-fails : goal.returns-in_err-add_if_match-
 returns-in_err-add_if_match-clause-fails g c =
     let more = some_left c.into_iter-entry-iterator.result _ c.next.new.self _ _ c.in-Some.entry c.into_iter-entry-iterator.ensures.into_iter_gives.0
     c.loop-entry.yielded_by c.in-Some.ensures.steps in
-    with_when c.loop-entry.invariant.reads c.loop-entry.invariant.stays.grows.failures c.in_err-add_if_match.ensures.reads.wears _
+    with_when c.loop-entry.invariant.reads c.in_err-add_if_match.ensures.reads.wears _
     c.in_err-add_if_match.ensures.fails
     (λ r is of room. record { of_list = listed of; wanted = omega (arith, more, room, c.loop-entry.invariant.counts) }) _ (passed _ _ c.from_residual.ensures.1)

@@ -32,7 +32,7 @@ returns-clause-reads g c =
 
 pub returns-in_err-add_chunk-clause-fails : goal.returns-in_err-add_chunk-clause-fails
 returns-in_err-add_chunk-clause-fails g c =
-    fails_when c.loop-chunk.invariant.reads c.loop-chunk.invariant.stays.grows.failures c.in_err-add_chunk.ensures.reads.wears _
+    fails_when c.loop-chunk.invariant.reads c.in_err-add_chunk.ensures.reads.wears _
     c.in_err-add_chunk.ensures.fails
     (λ r is of.
     let first = one_chunk r of c.in_ok-count.count c.loop-chunk.chunk _ is.0 c.div_ceil-chunk-end.ensures c.loop-chunk-test.true in

@@ -7,7 +7,7 @@ returns-clause-reads g c = count_read count_groups_is _ _ c.in_ok-row.row c.in_o
 
 pub returns-clause-blames : goal.returns-clause-blames
 returns-clause-blames g c =
-    count_blamed g.S.Store _ _ c.in_ok-row.ensures.stays.grows.failures c.counted_in.result count_groups_is c.in_ok-row.row c.counted_in.ensures.err
+    count_blamed g.S.Store _ _ c.counted_in.result count_groups_is c.in_ok-row.row c.counted_in.ensures.err
     c.in_ok-row.ensures.takes
 
 pub first-requires : goal.first-requires

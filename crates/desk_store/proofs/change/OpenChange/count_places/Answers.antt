@@ -6,7 +6,7 @@ returns-clause-reads g c = place_count_read c.args.number (subst (λ n. is_numbe
     (rw (c.params-to_sql.ensures, c.get.ensures.value) at c.in_ok-rows.ensures.asks) c.row_count.result (rw c.deref.ensures.value at c.row_count.ensures.ok)
 
 pub returns-clause-blames : goal.returns-clause-blames
-returns-clause-blames g c = place_count_blamed g.S.Store _ _ c.in_ok-rows.ensures.stays.grows.failures c.row_count.result c.args.number c.in_ok-rows.rows
+returns-clause-blames g c = place_count_blamed g.S.Store _ _ c.row_count.result c.args.number c.in_ok-rows.rows
     (rw c.deref.ensures.value at c.row_count.ensures.err) (rw (c.params-to_sql.ensures, c.get.ensures.value) at c.in_ok-rows.ensures.asks)
 
 pub ask-requires : goal.ask-requires

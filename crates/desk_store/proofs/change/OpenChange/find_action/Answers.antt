@@ -6,7 +6,7 @@ returns-clause-reads g c = action_read c.args.number _ _ c.in_ok-rows.rows (rw (
     c.read_at.result (rw c.deref.ensures.value at c.read_at.ensures.ok)
 
 pub returns-clause-blames : goal.returns-clause-blames
-returns-clause-blames g c = action_blamed g.S.Store _ _ c.in_ok-rows.rows c.in_ok-rows.ensures.stays.grows.failures c.read_at.result c.args.number
+returns-clause-blames g c = action_blamed g.S.Store _ _ c.in_ok-rows.rows c.read_at.result c.args.number
     (rw c.deref.ensures.value at c.read_at.ensures.err) (rw (c.params-to_sql.ensures, c.get.ensures.value) at c.in_ok-rows.ensures.asks)
 
 pub few-requires : goal.few-requires

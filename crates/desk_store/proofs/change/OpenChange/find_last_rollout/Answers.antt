@@ -6,7 +6,7 @@ returns-clause-reads g c = last_read _ _ c.in_ok-row.row c.in_ok-row.ensures.tak
 
 pub returns-clause-blames : goal.returns-clause-blames
 returns-clause-blames g c =
-    last_blamed g.S.Store _ _ c.in_ok-row.ensures.stays.grows.failures c.last_number.result c.in_ok-row.row c.last_number.ensures.err c.in_ok-row.ensures.takes
+    last_blamed g.S.Store _ _ c.last_number.result c.in_ok-row.row c.last_number.ensures.err c.in_ok-row.ensures.takes
 
 pub first-requires : goal.first-requires
 first-requires g c = known last_rollout_is

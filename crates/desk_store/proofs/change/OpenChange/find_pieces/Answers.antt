@@ -8,7 +8,7 @@ returns-clause-reads g c = pieces_read c.args.number c.args.place _ _ c.in_ok-ro
     (rw c.deref.ensures.value at c.read_all.ensures.ok)
 
 pub returns-clause-blames : goal.returns-clause-blames
-returns-clause-blames g c = pieces_blamed g.S.Store _ _ c.in_ok-rows.rows c.in_ok-rows.ensures.stays.grows.failures c.read_all.result c.args.number c.args.place
+returns-clause-blames g c = pieces_blamed g.S.Store _ _ c.in_ok-rows.rows c.read_all.result c.args.number c.args.place
     (rw c.deref.ensures.value at c.read_all.ensures.err)
     (rw (c.params-to_sql.ensures, c.params-to_sql-2.ensures, c.get.ensures.value) at c.in_ok-rows.ensures.asks)
 

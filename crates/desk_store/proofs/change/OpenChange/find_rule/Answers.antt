@@ -7,7 +7,7 @@ returns-clause-reads g c = rule_read c.args.number c.args.group _ _ c.in_ok-rows
     (rw c.deref.ensures.value at c.read_at.ensures.ok)
 
 pub returns-clause-blames : goal.returns-clause-blames
-returns-clause-blames g c = rule_blamed g.S.Store _ _ c.in_ok-rows.rows c.in_ok-rows.ensures.stays.grows.failures c.read_at.result c.args.number c.args.group
+returns-clause-blames g c = rule_blamed g.S.Store _ _ c.in_ok-rows.rows c.read_at.result c.args.number c.args.group
     (rw c.deref.ensures.value at c.read_at.ensures.err)
     (rw (c.params-to_sql.ensures, c.params-to_sql-2.ensures, c.get.ensures.value) at c.in_ok-rows.ensures.asks)
 

@@ -9,7 +9,7 @@ returns-clause-reads g c =
     (rw c.deref.ensures.value at c.read_counted.ensures.ok)
 
 pub returns-clause-blames : goal.returns-clause-blames
-returns-clause-blames g c = counted_blamed g.S.Store _ _ c.in_ok-rows.rows c.in_ok-rows.ensures.stays.grows.failures c.read_counted.result c.args.number
+returns-clause-blames g c = counted_blamed g.S.Store _ _ c.in_ok-rows.rows c.read_counted.result c.args.number
     c.read_counted.ensures.err
     (rw (c.params-to_sql.ensures, c.params-to_sql-2.ensures, c.params-to_sql-3.ensures, c.get.ensures.value) at c.in_ok-rows.ensures.asks)
 

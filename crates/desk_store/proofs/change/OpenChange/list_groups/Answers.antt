@@ -7,7 +7,7 @@ returns-clause-reads g c = groups_read c.args.number (subst (Î» n. is_number n â
     (rw c.deref.ensures.value at c.read_checked.ensures.ok)
 
 pub returns-clause-blames : goal.returns-clause-blames
-returns-clause-blames g c = groups_blamed g.S.Store _ _ c.in_ok-rows.rows c.in_ok-rows.ensures.stays.grows.failures c.read_checked.result c.args.number
+returns-clause-blames g c = groups_blamed g.S.Store _ _ c.in_ok-rows.rows c.read_checked.result c.args.number
     (rw c.deref.ensures.value at c.read_checked.ensures.err) (rw (c.params-to_sql.ensures, c.get.ensures.value) at c.in_ok-rows.ensures.asks)
 
 pub ask-requires : goal.ask-requires

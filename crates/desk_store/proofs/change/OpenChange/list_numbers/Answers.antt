@@ -6,7 +6,7 @@ returns-clause-reads g c = numbers_read c.args.action _ _ c.in_ok-rows.rows (rw 
     c.read_all.result (rw c.deref.ensures.value at c.read_all.ensures.ok)
 
 pub returns-clause-blames : goal.returns-clause-blames
-returns-clause-blames g c = numbers_blamed g.S.Store _ _ c.in_ok-rows.rows c.in_ok-rows.ensures.stays.grows.failures c.read_all.result c.args.action
+returns-clause-blames g c = numbers_blamed g.S.Store _ _ c.in_ok-rows.rows c.read_all.result c.args.action
     (rw c.deref.ensures.value at c.read_all.ensures.err) (rw (c.params-to_sql.ensures, c.get.ensures.value) at c.in_ok-rows.ensures.asks)
 
 pub ask-requires : goal.ask-requires

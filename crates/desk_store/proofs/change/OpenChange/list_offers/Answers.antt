@@ -7,7 +7,7 @@ returns-clause-reads g c = offers_read _ _ c.in_ok-rows.rows c.in_ok-rows.ensure
 
 pub returns-clause-blames : goal.returns-clause-blames
 returns-clause-blames g c =
-    offers_blamed g.S.Store _ _ c.in_ok-rows.rows c.in_ok-rows.ensures.stays.grows.failures c.read_checked.result
+    offers_blamed g.S.Store _ _ c.in_ok-rows.rows c.read_checked.result
     (rw c.deref.ensures.value at c.read_checked.ensures.err) c.in_ok-rows.ensures.asks
 
 pub ask-requires : goal.ask-requires

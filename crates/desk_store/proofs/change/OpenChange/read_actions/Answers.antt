@@ -8,7 +8,7 @@ returns-clause-reads g c = actions_read c.args.number c.args.page.limit c.args.p
     (rw c.deref.ensures.value at c.read_all.ensures.ok)
 
 pub returns-clause-fails : goal.returns-clause-fails
-returns-clause-fails g c = all_fails list_actions_is _ (λ params row kept is. kept (inr (inr is))) _ c.in_ok-rows.ensures.stays.grows.failures c.in_ok-rows.rows
+returns-clause-fails g c = all_fails list_actions_is _ (λ params row kept is. kept (inr (inr is))) _ c.in_ok-rows.rows
     c.read_all.result (rw c.deref.ensures.value at c.read_all.ensures.err) c.in_ok-rows.ensures.asks
 
 pub ask-requires : goal.ask-requires

@@ -5,7 +5,7 @@ pub returns-clause-reads : goal.returns-clause-reads
 returns-clause-reads g c = approval_read _ _ c.in_ok-row.row c.in_ok-row.ensures.takes c.approval_in.result c.approval_in.ensures.ok
 
 pub returns-clause-fails : goal.returns-clause-fails
-returns-clause-fails g c = approval_fails c.in_ok-row.ensures.stays.grows.failures c.in_ok-row.row c.in_ok-row.ensures.takes c.approval_in.result
+returns-clause-fails g c = approval_fails c.in_ok-row.row c.in_ok-row.ensures.takes c.approval_in.result
     c.approval_in.ensures.err
 
 pub first-requires : goal.first-requires

@@ -10,7 +10,7 @@ returns-clause-tells g c = artifact_told c.args.number _ _ c.in_ok-row.row (rw (
     c.read_optional.result c.read_optional.ensures.ok
 
 pub returns-clause-fails : goal.returns-clause-fails
-returns-clause-fails g c = first_fails get_artifact_is _ (λ params row kept is. kept (inr (inl is))) _ c.in_ok-row.ensures.stays.grows.failures c.in_ok-row.row
+returns-clause-fails g c = first_fails get_artifact_is _ (λ params row kept is. kept (inr (inl is))) _ c.in_ok-row.row
     c.in_ok-row.ensures.takes c.read_optional.result c.read_optional.ensures.err
 
 pub first-requires : goal.first-requires

@@ -12,7 +12,7 @@ returns-clause-reads g c =
     c.read_optional.result c.read_optional.ensures.ok
 
 pub returns-clause-fails : goal.returns-clause-fails
-returns-clause-fails g c = first_fails list_entries_is _ (λ params row kept is. kept is) _ c.in_ok-row.ensures.stays.grows.failures c.in_ok-row.row
+returns-clause-fails g c = first_fails list_entries_is _ (λ params row kept is. kept is) _ c.in_ok-row.row
     c.in_ok-row.ensures.takes c.read_optional.result c.read_optional.ensures.err
 
 pub first-requires : goal.first-requires

@@ -7,7 +7,7 @@ returns-clause-reads g c = group_and_next_read c.args.number c.args.place (subst
     (rw c.deref.ensures.value at c.read_both.ensures.ok)
 
 pub returns-clause-fails : goal.returns-clause-fails
-returns-clause-fails g c = few_fails group_and_next_is _ (λ params row kept is. kept is) _ c.in_ok-rows.ensures.stays.grows.failures c.in_ok-rows.rows
+returns-clause-fails g c = few_fails group_and_next_is _ (λ params row kept is. kept is) _ c.in_ok-rows.rows
     c.read_both.result (rw c.deref.ensures.value at c.read_both.ensures.err) 2 c.in_ok-rows.ensures.asks
 
 pub few-requires : goal.few-requires

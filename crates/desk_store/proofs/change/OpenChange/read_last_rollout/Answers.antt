@@ -6,7 +6,7 @@ pub returns-clause-reads : goal.returns-clause-reads
 returns-clause-reads g c = last_read _ _ c.in_ok-row.row c.in_ok-row.ensures.takes c.last_number.result c.last_number.ensures.ok
 
 pub returns-clause-fails : goal.returns-clause-fails
-returns-clause-fails g c = last_fails last_rollout_is (λ params row kept is. kept (inl (no_key row is))) c.in_ok-row.ensures.stays.grows.failures
+returns-clause-fails g c = last_fails last_rollout_is (λ params row kept is. kept (inl (no_key row is)))
     c.in_ok-row.row c.in_ok-row.ensures.takes c.last_number.result c.last_number.ensures.err
 
 pub first-requires : goal.first-requires

@@ -11,7 +11,7 @@ returns-clause-tells g c = module_artifacts_read c.args.module_number _ _ c.in_o
     (rw (c.params-to_sql.ensures, c.get.ensures.value) at c.in_ok-rows.ensures.asks) c.read_all.result (rw c.deref.ensures.value at c.read_all.ensures.ok)
 
 pub returns-clause-fails : goal.returns-clause-fails
-returns-clause-fails g c = all_fails list_artifacts_is _ (λ params row kept is. kept (inr (inr is))) _ c.in_ok-rows.ensures.stays.grows.failures
+returns-clause-fails g c = all_fails list_artifacts_is _ (λ params row kept is. kept (inr (inr is))) _
     c.in_ok-rows.rows c.read_all.result (rw c.deref.ensures.value at c.read_all.ensures.err) c.in_ok-rows.ensures.asks
 
 pub ask-requires : goal.ask-requires

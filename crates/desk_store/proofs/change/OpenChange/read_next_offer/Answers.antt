@@ -7,7 +7,7 @@ returns-clause-reads g c = next_offer_read c.args.id.now _ _ c.in_ok-row.row (rw
     c.read_optional.result c.read_optional.ensures.ok
 
 pub returns-clause-fails : goal.returns-clause-fails
-returns-clause-fails g c = next_fails c.in_ok-row.ensures.stays.grows.failures c.in_ok-row.row c.args.id.now
+returns-clause-fails g c = next_fails c.in_ok-row.row c.args.id.now
     (rw (c.params-to_sql.ensures, c.as_str.ensures.value) at c.in_ok-row.ensures.takes) c.read_optional.result c.read_optional.ensures.err
 
 pub first-requires : goal.first-requires

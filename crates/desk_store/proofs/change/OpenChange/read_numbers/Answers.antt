@@ -7,7 +7,7 @@ returns-clause-reads g c = numbers_read c.args.action (subst (λ n. 1 ≤ n) c.g
     (rw (c.params-to_sql.ensures, c.get.ensures.value) at c.in_ok-rows.ensures.asks) c.read_all.result (rw c.deref.ensures.value at c.read_all.ensures.ok)
 
 pub returns-clause-fails : goal.returns-clause-fails
-returns-clause-fails g c = all_fails list_numbers_is _ (λ params row kept is. kept (inl is)) _ c.in_ok-rows.ensures.stays.grows.failures c.in_ok-rows.rows
+returns-clause-fails g c = all_fails list_numbers_is _ (λ params row kept is. kept (inl is)) _ c.in_ok-rows.rows
     c.read_all.result (rw c.deref.ensures.value at c.read_all.ensures.err) c.in_ok-rows.ensures.asks
 
 pub ask-requires : goal.ask-requires

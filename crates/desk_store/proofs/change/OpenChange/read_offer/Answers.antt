@@ -12,7 +12,7 @@ returns-clause-tells g c = offer_kept c.args.id.now (subst (λ id. is_word id �
     (rw (c.params-to_sql.ensures, c.as_str.ensures.value) at c.in_ok-row.ensures.takes) c.read_optional.result c.read_optional.ensures.ok
 
 pub returns-clause-fails : goal.returns-clause-fails
-returns-clause-fails g c = first_fails get_offer_is _ (λ params row kept is. kept is) _ c.in_ok-row.ensures.stays.grows.failures c.in_ok-row.row
+returns-clause-fails g c = first_fails get_offer_is _ (λ params row kept is. kept is) _ c.in_ok-row.row
     c.in_ok-row.ensures.takes c.read_optional.result c.read_optional.ensures.err
 
 pub first-requires : goal.first-requires

@@ -7,7 +7,7 @@ returns-clause-reads g c = piece_read c.args.number c.args.sequence (subst (λ n
     c.read_optional.ensures.ok
 
 pub returns-clause-fails : goal.returns-clause-fails
-returns-clause-fails g c = first_fails get_piece_is _ (λ params row kept is. kept is) _ c.in_ok-row.ensures.stays.grows.failures c.in_ok-row.row
+returns-clause-fails g c = first_fails get_piece_is _ (λ params row kept is. kept is) _ c.in_ok-row.row
     c.in_ok-row.ensures.takes c.read_optional.result c.read_optional.ensures.err
 
 pub first-requires : goal.first-requires

@@ -6,7 +6,7 @@ returns-clause-reads g c = set_read c.args.number (subst (λ n. 1 ≤ n) c.get.e
     (rw (c.params-to_sql.ensures, c.get.ensures.value) at c.in_ok-row.ensures.takes) c.read_optional.result c.read_optional.ensures.ok
 
 pub returns-clause-fails : goal.returns-clause-fails
-returns-clause-fails g c = first_fails get_set_is _ (λ params row kept is. kept (inr is)) _ c.in_ok-row.ensures.stays.grows.failures c.in_ok-row.row
+returns-clause-fails g c = first_fails get_set_is _ (λ params row kept is. kept (inr is)) _ c.in_ok-row.row
     c.in_ok-row.ensures.takes c.read_optional.result c.read_optional.ensures.err
 
 pub first-requires : goal.first-requires

@@ -6,7 +6,7 @@ returns-clause-reads g c = target_read c.args.id.now _ _ c.in_ok-row.row (rw (c.
     c.read_optional.result c.read_optional.ensures.ok
 
 pub returns-clause-fails : goal.returns-clause-fails
-returns-clause-fails g c = first_fails get_target_is _ (λ params row kept is. kept (inl is)) _ c.in_ok-row.ensures.stays.grows.failures c.in_ok-row.row
+returns-clause-fails g c = first_fails get_target_is _ (λ params row kept is. kept (inl is)) _ c.in_ok-row.row
     c.in_ok-row.ensures.takes c.read_optional.result c.read_optional.ensures.err
 
 pub first-requires : goal.first-requires

@@ -7,7 +7,7 @@ returns-clause-reads g c =
     c.read_attributes.result (rw c.deref.ensures.value at c.read_attributes.ensures.ok)
 
 pub returns-clause-fails : goal.returns-clause-fails
-returns-clause-fails g c = all_fails list_target_attributes_is _ (λ params row kept is. kept is) _ c.in_ok-rows.ensures.stays.grows.failures c.in_ok-rows.rows
+returns-clause-fails g c = all_fails list_target_attributes_is _ (λ params row kept is. kept is) _ c.in_ok-rows.rows
     c.read_attributes.result (rw c.deref.ensures.value at c.read_attributes.ensures.err) c.in_ok-rows.ensures.asks
 
 pub ask-requires : goal.ask-requires

@@ -6,7 +6,7 @@ pub returns-clause-reads : goal.returns-clause-reads
 returns-clause-reads g c = count_read _ _ c.in_ok-row.row c.in_ok-row.ensures.takes c.counted_in.result c.counted_in.ensures.count c.counted_in.ensures.small
 
 pub returns-clause-fails : goal.returns-clause-fails
-returns-clause-fails g c = count_fails c.in_ok-row.ensures.stays.grows.failures c.in_ok-row.row c.in_ok-row.ensures.takes c.counted_in.result
+returns-clause-fails g c = count_fails c.in_ok-row.row c.in_ok-row.ensures.takes c.counted_in.result
     c.counted_in.ensures.err
 
 pub first-requires : goal.first-requires

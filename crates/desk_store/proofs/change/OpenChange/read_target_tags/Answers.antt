@@ -6,7 +6,7 @@ returns-clause-reads g c = tags_read c.args.id.now _ _ c.in_ok-rows.rows (rw (c.
     c.read_all.result (rw c.deref.ensures.value at c.read_all.ensures.ok)
 
 pub returns-clause-fails : goal.returns-clause-fails
-returns-clause-fails g c = all_fails list_target_tags_is _ (λ params row kept is. kept is) _ c.in_ok-rows.ensures.stays.grows.failures c.in_ok-rows.rows
+returns-clause-fails g c = all_fails list_target_tags_is _ (λ params row kept is. kept is) _ c.in_ok-rows.rows
     c.read_all.result (rw c.deref.ensures.value at c.read_all.ensures.err) c.in_ok-rows.ensures.asks
 
 pub ask-requires : goal.ask-requires

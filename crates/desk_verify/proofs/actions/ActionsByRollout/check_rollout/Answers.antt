@@ -1,5 +1,5 @@
 use Rattle.desk_verify.proofs.Common.{◌≡◌, ◌≤◌, ◌^◌, arith, Err, true, false, length, sym, ap, subst, ◌∙◌, both_found, finds_as, Broken, has_at, blamed}
-use Rattle.desk_verify.proofs.Common.{Actions, AreActionsWhole, are_for, count_none, AgreesActions, IsRightAction, JudgesOne, le_trans}
+use Rattle.desk_verify.proofs.Common.{Actions, AreActionsWhole, are_for, count_none, AgreesActions, IsRightAction, JudgesOne}
 use Rattle.desk_verify.proofs.Causes.{listed_many}
 use Rattle.desk_verify.proofs.ActionLemmas.{fails, fails_broken, fails_history, fits, waiting}
 use Rattle.desk_verify.proofs.actions.ActionsByRollout.check_rollout.Goals as goal
@@ -46,6 +46,5 @@ returns-clause-blames g c =
     let large : 2 ^ 32 ≤ length c.in-Some.actions.items =
     grind (arith, c.in-Err.ensures, c.len.ensures, c.deref-3.ensures.len, ap length c.deref-3.ensures.value) in
     blamed (both_found (rw c.in-Some.is at c.in_ok-actions.ensures.reads) (both_found c.in_ok-members.ensures.reads c.in_ok-fit_histories.ensures.judges))
-    (le_trans c.in_ok-actions.ensures.stays.grows.failures
-    (le_trans c.in_ok-members.ensures.stays.grows.failures c.in_ok-fit_histories.ensures.stays.grows.failures)) (Err Broken)
+    (Err Broken)
     (λ t is given. listed_many t Actions (has_at 2 c.args.rollout.now.number) (length c.in-Some.actions.items) is.0.said.count large)

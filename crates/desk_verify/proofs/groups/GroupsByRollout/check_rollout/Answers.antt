@@ -1,5 +1,5 @@
 use Rattle.desk_verify.proofs.Common.{◌≡◌, ◌≤◌, ◌^◌, true, false, length, Err, sym, ap, ◌∙◌, arith, both_found, finds_as, Broken, has_at, Groups, blamed}
-use Rattle.desk_verify.proofs.Common.{are_right, le_trans}
+use Rattle.desk_verify.proofs.Common.{are_right}
 use Rattle.desk_verify.proofs.Causes.{listed_many}
 use Rattle.desk_verify.proofs.GroupLemmas.{fails, fails_broken, fits}
 use Rattle.desk_verify.proofs.RuleLemmas.{found_count}
@@ -36,8 +36,5 @@ pub returns-clause-blames : goal.returns-clause-blames
 returns-clause-blames g c =
     let large : 2 ^ 32 ≤ length c.in-Some.groups.items = grind (arith, c.in-Err.ensures, c.len.ensures, c.deref.ensures.len, ap length c.deref.ensures.value) in
     blamed (both_found c.in_ok-grouping.ensures.reads
-    (both_found c.in_ok-members.ensures.reads (both_found (rw c.in-Some.is at c.in_ok-groups.ensures.reads) c.in_ok-actions.ensures.reads)))
-    (le_trans c.in_ok-grouping.ensures.stays.grows.failures
-    (le_trans c.in_ok-members.ensures.stays.grows.failures
-    (le_trans c.in_ok-groups.ensures.stays.grows.failures c.in_ok-actions.ensures.stays.grows.failures))) (Err Broken)
+    (both_found c.in_ok-members.ensures.reads (both_found (rw c.in-Some.is at c.in_ok-groups.ensures.reads) c.in_ok-actions.ensures.reads))) (Err Broken)
     (λ t is given. listed_many t Groups (has_at 1 c.args.rollout.now.number) (length c.in-Some.groups.items) is.1.1.0.count large)

@@ -26,5 +26,5 @@ pub returns-clause-blames : goal.returns-clause-blames
 returns-clause-blames g c =
     let large : 2 ^ 32 ≤ length c.in-Some.members.items =
     grind (arith, c.in-Err.ensures, c.len.ensures, c.deref.ensures.len, ap length c.deref.ensures.value) in
-    blamed (rw c.in-Some.is at c.in_ok-members.ensures.reads) c.in_ok-members.ensures.stays.grows.failures (Err Broken)
+    blamed (rw c.in-Some.is at c.in_ok-members.ensures.reads) (Err Broken)
     (λ t is given. listed_many t Members (is_of c.args.rollout.now.number) (length c.in-Some.members.items) is.said.count large)

@@ -1,4 +1,4 @@
-use Rattle.desk_verify.proofs.Common.{◌≡◌, ◌≤◌, ◌^◌, arith, Err, length, sym, ap, ◌∙◌, both_found, finds_as, Broken, has_at, Actions, blamed, le_trans}
+use Rattle.desk_verify.proofs.Common.{◌≡◌, ◌≤◌, ◌^◌, arith, Err, length, sym, ap, ◌∙◌, both_found, finds_as, Broken, has_at, Actions, blamed}
 use Rattle.desk_verify.proofs.ActionLemmas.{fails_broken as no_actions}
 use Rattle.desk_verify.proofs.Causes.{listed_many}
 use Rattle.desk_verify.proofs.GroupLemmas.{fails_broken as no_groups}
@@ -21,13 +21,12 @@ returns-in-Ok-clause-judges g c =
     is.1.1 count)
 
 pub returns-in_default-clause-blames : goal.returns-in_default-clause-blames
-returns-in_default-clause-blames g c = blamed (rw c.in_default.is at c.in_ok-groups.ensures.reads) c.in_ok-groups.ensures.stays.grows.failures (Err Broken)
+returns-in_default-clause-blames g c = blamed (rw c.in_default.is at c.in_ok-groups.ensures.reads) (Err Broken)
     (λ t is given. absurd (no_groups t c.args.rollout.now.number is given.given.0.1.1.0))
 
 pub returns-in_default-2-clause-blames : goal.returns-in_default-2-clause-blames
 returns-in_default-2-clause-blames g c =
-    blamed (both_found c.in_ok-groups.ensures.reads (rw c.in_default-2.is at c.in_ok-actions.ensures.reads))
-    (le_trans c.in_ok-groups.ensures.stays.grows.failures c.in_ok-actions.ensures.stays.grows.failures) (Err Broken)
+    blamed (both_found c.in_ok-groups.ensures.reads (rw c.in_default-2.is at c.in_ok-actions.ensures.reads)) (Err Broken)
     (λ t is given. absurd (no_actions t c.args.rollout.now.number is.1 given.given.0.1.1.1.0))
 
 pub returns-clause-blames : goal.returns-clause-blames
@@ -35,6 +34,5 @@ returns-clause-blames g c =
     let large : 2 ^ 32 ≤ length c.in-Some-2.actions.items =
     grind (arith, c.in-Err.ensures, c.len.ensures, c.deref-2.ensures.len, ap length c.deref-2.ensures.value) in
     blamed (both_found c.in_ok-groups.ensures.reads (both_found (rw c.in-Some-2.is at c.in_ok-actions.ensures.reads) c.in_ok-are_offered_if_due.ensures.judges))
-    (le_trans c.in_ok-groups.ensures.stays.grows.failures
-    (le_trans c.in_ok-actions.ensures.stays.grows.failures c.in_ok-are_offered_if_due.ensures.stays.grows.failures)) (Err Broken)
+    (Err Broken)
     (λ t is given. listed_many t Actions (has_at 2 c.args.rollout.now.number) (length c.in-Some-2.actions.items) is.1.0.count large)
