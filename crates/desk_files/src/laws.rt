@@ -31,7 +31,8 @@ pub fn file_limit()
 
 /// A worked file: three targets, the second of them without tags.
 pub fn worked_import()
-    ensures { targets_in_file (codes "controllerid,name,token,tags\ndev-01,Lab one,tok-dev-01,lab\ndev-02,Lab two,tok-dev-02,\ndev-03,Yard,tok-dev-03,lab outdoor\n")
+    ensures { targets_in_file
+        (codes "controllerid,name,token,tags\ndev-01,Lab one,tok-dev-01,lab\ndev-02,Lab two,tok-dev-02,\ndev-03,Yard,tok-dev-03,lab outdoor\n")
         ≡ Ok (new_row (codes "dev-01") (codes "Lab one") (digest_of (codes "tok-dev-01")) (codes "lab" ∷ [])
         ∷ new_row (codes "dev-02") (codes "Lab two") (digest_of (codes "tok-dev-02")) []
         ∷ new_row (codes "dev-03") (codes "Yard") (digest_of (codes "tok-dev-03")) (codes "lab" ∷ codes "outdoor" ∷ []) ∷ []) }

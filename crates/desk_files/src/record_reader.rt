@@ -26,7 +26,8 @@ pub(crate) fn next_record(
     reader: &mut Reader<&[u8]>,
     record: &mut ByteRecord,
 ) -> Result<bool, ImportFault>
-    ensures gives { IfOk result (λ found. (records : List Record) → GivesRecords reader.old records → GivesNext records reader.new found (fields_of record.new)) }
+    ensures gives { IfOk result (λ found. (records : List Record) → GivesRecords reader.old records
+        → GivesNext records reader.new found (fields_of record.new)) }
     ensures memory { IfErr result (λ e. e ≡ Memory) }
 {
     let Ok(found) = reader.read_byte_record(record) else {

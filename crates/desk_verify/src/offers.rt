@@ -9,7 +9,8 @@ ghost use Rattle.desk_store.specs.Changing.{FindsTables, StaysIn};
 ghost use Rattle.desk_store.specs.RawLists.{AreOffers};
 ghost use Rattle.desk_verify.specs.Agreement.{AgreeBefore, SettlesWhether};
 ghost use Rattle.desk_verify.specs.declared.damage.CheckedTable.TheVariants as checked;
-ghost use Rattle.desk_verify.specs.OfferChecks.{AreGroupsOf, AreKeptGroups, Fits, IsOfferedIfDue, IsRight, IsRowOffered, holds_started, is_due, is_that_rollout, is_started_at};
+ghost use Rattle.desk_verify.specs.OfferChecks.{AreGroupsOf, AreKeptGroups, Fits, IsOfferedIfDue, IsRight, IsRowOffered};
+ghost use Rattle.desk_verify.specs.OfferChecks.{holds_started, is_due, is_started_at, is_that_rollout};
 ghost use Rattle.desk_verify.specs.Offers.{AgreesOffers, IsInStartedGroup, IsOffered};
 
 use crate::rollouts::{ByRollout, NumberedRollout, check_rollouts};
