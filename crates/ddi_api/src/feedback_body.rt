@@ -3,7 +3,7 @@
 ghost use Rattle.std.specs.Prelude.{◌≡◌, ℕ, List, Option, codes, map, option_map};
 ghost use Rattle.serde_json.specs.Find.{get};
 ghost use Rattle.serde_json.specs.View.{view};
-ghost use Rattle.mgmt_objects.specs.Readings.{ReadsAs, ReadsBy};
+ghost use Rattle.mgmt_objects.specs.Readings.{ReadsAs, ReadsBy, ReadsExactly};
 ghost use Rattle.mgmt_objects.specs.Traverse.{array_of, traverse};
 ghost use Rattle.ddi_api.specs.FeedbackBodies.{cancel_word, deployment_word, detail_in, details_member, finished_in, lines_if, feedback_body};
 ghost use Rattle.ddi_api.specs.FeedbackBodies.{feedback_in, json_feedback_number, feedback_of, number_given, string_member, status_word};
@@ -170,7 +170,7 @@ fn feedback_number_in(value: &Value) -> Option<FeedbackNumber>
 
 /// The number that the device gave, and none where it is missing.
 fn read_number(body: &Value) -> Result<Option<FeedbackNumber>, Refusal>
-    ensures { ReadsAs (number_given (view body.now)) result }
+    ensures { ReadsExactly (number_given (view body.now)) result }
 {
     let Some(value) = body.get("number") else {
         return Ok(None);

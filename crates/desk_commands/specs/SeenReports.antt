@@ -1,9 +1,11 @@
 -- How a report stands among what its action has heard, and what asking for that costs.
-use Rattle.std.specs.Prelude.{◌≡◌, ℕ, ◌+◌, true, cond, List, length, Option, Some, None, is_none, is_some, Result, Ok, Err}
+use Rattle.std.specs.Prelude.{◌≡◌, ◌<◌, ℕ, ◌+◌, true, cond, List, length, Option, Some, None, is_none, is_some, Result, Ok, Err}
 use Rattle.rollout_machine.specs.ByteStrings.{item_numbered}
 use Rattle.rollout_machine.specs.Records.{Records}
 use Rattle.rollout_machine.specs.Reports.{HistoryEntry, Reported, against, standing_of}
+use Rattle.sql_calls.specs.declared.fault.Fault.{Fault}
 use Rattle.rollout_machine.specs.declared.standing.Standing.{Standing}
+use Rattle.rollout_machine.specs.declared.standing.Standing.TheVariants.{Fresh, Old}
 use Rattle.rollout_machine.specs.declared.records.ActionRecord.{ActionRecord}
 use Rattle.campaign_core.specs.RolloutChecks.{says_fresh}
 use Rattle.desk_records.specs.Actions.{history_of}
@@ -26,6 +28,10 @@ abbrev pub StandsAgainst : ℕ → PlacedNumber → ℕ → HistoryEntry → Rec
 StandsAgainst k last number new r standing = (entry : HistoryEntry)
     → item_numbered (history_of (item_numbered r.actions k)) last.sequence ≡ Some entry
     → standing ≡ against (Some (record { entry = entry; number = last.number })) number new
+
+-- of another number than the last one it stands by the numbers alone: nothing is asked for it, so nothing fails
+abbrev pub StandsApart : ℕ → ℕ → Result Standing Fault → Type 0
+StandsApart last number result = (last < number → result ≡ Ok Fresh) × (number < last → result ≡ Ok Old)
 
 abbrev pub with_number : Reported → Option ℕ → Reported
 with_number new number = record new { number = number }

@@ -2,7 +2,7 @@
 
 ghost use Rattle.std.specs.Prelude.{◌≡◌, ◌+◌, Some};
 ghost use Rattle.rollout_machine.specs.Reports.{reported, same_cancel, same_deployment, same_entry, same_note, same_said};
-ghost use Rattle.desk_commands.specs.SeenReports.{StandsAgainst, StandsAt, asked, more_reads, number_asked, reads_for, standing_in, with_number};
+ghost use Rattle.desk_commands.specs.SeenReports.{StandsAgainst, StandsApart, StandsAt, asked, more_reads, number_asked, reads_for, standing_in, with_number};
 ghost use Rattle.desk_reads.specs.AtLists.{FailsAtListsIn, FindsAtListsIn};
 ghost use Rattle.desk_store.specs.Failing.{FailsGiven};
 ghost use Rattle.desk_commands.specs.Failures.{IsLastOf};
@@ -90,6 +90,7 @@ fn stand_against<S: Alter, W: Copy>(
     ensures stays { StaysIn S.Store change.old change.new result }
     ensures reads { FindsAtListsIn S.Store change.old change.new result
         (StandsAgainst given.now.action last.now number (reported (λ word. said) given.now).entry) }
+    ensures apart { StandsApart last.now.number number result }
     ensures fails { FailsGiven S.Store (IsLastOf given.now.action last.now) change.old change.new result }
     ensures work { AddsIn (more_reads (standing_in (λ it. it) result)) (more_reads (standing_in (λ it. it) result)) change.old change.new }
 {

@@ -4,7 +4,8 @@ ghost use Rattle.std.specs.Prelude.{◌≡◌, ◌⊎◌, IfOk, IfErr, false, So
 ghost use Rattle.sqlite_value.specs.Order.{column};
 ghost use Rattle.desk_records.specs.SetRow.{IsSetNameRow, StoredNumber, has_number, broken_set_column};
 
-use crate::module_row::{Column, RowFault, row_fault, text_at};
+use crate::artifact_row::number_at;
+use crate::module_row::{Column, RowFault, text_at};
 use rollout_model::{ModuleNo, Text};
 use sqlite::Row;
 use std::alloc::Global;
@@ -29,14 +30,9 @@ pub fn read_set_name(alloc: Global, row: &Row) -> Result<SetName, RowFault>
 /// The number in a row of a module's number.
 pub fn read_set_module(row: &Row) -> Result<ModuleNo, RowFault>
     ensures ok { IfOk result (λ number. column row.now 0 ≡ StoredNumber number) }
-    ensures err { IfErr result (λ e. (e ≡ RowFault.Memory) ⊎ ((e ≡ RowFault.Broken Column.SetModule) × (has_number (column row.now 0) ≡ false))) }
+    ensures err { IfErr result (λ e. (e ≡ RowFault.Broken Column.SetModule) × (has_number (column row.now 0) ≡ false)) }
 {
-    let number = match row.get::<u32>(0) {
-        Ok(number) => number,
-        Err(error) => return Err(row_fault(error, Column::SetModule)),
-    };
-    match ModuleNo::new(number) {
-        Some(module) => Ok(module),
-        None => Err(RowFault::Broken(Column::SetModule)),
-    }
+    let broken = RowFault::Broken(Column::SetModule);
+    let number = number_at(row, 0).ok_or(broken)?;
+    ModuleNo::new(number).ok_or(broken)
 }

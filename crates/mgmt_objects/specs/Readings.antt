@@ -11,6 +11,10 @@ IsReadingFault expected e = (e ≡ NoMemory) ⊎ ((e ≡ BadRequest) × (expecte
 abbrev pub ReadsAs : {A : Type 0} → Option A → Result A Refusal → Type 0
 ReadsAs expected result = MatchResult result (λ v. expected ≡ Some v) (IsReadingFault expected)
 
+-- the same of what takes no memory, and so never wants any
+abbrev pub ReadsExactly : {A : Type 0} → Option A → Result A Refusal → Type 0
+ReadsExactly expected result = MatchResult result (λ v. expected ≡ Some v) (λ e. (e ≡ BadRequest) × (expected ≡ None))
+
 -- the same, where the result is seen as a value of another type
 abbrev pub ReadsBy : {A B : Type 0} → (B → A) → Option A → Result B Refusal → Type 0
 ReadsBy see expected result = MatchResult result (λ v. expected ≡ Some (see v)) (IsReadingFault expected)

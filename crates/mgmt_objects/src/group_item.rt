@@ -4,7 +4,7 @@ ghost use Rattle.std.specs.Prelude.{◌≡◌};
 ghost use Rattle.serde_json.specs.Find.{get};
 ghost use Rattle.serde_json.specs.View.{view};
 ghost use Rattle.mgmt_objects.specs.GroupBodies.{item_definition, group_item_of, own_threshold, percentage_member};
-ghost use Rattle.mgmt_objects.specs.Readings.{ReadsAs};
+ghost use Rattle.mgmt_objects.specs.Readings.{ReadsAs, ReadsExactly};
 
 use crate::list::Item;
 use crate::member::read_whole;
@@ -46,7 +46,7 @@ fn percentage_member(object: &Value, key: &str) -> Option<Percentage>
 
 /// A threshold of the group's own, and none where the member is missing.
 fn read_own_threshold(object: &Value, key: &str) -> Result<Option<Percentage>, Refusal>
-    ensures { ReadsAs (own_threshold (get key.now (view object.now))) result }
+    ensures { ReadsExactly (own_threshold (get key.now (view object.now))) result }
 {
     let Some(condition) = object.get(key) else {
         return Ok(None);

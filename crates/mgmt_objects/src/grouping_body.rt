@@ -3,7 +3,7 @@
 ghost use Rattle.std.specs.Prelude.{◌≡◌, IfOk, map};
 ghost use Rattle.serde_json.specs.View.{view};
 ghost use Rattle.mgmt_objects.specs.GroupBodies.{defined_groups, item_definition, item_definitions, even_count, even_groups, grouping_member};
-ghost use Rattle.mgmt_objects.specs.Readings.{ReadsAs, ReadsBy};
+ghost use Rattle.mgmt_objects.specs.Readings.{ReadsAs, ReadsBy, ReadsExactly};
 
 use crate::group_item::GroupItem;
 use crate::list::read_array;
@@ -65,7 +65,7 @@ fn even_count(amount: &Value) -> Option<GroupCount>
 
 /// So many even groups.
 fn read_even(amount: &Value) -> Result<Grouping, Refusal>
-    ensures { ReadsAs (even_groups (view amount.now)) result }
+    ensures { ReadsExactly (even_groups (view amount.now)) result }
 {
     match even_count(amount) {
         Some(count) => Ok(Grouping::evenly(count)),
