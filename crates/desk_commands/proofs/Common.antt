@@ -105,7 +105,7 @@ pub use Rattle.desk_store.specs.Breaking.{HasReason}
 pub use Rattle.desk_store.specs.GroupPairs.{group_and_next}
 pub use Rattle.desk_store.specs.Readable.{BreaksColumn, IsReadable, second_shown, third_shown}
 pub use Rattle.desk_store.specs.declared.change.OpenChange.{OpenChange}
-pub use Rattle.desk_store.specs.declared.rollouts.GroupAndNext.{GroupAndNext}
+pub use Rattle.desk_store.specs.declared.groups.GroupAndNext.{GroupAndNext}
 pub use Rattle.desk_reads.proofs.HistoryKept.{details_kept}
 pub use Rattle.desk_reads.proofs.RuleLemmas.{rule_there, rules_there, said_of, same_number}
 pub use Rattle.desk_reads.specs.AtLists.{AreOfList, FailsAtListsIn, IsOfList}

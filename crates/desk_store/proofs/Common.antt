@@ -129,7 +129,7 @@ pub use Rattle.desk_store.specs.Rows.{AreReadAs, BreaksRule, HasBroken, HasNoNum
 pub use Rattle.desk_store.specs.Unreadable.{IsUnreadable, broken_entry, broken_number, broken_piece, broken_rollout, broken_rule, large_count, large_number}
 pub use Rattle.desk_store.specs.Unreadable.{many_rows}
 pub use Rattle.desk_store.specs.declared.change.OpenChange.{OpenChange}
-pub use Rattle.desk_store.specs.declared.rollouts.GroupAndNext.{GroupAndNext}
+pub use Rattle.desk_store.specs.declared.groups.GroupAndNext.{GroupAndNext}
 pub use Rattle.desk_records.proofs.Meaning.{find_module_is, get_desk_is, get_module_is, last_module_is, put_module_is}
 pub use Rattle.desk_records.proofs.SetMeaning.{find_set_is, get_set_is, last_set_is, list_set_modules_is, module_locked_is, put_set_is, put_set_module_is}
 pub use Rattle.desk_records.proofs.TargetMeaning.{count_targets_is, drop_target_tag_is, get_target_is, list_target_attributes_is, list_target_tags_is}

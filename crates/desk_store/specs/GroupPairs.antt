@@ -2,7 +2,7 @@
 use Rattle.std.specs.Prelude.{ℕ, List, slice_get}
 use Rattle.rollout_machine.specs.declared.records.GroupRecord.{GroupRecord}
 use Rattle.desk_records.specs.Rollouts.{that_reach}
-use Rattle.desk_store.specs.declared.rollouts.GroupAndNext.{GroupAndNext}
+use Rattle.desk_store.specs.declared.groups.GroupAndNext.{GroupAndNext}
 
 -- the first two of these groups that reach it
 abbrev pub group_and_next : ℕ → List GroupRecord → GroupAndNext

@@ -7,9 +7,13 @@ mod attributes;
 mod change;
 mod checked_row;
 mod codes;
+mod entries;
 mod from_row;
-mod group_offers;
+mod groups;
+mod members;
+mod modules;
 mod numbers;
+mod offers;
 mod raw_actions;
 mod raw_artifacts;
 mod raw_groups;
@@ -27,7 +31,7 @@ mod store;
 mod targets;
 
 pub use crate::change::OpenChange;
-pub use crate::rollouts::GroupAndNext;
+pub use crate::groups::GroupAndNext;
 pub use crate::store::DeskStore;
 pub use desk_records::{
     CheckedArtifact, CountedAction, LastNumber, ListedAction, ListedTarget, NewEntry, OwnedOffer,

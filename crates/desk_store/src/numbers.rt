@@ -1,47 +1,18 @@
 //! The numbers that devices give entries of histories, in a change that is under way.
 
-ghost use Rattle.std.specs.Prelude.{◌≡◌, ◌≤◌, ◌+◌};
+ghost use Rattle.std.specs.Prelude.{◌+◌, ◌≡◌, ◌≤◌};
 ghost use Rattle.desk_records.specs.FeedbackNumbers.{last_number, numbers_numbered};
 ghost use Rattle.desk_records.specs.LedgerSteps.{AddsNumber};
-ghost use Rattle.desk_records.specs.NumberRow.{IsLastNumberRow, IsNumberRow, broken_last_number_column, broken_number_column};
-ghost use Rattle.desk_store.specs.Counting.{AddsIn};
-ghost use Rattle.desk_store.specs.Rows.{BreaksRule};
 ghost use Rattle.desk_store.specs.Changing.{FindsLedger, MakesLedger, StaysIn};
+ghost use Rattle.desk_store.specs.Counting.{AddsIn};
 ghost use Rattle.desk_store.specs.Failing.{FailsIn, WritesIn};
 
 use crate::change::OpenChange;
-use crate::from_row::FromRow;
-use crate::reading::{read_all, read_optional};
-use desk_records::{
-    LAST_NUMBER, LIST_NUMBERS, LastNumber, PUT_NUMBER, PlacedNumber, RowFault, read_last_number,
-    read_number,
-};
+use crate::reading::{last_number, read_all, read_optional};
+use desk_records::{LAST_NUMBER, LIST_NUMBERS, LastNumber, PUT_NUMBER, PlacedNumber};
 use rollout_model::ActionNo;
 use sql_calls::Fault;
-use sqlite::{Alter, Row, params};
-use std::alloc::Global;
-
-/// Of sequence and number.
-impl FromRow for PlacedNumber {
-    ghost is_row = { IsNumberRow };
-
-    ghost is_broken = { λ row. BreaksRule (broken_number_column row) };
-
-    fn from_row(_alloc: Global, row: &Row) -> Result<Self, RowFault> {
-        read_number(row)
-    }
-}
-
-/// Of sequence, number and place.
-impl FromRow for LastNumber {
-    ghost is_row = { IsLastNumberRow };
-
-    ghost is_broken = { λ row. BreaksRule (broken_last_number_column row) };
-
-    fn from_row(_alloc: Global, row: &Row) -> Result<Self, RowFault> {
-        read_last_number(row)
-    }
-}
+use sqlite::{Alter, params};
 
 impl<'a, S: Alter> OpenChange<'a, S> {
     /// The last number of an action, with its place among those of the action. A row that breaks a column's rule is a failed store.

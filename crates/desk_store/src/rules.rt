@@ -1,31 +1,25 @@
 //! What is said of the groups of rollouts, in a change that is under way.
 
-ghost use Rattle.std.specs.Prelude.{◌≡◌, ◌≤◌, ◌+◌};
+ghost use Rattle.std.specs.Prelude.{◌+◌, ◌≡◌, ◌≤◌, None};
 ghost use Rattle.desk_records.specs.LedgerSteps.{AddsRule};
 ghost use Rattle.desk_records.specs.Rollouts.{rule_numbered, rules_numbered};
-ghost use Rattle.desk_records.specs.RuleRow.{IsRuleRow, broken_rule_column};
-ghost use Rattle.desk_store.specs.Counting.{AddsIn};
-ghost use Rattle.desk_store.specs.Rows.{BreaksRule};
 ghost use Rattle.desk_store.specs.Changing.{FindsLedger, MakesLedger, StaysIn};
+ghost use Rattle.desk_store.specs.Counting.{AddsIn};
 ghost use Rattle.desk_store.specs.Failing.{FailsIn, WritesIn};
 
 use crate::change::OpenChange;
-use crate::from_row::FromRow;
 use crate::reading::{read_all, read_optional};
-use desk_records::{GET_RULE, LIST_RULES, PUT_RULE, RowFault, read_rule};
+use desk_records::{GET_RULE, LIST_RULES, PUT_RULE};
 use rollout_model::{GroupRule, Percentage, RolloutNo};
 use sql_calls::Fault;
-use sqlite::{Alter, Row, params};
-use std::alloc::Global;
+use sqlite::{Alter, params};
 
-/// Of percentage, success and error.
-impl FromRow for GroupRule {
-    ghost is_row = { IsRuleRow };
-
-    ghost is_broken = { λ row. BreaksRule (broken_rule_column row) };
-
-    fn from_row(_alloc: Global, row: &Row) -> Result<Self, RowFault> {
-        read_rule(row)
+fn percent_of(percentage: &Option<Percentage>) -> Option<u32>
+    ensures { result ≡ percentage.now }
+{
+    match percentage {
+        Some(percentage) => Some(u32::from(percentage.get())),
+        None => None,
     }
 }
 
@@ -73,14 +67,5 @@ impl<'a, S: Alter> OpenChange<'a, S> {
             PUT_RULE,
             params![number.get(), group, percentage, success, error],
         )
-    }
-}
-
-fn percent_of(percentage: &Option<Percentage>) -> Option<u32>
-    ensures { result ≡ percentage.now }
-{
-    match percentage {
-        Some(percentage) => Some(u32::from(percentage.get())),
-        None => None,
     }
 }

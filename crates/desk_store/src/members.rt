@@ -1,0 +1,50 @@
+//! The members of rollouts, in a change that is under way.
+
+ghost use Rattle.std.specs.Prelude.{◌+◌, ◌≡◌, ◌≤◌, drop, take};
+ghost use Rattle.rollout_machine.specs.ByteStrings.{item_numbered};
+ghost use Rattle.desk_records.specs.LedgerSteps.{AddsMember};
+ghost use Rattle.desk_records.specs.Rollouts.{members_of};
+ghost use Rattle.desk_store.specs.Changing.{FindsLedger, MakesLedger, StaysIn};
+ghost use Rattle.desk_store.specs.Counting.{AddsIn};
+ghost use Rattle.desk_store.specs.Failing.{FailsIn, WritesIn};
+
+use crate::change::OpenChange;
+use crate::reading::read_all;
+use desk_records::{LIST_MEMBERS, PUT_MEMBER};
+use rollout_model::{ControllerId, Page, RolloutNo};
+use sql_calls::Fault;
+use sqlite::{Alter, params};
+
+impl<'a, S: Alter> OpenChange<'a, S> {
+    /// The members of a rollout, a page of them in the order of their places; none where there is no such rollout. A row that breaks the
+    /// column's rule is a failed store.
+    pub fn read_members(
+        &mut self,
+        number: RolloutNo,
+        page: Page,
+    ) -> Result<Vec<ControllerId>, Fault>
+        ensures stays { StaysIn S.Store self.old self.new result }
+        ensures reads { FindsLedger S.Store self.old self.new result
+            (λ l found. found.items ≡ take page.limit (drop page.offset (members_of (item_numbered l.records.rollouts number)))) }
+        ensures fails { FailsIn S.Store self.old self.new result }
+        ensures work { self.new.store.now.calls.work.statements ≤ self.old.store.now.calls.work.statements + 1 }
+    {
+        let alloc = self.store.alloc;
+        let rows = self.ask(LIST_MEMBERS, params![number.get(), page.offset, page.limit])?;
+        read_all(alloc, &rows)
+    }
+
+    /// Adds a member to a rollout that has no action yet, at its next place.
+    pub fn write_member(
+        &mut self,
+        number: RolloutNo,
+        place: u32,
+        id: &ControllerId,
+    ) -> Result<(), Fault>
+        ensures stays { WritesIn S.Store self.old self.new result }
+        ensures writes { MakesLedger S.Store self.old self.new result (AddsMember number place id.now) }
+        ensures work { AddsIn 1 0 self.old self.new }
+    {
+        self.run(PUT_MEMBER, params![number.get(), place, id.as_str()])
+    }
+}
