@@ -1,5 +1,5 @@
 -- What rows that are checked are read as.
-use Rattle.std.specs.Prelude.{◌≡◌, Bool, true, false, not, ◌&&◌, ◌||◌, ◌^◌, nat_lt, Option, None, pos}
+use Rattle.std.specs.Prelude.{◌≡◌, Bool, true, false, not, ◌&&◌, ◌||◌, ◌^◌, nat_lt, Option, Some, None, pos}
 use Rattle.std.specs.Option.{is_none, option_and_then, option_map}
 use Rattle.sqlite_value.specs.declared.value.Value.{Value}
 use Rattle.sqlite_value.specs.declared.value.Value.TheVariants.{Int, Text}
@@ -12,6 +12,8 @@ use Rattle.desk_records.specs.TargetRow.{has_word}
 use Rattle.desk_records.specs.declared.checked_rows.CheckedArtifact.{CheckedArtifact}
 use Rattle.desk_records.specs.declared.checked_rows.CountedAction.{CountedAction}
 use Rattle.desk_records.specs.declared.checked_rows.OwnedOffer.{OwnedOffer}
+use Rattle.desk_records.specs.declared.module_row.Column.{Column}
+use Rattle.desk_records.specs.declared.module_row.Column.TheVariants as rule
 
 -- ---- the row of module, filename, size, digest and number
 
@@ -41,12 +43,16 @@ abbrev pub is_wide : Value → Bool
 is_wide (Int (pos n)) = not (nat_lt n (2 ^ 32))
 is_wide _ = false
 
--- A count of notes or entries that is too large to be read breaks no rule.
-abbrev pub has_wide_count : Row → Bool
-has_wide_count row = is_wide (column row 5) || is_wide (column row 6)
+abbrev pub are_entries : Option Column → Bool
+are_entries (Some rule.ActionEntries) = true
+are_entries _ = false
+
+-- Its count of entries is too large to be read, which breaks no rule, since nothing limits a history. Every other column keeps its rule.
+abbrev pub is_too_long : Row → Bool
+is_too_long row = is_wide (column row 6) && are_entries (broken_listed_action_column row)
 
 abbrev pub keeps_action_rules : Row → Bool
-keeps_action_rules row = is_none (broken_listed_action_column row) || has_wide_count row
+keeps_action_rules row = is_none (broken_listed_action_column row) || is_too_long row
 
 -- ---- what is counted of the row of an action
 

@@ -132,9 +132,9 @@ pub record IsListedActionRow (row : Row) (listed : ListedAction) : Type 0 where
   pub action : IsActionRow row listed.action
   pub number : number_in (column row 7) ≡ Some listed.number
 
--- the first column of it that breaks its rule
+-- the first column of it that breaks its rule, its number before the others
 abbrev pub broken_listed_action_column : Row → Option Column
-broken_listed_action_column row = option_or (broken_action_column row) (first_broken ((is_some (number_in (column row 7)), rule.ActionNumber) ∷ []))
+broken_listed_action_column row = option_or (first_broken ((is_some (number_in (column row 7)), rule.ActionNumber) ∷ [])) (broken_action_column row)
 
 -- the row of action and kind
 pub record IsOfferRow (row : Row) (offer : Offer) : Type 0 where

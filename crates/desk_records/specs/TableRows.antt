@@ -72,12 +72,13 @@ pub record IsGroup (row : Row) (rollout : ℕ) (g : GroupRecord) : Type 0 where
   pub shows : IsGroupRow (columns_of_group row) g
   pub kept : broken_group_column (columns_of_group row) ≡ None
 
--- The action of a number. Its counts are whole numbers of any size, since nothing limits the entries of a history.
+-- The action of a number. Its count of entries is a whole number of any size, since nothing limits a history.
 pub record IsAction (row : Row) (number : ℕ) (a : StoredAction) : Type 0 where
   pub number_is : number_in (column row 0) ≡ Some number
   pub shows : IsActionRow (columns_of_action row) a
   pub place : has_size (column row 3) ≡ true
   pub word : has_word (column row 4) ≡ true
+  pub notes : has_size (column row 7) ≡ true
 
 -- the entry of an action's history at a place of its sequence
 pub record IsEntry (row : Row) (sequence : ℕ) (entry : HistoryEntry) : Type 0 where

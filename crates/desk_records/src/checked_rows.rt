@@ -1,13 +1,14 @@
 //! Rows that are read to be checked: an artifact with its number, an offer with its target, an action as it is counted.
 
-ghost use Rattle.std.specs.Prelude.{◌≡◌, IfNone, IfSome, false};
+ghost use Rattle.std.specs.Prelude.{◌≡◌, IfNone, IfSome, Some, false};
 ghost use Rattle.sqlite_value.specs.Order.{column};
 ghost use Rattle.desk_records.specs.CheckedRows.{IsCheckedArtifactRow, IsOwnedOfferRow, counted_of};
-ghost use Rattle.desk_records.specs.CheckedRows.{has_wide_count, is_wide, keeps_artifact_rules, keeps_offer_rules};
+ghost use Rattle.desk_records.specs.CheckedRows.{are_entries, is_too_long, is_wide, keeps_artifact_rules, keeps_offer_rules};
 
 use crate::artifact_row::{StoredArtifact, artifact_at, number_at, read_stored_artifact};
 use crate::codes::outcome_at;
-use crate::rollout_row::read_offer;
+use crate::module_row::{Column, RowFault};
+use crate::rollout_row::{read_listed_action, read_offer};
 use crate::target_row::id_at;
 use rollout_machine::Outcome;
 use rollout_model::{ArtifactNo, ControllerId, Offer};
@@ -63,11 +64,29 @@ pub fn read_owned_offer(row: &Row) -> Option<OwnedOffer>
     Some(OwnedOffer { id, offer })
 }
 
-/// Whether a count in the row of a listed action is too large to be read. Takes no memory.
-pub fn has_wide_count(row: &Row) -> bool
-    ensures { result ≡ has_wide_count row.now }
+/// Whether a count of entries that is too large to be read is all that keeps the row of a listed action from being read. Takes no memory.
+pub fn is_too_long(row: &Row) -> bool
+    ensures { result ≡ is_too_long row.now }
 {
-    is_wide_at(row, 5) || is_wide_at(row, 6)
+    match read_listed_action(row) {
+        Ok(_) => false,
+        Err(fault) => is_wide_at(row, 6) && is_of_entries(fault),
+    }
+}
+
+fn is_of_entries(fault: RowFault) -> bool
+    ensures { (c : _) → fault ≡ RowFault.Broken c → result ≡ are_entries (Some c) }
+{
+    match fault {
+        RowFault::Broken(column) => are_entries(column),
+        RowFault::Memory => false,
+    }
+}
+
+fn are_entries(column: Column) -> bool
+    ensures { result ≡ are_entries (Some column) }
+{
+    matches!(column, Column::ActionEntries)
 }
 
 fn is_wide_at(row: &Row, at: usize) -> bool

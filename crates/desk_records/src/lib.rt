@@ -56,7 +56,7 @@ pub use crate::artifact_texts::PUT_PIECE;
 pub use crate::checked_rows::CheckedArtifact;
 pub use crate::checked_rows::CountedAction;
 pub use crate::checked_rows::OwnedOffer;
-pub use crate::checked_rows::has_wide_count;
+pub use crate::checked_rows::is_too_long;
 pub use crate::checked_rows::read_checked_artifact;
 pub use crate::checked_rows::read_counted_action;
 pub use crate::checked_rows::read_owned_offer;

@@ -145,8 +145,8 @@ pub fn read_listed_action(row: &Row) -> Result<ListedAction, RowFault>
     ensures kept { IfOk result (λ it. broken_listed_action_column row.now ≡ None) }
     ensures err { IfErr result (λ e. (c : _) × (e ≡ RowFault.Broken c) × (broken_listed_action_column row.now ≡ Some c)) }
 {
-    let action = read_stored_action(row)?;
     let number = numbered_at(row, 7).ok_or(RowFault::Broken(Column::ActionNumber))?;
+    let action = read_stored_action(row)?;
     Ok(ListedAction { number, action })
 }
 

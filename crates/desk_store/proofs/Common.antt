@@ -80,8 +80,8 @@ pub use Rattle.desk_records.proofs.Targets.{tag_row}
 pub use Rattle.desk_records.specs.Actions.{Tally, cancel_code, deployment_code, history_of, kind_code, lines_of, outcome_code, told_entry, word_code}
 pub use Rattle.desk_records.specs.ArtifactRow.{IsArtifactRow, IsStoredRow, StoredBytes, has_bytes, has_size, small_number, stored}
 pub use Rattle.desk_records.specs.Artifacts.{AddsPiece, artifact_filed, file_of, is_same_artifact, piece_numbered, piece_row, told_of, with_artifact}
-pub use Rattle.desk_records.specs.CheckedRows.{IsCheckedArtifactRow, IsOwnedOfferRow, counted_of, has_wide_count, is_wide, keeps_action_rules}
-pub use Rattle.desk_records.specs.CheckedRows.{keeps_artifact_rules, keeps_offer_rules}
+pub use Rattle.desk_records.specs.CheckedRows.{IsCheckedArtifactRow, IsOwnedOfferRow, are_entries, counted_of, is_too_long, is_wide}
+pub use Rattle.desk_records.specs.CheckedRows.{keeps_action_rules, keeps_artifact_rules, keeps_offer_rules}
 pub use Rattle.desk_records.specs.Codes.{approval_from, approval_in, coded_in, first_broken, flag_in, flag_of, number_in, outcome_from, outcome_in}
 pub use Rattle.desk_records.specs.Codes.{percentage_in, percentage_or_none_in, place_from, place_in}
 pub use Rattle.desk_records.specs.EntryRow.{BreaksSequenced, IsEntryRow, IsSequencedRow, cancel_from, cancel_in, deployment_from, deployment_in, keeps_details}

@@ -1,9 +1,10 @@
 -- What a failed read of a table is blamed on.
-use Rattle.desk_store.proofs.Common.{◌≡◌, ◌≤◌, ◌<◌, ◌⊎◌, ◌^◌, ◌||◌, inl, inr, ℕ, min, nat_lt, pos, negsuc, Bool, true, false, not, List, [], ◌∷◌, length}
+use Rattle.std.specs.Prelude.{◌&&◌}
+use Rattle.desk_store.proofs.Common.{◌≡◌, ◌≤◌, ◌<◌, ◌⊎◌, ◌^◌, inl, inr, ℕ, min, nat_lt, pos, negsuc, Bool, true, false, not, List, [], ◌∷◌, length}
 use Rattle.desk_store.proofs.Common.{nat_le, Option, Some, None, Ok, Err, Result, IfErr, Vec, refl, sym, subst, arith, and_parts, nat_tests, number_in_good}
 use Rattle.desk_store.proofs.Common.{number_in_is, Global, Value, Null, Int, Text, Row, column, Database, Query, Ghosts, lit, Has, Fault, Memory, Store}
-use Rattle.desk_store.proofs.Common.{AsksFew, AsksText, TakesFirst, ShowsFirst, first_finds, by, passes, shown_of, Members, Place, Rollouts, HoldsTables}
-use Rattle.desk_store.proofs.Common.{Tables, has_bytes, has_wide_count, is_wide, first_broken, number_in, BreaksSequenced, broken_number_column}
+use Rattle.desk_store.proofs.Common.{AsksFew, AsksText, TakesFirst, ShowsFirst, first_finds, passes, shown_of, Members, Place, Rollouts, HoldsTables}
+use Rattle.desk_store.proofs.Common.{Tables, has_bytes, are_entries, is_too_long, is_wide, first_broken, number_in, BreaksSequenced, broken_number_column}
 use Rattle.desk_store.proofs.Common.{broken_action_column, broken_offer_column, broken_rollout_column, broken_rule_column, Offer, Column, StoredAction}
 use Rattle.desk_store.proofs.Common.{GET_ACTION, GET_OFFER, LIST_ACTIONS, LIST_ENTRIES, LIST_NUMBERS, LIST_OFFERS, GET_PIECE, LIST_ALL_ARTIFACTS, GET_ROLLOUT}
 use Rattle.desk_store.proofs.Common.{GET_RULE, LAST_ROLLOUT, LIST_GROUPS, LIST_PLACES, get_action_is, get_offer_is, list_actions_is, list_entries_is}
@@ -63,28 +64,19 @@ module _ {p : Place} {sql : List ℕ} {query : ℕ → Query} {names : List (Lis
 
 -- ---- rows of tables that were judged
 
--- an action that can't be read has a count that is too large
-wide_action : (row : Row) (number : ℕ) (a : StoredAction) → IsAction row number a → (c : Column) → broken_action_column (columns_of_action row) ≡ Some c
-    → has_wide_count (columns_of_action row) ≡ true
-wide_action row number a is c broken =
-    let told : first_broken ((not (is_wide (Int (pos a.notes))), rule.ActionNotes) ∷ (not (is_wide (Int (pos a.entries))), rule.ActionEntries) ∷ []) ≡ Some c =
-    rw (
-      is.shows.rollout,
-      is.place,
-      is.word,
-      is.shows.canceling,
-      is.shows.outcome,
-      is.shows.notes,
-      is.shows.entries,
-      small_or_wide a.notes,
-      small_or_wide a.entries,
-    ) at broken in
-    rw (is.shows.notes, is.shows.entries) (go (is_wide (Int (pos a.notes))) (is_wide (Int (pos a.entries))) told)
+-- an action that can't be read has a history that is too long
+long_action : (row : Row) (number : ℕ) (a : StoredAction) → IsAction row number a → (c : Column) → broken_action_column (columns_of_action row) ≡ Some c
+    → is_too_long (columns_of_action row) ≡ true
+long_action row number a is c broken =
+    let told : first_broken ((not (is_wide (Int (pos a.entries))), rule.ActionEntries) ∷ []) ≡ Some c =
+    rw (is.shows.rollout, is.place, is.word, is.shows.canceling, is.shows.outcome, is.notes, is.shows.entries, small_or_wide a.entries) at broken in
+    rw (is.number_is, is.shows.rollout, is.place, is.word, is.shows.canceling, is.shows.outcome, is.notes, is.shows.entries, small_or_wide a.entries)
+    (go (is_wide (Int (pos a.entries))) told)
   where
-    go : (notes entries : Bool) → first_broken ((not notes, rule.ActionNotes) ∷ (not entries, rule.ActionEntries) ∷ []) ≡ Some c → (notes || entries) ≡ true
-    go true entries h = refl
-    go false true h = refl
-    go false false h = absurd cc
+    go : (wide : Bool) → first_broken ((not wide, rule.ActionEntries) ∷ []) ≡ Some c
+        → (wide && are_entries (first_broken ((not wide, rule.ActionEntries) ∷ []))) ≡ true
+    go true h = refl
+    go false h = absurd cc
 
 -- an offer can be read
 no_offer : (row : Row) (id : List ℕ) (o : Offer) → IsOffer row id o → (c : Column) → broken_offer_column (columns_of_offer row) ≡ Some c → ⊥
@@ -123,7 +115,7 @@ module _ {S B : Type 0} (g : Ghosts S) (old new : OpenChange S) (rows : Vec Row 
       → BlamesGiven g AreActions old new out
   action_blamed k broken =
       few_blamed get_action_is (Int (pos k) ∷ []) rows g AreActions (λ row. BreaksRule (broken_action_column row))
-      (λ t row among is given. let it = given row among in large_count row among (wide_action row it.0 it.1 it.2 is.first is.is)) old new out broken 1
+      (λ t row among is given. let it = given row among in large_count row among (long_action row it.0 it.1 it.2 is.first is.is)) old new out broken 1
 
   pub offer_blamed : (id : List ℕ) → AreSpoiled (λ row. BreaksRule (broken_offer_column row)) → AsksOne GET_OFFER.now (Text id ∷ [])
       → BlamesGiven g AreOffers old new out
@@ -133,8 +125,8 @@ module _ {S B : Type 0} (g : Ghosts S) (old new : OpenChange S) (rows : Vec Row 
 
   -- ---- lists
 
-  pub actions_blamed : (n : ℕ) → AreSpoiled (λ row. has_wide_count row ≡ true) → AsksAll LIST_ACTIONS.now (all_of n) → Blames g old new out
-  actions_blamed n broken = all_blamed list_actions_is (all_of n) rows g nothing (λ row. has_wide_count row ≡ true)
+  pub actions_blamed : (n : ℕ) → AreSpoiled (λ row. is_too_long row ≡ true) → AsksAll LIST_ACTIONS.now (all_of n) → Blames g old new out
+  actions_blamed n broken = all_blamed list_actions_is (all_of n) rows g nothing (λ row. is_too_long row ≡ true)
       (λ t row among is given. large_count row among is) old new out broken
 
   pub history_blamed : (n : ℕ) → AreSpoiled (λ row. (c : Column) × BreaksSequenced row c) → AsksAll LIST_ENTRIES.now (all_of n) → Blames g old new out
@@ -167,7 +159,7 @@ module _ {S B : Type 0} (g : Ghosts S) (old new : OpenChange S) (rows : Vec Row 
   counted_blamed n memory = actions_blamed n (only_memory out memory)
     where
       only_memory : (out : Result B Fault) → IfErr out (λ fault. fault ≡ Memory)
-          → IfErr out (λ fault. IfRowsBroken fault (HasBroken (λ row. has_wide_count row ≡ true) rows.items))
+          → IfErr out (λ fault. IfRowsBroken fault (HasBroken (λ row. is_too_long row ≡ true) rows.items))
       only_memory (Ok found) is = tt
       only_memory (Err Memory) is = tt
       only_memory (Err Store) is = absurd cc

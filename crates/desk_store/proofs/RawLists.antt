@@ -1,9 +1,11 @@
 -- The lists of tables with whatever rows they have.
+use Rattle.std.specs.Prelude.{◌&&◌}
 use Rattle.desk_store.proofs.Common.{◌≡◌, ◌≤◌, ◌||◌, ◌^◌, ℕ, nat_lt, pos, negsuc, Bool, true, false, not, List, [], ◌∷◌, Option, Some, None, Ok, Result, IfOk}
 use Rattle.desk_store.proofs.Common.{option_map, Vec, vec_items, refl, sym, ap, ◌∙◌, is_none, is_some, option_or, Global, Value, Int, Row, column, Database}
 use Rattle.desk_store.proofs.Common.{output_cmp, page, State, col, Has, Fault, AsksText, by, passes, shown_in, shown_of, simple, GroupRecord, is_number}
-use Rattle.desk_store.proofs.Common.{Artifact, IsArtifactRow, has_size, small_number, IsCheckedArtifactRow, IsOwnedOfferRow, is_wide, keeps_action_rules}
-use Rattle.desk_store.proofs.Common.{keeps_artifact_rules, keeps_offer_rules, first_broken, flag_in, number_in, outcome_in, AreRead, AreSaid, IsSequencedRow}
+use Rattle.desk_store.proofs.Common.{Artifact, IsArtifactRow, has_size, small_number, IsCheckedArtifactRow, IsOwnedOfferRow, are_entries, is_wide}
+use Rattle.desk_store.proofs.Common.{keeps_action_rules, keeps_artifact_rules, keeps_offer_rules, first_broken, flag_in, number_in, outcome_in, AreRead}
+use Rattle.desk_store.proofs.Common.{AreSaid, IsSequencedRow}
 use Rattle.desk_store.proofs.Common.{IsNumberRow, broken_group_column, broken_listed_action_column, Actions, Artifacts, Feedbacks, Groups, Numbers, Offers}
 use Rattle.desk_store.proofs.Common.{Place, HoldsTables, Tables, has_word, Column, LIST_ACTIONS, LIST_ENTRIES, LIST_NUMBERS, LIST_OFFERS, LIST_ALL_ARTIFACTS}
 use Rattle.desk_store.proofs.Common.{LIST_ARTIFACTS, PlacedNumber, ListedAction, LIST_GROUPS, entry_columns, list_actions_is, list_entries_is, list_numbers_is}
@@ -166,20 +168,32 @@ module _ (r : ℕ) (good : is_number r ≡ true) where
 abbrev pub all_of : ℕ → Row
 all_of n = Int (pos n) ∷ Int (negsuc 0) ∷ Int (pos 0) ∷ []
 
--- where no column breaks its rule, place and id keep theirs
-place_kept : (row : Row) → broken_listed_action_column row ≡ None → (has_size (column row 1) ≡ true) × (has_word (column row 2) ≡ true)
-place_kept row h = go (is_some (number_in (column row 0))) (has_size (column row 1)) (has_word (column row 2))
-    ((is_some (flag_in (column row 3)), rule.ActionCanceling) ∷ (is_some (outcome_in (column row 4)), rule.ActionOutcome)
-    ∷ (has_size (column row 5), rule.ActionNotes) ∷ (has_size (column row 6), rule.ActionEntries) ∷ [])
-    (first_broken ((is_some (number_in (column row 7)), rule.ActionNumber) ∷ [])) h
+-- where no column breaks its rule, the first doesn't, nor do the others
+kept_first : (kept : Bool) (c : Column) (more : Option Column) → option_or (first_broken ((kept, c) ∷ [])) more ≡ None → (kept ≡ true) × (more ≡ None)
+kept_first true c more h = (refl, h)
+kept_first false c more h = absurd cc
+
+-- .. and place, id and notes keep theirs
+record KeepsRules (row : Row) : Type 0 where
+  place : has_size (column row 1) ≡ true
+  word : has_word (column row 2) ≡ true
+  notes : has_size (column row 5) ≡ true
+
+rules_kept : (row : Row) → broken_listed_action_column row ≡ None → KeepsRules row
+rules_kept row h = go (is_some (number_in (column row 0))) (has_size (column row 1)) (has_word (column row 2)) (is_some (flag_in (column row 3)))
+    (is_some (outcome_in (column row 4))) (has_size (column row 5)) refl refl refl (kept_first (is_some (number_in (column row 7))) rule.ActionNumber _ h).1
   where
-    go : (rollout place word : Bool) (more : List (Bool × Column)) (last : Option Column)
-        → option_or (first_broken ((rollout, rule.ActionRollout) ∷ (place, rule.ActionPlace) ∷ (word, rule.TargetId) ∷ more)) last ≡ None → (place ≡ true)
-        × (word ≡ true)
-    go true true true more last h = (refl, refl)
-    go true true false more last h = absurd cc
-    go true false word more last h = absurd cc
-    go false place word more last h = absurd cc
+    go : (rollout place word canceling outcome notes : Bool) → has_size (column row 1) ≡ place → has_word (column row 2) ≡ word
+        → has_size (column row 5) ≡ notes
+        → first_broken ((rollout, rule.ActionRollout) ∷ (place, rule.ActionPlace) ∷ (word, rule.TargetId) ∷ (canceling, rule.ActionCanceling)
+        ∷ (outcome, rule.ActionOutcome) ∷ (notes, rule.ActionNotes) ∷ (has_size (column row 6), rule.ActionEntries) ∷ []) ≡ None → KeepsRules row
+    go true true true true true true d e f h = record { place = d; word = e; notes = f }
+    go false place word canceling outcome notes d e f h = absurd cc
+    go true false word canceling outcome notes d e f h = absurd cc
+    go true true false canceling outcome notes d e f h = absurd cc
+    go true true true false outcome notes d e f h = absurd cc
+    go true true true true false notes d e f h = absurd cc
+    go true true true true true false d e f h = absurd cc
 
 -- a count is small, or too large to be read
 pub small_or_wide : (n : ℕ) → is_some (small_number (Int (pos n))) ≡ not (is_wide (Int (pos n)))
@@ -197,34 +211,28 @@ module _ (n : ℕ) where
 
   says_action : (row : Row) → has_at 2 n row ≡ true → (a : ListedAction) → IsKeptActionRow (shown_of listed_columns (all_of n) row) a → SaysAction row a
   says_action row of a is =
-      record {
-        number_is = is.action.number;
-        shows = is.action.action;
-        place = (place_kept (shown_of listed_columns (all_of n) row) is.kept).0;
-        word = (place_kept (shown_of listed_columns (all_of n) row) is.kept).1;
-      }
+      let keeps = rules_kept (shown_of listed_columns (all_of n) row) is.kept in
+      record { number_is = is.action.number; shows = is.action.action; place = keeps.place; word = keeps.word; notes = keeps.notes }
 
   kept_action : (row : Row) (a : ListedAction) → SaysAction row a → keeps_action_rules (shown_of listed_columns (all_of n) row) ≡ true
   kept_action row a says =
       rw (
+        says.number_is,
         says.shows.rollout,
         says.place,
         says.word,
         says.shows.canceling,
         says.shows.outcome,
-        says.shows.notes,
+        says.notes,
         says.shows.entries,
-        says.number_is,
-        small_or_wide a.action.notes,
         small_or_wide a.action.entries,
       )
-      (go (is_wide (Int (pos a.action.notes))) (is_wide (Int (pos a.action.entries))))
+      (go (is_wide (Int (pos a.action.entries))))
     where
-      go : (notes entries : Bool)
-          → (is_none (option_or (first_broken ((not notes, rule.ActionNotes) ∷ (not entries, rule.ActionEntries) ∷ [])) None) || (notes || entries)) ≡ true
-      go true entries = refl
-      go false true = refl
-      go false false = refl
+      go : (wide : Bool) → (is_none (first_broken ((not wide, rule.ActionEntries) ∷ []))
+          || (wide && are_entries (first_broken ((not wide, rule.ActionEntries) ∷ [])))) ≡ true
+      go true = refl
+      go false = refl
 
   pub actions_read : (old new : State) (rows : Vec Row Global) → AsksText old new LIST_ACTIONS.now (all_of n) (Ok rows)
       → (out : Result (Option (Vec ListedAction Global)) Fault)

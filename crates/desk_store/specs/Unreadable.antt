@@ -4,7 +4,7 @@ use Rattle.std.specs.List.Sorted.{IsNonDecreasingBy}
 use Rattle.sqlite_value.specs.Order.{Row, column}
 use Rattle.sqlite_rules.specs.Lists.{Has}
 use Rattle.desk_records.specs.ArtifactRow.{has_bytes}
-use Rattle.desk_records.specs.CheckedRows.{has_wide_count}
+use Rattle.desk_records.specs.CheckedRows.{is_too_long}
 use Rattle.desk_records.specs.Codes.{number_in}
 use Rattle.desk_records.specs.EntryRow.{BreaksSequenced}
 use Rattle.rollout_model.specs.declared.group_rule.GroupRule.{GroupRule}
@@ -56,5 +56,5 @@ pub data IsUnreadable (t : Tables) : Type 0 where
   no_grouping : (rollout : ℕ) (rules : List GroupRule) → HasGroupCount t rollout (length rules) → HaveRules (HasRule t rollout) 1 rules
       → grouping_of rules ≡ None → IsUnreadable t
   large_number : (row : Row) → Has (t Rollouts) row → number_in (column row 0) ≡ None → IsUnreadable t
-  large_count : (row : Row) → Has (t Actions) row → has_wide_count (columns_of_action row) ≡ true → IsUnreadable t
+  large_count : (row : Row) → Has (t Actions) row → is_too_long (columns_of_action row) ≡ true → IsUnreadable t
   many_rows : (p : Place) → 2 ^ 32 ≤ length (t p) → IsUnreadable t

@@ -3,7 +3,7 @@
 ghost use Rattle.std.specs.Prelude.{◌≡◌, Bool, IfErr, IfNone, IfOk, IfSome, None, false, option_map, true, vec_items};
 ghost use Rattle.std.specs.Option.{is_none};
 ghost use Rattle.sqlite_value.specs.Order.{Row};
-ghost use Rattle.desk_records.specs.CheckedRows.{IsCheckedArtifactRow, IsOwnedOfferRow, has_wide_count};
+ghost use Rattle.desk_records.specs.CheckedRows.{IsCheckedArtifactRow, IsOwnedOfferRow, is_too_long};
 ghost use Rattle.desk_records.specs.CheckedRows.{keeps_action_rules, keeps_artifact_rules, keeps_offer_rules};
 ghost use Rattle.desk_records.specs.Listings.{AreRead};
 ghost use Rattle.desk_records.specs.MemberRow.{IsPlacedRow, keeps_member_rules};
@@ -12,7 +12,7 @@ ghost use Rattle.desk_store.specs.RawLists.{IsKeptActionRow, IsKeptGroupRow};
 ghost use Rattle.desk_store.specs.Rows.{HasBroken, IfRowsBroken};
 
 use desk_records::{
-    CheckedArtifact, ListedAction, OwnedOffer, PlacedMember, has_wide_count, read_checked_artifact,
+    CheckedArtifact, ListedAction, OwnedOffer, PlacedMember, is_too_long, read_checked_artifact,
     read_group, read_listed_action, read_owned_offer, read_placed_member,
 };
 use rollout_machine::GroupRecord;
@@ -93,12 +93,12 @@ impl FromCheckedRow for ListedAction {
 
     ghost keeps_rules = { keeps_action_rules };
 
-    ghost is_broken = { λ row. has_wide_count row ≡ true };
+    ghost is_broken = { λ row. is_too_long row ≡ true };
 
     fn from_checked_row(row: &Row) -> Result<Option<Self>, Fault> {
         match read_listed_action(row) {
             Ok(action) => Ok(Some(action)),
-            Err(_) if has_wide_count(row) => Err(Fault::Broken),
+            Err(_) if is_too_long(row) => Err(Fault::Broken),
             Err(_) => Ok(None),
         }
     }

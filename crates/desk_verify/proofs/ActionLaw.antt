@@ -14,14 +14,17 @@ use Rattle.desk_verify.proofs.GroupLaw.{few_places, one_rowid}
 use Rattle.desk_verify.proofs.CodeLemmas.{flag_is}
 use Rattle.desk_verify.proofs.MemberLaw.{members_in, said}
 use Rattle.desk_verify.proofs.CodeLemmas.{outcome_is, said_is}
+use Rattle.desk_verify.proofs.FewNotes.{few_notes}
+use Rattle.rollout_machine.specs.Verdicts.{notes_of}
+use Rattle.rollout_model.specs.Limits.{note_limit}
 
 -- ---- rows
 
 -- the row of an action says it
 is_action : (rollouts : List RolloutRecord) (n : ℕ) (a : ActionRecord) → is_number n ≡ true → is_number a.rollout ≡ true → a.position < 2 ^ 32
-    → is_word (actor_of rollouts a) ≡ true
+    → is_word (actor_of rollouts a) ≡ true → notes_of a ≤ note_limit
     → IsAction (action_row rollouts n (a, tally_of a)) n (stored_action rollouts (a, tally_of a))
-is_action rollouts n a good of few word = record {
+is_action rollouts n a good of few word noted = record {
   number_is = is_number_in n good;
   shows = record {
     rollout = is_number_in a.rollout of;
@@ -34,6 +37,7 @@ is_action rollouts n a good of few word = record {
   };
   place = ap is_some (is_small a.position few);
   word = word;
+  notes = ap is_some (is_small (notes_of a) (omega (arith, noted)));
 }
 
 -- and no other
@@ -208,7 +212,7 @@ module _ (h : CommandList) (valid : IsValid h) (db : Database) (t : Tables) (hel
         let few = limits.actions in
         is_action (records h).rollouts (suc d) a (is_in_range (suc d) (omega arith) (omega (arith, less, few)))
         (number_of_rollout a.rollout of.rollout of.there)
-        (few_places h valid db t held holds a (has_got (records h).actions d a got)) is_word_of
+        (few_places h valid db t held holds a (has_got (records h).actions d a got)) is_word_of (few_notes h valid (suc d) a got)
 
     -- ---- its entries
 

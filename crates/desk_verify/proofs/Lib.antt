@@ -13,6 +13,7 @@ mod PlanLaw
 mod GroupLaw
 mod Naming
 mod MemberLaw
+mod FewNotes
 mod ActionLaw
 mod Rising
 mod HistoryLemmas

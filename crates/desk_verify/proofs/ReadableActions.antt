@@ -1,16 +1,16 @@
 -- The tables of actions, histories, offers and numbers can be read where records of accepted commands are held that can be counted.
-use Rattle.desk_verify.proofs.Common.{◌≡◌, inl, inr, ◌≤◌, ◌<◌, ◌^◌, ℕ, suc, pos, true, List, [], ◌∷◌, length, map, slice_get, unwrap_or, zip, Option, Some}
-use Rattle.desk_verify.proofs.Common.{None, refl, sym, ap, subst, ◌∙◌, arith, CommandList, IsValid, length-map, count_by-le-length, length-filter, list_all}
-use Rattle.desk_verify.proofs.Common.{is_some, option_or, has_got, has_kept, test_has, Has, Row, column, Int, actions_follow_members, offered_one, same_refl}
+use Rattle.desk_verify.proofs.Common.{◌≡◌, inl, inr, ◌<◌, ◌^◌, ℕ, suc, pos, true, List, [], ◌∷◌, length, map, slice_get, unwrap_or, zip, Option, Some}
+use Rattle.desk_verify.proofs.Common.{None, refl, sym, ap, subst, ◌∙◌, arith, CommandList, IsValid, list_all}
+use Rattle.desk_verify.proofs.Common.{has_got, has_kept, test_has, Has, Row, column, Int, actions_follow_members, offered_one, same_refl}
 use Rattle.desk_verify.proofs.Common.{limits_hold, is_feedback_number_or_none, Bytes, TargetOffer, offer_to, IsOfMember, offer, records, HistoryEntry}
-use Rattle.desk_verify.proofs.Common.{entries_in, member_at, AreWithinLimits, IsWithinLimits, ActionRecord, is_feedback_number, is_number, is_word, Offer}
+use Rattle.desk_verify.proofs.Common.{member_at, AreWithinLimits, IsWithinLimits, ActionRecord, is_feedback_number, is_number, is_word, Offer}
 use Rattle.desk_verify.proofs.Common.{has_place, place_within, has_mapped, is_in_range, is_number_in, Tally, action_row, actor_of, entries_of, entry_row}
-use Rattle.desk_verify.proofs.Common.{history_of, tally_of, told_entry, has_size, feedback_number_in, first_broken, number_in, place_in, BreaksEntry}
+use Rattle.desk_verify.proofs.Common.{history_of, tally_of, told_entry, has_size, feedback_number_in, number_in, place_in, BreaksEntry}
 use Rattle.desk_verify.proofs.Common.{broken_word, keeps_details, HoldsOffers, is_to, offer_row, IsActionRow, broken_action_column}
 use Rattle.desk_verify.proofs.Common.{broken_listed_action_column, broken_offer_column, stored_action, Actions, Feedbacks, Numbers, Offers, columns_of_action}
 use Rattle.desk_verify.proofs.Common.{columns_of_number, columns_of_offer, Column, PlacedNumber, StoredAction, BreaksColumn, placed_shown, AreCounted}
 use Rattle.desk_verify.proofs.Common.{member_ids}
-use Rattle.rollout_machine.specs.Verdicts.{is_note, notes_of}
+use Rattle.rollout_machine.specs.Verdicts.{notes_of}
 use Rattle.desk_records.specs.FeedbackNumbers.{number_row, numbers_of}
 use Rattle.desk_records.specs.NumberRow.{broken_last_number_column, broken_number_column}
 use Rattle.desk_records.specs.TargetRow.{has_word}
@@ -20,6 +20,7 @@ use Rattle.desk_reads.proofs.HistoryKept.{details_kept}
 use Rattle.desk_verify.proofs.HistoryRules.{few_numbers, is_borne, keeps_number, numbers_kept}
 use Rattle.desk_verify.proofs.ReadableRows.{Keeps, fails_not, of_mapped, of_ordered, of_parts, unbroken}
 use Rattle.desk_verify.proofs.ActionLaw.{item_at, its_tally}
+use Rattle.desk_verify.proofs.FewNotes.{few_notes}
 
 -- ---- places in lists
 
@@ -31,12 +32,7 @@ whole_action : (row : Row) (x : StoredAction) → IsActionRow row x → has_size
 whole_action row x says place word notes entries = rw (says.rollout, place, word, says.canceling, says.outcome, notes, entries) refl
 
 numbered_action : (row : Row) (n : ℕ) → broken_action_column row ≡ None → number_in (column row 7) ≡ Some n → broken_listed_action_column row ≡ None
-numbered_action row n whole number = ap (λ o. option_or o (first_broken ((is_some (number_in (column row 7)), rule.ActionNumber) ∷ []))) whole ∙ rw number refl
-
-few_notes : (a : ActionRecord) → notes_of a ≤ length a.history
-few_notes a =
-    let entries : length (entries_in a.history) ≡ length a.history = length-map a.history _ in
-    omega (arith, length-filter is_note (entries_in a.history), count_by-le-length is_note (entries_in a.history), entries)
+numbered_action row n whole number = rw number whole
 
 module _ (h : CommandList) (valid : IsValid h) (d : ℕ) (a : ActionRecord) (at : slice_get (records h).actions d ≡ Some a) where
   limits : AreWithinLimits (records h)
@@ -81,7 +77,7 @@ module _ (h : CommandList) (valid : IsValid h) (d : ℕ) (a : ActionRecord) (at 
   module _ (counted : length a.history < 2 ^ 32) where
     whole : broken_action_column (columns_of_action row) ≡ None
     whole =
-        let notes = few_notes a in
+        let notes = few_notes h valid (suc d) a at in
         whole_action (columns_of_action row) (stored_action (records h).rollouts (a, tally_of a))
         (record {
           rollout = is_number_in a.rollout rollout_number;
@@ -93,7 +89,7 @@ module _ (h : CommandList) (valid : IsValid h) (d : ℕ) (a : ActionRecord) (at 
           notes = refl;
           entries = refl;
         })
-        (is_sized a.position few_places) actor_word (is_sized (notes_of a) (omega (arith, notes, counted))) (is_sized (length a.history) counted)
+        (is_sized a.position few_places) actor_word (is_sized (notes_of a) (omega (arith, notes))) (is_sized (length a.history) counted)
 
     one_action : BreaksColumn Actions row → ⊥
     one_action (inl none) = fails_not _ (is_sized (suc d) (omega (arith, few))) none

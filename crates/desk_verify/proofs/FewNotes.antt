@@ -1,0 +1,87 @@
+-- No action has more notes than the limit.
+use Rattle.rollout_machine.proofs.Common.{◌≡◌, ℕ, ◌+◌, ◌<◌, ◌≤◌, Bool, true, false, cond, ◌&&◌, List, [], ◌∷◌, ◌++◌, length, refl, sym, ◌∙◌, ap, subst, arith}
+use Rattle.rollout_machine.proofs.Common.{Option, Some, None, is_none, nat_le, leb-false, filter, action_place, history, is_heard, outcome, reports}
+use Rattle.rollout_machine.proofs.Common.{CommandList}
+use Rattle.rollout_machine.proofs.Common.{Make, ◌▸◌, CancelFeedback, Command, Feedback, HistoryEntry, Reported, OfCancel, OfDeployment}
+use Rattle.rollout_machine.proofs.Common.{action_in, records, item_numbered, reported, reported_by, entries_in, says_again, standing_of, IsValid, on_action}
+use Rattle.rollout_machine.proofs.Common.{verdict, verdict_row, is_note, notes_of}
+use Rattle.rollout_machine.specs.Verdicts.{is_beyond, is_new}
+use Rattle.rollout_machine.specs.declared.outcome.Outcome.{Outcome}
+use Rattle.rollout_machine.specs.declared.records.ActionRecord.{ActionRecord}
+use Rattle.rollout_model.specs.Limits.{note_limit}
+use Rattle.rollout_machine.proofs.Actions.{append_none, entries_both, open_reports}
+use Rattle.rollout_machine.proofs.AtNumbers.{has_place}
+use Rattle.rollout_machine.proofs.Meanings.{placed}
+use Rattle.rollout_machine.proofs.Valid.{found_action, none_holds}
+
+abbrev notes_in : List Reported → ℕ
+notes_in heard = length (filter is_note (entries_in heard))
+
+-- one more entry, which is a note only where there is room
+one_more : (es : List HistoryEntry) (e : HistoryEntry) → (is_note e && nat_le note_limit (length (filter is_note es))) ≡ false
+    → length (filter is_note es) ≤ note_limit → length (filter is_note (es ++ e ∷ [])) ≤ note_limit
+one_more es e room few = go (is_note e) refl room
+  where
+    behind : (b : Bool) → is_note e ≡ b → (es : List HistoryEntry) → length (filter is_note (es ++ e ∷ [])) ≡ length (filter is_note es) + cond b 1 0
+    behind true d [] = rw d refl
+    behind false d [] = rw d refl
+    behind b d (first ∷ es) = with_first (is_note first) refl (behind b d es)
+      where
+        with_first : (own : Bool) → is_note first ≡ own → length (filter is_note (es ++ e ∷ [])) ≡ length (filter is_note es) + cond b 1 0
+            → length (filter is_note (first ∷ es ++ e ∷ [])) ≡ length (filter is_note (first ∷ es)) + cond b 1 0
+        with_first true k ih = rw k (omega (arith, ih))
+        with_first false k ih = rw k ih
+
+    go : (b : Bool) → is_note e ≡ b → (b && nat_le note_limit (length (filter is_note es))) ≡ false → length (filter is_note (es ++ e ∷ [])) ≤ note_limit
+    go true d full = let less : length (filter is_note es) < note_limit = leb-false _ _ full in omega (arith, behind true d es, less)
+    go false d full = omega (arith, behind false d es, few)
+
+has_room : (a : ActionRecord) (new : Reported) → a.outcome ≡ None → says_again (standing_of a.history new) ≡ false → (is_new new a && is_beyond new a) ≡ false
+    → is_beyond new a ≡ false
+has_room a new open' fresh e = sym (rw (open', fresh) refl) ∙ e
+
+module _ (h : CommandList) (c : Command) (r j : ℕ) (accepted : verdict h c ≡ None) (heard : is_heard h c r j ≡ true) (open' : outcome h r j ≡ None)
+    (few : notes_in (history h r j) ≤ note_limit) where
+  abbrev action : ActionRecord
+  action = action_in h (record { rollout = r; position = j })
+
+  -- of what is heard on an open action
+  by_report : (k : ℕ) (new : Reported) → action_place h k ≡ Some (record { rollout = r; position = j }) → says_again (standing_of (reports h r j) new) ≡ false
+      → on_action (λ a. is_new new a && is_beyond new a) (item_numbered (records h).actions k) ≡ false → notes_in (history h r j ++ new ∷ []) ≤ note_limit
+  by_report k new at fresh row =
+      let same = open_reports h r j open' in
+      let its : (is_new new action && is_beyond new action) ≡ false = sym (ap (on_action (λ a. is_new new a && is_beyond new a)) (found_action h k _ at))
+      ∙ row in
+      let room : is_beyond new action ≡ false = has_room action new open' (sym (ap (λ reports. says_again (standing_of reports new)) same) ∙ fresh) its in
+      subst (λ es. length (filter is_note es) ≤ note_limit) (sym (entries_both (history h r j) (new ∷ [])))
+      (one_more (entries_in (history h r j)) new.entry room few)
+
+heard_few : (h : CommandList) (c : Command) (r j : ℕ) → verdict h c ≡ None → is_heard h c r j ≡ true → outcome h r j ≡ None
+    → notes_in (history h r j) ≤ note_limit → notes_in (history h r j ++ reported_by c) ≤ note_limit
+heard_few h (Feedback feedback) r j v d e few =
+    let p = placed h (Feedback feedback) r j d in
+    by_report h (Feedback feedback) r j v d e few feedback.action (reported OfDeployment feedback) p.0 p.1
+    (none_holds (verdict_row (records h) (Feedback feedback)) v).1.1.1.1.0
+heard_few h (CancelFeedback feedback) r j v d e few =
+    let p = placed h (CancelFeedback feedback) r j d in
+    by_report h (CancelFeedback feedback) r j v d e few feedback.action (reported OfCancel feedback) p.0 p.1
+    (none_holds (verdict_row (records h) (CancelFeedback feedback)) v).1.1.1.1.1.0
+heard_few h _ r j v d e few = subst (λ heard. notes_in heard ≤ note_limit) (sym (append_none (history h r j))) few
+
+few_at : (h : CommandList) (r j : ℕ) → IsValid h → notes_in (history h r j) ≤ note_limit
+few_at (Make approval) r j v = omega arith
+few_at (h ▸ c) r j v = go (is_heard h c r j) (outcome h r j) refl refl (few_at h r j v.0)
+  where
+    stay : notes_in (history h r j) ≤ note_limit → notes_in (history h r j ++ []) ≤ note_limit
+    stay few = subst (λ heard. notes_in heard ≤ note_limit) (sym (append_none (history h r j))) few
+
+    go : (b : Bool) (o : Option Outcome) → is_heard h c r j ≡ b → outcome h r j ≡ o → notes_in (history h r j) ≤ note_limit
+        → notes_in (history h r j ++ cond (b && is_none o) (reported_by c) []) ≤ note_limit
+    go false o d e few = stay few
+    go true (Some o) d e few = stay few
+    go true None d e few = heard_few h c r j v.2 d e few
+
+pub few_notes : (h : CommandList) → IsValid h → (k : ℕ) (a : ActionRecord) → item_numbered (records h).actions k ≡ Some a → notes_of a ≤ note_limit
+few_notes h valid k a e =
+    let at = has_place h k a e in
+    subst (λ (b : ActionRecord). notes_of b ≤ note_limit) (sym at.is) (few_at h at.place.rollout at.place.position valid)
