@@ -18,6 +18,7 @@ pub use Rattle.desk_store.proofs.ActionCalls.{entries_read, entry_read, target_a
 pub use Rattle.desk_store.proofs.ArtifactCalls.{artifact_read, artifact_written, found, piece_read, piece_written}
 pub use Rattle.desk_store.proofs.AttributeCalls.{attribute_set, attribute_written, attributes_read}
 pub use Rattle.desk_store.proofs.EndLemmas.{commits_as_store, errors_as_store, gives_up_as_store}
+pub use Rattle.desk_store.proofs.BlameLemmas.{call_blames}
 pub use Rattle.desk_store.proofs.FailLemmas.{all_fails, call_breaks, few_fails, first_fails, never_breaks}
 pub use Rattle.desk_store.proofs.Known.{in_ledgers, known, ledger_writes, tables_know}
 pub use Rattle.desk_store.proofs.ModuleCalls.{module_read, module_written}

@@ -1,9 +1,43 @@
 -- What broken rows are blamed on, by what was read before.
-use Rattle.desk_store.proofs.Common.{Result, IfErr, Ok, Ghosts, Fault, Tables, BlamesGiven, FindsTables, IfRowsBroken, IsUnreadable, OpenChange}
-use Rattle.desk_store.proofs.FailLemmas.{breaks_by}
+use Rattle.desk_store.proofs.Common.{◌≡◌, Result, IfErr, Ok, Ghosts, Fault, Tables, BlamesGiven, FindsTables, HoldsTables, IfRowsBroken, IsUnreadable}
+use Rattle.desk_store.proofs.Common.{HasUnreadable, OpenChange, Reading, ReadsOf, seen_in}
+use Rattle.sqlite.specs.State.{State}
+use Rattle.sql_calls.specs.Standing.{Finds, Sees}
+use Rattle.desk_store.specs.Blaming.{HoldsReading}
+use Rattle.desk_store.specs.Breaking.{NeverBreaks}
+use Rattle.desk_store.specs.Unreadable.{place_of}
+use Rattle.desk_store.proofs.FailLemmas.{breaks_by, call_breaks}
 
--- on what was found
-pub blamed : {S A B : Type 0} {g : Ghosts S} {Given : Tables → Type 0} {old new : OpenChange S} {x : A} {P : Tables → A → Type 0}
-    → FindsTables g {E = Fault} old new (Ok x) P → (out : Result B Fault)
-    → IfErr out (λ fault. IfRowsBroken fault ((t : Tables) → P t x → Given t → IsUnreadable t)) → BlamesGiven g Given old new out
-blamed read out why = breaks_by read out why
+-- what can't be read of a table that is read
+pub unread : (reading : Reading) (what : IsUnreadable reading.tables) → ReadsOf (place_of what) reading → HasUnreadable reading
+unread reading what given = record { what = what; there = given.is_read }
+
+-- ---- what is read stands in the tables
+
+module _ {s : State} (reading : Reading) where
+  to_tables : Sees HoldsReading s reading → Sees HoldsTables s reading.tables
+  to_tables seen = record { sees = λ clean. (let it = seen.sees clean in record { mode = it.mode; is_open = it.is_open; now_holds = it.now_holds }) }
+
+  pub of_tables : Sees HoldsTables s reading.tables → Sees HoldsReading s reading
+  of_tables seen = record { sees = λ clean. (let it = seen.sees clean in record { mode = it.mode; is_open = it.is_open; now_holds = it.now_holds }) }
+
+pub found_reading : {A : Type 0} {a b : State} {x : A} {P : Tables → A → Type 0} → Finds HoldsTables (λ (t : Tables). t) {E = Fault} a b (Ok x) P
+    → Finds HoldsReading (λ (r : Reading). r) {E = Fault} a b (Ok x) (λ reading y. P reading.tables y)
+found_reading read = record {
+  wears = read.wears;
+  finds = λ reading seen. (let it = read.finds reading.tables (to_tables reading seen) in (of_tables reading it.0, it.1));
+}
+
+-- ---- what is blamed
+
+module _ {S A : Type 0} {g : Ghosts S} {Given : Reading → Type 0} {old new : OpenChange S} where
+  -- nothing by a call that leaves the tables as they are
+  pub call_blames : (out : Result A Fault) → NeverBreaks g new out
+      → ((x : A) → out ≡ Ok x → (t : Tables) → Sees HoldsTables (seen_in g old) t → Sees HoldsTables (seen_in g new) t) → BlamesGiven g Given old new out
+  call_blames out sound keeps = call_breaks out sound (λ x is reading seen. of_tables reading (keeps x is reading.tables (to_tables reading seen)))
+
+  -- on what was found
+  pub blamed : {B : Type 0} {x : A} {P : Tables → A → Type 0} → FindsTables g {E = Fault} old new (Ok x) P → (out : Result B Fault)
+      → IfErr out (λ fault. IfRowsBroken fault ((reading : Reading) → P reading.tables x → Given reading → HasUnreadable reading))
+      → BlamesGiven g Given old new out
+  blamed read out why = breaks_by (found_reading read) out why

@@ -122,7 +122,7 @@ pub use Rattle.desk_records.specs.declared.target_texts.TheConstants.{COUNT_TARG
 pub use Rattle.desk_records.specs.declared.target_texts.TheConstants.{LIST_TARGET_TAGS, PUT_TARGET, PUT_TARGET_ATTRIBUTE, PUT_TARGET_TAG, SET_TARGET}
 pub use Rattle.desk_records.specs.declared.target_texts.TheConstants.{SET_TARGET_ATTRIBUTE}
 pub use Rattle.desk_records.specs.declared.texts.TheConstants.{FIND_MODULE, GET_DESK, GET_MODULE, LAST_MODULE, PUT_MODULE}
-pub use Rattle.desk_store.specs.Blaming.{Blames, BlamesGiven}
+pub use Rattle.desk_store.specs.Blaming.{Blames, BlamesGiven, HasUnreadable, Reading, ReadsOf}
 pub use Rattle.desk_store.specs.Changing.{FindsTables, KeepsSeenTables, seen_in}
 pub use Rattle.desk_store.specs.GroupPairs.{group_and_next}
 pub use Rattle.desk_store.specs.Rows.{AreReadAs, BreaksRule, HasBroken, HasNoNumber, IfRowsBroken, IsApproval, IsCount, IsReadAs}

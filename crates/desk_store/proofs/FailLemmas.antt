@@ -1,5 +1,5 @@
 -- Why a call over a ledger that can be read is no failed store by itself.
-use Rattle.desk_store.proofs.Common.{Place, ◌≡◌, ◌-◌, ℕ, zero, suc, inl, inr, List, [], ◌∷◌, take, drop, filter, map, Option, Some, None, Ok, Err, Result}
+use Rattle.desk_store.proofs.Common.{Place, ◌≡◌, ℕ, zero, suc, inl, inr, List, [], ◌∷◌, take, drop, filter, map, Option, Some, None, Ok, Err, Result}
 use Rattle.desk_store.proofs.Common.{IfErr, Vec, refl, sym, ap, subst, ◌∙◌, Global, Row, Query, Output, page, Database, Ghosts, Has, has_filtered, Fault}
 use Rattle.desk_store.proofs.Common.{Memory, Store, AsksFew, AsksText, TakesFirst, ShowsFirst, first_finds, ask_finds, few_finds, IsOrdered, by, ordered_rows}
 use Rattle.desk_store.proofs.Common.{passes, shown_in, shown_of, simple, HoldsLedger, Ledger, HoldsTables, Tables, IfRowsBroken, HasBroken, seen_in, OpenChange}

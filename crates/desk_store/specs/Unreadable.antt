@@ -58,3 +58,25 @@ pub data IsUnreadable (t : Tables) : Type 0 where
   large_number : (row : Row) → Has (t Rollouts) row → number_in (column row 0) ≡ None → IsUnreadable t
   large_count : (row : Row) → Has (t Actions) row → is_too_long (columns_of_action row) ≡ true → IsUnreadable t
   many_rows : (p : Place) → 2 ^ 32 ≤ length (t p) → IsUnreadable t
+
+-- the table whose rows they are
+abbrev pub place_of : {t : Tables} → IsUnreadable t → Place
+place_of (broken_rollout row among breaks) = Rollouts
+place_of (broken_rule row among breaks) = Rules
+place_of (broken_piece row among breaks) = Pieces
+place_of (broken_entry row c among breaks) = Feedbacks
+place_of (broken_number row among breaks) = Numbers
+place_of (twin_members rollout twins) = Members
+place_of (twin_actions rollout twins) = Actions
+place_of (twin_entries action twins) = Feedbacks
+place_of (missing_rollout number last low high there none) = Rollouts
+place_of (missing_rule rollout n i has low high none) = Rules
+place_of (no_grouping rollout rules has have none) = Rules
+place_of (large_number row among none) = Rollouts
+place_of (large_count row among wide) = Actions
+place_of (many_rows p many) = p
+
+-- rows of a table that is one of these
+pub record IsUnreadableIn (among : Place → Bool) (t : Tables) : Type 0 where
+  pub what : IsUnreadable t
+  pub there : among (place_of what) ≡ true

@@ -7,7 +7,7 @@ ghost use Rattle.desk_records.specs.CheckedRows.{counted_of};
 ghost use Rattle.desk_records.specs.CountedActions.{CountsAgree};
 ghost use Rattle.desk_records.specs.Listings.{AreSaid, FindsOne, has_at};
 ghost use Rattle.desk_records.specs.Schema.{Actions, Feedbacks};
-ghost use Rattle.desk_store.specs.Blaming.{Blames, BlamesGiven};
+ghost use Rattle.desk_store.specs.Blaming.{Blames, BlamesGiven, ReadsOf};
 ghost use Rattle.desk_store.specs.Changing.{FindsTables, StaysIn};
 ghost use Rattle.desk_store.specs.Counting.{AddsIn};
 ghost use Rattle.desk_store.specs.RawLists.{AreActions, IsFoundInOrder, ListsRows, SaysAction, SaysEntry, SaysNumbered};
@@ -48,7 +48,7 @@ impl<'a, S: Alter> OpenChange<'a, S> {
     pub fn find_action(&mut self, number: ActionNo) -> Result<Option<StoredAction>, Fault>
         ensures stays { StaysIn S.Store self.old self.new result }
         ensures reads { FindsTables S.Store self.old self.new result (λ t found. FindsOne (t Actions) (has_rowid (pos number)) SaysNumbered found) }
-        ensures blames { BlamesGiven S.Store AreActions self.old self.new result }
+        ensures blames { BlamesGiven S.Store (λ reading. AreActions reading.tables × ReadsOf Actions reading) self.old self.new result }
         ensures work { AddsIn 1 1 self.old self.new }
     {
         let alloc = self.store.alloc;
@@ -65,7 +65,7 @@ impl<'a, S: Alter> OpenChange<'a, S> {
         ensures reads { FindsTables S.Store self.old self.new result
             (λ t found. ListsRows (t Actions) (has_at 2 number) SaysAction (option_map vec_items found)) }
         ensures order { FindsTables S.Store self.old self.new result (λ t found. IsFoundInOrder (λ a. a.number) (option_map vec_items found)) }
-        ensures blames { Blames S.Store self.old self.new result }
+        ensures blames { BlamesGiven S.Store (ReadsOf Actions) self.old self.new result }
         ensures work { self.new.store.now.calls.work.statements ≤ self.old.store.now.calls.work.statements + 1 }
     {
         let alloc = self.store.alloc;
@@ -79,7 +79,7 @@ impl<'a, S: Alter> OpenChange<'a, S> {
         ensures stays { StaysIn S.Store self.old self.new result }
         ensures reads { FindsTables S.Store self.old self.new result (λ t found. AreSaid (t Feedbacks) (has_at 1 number) SaysEntry found.items) }
         ensures order { FindsTables S.Store self.old self.new result (λ t found. IsNonDecreasingBy (λ e. e.sequence) found.items) }
-        ensures blames { Blames S.Store self.old self.new result }
+        ensures blames { BlamesGiven S.Store (ReadsOf Feedbacks) self.old self.new result }
         ensures work { self.new.store.now.calls.work.statements ≤ self.old.store.now.calls.work.statements + 1 }
     {
         let alloc = self.store.alloc;

@@ -3,7 +3,7 @@
 ghost use Rattle.std.specs.Prelude.{◌≤◌, ◌+◌, map, option_map, vec_items};
 ghost use Rattle.desk_records.specs.FoundPieces.{ArePieces};
 ghost use Rattle.desk_records.specs.Schema.{Artifacts, Pieces};
-ghost use Rattle.desk_store.specs.Blaming.{Blames};
+ghost use Rattle.desk_store.specs.Blaming.{Blames, BlamesGiven, ReadsOf};
 ghost use Rattle.desk_store.specs.Changing.{FindsTables, StaysIn};
 ghost use Rattle.desk_store.specs.RawLists.{ListsRows, SaysArtifact, any_row};
 
@@ -32,7 +32,7 @@ impl<'a, S: Alter> OpenChange<'a, S> {
     pub fn find_pieces(&mut self, number: ArtifactNo, place: u32) -> Result<Vec<Vec<u8>>, Fault>
         ensures stays { StaysIn S.Store self.old self.new result }
         ensures reads { FindsTables S.Store self.old self.new result (λ t pieces. ArePieces (t Pieces) number place (map vec_items pieces.items)) }
-        ensures blames { Blames S.Store self.old self.new result }
+        ensures blames { BlamesGiven S.Store (ReadsOf Pieces) self.old self.new result }
         ensures work { self.new.store.now.calls.work.statements ≤ self.old.store.now.calls.work.statements + 1 }
     {
         let alloc = self.store.alloc;

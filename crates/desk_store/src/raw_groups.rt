@@ -3,7 +3,7 @@
 ghost use Rattle.std.specs.Prelude.{◌≡◌, ◌≤◌, ◌+◌, length, option_map, vec_items};
 ghost use Rattle.desk_records.specs.Listings.{has_at};
 ghost use Rattle.desk_records.specs.Schema.{Actions, Groups};
-ghost use Rattle.desk_store.specs.Blaming.{Blames};
+ghost use Rattle.desk_store.specs.Blaming.{Blames, BlamesGiven, ReadsOf};
 ghost use Rattle.desk_store.specs.Changing.{FindsTables, StaysIn};
 ghost use Rattle.desk_store.specs.Counting.{AddsIn};
 ghost use Rattle.desk_store.specs.RawLists.{ListsRows, SaysGroup};
@@ -35,7 +35,7 @@ impl<'a, S: Alter> OpenChange<'a, S> {
     pub fn count_groups(&mut self) -> Result<u32, Fault>
         ensures stays { StaysIn S.Store self.old self.new result }
         ensures reads { FindsTables S.Store self.old self.new result (λ t count. count ≡ length (t Groups)) }
-        ensures blames { Blames S.Store self.old self.new result }
+        ensures blames { BlamesGiven S.Store (ReadsOf Groups) self.old self.new result }
         ensures work { AddsIn 1 1 self.old self.new }
     {
         let row = self.first(COUNT_GROUPS, &[])?;
@@ -46,7 +46,7 @@ impl<'a, S: Alter> OpenChange<'a, S> {
     pub fn count_actions(&mut self) -> Result<u32, Fault>
         ensures stays { StaysIn S.Store self.old self.new result }
         ensures reads { FindsTables S.Store self.old self.new result (λ t count. count ≡ length (t Actions)) }
-        ensures blames { Blames S.Store self.old self.new result }
+        ensures blames { BlamesGiven S.Store (ReadsOf Actions) self.old self.new result }
         ensures work { AddsIn 1 1 self.old self.new }
     {
         let row = self.first(COUNT_ACTIONS, &[])?;

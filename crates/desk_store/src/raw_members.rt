@@ -3,7 +3,7 @@
 ghost use Rattle.std.specs.Prelude.{◌≡◌, ◌≤◌, ◌+◌, filter, length, option_map, vec_items};
 ghost use Rattle.desk_records.specs.PlaceLists.{ListsPlaces, is_of};
 ghost use Rattle.desk_records.specs.Schema.{Members};
-ghost use Rattle.desk_store.specs.Blaming.{Blames};
+ghost use Rattle.desk_store.specs.Blaming.{Blames, BlamesGiven, ReadsOf};
 ghost use Rattle.desk_store.specs.Changing.{FindsTables, StaysIn};
 ghost use Rattle.desk_store.specs.Counting.{AddsIn};
 
@@ -32,7 +32,7 @@ impl<'a, S: Alter> OpenChange<'a, S> {
     pub fn count_places(&mut self, number: RolloutNo) -> Result<u32, Fault>
         ensures stays { StaysIn S.Store self.old self.new result }
         ensures reads { FindsTables S.Store self.old self.new result (λ t count. count ≡ length (filter (is_of number) (t Members))) }
-        ensures blames { Blames S.Store self.old self.new result }
+        ensures blames { BlamesGiven S.Store (ReadsOf Members) self.old self.new result }
         ensures work { self.new.store.now.calls.work.statements ≤ self.old.store.now.calls.work.statements + 1 }
     {
         let rows = self.ask(LIST_PLACES, params![number.get()])?;
@@ -43,7 +43,7 @@ impl<'a, S: Alter> OpenChange<'a, S> {
     pub fn count_members(&mut self) -> Result<u32, Fault>
         ensures stays { StaysIn S.Store self.old self.new result }
         ensures reads { FindsTables S.Store self.old self.new result (λ t count. count ≡ length (t Members)) }
-        ensures blames { Blames S.Store self.old self.new result }
+        ensures blames { BlamesGiven S.Store (ReadsOf Members) self.old self.new result }
         ensures work { AddsIn 1 1 self.old self.new }
     {
         let row = self.first(COUNT_MEMBERS, &[])?;

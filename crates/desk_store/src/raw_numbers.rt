@@ -3,7 +3,7 @@
 ghost use Rattle.std.specs.Prelude.{◌≤◌, ◌+◌};
 ghost use Rattle.desk_records.specs.Listings.{AreSaid, has_at};
 ghost use Rattle.desk_records.specs.Schema.{Numbers};
-ghost use Rattle.desk_store.specs.Blaming.{Blames};
+ghost use Rattle.desk_store.specs.Blaming.{BlamesGiven, ReadsOf};
 ghost use Rattle.desk_store.specs.Changing.{FindsTables, StaysIn};
 ghost use Rattle.desk_store.specs.RawLists.{SaysNumber};
 
@@ -19,7 +19,7 @@ impl<'a, S: Alter> OpenChange<'a, S> {
     pub fn list_numbers(&mut self, action: ActionNo) -> Result<Vec<PlacedNumber>, Fault>
         ensures stays { StaysIn S.Store self.old self.new result }
         ensures reads { FindsTables S.Store self.old self.new result (λ t found. AreSaid (t Numbers) (has_at 1 action) SaysNumber found.items) }
-        ensures blames { Blames S.Store self.old self.new result }
+        ensures blames { BlamesGiven S.Store (ReadsOf Numbers) self.old self.new result }
         ensures work { self.new.store.now.calls.work.statements ≤ self.old.store.now.calls.work.statements + 1 }
     {
         let alloc = self.store.alloc;

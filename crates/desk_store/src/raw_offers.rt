@@ -22,7 +22,7 @@ impl<'a, S: Alter> OpenChange<'a, S> {
     pub fn find_offer(&mut self, id: &ControllerId) -> Result<Option<Offer>, Fault>
         ensures stays { StaysIn S.Store self.old self.new result }
         ensures reads { FindsTables S.Store self.old self.new result (λ t found. FindsOne (t Offers) (has_text_at 1 id.now) (SaysOfferOf id.now) found) }
-        ensures blames { BlamesGiven S.Store AreOffers self.old self.new result }
+        ensures blames { BlamesGiven S.Store (λ reading. AreOffers reading.tables) self.old self.new result }
         ensures work { AddsIn 1 1 self.old self.new }
     {
         let alloc = self.store.alloc;

@@ -5,7 +5,7 @@ ghost use Rattle.sqlite_trees.specs.Tree.{has_rowid};
 ghost use Rattle.desk_records.specs.Listings.{FindsOne, IsLastNumber};
 ghost use Rattle.desk_records.specs.Schema.{Rollouts};
 ghost use Rattle.desk_records.specs.TableRows.{IsRollout};
-ghost use Rattle.desk_store.specs.Blaming.{Blames};
+ghost use Rattle.desk_store.specs.Blaming.{BlamesGiven, ReadsOf};
 ghost use Rattle.desk_store.specs.Changing.{FindsTables, StaysIn};
 ghost use Rattle.desk_store.specs.Counting.{AddsIn};
 
@@ -21,7 +21,7 @@ impl<'a, S: Alter> OpenChange<'a, S> {
     pub fn find_last_rollout(&mut self) -> Result<u32, Fault>
         ensures stays { StaysIn S.Store self.old self.new result }
         ensures reads { FindsTables S.Store self.old self.new result (λ t last. IsLastNumber (t Rollouts) last) }
-        ensures blames { Blames S.Store self.old self.new result }
+        ensures blames { BlamesGiven S.Store (ReadsOf Rollouts) self.old self.new result }
         ensures work { AddsIn 1 1 self.old self.new }
     {
         let row = self.first(LAST_ROLLOUT, &[])?;
@@ -32,7 +32,7 @@ impl<'a, S: Alter> OpenChange<'a, S> {
     pub fn find_rollout(&mut self, number: RolloutNo) -> Result<Option<StoredRollout>, Fault>
         ensures stays { StaysIn S.Store self.old self.new result }
         ensures reads { FindsTables S.Store self.old self.new result (λ t found. FindsOne (t Rollouts) (has_rowid (pos number)) IsRollout found) }
-        ensures blames { Blames S.Store self.old self.new result }
+        ensures blames { BlamesGiven S.Store (ReadsOf Rollouts) self.old self.new result }
         ensures work { AddsIn 1 1 self.old self.new }
     {
         let alloc = self.store.alloc;

@@ -3,7 +3,7 @@
 ghost use Rattle.desk_records.specs.FoundPieces.{lies_at};
 ghost use Rattle.desk_records.specs.Listings.{FindsOne};
 ghost use Rattle.desk_records.specs.Schema.{Rules};
-ghost use Rattle.desk_store.specs.Blaming.{Blames};
+ghost use Rattle.desk_store.specs.Blaming.{BlamesGiven, ReadsOf};
 ghost use Rattle.desk_store.specs.Changing.{FindsTables, StaysIn};
 ghost use Rattle.desk_store.specs.Counting.{AddsIn};
 ghost use Rattle.desk_store.specs.RawLists.{SaysRule};
@@ -21,7 +21,7 @@ impl<'a, S: Alter> OpenChange<'a, S> {
     pub fn find_rule(&mut self, number: RolloutNo, group: u32) -> Result<Option<GroupRule>, Fault>
         ensures stays { StaysIn S.Store self.old self.new result }
         ensures reads { FindsTables S.Store self.old self.new result (λ t found. FindsOne (t Rules) (lies_at number group) SaysRule found) }
-        ensures blames { Blames S.Store self.old self.new result }
+        ensures blames { BlamesGiven S.Store (ReadsOf Rules) self.old self.new result }
         ensures work { AddsIn 1 1 self.old self.new }
     {
         let alloc = self.store.alloc;

@@ -5,33 +5,51 @@ use Rattle.desk_verify.proofs.Common.{◌∙◌, arith, and_parts, nat_tests, Al
 use Rattle.desk_verify.proofs.Common.{number_of, number_in, AreSaid, HasNumber, IsLastNumber, AreMembers, OwnedOffer, PlacedMember, Members, Offers, Place}
 use Rattle.desk_verify.proofs.Common.{Rollouts}
 use Rattle.desk_verify.proofs.Common.{number_in_good, number_in_is, HoldsTables, Tables, BlamesGiven, FindsTables, seen_in, AreActions, AreOffers, SaysOffer}
-use Rattle.desk_verify.proofs.Common.{any_row, IsUnreadable, large_number, many_rows, rise, twin_members, count_on, AgreesActions, AgreeBefore, Passes}
-use Rattle.desk_verify.proofs.Common.{checked, Artifact, follow, AgreesMembers, IsUpTo, number_limit, and_from}
+use Rattle.desk_verify.proofs.Common.{any_row, large_number, many_rows, rise, count_on, AgreesActions, AgreeBefore, Passes}
+use Rattle.desk_verify.proofs.Common.{checked, Artifact, follow, AgreesMembers, IsUpTo, number_limit, and_from, ReadsOf, SaysMember, is_of, unread}
 use Rattle.std.proofs.lemmas.List.Filters.{length-filter_both}
 use Rattle.std.specs.Ordering.{is_eq}
 use Rattle.sqlite.specs.Store.{Ghosts}
+use Rattle.desk_store.specs.Blaming.{HasUnreadable, Reading}
+use Rattle.desk_store.specs.Unreadable.{HasTwins}
 use Rattle.desk_store.specs.declared.change.OpenChange.{OpenChange}
+use Rattle.desk_store.proofs.BlameLemmas.{found_reading, of_tables}
+use Rattle.desk_verify.specs.Checking.{ChecksTable}
+use Rattle.desk_verify.specs.RolloutChecks.{ReadsUpTo}
+use Rattle.desk_verify.specs.Stopping.{StopsInOrder, is_read_for}
+use Rattle.desk_verify.specs.declared.damage.CheckedTable.{CheckedTable}
 use Rattle.desk_verify.proofs.Follow.{differs}
 use Rattle.desk_verify.proofs.GroupLaw.{one_rowid}
 
+-- ---- what is given
+
+-- less is asked where more is given
+pub given_more : {S A : Type 0} {g : Ghosts S} {Given G : Reading → Type 0} {old new : OpenChange S} (result : Result A Fault)
+    → ((reading : Reading) → Given reading → G reading) → BlamesGiven g G old new result → BlamesGiven g Given old new result
+given_more (Ok a) means blames = record { to = blames.to }
+given_more (Err fault) means blames = record { to = λ reading seen given. blames.to reading seen (means reading given) }
+
 -- what is given to a call is known by what was read before it
-pub blamed_when : {S A B C : Type 0} {g : Ghosts S} {Given G : Tables → Type 0} {old mid new : OpenChange S} {x : A} {P : Tables → A → Type 0}
+pub blamed_when : {S A B C : Type 0} {g : Ghosts S} {Given G : Reading → Type 0} {old mid new : OpenChange S} {x : A} {P : Tables → A → Type 0}
     → FindsTables g {E = Fault} old mid (Ok x) P
-    → Wears (seen_in g mid) (seen_in g new) → (fault : Fault) → BlamesGiven g G {A = C} mid new (Err fault) → ((t : Tables) → P t x → Given t → G t)
+    → Wears (seen_in g mid) (seen_in g new) → (fault : Fault) → BlamesGiven g G {A = C} mid new (Err fault)
+    → ((reading : Reading) → P reading.tables x → Given reading → G reading)
     → (out : Result B Fault) → out ≡ Err fault → BlamesGiven g Given old new out
 blamed_when {B = B} {g = g} {Given = Given} {old = old} {new = new} read wears fault blames means out is =
     subst (BlamesGiven g Given {A = B} old new) (sym is)
     (record {
-      to = λ t sees given. record {
+      to = λ reading sees given. record {
         reason = λ broken clean.
-            let seen = read.finds t sees in
-            (blames.to t seen.0 (means t (seen.1 (omega (arith, clean, wears))) given)).reason broken clean;
+            let seen = (found_reading read).finds reading sees in
+            (blames.to reading seen.0 (means reading (seen.1 (omega (arith, clean, wears))) given)).reason broken clean;
       };
     })
 
 -- a list is no longer than its table
-pub listed_many : (t : Tables) (p : Place) (test : Row → Bool) (count : ℕ) → count ≡ length (filter test (t p)) → 2 ^ 32 ≤ count → IsUnreadable t
-listed_many t p test count is large = many_rows p (omega (arith, is, large, length-filter_both test (λ row. not (test row)) (λ row. refl) (t p)))
+pub listed_many : (reading : Reading) (p : Place) (test : Row → Bool) (count : ℕ) → count ≡ length (filter test (reading.tables p)) → 2 ^ 32 ≤ count
+    → ReadsOf p reading → HasUnreadable reading
+listed_many reading p test count is large given =
+    unread reading (many_rows p (omega (arith, is, large, length-filter_both test (λ row. not (test row)) (λ row. refl) (reading.tables p)))) given
 
 -- ---- rollouts
 
@@ -52,9 +70,12 @@ same_number n m h = go (is_number n) h
     go false is = absurd cc
 
 -- a number that is too large is that of no rollout, and then the last one is too
-pub past_limit : (t : Tables) (n : ℕ) → number_of n ≡ None → IsUpTo n t → IsUnreadable t
-past_limit t n none up = large_number up.there.row up.there.among (go (number_in (column up.there.row 0)) refl)
+pub past_limit : (reading : Reading) (n : ℕ) → number_of n ≡ None → ReadsUpTo n reading → HasUnreadable reading
+past_limit reading n none given = unread reading (large_number up.there.row up.there.among (go (number_in (column up.there.row 0)) refl)) given.rollouts
   where
+    up : IsUpTo n reading.tables
+    up = given.up
+
     not_number : (b : Bool) → cond b (Some n) None ≡ None → b ≡ false
     not_number true is = absurd cc
     not_number false is = refl
@@ -104,8 +125,8 @@ not_rising last (m ∷ members) h k =
 
 -- in a table that agrees, two members have one place
 pub twin_place : (t : Tables) (r : ℕ) (members : List PlacedMember) → AreMembers (t Members) r members → count_on 0 members ≡ false → AgreesMembers t
-    → IsUnreadable t
-twin_place t r members are k agree = twin_members r (record { found = members; said = are.said; in_order = are.rise; twins = go (follow 0 members) refl })
+    → HasTwins (t Members) (is_of r) (SaysMember r) (λ (m : PlacedMember). m.place)
+twin_place t r members are k agree = record { found = members; said = are.said; in_order = are.rise; twins = go (follow 0 members) refl }
   where
     go : (b : Bool) → follow 0 members ≡ b → rise 0 (map (λ (m : PlacedMember). m.place) members) ≡ false
     go true h = not_rising 0 members h k
@@ -134,3 +155,20 @@ so_far t (suc (suc zero)) within pass = pass
 so_far t (suc (suc (suc zero))) within pass = pass
 so_far t (suc (suc (suc (suc zero)))) within pass = (pass.0, (pass.1.0, (pass.1.1.0, (pass.1.1.1.0.agrees, tt))))
 so_far t (suc (suc (suc (suc (suc i))))) within pass = absurd (omega (arith, within))
+
+-- those before this one agree, and its check tells broken rows
+pub stops_at : {S A B : Type 0} {g : Ghosts S} {old mid new : OpenChange S} {P : Tables → Type 0} (table : CheckedTable)
+    → FindsTables g {E = Fault} old mid (Ok (tt {0})) (λ t u. P t) → Wears (seen_in g mid) (seen_in g new) → (fault : Fault)
+    → BlamesGiven g (ChecksTable table) {A = A} mid new (Err fault) → ((t : Tables) → P t → AgreeBefore table t)
+    → (out : Result B Fault) → out ≡ Err fault → StopsInOrder g old new out
+stops_at {B = B} {g = g} {old = old} {new = new} table read wears fault blames means out is = subst (StopsInOrder g {A = B} old new) (sym is)
+    (record {
+      to = λ t sees always. record {
+        reason = λ broken clean.
+            let seen = read.finds t sees in
+            let reading : Reading = record { tables = t; reads = is_read_for table } in
+            let agree = means t (seen.1 (omega (arith, clean, wears))) in
+            let given : ChecksTable table reading = record { agree = agree; reads = λ place is. record { is_read = is } } in
+            record { table = table; agree = agree; unreadable = (blames.to reading (of_tables reading seen.0) given).reason broken clean };
+      };
+    })

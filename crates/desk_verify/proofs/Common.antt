@@ -106,14 +106,14 @@ pub use Rattle.desk_records.specs.declared.number_row.PlacedNumber.{PlacedNumber
 pub use Rattle.desk_records.specs.declared.rollout_row.ListedAction.{ListedAction}
 pub use Rattle.desk_records.specs.declared.rollout_row.StoredAction.{StoredAction}
 pub use Rattle.desk_records.specs.declared.rollout_row.StoredRollout.{StoredRollout}
-pub use Rattle.desk_store.proofs.BlameLemmas.{blamed}
-pub use Rattle.desk_store.specs.Blaming.{Blames, BlamesGiven}
+pub use Rattle.desk_store.proofs.BlameLemmas.{blamed, unread}
+pub use Rattle.desk_store.specs.Blaming.{BlamesGiven, ReadsOf}
 pub use Rattle.desk_store.specs.Changing.{FindsTables, StaysIn, seen_in}
 pub use Rattle.desk_store.specs.RawLists.{AreActions, AreOffers, ListsRows, SaysAction, SaysArtifact, SaysGroup, SaysNumber, SaysNumbered, SaysOffer}
 pub use Rattle.desk_store.specs.RawLists.{SaysOfferOf, SaysRule, any_row, columns_in_listing}
 pub use Rattle.desk_store.specs.Readable.{BreaksColumn, IsReadable, label_shown, placed_shown, second_shown, third_shown}
 pub use Rattle.desk_store.specs.RuleTables.{HasGroupCount, HasRule, HaveRules, definition_by, definitions_in, grouping_of, grouping_with}
-pub use Rattle.desk_store.specs.Unreadable.{IsUnreadable, large_number, many_rows, missing_rollout, missing_rule, no_grouping, rise, twin_actions}
+pub use Rattle.desk_store.specs.Unreadable.{large_number, many_rows, missing_rollout, missing_rule, no_grouping, rise, twin_actions}
 pub use Rattle.desk_store.specs.Unreadable.{twin_entries, twin_members}
 pub use Rattle.desk_reads.proofs.ListMembers.{AreIds, member_ids}
 pub use Rattle.desk_reads.specs.Counted.{AreCounted}
@@ -126,6 +126,7 @@ pub use Rattle.desk_verify.specs.Actions.{PassesActions}
 pub use Rattle.desk_verify.specs.Agreement.{AgreeBefore, Agrees, SettlesWhether, IsDamage, NamesFirst, Passes, Settles, checked}
 pub use Rattle.desk_verify.specs.ArtifactChecks.{HashesPieces, IsHashed}
 pub use Rattle.desk_verify.specs.Artifacts.{AgreesArtifacts, HasPieces}
+pub use Rattle.desk_verify.specs.Checking.{ChecksGroups}
 pub use Rattle.desk_verify.specs.Cuts.{are_bounds, are_right, counts_them, has_each, has_group_numbered, is_cut, is_right, same_bounds}
 pub use Rattle.desk_verify.specs.Following.{follow}
 pub use Rattle.desk_verify.specs.GroupChecks.{HasEach, HasOnlyRule, HaveOnlyRules, IsCutOnlyBy, IsGroupCount}
@@ -134,6 +135,6 @@ pub use Rattle.desk_verify.specs.Judged.{AreJudged, within}
 pub use Rattle.desk_verify.specs.Members.{AgreesMembers, HasPlace, IsInPlace}
 pub use Rattle.desk_verify.specs.OfferChecks.{Fits, IsOfferedIfDue, IsRight, IsRowOffered, holds_started, is_due, is_started_at}
 pub use Rattle.desk_verify.specs.Offers.{AgreesOffers, HasNumberedAction, IsDue, IsInStartedGroup, IsOffered, IsRightOffer}
-pub use Rattle.desk_verify.specs.RolloutChecks.{AreAllChecked, AreChecked, HasRollout, IsChecked, IsUpTo, JudgesAll, JudgesOne}
+pub use Rattle.desk_verify.specs.RolloutChecks.{AreAllChecked, AreChecked, HasRollout, IsAtRollout, IsChecked, IsUpTo, JudgesAll, JudgesOne}
 pub use Rattle.desk_verify.specs.Rollouts.{IsThere}
 pub use Rattle.desk_verify.specs.declared.damage.CheckedTable.TheVariants.{Artifact}

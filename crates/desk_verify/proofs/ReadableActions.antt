@@ -14,7 +14,6 @@ use Rattle.rollout_machine.specs.Verdicts.{notes_of}
 use Rattle.desk_records.specs.FeedbackNumbers.{number_row, numbers_of}
 use Rattle.desk_records.specs.NumberRow.{broken_last_number_column, broken_number_column}
 use Rattle.desk_records.specs.TargetRow.{has_word}
-use Rattle.desk_records.specs.declared.module_row.Column.TheVariants as rule
 use Rattle.desk_verify.proofs.CodeLemmas.{feedback_number_is, flag_is, is_sized, kind_is, outcome_is, place_is, said_is}
 use Rattle.desk_reads.proofs.HistoryKept.{details_kept}
 use Rattle.desk_verify.proofs.HistoryRules.{few_numbers, is_borne, keeps_number, numbers_kept}

@@ -2,9 +2,10 @@
 use Rattle.desk_verify.proofs.Common.{◌≡◌, ◌≤◌, ℕ, suc, ◌+◌, Bool, true, false, cond, List, [], ◌∷◌, ◌++◌, length, Some, None, refl, sym, ap, subst, ◌∙◌}
 use Rattle.desk_verify.proofs.Common.{arith, pos, and_parts, leb-true, Row, column, has_rowid, Grouping, is_grouping, GroupRule, percentage_in}
 use Rattle.desk_verify.proofs.Common.{percentage_or_none_in, IsOnly, Rollouts, IsRollout, Tables, StoredRollout, SaysRule, HasGroupCount, HasRule, HaveRules}
-use Rattle.desk_verify.proofs.Common.{definitions_in, grouping_of, grouping_with, IsUnreadable, no_grouping, HasOnlyRule, HaveOnlyRules, IsCutOnlyBy}
-use Rattle.desk_verify.proofs.Common.{IsGroupCount, IsCutBy, HasRollout}
+use Rattle.desk_verify.proofs.Common.{definitions_in, grouping_of, grouping_with, no_grouping, HasOnlyRule, HaveOnlyRules, IsCutOnlyBy}
+use Rattle.desk_verify.proofs.Common.{IsGroupCount, IsCutBy, HasRollout, Place, Rules}
 use Rattle.rollout_model.specs.declared.group_definition.GroupDefinition.{GroupDefinition}
+use Rattle.desk_store.specs.Unreadable.{IsUnreadableIn}
 use Rattle.desk_verify.proofs.OneRow.{one_in}
 
 -- ---- how many groups a rollout is to have
@@ -86,6 +87,10 @@ module _ (t : Tables) (r : ℕ) (found : StoredRollout) (has : HasRollout t r fo
           let both : Some others ≡ Some groups = sym it.make ∙ ap grouping_of same ∙ make in
           cc
 
-  pub none_made : grouping_with found.plan.groups (definitions_in rules) ≡ None → IsUnreadable t
-  none_made none = no_grouping r rules (subst (HasGroupCount t r) (sym many) count.there) (are_said t r 1 rules have)
-      (ap (λ n. grouping_with n (definitions_in rules)) many ∙ none)
+  pub none_made : grouping_with found.plan.groups (definitions_in rules) ≡ None → (reads : Place → Bool) → reads Rules ≡ true
+      → IsUnreadableIn reads t
+  none_made none reads is_read = record {
+    there = is_read;
+    what = no_grouping r rules (subst (HasGroupCount t r) (sym many) count.there) (are_said t r 1 rules have)
+        (ap (λ n. grouping_with n (definitions_in rules)) many ∙ none);
+  }

@@ -1,5 +1,7 @@
 pub mod Names
 pub mod Agreement
+pub mod Stopping
+pub mod Checking
 pub mod Artifacts
 pub mod ArtifactChecks
 pub mod Rollouts

@@ -7,6 +7,7 @@ use Rattle.desk_records.specs.Schema.{Place, Rollouts}
 use Rattle.desk_records.specs.TableRows.{IsRollout}
 use Rattle.desk_records.specs.Tables.{Tables}
 use Rattle.desk_records.specs.declared.rollout_row.StoredRollout.{StoredRollout}
+use Rattle.desk_store.specs.Blaming.{Reading, ReadsOf}
 use Rattle.desk_verify.specs.Rollouts.{IsThere}
 use Rattle.desk_verify.specs.Judged.{AreJudged, within}
 
@@ -15,10 +16,16 @@ pub record HasRollout (t : Tables) (number : ℕ) (rollout : StoredRollout) : Ty
   pub low : 1 ≤ number
   pub is : IsOnly (t Rollouts) (has_rowid (pos number)) IsRollout rollout
 
--- what is known of the tables while this rollout is checked
-pub record IsAtRollout (Given : Tables → Type 0) (number : ℕ) (rollout : StoredRollout) (t : Tables) : Type 0 where
-  pub has : HasRollout t number rollout
-  pub given : Given t
+-- what is known of what is read while this rollout is checked
+pub record IsAtRollout (Given : Reading → Type 0) (number : ℕ) (rollout : StoredRollout) (reading : Reading) : Type 0 where
+  pub has : HasRollout reading.tables number rollout
+  pub given : Given reading
+
+-- .. while the rows of a table are gone through by rollouts
+pub record IsGoneThrough (table : Place) (Given : Reading → Type 0) (reading : Reading) : Type 0 where
+  pub rollouts : ReadsOf Rollouts reading
+  pub rows : ReadsOf table reading
+  pub given : Given reading
 
 -- it is a number from 1 up to that of a rollout that is there
 pub record IsUpTo (number : ℕ) (t : Tables) : Type 0 where
@@ -26,6 +33,11 @@ pub record IsUpTo (number : ℕ) (t : Tables) : Type 0 where
   pub last : ℕ
   pub high : number ≤ last
   pub there : IsThere t last
+
+-- .. and rollouts are read
+pub record ReadsUpTo (number : ℕ) (reading : Reading) : Type 0 where
+  pub up : IsUpTo number reading.tables
+  pub rollouts : ReadsOf Rollouts reading
 
 -- The rows of the table, with the rollout's number at this column, are each to be right, and each rollout is to be whole.
 module _ (table : Place) (column : ℕ) (IsRight : Tables → Row → Type 0) (IsWhole : Tables → ℕ → Type 0) where

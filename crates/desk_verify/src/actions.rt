@@ -1,13 +1,15 @@
 //! The check of the table of actions.
 
 ghost use Rattle.std.specs.Prelude.{◌≡◌, option_map, vec_items};
+ghost use Rattle.desk_records.specs.Schema as schema;
 ghost use Rattle.desk_records.specs.Schema.{Actions};
-ghost use Rattle.desk_store.specs.Blaming.{Blames, BlamesGiven};
+ghost use Rattle.desk_store.specs.Blaming.{BlamesGiven, ReadsOf};
 ghost use Rattle.desk_store.specs.Changing.{FindsTables, StaysIn};
 ghost use Rattle.desk_verify.specs.ActionChecks.{AreMembersInTurn, AreActionsWhole, ListsActions, count_none};
 ghost use Rattle.desk_verify.specs.Actions.{AgreesActions, IsRightAction, PassesActions};
-ghost use Rattle.desk_verify.specs.Agreement.{AgreeBefore, Settles};
-ghost use Rattle.desk_verify.specs.declared.damage.CheckedTable.TheVariants as checked;
+ghost use Rattle.desk_verify.specs.Agreement.{Settles};
+ghost use Rattle.desk_verify.specs.Checking.{ChecksActions};
+ghost use Rattle.desk_verify.specs.RolloutChecks.{IsGoneThrough};
 
 use crate::histories::fit_histories;
 use crate::rollouts::{ByRollout, NumberedRollout, check_rollouts};
@@ -29,7 +31,7 @@ impl<S: Alter> ByRollout<S> for Actions {
 
     ghost agrees = { AgreesActions };
 
-    ghost given = { AgreeBefore checked.Action };
+    ghost given = { ChecksActions };
 
     fn check_rollout(
         change: &mut OpenChange<'_, S>,
@@ -59,7 +61,7 @@ impl<S: Alter> ByRollout<S> for Actions {
 pub(crate) fn check_actions<S: Alter>(change: &mut OpenChange<'_, S>) -> Result<bool, Fault>
     ensures stays { StaysIn S.Store change.old change.new result }
     ensures judges { FindsTables S.Store change.old change.new result (λ t agrees. Settles (PassesActions t) (AgreesActions t) agrees) }
-    ensures blames { BlamesGiven S.Store (AgreeBefore checked.Action) change.old change.new result }
+    ensures blames { BlamesGiven S.Store (IsGoneThrough schema.Actions ChecksActions) change.old change.new result }
 {
     let Some(listed) = check_rollouts::<Actions, S>(change)? else {
         return Ok(false);
@@ -82,7 +84,7 @@ fn actions_of<S: Alter>(
 ) -> Result<Option<Vec<ListedAction>>, Fault>
     ensures stays { StaysIn S.Store change.old change.new result }
     ensures reads { FindsTables S.Store change.old change.new result (λ t found. ListsActions t number (option_map vec_items found)) }
-    ensures blames { Blames S.Store change.old change.new result }
+    ensures blames { BlamesGiven S.Store (ReadsOf schema.Actions) change.old change.new result }
 {
     let Some(actions) = change.list_all_actions(number)? else {
         return Ok(None);
@@ -101,7 +103,7 @@ fn members_of<S: Alter>(
 ) -> Result<Vec<PlacedMember>, Fault>
     ensures stays { StaysIn S.Store change.old change.new result }
     ensures reads { FindsTables S.Store change.old change.new result (λ t members. AreMembersInTurn t number members.items) }
-    ensures blames { BlamesGiven S.Store (AgreeBefore checked.Action) change.old change.new result }
+    ensures blames { BlamesGiven S.Store ChecksActions change.old change.new result }
 {
     let Some(members) = change.list_places(number)? else {
         return Err(Fault::Broken);

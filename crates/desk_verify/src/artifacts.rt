@@ -1,7 +1,8 @@
 //! The check of the table of artifacts.
 
 ghost use Rattle.std.specs.List.{AllByRecursion};
-ghost use Rattle.desk_store.specs.Blaming.{Blames};
+ghost use Rattle.desk_records.specs.Schema.{Pieces};
+ghost use Rattle.desk_store.specs.Blaming.{BlamesGiven, ReadsOf};
 ghost use Rattle.desk_store.specs.Changing.{FindsTables, StaysIn};
 ghost use Rattle.desk_verify.specs.Agreement.{SettlesWhether};
 ghost use Rattle.desk_verify.specs.Artifacts.{AgreesArtifacts, IsWhole};
@@ -14,7 +15,7 @@ use sqlite::Alter;
 pub(crate) fn check_artifacts<S: Alter>(change: &mut OpenChange<'_, S>) -> Result<bool, Fault>
     ensures stays { StaysIn S.Store change.old change.new result }
     ensures judges { FindsTables S.Store change.old change.new result (λ t agrees. SettlesWhether (AgreesArtifacts t) agrees) }
-    ensures blames { Blames S.Store change.old change.new result }
+    ensures blames { BlamesGiven S.Store (ReadsOf Pieces) change.old change.new result }
 {
     let Some(artifacts) = change.list_all_artifacts()? else {
         return Ok(false);
@@ -29,7 +30,7 @@ fn are_whole<S: Alter>(
 ) -> Result<bool, Fault>
     ensures stays { StaysIn S.Store change.old change.new result }
     ensures judges { FindsTables S.Store change.old change.new result (λ t whole. SettlesWhether (AllByRecursion (IsWhole t) artifacts.now) whole) }
-    ensures blames { Blames S.Store change.old change.new result }
+    ensures blames { BlamesGiven S.Store (ReadsOf Pieces) change.old change.new result }
 {
     for artifact in artifacts {
         if !is_whole(change, artifact)? {
@@ -46,7 +47,7 @@ fn is_whole<S: Alter>(
 ) -> Result<bool, Fault>
     ensures stays { StaysIn S.Store change.old change.new result }
     ensures judges { FindsTables S.Store change.old change.new result (λ t whole. SettlesWhether (IsWhole t checked.now) whole) }
-    ensures blames { Blames S.Store change.old change.new result }
+    ensures blames { BlamesGiven S.Store (ReadsOf Pieces) change.old change.new result }
 {
     let Some(digest) = hash_pieces(change, checked.number, checked.artifact.size)? else {
         return Ok(false);

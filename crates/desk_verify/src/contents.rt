@@ -2,7 +2,8 @@
 
 ghost use Rattle.std.specs.Prelude.{◌≡◌, ◌≤◌};
 ghost use Rattle.artifact_pieces.specs.Pieces.{piece_count};
-ghost use Rattle.desk_store.specs.Blaming.{Blames};
+ghost use Rattle.desk_records.specs.Schema.{Pieces};
+ghost use Rattle.desk_store.specs.Blaming.{BlamesGiven, ReadsOf};
 ghost use Rattle.desk_store.specs.Changing.{FindsTables, StaysIn};
 ghost use Rattle.desk_verify.specs.ArtifactChecks.{HashesPiece, HashesPieces};
 
@@ -20,7 +21,7 @@ pub(crate) fn hash_pieces<S: Alter>(
 ) -> Result<Option<Digest>, Fault>
     ensures stays { StaysIn S.Store change.old change.new result }
     ensures judges { FindsTables S.Store change.old change.new result (λ t digest. HashesPieces t number size digest) }
-    ensures blames { Blames S.Store change.old change.new result }
+    ensures blames { BlamesGiven S.Store (ReadsOf Pieces) change.old change.new result }
 {
     let mut hasher = Sha256::new();
     for before in 0..count_pieces(size) {
@@ -48,7 +49,7 @@ fn hash_piece<S: Alter>(
 ) -> Result<bool, Fault>
     ensures stays { StaysIn S.Store change.old change.new result }
     ensures judges { FindsTables S.Store change.old change.new result (λ t lies. HashesPiece t number place size hasher.old hasher.new lies) }
-    ensures blames { Blames S.Store change.old change.new result }
+    ensures blames { BlamesGiven S.Store (ReadsOf Pieces) change.old change.new result }
 {
     let pieces = change.find_pieces(number, place)?;
     if pieces.len() != 1 {

@@ -1,8 +1,10 @@
 //! The first table that doesn't agree.
 
-ghost use Rattle.desk_verify.specs.Agreement.{AgreeBefore, Agrees, IsDamage, Passes, Settles};
+ghost use Rattle.desk_verify.specs.Agreement.{Agrees, IsDamage, Passes, Settles};
+ghost use Rattle.desk_verify.specs.Checking.{ChecksTable};
 ghost use Rattle.desk_verify.specs.Promises.{NamesNone};
-ghost use Rattle.desk_store.specs.Blaming.{Blames, BlamesGiven};
+ghost use Rattle.desk_verify.specs.Stopping.{StopsInOrder};
+ghost use Rattle.desk_store.specs.Blaming.{BlamesGiven};
 ghost use Rattle.desk_store.specs.Changing.{FindsTables, StaysIn, seen_in};
 
 use crate::actions::check_actions;
@@ -28,7 +30,7 @@ pub fn find_damage<S: Alter>(change: &mut OpenChange<'_, S>) -> Result<Option<Ch
     ensures stays { StaysIn S.Store change.old change.new result }
     ensures judges { FindsTables S.Store change.old change.new result IsDamage }
     ensures never { NamesNone (seen_in S.Store change.old) (seen_in S.Store change.new) result }
-    ensures blames { Blames S.Store change.old change.new result }
+    ensures stops { StopsInOrder S.Store change.old change.new result }
 {
     check_tables(change)
 }
@@ -37,7 +39,7 @@ pub fn find_damage<S: Alter>(change: &mut OpenChange<'_, S>) -> Result<Option<Ch
 fn check_tables<S: Alter>(change: &mut OpenChange<'_, S>) -> Result<Option<CheckedTable>, Fault>
     ensures stays { StaysIn S.Store change.old change.new result }
     ensures judges { FindsTables S.Store change.old change.new result IsDamage }
-    ensures blames { Blames S.Store change.old change.new result }
+    ensures stops { StopsInOrder S.Store change.old change.new result }
 {
     for table in &TABLES {
         if !check_table(change, *table)? {
@@ -51,7 +53,7 @@ fn check_tables<S: Alter>(change: &mut OpenChange<'_, S>) -> Result<Option<Check
 fn check_table<S: Alter>(change: &mut OpenChange<'_, S>, table: CheckedTable) -> Result<bool, Fault>
     ensures stays { StaysIn S.Store change.old change.new result }
     ensures judges { FindsTables S.Store change.old change.new result (λ t agrees. Settles (Passes t table) (Agrees t table) agrees) }
-    ensures blames { BlamesGiven S.Store (AgreeBefore table) change.old change.new result }
+    ensures blames { BlamesGiven S.Store (ChecksTable table) change.old change.new result }
 {
     match table {
         CheckedTable::Artifact => check_artifacts(change),

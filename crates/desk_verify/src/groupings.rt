@@ -4,8 +4,9 @@ ghost use Rattle.std.specs.Prelude.{◌≡◌, IfOk, length};
 ghost use Rattle.desk_store.specs.Blaming.{BlamesGiven};
 ghost use Rattle.desk_store.specs.Changing.{FindsTables, StaysIn};
 ghost use Rattle.desk_store.specs.RuleTables.{definition_by, definitions_in, grouping_with};
+ghost use Rattle.desk_verify.specs.Checking.{ChecksGroups};
 ghost use Rattle.desk_verify.specs.GroupChecks.{HaveOnlyRules, IsCutOnlyBy};
-ghost use Rattle.desk_verify.specs.RolloutChecks.{HasRollout};
+ghost use Rattle.desk_verify.specs.RolloutChecks.{HasRollout, IsAtRollout};
 
 use crate::rollouts::NumberedRollout;
 use desk_store::{Fault, OpenChange};
@@ -21,7 +22,7 @@ pub(crate) fn read_grouping<S: Alter>(
     ensures stays { StaysIn S.Store change.old change.new result }
     ensures reads { FindsTables S.Store change.old change.new result
         (λ t groups. HasRollout t rollout.now.number rollout.now.rollout → IsCutOnlyBy t rollout.now.number groups) }
-    ensures blames { BlamesGiven S.Store (λ t. HasRollout t rollout.now.number rollout.now.rollout) change.old change.new result }
+    ensures blames { BlamesGiven S.Store (IsAtRollout ChecksGroups rollout.now.number rollout.now.rollout) change.old change.new result }
 {
     let rules = read_rules(change, rollout)?;
     let Ok(definitions) = definitions_in(change.alloc(), &rules) else {
@@ -41,7 +42,7 @@ fn read_rules<S: Alter>(
     ensures stays { StaysIn S.Store change.old change.new result }
     ensures count { IfOk result (λ rules. length rules.items ≡ rollout.now.rollout.plan.groups) }
     ensures reads { FindsTables S.Store change.old change.new result (λ t rules. HaveOnlyRules t rollout.now.number rules.items) }
-    ensures blames { BlamesGiven S.Store (λ t. HasRollout t rollout.now.number rollout.now.rollout) change.old change.new result }
+    ensures blames { BlamesGiven S.Store (IsAtRollout ChecksGroups rollout.now.number rollout.now.rollout) change.old change.new result }
 {
     let mut rules = Vec::new(change.alloc());
     for before in 0..rollout.rollout.plan.groups.get() {

@@ -1,11 +1,14 @@
 //! The check of the table of groups.
 
-ghost use Rattle.desk_store.specs.Blaming.{Blames};
+ghost use Rattle.desk_store.specs.Blaming.{BlamesGiven};
 ghost use Rattle.desk_store.specs.Changing.{FindsTables, StaysIn};
+ghost use Rattle.desk_records.specs.Schema as schema;
 ghost use Rattle.desk_records.specs.Schema.{Groups};
 ghost use Rattle.desk_verify.specs.Agreement.{SettlesWhether};
+ghost use Rattle.desk_verify.specs.Checking.{ChecksGroups};
 ghost use Rattle.desk_verify.specs.GroupChecks.{HasEach};
 ghost use Rattle.desk_verify.specs.Groups.{AgreesGroups, IsInRollout};
+ghost use Rattle.desk_verify.specs.RolloutChecks.{IsGoneThrough};
 
 use crate::cuts::are_right;
 use crate::groupings::read_grouping;
@@ -26,7 +29,7 @@ impl<S: Alter> ByRollout<S> for Groups {
 
     ghost agrees = { AgreesGroups };
 
-    ghost given = { λ t. Unit };
+    ghost given = { ChecksGroups };
 
     fn check_rollout(
         change: &mut OpenChange<'_, S>,
@@ -55,7 +58,7 @@ impl<S: Alter> ByRollout<S> for Groups {
 pub(crate) fn check_groups<S: Alter>(change: &mut OpenChange<'_, S>) -> Result<bool, Fault>
     ensures stays { StaysIn S.Store change.old change.new result }
     ensures judges { FindsTables S.Store change.old change.new result (λ t agrees. SettlesWhether (AgreesGroups t) agrees) }
-    ensures blames { Blames S.Store change.old change.new result }
+    ensures blames { BlamesGiven S.Store (IsGoneThrough schema.Groups ChecksGroups) change.old change.new result }
 {
     let Some(listed) = check_rollouts::<Groups, S>(change)? else {
         return Ok(false);

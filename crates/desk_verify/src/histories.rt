@@ -2,10 +2,12 @@
 
 ghost use Rattle.std.specs.Prelude.{◌≡◌};
 ghost use Rattle.std.specs.List.{AllByRecursion};
-ghost use Rattle.desk_store.specs.Blaming.{Blames};
+ghost use Rattle.desk_records.specs.Schema.{Feedbacks};
+ghost use Rattle.desk_store.specs.Blaming.{BlamesGiven, ReadsOf};
 ghost use Rattle.desk_store.specs.Changing.{FindsTables, StaysIn};
 ghost use Rattle.desk_verify.specs.ActionChecks.{FitsItsEntries, IsGiven, PassesHistory, first_said, is_fit};
 ghost use Rattle.desk_verify.specs.Agreement.{Settles};
+ghost use Rattle.desk_verify.specs.Checking.{ChecksActions};
 
 use crate::turns::sequences_rise;
 use desk_store::{Fault, ListedAction, OpenChange, SequencedEntry};
@@ -21,7 +23,7 @@ pub(crate) fn fit_histories<S: Alter>(
     ensures stays { StaysIn S.Store change.old change.new result }
     ensures judges { FindsTables S.Store change.old change.new result
         (λ t fit. Settles (AllByRecursion (PassesHistory t) actions.now) (AllByRecursion (FitsItsEntries t) actions.now) fit) }
-    ensures blames { Blames S.Store change.old change.new result }
+    ensures blames { BlamesGiven S.Store ChecksActions change.old change.new result }
 {
     for action in actions {
         if !fits_history(change, action)? {
@@ -38,7 +40,7 @@ fn fits_history<S: Alter>(
 ) -> Result<bool, Fault>
     ensures stays { StaysIn S.Store change.old change.new result }
     ensures judges { FindsTables S.Store change.old change.new result (λ t fits. Settles (PassesHistory t action.now) (FitsItsEntries t action.now) fits) }
-    ensures blames { Blames S.Store change.old change.new result }
+    ensures blames { BlamesGiven S.Store ChecksActions change.old change.new result }
 {
     let given = find_given(change, action.number)?;
     change.list_numbers(action.number)?;
@@ -53,7 +55,7 @@ fn find_given<S: Alter>(
 ) -> Result<Option<Outcome>, Fault>
     ensures stays { StaysIn S.Store change.old change.new result }
     ensures reads { FindsTables S.Store change.old change.new result (λ t given. IsGiven t number given) }
-    ensures blames { Blames S.Store change.old change.new result }
+    ensures blames { BlamesGiven S.Store (ReadsOf Feedbacks) change.old change.new result }
 {
     let entries = change.list_history(number)?;
     if !sequences_rise(&entries) {

@@ -1,10 +1,12 @@
 //! The check of the table of members.
 
-ghost use Rattle.desk_store.specs.Blaming.{Blames};
+ghost use Rattle.desk_store.specs.Blaming.{BlamesGiven, ReadsOf};
 ghost use Rattle.desk_store.specs.Changing.{FindsTables, StaysIn};
+ghost use Rattle.desk_records.specs.Schema as schema;
 ghost use Rattle.desk_records.specs.Schema.{Members};
 ghost use Rattle.desk_verify.specs.Agreement.{SettlesWhether};
 ghost use Rattle.desk_verify.specs.Members.{AgreesMembers, IsInPlace};
+ghost use Rattle.desk_verify.specs.RolloutChecks.{IsGoneThrough};
 
 use crate::places::are_in_place;
 use crate::rollouts::{ByRollout, NumberedRollout, check_rollouts};
@@ -24,7 +26,7 @@ impl<S: Alter> ByRollout<S> for Members {
 
     ghost agrees = { AgreesMembers };
 
-    ghost given = { λ t. Unit };
+    ghost given = { ReadsOf Members };
 
     fn check_rollout(
         change: &mut OpenChange<'_, S>,
@@ -47,7 +49,7 @@ impl<S: Alter> ByRollout<S> for Members {
 pub(crate) fn check_members<S: Alter>(change: &mut OpenChange<'_, S>) -> Result<bool, Fault>
     ensures stays { StaysIn S.Store change.old change.new result }
     ensures judges { FindsTables S.Store change.old change.new result (λ t agrees. SettlesWhether (AgreesMembers t) agrees) }
-    ensures blames { Blames S.Store change.old change.new result }
+    ensures blames { BlamesGiven S.Store (IsGoneThrough schema.Members (ReadsOf schema.Members)) change.old change.new result }
 {
     let Some(listed) = check_rollouts::<Members, S>(change)? else {
         return Ok(false);

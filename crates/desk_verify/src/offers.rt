@@ -7,8 +7,8 @@ ghost use Rattle.desk_records.specs.Schema.{Actions};
 ghost use Rattle.desk_store.specs.Blaming.{BlamesGiven};
 ghost use Rattle.desk_store.specs.Changing.{FindsTables, StaysIn};
 ghost use Rattle.desk_store.specs.RawLists.{AreOffers};
-ghost use Rattle.desk_verify.specs.Agreement.{AgreeBefore, SettlesWhether};
-ghost use Rattle.desk_verify.specs.declared.damage.CheckedTable.TheVariants as checked;
+ghost use Rattle.desk_verify.specs.Agreement.{SettlesWhether};
+ghost use Rattle.desk_verify.specs.Checking.{ChecksDueActions, ChecksOffers};
 ghost use Rattle.desk_verify.specs.OfferChecks.{AreGroupsOf, AreKeptGroups, Fits, IsOfferedIfDue, IsRight, IsRowOffered};
 ghost use Rattle.desk_verify.specs.OfferChecks.{holds_started, is_due, is_started_at, is_that_rollout};
 ghost use Rattle.desk_verify.specs.Offers.{AgreesOffers, IsInStartedGroup, IsOffered};
@@ -40,7 +40,7 @@ impl<S: Alter> ByRollout<S> for Actions {
 
     ghost agrees = { AgreesOffers };
 
-    ghost given = { λ t. AgreeBefore checked.Offer t × AreOffers t };
+    ghost given = { ChecksDueActions };
 
     fn check_rollout(
         change: &mut OpenChange<'_, S>,
@@ -66,7 +66,7 @@ impl<S: Alter> ByRollout<S> for Actions {
 pub(crate) fn check_offers<S: Alter>(change: &mut OpenChange<'_, S>) -> Result<bool, Fault>
     ensures stays { StaysIn S.Store change.old change.new result }
     ensures judges { FindsTables S.Store change.old change.new result (λ t agrees. SettlesWhether (AgreesOffers t) agrees) }
-    ensures blames { BlamesGiven S.Store (AgreeBefore checked.Offer) change.old change.new result }
+    ensures blames { BlamesGiven S.Store ChecksOffers change.old change.new result }
 {
     let Some(listed) = change.list_offers()? else {
         return Ok(false);
@@ -91,7 +91,7 @@ fn in_action_order(mut offers: Vec<OwnedOffer>) -> Vec<OwnedOffer>
 fn are_right<S: Alter>(change: &mut OpenChange<'_, S>, offers: &[OwnedOffer]) -> Result<bool, Fault>
     ensures stays { StaysIn S.Store change.old change.new result }
     ensures judges { FindsTables S.Store change.old change.new result (λ t right. SettlesWhether (AllByRecursion (IsRight t) offers.now) right) }
-    ensures blames { BlamesGiven S.Store (AgreeBefore checked.Offer) change.old change.new result }
+    ensures blames { BlamesGiven S.Store ChecksOffers change.old change.new result }
 {
     let mut kept = KeptGroups {
         rollout: None,
@@ -114,7 +114,7 @@ fn is_right<S: Alter>(
     ensures stays { StaysIn S.Store change.old change.new result }
     ensures judges { FindsTables S.Store change.old change.new result
         (λ t right. AreKeptGroups t kept.old → SettlesWhether (IsRight t owned.now) right × AreKeptGroups t kept.new) }
-    ensures blames { BlamesGiven S.Store (AgreeBefore checked.Offer) change.old change.new result }
+    ensures blames { BlamesGiven S.Store ChecksOffers change.old change.new result }
 {
     let Some(action) = change.find_action(owned.offer.action)? else {
         return Ok(false);
@@ -144,7 +144,7 @@ fn is_in_started_group<S: Alter>(
     ensures stays { StaysIn S.Store change.old change.new result }
     ensures judges { FindsTables S.Store change.old change.new result
         (λ t started. AreKeptGroups t kept.old → SettlesWhether (IsInStartedGroup t rollout place) started × AreKeptGroups t kept.new) }
-    ensures blames { BlamesGiven S.Store (AgreeBefore checked.Offer) change.old change.new result }
+    ensures blames { BlamesGiven S.Store ChecksOffers change.old change.new result }
 {
     keep_groups(change, kept, rollout)?;
     Ok(holds_started(&kept.groups, place))
@@ -159,7 +159,7 @@ fn keep_groups<S: Alter>(
     ensures stays { StaysIn S.Store change.old change.new result }
     ensures reads { FindsTables S.Store change.old change.new result
         (λ t done. AreKeptGroups t kept.old → AreGroupsOf t rollout kept.new.groups.items × AreKeptGroups t kept.new) }
-    ensures blames { BlamesGiven S.Store (AgreeBefore checked.Offer) change.old change.new result }
+    ensures blames { BlamesGiven S.Store ChecksOffers change.old change.new result }
 {
     if is_of(kept.rollout, rollout) {
         return Ok(());
@@ -204,7 +204,7 @@ fn are_offered_if_due<S: Alter>(
     ensures stays { StaysIn S.Store change.old change.new result }
     ensures judges { FindsTables S.Store change.old change.new result
         (λ t offered. SettlesWhether (AllByRecursion (IsOfferedIfDue t groups.now) actions.now) offered) }
-    ensures blames { BlamesGiven S.Store (AreOffers) change.old change.new result }
+    ensures blames { BlamesGiven S.Store (λ reading. AreOffers reading.tables) change.old change.new result }
 {
     for listed in actions {
         if !is_offered_if_due(change, groups, listed)? {
@@ -221,7 +221,7 @@ fn is_offered_if_due<S: Alter>(
 ) -> Result<bool, Fault>
     ensures stays { StaysIn S.Store change.old change.new result }
     ensures judges { FindsTables S.Store change.old change.new result (λ t offered. SettlesWhether (IsOfferedIfDue t groups.now listed.now) offered) }
-    ensures blames { BlamesGiven S.Store (AreOffers) change.old change.new result }
+    ensures blames { BlamesGiven S.Store (λ reading. AreOffers reading.tables) change.old change.new result }
 {
     if !is_due(groups, &listed.action) {
         return Ok(true);
@@ -244,7 +244,7 @@ fn is_offered<S: Alter>(
 ) -> Result<bool, Fault>
     ensures stays { StaysIn S.Store change.old change.new result }
     ensures judges { FindsTables S.Store change.old change.new result (λ t offered. SettlesWhether (IsOffered t id.now number) offered) }
-    ensures blames { BlamesGiven S.Store (AreOffers) change.old change.new result }
+    ensures blames { BlamesGiven S.Store (λ reading. AreOffers reading.tables) change.old change.new result }
 {
     match change.find_offer(id)? {
         Some(offer) => Ok(offer.action.get() <= number.get()),

@@ -4,9 +4,9 @@ ghost use Rattle.std.specs.Prelude.{◌≡◌, ℕ, IfOk};
 ghost use Rattle.sqlite_value.specs.Order.{Row};
 ghost use Rattle.desk_records.specs.Schema.{Place};
 ghost use Rattle.desk_records.specs.Tables.{Tables};
-ghost use Rattle.desk_store.specs.Blaming.{BlamesGiven};
+ghost use Rattle.desk_store.specs.Blaming.{BlamesGiven, Reading};
 ghost use Rattle.desk_store.specs.Changing.{FindsTables, StaysIn};
-ghost use Rattle.desk_verify.specs.RolloutChecks.{HasRollout, IsAtRollout, IsUpTo, JudgesAll, JudgesOne};
+ghost use Rattle.desk_verify.specs.RolloutChecks.{HasRollout, IsAtRollout, IsGoneThrough, JudgesAll, JudgesOne, ReadsUpTo};
 
 use desk_store::{Fault, OpenChange, StoredRollout};
 use rollout_model::RolloutNo;
@@ -34,8 +34,8 @@ pub(crate) trait ByRollout<S: Alter> {
 
     ghost agrees: { Tables → Type 0 };
 
-    // what is known of the tables that were checked before
-    ghost given: { Tables → Type 0 };
+    // what is known of the tables that were checked before, and which are read
+    ghost given: { Reading → Type 0 };
 
     /// How many rows are of the rollout; `None` where the table doesn't agree.
     fn check_rollout(
@@ -54,7 +54,7 @@ pub(crate) fn check_rollouts<T: ByRollout<S>, S: Alter>(
 ) -> Result<Option<u32>, Fault>
     ensures stays { StaysIn S.Store change.old change.new result }
     ensures judges { FindsTables S.Store change.old change.new result (λ t count. JudgesAll T.table T.column T.is_right T.is_whole T.agrees t count) }
-    ensures blames { BlamesGiven S.Store (T.given) change.old change.new result }
+    ensures blames { BlamesGiven S.Store (IsGoneThrough T.table T.given) change.old change.new result }
 {
     let last = change.find_last_rollout()?;
     let mut listed: u32 = 0;
@@ -79,7 +79,7 @@ fn rollout_of<S: Alter>(
     ensures stays { StaysIn S.Store change.old change.new result }
     ensures number { IfOk result (λ it. it.number ≡ number) }
     ensures reads { FindsTables S.Store change.old change.new result (λ t it. HasRollout t it.number it.rollout) }
-    ensures blames { BlamesGiven S.Store (IsUpTo number) change.old change.new result }
+    ensures blames { BlamesGiven S.Store (ReadsUpTo number) change.old change.new result }
 {
     let Some(number) = RolloutNo::new(number) else {
         return Err(Fault::Broken);

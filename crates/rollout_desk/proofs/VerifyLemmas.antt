@@ -7,10 +7,11 @@ use Rattle.sql_calls.specs.declared.calls.Calls.{Calls}
 use Rattle.sql_calls.specs.Calls.{Grows, failures_of}
 use Rattle.std.specs.Prelude.{Bool, nat_lt, true, false, ◌^◌}
 use Rattle.std.proofs.lemmas.Bool.Decides.{nat_tests}
-use Rattle.desk_store.specs.Blaming.{Blames, HasFailed}
+use Rattle.desk_store.specs.Blaming.{HasFailed}
 use Rattle.desk_store.specs.Changing.{seen_in}
 use Rattle.desk_verify.specs.Agreement.{IsDamage}
 use Rattle.desk_verify.specs.Promises.{NamesNone}
+use Rattle.desk_verify.specs.Stopping.{StopsInOrder}
 use Rattle.desk_verify.specs.declared.damage.CheckedTable.{CheckedTable}
 
 module _ (a b c : State) (found : Option CheckedTable) (reads : Finds HoldsTables (λ (t : Tables). t) {E = Fault} b c (Ok found) IsDamage) where
@@ -63,16 +64,17 @@ failed_call fault sound grows (inl store) = is_counted fault store grows
 failed_call fault sound grows (inr broken) = absurd (sound broken)
 
 module _ {S : Type 0} (g : Ghosts S) (old : Calls S) (begun read : OpenChange S) (end : Calls S) where
-  -- what was blamed before the change is given up is blamed afterwards
+  -- why the checks stopped before the change is given up is why afterwards
   pub read_in_vain : (fault : Fault) (refusal : Refusal) (result : Result (Option CheckedTable) Refusal) → refusal ≡ refusal_of_fault fault
       → Begins HoldsTables (state g old.conn) (seen_in g begun)
-      → old.failures ≤ begun.store.now.calls.failures → Blames g {A = Option CheckedTable} begun read (Err fault) → Wears (seen_in g read) (state g end.conn)
+      → old.failures ≤ begun.store.now.calls.failures → StopsInOrder g {A = Option CheckedTable} begun read (Err fault)
+      → Wears (seen_in g read) (state g end.conn)
       → read.store.now.calls.failures ≤ end.failures
       → Grows (failures_of fault) begun.store.now.calls read.store.now.calls → (result ≡ Err refusal) ⊎ HasFailed read.store.now.calls.failures end.failures
       → result ≡ Err StoreFailed → HasCause g old end
-  read_in_vain fault refusal result named begins grew blames wears ended grows (inr failed) is t clean shown =
+  read_in_vain fault refusal result named begins grew stops wears ended grows (inr failed) is t clean shown =
       inl (failed_within (omega (arith, grew, grows.failures)) failed (omega arith))
-  read_in_vain fault refusal result named begins grew blames wears ended grows (inl same) is t clean shown = elim (stored fault (cc)) [
+  read_in_vain fault refusal result named begins grew stops wears ended grows (inl same) is t clean shown = elim (stored fault (cc)) [
     | inl store ↦ inl (failed_within grew (is_counted fault store grows) ended)
-    | inr broken ↦ inr ((blames.to t (begins.sees t shown) (tt {0})).reason broken (omega (arith, clean, wears)))
+    | inr broken ↦ inr ((stops.to t (begins.sees t shown) (tt {0})).reason broken (omega (arith, clean, wears)))
   ]

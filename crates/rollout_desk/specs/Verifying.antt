@@ -14,8 +14,8 @@ use Rattle.rollout_machine.specs.Validity.{IsValid}
 use Rattle.rollout_model.specs.declared.refusal.Refusal.{Refusal}
 use Rattle.desk_records.specs.Tables.{HoldsTables, Tables}
 use Rattle.desk_store.specs.Blaming.{HasFailed}
-use Rattle.desk_store.specs.Unreadable.{IsUnreadable}
 use Rattle.desk_verify.specs.Agreement.{IsDamage}
+use Rattle.desk_verify.specs.Stopping.{IsStuck}
 use Rattle.desk_verify.specs.declared.damage.CheckedTable.{CheckedTable}
 use Rattle.desk_verify.specs.declared.damage.Damage.{Damage}
 use Rattle.desk_verify.specs.declared.damage.Damage.TheVariants.{Refused, Table}
@@ -31,10 +31,10 @@ FindsDamage old new result = IfOk result (λ found. (t : Tables) → HasCleanDis
 abbrev pub IsNeverDamaged : Records → Option CheckedTable → Type 0
 IsNeverDamaged r found = (h : CommandList) → IsValid h → r ≡ records h → found ≡ None
 
--- a call of the store failed, or whatever tables are shown have what can't be read
+-- a call of the store failed; or of whatever tables are shown, those before some table agree, and what its check reads can't be read
 abbrev pub HasCause : {S : Type 0} → Ghosts S → Calls S → Calls S → Type 0
 HasCause g old new =
-    (t : Tables) → HasCleanDisk (state g new.conn) → Shows HoldsTables (state g old.conn) t → HasFailed old.failures new.failures ⊎ IsUnreadable t
+    (t : Tables) → HasCleanDisk (state g new.conn) → Shows HoldsTables (state g old.conn) t → HasFailed old.failures new.failures ⊎ IsStuck t
 
 -- ---- the desk
 

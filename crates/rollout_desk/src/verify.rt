@@ -39,7 +39,7 @@ fn look_for_damage<S: Alter>(store: &mut DeskStore<S>) -> Result<Option<CheckedT
 impl<S: Alter> Desk<S> {
     /// Whether each table agrees with what it is to have, or else the first that doesn't, whatever rows the tables have. Nothing is
     /// written. `Refused` is `NoMemory`, `StoreFailed`, after which the desk is stopped, or `Stopped`. `StoreFailed` is said only where a call of
-    /// the store failed, or the tables have what can't be read.
+    /// the store failed, or the tables before some table agree, and what its check reads can't be read.
     pub fn verify(&mut self) -> Result<(), Damage>
         ensures clean { (desk_state S.Store self.new).is_clean → (desk_state S.Store self.old).is_clean }
         ensures judges { Judges (state S.Store self.old.store.calls.conn) (state S.Store self.new.store.calls.conn) result }

@@ -1,4 +1,4 @@
-use Rattle.desk_verify.proofs.Common.{Ok, take, AllByRecursion, Fault, Blames, FindsTables, StaysIn}
+use Rattle.desk_verify.proofs.Common.{Ok, take, AllByRecursion, Fault, BlamesGiven, FindsTables, Pieces, ReadsOf, StaysIn}
 use Rattle.desk_verify.specs.Artifacts.{IsWhole}
 use Rattle.desk_verify.proofs.artifacts.are_whole.Given as goal
 
@@ -6,6 +6,6 @@ use Rattle.desk_verify.proofs.artifacts.are_whole.Given as goal
 abbrev pub invariant-loop-artifact : goal.invariant-loop-artifact
 invariant-loop-artifact g l = record {
   stays : StaysIn g.S.Store l.fn.change l.change (Ok (tt {0}));
-  blames : Blames g.S.Store l.fn.change l.change (Ok (tt {0}));
+  blames : BlamesGiven g.S.Store (ReadsOf Pieces) l.fn.change l.change (Ok (tt {0}));
   judged : FindsTables g.S.Store {E = Fault} l.fn.change l.change (Ok (tt {0})) (λ t u. AllByRecursion (IsWhole t) (take l.artifact-index l.artifacts));
 }

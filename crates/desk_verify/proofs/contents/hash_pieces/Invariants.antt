@@ -1,4 +1,4 @@
-use Rattle.desk_verify.proofs.Common.{Ok, Fault, Blames, FindsTables, StaysIn}
+use Rattle.desk_verify.proofs.Common.{Ok, Fault, BlamesGiven, FindsTables, Pieces, ReadsOf, StaysIn}
 use Rattle.desk_verify.proofs.PieceChecks.{IsHashedTo}
 use Rattle.desk_verify.proofs.contents.hash_pieces.Given as goal
 
@@ -6,6 +6,6 @@ use Rattle.desk_verify.proofs.contents.hash_pieces.Given as goal
 abbrev pub invariant-loop-before : goal.invariant-loop-before
 invariant-loop-before g l = record {
   stays : StaysIn g.S.Store l.fn.change l.change (Ok (tt {0}));
-  blames : Blames g.S.Store l.fn.change l.change (Ok (tt {0}));
+  blames : BlamesGiven g.S.Store (ReadsOf Pieces) l.fn.change l.change (Ok (tt {0}));
   judged : FindsTables g.S.Store {E = Fault} l.fn.change l.change (Ok (tt {0})) (λ t u. IsHashedTo t l.number l.size l.before l.hasher);
 }

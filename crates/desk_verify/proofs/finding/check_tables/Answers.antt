@@ -1,5 +1,5 @@
 use Rattle.desk_verify.proofs.Common.{Err, ap, ◌∙◌, err_from_is_err_and, both_found, finds_as}
-use Rattle.desk_verify.proofs.Causes.{blamed_when, so_far}
+use Rattle.desk_verify.proofs.Causes.{so_far, stops_at}
 use Rattle.desk_verify.proofs.Naming.{all_named, first_named}
 use Rattle.desk_verify.proofs.finding.check_tables.Goals as goal
 
@@ -8,12 +8,12 @@ returns-then-not-branch-clause-judges g c =
     finds_as (both_found c.loop-table.invariant.judged (rw c.if-not-branch.true at c.in_ok-check_table.ensures.judges))
     (λ t is. first_named t c.loop-table.table-index c.loop-table-test.true is.0 is.1)
 
-pub returns-in_err-check_table-clause-blames : goal.returns-in_err-check_table-clause-blames
-returns-in_err-check_table-clause-blames g c =
+pub returns-in_err-check_table-clause-stops : goal.returns-in_err-check_table-clause-stops
+returns-in_err-check_table-clause-stops g c =
     let out = err_from_is_err_and c.from_residual.result c.from_residual.ensures.1 in
-    blamed_when c.loop-table.invariant.judged c.in_err-check_table.ensures.judges.wears
+    stops_at _ c.loop-table.invariant.judged c.in_err-check_table.ensures.judges.wears
     c.in_err-check_table.field-0.0 c.in_err-check_table.ensures.blames
-    (λ t is given. so_far t c.loop-table.table-index c.loop-table-test.true is) c.from_residual.result (out.1 ∙ ap Err out.2)
+    (λ t is. so_far t c.loop-table.table-index c.loop-table-test.true is) c.from_residual.result (out.1 ∙ ap Err out.2)
 
 pub returns-clause-judges : goal.returns-clause-judges
 returns-clause-judges g c = finds_as c.loop-table.invariant.judged (λ t is. all_named t c.loop-table.table-index c.loop-table-test.false is)

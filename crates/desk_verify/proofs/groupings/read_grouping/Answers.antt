@@ -17,4 +17,5 @@ returns-clause-blames g c =
     ap (grouping_with c.args.rollout.now.rollout.plan.groups) (sym (c.in-Ok.ensures ∙ ap definitions_in c.deref.ensures.value)) ∙ sym c.grouping_with.ensures
     ∙ c.in-None.is in
     blamed c.in_ok-rules.ensures.reads (Err Broken)
-    (λ t have has. none_made t c.args.rollout.now.number c.args.rollout.now.rollout has c.in_ok-rules.rules.items c.in_ok-rules.ensures.count have told)
+    (λ reading have given. none_made reading.tables c.args.rollout.now.number c.args.rollout.now.rollout given.has c.in_ok-rules.rules.items
+    c.in_ok-rules.ensures.count have told reading.reads given.given.rules.is_read)

@@ -1,11 +1,11 @@
-use Rattle.desk_verify.proofs.Common.{◌≡◌, Ok, length, Fault, BlamesGiven, FindsTables, StaysIn, HaveOnlyRules, HasRollout}
+use Rattle.desk_verify.proofs.Common.{◌≡◌, Ok, length, Fault, BlamesGiven, FindsTables, StaysIn, HaveOnlyRules, ChecksGroups, IsAtRollout}
 use Rattle.desk_verify.proofs.groupings.read_rules.Given as goal
 
 -- the rules of the groups so far
 abbrev pub invariant-loop-before : goal.invariant-loop-before
 invariant-loop-before g l = record {
   stays : StaysIn g.S.Store l.fn.change l.change (Ok (tt {0}));
-  blames : BlamesGiven g.S.Store (λ t. HasRollout t l.rollout.number l.rollout.rollout) l.fn.change l.change (Ok (tt {0}));
+  blames : BlamesGiven g.S.Store (IsAtRollout ChecksGroups l.rollout.number l.rollout.rollout) l.fn.change l.change (Ok (tt {0}));
   reads : FindsTables g.S.Store {E = Fault} l.fn.change l.change (Ok l.rules.items) (λ t rules. HaveOnlyRules t l.rollout.number rules);
   count : length l.rules.items ≡ l.before;
 }

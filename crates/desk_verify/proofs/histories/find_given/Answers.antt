@@ -1,5 +1,5 @@
 use Rattle.desk_verify.proofs.Common.{◌≡◌, true, false, map, Err, sym, ap, subst, ◌∙◌, finds_as, Broken, SequencedEntry, rise, twin_entries, blamed, IsGiven}
-use Rattle.desk_verify.proofs.Common.{first_said, sequences_rise}
+use Rattle.desk_verify.proofs.Common.{first_said, sequences_rise, unread}
 use Rattle.desk_verify.proofs.Causes.{together}
 use Rattle.desk_verify.proofs.HistoryLemmas.{given}
 use Rattle.desk_verify.proofs.histories.find_given.Goals as goal
@@ -16,4 +16,5 @@ returns-then-not-sequences_rise-clause-blames g c =
     let told : rise 0 (map (λ (e : SequencedEntry). e.sequence) c.in_ok-entries.entries.items) ≡ false =
     rw c.deref.ensures.value at (sym c.sequences_rise.ensures ∙ c.if-not-sequences_rise.true) in
     blamed (together c.in_ok-entries.ensures.reads c.in_ok-entries.ensures.order) (Err Broken)
-    (λ t is given. twin_entries c.args.number (record { found = c.in_ok-entries.entries.items; said = is.0; in_order = is.1; twins = told }))
+    (λ reading is given. unread reading
+    (twin_entries c.args.number (record { found = c.in_ok-entries.entries.items; said = is.0; in_order = is.1; twins = told })) given)

@@ -1,5 +1,5 @@
-use Rattle.desk_verify.proofs.Common.{Ok, take, AllByRecursion, Fault, BlamesGiven, FindsTables, StaysIn, IsRight, AgreeBefore}
-use Rattle.desk_verify.specs.declared.damage.CheckedTable.TheVariants.{Offer}
+use Rattle.desk_verify.proofs.Common.{Ok, take, AllByRecursion, Fault, BlamesGiven, FindsTables, StaysIn, IsRight}
+use Rattle.desk_verify.specs.Checking.{ChecksOffers}
 use Rattle.desk_verify.specs.OfferChecks.{AreKeptGroups}
 use Rattle.desk_verify.proofs.offers.are_right.Given as goal
 
@@ -7,7 +7,7 @@ use Rattle.desk_verify.proofs.offers.are_right.Given as goal
 abbrev pub invariant-loop-offer : goal.invariant-loop-offer
 invariant-loop-offer g l = record {
   stays : StaysIn g.S.Store l.fn.change l.change (Ok (tt {0}));
-  blames : BlamesGiven g.S.Store (AgreeBefore Offer) l.fn.change l.change (Ok (tt {0}));
+  blames : BlamesGiven g.S.Store ChecksOffers l.fn.change l.change (Ok (tt {0}));
   judged : FindsTables g.S.Store {E = Fault} l.fn.change l.change (Ok (tt {0}))
       (λ t u. AreKeptGroups t l.kept × AllByRecursion (IsRight t) (take l.offer-index l.offers));
 }

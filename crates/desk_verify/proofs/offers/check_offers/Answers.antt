@@ -25,4 +25,8 @@ returns-in_err-offered-clause-blames g c =
     let out = err_from_is_err_and c.from_residual-in_err-offered.result c.from_residual-in_err-offered.ensures.1 in
     blamed_when (both_found (rw c.in-Some.is at c.in_ok-listed.ensures.reads) c.in_ok-are_right.ensures.judges)
     c.in_err-offered.ensures.judges.wears c.in_err-offered.field-0.0 c.in_err-offered.ensures.blames
-    (λ t is given. (given, all_offers t c.in-Some.listed.items is.0)) c.from_residual-in_err-offered.result (out.1 ∙ ap Err out.2)
+    (λ reading is given. record {
+      rollouts = given.rollouts;
+      rows = given.actions;
+      given = record { checks = given; offers = all_offers reading.tables c.in-Some.listed.items is.0 };
+    }) c.from_residual-in_err-offered.result (out.1 ∙ ap Err out.2)

@@ -1,5 +1,5 @@
-use Rattle.desk_verify.proofs.Common.{both_found, finds_as, found_then}
-use Rattle.desk_verify.proofs.OfferLemmas.{by_group, no_action, other_action}
+use Rattle.desk_verify.proofs.Common.{finds_as, found_then}
+use Rattle.desk_verify.proofs.OfferLemmas.{by_group, other_action}
 use Rattle.desk_verify.proofs.offers.is_right.Goals as goal
 
 pub returns-then-not-fits-clause-judges : goal.returns-then-not-fits-clause-judges

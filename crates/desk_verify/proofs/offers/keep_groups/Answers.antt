@@ -10,4 +10,4 @@ returns-then-is_of-clause-reads g c =
 
 pub returns-in_default-clause-blames : goal.returns-in_default-clause-blames
 returns-in_default-clause-blames g c = blamed (rw c.in_default.is at c.in_ok-groups.ensures.reads) (Err Broken)
-    (λ t is given. absurd (fails_broken t c.args.rollout is given.1.1.0))
+    (λ reading is given. absurd (fails_broken reading.tables c.args.rollout is given.agree.1.1.0))

@@ -48,13 +48,16 @@ returns-in_err-rollout-clause-blames g c =
     let out = err_from_is_err_and c.from_residual-in_err-rollout.result c.from_residual-in_err-rollout.ensures.1 in
     blamed_when c.loop-before.invariant.judged c.in_err-rollout.ensures.reads.wears c.in_err-rollout.field-0.0
     c.in_err-rollout.ensures.blames
-    (λ t is given. up_to t c.loop-before.before c.in_ok-last.last is.0 c.loop-before-test.true) c.from_residual-in_err-rollout.result (out.1 ∙ ap Err out.2)
+    (λ reading is given. record {
+      up = up_to reading.tables c.loop-before.before c.in_ok-last.last is.0 c.loop-before-test.true;
+      rollouts = given.rollouts;
+    }) c.from_residual-in_err-rollout.result (out.1 ∙ ap Err out.2)
 
 pub returns-in_err-count-clause-blames : goal.returns-in_err-count-clause-blames
 returns-in_err-count-clause-blames g c =
     let out = err_from_is_err_and c.from_residual-in_err-count.result c.from_residual-in_err-count.ensures.1 in
     blamed_when (both_found c.loop-before.invariant.judged c.in_ok-rollout.ensures.reads) c.in_err-count.ensures.judges.wears
-    c.in_err-count.field-0.0 c.in_err-count.ensures.blames (λ t is given. record { has = is.1; given = given }) c.from_residual-in_err-count.result
+    c.in_err-count.field-0.0 c.in_err-count.ensures.blames (λ reading is given. record { has = is.1; given = given.given }) c.from_residual-in_err-count.result
     (out.1 ∙ ap Err out.2)
 
 pub returns-in-None-clause-blames : goal.returns-in-None-clause-blames
@@ -62,7 +65,8 @@ returns-in-None-clause-blames g c =
     let large : 2 ^ 32 ≤ c.loop-before.listed + c.in-Some.count = grind (arith, c.in-None.ensures) in
     blamed (both_found c.loop-before.invariant.judged (both_found c.in_ok-rollout.ensures.reads (rw c.in-Some.is at c.in_ok-count.ensures.judges)))
     (Err Broken)
-    (λ t is given. listed_many t g.T.ByRollout.table (within g.T.ByRollout.column (c.loop-before.before + 1)) (c.loop-before.listed + c.in-Some.count)
-    (one_more g.T.ByRollout.table g.T.ByRollout.column g.T.ByRollout.is_right g.T.ByRollout.is_whole t c.loop-before.before c.loop-before.listed c.in-Some.count
-    (c.loop-before.listed + c.in-Some.count) c.in_ok-rollout.rollout.number
-    is.0.1 c.in_ok-rollout.ensures.number (is.1.1 is.1.0) refl).rows.all large)
+    (λ reading is given. listed_many reading g.T.ByRollout.table (within g.T.ByRollout.column (c.loop-before.before + 1))
+    (c.loop-before.listed + c.in-Some.count)
+    (one_more g.T.ByRollout.table g.T.ByRollout.column g.T.ByRollout.is_right g.T.ByRollout.is_whole reading.tables c.loop-before.before
+    c.loop-before.listed c.in-Some.count (c.loop-before.listed + c.in-Some.count) c.in_ok-rollout.rollout.number
+    is.0.1 c.in_ok-rollout.ensures.number (is.1.1 is.1.0) refl).rows.all large given.rows)

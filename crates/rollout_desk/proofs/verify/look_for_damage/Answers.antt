@@ -45,7 +45,7 @@ returns-in-Err-find_damage-clause-blames g c =
     let grew : c.args.store.now.calls.failures ≤ c.in-Ok.change.store.now.calls.failures = c.in-Ok.ensures.grows.failures in
     subst (λ h. c.give_up-in-Err-find_damage.result ≡ Err StoreFailed → HasCause g.S.Store c.args.store.now.calls h.calls) same
     (read_in_vain g.S.Store c.args.store.now.calls _ _ c.give_up-in-Err-find_damage.new.change.0.calls c.in-Err-find_damage.fault _
-    c.give_up-in-Err-find_damage.result c.refusal_of-in-Err-find_damage.ensures c.in-Ok.ensures.tables grew c.in-Err-find_damage.ensures.blames
+    c.give_up-in-Err-find_damage.result c.refusal_of-in-Err-find_damage.ensures c.in-Ok.ensures.tables grew c.in-Err-find_damage.ensures.stops
     c.give_up-in-Err-find_damage.ensures.ends.wears c.give_up-in-Err-find_damage.ensures.counts c.in-Err-find_damage.ensures.stays.grows
     c.give_up-in-Err-find_damage.ensures.fails)
 

@@ -1,5 +1,5 @@
 use Rattle.desk_store.proofs.Answering.{rules, subst, AsksText, HoldsLedger, ask_frames, in_ledgers, ask_keeps, ask_sees, HoldsTables, call_breaks}
-use Rattle.desk_store.proofs.Answering.{never_breaks}
+use Rattle.desk_store.proofs.Answering.{call_blames, never_breaks}
 use Rattle.desk_store.proofs.change.OpenChange.ask.Goals as goal
 
 pub returns-clause-stays : goal.returns-clause-stays
@@ -21,5 +21,5 @@ returns-clause-fails g c = call_breaks c.ask.result (never_breaks c.ask.result c
     (λ x is. ask_sees HoldsLedger _ _ _ (in_ledgers c.requires) x (subst (AsksText _ _ _ _) is c.ask.ensures.asks))
 
 pub returns-clause-blames : goal.returns-clause-blames
-returns-clause-blames g c = call_breaks c.ask.result (never_breaks c.ask.result c.ask.ensures.sound)
+returns-clause-blames g c = call_blames c.ask.result (never_breaks c.ask.result c.ask.ensures.sound)
     (λ x is. ask_sees HoldsTables _ _ _ c.requires x (subst (AsksText _ _ _ _) is c.ask.ensures.asks))

@@ -1,4 +1,5 @@
-use Rattle.desk_store.proofs.Answering.{rules, subst, AsksFew, HoldsLedger, few_frames, in_ledgers, HoldsTables, call_breaks, never_breaks, few_sees}
+use Rattle.desk_store.proofs.Answering.{rules, subst, AsksFew, HoldsLedger, few_frames, in_ledgers, HoldsTables, call_blames, call_breaks, few_sees}
+use Rattle.desk_store.proofs.Answering.{never_breaks}
 use Rattle.desk_store.proofs.change.OpenChange.few.Goals as goal
 
 pub returns-clause-stays : goal.returns-clause-stays
@@ -18,5 +19,5 @@ returns-clause-fails g c = call_breaks c.few.result (never_breaks c.few.result c
     (λ x is. few_sees HoldsLedger _ _ _ (in_ledgers c.requires) c.args.most x (subst (AsksFew _ _ _ _ _) is c.few.ensures.asks))
 
 pub returns-clause-blames : goal.returns-clause-blames
-returns-clause-blames g c = call_breaks c.few.result (never_breaks c.few.result c.few.ensures.sound)
+returns-clause-blames g c = call_blames c.few.result (never_breaks c.few.result c.few.ensures.sound)
     (λ x is. few_sees HoldsTables _ _ _ c.requires c.args.most x (subst (AsksFew _ _ _ _ _) is c.few.ensures.asks))

@@ -1,5 +1,5 @@
 use Rattle.desk_store.proofs.Answering.{rules, subst, TakesFirst, HoldsLedger, first_frames, in_ledgers, first_keeps, first_sees, HoldsTables, call_breaks}
-use Rattle.desk_store.proofs.Answering.{never_breaks}
+use Rattle.desk_store.proofs.Answering.{call_blames, never_breaks}
 use Rattle.desk_store.proofs.change.OpenChange.first.Goals as goal
 
 pub returns-clause-stays : goal.returns-clause-stays
@@ -22,5 +22,5 @@ returns-clause-fails g c = call_breaks c.first.result (never_breaks c.first.resu
     (λ x is. first_sees HoldsLedger _ _ _ (in_ledgers c.requires) x (subst (TakesFirst _ _ _ _) is c.first.ensures.takes))
 
 pub returns-clause-blames : goal.returns-clause-blames
-returns-clause-blames g c = call_breaks c.first.result (never_breaks c.first.result c.first.ensures.sound)
+returns-clause-blames g c = call_blames c.first.result (never_breaks c.first.result c.first.ensures.sound)
     (λ x is. first_sees HoldsTables _ _ _ c.requires x (subst (TakesFirst _ _ _ _) is c.first.ensures.takes))

@@ -47,4 +47,5 @@ returns-clause-blames g c =
     grind (arith, c.in-Err.ensures, c.len.ensures, c.deref-3.ensures.len, ap length c.deref-3.ensures.value) in
     blamed (both_found (rw c.in-Some.is at c.in_ok-actions.ensures.reads) (both_found c.in_ok-members.ensures.reads c.in_ok-fit_histories.ensures.judges))
     (Err Broken)
-    (λ t is given. listed_many t Actions (has_at 2 c.args.rollout.now.number) (length c.in-Some.actions.items) is.0.said.count large)
+    (λ reading is given. listed_many reading Actions (has_at 2 c.args.rollout.now.number) (length c.in-Some.actions.items) is.0.said.count large
+    given.given.actions)

@@ -37,4 +37,5 @@ returns-clause-blames g c =
     let large : 2 ^ 32 ≤ length c.in-Some.groups.items = grind (arith, c.in-Err.ensures, c.len.ensures, c.deref.ensures.len, ap length c.deref.ensures.value) in
     blamed (both_found c.in_ok-grouping.ensures.reads
     (both_found c.in_ok-members.ensures.reads (both_found (rw c.in-Some.is at c.in_ok-groups.ensures.reads) c.in_ok-actions.ensures.reads))) (Err Broken)
-    (λ t is given. listed_many t Groups (has_at 1 c.args.rollout.now.number) (length c.in-Some.groups.items) is.1.1.0.count large)
+    (λ reading is given. listed_many reading Groups (has_at 1 c.args.rollout.now.number) (length c.in-Some.groups.items) is.1.1.0.count large
+    given.given.groups)

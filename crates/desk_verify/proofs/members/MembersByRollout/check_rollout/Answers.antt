@@ -27,4 +27,4 @@ returns-clause-blames g c =
     let large : 2 ^ 32 ≤ length c.in-Some.members.items =
     grind (arith, c.in-Err.ensures, c.len.ensures, c.deref.ensures.len, ap length c.deref.ensures.value) in
     blamed (rw c.in-Some.is at c.in_ok-members.ensures.reads) (Err Broken)
-    (λ t is given. listed_many t Members (is_of c.args.rollout.now.number) (length c.in-Some.members.items) is.said.count large)
+    (λ reading is given. listed_many reading Members (is_of c.args.rollout.now.number) (length c.in-Some.members.items) is.said.count large given.given)

@@ -22,12 +22,12 @@ returns-in-Ok-clause-judges g c =
 
 pub returns-in_default-clause-blames : goal.returns-in_default-clause-blames
 returns-in_default-clause-blames g c = blamed (rw c.in_default.is at c.in_ok-groups.ensures.reads) (Err Broken)
-    (λ t is given. absurd (no_groups t c.args.rollout.now.number is given.given.0.1.1.0))
+    (λ reading is given. absurd (no_groups reading.tables c.args.rollout.now.number is given.given.checks.agree.1.1.0))
 
 pub returns-in_default-2-clause-blames : goal.returns-in_default-2-clause-blames
 returns-in_default-2-clause-blames g c =
     blamed (both_found c.in_ok-groups.ensures.reads (rw c.in_default-2.is at c.in_ok-actions.ensures.reads)) (Err Broken)
-    (λ t is given. absurd (no_actions t c.args.rollout.now.number is.1 given.given.0.1.1.1.0))
+    (λ reading is given. absurd (no_actions reading.tables c.args.rollout.now.number is.1 given.given.checks.agree.1.1.1.0))
 
 pub returns-clause-blames : goal.returns-clause-blames
 returns-clause-blames g c =
@@ -35,4 +35,5 @@ returns-clause-blames g c =
     grind (arith, c.in-Err.ensures, c.len.ensures, c.deref-2.ensures.len, ap length c.deref-2.ensures.value) in
     blamed (both_found c.in_ok-groups.ensures.reads (both_found (rw c.in-Some-2.is at c.in_ok-actions.ensures.reads) c.in_ok-are_offered_if_due.ensures.judges))
     (Err Broken)
-    (λ t is given. listed_many t Actions (has_at 2 c.args.rollout.now.number) (length c.in-Some-2.actions.items) is.1.0.count large)
+    (λ reading is given. listed_many reading Actions (has_at 2 c.args.rollout.now.number) (length c.in-Some-2.actions.items) is.1.0.count large
+    given.given.checks.actions)
