@@ -1,11 +1,14 @@
 -- From what a call inside a change says of the tables to what a query is answered.
-use Rattle.rollout_desk.proofs.Common.{◌≡◌, inl, inr, Result, Ok, Err, IfOk, sym, subst, arith, Ghosts, State, HasCleanDisk, Begins, Sees, Fault, Refused}
+use Rattle.rollout_desk.proofs.Common.{◌≡◌, ℕ, inl, inr, Result, Ok, Err, IfOk, sym, subst, arith, Ghosts, State, HasCleanDisk, Begins, Sees, Fault, Refused}
 use Rattle.rollout_desk.proofs.Common.{Query, Download, Poll, ShowCancel, ShowContents, ShowDeployment, reply_of, Refusal, StoreFailed, HoldsTables, Tables}
-use Rattle.rollout_desk.proofs.Common.{OpenChange, EndsByRollback, AnswersIn, KeepsOffer, KeepsOffers, KeepsSizes}
+use Rattle.rollout_desk.proofs.Common.{OpenChange, EndsByRollback, EndsLook, AnswersIn, KeepsOffer, KeepsOffers, KeepsSizes}
+use Rattle.rollout_machine.specs.Commands.{Bytes, Credential}
+use Rattle.rollout_model.specs.declared.artifact.Artifact.{Artifact}
 use Rattle.sql_calls.specs.Standing.{Shows}
 use Rattle.rollout_machine.specs.Replies as shown
 use Rattle.rollout_model.specs.declared.request.Reply.{Reply}
 use Rattle.desk_views.specs.Showing.{ShowsIn}
+use Rattle.desk_views.specs.Kept.{IsKeptAs}
 use Rattle.desk_views.specs.Sizes.{AgreesIn, KeepsSize}
 
 every : {A E : Type 0} {P : A → Type 0} (out : Result A E) → ((a : A) → P a) → IfOk out P
@@ -60,3 +63,13 @@ shown_sized a b c d query made reply = shown_so (λ t r. KeepsSize t query r) a 
 pub shown_kept : (a b c d : State) (query : Query) (made reply : shown.Reply) → Begins HoldsTables a b
     → ((t : Tables) → Sees HoldsTables b t → HasCleanDisk c → KeepsOffer t query made) → EndsByRollback c d made reply → KeepsOffers a d query reply
 shown_kept a b c d query made reply = shown_so (λ t r. KeepsOffer t query r) a b c d made reply (λ t. unoffered t query StoreFailed)
+
+-- what was found before the change is given up
+pub found_kept : (a b c d : State) (device : Credential) (m : ℕ) (filename : Bytes) (found result : Result Artifact Refusal) → Begins HoldsTables a b
+    → ((t : Tables) → Sees HoldsTables b t → HasCleanDisk c → IfOk found (λ x. (action : ℕ) × IsKeptAs t device.id action)) → EndsLook c d found result
+    → IfOk result (λ x. (contents : Bytes) → KeepsOffers a d (Download device m filename) (shown.ContentsShown contents))
+found_kept a b c d device m filename found (Err refusal) begins is ends = tt
+found_kept a b c d device m filename found (Ok x) begins is ends = λ contents t clean shown. elim ends.ends [
+  | inl it ↦ subst (λ r. IfOk r (λ y. (action : ℕ) × IsKeptAs t device.id action)) (sym it.0) (is t (begins.sees t shown) (omega (arith, clean, ends.wears)))
+  | inr it ↦ absurd cc
+]

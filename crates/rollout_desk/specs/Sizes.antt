@@ -1,14 +1,16 @@
 -- Contents by the sizes that the tables tell, and offers as the tables keep them, whatever rows they have.
-use Rattle.std.specs.Prelude.{Result}
+use Rattle.std.specs.Prelude.{Result, Ok, Err}
 use Rattle.sqlite.specs.State.{State, HasCleanDisk}
 use Rattle.sqlite.specs.Store.{Ghosts}
 use Rattle.sql_calls.specs.Standing.{Shows}
 use Rattle.sql_calls.specs.declared.fault.Fault.{Fault}
 use Rattle.rollout_machine.specs.Replies as shown
+use Rattle.rollout_machine.specs.Commands.{Bytes}
 use Rattle.rollout_machine.specs.Requests.{Query, Poll, ShowDeployment, ShowCancel, Download}
 use Rattle.rollout_machine.specs.Views.{reply_of}
 use Rattle.rollout_model.specs.declared.request.Reply.{Reply}
 use Rattle.desk_records.specs.Tables.{HoldsTables, Tables}
+use Rattle.contents_handler.specs.declared.download.Download as begun
 use Rattle.desk_store.specs.declared.change.OpenChange.{OpenChange}
 use Rattle.desk_views.specs.Kept.{TellsKept}
 use Rattle.desk_views.specs.Showing.{ShowsIn}
@@ -36,3 +38,8 @@ KeepsSizes old new query reply = (t : Tables) → HasCleanDisk new → Shows Hol
 -- A device is told of its offer what was kept of it in the tables that were shown, whatever rows these have.
 abbrev pub KeepsOffers : State → State → Query → shown.Reply → Type 0
 KeepsOffers old new query reply = (t : Tables) → HasCleanDisk new → Shows HoldsTables old t → KeepsOffer t query reply
+
+-- The same of a query that may begin a download: of its contents, and else of the reply.
+abbrev pub BeginsKept : State → State → Query → Result begun.Download Reply → Type 0
+BeginsKept old new query (Ok p) = (contents : Bytes) → KeepsOffers old new query (shown.ContentsShown contents)
+BeginsKept old new query (Err reply) = KeepsOffers old new query (reply_of reply)

@@ -10,7 +10,9 @@ ghost use Rattle.rollout_desk.specs.DeskStates.{desk_state};
 ghost use Rattle.rollout_desk.specs.Causes.{FailsByCall, FailsHandingByCall};
 ghost use Rattle.contents_handler.specs.Downloads.{HandsPieces, KeepsCount};
 ghost use Rattle.rollout_desk.specs.Downloads.{Begins, BeginsOffered, HandsItsArtifact, IsInterruption, RefusesContents, DownloadsGoOn, artifact_in};
+ghost use Rattle.sqlite.specs.Held.{state};
 ghost use Rattle.rollout_desk.specs.Promises.{IsPromised};
+ghost use Rattle.rollout_desk.specs.Sizes.{BeginsKept};
 ghost use Rattle.rollout_desk.specs.Working.{TellsFailures, replies_store, tells_store};
 
 use crate::desk::Desk;
@@ -46,6 +48,7 @@ impl<S: Alter> Desk<S> {
             (λ h. BeginsOffered h (query_of query.now) p)) }
         ensures refuses { IfErr result (λ reply. RefusesContents (desk_state S.Store self.old) (desk_state S.Store self.new) (query_of query.now)
             (reply_of reply)) }
+        ensures kept { BeginsKept (state S.Store self.old.store.calls.conn) (state S.Store self.new.store.calls.conn) (query_of query.now) result }
         ensures runs { IfOk result (λ _. (desk_state S.Store self.old).is_stopped ≡ false) }
         ensures stops { IfErr result (λ reply. reply_of reply ≡ Refused StoreFailed → (desk_state S.Store self.new).is_stopped ≡ true) }
         ensures stopped { (desk_state S.Store self.old).is_stopped ≡ true
@@ -107,6 +110,8 @@ impl<S: Alter> Desk<S> {
             (Asks (Ask (DownloadOf device.now module_number filename.now))) result }
         ensures refuses { IfErr result (λ reply. RefusesContents (desk_state S.Store self.old) (desk_state S.Store self.new)
             (DownloadOf device.now module_number filename.now) (reply_of reply)) }
+        ensures kept { BeginsKept (state S.Store self.old.store.calls.conn) (state S.Store self.new.store.calls.conn)
+            (DownloadOf device.now module_number filename.now) result }
         ensures runs { IfOk result (λ _. (desk_state S.Store self.old).is_stopped ≡ false) }
         ensures stops { IfErr result (λ reply. reply_of reply ≡ Refused StoreFailed → (desk_state S.Store self.new).is_stopped ≡ true) }
         ensures stopped { (desk_state S.Store self.old).is_stopped ≡ true

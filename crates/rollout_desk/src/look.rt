@@ -1,12 +1,15 @@
 //! Looks at the records that change nothing: at a piece of an artifact's contents, and at the artifact that a device downloads.
 
-ghost use Rattle.std.specs.Prelude.{◌≡◌, ◌≤◌, ◌⊎◌, length, Some, Ok, Err, MatchResult};
+ghost use Rattle.std.specs.Prelude.{◌≡◌, ◌≤◌, ◌⊎◌, length, Some, Ok, Err, IfOk, MatchResult};
 ghost use Rattle.sqlite.specs.Held.{state};
 ghost use Rattle.desk_records.specs.Artifacts.{piece_numbered};
 ghost use Rattle.desk_records.specs.Holds.{HoldsRecords};
 ghost use Rattle.desk_store.specs.Blaming.{HasFailed};
 ghost use Rattle.rollout_desk.specs.Causes.{FailsByCalls};
 ghost use Rattle.rollout_desk.specs.Looks.{Looks, EndsLook, FindsDownload, IsOtherThan, bytes_of};
+ghost use Rattle.rollout_machine.specs.Replies.{ContentsShown};
+ghost use Rattle.rollout_machine.specs.Requests.{Download};
+ghost use Rattle.rollout_desk.specs.Sizes.{KeepsOffers};
 ghost use Rattle.rollout_desk.specs.Working.{TellsFailures, tells_store};
 
 use crate::refusals::refusal_of;
@@ -63,6 +66,8 @@ pub(crate) fn look_for_download<S: Alter>(
 ) -> Result<Artifact, Refusal>
     ensures finds { FindsDownload HoldsRecords (state S.Store store.old.calls.conn)
         (state S.Store store.new.calls.conn) device.now module_number filename.now result }
+    ensures kept { IfOk result (λ _. (contents : _) → KeepsOffers (state S.Store store.old.calls.conn) (state S.Store store.new.calls.conn)
+        (Download device.now module_number filename.now) (ContentsShown contents)) }
     ensures tells { TellsFailures (tells_store result) store.old.calls store.new.calls }
     ensures fails { result ≡ Err Refusal.StoreFailed → FailsByCalls S.Store store.old.calls store.new.calls }
 {

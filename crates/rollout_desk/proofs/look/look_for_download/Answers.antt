@@ -8,6 +8,12 @@ use Rattle.rollout_desk.specs.Causes.{FailsByCalls}
 use Rattle.rollout_desk.proofs.CauseLemmas.{failed_inside, told_result, well_inside}
 use Rattle.sql_calls.specs.Calls.{Grows, failures_of}
 use Rattle.rollout_desk.proofs.VerifyLemmas.{failed_call}
+use Rattle.rollout_desk.proofs.SizeLemmas.{found_kept}
+use Rattle.std.specs.Prelude.{IfOk}
+use Rattle.rollout_machine.specs.Commands.{Bytes}
+use Rattle.rollout_machine.specs.Replies.{ContentsShown}
+use Rattle.rollout_machine.specs.Requests.{Download}
+use Rattle.rollout_desk.specs.Sizes.{KeepsOffers}
 use Rattle.rollout_desk.proofs.look.look_for_download.Goals as goal
 
 pub returns-in-Err-clause-finds : goal.returns-in-Err-clause-finds
@@ -57,3 +63,19 @@ pub returns-in-Err-clause-fails : goal.returns-in-Err-clause-fails
 returns-in-Err-clause-fails g c =
     let grows : Grows (failures_of c.in-Err.fault) c.args.store.now.calls c.begin.follows.lender-at-none.calls = search rules in
     λ is h clean counted stands. failed_call c.in-Err.fault c.in-Err.ensures.sound grows (told_result _ _ c.refusal_of.ensures is)
+
+pub returns-in-Ok-find_download-clause-kept : goal.returns-in-Ok-find_download-clause-kept
+returns-in-Ok-find_download-clause-kept g c =
+    let same : c.give_up.new.change.0 ≡ c.store-in-Ok-find_download-1.given.0 = search rules in
+    subst (λ h. IfOk c.give_up.result (λ _. (contents : Bytes) → KeepsOffers (state g.S.Store c.args.store.now.calls.conn) (state g.S.Store h.calls.conn)
+    (Download c.args.device.now c.args.module_number c.args.filename.now) (ContentsShown contents))) same
+    (found_kept _ _ _ _ c.args.device.now c.args.module_number c.args.filename.now _ c.give_up.result c.in-Ok.ensures.tables
+    c.in-Ok-find_download.ensures.kept.agrees c.give_up.ensures.ends)
+
+pub returns-in-Err-find_download-clause-kept : goal.returns-in-Err-find_download-clause-kept
+returns-in-Err-find_download-clause-kept g c =
+    let same : c.give_up-in-Err-find_download.new.change.0 ≡ c.store-in-Err-find_download-1.given.0 = search rules in
+    subst (λ h. IfOk c.give_up-in-Err-find_download.result (λ _. (contents : Bytes) → KeepsOffers (state g.S.Store c.args.store.now.calls.conn) (state g.S.Store h.calls.conn)
+    (Download c.args.device.now c.args.module_number c.args.filename.now) (ContentsShown contents))) same
+    (found_kept _ _ _ _ c.args.device.now c.args.module_number c.args.filename.now _ c.give_up-in-Err-find_download.result c.in-Ok.ensures.tables
+    (λ t was clean. tt) c.give_up-in-Err-find_download.ensures.ends)

@@ -20,3 +20,6 @@ pub returns-in-Err-clause-fails : goal.returns-in-Err-clause-fails
 returns-in-Err-clause-fails g c = λ is h clean counted stands.
     let failed : c.in-Err.why ≡ StoreFailed = cc in
     c.look_for_download.ensures.fails (c.in-Err.is ∙ ap Err failed) h clean counted (stands_running _ c.args.self.now.stopped h c.if-self.false stands)
+
+pub returns-in-Ok-clause-kept : goal.returns-in-Ok-clause-kept
+returns-in-Ok-clause-kept g c = rw c.in-Ok.is at c.look_for_download.ensures.kept
