@@ -1,5 +1,5 @@
 -- What is told of an order's outcome, and how it is written.
-use Rattle.std.specs.Prelude.{◌≡◌, ℕ, Bool, true, List, [], ◌++◌, Option, Result, Ok, Err, OnOk, IfErr, codes}
+use Rattle.std.specs.Prelude.{◌≡◌, ◌≢◌, ℕ, Bool, true, List, [], ◌++◌, Option, Result, Ok, Err, OnOk, IfErr, codes}
 use Rattle.std.specs.Fmt.{decimal}
 use Rattle.std.specs.Io.KnownBytes.{Appends}
 use Rattle.rollout_model.specs.Refusals.{refusal_row}
@@ -10,7 +10,7 @@ use Rattle.rollout_machine.specs.Requests.{Asked}
 use Rattle.rollout_machine.specs.Standing.{DeskState, Applies, StaysStopped}
 use Rattle.desk_files.specs.Reports.{report_lines}
 use Rattle.stream_server.specs.declared.served.ServeFault.{ServeFault}
-use Rattle.stream_server.specs.declared.served.ServeFault.TheVariants.{Write}
+use Rattle.stream_server.specs.declared.served.ServeFault.TheVariants.{Read, Store, Write}
 use Rattle.stream_server.specs.Headline.{FailsBy}
 use Rattle.desk_server.specs.Program.{Reports, Tells, WritesPart, status_of}
 
@@ -38,6 +38,8 @@ pub record Prints (text : List ℕ) (out out_new told told_new : Option (List �
   pub outcome : Result (Unit {0}) ServeFault
   pub whole : OnOk outcome (Appends out out_new text)
   pub part : IfErr outcome (λ fault. WritesPart out out_new text)
+  -- a write failed, or memory was wanted: nothing is read for it, and no store is asked
+  pub named : IfErr outcome (λ fault. (fault ≢ Read) × (fault ≢ Store))
   pub status_is : status ≡ status_of outcome
   pub reports : Reports told told_new telling_fails outcome
   pub write_failed : FailsBy outcome Write failed_write writing_fails
