@@ -2,7 +2,10 @@
 use Rattle.rollout_desk.proofs.Common.{◌≡◌, ◌≢◌, ◌≤◌, ◌-◌, ◌⊎◌, ℕ, inl, inr, Option, Result, Ok, Err, refl, sym, subst, arith, state, Ghosts, State}
 use Rattle.rollout_desk.proofs.Common.{HasCleanDisk, Begins, Finds, Rests, Sees, Wears, Fault, Broken, Memory, Store, rest_shows, HoldsLedger, ledger_of}
 use Rattle.rollout_desk.proofs.Common.{HoldsTables, Tables, OpenChange, Records, Refusal, StoreFailed, refusal_of_fault, EndsLook, FindsDamage, HasCause}
-use Rattle.rollout_desk.proofs.Common.{IsNeverDamaged}
+use Rattle.rollout_desk.proofs.Common.{IsNeverDamaged, HoldsRecords, ap}
+use Rattle.rollout_desk.specs.Looks.{LooksTo}
+use Rattle.rollout_desk.specs.Verifying.{SparesRecords}
+use Rattle.desk_verify.specs.declared.damage.Damage.TheVariants.{Refused}
 use Rattle.sql_calls.specs.declared.calls.Calls.{Calls}
 use Rattle.sql_calls.specs.Calls.{Grows, failures_of}
 use Rattle.std.specs.Prelude.{Bool, nat_lt, true, false, ◌^◌}
@@ -35,6 +38,12 @@ none_found a c d refusal result ends = elim ends.ends [
   | inl it ↦ subst (FindsDamage a d) (sym it.0) tt
   | inr it ↦ subst (FindsDamage a d) (sym it.0) tt
 ]
+
+-- where nothing was found out, the records are as they were, or the store failed
+pub spared_in_vain : (a d : State) (refusal : Refusal) → LooksTo HoldsRecords {A = Option CheckedTable} a d IsNeverDamaged (Err refusal)
+    → SparesRecords a d (Err (Refused refusal))
+spared_in_vain a d refusal (inl it) = λ r was. inl (it.1 r was)
+spared_in_vain a d refusal (inr it) = λ r was. inr (ap (λ x. Err (Refused x)) it.0, it.1 r was)
 
 -- ---- why a store failed
 

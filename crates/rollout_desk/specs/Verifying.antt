@@ -3,7 +3,7 @@ use Rattle.std.specs.Prelude.{◌≡◌, ◌⊎◌, Bool, false, Option, Some, N
 use Rattle.sqlite.specs.Held.{state}
 use Rattle.sqlite.specs.Store.{Ghosts}
 use Rattle.sqlite.specs.State.{State, HasCleanDisk}
-use Rattle.sql_calls.specs.Standing.{Shows}
+use Rattle.sql_calls.specs.Standing.{Doubts, Rests, Shows}
 use Rattle.sql_calls.specs.declared.calls.Calls.{Calls}
 use Rattle.rollout_machine.specs.CommandList.{CommandList}
 use Rattle.rollout_machine.specs.Records.{Records, records}
@@ -12,6 +12,8 @@ use Rattle.rollout_machine.specs.Standing.{Becomes, DeskState, StandsFor}
 use Rattle.rollout_machine.specs.StoreFailures.{is_store}
 use Rattle.rollout_machine.specs.Validity.{IsValid}
 use Rattle.rollout_model.specs.declared.refusal.Refusal.{Refusal}
+use Rattle.rollout_model.specs.declared.refusal.Refusal.TheVariants.{StoreFailed}
+use Rattle.desk_records.specs.Holds.{HoldsRecords}
 use Rattle.desk_records.specs.Tables.{HoldsTables, Tables}
 use Rattle.desk_store.specs.Blaming.{HasFailed}
 use Rattle.desk_verify.specs.Agreement.{IsDamage}
@@ -66,3 +68,8 @@ MayTell was_stopped (Refused refusal) = IsInterruption was_stopped refusal
 abbrev pub tells_damage : Result (Unit {0}) Damage → Bool
 tells_damage (Err (Refused refusal)) = is_store refusal
 tells_damage _ = false
+
+-- Whatever records the tables hold, be they damaged, they hold them afterwards; where the store failed, whatever a crash leaves does.
+abbrev pub SparesRecords : State → State → Result (Unit {0}) Damage → Type 0
+SparesRecords old new result =
+    (r : Records) → Rests HoldsRecords old r → Rests HoldsRecords new r ⊎ ((result ≡ Err (Refused StoreFailed)) × Doubts HoldsRecords new r r)

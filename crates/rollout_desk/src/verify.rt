@@ -7,7 +7,7 @@ ghost use Rattle.rollout_machine.specs.Standing.{StaysStopped};
 ghost use Rattle.desk_records.specs.Holds.{HoldsRecords};
 ghost use Rattle.rollout_desk.specs.DeskStates.{desk_state};
 ghost use Rattle.rollout_desk.specs.Looks.{Looks};
-ghost use Rattle.rollout_desk.specs.Verifying.{FindsDamage, HasCause, IsNeverDamaged, Judges, KeepsDesk, MayTell, tells_damage};
+ghost use Rattle.rollout_desk.specs.Verifying.{FindsDamage, HasCause, IsNeverDamaged, Judges, KeepsDesk, MayTell, SparesRecords, tells_damage};
 ghost use Rattle.rollout_desk.specs.Working.{TellsFailures, tells_store};
 
 use crate::desk::Desk;
@@ -44,6 +44,7 @@ impl<S: Alter> Desk<S> {
         ensures clean { (desk_state S.Store self.new).is_clean → (desk_state S.Store self.old).is_clean }
         ensures judges { Judges (state S.Store self.old.store.calls.conn) (state S.Store self.new.store.calls.conn) result }
         ensures keeps { KeepsDesk (desk_state S.Store self.old) (desk_state S.Store self.new) result }
+        ensures spares { SparesRecords (state S.Store self.old.store.calls.conn) (state S.Store self.new.store.calls.conn) result }
         ensures blames { result ≡ Err (Damage.Refused StoreFailed) → HasCause S.Store self.old.store.calls self.new.store.calls }
         ensures stops { result ≡ Err (Damage.Refused StoreFailed) → (desk_state S.Store self.new).is_stopped ≡ true }
         ensures stopped { (desk_state S.Store self.old).is_stopped ≡ true → (result ≡ Err (Damage.Refused Stopped))

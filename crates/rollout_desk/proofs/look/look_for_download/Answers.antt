@@ -75,7 +75,8 @@ returns-in-Ok-find_download-clause-kept g c =
 pub returns-in-Err-find_download-clause-kept : goal.returns-in-Err-find_download-clause-kept
 returns-in-Err-find_download-clause-kept g c =
     let same : c.give_up-in-Err-find_download.new.change.0 ≡ c.store-in-Err-find_download-1.given.0 = search rules in
-    subst (λ h. IfOk c.give_up-in-Err-find_download.result (λ _. (contents : Bytes) → KeepsOffers (state g.S.Store c.args.store.now.calls.conn) (state g.S.Store h.calls.conn)
+    subst (λ h. IfOk c.give_up-in-Err-find_download.result
+    (λ _. (contents : Bytes) → KeepsOffers (state g.S.Store c.args.store.now.calls.conn) (state g.S.Store h.calls.conn)
     (Download c.args.device.now c.args.module_number c.args.filename.now) (ContentsShown contents))) same
     (found_kept _ _ _ _ c.args.device.now c.args.module_number c.args.filename.now _ c.give_up-in-Err-find_download.result c.in-Ok.ensures.tables
     (λ t was clean. tt) c.give_up-in-Err-find_download.ensures.ends)

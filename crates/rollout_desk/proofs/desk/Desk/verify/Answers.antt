@@ -1,5 +1,6 @@
 use Rattle.rollout_desk.proofs.Common.{◌≡◌, Err, ap, inl, refl, state, StoreFailed}
 use Rattle.rollout_desk.proofs.LookLemmas.{becomes_refused, interrupted}
+use Rattle.rollout_desk.proofs.VerifyLemmas.{spared_in_vain}
 use Rattle.rollout_desk.proofs.desk.Desk.verify.Goals as goal
 
 pub returns-in-Err-clause-keeps : goal.returns-in-Err-clause-keeps
@@ -10,3 +11,6 @@ returns-in-Err-clause-keeps g c = λ h clean standing. becomes_refused _ h c.in-
 
 pub returns-in-Err-clause-blames : goal.returns-in-Err-clause-blames
 returns-in-Err-clause-blames g c is = let told : c.in-Err.refusal ≡ StoreFailed = cc in c.in-Err.ensures.blames (ap Err told)
+
+pub returns-in-Err-clause-spares : goal.returns-in-Err-clause-spares
+returns-in-Err-clause-spares g c = spared_in_vain _ _ c.in-Err.refusal c.in-Err.ensures.looks.looks
