@@ -18,7 +18,7 @@ use std::convert::AsStr;
 use stream_server::Interface;
 
 /// What `--version` tells: as the file VERSION has it.
-const VERSION: &str = "1.0.0~pre";
+const VERSION: &str = "1.0.0";
 
 /// Which desk an order serves, and to whom.
 #[derive(Clone, Copy)]
