@@ -114,3 +114,13 @@ def test_which_bodies_share_a_copy():
     constant, _ = settled(EDIT.replace("desk::Desk::is_full", "desk::open").replace("self.count() >= MOST", "const MOST: u32 = 5;"))
     same([bodies.may_share(one, it) for it in (same_place, elsewhere, constant)], [False, True, False])
     same([len(it) for it in bodies.copies([one, same_place, elsewhere])], [2, 1])
+
+
+def test_which_bodies_are_asked_for():
+    at = lambda crate, folder: ROOT / "crates" / crate / folder / "one.edit"
+    gate, hand, other = at("desk", "wrong"), at("desk", "wrong-by-hand"), at("other", "wrong")
+    asked = lambda crates, folders, named: [bodies.is_asked(it, crates, folders, named) for it in (gate, hand, other)]
+    same(asked([], ["wrong"], []), [True, False, True])
+    same(asked(["desk"], ["wrong", "wrong-by-hand"], []), [True, True, False])
+    same(asked([], ["wrong"], [hand]), [False, True, False])
+    same(asked(["other"], ["wrong"], [hand]), [False, True, True])
