@@ -20,5 +20,6 @@ pub mod HeldLemmas
 pub mod AdoptLemmas
 pub mod CauseLemmas
 pub mod BlankLemmas
+pub mod EmptyLemmas
 pub mod ReopenLemmas
 pub mod SparingLemmas

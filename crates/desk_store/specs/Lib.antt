@@ -6,6 +6,7 @@ pub mod Lending
 pub mod Changing
 pub mod GroupPairs
 pub mod RawLists
+pub mod KeptOffers
 pub mod RuleTables
 pub mod Unreadable
 pub mod Breaking

@@ -18,7 +18,6 @@ mod raw_actions;
 mod raw_artifacts;
 mod raw_groups;
 mod raw_members;
-mod raw_numbers;
 mod raw_offers;
 mod raw_rollouts;
 mod raw_rules;

@@ -3,9 +3,13 @@
 ghost use Rattle.std.specs.Prelude.{◌+◌, ◌≡◌, ◌≤◌};
 ghost use Rattle.desk_records.specs.FeedbackNumbers.{last_number, numbers_numbered};
 ghost use Rattle.desk_records.specs.LedgerSteps.{AddsNumber};
-ghost use Rattle.desk_store.specs.Changing.{FindsLedger, MakesLedger, StaysIn};
+ghost use Rattle.desk_records.specs.Listings.{AreSaid, has_at};
+ghost use Rattle.desk_records.specs.Schema.{Numbers};
+ghost use Rattle.desk_store.specs.Blaming.{BlamesGiven, ReadsOf};
+ghost use Rattle.desk_store.specs.Changing.{FindsLedger, FindsTables, MakesLedger, StaysIn};
 ghost use Rattle.desk_store.specs.Counting.{AddsIn};
 ghost use Rattle.desk_store.specs.Failing.{FailsIn, WritesIn};
+ghost use Rattle.desk_store.specs.RawLists.{SaysNumber};
 
 use crate::change::OpenChange;
 use crate::reading::{last_number, read_all, read_optional};
@@ -27,12 +31,14 @@ impl<'a, S: Alter> OpenChange<'a, S> {
         read_optional(alloc, row)
     }
 
-    /// The numbers of an action, in the order of their places; none where there is no such action. A row that breaks a column's rule is a
-    /// failed store.
+    /// The numbers of an action, in the order of their places; none where there is no such action. Whatever rows there are, they are all that
+    /// the action has, and one that breaks a column's rule is a failed store.
     pub fn read_numbers(&mut self, action: ActionNo) -> Result<Vec<PlacedNumber>, Fault>
         ensures stays { StaysIn S.Store self.old self.new result }
         ensures reads { FindsLedger S.Store self.old self.new result (λ l found. found.items ≡ numbers_numbered l.numbers action) }
+        ensures tells { FindsTables S.Store self.old self.new result (λ t found. AreSaid (t Numbers) (has_at 1 action) SaysNumber found.items) }
         ensures fails { FailsIn S.Store self.old self.new result }
+        ensures blames { BlamesGiven S.Store (ReadsOf Numbers) self.old self.new result }
         ensures work { self.new.store.now.calls.work.statements ≤ self.old.store.now.calls.work.statements + 1 }
     {
         let alloc = self.store.alloc;

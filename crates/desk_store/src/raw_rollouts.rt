@@ -2,7 +2,7 @@
 
 ghost use Rattle.std.specs.Prelude.{pos};
 ghost use Rattle.sqlite_trees.specs.Tree.{has_rowid};
-ghost use Rattle.desk_records.specs.Listings.{FindsOne, IsLastNumber};
+ghost use Rattle.desk_records.specs.Listings.{FindsOne};
 ghost use Rattle.desk_records.specs.Schema.{Rollouts};
 ghost use Rattle.desk_records.specs.TableRows.{IsRollout};
 ghost use Rattle.desk_store.specs.Blaming.{BlamesGiven, ReadsOf};
@@ -10,24 +10,13 @@ ghost use Rattle.desk_store.specs.Changing.{FindsTables, StaysIn};
 ghost use Rattle.desk_store.specs.Counting.{AddsIn};
 
 use crate::change::OpenChange;
-use crate::reading::{last_number, read_at};
-use desk_records::{GET_ROLLOUT, LAST_ROLLOUT, StoredRollout};
+use crate::reading::read_at;
+use desk_records::{GET_ROLLOUT, StoredRollout};
 use rollout_model::RolloutNo;
 use sql_calls::Fault;
 use sqlite::{Alter, params};
 
 impl<'a, S: Alter> OpenChange<'a, S> {
-    /// The greatest number of a rollout, whatever rows there are.
-    pub fn find_last_rollout(&mut self) -> Result<u32, Fault>
-        ensures stays { StaysIn S.Store self.old self.new result }
-        ensures reads { FindsTables S.Store self.old self.new result (λ t last. IsLastNumber (t Rollouts) last) }
-        ensures blames { BlamesGiven S.Store (ReadsOf Rollouts) self.old self.new result }
-        ensures work { AddsIn 1 1 self.old self.new }
-    {
-        let row = self.first(LAST_ROLLOUT, &[])?;
-        last_number(row)
-    }
-
     /// The rollout of a number, whatever rows there are. A row that breaks a column's rule, or a second row of the number, is a failed store.
     pub fn find_rollout(&mut self, number: RolloutNo) -> Result<Option<StoredRollout>, Fault>
         ensures stays { StaysIn S.Store self.old self.new result }

@@ -6,9 +6,12 @@ ghost use Rattle.std.specs.Prelude.{◌≡◌, length};
 ghost use Rattle.rollout_machine.specs.ByteStrings.{item_numbered};
 ghost use Rattle.desk_records.specs.FeedbackNumbers.{last_number};
 ghost use Rattle.desk_records.specs.LedgerSteps.{AddsRollout, SetsRollout};
+ghost use Rattle.desk_records.specs.Listings.{IsLastNumber};
 ghost use Rattle.desk_records.specs.RolloutRow.{stored_rollout};
 ghost use Rattle.desk_records.specs.Rollouts.{is_called};
-ghost use Rattle.desk_store.specs.Changing.{FindsLedger, KeepsTables, MakesLedger, StaysIn};
+ghost use Rattle.desk_records.specs.Schema.{Rollouts};
+ghost use Rattle.desk_store.specs.Blaming.{BlamesGiven, ReadsOf};
+ghost use Rattle.desk_store.specs.Changing.{FindsLedger, FindsTables, KeepsTables, MakesLedger, StaysIn};
 ghost use Rattle.desk_store.specs.Counting.{AddsIn};
 ghost use Rattle.desk_store.specs.Failing.{FailsIn, WritesIn};
 
@@ -45,11 +48,13 @@ impl<'a, S: Alter> OpenChange<'a, S> {
         Ok(row.is_some())
     }
 
-    /// The number of the last rollout, which is how many there are.
+    /// The number of the last rollout, which is how many there are. Whatever rows there are, it is the greatest number.
     pub fn read_last_rollout(&mut self) -> Result<u32, Fault>
         ensures stays { StaysIn S.Store self.old self.new result }
         ensures reads { FindsLedger S.Store self.old self.new result (λ l last. last ≡ length l.records.rollouts) }
+        ensures tells { FindsTables S.Store self.old self.new result (λ t last. IsLastNumber (t Rollouts) last) }
         ensures fails { FailsIn S.Store self.old self.new result }
+        ensures blames { BlamesGiven S.Store (ReadsOf Rollouts) self.old self.new result }
         ensures work { AddsIn 1 1 self.old self.new }
     {
         let row = self.first(LAST_ROLLOUT, &[])?;

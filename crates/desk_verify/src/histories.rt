@@ -43,7 +43,7 @@ fn fits_history<S: Alter>(
     ensures blames { BlamesGiven S.Store ChecksActions change.old change.new result }
 {
     let given = find_given(change, action.number)?;
-    change.list_numbers(action.number)?;
+    change.read_numbers(action.number)?;
     Ok(is_fit(given, action.action.outcome))
 }
 

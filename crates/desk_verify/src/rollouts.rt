@@ -56,7 +56,7 @@ pub(crate) fn check_rollouts<T: ByRollout<S>, S: Alter>(
     ensures judges { FindsTables S.Store change.old change.new result (λ t count. JudgesAll T.table T.column T.is_right T.is_whole T.agrees t count) }
     ensures blames { BlamesGiven S.Store (IsGoneThrough T.table T.given) change.old change.new result }
 {
-    let last = change.find_last_rollout()?;
+    let last = change.read_last_rollout()?;
     let mut listed: u32 = 0;
     for before in 0..last {
         let rollout = rollout_of(change, before + 1)?;

@@ -2,7 +2,8 @@
 use Rattle.desk_views.proofs.Common.{◌≡◌, ℕ, Bool, true, false, cond, ◌&&◌, not, nat_eq, List, [], ◌∷◌, Option, Some, None, Result, Ok, Err, IfOk, refl, sym}
 use Rattle.desk_views.proofs.Common.{ap, subst, ◌∙◌, arith, list_any, nat_tests, and_parts, false≢true, is_offer_of, Bytes, Offer}
 use Rattle.desk_records.specs.Tables.{Tables}
-use Rattle.desk_views.specs.Kept.{AreKept, IsKept, IsKeptAs}
+use Rattle.desk_store.specs.KeptOffers.{IsKept, IsKeptAs}
+use Rattle.desk_views.specs.Kept.{AreKept}
 
 -- this action, so offered
 kept_as : (k : ℕ) (canceling : Bool) (o : Offer) → o.action ≡ k → o.canceling ≡ canceling → Some o ≡ Some (record { action = k; canceling = canceling })

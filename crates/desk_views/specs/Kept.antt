@@ -1,20 +1,9 @@
 -- What a device is told of its offer is what the table of offers keeps of it, whatever rows the tables have.
-use Rattle.std.specs.Prelude.{◌≡◌, ℕ, true, false, List, [], ◌∷◌, Option, Some}
-use Rattle.rollout_model.specs.declared.rollout.Offer.{Offer}
+use Rattle.std.specs.Prelude.{ℕ, true, List, [], ◌∷◌, Some}
 use Rattle.rollout_machine.specs.Commands.{Bytes}
 use Rattle.rollout_machine.specs.Replies.{Reply, CancelShown, ContentsShown, DeploymentShown, PollShown}
-use Rattle.desk_records.specs.Listings.{has_text_at}
-use Rattle.desk_records.specs.Schema.{Offers}
 use Rattle.desk_records.specs.Tables.{Tables}
-use Rattle.desk_store.specs.RawLists.{FindsFirst, SaysOfferOf}
-
--- a row keeps this offer of this id, or none keeps one
-abbrev pub IsKept : Tables → Bytes → Option Offer → Type 0
-IsKept t id offer = FindsFirst (t Offers) (has_text_at 1 id) (SaysOfferOf id) offer
-
--- a row keeps this action of this id, as a deployment
-abbrev pub IsKeptAs : Tables → Bytes → ℕ → Type 0
-IsKeptAs t id action = IsKept t id (Some (record { action = action; canceling = false }))
+use Rattle.desk_store.specs.KeptOffers.{IsKept, IsKeptAs}
 
 -- a deployment is kept of the id, where there is a module of one
 abbrev pub AreKept : Tables → Bytes → List ℕ → Type 0

@@ -14,9 +14,10 @@ ghost use Rattle.rollout_model.specs.declared.artifact.Artifact.{Artifact};
 ghost use Rattle.sql_calls.specs.declared.fault.Fault.TheVariants.{Memory};
 ghost use Rattle.desk_reads.specs.AtLists.{FailsAtListsIn};
 ghost use Rattle.desk_views.specs.Downloads.{downloadable, named};
-ghost use Rattle.desk_views.specs.Kept.{AreKept, IsKeptAs, TellsKept};
+ghost use Rattle.desk_views.specs.Kept.{AreKept, TellsKept};
 ghost use Rattle.desk_views.specs.Sizes.{AgreesIn, IsOfName, KeepsSize};
 ghost use Rattle.desk_store.specs.Changing.{FindsIn, KeepsTables, StaysIn};
+ghost use Rattle.desk_store.specs.KeptOffers.{IsKeptAs};
 
 use crate::artifacts::read_contents;
 use crate::devices::is_offer_of;

@@ -9,19 +9,11 @@ use Rattle.sql_calls.specs.Calls.{no_work}
 use Rattle.sqlite_store.specs.Laws.{stays_at}
 use Rattle.sqlite_wal.proofs.LogLemmas.{SeenMayStay}
 use Rattle.sqlite.specs.Steps.{IsEmpty}
-use Rattle.sql_front.specs.Free.{LeavesFree}
-use Rattle.desk_opening.proofs.BlankLemmas.{nothing_is_used}
-use Rattle.desk_records.specs.Schema.{desk_names}
-use Rattle.desk_opening.specs.Making.{HoldsStage, Free}
-use Rattle.sqlite.specs.Schema.{Schema}
-use Rattle.sqlite.specs.Table.{Table}
-use Rattle.sql_front.specs.Stands.{Stands}
-use Rattle.desk_opening.specs.declared.opening.OpenFault.{OpenFault}
-use Rattle.desk_opening.specs.declared.opening.OpenFault.TheVariants.{NotDesk, NewerVersion, Memory, Store}
-use Rattle.desk_opening.specs.Opening.{OpensDesk, IsSettled, IsFailure}
+use Rattle.desk_opening.specs.Opening.{OpensDesk, IsSettled}
 use Rattle.rollout_desk.specs.declared.desk.Desk.{Desk}
 use Rattle.desk_store.specs.declared.store.DeskStore.{DeskStore}
 use Rattle.rollout_desk.proofs.ApplyLemmas.{readable}
+use Rattle.desk_opening.proofs.EmptyLemmas.{empty_at_rest}
 
 stands : (s : State) (h : CommandList) → IsValid h → Rests HoldsRecords s (records h) → HasCleanDisk s → StandsFor (desk_state_at HoldsRecords false s) h
 stands s h valid rests clean =
@@ -63,42 +55,6 @@ module _ {D : Type 0} {g : disk.Ghosts D} (given old : Held (FileStore D g)) (sa
 
 -- ---- in memory
 
-empty_is_free : (s : State) → IsEmpty s → LeavesFree s.now.schema desk_names
-empty_is_free s e = nothing_is_used s.now.schema (ap (λ (x : Schema). x.tables) e.2) (ap (λ (x : Schema). x.indexes) e.2) (ap (λ (x : Schema). x.views) e.2)
-    desk_names
-
-empty_at_rest : (s : State) → IsSettled s → IsEmpty s → IsAtRest HoldsStage s Free
-empty_at_rest s settled e =
-    let opens = e.0 in
-    let sound = (e.1 opens.is_open).1 in
-    let free : LeavesFree s.now.schema desk_names = empty_is_free s e in
-    let kept : HoldsStage s.committed Free = (sound, subst (λ d. LeavesFree d.schema desk_names) opens.clean free) in
-    record {
-      mode = opens.autocommit;
-      held = record {
-        ended = λ _ _. opens.clean;
-        kept_holds = λ _. kept;
-        crash = λ db left. subst (λ t. HoldIn HoldsStage t Free) (sym (settled db opens.is_open left)) (s.committed.schema, kept);
-      };
-    }
-
 pub made_desk : {A : Type 0} (old new : State) (approval : Bool) (x : A) → IsSettled old → IsEmpty old → OpensDesk old new approval (Ok x) → HasCleanDisk new
     → StandsFor (desk_state_at HoldsRecords false new) (Make approval)
 made_desk old new approval x settled e h clean = stands new (Make approval) tt (h.makes (λ _. e.0.is_open) (λ _. empty_at_rest old settled e)) clean
-
-no_item : {X : Type 0} (at : ℕ) → slice_get {X = X} [] at ≡ None
-no_item zero = refl
-no_item (suc at) = refl
-
--- no table stands in an empty schema
-none_stands : (s : Schema) (name : List ℕ) (at : ℕ) (table : Table) → s.tables ≡ [] → Stands s name at table → ⊥
-none_stands s name at table none h = let is : None ≡ Some table = sym (no_item at) ∙ ap (λ (ts : List Table). slice_get ts at) (sym none) ∙ h.got in absurd (cc)
-
--- a database without tables is refused for no other reason
-pub fails_alone : {A : Type 0} (old new : State) (approval : Bool) (e : OpenFault) → IsEmpty old → HasCleanDisk new → OpensDesk {A = A} old new approval (Err e)
-    → IsFailure e
-fails_alone old new approval NotDesk empty clean h = (h.finds clean).used (empty_is_free old empty)
-fails_alone old new approval NewerVersion empty clean h = let it = h.finds clean in
-    none_stands old.now.schema _ it.table.at _ (ap (λ (s : Schema). s.tables) empty.2) it.table.stands
-fails_alone old new approval Memory empty clean h = tt
-fails_alone old new approval Store empty clean h = tt

@@ -8,7 +8,7 @@ use Rattle.sql_calls.specs.Standing.{Shows}
 use Rattle.rollout_machine.specs.Replies as shown
 use Rattle.rollout_model.specs.declared.request.Reply.{Reply}
 use Rattle.desk_views.specs.Showing.{ShowsIn}
-use Rattle.desk_views.specs.Kept.{IsKeptAs}
+use Rattle.desk_store.specs.KeptOffers.{IsKeptAs}
 use Rattle.desk_views.specs.Sizes.{AgreesIn, KeepsSize}
 
 every : {A E : Type 0} {P : A → Type 0} (out : Result A E) → ((a : A) → P a) → IfOk out P

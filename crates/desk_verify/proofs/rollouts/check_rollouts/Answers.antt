@@ -9,7 +9,7 @@ loop-before-init g c = record {
   stays = search rules;
   blames = search rules;
   judged =
-      finds_as c.in_ok-last.ensures.reads (λ t is. (is, none_yet g.T.ByRollout.table g.T.ByRollout.column g.T.ByRollout.is_right g.T.ByRollout.is_whole t));
+      finds_as c.in_ok-last.ensures.tells (λ t is. (is, none_yet g.T.ByRollout.table g.T.ByRollout.column g.T.ByRollout.is_right g.T.ByRollout.is_whole t));
 }
 
 pub returns-in_default-clause-judges : goal.returns-in_default-clause-judges

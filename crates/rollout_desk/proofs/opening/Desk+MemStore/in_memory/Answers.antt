@@ -1,7 +1,8 @@
 use Rattle.rollout_desk.proofs.Common.{state, HoldsRecords, Make, StandsFor, desk_state_at}
 use Rattle.sqlite.specs.Steps.{over_memory}
 use Rattle.sqlite.proofs.Callers.{memory_is_clean}
-use Rattle.rollout_desk.proofs.OpeningLemmas.{over_it, made_desk, fails_alone}
+use Rattle.desk_opening.proofs.EmptyLemmas.{fails_alone}
+use Rattle.rollout_desk.proofs.OpeningLemmas.{over_it, made_desk}
 use Rattle.rollout_desk.proofs.opening.Desk+MemStore.in_memory.Goals as goal
 
 pub returns-in-Ok-open_desk-clause-made : goal.returns-in-Ok-open_desk-clause-made
