@@ -1,4 +1,5 @@
-"""A bad day: a bad firmware that is mended, called back, counted and tried again. For page-cases, and not run by itself."""
+"""A bad day: a bad firmware that is mended, called back, counted and tried again. For page-cases,
+and not run by itself."""
 import time
 
 from steps import case, chosen, commands, compared, confirmed, entered, job_ended
@@ -29,7 +30,8 @@ def polled(room, device):
 
 
 def works(room, device):
-    """A device gives up what it is asked to, installs what it is offered, one after the other, and says what it installed in this order."""
+    """A device gives up what it is asked to, installs what it is offered, one after the other,
+    and says what it installed in this order."""
     token, installed = {"Authorization": f"TargetToken tok-{device}"}, []
     while True:
         word, action = polled(room, device)
@@ -51,12 +53,14 @@ def left_by_a_bad_one(room):
     room.plan("second", groups=1, success=100, error=100, set=GOOD, start=False)
 
 
-HANDED = "8 of 10 are handed os 1-bad first: their older action, of rollout 1 (first), is open, and a device is offered the oldest one."
+HANDED = ("8 of 10 are handed os 1-bad first: their older action, of rollout 1 (first), is open, "
+          "and a device is offered the oldest one.")
 
 
 @case()
 def a_mending_rollout_by_force(browser, room):
-    """Its question says who is handed the bad firmware first; ended by force, nobody is, and each device ends on the good one."""
+    """Its question says who is handed the bad firmware first; ended by force, nobody is,
+    and each device ends on the good one."""
     left_by_a_bad_one(room)
     entered(browser, room, "#/rollouts/2")
     chosen(browser, "[data-command=start]", "force", "Starts group 1: 10 devices are offered os 2-good.", HANDED)
@@ -70,12 +74,14 @@ def a_mending_rollout_by_force(browser, room):
 
 @case()
 def a_mending_rollout_that_asks(browser, room):
-    """Devices that are asked give the bad firmware up at their next poll, and then get the good one. One has been asked before, one finished."""
+    """Devices that are asked give the bad firmware up at their next poll, and then get the good one.
+    One has been asked before, one finished."""
     left_by_a_bad_one(room)
     room.api("DELETE", "/rest/v1/targets/dev-00003/actions/3")
     entered(browser, room, "#/rollouts/2")
     said = HANDED.replace("8 of 10", "7 of 10")
-    chosen(browser, "[data-command=start]", "ask", said, "1 is asked to give os 1-bad of rollout 1 (first) up: until they answer they install nothing else.",
+    chosen(browser, "[data-command=start]", "ask", said,
+           "1 is asked to give os 1-bad of rollout 1 (first) up: until they answer they install nothing else.",
            before=lambda: room.report(4, "success"))
     # the action of a device that finished meanwhile isn't canceled, and its name is told
     assert job_ended(browser).startswith("Cancel: 6 of 7 done.")
@@ -86,7 +92,8 @@ def a_mending_rollout_that_asks(browser, room):
 
 @case()
 def a_start_that_leaves_them(browser, room):
-    """One of the answers has to be chosen; nothing is canceled where that was chosen, and the start is sent. Not now sends nothing."""
+    """One of the answers has to be chosen; nothing is canceled where that was chosen, and the start is sent.
+    Not now sends nothing."""
     left_by_a_bad_one(room)
     entered(browser, room, "#/rollouts/2")
     browser.click("[data-command=start]")
@@ -111,13 +118,16 @@ def a_start_that_leaves_them(browser, room):
 
 @case()
 def behind_the_first_group(browser, room):
-    """Of the groups that start later it says how many have an older action too, and of a rollout that runs how many it will still offer."""
+    """Of the groups that start later it says how many have an older action too,
+    and of a rollout that runs how many it will still offer."""
     stocked(room, 12)
     room.plan("first", groups=2, success=100, error=100, set=BAD)
     room.plan("second", groups=3, success=100, error=100, set=GOOD, start=False)
     entered(browser, room, "#/rollouts/2")
-    words = ("4 of 4 are handed os 1-bad first: their older action, of rollout 1 (first), is open", "Of the groups behind it are 2 of 8.",
-             "6 wait in rollout 1 (first), which runs: it offers them os 1-bad when their group starts, unless it is paused.")
+    words = ("4 of 4 are handed os 1-bad first: their older action, of rollout 1 (first), is open",
+             "Of the groups behind it are 2 of 8.",
+             "6 wait in rollout 1 (first), which runs: it offers them os 1-bad when their group starts, "
+             "unless it is paused.")
     chosen(browser, "[data-command=start]", "force", *words)
     assert job_ended(browser) == "Cancel by force: 6 of 6 done."
     browser.until("document.querySelector('[data-command=pause]')")
@@ -133,25 +143,30 @@ def behind_the_first_group(browser, room):
 
 # presses the button that stops a job, once it has done more than twenty
 STOPPED_AT_20 = """
-const stop = () => { if (document.querySelector('#work [data-done]')?.dataset.done > 20) document.querySelector('#work button').click(); };
-new MutationObserver(stop).observe(document.getElementById('work'), {subtree: true, attributes: true, childList: true});"""
+const stop = () => { if (document.querySelector('#work [data-done]')?.dataset.done > 20) \
+document.querySelector('#work button').click(); };
+new MutationObserver(stop).observe(document.getElementById('work'), \
+{subtree: true, attributes: true, childList: true});"""
 
 
 @case()
 def two_hundred_called_back(browser, room):
-    """What is open is canceled, of a group and of a rollout: first asked, then by force, with its progress, and stopped in between."""
+    """What is open is canceled, of a group and of a rollout: first asked, then by force, with its progress,
+    and stopped in between."""
     count = 200
     stocked(room, count)
     room.plan("first", groups=2, success=100, error=100, set=BAD)
     room.api("POST", "/rest/v1/rollouts/1/triggerNextGroup")
     entered(browser, room, "#/rollouts/1/groups/2")
-    chosen(browser, "#cancel-open", "ask", "100 devices of group 2 of first have os 1-bad open.", "The rollout goes on: pause it first")
+    chosen(browser, "#cancel-open", "ask", "100 devices of group 2 of first have os 1-bad open.",
+           "The rollout goes on: pause it first")
     assert job_ended(browser) == "Cancel: 100 of 100 done."
     browser.until("[...document.querySelectorAll('.states a')].some((it) => it.innerText.includes('canceling 100'))")
     assert {it["group"] for it in room.actions() if it["state"] == "canceling"} == {"2"}
     entered(browser, room, "#/rollouts/1")
     browser.js(STOPPED_AT_20)
-    chosen(browser, "#cancel-open", "force", "200 devices of first have os 1-bad open, of which 100 are asked to give it up already.")
+    chosen(browser, "#cancel-open", "force",
+           "200 devices of first have os 1-bad open, of which 100 are asked to give it up already.")
     told = job_ended(browser)
     gone = sum(it["state"] == "canceled" for it in room.actions())
     assert told == f"Cancel by force: {gone} of 200 done. Stopped." and 20 < gone < 60, (told, gone)
@@ -181,7 +196,8 @@ def pausing_all(browser, room):
 
 
 def failed_in_two_ways(room, count):
-    """A group of so many: half of them say disk full, half bad signature, but for ten that have it still and ten that installed it."""
+    """A group of so many: half of them say disk full, half bad signature,
+    but for ten that have it still and ten that installed it."""
     stocked(room, count + 20)
     room.plan("first", groups=1, success=100, error=100, set=BAD)
     for k in range(1, count + 1):
@@ -193,30 +209,38 @@ def failed_in_two_ways(room, count):
 
 @case()
 def failed_first_with_their_words(browser, room):
-    """Members by state, the failed ones first with their last words, these counted; then all of them are tagged, and tried again on the tag."""
+    """Members by state, the failed ones first with their last words, these counted; then all of them are tagged,
+    and tried again on the tag."""
     count = 340
     failed_in_two_ways(room, count)
     entered(browser, room, "#/rollouts")
     browser.js("performance.setResourceTimingBufferSize(5000); location.hash = '#/rollouts/1/groups/1'")
-    browser.until("document.querySelectorAll('.words li').length === 2 && !document.querySelector('[data-read]')", seconds=180)
-    assert browser.texts(".words li") == [f"{count // 2} bad signature", f"{count // 2} disk full"], browser.texts(".words li")
-    assert [it.replace("\u202f", "") for it in browser.texts(".states a")] == [f"all {count + 20}", f"failed {count}", "running 10", "finished 10"]
+    browser.until("document.querySelectorAll('.words li').length === 2 && !document.querySelector('[data-read]')",
+                  seconds=180)
+    assert browser.texts(".words li") == [f"{count // 2} bad signature", f"{count // 2} disk full"], \
+        browser.texts(".words li")
+    assert ([it.replace("\u202f", "") for it in browser.texts(".states a")]
+            == [f"all {count + 20}", f"failed {count}", "running 10", "finished 10"])
     rows = browser.texts("tbody tr")
-    assert len(rows) == 50 and all("error" in it and ("disk full" if k % 2 else "bad signature") in it for k, it in enumerate(rows, 1)), rows[:3]
+    assert len(rows) == 50 and all("error" in it and ("disk full" if k % 2 else "bad signature") in it
+                                   for k, it in enumerate(rows, 1)), rows[:3]
     histories = [name for name, _, _ in browser.asked() if name.endswith("/status?limit=500")]
     assert len(histories) == len(set(histories)) == count
     asked_where_it_changed(browser, room, count)
     browser.click(".words li:nth-child(2) a")
-    browser.until("document.querySelectorAll('tbody tr').length === 50 && !document.querySelector('tbody').innerText.includes('disk full')")
+    browser.until("document.querySelectorAll('tbody tr').length === 50 && "
+                  "!document.querySelector('tbody').innerText.includes('disk full')")
     browser.click(".states a:nth-child(2)")
     browser.until(f"document.querySelector('nav.pager').innerText.includes('of {count + 1}')")
-    assert len([it for it in browser.asked() if it[0].endswith("/status?limit=500")]) == count + 1, "a history is asked for twice"
+    assert len([it for it in browser.asked() if it[0].endswith("/status?limit=500")]) == count + 1, \
+        "a history is asked for twice"
     browser.open("details:has(#tag-members)")
     tried_again(browser, room, count + 1)
 
 
 def asked_where_it_changed(browser, room, count):
-    """The table is asked for once more where the group's counts change, and never else; of a further failure only its history is."""
+    """The table is asked for once more where the group's counts change, and never else;
+    of a further failure only its history is."""
     table = "performance.getEntriesByType('resource').filter((it) => it.name.endsWith('/rollouts/1/actions')).length"
     assert browser.js(f"return {table}") == 1
     group = "performance.getEntriesByType('resource').filter((it) => it.name.endsWith('/deploygroups/1')).length"
@@ -224,7 +248,8 @@ def asked_where_it_changed(browser, room, count):
     browser.until(f"{group} >= arguments[0]", seen + 2, seconds=90)
     assert browser.js(f"return {table}") == 1, "the table is asked for again and again"
     room.report(count + 11, "failure", ["disk full"])
-    browser.until(f"{table} === 2 && [...document.querySelectorAll('.words li')].some((it) => it.innerText === '{count // 2 + 1} disk full')", seconds=90)
+    browser.until(f"{table} === 2 && [...document.querySelectorAll('.words li')].some((it) => it.innerText "
+                  f"=== '{count // 2 + 1} disk full')", seconds=90)
 
 
 def tried_again(browser, room, count):
@@ -237,18 +262,21 @@ def tried_again(browser, room, count):
     assert room.api("GET", "/rest/v1/targets?q=tag==retry-1")["total"] == count
     browser.click("#work a")
     browser.until(f"document.querySelector('[data-matching=\"{count}\"]') && document.querySelector('#plan li')")
-    assert browser.text("h1") == "New rollout, like first" and browser.js("return document.getElementById('rollout-filter').value") == "tag==retry-1"
+    assert (browser.text("h1") == "New rollout, like first"
+            and browser.js("return document.getElementById('rollout-filter').value") == "tag==retry-1")
     browser.type("#rollout-name", "again")
     browser.click("#new-rollout button.main")
     browser.until("location.hash === '#/rollouts/2'")
     made = room.api("GET", "/rest/v1/rollouts/2")
-    assert (made["totalTargets"], made["totalGroups"], made["distributionSetId"], made["targetFilterQuery"]) == (count, 1, BAD, "tag==retry-1"), made
+    assert ((made["totalTargets"], made["totalGroups"], made["distributionSetId"], made["targetFilterQuery"])
+            == (count, 1, BAD, "tag==retry-1")), made
     assert "start" in commands(browser)
 
 
 @case()
 def tags_on_many(browser, room):
-    """The result of a filter and a list that was pasted are tagged and untagged; what is refused is told with those that it met."""
+    """The result of a filter and a list that was pasted are tagged and untagged;
+    what is refused is told with those that it met."""
     stocked(room, 120)
     for k in range(15):
         room.api("POST", f"/rest/v1/targets/dev-00007/tags/t-{k}")
@@ -269,7 +297,9 @@ def tags_on_many(browser, room):
     assert job_ended(browser).startswith("Untag: retry: 3 of 4 done.")
     assert "gone-1: Refused, number 3: there is nothing of this number or name (any more)." in browser.text("#work")
     tagged = [it for it in tagged if it not in ("dev-00002", "dev-00003", "dev-00004")]
-    assert [it["controllerId"] for it in room.api("GET", "/rest/v1/targets?q=tag==retry&limit=500")["content"]] == tagged
+    assert ([it["controllerId"] for it in room.api("GET", "/rest/v1/targets?q=tag==retry&limit=500")["content"]]
+            == tagged)
     browser.type("#tag-list", "dev-00002 dev/3")
     browser.click("#tag-pasted button[value=put]")
-    browser.until("document.querySelector('details:has(#tag-pasted)').innerText.includes(\"Nothing was sent, since 1 word of the list can't be an id: dev/3\")")
+    browser.until("document.querySelector('details:has(#tag-pasted)').innerText.includes(\"Nothing was sent, "
+                  "since 1 word of the list can't be an id: dev/3\")")

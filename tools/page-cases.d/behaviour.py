@@ -1,11 +1,13 @@
-"""How the page behaves: names as text, controls, how often it asks, a server that fails. For page-cases, and not run by itself."""
+"""How the page behaves: names as text, controls, how often it asks, a server that fails. For page-cases,
+and not run by itself."""
 import time
 
 from processes import LOGIN, ended
 from steps import case, compared, confirmed, entered
 
 # the roles of what is worked with or looked at: each has to have a name
-NAMED = set("button link textbox searchbox spinbutton combobox checkbox image img dialog progressbar DisclosureTriangle region".split())
+NAMED = set("button link textbox searchbox spinbutton combobox checkbox image img dialog progressbar "
+            "DisclosureTriangle region".split())
 
 
 @case()
@@ -15,12 +17,15 @@ def hostile_names(browser, room):
     room.fleet(0, f'dev-00001,{bad},tok-dev-00001,\n')
     room.plan(f"</h1><script>window.hit=1</script>{bad}", groups=1)
     token = {"Authorization": "TargetToken tok-dev-00001"}
-    assert room.ask("PUT", "/DEFAULT/controller/v1/dev-00001/configData", {"data": {"os": f"{bad}'\"&amp;"}}, token)[0] == 200
+    assert room.ask("PUT", "/DEFAULT/controller/v1/dev-00001/configData", {"data": {"os": f"{bad}'\"&amp;"}},
+                    token)[0] == 200
     room.report(1, "failure", [f"{bad}<b>bold</b>", "javascript:window.hit=1"])
     device = "#/targets/dev-00001"
-    for place in ("#/rollouts", "#/rollouts/1", "#/rollouts/1/groups/1", "#/targets", device, f"{device}/actions/1", "#/rollouts/9", "#/targets/%3Cimg%3E"):
+    for place in ("#/rollouts", "#/rollouts/1", "#/rollouts/1/groups/1", "#/targets", device, f"{device}/actions/1",
+                  "#/rollouts/9", "#/targets/%3Cimg%3E"):
         entered(browser, room, place)
-        assert browser.js("return window.hit === undefined && !document.querySelector('main img, main script, main b')"), place
+        assert browser.js("return window.hit === undefined && "
+                          "!document.querySelector('main img, main script, main b')"), place
     entered(browser, room, "#/rollouts/1")
     assert browser.text("h1") == f"</h1><script>window.hit=1</script>{bad}"
     entered(browser, room, "#/targets")
@@ -37,27 +42,33 @@ PLACES = (
 
 @case()
 def a_name_for_each_control(browser, room):
-    """In the accessibility tree each control, link, picture and dialog has a name; the page is 360 px wide without scrolling; the keys lead through it."""
+    """In the accessibility tree each control, link, picture and dialog has a name; the page is 360 px wide without
+    scrolling; the keys lead through it."""
     room.fleet(8)
     room.api("POST", "/rest/v1/softwaremodules", [{"name": "app", "type": "os", "version": "2.0"}])
     room.plan(groups=4, error=100)
     room.report(1, "failure", ["a long line of words that a device said of its disk"])
-    condition = {"successCondition": {"condition": "THRESHOLD", "expression": "50"}, "errorCondition": {"condition": "THRESHOLD", "expression": "5"}}
+    condition = {"successCondition": {"condition": "THRESHOLD", "expression": "50"},
+                 "errorCondition": {"condition": "THRESHOLD", "expression": "5"}}
     groups = [{"targetPercentage": it} for it in (20, 100)]
-    room.api("POST", "/rest/v1/rollouts", {"name": "own", "distributionSetId": 1, "targetFilterQuery": "tag==lab", "groups": groups, **condition})
+    room.api("POST", "/rest/v1/rollouts",
+             {"name": "own", "distributionSetId": 1, "targetFilterQuery": "tag==lab", "groups": groups, **condition})
     for place in PLACES:
         entered(browser, room, place)
         browser.js("document.querySelectorAll('details').forEach((it) => (it.open = true))")
         tree = [it for it in browser.devtools("Accessibility.getFullAXTree")["nodes"] if not it["ignored"]]
         roles = [it["role"]["value"] for it in tree]
-        nameless = [it["role"]["value"] for it in tree if it["role"]["value"] in NAMED and not it.get("name", {}).get("value", "").strip()]
-        assert not nameless and roles.count("main") == 1 and roles.count("heading") >= 1 and "navigation" in roles, (place, nameless)
+        nameless = [it["role"]["value"]
+                    for it in tree if it["role"]["value"] in NAMED and not it.get("name", {}).get("value", "").strip()]
+        assert not nameless and roles.count("main") == 1 and roles.count("heading") >= 1 and "navigation" in roles, \
+            (place, nameless)
         browser.size(360, 800)
         wide = browser.js("return document.documentElement.scrollWidth")
         # each value of a table is seen, with its column's name
         cells = "return [...document.querySelectorAll('td:not(:empty), td *')]"
         beyond = browser.js(f"{cells}.filter((it) => it.getBoundingClientRect().right > 360).map((it) => it.innerText)")
-        heads = browser.js(f"{cells}.filter((it) => it.tagName === 'TD' && getComputedStyle(it, '::before').content === 'none').length")
+        heads = browser.js(f"{cells}.filter((it) => it.tagName === 'TD' && "
+                           "getComputedStyle(it, '::before').content === 'none').length")
         browser.size(1100, 900)
         assert wide <= 360 and not beyond and not heads, f"{place} is {wide} px wide; {beyond}; {heads}"
     entered(browser, room, "#/rollouts/1")
@@ -99,7 +110,8 @@ def a_login_in_the_address(browser, room):
 
 @case()
 def asked_gently(browser, room):
-    """A rollout of many devices in 50 groups from three requests, two each time after; none at the same time; none while it is hidden; fewer after failures."""
+    """A rollout of many devices in 50 groups from three requests, two each time after; none at the same time; none
+    while it is hidden; fewer after failures."""
     room.fleet(room.order.devices)
     room.plan(groups=50)
     entered(browser, room, "#/rollouts/1")
@@ -109,7 +121,8 @@ def asked_gently(browser, room):
     compared(browser, room)
     browser.forget()
     began = time.monotonic()
-    browser.until("performance.getEntriesByType('resource').filter((it) => it.name.includes('/rest/')).length >= 4", seconds=30)
+    browser.until("performance.getEntriesByType('resource').filter((it) => it.name.includes('/rest/')).length >= 4",
+                  seconds=30)
     assert time.monotonic() - began > 5, "it asks too often"
     spans = sorted(it[1:] for it in browser.asked())
     assert len(spans) == 4 and all(end <= after + 1 for (_, end), (after, _) in zip(spans, spans[1:])), spans
@@ -119,7 +132,8 @@ def asked_gently(browser, room):
     browser.ask("POST", "/window", {"handle": other})
     time.sleep(2)
     browser.ask("POST", "/window", {"handle": this})
-    browser.js("Object.defineProperty(document, 'hidden', {configurable: true, value: true}); document.dispatchEvent(new Event('visibilitychange'))")
+    browser.js("Object.defineProperty(document, 'hidden', {configurable: true, value: true}); "
+               "document.dispatchEvent(new Event('visibilitychange'))")
     time.sleep(6)
     browser.forget()
     time.sleep(11)
@@ -143,9 +157,11 @@ VIEWS = (
 # (the observer of an earlier look would go on, and tell that look's time)
 WATCH = """window.seen = null; const began = performance.now(); const [address, title] = arguments;
 const eye = new MutationObserver(() => {
-  if (document.querySelector('h1')?.innerText === title && location.hash === address) { window.seen = performance.now() - began; eye.disconnect(); }
+  if (document.querySelector('h1')?.innerText === title && location.hash === address) \
+{ window.seen = performance.now() - began; eye.disconnect(); }
 });
-eye.observe(document.getElementById('main'), {subtree: true, childList: true, characterData: true}); location.hash = address;"""
+eye.observe(document.getElementById('main'), {subtree: true, childList: true, characterData: true}); \
+location.hash = address;"""
 
 
 def seconds_to(browser, address, title):
@@ -159,7 +175,8 @@ def seconds_to(browser, address, title):
 
 @case()
 def a_large_fleet(browser, room):
-    """10,000 devices in 50 groups: each view within half a second, and at most three requests each five seconds. The machine has to have little else to do."""
+    """10,000 devices in 50 groups: each view within half a second, and at most three requests each five seconds. The
+    machine has to have little else to do."""
     room.fleet(room.order.devices)
     room.plan("first", groups=50, success=100, error=100)
     room.plan("second", groups=50, start=False)
@@ -192,7 +209,8 @@ def a_server_that_is_away(browser, room):
     browser.until("document.querySelector('#banner .notice')")
     assert "the proxy answers 502" in browser.text("#banner") and browser.text("h1") == "spring"
     browser.forget()
-    browser.until("performance.getEntriesByType('resource').filter((it) => it.name.includes('/rest/')).length >= 2", seconds=40)
+    browser.until("performance.getEntriesByType('resource').filter((it) => it.name.includes('/rest/')).length >= 2",
+                  seconds=40)
     first, second = sorted(it[1] for it in browser.asked())[:2]
     assert second - first > 15_000, "it doesn't ask less often"
     room.server = room.serve()

@@ -17,21 +17,26 @@ class Browser:
 
     def __init__(self):
         self.port, self.path = free_port(), ""
-        self.child = subprocess.Popen(["chromedriver", f"--port={self.port}"], stdout=subprocess.DEVNULL, stderr=subprocess.DEVNULL, start_new_session=True)
+        self.child = subprocess.Popen(["chromedriver", f"--port={self.port}"], stdout=subprocess.DEVNULL,
+                                      stderr=subprocess.DEVNULL, start_new_session=True)
         listens(self.port, self.child)
-        words = ["--headless=new", "--no-sandbox", "--disable-dev-shm-usage", "--hide-scrollbars", "--ignore-certificate-errors"]
-        wanted = {"browserName": "chrome", "acceptInsecureCerts": True, "goog:chromeOptions": {"args": words}, "goog:loggingPrefs": {"browser": "ALL"}}
+        words = ["--headless=new", "--no-sandbox", "--disable-dev-shm-usage", "--hide-scrollbars",
+                 "--ignore-certificate-errors"]
+        wanted = {"browserName": "chrome", "acceptInsecureCerts": True, "goog:chromeOptions": {"args": words},
+                  "goog:loggingPrefs": {"browser": "ALL"}}
         self.path = f"/session/{self.ask('POST', '/session', {'capabilities': {'alwaysMatch': wanted}})['sessionId']}"
         self.size(1100, 900)
 
     def ask(self, method, path, body=None):
         driver = http.client.HTTPConnection(HOST, self.port, timeout=60)
         try:
-            driver.request(method, self.path + path, None if body is None else json.dumps(body), {"Content-Type": "application/json"})
+            driver.request(method, self.path + path, None if body is None else json.dumps(body),
+                           {"Content-Type": "application/json"})
             value = json.loads(driver.getresponse().read())["value"]
         finally:
             driver.close()
-        assert not (isinstance(value, dict) and "error" in value), f"{method} {path}: {value['error']}: {value['message'].splitlines()[0]}"
+        assert not (isinstance(value, dict) and "error" in value), \
+            f"{method} {path}: {value['error']}: {value['message'].splitlines()[0]}"
         return value
 
     def end(self):
@@ -56,7 +61,8 @@ class Browser:
         return self.ask("POST", "/goog/cdp/execute", {"cmd": command, "params": values})
 
     def size(self, width, height):
-        self.devtools("Emulation.setDeviceMetricsOverride", width=width, height=height, deviceScaleFactor=1, mobile=False)
+        self.devtools("Emulation.setDeviceMetricsOverride", width=width, height=height,
+                      deviceScaleFactor=1, mobile=False)
 
     def scheme(self, word):
         self.devtools("Emulation.setEmulatedMedia", features=[{"name": "prefers-color-scheme", "value": word}])
@@ -107,11 +113,13 @@ class Browser:
 
     def faults(self):
         """What the browser complains of, but for the refusals that the page shows itself."""
-        return [it["message"] for it in self.ask("POST", "/se/log", {"type": "browser"}) if it["source"] != "network" and it["level"] != "INFO"]
+        return [it["message"] for it in self.ask("POST", "/se/log", {"type": "browser"})
+                if it["source"] != "network" and it["level"] != "INFO"]
 
     def asked(self, part=r"/(rest|desk)/v1"):
         """When each request of the page began and ended."""
-        entries = self.js("return performance.getEntriesByType('resource').map((it) => [it.name, it.startTime, it.responseEnd])")
+        entries = self.js("return performance.getEntriesByType('resource').map((it) => [it.name, it.startTime, "
+                          "it.responseEnd])")
         return [(name, began, end) for name, began, end in entries if re.search(part, name)]
 
     def forget(self):

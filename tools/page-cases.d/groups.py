@@ -3,7 +3,8 @@ from steps import case, confirmed, entered
 
 
 def groups_of(room, rollout):
-    return [(it["size"], it["success"], it["error"]) for it in room.api("GET", f"/rest/v1/rollouts/{rollout}/deploygroups")["content"]]
+    return [(it["size"], it["success"], it["error"])
+            for it in room.api("GET", f"/rest/v1/rollouts/{rollout}/deploygroups")["content"]]
 
 
 def drawn(browser):
@@ -31,7 +32,8 @@ def a_canary_in_four_clicks(browser, room):
     assert marks == [f"Group {k}: {size} waiting, of {size}; success at {success} %, a pause at {error} % bad"
                      for k, size, success, error in ((1, 3, 90, 5), (2, 21, 90, 5), (3, 181, 80, 10))], marks
     browser.click("#new-rollout button.main")
-    confirmed(browser, "[data-command=start]", "Starts group 1: 3 devices are offered r2 1.0.", "Later: 202 devices in 2 groups.")
+    confirmed(browser, "[data-command=start]", "Starts group 1: 3 devices are offered r2 1.0.",
+              "Later: 202 devices in 2 groups.")
     browser.until("document.querySelector('[data-command=pause]')")
     assert groups_of(room, 1) == [(3, 90, 5), (21, 90, 5), (181, 80, 10)], groups_of(room, 1)
     assert room.api("GET", "/rest/v1/rollouts/1")["status"] == "running"
@@ -44,7 +46,8 @@ def typed_in(browser, group, **values):
 
 @case()
 def groups_one_by_one(browser, room):
-    """Groups are added, taken out and drawn as the server cuts them, with the thresholds that each was given; what it would refuse is said before."""
+    """Groups are added, taken out and drawn as the server cuts them, with the thresholds that each was given; what it
+    would refuse is said before."""
     room.fleet(10)
     opened(browser, room, 10)
     browser.type("#rollout-name", "own")
@@ -53,7 +56,8 @@ def groups_one_by_one(browser, room):
     browser.click("#add-group")
     browser.click("#add-group")
     assert browser.js("return document.querySelectorAll('.own li').length") == 4
-    assert browser.js("return document.activeElement === document.querySelector(\"[data-row='3'] .percentage\")"), "the new group isn't where one types"
+    assert browser.js("return document.activeElement === document.querySelector(\"[data-row='3'] .percentage\")"), \
+        "the new group isn't where one types"
     typed_in(browser, 1, percentage=10, success=100, error=1)
     typed_in(browser, 2, percentage=50, success=40, error=34)
     browser.click("[aria-label='Take group 3 out']")
@@ -84,12 +88,15 @@ def refused_before_it_is_sent(browser, room):
 
 @case()
 def a_rollout_like_another(browser, room):
-    """Set, filter, groups and thresholds are filled in: of even groups their number, of others percentages that cut them alike."""
+    """Set, filter, groups and thresholds are filled in: of even groups their number,
+    of others percentages that cut them alike."""
     room.fleet(1000)
     condition = lambda percent: {"condition": "THRESHOLD", "expression": str(percent)}
     both = lambda success, error: {"successCondition": condition(success), "errorCondition": condition(error)}
-    groups = [{"targetPercentage": it, **both(success, error)} for it, success, error in ((1, 95, 3), (10, 90, 5), (25, 70, 8), (100, 60, 9))]
-    room.api("POST", "/rest/v1/rollouts", {"name": "own", "distributionSetId": 1, "targetFilterQuery": "tag==lab", "groups": groups, **both(60, 9)})
+    groups = [{"targetPercentage": it, **both(success, error)}
+              for it, success, error in ((1, 95, 3), (10, 90, 5), (25, 70, 8), (100, 60, 9))]
+    room.api("POST", "/rest/v1/rollouts",
+             {"name": "own", "distributionSetId": 1, "targetFilterQuery": "tag==lab", "groups": groups, **both(60, 9)})
     room.plan("even", groups=7, success=66, error=33, start=False)
     for number, name in ((1, "own"), (2, "even")):
         entered(browser, room, f"#/rollouts/{number}")

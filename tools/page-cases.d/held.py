@@ -3,7 +3,8 @@ from browser import Browser
 from processes import LOGIN
 from steps import case, confirmed, entered
 
-PLACES = ("#/rollouts", "#/rollouts/new", "#/rollouts/1", "#/rollouts/1/groups/1", "#/targets", "#/targets/dev-00001", "#/firmware")
+PLACES = ("#/rollouts", "#/rollouts/new", "#/rollouts/1", "#/rollouts/1/groups/1", "#/targets",
+          "#/targets/dev-00001", "#/firmware")
 
 
 def polled(room):
@@ -15,7 +16,8 @@ def polled(room):
 
 @case()
 def the_brake(browser, room):
-    """It is pressed with a reason, and a second browser shows who, since when and why, on each view; released there, the first one shows that."""
+    """It is pressed with a reason, and a second browser shows who, since when and why, on each view; released there,
+    the first one shows that."""
     room.brake()
     room.fleet(2)
     room.plan(groups=1)
@@ -36,9 +38,11 @@ def the_brake(browser, room):
         browser.until("document.querySelector('#held .notice') && !document.getElementById('hold')")
         assert polled(room) == ([], 503)
         told = room.api("GET", "/fwdesk/brake")
-        assert (told["brake"]["who"], told["brake"]["reason"], told["quiet"]) == (LOGIN[0], 'it "doesn\'t" boot <b>&', None), told
+        assert ((told["brake"]["who"], told["brake"]["reason"], told["quiet"])
+                == (LOGIN[0], 'it "doesn\'t" boot <b>&', None)), told
         since = other.js("return new Date(arguments[0]).toLocaleString()", told["brake"]["since"])
-        words = f"Everything is held: by {LOGIN[0]}, since {since}: it \"doesn't\" boot <b>&. No device is told of a deployment."
+        words = (f"Everything is held: by {LOGIN[0]}, since {since}: "
+                 "it \"doesn't\" boot <b>&. No device is told of a deployment.")
         other.until("document.querySelector('#held .notice') && !document.getElementById('hold')")
         for place in PLACES:
             entered(other, room, place)
@@ -73,7 +77,9 @@ def no_brake_behind_nginx(browser, room):
     """nginx alone has none: the page offers none, and doesn't go on asking for it."""
     room.fleet(1)
     entered(browser, room, "#/targets")
-    browser.until("performance.getEntriesByType('resource').filter((it) => it.name.endsWith('/v1/targets?offset=0&limit=50')).length >= 3 || "
-                  "performance.getEntriesByType('resource').filter((it) => it.name.includes('/rest/v1/targets')).length >= 3")
+    browser.until("performance.getEntriesByType('resource').filter((it) => "
+                  "it.name.endsWith('/v1/targets?offset=0&limit=50')).length >= 3 || "
+                  "performance.getEntriesByType('resource').filter((it) => "
+                  "it.name.includes('/rest/v1/targets')).length >= 3")
     asked = "performance.getEntriesByType('resource').filter((it) => it.name.includes('/fwdesk/brake')).length"
     assert browser.js(f"return {asked}") == 1 and not browser.js("return document.getElementById('hold')")

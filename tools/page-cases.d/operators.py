@@ -1,6 +1,8 @@
-"""Operators as a keeper writes them into the proxies' configurations: for page-cases and roles, and not run by itself."""
+"""Operators as a keeper writes them into the proxies' configurations: for page-cases and roles,
+and not run by itself."""
 
-# what a configuration has for its one operator, and what it has in place of that: some first line, and a line for each, or for each in a group
+# what a configuration has for its one operator, and what it has in place of that: some first line, and a line for each,
+# or for each in a group
 ALONE = (
     ("    user anna password @PASSWORD@\n", "", "    user {0} password @PASSWORD@\n", False),
     (
@@ -14,9 +16,12 @@ ALONE = (
 
 
 def with_operators(text, operators):
-    """A configuration with these operators, each with his groups, in place of the one that it comes with, if it asks for operators."""
+    """A configuration with these operators, each with his groups, in place of the one that it comes with,
+    if it asks for operators."""
     changed = text
     for alone, first, line, grouped in ALONE if operators else ():
-        changed = changed.replace(alone, first + "".join(line.format(*it) for it in operators.items() if it[1] or not grouped))
-    assert changed != text or not operators or not ("userlist" in text or "auth_basic" in text), "the configuration has its operators otherwise"
+        changed = changed.replace(alone,
+                                  first + "".join(line.format(*it) for it in operators.items() if it[1] or not grouped))
+    assert changed != text or not operators or not ("userlist" in text or "auth_basic" in text), \
+        "the configuration has its operators otherwise"
     return changed

@@ -1,8 +1,10 @@
-"""Who may what: the page offers no button in vain, and shows the words of a refusal. For page-cases, and not run by itself."""
+"""Who may what: the page offers no button in vain, and shows the words of a refusal. For page-cases,
+and not run by itself."""
 from servers import HOST
 from steps import case, commands, confirmed, entered
 
-OPERATORS = {"anna": "look,steer", "ben": "look,approve", "cleo": "look,hold", "wall": "look", "otto": "", "zoe": "look,steer,approve,hold"}
+OPERATORS = {"anna": "look,steer", "ben": "look,approve", "cleo": "look,hold", "wall": "look", "otto": "",
+             "zoe": "look,steer,approve,hold"}
 # where the page has what changes something: the place, and what is there for who plans and steers
 STEERED = {
     "#/rollouts": ("a[href='#/rollouts/new']", "#pause-all"),
@@ -29,7 +31,8 @@ def shown(browser, place):
 
 def buttons(browser):
     """The buttons and forms of what is shown, but for those that only show something."""
-    found = "return [...document.querySelectorAll('main button, main form:not([role=search]), main input[type=file]')].map((it) => it.id || it.innerText)"
+    found = ("return [...document.querySelectorAll('main button, main form:not([role=search]), "
+             "main input[type=file]')].map((it) => it.id || it.innerText)")
     return [it for it in browser.js(found) if it and not it.startswith(SHOWS)]
 
 
@@ -60,7 +63,8 @@ def roles(browser, room):
     room.api("POST", "/rest/v1/rollouts/1/start")
     room.api("POST", "/rest/v1/softwaremodules", [{"name": "app", "type": "os", "version": "2.0"}])
     room.plan(name="summer", groups=1, start=False)
-    who = {"anna": "anna may look, steer", "ben": "ben may look, approve", "cleo": "cleo may look, hold", "wall": "wall may look", "zoe": "zoe"}
+    who = {"anna": "anna may look, steer", "ben": "ben may look, approve", "cleo": "cleo may look, hold",
+           "wall": "wall may look", "zoe": "zoe"}
     offered = {"anna": [], "ben": ["approve", "deny"], "cleo": [], "wall": [], "zoe": ["approve", "deny"]}
     for name, words in who.items():
         entered(browser, room, "#/rollouts/2", name)
@@ -77,7 +81,8 @@ def roles(browser, room):
     room.api("DELETE", "/fwdesk/brake?kind=brake")
     # a page that is open while somebody's groups are taken away
     entered(browser, room, "#/rollouts/2", "ben")
-    browser.js("window.fetch = new Proxy(window.fetch, {apply: (it, of, [at, how]) => it.call(of, at.replace('approve', 'start'), how)})")
+    browser.js("window.fetch = new Proxy(window.fetch, {apply: "
+               "(it, of, [at, how]) => it.call(of, at.replace('approve', 'start'), how)})")
     confirmed(browser, "[data-command=approve]", "Lets summer be started.")
     browser.until("document.querySelector('#notice').innerText.includes('Not done: this login may not plan or steer.')")
     assert not browser.text("#banner"), browser.text("#banner")

@@ -19,7 +19,8 @@ def a_rollout_that_pauses_by_itself(browser, room):
     assert "Created: spring, 12 devices in 3 groups." in browser.text("#notice")
     assert commands(browser) == ["start"]
     compared(browser, room)
-    confirmed(browser, "[data-command=start]", "Starts group 1: 4 devices are offered r2 1.0.", "Later: 8 devices in 2 groups.")
+    confirmed(browser, "[data-command=start]", "Starts group 1: 4 devices are offered r2 1.0.",
+              "Later: 8 devices in 2 groups.")
     browser.until("document.querySelector('[data-command=pause]')")
     assert commands(browser) == ["pause", "triggerNextGroup"]
     for action, word in ((1, "success"), (2, "success"), (5, "failure")):
@@ -41,19 +42,23 @@ def a_rollout_that_pauses_by_itself(browser, room):
     entered(browser, room, "#/rollouts")
     assert "the errors of group 2" in browser.text(".card .cause") and len(browser.texts(".card .strip li")) == 3
     entered(browser, room, "#/rollouts/1")
-    confirmed(browser, "[data-command=resume]", "Ends the pause. Group 3 starts once 2 of 4 in group 2 succeeded; 0 did so far.")
+    confirmed(browser, "[data-command=resume]",
+              "Ends the pause. Group 3 starts once 2 of 4 in group 2 succeeded; 0 did so far.")
     browser.until("document.querySelector('[data-command=pause]')")
     for action in (7, 8, 4, *range(9, 13)):
         room.report(action, "success")
     groups = compared(browser, room)
     assert [it["status"] for it in groups] == ["finished"] * 3 and commands(browser) == []
-    saved = browser.js("return Promise.all([...document.querySelectorAll('.files a')].map((it) => fetch(it.href).then((got) => got.text())))")
-    assert saved[0].startswith("rollout 1 spring\nstate finished\n") and saved[1].startswith("action,controllerid,group,state\n1,dev-00001,1,finished\n")
+    saved = browser.js("return Promise.all([...document.querySelectorAll('.files a')].map((it) => "
+                       "fetch(it.href).then((got) => got.text())))")
+    assert (saved[0].startswith("rollout 1 spring\nstate finished\n")
+            and saved[1].startswith("action,controllerid,group,state\n1,dev-00001,1,finished\n"))
 
 
 @case()
 def members_and_histories(browser, room):
-    """The members of a group page by page with their states, an action with what its device said, and the numbers that it gave."""
+    """The members of a group page by page with their states, an action with what its device said,
+    and the numbers that it gave."""
     room.fleet(120)
     room.plan(groups=2)
     for _ in range(2):
@@ -63,17 +68,22 @@ def members_and_histories(browser, room):
     room.report(2, "failure")
     entered(browser, room, "#/rollouts/1/groups/1")
     rows = browser.texts("tbody tr")
-    assert len(rows) == 50 and "error" in rows[0] and "Device 2" in rows[0] and all("running" in it for it in rows[1:]), rows[:3]
-    kept = [it["controllerId"] for it in room.api("GET", "/rest/v1/rollouts/1/deploygroups/1/targets?limit=500")["content"]]
+    assert (len(rows) == 50 and "error" in rows[0] and "Device 2" in rows[0]
+            and all("running" in it for it in rows[1:])), rows[:3]
+    kept = [it["controllerId"]
+            for it in room.api("GET", "/rest/v1/rollouts/1/deploygroups/1/targets?limit=500")["content"]]
     order = [kept[1], *kept[2:], kept[0]]
     assert browser.texts("tbody td:first-child") == order[:50]
     browser.click("nav.pager a:last-child")
     browser.until("document.querySelectorAll('tbody tr').length === 10")
     assert browser.texts("tbody td:first-child") == order[50:] and "finished" in browser.texts("tbody tr")[-1]
     entered(browser, room, "#/targets/dev-00001/actions/1")
-    assert browser.texts(".history .details li") == ["line one", "line two"] and "closed, success" in browser.text(".history")
-    numbers = browser.js("return [...document.querySelectorAll('.history > li')].map((it) => it.querySelector('[data-number]')?.innerText ?? '')")
-    assert [it.replace("\u202f", " ").strip() for it in numbers] == ["number 1 234 567", "", "number 4 294 967 295"], numbers
+    assert (browser.texts(".history .details li") == ["line one", "line two"]
+            and "closed, success" in browser.text(".history"))
+    numbers = browser.js("return [...document.querySelectorAll('.history > li')].map((it) => "
+                         "it.querySelector('[data-number]')?.innerText ?? '')")
+    assert [it.replace("\u202f", " ").strip() for it in numbers] == ["number 1 234 567", "", "number 4 294 967 295"], \
+        numbers
 
 
 @case()
@@ -106,7 +116,8 @@ def actions_that_are_canceled(browser, room):
     assert room.api("GET", "/rest/v1/targets/dev-00001/actions/1")["status"] == "canceled"
     entered(browser, room, "#/rollouts/1")
     compared(browser, room)
-    confirmed(browser, "[data-command=triggerNextGroup]", "Starts group 2: 2 devices are offered r2 1.0.", "doesn't wait for the success of group 1")
+    confirmed(browser, "[data-command=triggerNextGroup]", "Starts group 2: 2 devices are offered r2 1.0.",
+              "doesn't wait for the success of group 1")
     browser.until("!document.querySelector('[data-command=triggerNextGroup]')")
     confirmed(browser, "[data-command=pause]", "Withdraws no offer: 3 devices may still install.")
     browser.until("document.querySelector('main .cause')")
@@ -155,7 +166,8 @@ def filters_that_are_refused(browser, room):
         assert browser.text("#rollout-filter-told mark").replace("␣", "") == text[at:], text
     for text, total in {"name==*": 3, 'controllerid==dev-00001,name=="Device 2"': 2, "((tag==none))": 0}.items():
         browser.type("#rollout-filter", text)
-        browser.until("document.querySelector('#rollout-filter-told [data-matching]')?.dataset.matching === arguments[0]", str(total))
+        browser.until("document.querySelector('#rollout-filter-told [data-matching]')?.dataset.matching "
+                      "=== arguments[0]", str(total))
     browser.until("document.querySelector('#plan').innerText.includes('fill')")
     entered(browser, room, "#/targets?q=tag%3D%3D")
     assert "Refused, number 11" in browser.text("main")

@@ -1,4 +1,5 @@
-"""A new desk behind a proxy of docs/operating/, and what an operator and devices ask of it: for page-cases, and not run by itself."""
+"""A new desk behind a proxy of docs/operating/, and what an operator and devices ask of it: for page-cases,
+and not run by itself."""
 import base64
 import csv
 import http.client
@@ -16,21 +17,25 @@ from servers import HOST, free_port
 
 # what the configuration of many fleets has, for two of them that are one desk
 FLEETS = {r"(?m)^    http-request redirect location /page/": """
-    http-request return status 200 content-type application/json string '{"operator":"anna","fleets":["acme","other"]}' if { path /fleets }
+    http-request return status 200 content-type application/json string \
+'{"operator":"anna","fleets":["acme","other"]}' if { path /fleets }
     http-request replace-path /fleets/[^/]+/?(.*) /\\1 if { path_beg /fleets/ }
     http-request redirect location /page/"""}
 
 
 class Room:
-    """A new desk behind a proxy. `operators` are those of its groups, and `edits` what else a keeper writes into a configuration."""
+    """A new desk behind a proxy. `operators` are those of its groups,
+    and `edits` what else a keeper writes into a configuration."""
 
-    def __init__(self, order, folder, proxy="haproxy", approval=False, limit=None, fleets=False, operators=None, edits=None):
+    def __init__(self, order, folder, proxy="haproxy", approval=False, limit=None, fleets=False,
+                 operators=None, edits=None):
         self.order, self.folder, self.approval, self.fleets = order, Path(folder), approval, fleets
         self.login = LOGIN
         self.operators, self.edits = operators or {}, edits or (lambda _, text: text)
         self.port, self.behind = free_port(), free_port()
         self.children = []
-        self.client = http.client.HTTPSConnection(HOST, self.port, timeout=PATIENCE, context=ssl._create_unverified_context())
+        self.client = http.client.HTTPSConnection(HOST, self.port, timeout=PATIENCE,
+                                                  context=ssl._create_unverified_context())
         # the browser and the proxies read this folder as users of their own
         self.folder.chmod(0o755)
         try:
@@ -41,14 +46,17 @@ class Room:
             raise
 
     def start(self, words, port, **how):
-        child = subprocess.Popen(list(map(str, words)), stdout=open(self.folder / "said", "ab"), stderr=open(self.folder / "errors", "ab"), **how)
+        child = subprocess.Popen(list(map(str, words)), stdout=open(self.folder / "said", "ab"),
+                                 stderr=open(self.folder / "errors", "ab"), **how)
         self.children.append(child)
         listens(port, child)
         return child
 
     def serve(self, limit=None):
-        words = [self.order.program, "serve", "--db", self.folder / "desk.db", "--port", self.behind, "--connections", 1000000, "--interface", "both"]
-        how = {"preexec_fn": lambda: resource.setrlimit(resource.RLIMIT_FSIZE, (limit, limit)), "restore_signals": False} if limit else {}
+        words = [self.order.program, "serve", "--db", self.folder / "desk.db", "--port", self.behind, "--connections",
+                 1000000, "--interface", "both"]
+        how = {"preexec_fn": lambda: resource.setrlimit(resource.RLIMIT_FSIZE, (limit, limit)),
+               "restore_signals": False} if limit else {}
         return self.start([*words, *(["--approval"] if self.approval else [])], self.behind, **how)
 
     def end(self):
@@ -58,7 +66,8 @@ class Room:
 
     def certificate(self):
         key, crt = self.folder / "server.key", self.folder / "server.crt"
-        words = "req -x509 -nodes -newkey ec -pkeyopt ec_paramgen_curve:prime256v1 -days 2 -subj /CN=localhost -addext subjectAltName=IP:127.0.0.1".split()
+        words = ("req -x509 -nodes -newkey ec -pkeyopt ec_paramgen_curve:prime256v1 -days 2 -subj /CN=localhost "
+                 "-addext subjectAltName=IP:127.0.0.1".split())
         subprocess.run(["openssl", *words, "-keyout", key, "-out", crt], check=True, stderr=subprocess.DEVNULL)
         (self.folder / "server.pem").write_text(crt.read_text() + key.read_text())
 
@@ -73,7 +82,8 @@ class Room:
         return self.folder / name
 
     def password(self):
-        return subprocess.run(["openssl", "passwd", "-6", LOGIN[1]], check=True, stdout=subprocess.PIPE, text=True).stdout.strip()
+        return subprocess.run(["openssl", "passwd", "-6", LOGIN[1]], check=True, stdout=subprocess.PIPE,
+                              text=True).stdout.strip()
 
     def haproxy(self):
         self.certificate()
@@ -98,7 +108,8 @@ class Room:
         """fwdesk-brake behind its socket, as fwdesk-brake.socket has it."""
         own = (f"FWDESK_BRAKE_FILE={self.folder}/held.map", f"FWDESK_BRAKE_SOCKETS={self.folder}/admin.sock")
         given = [word for it in own for word in ("-E", it)]
-        words = ["systemd-socket-activate", "--accept", "--inetd", "-l", self.folder / "brake.sock", *given, self.order.operating / "fwdesk-brake", "serve"]
+        words = ["systemd-socket-activate", "--accept", "--inetd", "-l", self.folder / "brake.sock", *given,
+                 self.order.operating / "fwdesk-brake", "serve"]
         self.children.append(subprocess.Popen(list(map(str, words)), stderr=open(self.folder / "errors", "ab")))
         until = time.monotonic() + PATIENCE
         while not (self.folder / "brake.sock").exists():
@@ -107,7 +118,8 @@ class Room:
 
     def nginx(self):
         self.certificate()
-        (self.folder / "operators").write_text("".join(f"{it}:{self.password()}\n" for it in {LOGIN[0]: "", **self.operators}))
+        (self.folder / "operators").write_text("".join(f"{it}:{self.password()}\n"
+                                                       for it in {LOGIN[0]: "", **self.operators}))
         part = self.configured("nginx.conf", {
             r"listen 8443 ssl": f"listen {HOST}:{self.port} ssl",
             r"/etc/fwdesk": str(self.folder),
@@ -115,7 +127,8 @@ class Room:
             r"/usr/share/fwdesk/page": f"{ROOT}/page",
             r"syslog:server=unix:/dev/log,nohostname": f"{self.folder}/audit",
         })
-        paths = "".join(f"{it}_temp_path {self.folder}/{it};" for it in ("client_body", "proxy", "fastcgi", "uwsgi", "scgi"))
+        paths = "".join(f"{it}_temp_path {self.folder}/{it};"
+                        for it in ("client_body", "proxy", "fastcgi", "uwsgi", "scgi"))
         http = f"access_log off; {paths} include /etc/nginx/mime.types; include {part};"
         whole = f"daemon off; user root; pid {self.folder}/pid; error_log stderr; events {{}} http {{ {http} }}"
         (self.folder / "whole.conf").write_text(whole)
@@ -164,14 +177,16 @@ class Room:
     def plan(self, name="spring", groups=3, success=50, error=50, start=True, set=1):
         condition = lambda percent: {"condition": "THRESHOLD", "expression": str(percent)}
         plan = {"name": name, "distributionSetId": set, "targetFilterQuery": "name==*", "amountGroups": groups}
-        made = self.api("POST", "/rest/v1/rollouts", plan | {"successCondition": condition(success), "errorCondition": condition(error)})
+        made = self.api("POST", "/rest/v1/rollouts",
+                        plan | {"successCondition": condition(success), "errorCondition": condition(error)})
         if start:
             self.api("POST", f"/rest/v1/rollouts/{made['id']}/start")
         return made
 
     def report(self, action, word, details=(), execution="closed", number=None):
         device = f"dev-{action:05}"
-        body = {"status": {"execution": execution, "result": {"finished": word}, "details": list(details)}, **({"number": number} if number else {})}
+        body = {"status": {"execution": execution, "result": {"finished": word}, "details": list(details)},
+                **({"number": number} if number else {})}
         path = f"/DEFAULT/controller/v1/{device}/deploymentBase/{action}/feedback"
         told = self.ask("POST", path, body, {"Authorization": f"TargetToken tok-{device}"})
         assert told[0] == 200, told

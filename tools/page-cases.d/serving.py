@@ -33,11 +33,14 @@ def served_behind_the_login(_, room):
     assert room.ask("POST", "/rest/v1/softwaremodules", [module[0] | {"version": "2"}])[0] == 201
     # a browser that is too old for that field says its origin; the scheme and the port belong to it
     ours = f"https://{HOST}:{room.port}"
-    for origin in ("https://elsewhere.example", "null", f"http://{HOST}:{room.port}", f"https://{HOST}", f"{ours}.elsewhere.example"):
+    for origin in ("https://elsewhere.example", "null", f"http://{HOST}:{room.port}", f"https://{HOST}",
+                   f"{ours}.elsewhere.example"):
         for field in ({}, {"Sec-Fetch-Site": "same-origin"}):
-            assert room.ask("POST", "/rest/v1/softwaremodules", module, login | {"Origin": origin} | field)[0] == 403, origin
+            assert room.ask("POST", "/rest/v1/softwaremodules", module, login | {"Origin": origin} | field)[0] == 403, \
+                origin
     assert room.ask("GET", "/rest/v1/softwaremodules", fields=login | {"Origin": "https://elsewhere.example"})[0] == 200
-    assert room.ask("POST", "/rest/v1/softwaremodules", [module[0] | {"version": "3"}], login | {"Origin": ours})[0] == 201
+    assert room.ask("POST", "/rest/v1/softwaremodules", [module[0] | {"version": "3"}],
+                    login | {"Origin": ours})[0] == 201
 
 
 @case()
@@ -56,9 +59,12 @@ def one_of_many_fleets(browser, room):
     browser.go(room.address("#/rollouts/1").replace("/page/", "/fleets/acme/page/"))
     confirmed(browser, "[data-command=start]", "Starts group 1: 3 devices are offered r2 1.0.")
     browser.until("document.querySelector('[data-command=pause]')")
-    assert all("/fleets/acme/rest/v1/" in it[0] for it in browser.asked()) and room.api("GET", "/rest/v1/rollouts/1")["status"] == "running"
-    assert all("/fleets/acme/desk/v1/rollouts/1/" in it for it in browser.js("return [...document.querySelectorAll('.files a')].map((it) => it.href)"))
-    fleets = browser.js("return [...document.querySelectorAll('#fleets a')].map((it) => [it.innerText, it.pathname, it.ariaCurrent])")
+    assert (all("/fleets/acme/rest/v1/" in it[0] for it in browser.asked())
+            and room.api("GET", "/rest/v1/rollouts/1")["status"] == "running")
+    assert all("/fleets/acme/desk/v1/rollouts/1/" in it
+               for it in browser.js("return [...document.querySelectorAll('.files a')].map((it) => it.href)"))
+    fleets = browser.js("return [...document.querySelectorAll('#fleets a')].map((it) => [it.innerText, it.pathname, "
+                        "it.ariaCurrent])")
     assert fleets == [["acme", "/fleets/acme/page/", "page"], ["other", "/fleets/other/page/", "false"]], fleets
 
 

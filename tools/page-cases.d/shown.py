@@ -6,11 +6,13 @@ from processes import PICTURES, ROOT
 from steps import case, confirmed, entered
 
 # what devices say that failed
-WORDS = ("disk full", "signature of pump-control.raucb is not valid", "disk full", "valve 3 doesn't answer after the restart")
+WORDS = ("disk full", "signature of pump-control.raucb is not valid", "disk full",
+         "valve 3 doesn't answer after the restart")
 
 
 def on_a_bad_day(browser, room):
-    """The question at the start of a rollout whose devices have an older one open, and the members of a group that failed in two ways."""
+    """The question at the start of a rollout whose devices have an older one open,
+    and the members of a group that failed in two ways."""
     room.api("POST", "/rest/v1/softwaremodules", [{"name": "pump-control", "type": "firmware", "version": "2.2"}])
     room.api("POST", "/rest/v1/distributionsets", [{"name": "pumps", "version": "2.2", "modules": [{"id": 2}]}])
     room.plan("pumps 2.2, which mends 2.1", groups=8, success=80, error=10, start=False, set=2)
@@ -59,7 +61,8 @@ def pictures(browser, room):
 @case(room=False)
 def the_tour(browser, order):
     """examples/first-rollout --page: the rollout pauses by itself within a minute, and is resumed on the page."""
-    child = subprocess.Popen([ROOT / "examples/first-rollout", "--page", "--program", order.program], stdout=subprocess.PIPE, text=True)
+    child = subprocess.Popen([ROOT / "examples/first-rollout", "--page", "--program", order.program],
+                             stdout=subprocess.PIPE, text=True)
     try:
         address = next((it.split()[-1] for it in child.stdout if it.startswith("the page: ")), None)
         assert address, "it prints no address"

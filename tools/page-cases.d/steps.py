@@ -26,7 +26,8 @@ def entered(browser, room, place="", name=LOGIN[0]):
 def shown_counts(browser, selector):
     """The numbers that the page shows, by their parts."""
     of_part = "({part: it.dataset.count, count: Number(it.innerText.replace(/\\D/g, ''))})"
-    parts = browser.js(f"return [...document.querySelectorAll(arguments[0] + ' [data-count]')].map((it) => {of_part})", selector)
+    parts = browser.js(f"return [...document.querySelectorAll(arguments[0] + ' [data-count]')].map((it) => {of_part})",
+                       selector)
     return {it["part"]: it["count"] for it in parts}
 
 
@@ -37,12 +38,14 @@ def compared(browser, room, rollout=1):
     total = {part: sum(it[part] for it in groups) for part in ("ok", "bad", "gone")}
     left = lambda it: it["size"] - it["ok"] - it["bad"] - it["gone"]
     waits = lambda it: it["status"] in ("ready", "scheduled")
-    total |= {"open": sum(left(it) for it in groups if not waits(it)), "waiting": sum(left(it) for it in groups if waits(it))}
+    total |= {"open": sum(left(it) for it in groups if not waits(it)),
+              "waiting": sum(left(it) for it in groups if waits(it))}
     limit = time.monotonic() + 12
     while shown_counts(browser, "main") != total and time.monotonic() < limit:
         time.sleep(0.2)
     assert shown_counts(browser, "main") == total, (shown_counts(browser, "main"), total)
-    browser.until("document.querySelector('main .badge').innerText.includes(arguments[0])", status.replace("_", " "), seconds=8)
+    browser.until("document.querySelector('main .badge').innerText.includes(arguments[0])",
+                  status.replace("_", " "), seconds=8)
     for it in groups:
         shown = browser.text(f"[data-group='{it['id']}']").replace("\u202f", "")
         assert it["status"] in shown and f"{it['size']} device" in shown, (it, shown)

@@ -21,7 +21,8 @@ def an_import_with_a_wrong_line(browser, room):
         browser.until(f"{is_line} && {is_shown}", str(line), shown)
         assert "Refused, number 14" in browser.text("#import-told")
     assert room.api("GET", "/rest/v1/targets")["total"] == 0
-    (room.folder / "right.csv").write_text("controllerid,name,token,tags\n" + "".join(f"dev-{k},Lab {k},tok-dev-{k},lab north\n" for k in range(60)))
+    (room.folder / "right.csv").write_text("controllerid,name,token,tags\n"
+                                           + "".join(f"dev-{k},Lab {k},tok-dev-{k},lab north\n" for k in range(60)))
     browser.type("#import-file", str(room.folder / "right.csv"))
     browser.click("details:has(#import-file) button")
     browser.until("document.querySelector('#import-told').innerText.includes('Imported: 60 devices.')")
@@ -43,23 +44,33 @@ FAULTY = {
     "cut": (HEADER + ONE[:-1], 0, "The last line of the file has no line feed at its end: add one."),
     "carriage": (HEADER + ONE[:-1] + b"\r", 0, "The last line of the file has no line feed at its end: add one."),
     "utf16": (b"\xff\xfe" + (HEADER + ONE).decode().encode("utf-16-le"), 0, "The file is in UTF-16: save it as UTF-8."),
-    "utf16be": (b"\xfe\xff" + (HEADER + ONE).decode().encode("utf-16-be"), 1, "The file is in UTF-16: save it as UTF-8."),
+    "utf16be": (b"\xfe\xff" + (HEADER + ONE).decode().encode("utf-16-be"), 1,
+                "The file is in UTF-16: save it as UTF-8."),
     "blank": (b"\n\r\n", 1, "The file has no record, not even controllerid,name,token,tags."),
-    "semicolons": ((HEADER + ONE).replace(b",", b";"), 1, "Line 1 has to be controllerid,name,token,tags; it is controllerid;name;token;tags"),
-    "gaps": (HEADER + b"\n\n" + ONE + b"dev-2,Lab,tok,lab\n", 3, "Record 3, at line 5 of the file, is dev-2,Lab,tok,lab"),
-    "crlf": (HEADER.replace(b"\n", b"\r\n") + b"\r\n" + ONE + b"dev-2,,tok-dev-2,\n", 3, "Record 3, at line 4 of the file, is dev-2,,tok-dev-2,"),
+    "semicolons": ((HEADER + ONE).replace(b",", b";"), 1,
+                   "Line 1 has to be controllerid,name,token,tags; it is controllerid;name;token;tags"),
+    "gaps": (HEADER + b"\n\n" + ONE + b"dev-2,Lab,tok,lab\n", 3,
+             "Record 3, at line 5 of the file, is dev-2,Lab,tok,lab"),
+    "crlf": (HEADER.replace(b"\n", b"\r\n") + b"\r\n" + ONE + b"dev-2,,tok-dev-2,\n", 3,
+             "Record 3, at line 4 of the file, is dev-2,,tok-dev-2,"),
     "mark": (b"\xef\xbb\xbf" + HEADER + ONE + ONE, 3, "Line 3 is dev-1,Lab,tok-dev-1,lab"),
-    "quoted": (HEADER + b'dev-1,"a ""b"", c",tok-dev-1,\n' + b"dev 2,Lab,tok-dev-2,\n", 3, "Line 3 is dev 2,Lab,tok-dev-2,"),
-    "lines": (HEADER + b"\n" + ONE + b'dev-2,"a\nb",tok-dev-2,\ndev-3,Lab,tok-dev-3,\n', 3, 'Record 3, at line 4 of the file, is dev-2,"a b",tok-dev-2,'),
-    "unclosed": (HEADER + ONE + b'dev-2,"Lab,tok-dev-2,\ndev-3,Lab,tok-dev-3,\n', 3, 'Line 3 is dev-2,"Lab,tok-dev-2, dev-3,Lab,tok-dev-3,'),
-    "inside": (HEADER + b'dev-1,La"b,tok-dev-1,\n' + b"dev-2,Lab,tok-dev-2,lab lab\n", 3, "Line 3 is dev-2,Lab,tok-dev-2,lab lab"),
-    "latin": (HEADER + ONE + b"dev-2,K\xe4the,tok-dev-2,\n", 3, "Line 3 is dev-2,K\ufffdthe,tok-dev-2, It has bytes that aren't UTF-8."),
+    "quoted": (HEADER + b'dev-1,"a ""b"", c",tok-dev-1,\n' + b"dev 2,Lab,tok-dev-2,\n", 3,
+               "Line 3 is dev 2,Lab,tok-dev-2,"),
+    "lines": (HEADER + b"\n" + ONE + b'dev-2,"a\nb",tok-dev-2,\ndev-3,Lab,tok-dev-3,\n', 3,
+              'Record 3, at line 4 of the file, is dev-2,"a b",tok-dev-2,'),
+    "unclosed": (HEADER + ONE + b'dev-2,"Lab,tok-dev-2,\ndev-3,Lab,tok-dev-3,\n', 3,
+                 'Line 3 is dev-2,"Lab,tok-dev-2, dev-3,Lab,tok-dev-3,'),
+    "inside": (HEADER + b'dev-1,La"b,tok-dev-1,\n' + b"dev-2,Lab,tok-dev-2,lab lab\n", 3,
+               "Line 3 is dev-2,Lab,tok-dev-2,lab lab"),
+    "latin": (HEADER + ONE + b"dev-2,K\xe4the,tok-dev-2,\n", 3,
+              "Line 3 is dev-2,K\ufffdthe,tok-dev-2, It has bytes that aren't UTF-8."),
 }
 
 
 @case()
 def imports_word_by_word(browser, room):
-    """Each faulty file is refused as docs/API.md has it, and what the page says of it is so. One that is too large isn't sent."""
+    """Each faulty file is refused as docs/API.md has it, and what the page says of it is so.
+    One that is too large isn't sent."""
     entered(browser, room, "#/targets")
     browser.open("details:has(#import-file)")
     for name, (data, line, words) in FAULTY.items():
@@ -70,7 +81,8 @@ def imports_word_by_word(browser, room):
         browser.click("details:has(#import-file) button")
         said = f"Refused, number 14: a line of the file is wrong, and nothing of it was imported. {words}"
         try:
-            browser.until("document.querySelector('#import-told').innerText.replace(/\\s+/g, ' ').trim() === arguments[0]", said, seconds=15)
+            browser.until("document.querySelector('#import-told').innerText.replace(/\\s+/g, "
+                          "' ').trim() === arguments[0]", said, seconds=15)
         except AssertionError:
             raise AssertionError(f"{name}: {browser.text('#import-told')!r} in place of {said!r}") from None
     assert room.api("GET", "/rest/v1/targets")["total"] == 0
@@ -78,7 +90,8 @@ def imports_word_by_word(browser, room):
     browser.forget()
     browser.type("#import-file", str(room.folder / "large.csv"))
     browser.click("details:has(#import-file) button")
-    words = "large.csv has 4\u202f800\u202f029 bytes, and the server takes at most 4\u202f194\u202f304: nothing was sent."
+    words = ("large.csv has 4\u202f800\u202f029 bytes, and the server takes at most 4\u202f194\u202f304: "
+             "nothing was sent.")
     browser.until("document.querySelector('#import-told').innerText.includes(arguments[0])", words)
     assert not browser.asked("import"), "a file that is too large is sent"
 
@@ -90,11 +103,14 @@ def uploads_word_by_word(browser, room):
     entered(browser, room, "#/firmware/modules/1")
     browser.find("#upload-file")
     browser.js("window.sent = 0; const send = XMLHttpRequest.prototype.open;"
-               "XMLHttpRequest.prototype.open = function (...words) { window.sent += 1; return send.apply(this, words); }")
+               "XMLHttpRequest.prototype.open = function (...words) { window.sent += 1; "
+               "return send.apply(this, words); }")
     (room.folder / "my file (1).bin").write_bytes(b"abc")
     (room.folder / "large.bin").write_bytes(bytes(4_194_305))
-    taken = "can't be a name on the server, which takes 1 to 128 of A-Z a-z 0-9 . _ -: type another one. Nothing was sent."
-    large = "large.bin has 4\u202f194\u202f305 bytes, and the server takes at most 4\u202f194\u202f304: nothing was sent."
+    taken = ("can't be a name on the server, which takes 1 to 128 of A-Z a-z 0-9 . _ -: type another one. "
+             "Nothing was sent.")
+    large = ("large.bin has 4\u202f194\u202f305 bytes, and the server takes at most 4\u202f194\u202f304: "
+             "nothing was sent.")
     for name, words in (("my file (1).bin", f"\u201cmy file (1).bin\u201d {taken}"), ("large.bin", large)):
         browser.type("#upload-file", str(room.folder / name))
         browser.until("document.querySelector('#upload-told').innerText === arguments[0]", words)
@@ -113,38 +129,48 @@ def uploads_word_by_word(browser, room):
 
 @case()
 def a_set_is_asked_about(browser, room):
-    """It says which modules are locked, and which have no file, before it is made; none chosen, or nine, is said before it is sent."""
+    """It says which modules are locked, and which have no file, before it is made; none chosen, or nine,
+    is said before it is sent."""
     for k in range(1, 61):
         room.api("POST", "/rest/v1/softwaremodules", [{"name": f"part-{k}", "type": "os", "version": "1.0"}])
     room.api("POST", "/rest/v1/softwaremodules/60/artifacts?filename=a.bin", b"abc")
     entered(browser, room, "#/firmware")
     newest = [f"part-{k} 1.0" for k in range(60, 10, -1)]
-    assert browser.texts("[aria-label=Modules] td:first-child") == newest and "the newest 50 of 60" in browser.text("main")
+    assert (browser.texts("[aria-label=Modules] td:first-child") == newest
+            and "the newest 50 of 60" in browser.text("main"))
     browser.open("details:has(#new-set)")
     browser.type("#set-name", "os")
     browser.type("#set-version", "3")
     browser.click("#new-set > button")
-    browser.until("document.querySelector('#notice').innerText.includes('Nothing was sent: a set has 1 to 8 modules, and none is chosen.')")
-    browser.js("[...document.querySelectorAll('#new-set input[type=checkbox]')].slice(0, 9).forEach((it) => (it.checked = true))")
+    browser.until("document.querySelector('#notice').innerText.includes('Nothing was sent: a set has 1 to 8 modules, "
+                  "and none is chosen.')")
+    browser.js("[...document.querySelectorAll('#new-set input[type=checkbox]')].slice(0, "
+               "9).forEach((it) => (it.checked = true))")
     browser.click("#new-set > button")
-    browser.until("document.querySelector('#notice').innerText.includes('Nothing was sent: a set has 1 to 8 modules, and 9 are chosen.')")
-    browser.js("[...document.querySelectorAll('#new-set input[type=checkbox]')].slice(1, 9).forEach((it) => (it.checked = false))")
+    browser.until("document.querySelector('#notice').innerText.includes('Nothing was sent: a set has 1 to 8 modules, "
+                  "and 9 are chosen.')")
+    browser.js("[...document.querySelectorAll('#new-set input[type=checkbox]')].slice(1, "
+               "9).forEach((it) => (it.checked = false))")
     browser.type("#firmware-search", "PART-7")
     browser.until("document.querySelectorAll('[aria-label=Modules] tbody tr').length === 1")
-    assert [it.strip() for it in browser.texts("#set-modules label")] == ["part-60 1.0", "part-7 1.0"], "what is chosen isn't to be seen"
+    assert [it.strip() for it in browser.texts("#set-modules label")] == ["part-60 1.0", "part-7 1.0"], \
+        "what is chosen isn't to be seen"
     browser.click("#set-modules label:nth-child(2)")
     browser.click("#new-set > button")
     browser.until("document.getElementById('dialog').open")
     assert browser.texts("#dialog-words p") == ["Locks part-7 1.0, part-60 1.0 for good: they take no further file.",
-                                                "Without a file: part-7 1.0. Devices are offered nothing to install of it."], browser.texts("#dialog-words p")
+                                                "Without a file: part-7 1.0. Devices are offered nothing "
+                                                "to install of it."], browser.texts("#dialog-words p")
     browser.press("\ue00c")
     browser.until("!document.getElementById('dialog').open")
-    assert room.api("GET", "/rest/v1/distributionsets")["total"] == 0 and not room.api("GET", "/rest/v1/softwaremodules/7")["locked"]
+    assert (room.api("GET", "/rest/v1/distributionsets")["total"] == 0
+            and not room.api("GET", "/rest/v1/softwaremodules/7")["locked"])
     confirmed(browser, "#new-set > button", "Locks part-7 1.0, part-60 1.0 for good")
     browser.until("document.querySelector('#notice').innerText.includes('Added: set 1, os 3.')")
     assert room.api("GET", "/rest/v1/distributionsets/1")["modules"] == [{"id": 7}, {"id": 60}]
     browser.type("#firmware-search", "os 3")
-    browser.until("document.querySelectorAll('[aria-label=Sets] tbody tr').length === 1 && !document.querySelector('[aria-label=Modules]')")
+    browser.until("document.querySelectorAll('[aria-label=Sets] tbody tr').length === 1 && "
+                  "!document.querySelector('[aria-label=Modules]')")
 
 
 @case()
@@ -159,14 +185,18 @@ def an_upload(browser, room):
     data = os.urandom(700_000)
     (room.folder / "image.bin").write_bytes(data)
     browser.js("const send = XMLHttpRequest.prototype.open;"
-               "XMLHttpRequest.prototype.open = function (...words) { window.sent = words[1]; return send.apply(this, words); };"
-               "const look = () => { window.seen = Math.max(window.seen, document.querySelector('progress')?.value ?? 0); };"
-               "window.seen = 0; new MutationObserver(look).observe(document.body, {subtree: true, childList: true, characterData: true});")
+               "XMLHttpRequest.prototype.open = function (...words) { window.sent = words[1]; "
+               "return send.apply(this, words); };"
+               "const look = () => { window.seen = Math.max(window.seen, "
+               "document.querySelector('progress')?.value ?? 0); };"
+               "window.seen = 0; new MutationObserver(look).observe(document.body, {subtree: true, childList: true, "
+               "characterData: true});")
     browser.type("#upload-file", str(room.folder / "image.bin"))
     browser.click("#upload button")
     digest = hashlib.sha256(data).hexdigest()
     browser.until("document.querySelector('tbody code')?.innerText === arguments[0]", digest)
-    assert f"sha256={digest}" in browser.js("return window.sent") and browser.js("return window.seen") == 1, "the progress isn't shown"
+    assert f"sha256={digest}" in browser.js("return window.sent") and browser.js("return window.seen") == 1, \
+        "the progress isn't shown"
     assert "700\u202f000 bytes" in browser.text("#notice") and digest in browser.text("#notice")
     assert room.api("GET", "/rest/v1/softwaremodules/1/artifacts")["content"][0]["hashes"]["sha256"] == digest
     browser.type("#upload-file", str(room.folder / "image.bin"))
@@ -178,7 +208,8 @@ def an_upload(browser, room):
     browser.type("#upload-name", "second.bin")
     browser.click("#upload button")
     browser.until("document.querySelectorAll('tbody tr').length === 2")
-    assert "sha256" not in browser.js("return window.sent") and "the browser computed no SHA-256" in browser.text("#notice")
+    assert ("sha256" not in browser.js("return window.sent")
+            and "the browser computed no SHA-256" in browser.text("#notice"))
     entered(browser, room, "#/firmware")
     browser.open("details:has(#new-set)")
     browser.type("#set-name", "r2")
