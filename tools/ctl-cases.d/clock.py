@@ -1,4 +1,5 @@
-"""Cases of tools/ctl-cases: orders for later and quiet hours, with stand-ins for systemd and for the brake. tools/timers has systemd itself."""
+"""Cases of tools/ctl-cases: orders for later and quiet hours, with stand-ins for systemd and for the brake.
+tools/timers has systemd itself."""
 import datetime
 import json
 import os
@@ -84,20 +85,24 @@ def ended(room):
 
 
 def orders_for_later(room):
-    """at: a timer with its moment in UTC, without a login; it is listed, canceled, and refused where it can't be taken"""
+    """at: a timer with its moment in UTC, without a login; it is listed, canceled,
+    and refused where it can't be taken"""
     units = clock(room)
     room.fleet(2)
     rollout = room.rollout(started=False)
     berlin = ("--zone", "Europe/Berlin")
-    assert room.gives("at", "2027-01-02", "03:04", "start", rollout, *berlin, "--dry-run").endswith("Sat 2027-01-02 03:04 CET  start 1")
+    assert (room.gives("at", "2027-01-02", "03:04", "start", rollout, *berlin, "--dry-run")
+            .endswith("Sat 2027-01-02 03:04 CET  start 1"))
     assert not list(units.iterdir()), "--dry-run leaves nothing"
     assert ordered(room, "2027-01-02 03:04", "start", rollout, "--unless-open", "--if-missed", "do", *berlin) == 1
     text = (units / "fwdesk-at-1.timer").read_text()
-    assert "\nOnCalendar=2027-01-02 02:04:00 UTC\n" in text and "\nPersistent=true\n" in text and "\nUnit=fwdesk-at@1.service\n" in text
+    assert ("\nOnCalendar=2027-01-02 02:04:00 UTC\n" in text and "\nPersistent=true\n" in text
+            and "\nUnit=fwdesk-at@1.service\n" in text)
     assert "\nDescription=order 1 of fwdesk: start 1 --unless-open\n" in text
     assert ordered(room, "--zone", "UTC", "2027-01-01T00:00:00+02:00", "pause", rollout) == 2
     lines = room.gives("at", "--list").splitlines()
-    assert [it.split()[0] for it in lines] == ["2", "1"] and "Thu 2026-12-31 22:00 UTC  pause 1" in lines[0] and "missed: tell" in lines[0], lines
+    assert ([it.split()[0] for it in lines] == ["2", "1"] and "Thu 2026-12-31 22:00 UTC  pause 1" in lines[0]
+            and "missed: tell" in lines[0]), lines
     assert "missed: do)" in lines[1], lines
     (units / "active-fwdesk-at-1.timer").unlink()
     assert "its timer is stopped" in room.gives("at", "--list").splitlines()[1]
@@ -119,7 +124,8 @@ def orders_for_later(room):
 
 
 def carries_out(room):
-    """at its time an order is done, once; before it, and when it is canceled, nothing is; a refused one has the desk's words"""
+    """at its time an order is done, once; before it, and when it is canceled, nothing is;
+    a refused one has the desk's words"""
     units = clock(room)
     room.fleet(4)
     rollout = room.rollout(started=False, groups=2)
@@ -135,17 +141,20 @@ def carries_out(room):
     number = ordered(room, later(60), "start", rollout)
     set_back(units, number, 1)
     status, told = due(room, number)
-    assert status == 1 and told.startswith("<3>order 2, ") and ": refused: 409 wrong_state: the rollout or the action isn't in a state for it" in told, told
+    assert (status == 1 and told.startswith("<3>order 2, ")
+            and ": refused: 409 wrong_state: the rollout or the action isn't in a state for it" in told), told
     assert counts(room) == {"done": 1, "refused": 1, "missed": 0, "unreached": 0, "unsure": 0}
     assert "409 wrong_state" in room.gives("at", "--list", "--ended").splitlines()[1]
     number = ordered(room, later(60), "pause", rollout)
     room.gives("at", "--cancel", number)
     assert due(room, number) == (0, "") and room.get("rollouts/1")["status"] == "running"
-    assert {"disable --quiet --now fwdesk-at-3.timer", "restart fwdesk-at-3.timer"} <= set((units / "calls").read_text().splitlines())
+    assert ({"disable --quiet --now fwdesk-at-3.timer", "restart fwdesk-at-3.timer"}
+            <= set((units / "calls").read_text().splitlines()))
 
 
 def misses(room):
-    """what was missed is done at the next start or told alone, as it was ordered; who comes a few seconds late hasn't missed it"""
+    """what was missed is done at the next start or told alone, as it was ordered;
+    who comes a few seconds late hasn't missed it"""
     units = clock(room)
     room.fleet(2)
     one, other = room.rollout("one", started=False), room.rollout("other", started=False)
@@ -166,7 +175,8 @@ def misses(room):
 
 
 def tries_again(room):
-    """a desk that isn't reached is tried again, and then told; one that comes back is asked; a login of the environment isn't taken"""
+    """a desk that isn't reached is tried again, and then told; one that comes back is asked;
+    a login of the environment isn't taken"""
     units = clock(room)
     room.fleet(2)
     rollout = room.rollout(started=False)
@@ -186,9 +196,11 @@ def tries_again(room):
     assert status == 1 and ": unreached: " in told and counts(room)["unreached"] == 1, told
     room.serve()
     set_back(units, 1, 300)
-    assert due(room, 1)[0] == 0 and room.get("rollouts/1")["status"] == "running", "it was begun in time, so it isn't missed"
+    assert due(room, 1)[0] == 0 and room.get("rollouts/1")["status"] == "running", \
+        "it was begun in time, so it isn't missed"
     proxy = Proxy(room)
-    anna = {"FWDESK_URL": proxy.url, "FWDESK_CA": str(room.folder / "server.crt"), "FWDESK_USER": "anna", "FWDESK_PASSWORD": PASSWORD}
+    anna = {"FWDESK_URL": proxy.url, "FWDESK_CA": str(room.folder / "server.crt"), "FWDESK_USER": "anna",
+            "FWDESK_PASSWORD": PASSWORD}
     room.refuses(2, "a login of the environment is gone by then", "at", later(60), "pause", rollout, **anna)
     file = room.folder / ".netrc"
     file.write_text(f'machine localhost login anna password "{PASSWORD}"\n')
@@ -201,14 +213,16 @@ def tries_again(room):
 
 
 def is_sent_once(room):
-    """trigger, killed before each of its requests and started again: no group is started twice, and what isn't known is told"""
+    """trigger, killed before each of its requests and started again: no group is started twice,
+    and what isn't known is told"""
     units = clock(room)
     room.fleet(60)
     rollout = room.rollout(groups=30)
     child, outcomes = None, []
 
     def begun():
-        return sum(it["status"] in ("running", "finished") for it in room.get(f"rollouts/{rollout}/deploygroups?limit=50")["content"])
+        return sum(it["status"] in ("running", "finished")
+                   for it in room.get(f"rollouts/{rollout}/deploygroups?limit=50")["content"])
 
     def kill(_):
         child.kill()
@@ -253,7 +267,8 @@ def answer_is_lost(room):
 
 
 def clocks_change(room):
-    """the two nights at which clocks change in Berlin: what doesn't come or comes twice is refused; quiet hours keep to their clock"""
+    """the two nights at which clocks change in Berlin: what doesn't come or comes twice is refused;
+    quiet hours keep to their clock"""
     clock(room)
     berlin = ("--zone", "Europe/Berlin", "--dry-run")
     dry = lambda text: room.gives("at", text, "start", 1, *berlin)[3:]
@@ -263,8 +278,10 @@ def clocks_change(room):
         ("2027-10-31T02:30+02:00", "Sun 2027-10-31 02:30 CEST"), ("2027-10-31T02:30+01:00", "Sun 2027-10-31 02:30 CET"),
     ):
         assert dry(text) == f"{what}  start 1", dry(text)
-    room.refuses(2, "no clock shows 02:30 on 2027-03-28, since they jump to Sun 2027-03-28 03:00 CEST", "at", "2027-03-28 02:30", "start", 1, *berlin)
-    room.refuses(2, "say 2027-10-31T02:30+02:00 or 2027-10-31T02:30+01:00", "at", "2027-10-31 02:30", "start", 1, *berlin)
+    room.refuses(2, "no clock shows 02:30 on 2027-03-28, since they jump to Sun 2027-03-28 03:00 CEST", "at",
+                 "2027-03-28 02:30", "start", 1, *berlin)
+    room.refuses(2, "say 2027-10-31T02:30+02:00 or 2027-10-31T02:30+01:00", "at", "2027-10-31 02:30",
+                 "start", 1, *berlin)
 
     def first(hours, since):
         told = room.gives("quiet", *hours.split(), *berlin, "--from", since).splitlines()[0]
@@ -276,15 +293,19 @@ def clocks_change(room):
     assert first("22:00-02:30", "2027-10-30T12:00") == ("Sat 2027-10-30 22:00 CEST", "Sun 2027-10-31 02:30 CET")
     assert first("02:30-06:00", "2027-10-30T12:00") == ("Sun 2027-10-31 02:30 CEST", "Sun 2027-10-31 06:00 CET")
     assert first("22:00-06:00 Fri", "2027-03-24T12:00") == ("Fri 2027-03-26 22:00 CET", "Sat 2027-03-27 06:00 CET")
-    assert first("22:00-06:00 Fri 00:00-24:00 Sat,Sun", "2027-03-24T12:00") == ("Fri 2027-03-26 22:00 CET", "Mon 2027-03-29 00:00 CEST")
-    assert first("06:00-22:00 Mon-Fri", "2027-03-27T12:00") == ("Mon 2027-03-29 06:00 CEST", "Mon 2027-03-29 22:00 CEST")
-    for words, why in (("06:00", "is no hours"), ("06:00-06:00", "hours are as"), ("06:00-25:00", "is no hours"), ("06:00-24:30", "hours are as"),
-                       ("06:00-22:00 Mo", "is no list of days"), ("00:00-24:00", "quiet always"), ("Mon 06:00-22:00", "is no hours")):
+    assert (first("22:00-06:00 Fri 00:00-24:00 Sat,Sun", "2027-03-24T12:00")
+            == ("Fri 2027-03-26 22:00 CET", "Mon 2027-03-29 00:00 CEST"))
+    assert (first("06:00-22:00 Mon-Fri", "2027-03-27T12:00")
+            == ("Mon 2027-03-29 06:00 CEST", "Mon 2027-03-29 22:00 CEST"))
+    for words, why in (("06:00", "is no hours"), ("06:00-06:00", "hours are as"), ("06:00-25:00", "is no hours"),
+                       ("06:00-24:30", "hours are as"), ("06:00-22:00 Mo", "is no list of days"),
+                       ("00:00-24:00", "quiet always"), ("Mon 06:00-22:00", "is no hours")):
         room.refuses(2, why, "quiet", *words.split())
 
 
 def is_quiet(room):
-    """quiet: holds of the second kind that follow the clock; a brake stays; what isn't confirmed is tried again; off ends them"""
+    """quiet: holds of the second kind that follow the clock; a brake stays; what isn't confirmed is tried again;
+    off ends them"""
     units = clock(room)
     there = lambda: sorted(it.name for it in units.glob("held-*"))
     at = lambda hours: (datetime.datetime.now(UTC) + datetime.timedelta(hours=hours)).strftime("%H:%M")
@@ -292,16 +313,19 @@ def is_quiet(room):
     (units / "held-brake-").touch()
     told = room.gives("quiet", f"{at(-1)}-{at(2)}", *utc)
     assert told.startswith("quiet, so that no firmware is handed out: ") and ". Now it is quiet, until " in told, told
-    assert there() == ["held-brake-", "held-quiet-"] and (units / "held-quiet-").read_text() == f"{at(-1)}-{at(2)} (UTC)\n"
+    assert (there() == ["held-brake-", "held-quiet-"]
+            and (units / "held-quiet-").read_text() == f"{at(-1)}-{at(2)} (UTC)\n")
     text = (units / "fwdesk-quiet.timer").read_text()
-    assert f"OnCalendar=Mon,Tue,Wed,Thu,Fri,Sat,Sun *-*-* {at(-1)}:00 UTC\n" in text and "Unit=fwdesk-quiet.service\n" in text, text
+    assert (f"OnCalendar=Mon,Tue,Wed,Thu,Fri,Sat,Sun *-*-* {at(-1)}:00 UTC\n" in text
+            and "Unit=fwdesk-quiet.service\n" in text), text
     for _ in "once more", "and again":
         room.gives("quiet", "--settle")
     assert (units / "braked").read_text() == "hold quiet \n", "it is told once"
     told = room.gives("quiet", f"{at(1)}-{at(3)}", *utc)
     assert ". Now firmware is handed out, until " in told and there() == ["held-brake-"], told
     room.gives("quiet", f"{at(-1)}-{at(3)}", *utc, "--fleet", "acme")
-    assert there() == ["held-brake-", "held-quiet-acme"] and json.loads(room.gives("quiet", "--json"))["isQuiet"] is False
+    assert (there() == ["held-brake-", "held-quiet-acme"]
+            and json.loads(room.gives("quiet", "--json"))["isQuiet"] is False)
     assert json.loads(room.gives("quiet", "--json", "--fleet", "acme"))["isQuiet"] is True
     (units / "held-quiet-acme").unlink()
     room.gives("quiet", "--settle")

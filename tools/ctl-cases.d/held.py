@@ -31,11 +31,13 @@ class Front:
     def fields(self, path, name):
         """The head of a reply."""
         with socket.create_connection((HOST, self.proxy.near)) as it:
-            it.sendall(f"GET {path} HTTP/1.1\r\nHost: h\r\nConnection: close\r\nAuthorization: TargetToken tok-{name}\r\n\r\n".encode())
+            it.sendall(f"GET {path} HTTP/1.1\r\nHost: h\r\nConnection: close\r\n"
+                       f"Authorization: TargetToken tok-{name}\r\n\r\n".encode())
             return b"".join(iter(lambda: it.recv(65536), b"")).decode()
 
     def by_itself(self, *words, full=False, **more):
-        """fwdesk-brake on the machine, perhaps with a disk that takes a byte: its status, what it prints, and what it says."""
+        """fwdesk-brake on the machine, perhaps with a disk that takes a byte: its status, what it prints,
+        and what it says."""
         how = {"preexec_fn": lambda: resource.setrlimit(resource.RLIMIT_FSIZE, (1, 1))} if full else {}
         own = self.room.environment | self.own | more
         ran = subprocess.run([OPERATING / "fwdesk-brake", *words], env=own, capture_output=True, text=True, **how)
@@ -59,11 +61,13 @@ def holds(room):
     for spelt in (names[1], names[1].replace("-", "%2D"), f"{names[1]}?x=1"):
         assert "deploymentBase" not in front.fields(f"{BASE}/{spelt}", names[1]), spelt
     refused = front.fields(link, names[1]).lower()
-    assert refused.startswith("http/1.1 503 ") and "\r\nretry-after: 300\r\n" in refused and "chunks" not in refused, refused
+    assert (refused.startswith("http/1.1 503 ") and "\r\nretry-after: 300\r\n" in refused
+            and "chunks" not in refused), refused
     for spelt in (f"{link}?x=1", link.replace(names[1], names[1].replace("-", "%2D"))):
         assert "chunks" not in front.fields(spelt, names[1]), spelt
     rest = link.removeprefix(f"{BASE}/{names[1]}")
-    assert front.device(names[1], rest, token="tok-other-1")[0] == 401 and front.device(names[1], "/deploymentBase/99")[0] == 404
+    assert (front.device(names[1], rest, token="tok-other-1")[0] == 401
+            and front.device(names[1], "/deploymentBase/99")[0] == 404)
     # what is under way goes on
     got = front.device(names[1], "/softwaremodules/1/artifacts/firmware.bin")
     assert got == (200, "firmware older"), got
@@ -74,12 +78,14 @@ def holds(room):
     room.ask("DELETE", f"/rest/v1/targets/{names[0]}/actions/{row['action']}")
     assert front.links(names[0]) == ["cancelAction"]
     assert front.device(names[0], f"/cancelAction/{row['action']}")[0] == 200
-    assert front.device(names[0], f"/cancelAction/{row['action']}/feedback", "POST", status("canceled", "success"))[0] == 200
+    assert front.device(names[0], f"/cancelAction/{row['action']}/feedback", "POST",
+                        status("canceled", "success"))[0] == 200
     assert front.links(names[0]) == []
     # who held first stays
     room.gives("hold", "--reason", "another", **front.near)
     assert "burns" in room.gives("held", **front.near)
-    assert room.ctl("release", **front.near)[:2] == (0, "") and json.loads(room.gives("held", "--json", **front.near)) == {"brake": None, "quiet": None}
+    assert (room.ctl("release", **front.near)[:2] == (0, "")
+            and json.loads(room.gives("held", "--json", **front.near)) == {"brake": None, "quiet": None})
     assert front.links(names[0]) == front.links(names[2]) == ["deploymentBase"] and front.links(names[1]) == []
 
 
@@ -97,7 +103,8 @@ def holds_in_two_kinds(room):
 
 
 def knows_who_holds(room):
-    """hold through TLS and a login: the login's name is told, whatever a field says; the audit has who and why; another site is refused"""
+    """hold through TLS and a login: the login's name is told, whatever a field says; the audit has who and why;
+    another site is refused"""
     room.fleet(1)
     front = Front(room)
     safe = {"FWDESK_URL": front.proxy.url, "FWDESK_CA": str(room.folder / "server.crt")}
@@ -107,9 +114,11 @@ def knows_who_holds(room):
     assert room.gives("hold", "--reason", "it burns", **safe, **anna).startswith("brake: by anna, since ")
     line = 'audit 200 127.0.0.1 "anna" POST /fwdesk/brake?kind=brake&reason=it+burns'
     assert line in (room.folder / "haproxy.log").read_text()
-    curl = ["curl", "-s", "-o", "/dev/null", "-w", "%{http_code}", "--cacert", f"{room.folder}/server.crt", "-u", f"anna:{PASSWORD}"]
+    curl = ["curl", "-s", "-o", "/dev/null", "-w", "%{http_code}", "--cacert", f"{room.folder}/server.crt", "-u",
+            f"anna:{PASSWORD}"]
     packages.said([*curl, "-X", "DELETE", "-H", "X-Who: ben", f"{front.proxy.url}/fwdesk/brake"])
-    assert packages.said([*curl, "-X", "POST", "-H", "X-Who: ben", "-H", "X-Fleet: acme", f"{front.proxy.url}/fwdesk/brake"]) == "200"
+    assert packages.said([*curl, "-X", "POST", "-H", "X-Who: ben", "-H", "X-Fleet: acme",
+                          f"{front.proxy.url}/fwdesk/brake"]) == "200"
     assert room.gives("held", **front.near).startswith("brake: by anna"), "a field is believed"
     for field in ("Origin: https://elsewhere.example", "Sec-Fetch-Site: cross-site"):
         assert packages.said([*curl, "-X", "DELETE", "-H", field, f"{front.proxy.url}/fwdesk/brake"]) == "403"
@@ -117,7 +126,8 @@ def knows_who_holds(room):
 
 
 def holds_without_the_proxy(room):
-    """fwdesk-brake on the machine: written before it is told, and not confirmed where HAProxy doesn't run, which then starts held"""
+    """fwdesk-brake on the machine: written before it is told, and not confirmed where HAProxy doesn't run,
+    which then starts held"""
     (name,), front = room.fleet(1), Front(room)
     room.rollout()
     file = room.folder / "held.map"
@@ -144,11 +154,13 @@ def holds_without_the_proxy(room):
     for kind in ("brake", "quiet"):
         assert front.by_itself("hold", "--kind", kind)[0] == 0
     before = file.read_text()
-    assert front.by_itself("release", full=True)[0] == 1 and file.read_text() == before and room.gives("held", **front.near).count("by root") == 2
+    assert (front.by_itself("release", full=True)[0] == 1 and file.read_text() == before
+            and room.gives("held", **front.near).count("by root") == 2)
 
 
 def refuses_to_hold(room):
-    """hold: no brake at the desk itself; reasons that are too long or several lines; a proxy behind which nobody answers"""
+    """hold: no brake at the desk itself; reasons that are too long or several lines;
+    a proxy behind which nobody answers"""
     room.fleet(1)
     for verb in ("hold", "release", "held"):
         room.refuses(1, "the proxy has no brake", verb)
@@ -173,7 +185,8 @@ def tells_metrics_of_holds(room):
     front = Front(room)
     url = front.near["FWDESK_URL"]
     lines = packages.said([script, url]).splitlines()
-    assert 'fwdesk_held{kind="brake"} 0' in lines and 'fwdesk_held{kind="quiet"} 0' in lines and not any(it.startswith("fwdesk_held_since") for it in lines)
+    assert ('fwdesk_held{kind="brake"} 0' in lines and 'fwdesk_held{kind="quiet"} 0' in lines
+            and not any(it.startswith("fwdesk_held_since") for it in lines))
     before = int(time.time())
     room.gives("hold", **front.near)
     lines = packages.said([script, url]).splitlines()

@@ -27,7 +27,8 @@ def follows(room):
     names = room.fleet(5)
     first = room.firmware("1")
     by_hand = room.ask("POST", "/rest/v1/rollouts", {
-        "name": "by hand", "distributionSetId": first, "targetFilterQuery": f"controllerid=={names[0]}", "amountGroups": 1,
+        "name": "by hand", "distributionSetId": first, "targetFilterQuery": f"controllerid=={names[0]}",
+        "amountGroups": 1,
         "successCondition": {"condition": "THRESHOLD", "expression": "50"},
         "errorCondition": {"condition": "THRESHOLD", "expression": "50"}})
     rule = "--filter name==Pump --success 50 --error 100 --group 50 --group 100"
@@ -49,7 +50,8 @@ def follows(room):
 
 
 def follows_in_spite_of_kills(room):
-    """follow, killed before each of its requests and run again: each device is in one rollout of the set, and no tag is left"""
+    """follow, killed before each of its requests and run again: each device is in one rollout of the set,
+    and no tag is left"""
     names = room.fleet(3)
     child = None
 

@@ -240,7 +240,8 @@ class Proxy:
         own = {"FWDESK_BRAKE_FILE": f"{room.folder}/held.map"}
         own["FWDESK_BRAKE_SOCKETS"] = f"{room.folder}/master.sock {room.folder}/admin.sock"
         given = [word for key, value in own.items() for word in ("-E", f"{key}={value}")]
-        listener = [packages.found("systemd-socket-activate"), "--accept", "--inetd", "-l", f"{room.folder}/brake.sock", *given]
+        listener = [packages.found("systemd-socket-activate"), "--accept", "--inetd", "-l",
+                    f"{room.folder}/brake.sock", *given]
         room.processes.start("brake", [*listener, str(operating / "fwdesk-brake"), "serve"])
         eventually("the brake's socket", (room.folder / "brake.sock").exists)
         # HAProxy's own user gets to it

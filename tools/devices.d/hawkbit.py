@@ -1,7 +1,8 @@
-"""A stand-in for hawkBit: what its devices ask, and the lists that from-hawkbit reads, in the form of its public documentation. For
-tools/devices, and not run by itself.
+"""A stand-in for hawkBit: what its devices ask, and the lists that from-hawkbit reads, in the form of its public
+documentation. For tools/devices, and not run by itself.
 
-    HawkBit(room, {ID: (token, tags)})    over TLS, with the room's server.crt and server.key; `assign` offers a device an image"""
+    HawkBit(room, {ID: (token, tags)})    over TLS, with the room's server.crt and server.key; `assign` offers a device
+                                          an image"""
 import base64
 import hashlib
 import json
@@ -81,7 +82,8 @@ class Asked(BaseHTTPRequestHandler):
         if kind == "softwaremodules":
             return self.download(target.actions[int(number.split("/")[0]) - 1])
         if number.endswith("/feedback"):
-            return self.answers(200 if self.feedback(target, kind, int(number.split("/")[0]), json.loads(body)) else 404)
+            return self.answers(200 if self.feedback(target, kind, int(number.split("/")[0]), json.loads(body))
+                                else 404)
         if kind == "deploymentBase" and int(number) == target.open():
             return self.answers(200, self.deployment(target, base, int(number)))
         return self.answers(404)
@@ -99,7 +101,8 @@ class Asked(BaseHTTPRequestHandler):
         it = target.actions[number - 1]
         hashes = {kind: hashlib.new(kind, it.image).hexdigest() for kind in ("sha1", "md5", "sha256")}
         file = f"{base}/softwaremodules/{number}/artifacts/{it.filename}"
-        links = {"download": {"href": file}, "md5sum": {"href": f"{file}.MD5SUM"}, "download-http": {"href": file}, "md5sum-http": {"href": f"{file}.MD5SUM"}}
+        links = {"download": {"href": file}, "md5sum": {"href": f"{file}.MD5SUM"}, "download-http": {"href": file},
+                 "md5sum-http": {"href": f"{file}.MD5SUM"}}
         artifact = {"filename": it.filename, "hashes": hashes, "size": len(it.image), "_links": links}
         chunk = {"part": "os", "version": str(number), "name": "os", "artifacts": [artifact]}
         deployment = {"download": "forced", "update": "forced", "chunks": [chunk]}
@@ -109,7 +112,8 @@ class Asked(BaseHTTPRequestHandler):
         found = re.fullmatch(r"bytes=(\d+)-", self.headers.get("Range", ""))
         begin, size = int(found[1]) if found else 0, len(action.image)
         fields = {"Content_Range": f"bytes {begin}-{size - 1}/{size}"} if found else {}
-        return self.answers(206 if found else 200, action.image[begin:], "application/octet-stream", Accept_Ranges="bytes", **fields)
+        return self.answers(206 if found else 200, action.image[begin:], "application/octet-stream",
+                            Accept_Ranges="bytes", **fields)
 
     @staticmethod
     def feedback(target, kind, number, told):
@@ -117,7 +121,8 @@ class Asked(BaseHTTPRequestHandler):
             return False
         action, status = target.actions[number - 1], told["status"]
         finished = status["result"]["finished"]
-        action.told.append((kind.replace("Base", "").replace("Action", ""), status["execution"], finished, *status.get("details", [])))
+        action.told.append((kind.replace("Base", "").replace("Action", ""), status["execution"], finished,
+                            *status.get("details", [])))
         if status["execution"] == "closed":
             action.status = "finished" if finished == "success" else "error"
         return True
@@ -128,13 +133,15 @@ class Asked(BaseHTTPRequestHandler):
             return self.answers(401)
         targets, tags = self.server.targets, sorted({tag for it in self.server.targets.values() for tag in it.tags})
         always = {"createdBy": "admin", "updateStatus": "registered"}
-        as_target = lambda ident: always | {"controllerId": ident, "name": f"Pump {ident}", "securityToken": targets[ident].token}
+        as_target = lambda ident: always | {"controllerId": ident, "name": f"Pump {ident}",
+                                            "securityToken": targets[ident].token}
         if path == "/rest/v1/targets":
             return self.page([as_target(it) for it in targets], query)
         if path == "/rest/v1/targettags":
             return self.page([{"id": k, "name": it, "colour": "#000000"} for k, it in enumerate(tags, 1)], query)
         if found := re.fullmatch(r"/rest/v1/targettags/(\d+)/assigned", path):
-            return self.page([as_target(ident) for ident, it in targets.items() if tags[int(found[1]) - 1] in it.tags], query)
+            return self.page([as_target(ident) for ident, it in targets.items() if tags[int(found[1]) - 1] in it.tags],
+                             query)
         return self.answers(404)
 
     def page(self, things, query):

@@ -1,4 +1,5 @@
-"""Gets what tools/devices plays with: Debian's packages, and rauc-hawkbit-updater of its unstable in a folder of its own."""
+"""Gets what tools/devices plays with: Debian's packages,
+and rauc-hawkbit-updater of its unstable in a folder of its own."""
 import os
 import shutil
 import subprocess
@@ -27,7 +28,8 @@ class Missing(Exception):
 
 def said(words, **how):
     """Runs a command and gives what it says; where it fails, the last line of that is why something is missing."""
-    ran = subprocess.run(words, stdin=subprocess.DEVNULL, stdout=subprocess.PIPE, stderr=subprocess.STDOUT, text=True, timeout=600, **how)
+    ran = subprocess.run(words, stdin=subprocess.DEVNULL, stdout=subprocess.PIPE, stderr=subprocess.STDOUT, text=True,
+                         timeout=600, **how)
     if ran.returncode:
         raise Missing(f"{' '.join(words[:3])}: {(ran.stdout.strip() or 'failed').splitlines()[-1]}")
     return ran.stdout
@@ -72,7 +74,8 @@ def get(wanted, folder):
 def updater(folder):
     """The words that run rauc-hawkbit-updater, with its own loader and libraries."""
     libraries = folder / "root/usr/lib/x86_64-linux-gnu"
-    return [str(libraries / "ld-linux-x86-64.so.2"), "--library-path", str(libraries), str(folder / "root/usr/bin" / UPDATER)]
+    return [str(libraries / "ld-linux-x86-64.so.2"), "--library-path", str(libraries),
+            str(folder / "root/usr/bin" / UPDATER)]
 
 
 def fetch(folder, root):

@@ -13,7 +13,8 @@ PDEATHSIG = 1
 
 def said(*words, **how):
     """What a command prints; it has to succeed."""
-    ran = subprocess.run([str(it) for it in words], check=False, stdout=subprocess.PIPE, stderr=subprocess.STDOUT, stdin=subprocess.DEVNULL, text=True, **how)
+    ran = subprocess.run([str(it) for it in words], check=False, stdout=subprocess.PIPE, stderr=subprocess.STDOUT,
+                         stdin=subprocess.DEVNULL, text=True, **how)
     if ran.returncode:
         raise RuntimeError(f"{' '.join(map(str, words))}: status {ran.returncode}: {ran.stdout[-800:]}")
     return ran.stdout.strip()
@@ -75,6 +76,6 @@ def begun(call, work):
 
 
 def alone(work):
-    """Does the work as the first process of a namespace of processes, mounts and networks, and gives its status. When it ends, the kernel
-    ends every process in there, and with the last one their mounts and links go too."""
+    """Does the work as the first process of a namespace of processes, mounts and networks, and gives its status. When
+    it ends, the kernel ends every process in there, and with the last one their mounts and links go too."""
     return waits(begun(in_namespaces, work))

@@ -1,6 +1,7 @@
-"""The load of tools/failover: `load.py FOLDER DEVICES FLEET=ADDRESS..` has an operator of each fleet add numbered modules, and its devices send numbered
-feedback, until it is ended. Each command is sent until it is acknowledged, and then written to FOLDER/FLEET.acks: time, kind, what, how often
-it was sent. `compared` says how all of it differs from what a fleet keeps."""
+"""The load of tools/failover: `load.py FOLDER DEVICES FLEET=ADDRESS..` has an operator of each fleet add numbered
+modules, and its devices send numbered feedback, until it is ended. Each command is sent until it is acknowledged, and
+then written to FOLDER/FLEET.acks: time, kind, what, how often it was sent. `compared` says how all of it differs from
+what a fleet keeps."""
 import base64
 import http.client
 import json
@@ -102,10 +103,13 @@ def requests_of_a_desk(fleet, devices):
     plan = {"name": "r", "distributionSetId": 1, "targetFilterQuery": "name==*", "amountGroups": 1}
     plan |= {it: {"condition": "THRESHOLD", "expression": "100"} for it in ("successCondition", "errorCondition")}
     rows = "".join(f"{it},{it},tok-{it},\n" for it in (name_of(fleet, n) for n in range(1, devices + 1)))
-    asked = [("/desk/v1/import", f"controllerid,name,token,tags\n{rows}"), ("/rest/v1/softwaremodules", '[{"name":"app","type":"os","version":"1"}]')]
-    asked += [("/rest/v1/distributionsets", '[{"name":"s","version":"1","modules":[{"id":1}]}]'), ("/rest/v1/rollouts", json.dumps(plan))]
+    asked = [("/desk/v1/import", f"controllerid,name,token,tags\n{rows}"),
+             ("/rest/v1/softwaremodules", '[{"name":"app","type":"os","version":"1"}]')]
+    asked += [("/rest/v1/distributionsets", '[{"name":"s","version":"1","modules":[{"id":1}]}]'),
+              ("/rest/v1/rollouts", json.dumps(plan))]
     asked += [("/rest/v1/rollouts/1/start", "")]
-    return "".join(f"POST {path} HTTP/1.1\r\nHost: localhost\r\nContent-Length: {len(body)}\r\n\r\n{body}" for path, body in asked), len(asked)
+    return "".join(f"POST {path} HTTP/1.1\r\nHost: localhost\r\nContent-Length: {len(body)}\r\n\r\n{body}"
+                   for path, body in asked), len(asked)
 
 
 def acknowledged(folder, fleet):
@@ -123,9 +127,11 @@ def before(folder, fleet, kind):
 
 
 def writes(folder, fleet):
-    """A line of an acknowledgement, at once: the process may be ended at any time, and a line that is cut short doesn't count."""
+    """A line of an acknowledgement, at once: the process may be ended at any time,
+    and a line that is cut short doesn't count."""
     acks = open(folder / f"{fleet}.acks", "ab", buffering=0)
-    return lambda *words: acks.write(" ".join(map(str, (f"{time.time():.3f}", *words, "\n"))).replace(" \n", "\n").encode())
+    return lambda *words: acks.write(" ".join(map(str, (f"{time.time():.3f}", *words, "\n")))
+                                     .replace(" \n", "\n").encode())
 
 
 def adds_modules(folder, fleet, pause, _):
@@ -134,7 +140,8 @@ def adds_modules(folder, fleet, pause, _):
     done = max((int(it[1:]) + 1 for it in before(folder, fleet.name, "module")), default=0)
     for n in range(done + 1, MODULES):
         # sent again after an answer that was lost, a module is there already
-        sent = fleet.until_answered("POST", "/rest/v1/softwaremodules", json.dumps([{"name": f"m{n:04}", "type": "os", "version": "1"}]), LOGIN, (201, 409))
+        sent = fleet.until_answered("POST", "/rest/v1/softwaremodules",
+                                    json.dumps([{"name": f"m{n:04}", "type": "os", "version": "1"}]), LOGIN, (201, 409))
         wrote("module", f"m{n:04}", sent)
         time.sleep(pause)
 
@@ -144,9 +151,11 @@ def reports(folder, fleet, pause, devices):
     done = max((int(it.split("/")[0]) for it in before(folder, fleet.name, "note")), default=0)
     for device in range(done + 1, devices + 1):
         name = name_of(fleet.name, device)
-        path, head = f"/DEFAULT/controller/v1/{name}/deploymentBase/{device}/feedback", {"Authorization": f"TargetToken tok-{name}"}
+        path, head = (f"/DEFAULT/controller/v1/{name}/deploymentBase/{device}/feedback",
+                      {"Authorization": f"TargetToken tok-{name}"})
         for n in range(1, NOTES + 1):
-            body = {"number": n, "status": {"execution": "proceeding", "result": {"finished": "none"}, "details": [f"note {n}"]}}
+            body = {"number": n,
+                    "status": {"execution": "proceeding", "result": {"finished": "none"}, "details": [f"note {n}"]}}
             sent = fleet.until_answered("POST", path, json.dumps(body), head, (200,))
             wrote("note", f"{device}/{n}", sent)
             time.sleep(pause)
@@ -164,8 +173,8 @@ def kept_notes(fleet, devices):
 
 
 def compared(folder, fleet, most):
-    """How what was acknowledged is kept: a dictionary of how many, and of faults. Under way may be one of each kind in each run of the load,
-    whose answer nobody waited for: they are `besides`."""
+    """How what was acknowledged is kept: a dictionary of how many, and of faults. Under way may be one of each kind in
+    each run of the load, whose answer nobody waited for: they are `besides`."""
     acks = acknowledged(folder, fleet.name)
     modules = {what for _, kind, what, _ in acks if kind == "module"}
     notes = {what for _, kind, what, _ in acks if kind == "note"}
@@ -184,7 +193,8 @@ def main():
     from pathlib import Path
     folder, devices, fleets = Path(sys.argv[1]), int(sys.argv[2]), [it.split("=") for it in sys.argv[3:]]
     works = [(work, Fleet(*it), pause) for it in fleets for work, pause in ((adds_modules, 0.5), (reports, 0.02))]
-    threads = [threading.Thread(target=work, args=(folder, fleet, pause, devices), daemon=True) for work, fleet, pause in works]
+    threads = [threading.Thread(target=work, args=(folder, fleet, pause, devices), daemon=True)
+               for work, fleet, pause in works]
     for it in threads:
         it.start()
     for it in threads:

@@ -1,8 +1,9 @@
-"""The rack of tools/failover: two nodes by systemd-nspawn, a loop device of each node's own for each fleet, a bridge, and the power switch.
+"""The rack of tools/failover: two nodes by systemd-nspawn, a loop device of each node's own for each fleet,
+a bridge, and the power switch.
 
-Each node has its own loop device over a fleet's file, past the page cache, so it has a file system and a cache of its own, as two machines have.
-The switch listens at 10.77.0.254:7700 for a line `on N`, `off N`, `reboot N`, `status N` or `ping`, and answers a word. It answers `ok` to
-`off` when nothing of the node can write any more."""
+Each node has its own loop device over a fleet's file, past the page cache, so it has a file system and a cache of its
+own, as two machines have. The switch listens at 10.77.0.254:7700 for a line `on N`, `off N`, `reboot N`, `status N` or
+`ping`, and answers a word. It answers `ok` to `off` when nothing of the node can write any more."""
 import fcntl
 import os
 import shutil
@@ -48,7 +49,8 @@ class Node:
         folder.mkdir()
         for it in self.fleets:
             device = said("losetup", "-f", "--show", "--direct-io=on", self.room / f"{it}.img")
-            # nobody else has it open: a device that stays open keeps what was read of it, which another node may have written since
+            # nobody else has it open: a device that stays open keeps what was read of it, which another node may have
+            # written since
             self.loops.append(device)
             os.mknod(folder / it, 0o600 | stat.S_IFBLK, os.stat(device).st_rdev)
 
@@ -56,8 +58,10 @@ class Node:
         if self.child and self.child.poll() is None:
             return
         self.take_devices()
-        words = "systemd-nspawn -q --boot --volatile=overlay --register=no --keep-unit --console=pipe --network-bridge=br0"
-        words += f" --capability=CAP_BPF,CAP_NET_ADMIN,CAP_IPC_LOCK,CAP_SYS_NICE --system-call-filter=bpf -M fwdesk-{self.name}"
+        words = ("systemd-nspawn -q --boot --volatile=overlay --register=no --keep-unit --console=pipe "
+                 "--network-bridge=br0")
+        words += (" --capability=CAP_BPF,CAP_NET_ADMIN,CAP_IPC_LOCK,CAP_SYS_NICE --system-call-filter=bpf -M "
+                  f"fwdesk-{self.name}")
         words += f" --hostname={self.name} -D {self.root} --bind={self.room}/dev-{self.name}:/dev/fleets"
         words = words.split() + [f"--bind={self.room}/{self.name}/{it}:/{it}" for it in KEPT]
         with open(self.room / f"{self.name}.out", "ab") as out:
@@ -71,7 +75,8 @@ class Node:
         self.wire()
 
     def has_link(self):
-        return subprocess.run(["ip", "link", "show", self.link], stdout=subprocess.DEVNULL, stderr=subprocess.DEVNULL, check=False).returncode == 0
+        return subprocess.run(["ip", "link", "show", self.link], stdout=subprocess.DEVNULL, stderr=subprocess.DEVNULL,
+                              check=False).returncode == 0
 
     def wire(self):
         """Its cable and its port of the bridge as they are said to be, also after a boot."""
@@ -80,7 +85,8 @@ class Node:
             said("bridge", "link", "set", "dev", self.link, "isolated", "on" if self.is_apart else "off")
 
     def crash(self):
-        """What a loss of power does: the file systems take nothing any more, not even what was written without a sync, and all is killed."""
+        """What a loss of power does: the file systems take nothing any more,
+        not even what was written without a sync, and all is killed."""
         if not (first := self.first()):
             return
         for line in open(f"/proc/{first}/mounts", encoding="utf-8"):
@@ -118,7 +124,8 @@ class Node:
 
 class Rack:
     def __init__(self, root, room, fleets, names=("n1", "n2")):
-        # an address of its own: else it has a node's, and another one when that node goes, so that nobody finds the switch for a while
+        # an address of its own: else it has a node's, and another one when that node goes, so that nobody finds the
+        # switch for a while
         said("ip", "link", "add", "br0", "address", "02:00:00:00:00:fe", "type", "bridge")
         said("ip", "addr", "add", f"{HUB}/24", "dev", "br0")
         said("ip", "link", "set", "br0", "up")

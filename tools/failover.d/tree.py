@@ -1,4 +1,5 @@
-"""The Debian that the nodes of tools/failover boot: made once by debootstrap, and given the files of docs/operating/failover at each run."""
+"""The Debian that the nodes of tools/failover boot: made once by debootstrap, and given the files of
+docs/operating/failover at each run."""
 import shutil
 import subprocess
 from pathlib import Path
@@ -8,7 +9,8 @@ from alone import said
 HERE = Path(__file__).resolve().parent
 OPERATING = HERE.parent.parent / "docs/operating"
 CLUSTER = OPERATING / "failover"
-WITHIN = "pacemaker corosync pacemaker-cli-utils pcs resource-agents haproxy iproute2 e2fsprogs procps psmisc kmod netcat-openbsd curl"
+WITHIN = ("pacemaker corosync pacemaker-cli-utils pcs resource-agents haproxy iproute2 e2fsprogs procps psmisc kmod "
+          "netcat-openbsd curl")
 UNIT = "fwdesk@.service"
 
 
@@ -19,10 +21,12 @@ def debian(root):
     print(f"debootstrap makes {root}, which takes some minutes", flush=True)
     unfinished = root.with_name(f"{root.name}.unfinished")
     shutil.rmtree(unfinished, ignore_errors=True)
-    said("debootstrap", "--variant=minbase", "--include=systemd,systemd-sysv,dbus,ca-certificates", "bookworm", unfinished)
+    said("debootstrap", "--variant=minbase", "--include=systemd,systemd-sysv,dbus,ca-certificates",
+         "bookworm", unfinished)
     put(unfinished, "usr/sbin/policy-rc.d", "#!/bin/sh\nexit 101\n", 0o755)
     shutil.copy("/etc/resolv.conf", unfinished / "etc/resolv.conf")
-    said("chroot", unfinished, "env", "DEBIAN_FRONTEND=noninteractive", "apt-get", "install", "-y", "-q", "--no-install-recommends", *WITHIN.split())
+    said("chroot", unfinished, "env", "DEBIAN_FRONTEND=noninteractive", "apt-get", "install", "-y", "-q",
+         "--no-install-recommends", *WITHIN.split())
     said("chroot", unfinished, "apt-get", "clean")
     unfinished.rename(root)
 
@@ -48,7 +52,8 @@ def unit():
 def haproxy(fleets):
     """The nodes' HAProxy, with a login and a line for each fleet."""
     password = said("openssl", "passwd", "-6", "-salt", "lab", "secret")
-    lines = [it for it in text(CLUSTER / "haproxy.cfg").replace("@PASSWORD@", password).splitlines() if not it.startswith("    server ")]
+    lines = [it for it in text(CLUSTER / "haproxy.cfg").replace("@PASSWORD@", password).splitlines()
+             if not it.startswith("    server ")]
     return "\n".join([*lines, *(f"    server {it} 127.0.0.1:{20001 + n}" for n, it in enumerate(fleets)), ""])
 
 
@@ -94,7 +99,9 @@ def of_the_lab(root):
     (root / "var/log/journal").mkdir(exist_ok=True)
     (root / "etc/hostname").unlink(missing_ok=True)
     put(root, "etc/hosts", "127.0.0.1 localhost\n10.77.0.1 n1\n10.77.0.2 n2\n")
-    subprocess.run(["systemctl", f"--root={root}", "-q", "enable", "lab-net", "corosync", "pacemaker", "haproxy"], check=True)
+    subprocess.run(["systemctl", f"--root={root}", "-q", "enable", "lab-net", "corosync", "pacemaker", "haproxy"],
+                   check=True)
     # what a node has by Debian and doesn't need here
-    masked = "pcsd pcsd-ruby e2scrub_reap apt-daily.timer apt-daily-upgrade.timer dpkg-db-backup.timer e2scrub_all.timer fstrim.timer"
+    masked = ("pcsd pcsd-ruby e2scrub_reap apt-daily.timer apt-daily-upgrade.timer dpkg-db-backup.timer "
+              "e2scrub_all.timer fstrim.timer")
     subprocess.run(["systemctl", f"--root={root}", "-q", "mask", *masked.split()], check=True)
