@@ -27,7 +27,8 @@ class Edge(Room):
         words = as_module(ROOT / "docs/operating/fleets/fwdesk-fleet")
         words.PROXIES = self.folder / "maps"
         named = [f"{name}:{groups}" for name, groups in self.operators.items() if groups] or [self.login[0]]
-        words.write_proxies([words.Fleet(FLEET, self.behind, operators=named), words.Fleet("other", free_port(), operators=named)])
+        words.write_proxies([words.Fleet(FLEET, self.behind, operators=named),
+                             words.Fleet("other", free_port(), operators=named)])
         (self.folder / "fleets").mkdir()
         (self.folder / "held.map").touch()
         self.certificate()
@@ -39,8 +40,10 @@ class Edge(Room):
             r"/var/lib/fwdesk-brake/": f"{self.folder}/",
             r"/run/fwdesk-brake\.sock": f"{self.folder}/brake.sock",
         })
-        self.start_at(self.folder / "desks.sock", ["haproxy", "-db", "-f", desks, "-f", self.folder / "maps/servers.cfg"])
-        return ["haproxy", "-W", "-S", self.folder / "master.sock", "-f", self.configured("fleets/haproxy.cfg", common | {
+        self.start_at(self.folder / "desks.sock",
+                      ["haproxy", "-db", "-f", desks, "-f", self.folder / "maps/servers.cfg"])
+        return ["haproxy", "-W", "-S", self.folder / "master.sock", "-f",
+                self.configured("fleets/haproxy.cfg", common | {
             r" user haproxy mode 600": "",
             r"/run/haproxy/": f"{self.folder}/",
             r"/run/haproxy-desks/": f"{self.folder}/",

@@ -1,7 +1,8 @@
-"""A Debian of its own with many fleets, as docs/operating/fleets has them, for tools/fleets and bench/fleets; not run by itself.
+"""A Debian of its own with many fleets, as docs/operating/fleets has them, for tools/fleets and bench/fleets;
+not run by itself.
 
-The package is installed there as on any machine, systemd starts the units, and both HAProxys run from the committed files. What asks them is
-the script itself, which moves into that Debian's network."""
+The package is installed there as on any machine, systemd starts the units, and both HAProxys run from the committed
+files. What asks them is the script itself, which moves into that Debian's network."""
 import base64
 import ctypes
 import http.client
@@ -46,8 +47,10 @@ def device(name, number):
 
 
 def poll(name, way, number, tls=False):
-    """The bytes of a poll, by one of the ways in which a request is led to its fleet, and as a device of that way's id."""
-    path, host = {"path": (f"/fleets/{name}", "localhost"), "host": ("", f"{name}.desk.example"), "prefix": ("", "localhost")}[way]
+    """The bytes of a poll, by one of the ways in which a request is led to its fleet,
+    and as a device of that way's id."""
+    path, host = {"path": (f"/fleets/{name}", "localhost"), "host": ("", f"{name}.desk.example"),
+                  "prefix": ("", "localhost")}[way]
     id = device(name, number)
     return f"GET {path}{BASE}/{id} HTTP/1.1\r\nHost: {host}\r\nAuthorization: TargetToken tok-{id}\r\n\r\n".encode()
 
@@ -64,8 +67,10 @@ for number in range(1, fleets + 1):
     folder = pathlib.Path("/var/lib/private/fwdesk-fleets", name)
     folder.mkdir(parents=True)
     ids = [f"{name}-{it:05}" for it in range(1, devices + 1)]
-    pathlib.Path("/tmp/fleet.csv").write_text("controllerid,name,token,tags\\n" + "".join(f"{it},{it},tok-{it},\\n" for it in ids))
-    subprocess.run(["fwdesk", "import", "--db", folder / "desk.db", "--file", "/tmp/fleet.csv"], check=True, stdout=subprocess.DEVNULL)
+    pathlib.Path("/tmp/fleet.csv").write_text("controllerid,name,token,tags\\n" + \
+"".join(f"{it},{it},tok-{it},\\n" for it in ids))
+    subprocess.run(["fwdesk", "import", "--db", folder / "desk.db", "--file", "/tmp/fleet.csv"], check=True, \
+stdout=subprocess.DEVNULL)
     pathlib.Path("/etc/fwdesk/fleets", name + ".program").symlink_to("/usr/bin/fwdesk")
     conf = f'PORT={20000 + number}\\nHOSTS="{name}.desk.example"\\nPREFIXES="{name}-"\\nOPERATORS="anna"\\n'
     pathlib.Path("/etc/fwdesk/fleets", name + ".conf").write_text(conf)
@@ -109,14 +114,16 @@ class Machine(package.Debian):
 
     def enter_network(self):
         with open(f"/proc/{self.first_process()}/ns/net") as it:
-            assert ctypes.CDLL(None, use_errno=True).setns(it.fileno(), CLONE_NEWNET) == 0, os.strerror(ctypes.get_errno())
+            assert ctypes.CDLL(None, use_errno=True).setns(it.fileno(), CLONE_NEWNET) == 0, \
+                os.strerror(ctypes.get_errno())
 
     def add(self, name, *words):
         """A fleet that is led by each of the three ways; the beginning of its devices' ids is its name's."""
         self.gives(f"fwdesk-fleet add {name} --host {name}.desk.example --prefix {name}- {' '.join(words)}")
 
     def make(self, fleets, devices):
-        """So many fleets with their devices at once, by their files and one call of fwdesk-fleet: additions one by one take their time."""
+        """So many fleets with their devices at once, by their files and one call of fwdesk-fleet:
+        additions one by one take their time."""
         self.gives("cat > /tmp/make.py", MAKE.encode())
         self.gives(f"python3 /tmp/make.py {fleets} {devices} && fwdesk-fleet settle")
 
@@ -130,7 +137,8 @@ class Machine(package.Debian):
         """A rollout of an artifact of so many bytes to all of its devices."""
         own = f"/fleets/{name}/rest/v1"
         half = {"condition": "THRESHOLD", "expression": "100"}
-        plan = {"name": "r", "distributionSetId": 1, "targetFilterQuery": "name==*", "amountGroups": 1, "successCondition": half, "errorCondition": half}
+        plan = {"name": "r", "distributionSetId": 1, "targetFilterQuery": "name==*", "amountGroups": 1,
+                "successCondition": half, "errorCondition": half}
         for path, body in (
             ("softwaremodules", [{"name": "app", "type": "os", "version": "1"}]),
             ("softwaremodules/1/artifacts?filename=app.bin", bytes(size)),
@@ -142,7 +150,8 @@ class Machine(package.Debian):
 
     def admin(self, socket, order):
         """What a HAProxy answers to an order."""
-        line = "import socket; s = socket.socket(socket.AF_UNIX); s.connect('%s'); s.sendall(b'%s\\n'); print(s.makefile().read())"
+        line = ("import socket; s = socket.socket(socket.AF_UNIX); s.connect('%s'); s.sendall(b'%s\\n'); "
+                "print(s.makefile().read())")
         return self.gives(f'python3 -c "{line % (socket, order)}"')
 
     def worker(self, socket):
@@ -151,7 +160,8 @@ class Machine(package.Debian):
 
 
 def ask(method, path, body=None, port=LOCAL, user=None, **fields):
-    """Asks once, through the port without TLS and logins where nothing else is said, and gives the status and the body."""
+    """Asks once, through the port without TLS and logins where nothing else is said,
+    and gives the status and the body."""
     if port == TLS:
         it = http.client.HTTPSConnection("127.0.0.1", port, timeout=PATIENCE, context=ssl._create_unverified_context())
     else:
@@ -187,7 +197,8 @@ def crowd(names, devices, clients, stop, tell):
 
 
 class Polls:
-    """Clients that poll these fleets for as long as a `with` lasts, and what they were told: statuses, and waits in milliseconds and seconds."""
+    """Clients that poll these fleets for as long as a `with` lasts, and what they were told: statuses, and waits in
+    milliseconds and seconds."""
 
     def __init__(self, names, devices, clients):
         self.stop = multiprocessing.Event()
@@ -212,4 +223,5 @@ class Polls:
 
     def __str__(self):
         rate = self.answered / self.seconds
-        return f"{rate:.0f} polls a second, 99 of 100 within {self.late:.1f} ms, the longest {self.longest * 1000:.0f} ms, told {self.told}"
+        return (f"{rate:.0f} polls a second, 99 of 100 within {self.late:.1f} ms, "
+                f"the longest {self.longest * 1000:.0f} ms, told {self.told}")

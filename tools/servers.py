@@ -1,4 +1,5 @@
-"""What tools share that start servers: free ports, configurations with places of their own, what is started and ended. Not run by itself."""
+"""What tools share that start servers: free ports, configurations with places of their own,
+what is started and ended. Not run by itself."""
 import os
 import signal
 import socket
@@ -29,7 +30,8 @@ def eventually(what, holds, seconds=PATIENCE, child=None):
     """Waits until it holds, and gives what it then is. The child has to run as long."""
     until = time.monotonic() + seconds
     while not (got := holds()):
-        assert child is None or child.poll() is None, f"{what}: it has ended with {child.returncode}: {child.log.read_text(errors='replace')[-400:]}"
+        assert child is None or child.poll() is None, \
+            f"{what}: it has ended with {child.returncode}: {child.log.read_text(errors='replace')[-400:]}"
         assert time.monotonic() < until, f"{what}: not within {seconds} s"
         time.sleep(0.2)
     return got
