@@ -70,7 +70,8 @@ class BadCase(Exception):
 
 @dataclass
 class Exchange:
-    """What goes in, and what comes out before the next is asked; and whether it is a command that is accepted and changes nothing."""
+    """What goes in, and what comes out before the next is asked;
+    and whether it is a command that is accepted and changes nothing."""
 
     request: bytes
     reply: bytes = b""
@@ -79,7 +80,8 @@ class Exchange:
 
 @dataclass
 class Process:
-    """One process of a case: what is done to the file before it, its command line, its exchanges, how it ends and what its file then holds."""
+    """One process of a case: what is done to the file before it, its command line, its exchanges,
+    how it ends and what its file then holds."""
 
     words: list
     before: list = field(default_factory=list)
@@ -211,7 +213,8 @@ def unrolled(lines):
 class Reader:
     """Reads the lines of a case, one after the other."""
 
-    ITEMS = (">", ">>", "<", "<<", "repeats", "program", "again", "exit", "err", "sql", "database", "file", "rows", "pieces", "awaits")
+    ITEMS = (">", ">>", "<", "<<", "repeats", "program", "again", "exit", "err", "sql", "database", "file", "rows",
+             "pieces", "awaits")
 
     def __init__(self, path):
         self.case, self.item, self.body, self.before = Case(path), None, [], []
@@ -353,7 +356,8 @@ def rows_of(database, query):
 
 def started(words, database, program, **how):
     # under its own name, whatever its file is called: clap's texts tell it
-    words = ["fwdesk", *(it.replace("{db}", str(database)).replace("{file}", str(file_beside(database))) for it in words)]
+    words = ["fwdesk",
+             *(it.replace("{db}", str(database)).replace("{file}", str(file_beside(database))) for it in words)]
     pipes = dict.fromkeys(("stdin", "stdout", "stderr"), subprocess.PIPE)
     return subprocess.Popen(words, executable=str(program), **pipes, **how)
 

@@ -1,4 +1,5 @@
-"""What crates.txt says: the crates of the repository, lowest first, each with those that it uses. For other tools; not run by itself."""
+"""What crates.txt says: the crates of the repository, lowest first, each with those that it uses. For other tools;
+not run by itself."""
 from pathlib import Path
 
 ROOT = Path(__file__).resolve().parent.parent

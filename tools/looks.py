@@ -1,4 +1,5 @@
-"""What is asked of a database to see all that a case may have left in it: for each-failure and cut-files, and not run by itself."""
+"""What is asked of a database to see all that a case may have left in it: for each-failure and cut-files,
+and not run by itself."""
 import functools
 import re
 import subprocess
@@ -26,17 +27,20 @@ class Asked:
     def __init__(self, requests):
         self.requests, self.text = requests, b"\n".join(requests)
         rows = b"\n".join(it.partition(b",tags\n")[2] for it in requests if it.startswith(b"POST /desk/v1/import"))
-        self.modules, self.sets, self.rollouts = (self.added(it) for it in (b"softwaremodules HTTP", b"distributionsets HTTP", b"rollouts HTTP"))
+        self.modules, self.sets, self.rollouts = (self.added(it) for it in (b"softwaremodules HTTP",
+                                                                            b"distributionsets HTTP", b"rollouts HTTP"))
         self.artifacts = self.added(rb"softwaremodules/\d+/artifacts\?")
         even = map(int, words(rb'"amountGroups":(\d+)', self.text))
         self.groups = range(1, 2 + max([*even, *(it.count(b'"targetPercentage":') for it in requests)], default=0))
         # each device with each token that it is given
-        given = pairs(rb'"controllerId":"([^"]*)"[^{}]*"securityToken":"([^"]*)"', self.text) + pairs(rb"(?m)^([^,\n]+),[^,\n]+,([^,\n]+),", rows)
+        given = (pairs(rb'"controllerId":"([^"]*)"[^{}]*"securityToken":"([^"]*)"', self.text)
+                 + pairs(rb"(?m)^([^,\n]+),[^,\n]+,([^,\n]+),", rows))
         self.tokens = list(dict.fromkeys(given))
         self.devices = list(dict.fromkeys(device for device, _ in given))
         # a rollout gives each of its members an action
         self.actions = range(1, 1 + (len(self.rollouts) - 1) * len(self.devices))
-        lists = words(rb'"tags":\[([^\]]*)\]', self.text) + words(rb"/tags/([^/ ]+)", self.text) + words(rb"(?m),([^,\n]*)$", rows)
+        lists = (words(rb'"tags":\[([^\]]*)\]', self.text) + words(rb"/tags/([^/ ]+)", self.text)
+                 + words(rb"(?m),([^,\n]*)$", rows))
         self.tags = dict.fromkeys(tag for it in lists for tag in re.findall(r"[\w.-]+", it))
         self.attributes = words(rb'"([\w.-]+)":', b"\n".join(re.findall(rb'"data":(\{[^}]*\})', self.text)))
 
@@ -45,7 +49,8 @@ class Asked:
 
     def paths_of_stock(self):
         """Of modules, artifacts and sets."""
-        yield from ("softwaremodules", "softwaremodules?offset=1&limit=1", "distributionsets", *(f"distributionsets/{it}" for it in self.sets))
+        yield from ("softwaremodules", "softwaremodules?offset=1&limit=1", "distributionsets",
+                    *(f"distributionsets/{it}" for it in self.sets))
         for module in self.modules:
             yield from (f"softwaremodules/{module}", f"softwaremodules/{module}/artifacts")
             for artifact in self.artifacts:
@@ -53,31 +58,37 @@ class Asked:
 
     def paths_of_targets(self):
         yield from ("targets", "targets?offset=1&limit=1", "targets?q=name==*", "targets?q=name!=*")
-        yield from (*(f"targets?q=tag=={it}" for it in self.tags), *(f"targets?q=attribute.{it}==*" for it in self.attributes))
+        yield from (*(f"targets?q=tag=={it}" for it in self.tags),
+                    *(f"targets?q=attribute.{it}==*" for it in self.attributes))
         for device in self.devices:
             yield from (f"targets/{device}", f"targets/{device}/actions")
-            yield from (f"targets/{device}/actions/{action}{more}" for action in self.actions for more in ("", "/status"))
+            yield from (f"targets/{device}/actions/{action}{more}" for action in self.actions
+                        for more in ("", "/status"))
 
     def paths_of_rollouts(self):
         yield "rollouts"
         for rollout in self.rollouts:
             yield from (f"rollouts/{rollout}{more}" for more in ("", "/deploygroups"))
-            yield from (f"rollouts/{rollout}/deploygroups/{group}{more}" for group in self.groups for more in ("", "/targets"))
+            yield from (f"rollouts/{rollout}/deploygroups/{group}{more}" for group in self.groups
+                        for more in ("", "/targets"))
 
     def calls(self):
         """The calls of operators, and those of each device with each of its tokens."""
         for path in (*self.paths_of_stock(), *self.paths_of_targets(), *self.paths_of_rollouts()):
             yield f"GET /rest/v1/{path}"
-        yield from (f"GET /desk/v1/rollouts/{rollout}/{what}" for rollout in self.rollouts for what in ("report", "actions"))
+        yield from (f"GET /desk/v1/rollouts/{rollout}/{what}" for rollout in self.rollouts
+                    for what in ("report", "actions"))
         files = words(rb"artifacts\?filename=([^& ]+)", self.text)
         for device, token in self.tokens:
-            paths = ["", *(f"/{what}/{action}" for action in self.actions for what in ("deploymentBase", "cancelAction"))]
+            paths = ["",
+                     *(f"/{what}/{action}" for action in self.actions for what in ("deploymentBase", "cancelAction"))]
             paths += [f"/softwaremodules/{module}/artifacts/{it}" for module in self.modules for it in files]
             yield from (f"GET /DEFAULT/controller/v1/{device}{it} | Authorization: TargetToken {token}" for it in paths)
 
 
 def looks_of(case):
-    """Requests that show all that a case may leave: its own queries, and each kind of query of all that its commands name and add."""
+    """Requests that show all that a case may leave: its own queries,
+    and each kind of query of all that its commands name and add."""
     asked = [it.request for process in case.processes for it in process.exchanges]
     queries = [it for it in asked if it.startswith(b"GET ")]
     return list(dict.fromkeys([*queries, *(conversation.request_bytes(it, b"") for it in Asked(asked).calls())]))

@@ -1,4 +1,5 @@
-"""Judges values by schemas: the keywords of JSON Schema that docs/openapi.json has, without a package. Lengths are those of UTF-8."""
+"""Judges values by schemas: the keywords of JSON Schema that docs/openapi.json has, without a package.
+Lengths are those of UTF-8."""
 import json
 import re
 from functools import lru_cache
@@ -8,10 +9,12 @@ DEEPEST = 127
 # keywords that say nothing of a value
 NOTES = ("description", "default", "examples")
 KINDS = {"object": dict, "array": list, "string": str, "integer": int, "boolean": bool}
-SIZES = {"imum": lambda it: it, "Length": lambda it: len(it.encode() if isinstance(it, str) else it), "Items": len, "Properties": len}
+SIZES = {"imum": lambda it: it, "Length": lambda it: len(it.encode() if isinstance(it, str) else it), "Items": len,
+         "Properties": len}
 # whether a value keeps the rule of a schema's keyword; `fits` judges what lies within
 RULES = {
-    "type": lambda fits, value, rule, _: isinstance(value, KINDS[rule]) and isinstance(value, bool) == (rule == "boolean"),
+    "type": lambda fits, value, rule, _: isinstance(value, KINDS[rule])
+        and isinstance(value, bool) == (rule == "boolean"),
     "properties": lambda fits, value, rule, _: all(fits(value[name], it) for name, it in rule.items() if name in value),
     "required": lambda fits, value, rule, _: all(name in value for name in rule),
     "additionalProperties": lambda fits, value, rule, schema: all(
@@ -102,6 +105,8 @@ class Schemas:
     def takes(self, parameters, given):
         """Whether parameters are given as they are described."""
         wanted = {it["name"]: self.of(it["schema"]) for it in parameters}
-        whole = {it for it in given if wanted.get(it, {}).get("type") == "integer" and re.fullmatch("0|[1-9][0-9]*", given[it])}
+        whole = {it for it in given
+                 if wanted.get(it, {}).get("type") == "integer" and re.fullmatch("0|[1-9][0-9]*", given[it])}
         lacking = {it["name"] for it in parameters if it.get("required")} - set(given)
-        return not lacking and all(it in wanted and self.fits(int(text) if it in whole else text, wanted[it]) for it, text in given.items())
+        return not lacking and all(it in wanted and self.fits(int(text) if it in whole else text, wanted[it])
+                                   for it, text in given.items())

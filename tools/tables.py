@@ -1,10 +1,13 @@
-"""What tools/meanings writes of the tables of a desk: that they are tables, one after the other, and what each text makes.
+"""What tools/meanings writes of the tables of a desk: that they are tables, one after the other,
+and what each text makes.
 
-Each function takes the tables in the order in which they are made, and gives the text of a file. What is written is judged by the prover: a
-table that isn't what SQLite's compiler makes of its text is refused, and so is a list that leaves one out.
+Each function takes the tables in the order in which they are made, and gives the text of a file. What is written is
+judged by the prover: a table that isn't what SQLite's compiler makes of its text is refused, and so is a list that
+leaves one out.
 """
 
-WRITTEN = "Written by tools/meanings from src/table_texts.rt of desk_records. What it makes is proved; the tool is not trusted."
+WRITTEN = ("Written by tools/meanings from src/table_texts.rt of desk_records. What it makes is proved; "
+           "the tool is not trusted.")
 DESK = "Rattle.desk_records"
 OPENING = "Rattle.desk_opening"
 KINDS = {"INTEGER": "Integer", "TEXT": "Text", "BLOB": "Blob"}
@@ -60,7 +63,8 @@ def definition(table):
         f'{table.word} tree = table_of (codes "{table.name}") tree',
         f"    ({columns[0]}",
         *(f"    ∷ {c}" for c in columns[1:-1]),
-        f"    ∷ []) {key} {bracketed(map(str, table.primary)) if table.primary else '[]'} {bracketed(uniques)} {bracketed(['plain'] * len(uniques))}",
+        f"    ∷ []) {key} {bracketed(map(str, table.primary)) if table.primary else '[]'} {bracketed(uniques)} "
+        f"{bracketed(['plain'] * len(uniques))}",
         "",
     ]
 
@@ -188,7 +192,8 @@ def each_text(tables):
         return f"(refl, {nulls(count - 1)})" if count else "tt"
 
     def is_place(t):
-        given = f"makes = {t.constant.lower()}_makes; whole = refl; defined = refl; bare = bare_of {nulls(len(t.columns))}"
+        given = (f"makes = {t.constant.lower()}_makes; whole = refl; defined = refl; "
+                 f"bare = bare_of {nulls(len(t.columns))}")
         return f"is_place {t.at} = record {{ {given}; unindexed = λ rest. refl; unsequenced = refl }}"
 
     return "\n".join([

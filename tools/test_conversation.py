@@ -28,7 +28,8 @@ def test_the_example_of_the_page():
     same(first.words, ["run", "--db", "{db}", "--interface", "mgmt"])
     same((first.input(), first.output(), second.words), (request, head + b'[{"id":1}]', first.words))
     refusal = b'{"error":"exists","number":5}'
-    same(second.output(), b"HTTP/1.1 409 Conflict\r\nContent-Type: application/json\r\nContent-Length: 29\r\n\r\n" + refusal)
+    same(second.output(),
+         b"HTTP/1.1 409 Conflict\r\nContent-Type: application/json\r\nContent-Length: 29\r\n\r\n" + refusal)
 
 
 def test_fields_and_kinds():
@@ -57,7 +58,8 @@ def test_lines_of_a_body():
 
 
 def test_loops():
-    same([it for it, _ in exchanges("# t\nfor i in 2..3\n>> {i}-{i:03}-{i+1}\ndone\n>> {i}\n")], [b"2-002-3", b"3-003-4", b"{i}"])
+    same([it for it, _ in exchanges("# t\nfor i in 2..3\n>> {i}-{i:03}-{i+1}\ndone\n>> {i}\n")],
+         [b"2-002-3", b"3-003-4", b"{i}"])
     with refused(BadCase, "without `done`"):
         read("# t\nfor i in 1..2\n>> x\n")
 
@@ -69,9 +71,11 @@ def test_processes_files_and_rows():
     )
     first, second = case.processes
     same(first.before, [("sql", "CREATE TABLE t (x)"), ("file", b"a,b\n")])
-    same((first.words, first.status, first.error, first.error_part), ("import --db {db} --file {file}".split(), 1, "line 2", True))
+    same((first.words, first.status, first.error, first.error_part),
+         ("import --db {db} --file {file}".split(), 1, "line 2", True))
     same(first.rows, [("SELECT x FROM t", ["1|x'00'"])])
-    same((second.before, second.words, second.status, second.error_part), ([("database", b"\x01")], ["run", "--db", "a b"], 2, False))
+    same((second.before, second.words, second.status, second.error_part),
+         ([("database", b"\x01")], ["run", "--db", "a b"], 2, False))
 
 
 def test_ways_repeats_and_what_is_awaited():

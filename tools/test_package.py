@@ -1,4 +1,5 @@
-"""Tests of the version that tools/package gives, as VERSION says it: V-1 of a release, and before one V with its commit's time."""
+"""Tests of the version that tools/package gives, as VERSION says it: V-1 of a release,
+and before one V with its commit's time."""
 import os
 import subprocess
 
@@ -30,7 +31,8 @@ def test_a_release_and_what_comes_before_it():
 
 
 def test_their_order_is_dpkgs():
-    rising = ["1.0.0~pre+20261127.1900", stated("1.0.0~pre"), stated("1.0.0"), "1.0.0-2", stated("1.0.1~pre"), stated("1.0.1")]
+    rising = ["1.0.0~pre+20261127.1900", stated("1.0.0~pre"), stated("1.0.0"), "1.0.0-2", stated("1.0.1~pre"),
+              stated("1.0.1")]
     if os.path.exists("/usr/bin/dpkg"):
         for one, other in zip(rising, rising[1:]):
             same(subprocess.run(["dpkg", "--compare-versions", one, "lt", other]).returncode, 0)

@@ -60,14 +60,16 @@ def test_bodies():
     judge = schemas.Schemas(PAGE)
     content = {"application/json": {"schema": ID}, "text/plain": {"schema": {"const": "ok"}}}
     assert judge.holds(content, "application/json", b"1") and judge.holds(content, "text/plain", b"ok")
-    for kind, body in (("application/json", b"0"), ("application/json", b"{"), ("application/json", b"\xff"), ("text/csv", b"ok")):
+    for kind, body in (("application/json", b"0"), ("application/json", b"{"), ("application/json", b"\xff"),
+                       ("text/csv", b"ok")):
         assert not judge.holds(content, kind, body), (kind, body)
     assert not judge.holds({"application/json": {"schema": {}}}, "application/json", b"NaN"), "no number of JSON's"
 
 
 def test_how_deep_the_server_reads():
     for depth, fits in ((127, True), (128, False)):
-        same(schemas.Schemas(PAGE).holds({"application/json": {"schema": {}}}, "application/json", b"[" * depth + b"]" * depth), fits)
+        same(schemas.Schemas(PAGE).holds({"application/json": {"schema": {}}}, "application/json",
+                                         b"[" * depth + b"]" * depth), fits)
 
 
 def test_parameters():

@@ -18,7 +18,8 @@ def table(text, **names):
 def test_columns_and_keys():
     it = table(TEXT)
     same((it.name, it.word, it.at, it.key), ("pump", "pump_table", "Pumps", "number"))
-    same(it.described, [("number", "INTEGER", False), ("name", "TEXT", True), ("digest", "BLOB", False), ("room", "INTEGER", True)])
+    same(it.described,
+         [("number", "INTEGER", False), ("name", "TEXT", True), ("digest", "BLOB", False), ("room", "INTEGER", True)])
     # the columns of keys count from 1, and the row's own key is 0
     same((it.primary, it.uniques), ([0], [[2, 4], [0, 3]]))
 
@@ -47,7 +48,8 @@ def test_what_has_no_form():
 
 
 def test_what_is_written_of_a_table():
-    written = tables.definition(table("CREATE TABLE pump (number INTEGER PRIMARY KEY, name TEXT NOT NULL, UNIQUE (name)) STRICT"))
+    written = tables.definition(table("CREATE TABLE pump (number INTEGER PRIMARY KEY, name TEXT NOT NULL, "
+                                      "UNIQUE (name)) STRICT"))
     same(written, [
         "-- the pumps",
         "abbrev pub pump_table : ℕ → Table",
@@ -64,11 +66,14 @@ def test_lists_on_as_many_lines_as_they_need():
     same(tables.cons("places =", ["One", "Two"]), ["places = One ∷ Two ∷ []"])
     same(tables.filled("a", ["bb", "cc"], 5), ["a bb", "    cc"])
     lines = tables.used("Rattle.x", [f"word{it}" for it in range(40)]).split("\n")
-    assert len(lines) > 1 and all(len(it) <= 150 and it.startswith("use Rattle.x.{") and it.endswith("}") for it in lines), lines
-    same([word for it in lines for word in it.removeprefix("use Rattle.x.{")[:-1].split(", ")], [f"word{it}" for it in range(40)])
+    assert (len(lines) > 1
+            and all(len(it) <= 150 and it.startswith("use Rattle.x.{") and it.endswith("}") for it in lines)), lines
+    same([word for it in lines for word in it.removeprefix("use Rattle.x.{")[:-1].split(", ")],
+         [f"word{it}" for it in range(40)])
 
 
 def test_each_table_stands_in_each_list():
-    both = [table("CREATE TABLE pump (id TEXT NOT NULL) STRICT"), meanings.Table("CREATE_FAN", "CREATE TABLE fan (id TEXT NOT NULL) STRICT", {}, "the fans")]
+    both = [table("CREATE TABLE pump (id TEXT NOT NULL) STRICT"),
+            meanings.Table("CREATE_FAN", "CREATE TABLE fan (id TEXT NOT NULL) STRICT", {}, "the fans")]
     for path, text in tables.files(ROOT, both).items():
         assert text.index("Pumps") < text.rindex("Fans"), path

@@ -1,4 +1,5 @@
-"""Tests of what tools/wrong-bodies reads: an edit, the functions and lemmas of a crate as the prover names them, and where an edit applies."""
+"""Tests of what tools/wrong-bodies reads: an edit, the functions and lemmas of a crate as the prover names them,
+and where an edit applies."""
 from as_module import as_module
 from crates import ROOT
 from testing import refused, same, written
@@ -33,7 +34,8 @@ pub(crate) fn open() -> Desk<Memory> {
 }
 '''
 LEMMAS = "-- a lemma\npub no_more : A → B\nno_more a = b\n\nother : B\nother = c\n"
-EDIT = "# takes one more\nrefused-in: desk::Desk::is_full\nfile: src/desk.rt\nold: self.count() >= MOST\nnew: self.count() > MOST\n"
+EDIT = ("# takes one more\nrefused-in: desk::Desk::is_full\nfile: src/desk.rt\nold: self.count() >= MOST\n"
+        "new: self.count() > MOST\n")
 
 
 def edit_of(text, folder="wrong"):
@@ -62,7 +64,8 @@ def test_an_edit():
 def test_names_of_functions():
     with written(src_desk_rt=DESK) as room:
         found = bodies.functions(room)
-    same(sorted(found), ["desk::Desk+Memory" + "Iterator::next", "desk::Desk::count", "desk::Desk::is_full", "desk::open"])
+    same(sorted(found),
+         ["desk::Desk+Memory" + "Iterator::next", "desk::Desk::count", "desk::Desk::is_full", "desk::open"])
     place = found["desk::Desk::is_full"]
     same((place.file, place.first, place.last), ("src/desk.rt", 9, 14))
 
@@ -88,8 +91,10 @@ def test_lemmas():
 
 def test_where_an_edit_applies():
     edit, why = settled(EDIT)
-    same((why, [it.name for it in edit.places], edit.constants, edit.is_within), (None, ["desk::Desk::is_full"], set(), True))
-    edit, why = settled(EDIT.replace("self.count() >= MOST", "const MOST: u32 = 5;").replace("self.count() > MOST", "const MOST: u32 = 6;"))
+    same((why, [it.name for it in edit.places], edit.constants, edit.is_within),
+         (None, ["desk::Desk::is_full"], set(), True))
+    edit, why = settled(EDIT.replace("self.count() >= MOST", "const MOST: u32 = 5;")
+                        .replace("self.count() > MOST", "const MOST: u32 = 6;"))
     same((why, edit.constants, edit.is_within), (None, {"MOST"}, True))
 
 
@@ -111,7 +116,8 @@ def test_which_bodies_share_a_copy():
     one, _ = settled(EDIT)
     same_place, _ = settled(EDIT)
     elsewhere, _ = settled(EDIT.replace("desk::Desk::is_full", "desk::open").replace("self.count() >= MOST", "todo()"))
-    constant, _ = settled(EDIT.replace("desk::Desk::is_full", "desk::open").replace("self.count() >= MOST", "const MOST: u32 = 5;"))
+    constant, _ = settled(EDIT.replace("desk::Desk::is_full", "desk::open")
+                          .replace("self.count() >= MOST", "const MOST: u32 = 5;"))
     same([bodies.may_share(one, it) for it in (same_place, elsewhere, constant)], [False, True, False])
     same([len(it) for it in bodies.copies([one, same_place, elsewhere])], [2, 1])
 
