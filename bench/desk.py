@@ -1,4 +1,5 @@
-"""What the scripts share: requests, replies, and where the programs are. A program may be named with a word behind it, as `twin --at-once`."""
+"""What the scripts share: requests, replies, and where the programs are.
+A program may be named with a word behind it, as `twin --at-once`."""
 import hashlib
 import json
 import os
@@ -137,7 +138,8 @@ def target_object(number, word="unknown"):
 def page_of(numbers, total, word="unknown"):
     """The reply that shows these targets, of which each has the word."""
     content = [target_object(number, word) for number in numbers]
-    return reply("200 OK", json.dumps({"content": content, "size": len(content), "total": total}, separators=(",", ":")))
+    return reply("200 OK",
+                 json.dumps({"content": content, "size": len(content), "total": total}, separators=(",", ":")))
 
 
 def asking_page(_turn):

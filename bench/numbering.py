@@ -1,8 +1,9 @@
-"""The numbers part of `run`: feedback with a number beside the same feedback without one, of one program over two copies of a file.
+"""The numbers part of `run`: feedback with a number beside the same feedback without one,
+of one program over two copies of a file.
 
-Both copies stand open at the same time and take turns every ten requests, as those of the rollouts do (rollouts.py). The least of the turns
-counts. Where a program of before is named, which knows no numbers, it takes turns with them over a third copy. The file is of version 2, so
-that both programs open it.
+Both copies stand open at the same time and take turns every ten requests, as those of the rollouts do (rollouts.py).
+The least of the turns counts. Where a program of before is named, which knows no numbers, it takes turns with them over
+a third copy. The file is of version 2, so that both programs open it.
 """
 import os
 import sqlite3
@@ -13,7 +14,8 @@ import rollouts
 
 # what is asked of feedback with a number, beside the same without one, and of which rows
 ASKED = 1.1
-FIRST, SECOND, LAST, OUTCOME = BOUND = "the first note of an action", "its second note", "its 99th note", "the outcome behind two notes"
+FIRST, SECOND, LAST, OUTCOME = BOUND = ("the first note of an action", "its second note", "its 99th note",
+                                        "the outcome behind two notes")
 FLEET = rollouts.THOUSAND
 FEW, MANY = range(1, 101), range(101, 121)
 WITHOUT, WITH, BEFORE = "without", "with", "before"
@@ -77,7 +79,8 @@ def ratio_of(least, one, other, bound=None):
 
 def print_table(title, taken):
     """A row to each kind of feedback."""
-    print(f"\n{title}\n\n| | without (us) | with (us) | ratio, asked | before (us) | without beside before |\n|---|---|---|---|---|---|")
+    print(f"\n{title}\n\n| | without (us) | with (us) | ratio, asked | before (us) | without beside before |\n"
+          "|---|---|---|---|---|---|")
     for row, turns in taken.items():
         least = {name: 1e6 * min(it[name] for it in turns) for name in turns[0]}
         without, given, before = (f"{least[name]:.0f}" if name in least else "" for name in (WITHOUT, WITH, BEFORE))

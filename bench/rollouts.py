@@ -1,9 +1,11 @@
-"""The rollouts part of `run`: fleets of devices, what each program takes for a request of them, and the bounds that hold.
+"""The rollouts part of `run`: fleets of devices, what each program takes for a request of them,
+and the bounds that hold.
 
-A fleet's file is made once, by the C program. Each program then opens a copy of it, is asked some things that aren't timed, and then one
-request after the other, each once the reply to the one before is there; so no figure has the opening of the file in it. All programs
-stand open at the same time and take turns every ten requests, so that a busy machine slows each alike; they and the script run on one
-processor, but for the streams, so that no figure has the waking of another one in it.
+A fleet's file is made once, by the C program. Each program then opens a copy of it, is asked some things that aren't
+timed, and then one request after the other, each once the reply to the one before is there; so no figure has the
+opening of the file in it. All programs stand open at the same time and take turns every ten requests, so that a busy
+machine slows each alike; they and the script run on one processor, but for the streams, so that no figure has the
+waking of another one in it.
 """
 import os
 import shutil
@@ -55,8 +57,10 @@ def polled(number, action):
 def reporting(number, action, execution, finished, given=None):
     """The request by which a device reports of an action, with a number where one is given."""
     numbered = f'"number":{given},' if given else ""
-    body = f'{{{numbered}"status":{{"execution":"{execution}","result":{{"finished":"{finished}"}},"details":["at work"]}}}}'
-    head = f"POST {device(number)}/deploymentBase/{action}/feedback HTTP/1.1\r\nAuthorization: TargetToken {desk.target(number)[2]}"
+    body = (f'{{{numbered}"status":{{"execution":"{execution}","result":{{"finished":"{finished}"}},'
+            '"details":["at work"]}}')
+    head = (f"POST {device(number)}/deploymentBase/{action}/feedback HTTP/1.1\r\n"
+            f"Authorization: TargetToken {desk.target(number)[2]}")
     return f"{head}\r\nContent-Length: {len(body)}\r\n\r\n{body}".encode()
 
 
@@ -72,13 +76,15 @@ def ending(number, action, given=None):
 
 def conditions(success, error):
     """The members of a rollout or a group that say its thresholds."""
-    said = (f'"{name}Condition":{{"condition":"THRESHOLD","expression":"{percent}"}}' for name, percent in (("success", success), ("error", error)))
+    said = (f'"{name}Condition":{{"condition":"THRESHOLD","expression":"{percent}"}}'
+            for name, percent in (("success", success), ("error", error)))
     return ",".join(said)
 
 
 @dataclass(frozen=True)
 class Plan:
-    """A rollout of all targets, in so many groups of one size or in groups of these percentages, each of which has thresholds of its own."""
+    """A rollout of all targets, in so many groups of one size or in groups of these percentages,
+    each of which has thresholds of its own."""
 
     number: int
     groups: int
@@ -89,20 +95,22 @@ class Plan:
         """The member of the body that says the groups."""
         if not self.percentages:
             return f'"amountGroups":{self.groups}'
-        defined = (f'{{"targetPercentage":{percent},{conditions(50 + k, 100 - k)}}}' for k, percent in enumerate(self.percentages))
+        defined = (f'{{"targetPercentage":{percent},{conditions(50 + k, 100 - k)}}}'
+                   for k, percent in enumerate(self.percentages))
         return f'"groups":[{",".join(defined)}]'
 
     def creating(self):
         """The request that creates it."""
-        body = f'{{"name":"r{self.number}","distributionSetId":1,"targetFilterQuery":"name==*",{self.grouping()},{conditions(self.success, 100)}}}'
+        body = (f'{{"name":"r{self.number}","distributionSetId":1,"targetFilterQuery":"name==*",'
+                f'{self.grouping()},{conditions(self.success, 100)}}}')
         return f"POST /rest/v1/rollouts HTTP/1.1\r\nContent-Length: {len(body)}\r\n\r\n{body}".encode()
 
     def created(self, targets):
         """The reply to it."""
         return desk.reply(
             "201 Created",
-            f'{{"distributionSetId":1,"id":{self.number},"name":"r{self.number}","status":"ready","targetFilterQuery":"name==*",'
-            f'"totalGroups":{self.groups},"totalTargets":{targets}}}',
+            f'{{"distributionSetId":1,"id":{self.number},"name":"r{self.number}","status":"ready",'
+            f'"targetFilterQuery":"name==*","totalGroups":{self.groups},"totalTargets":{targets}}}',
         )
 
     def starting(self):
@@ -112,7 +120,8 @@ class Plan:
 
 def asking_members(rollout, group, offset):
     """The request for a page of the targets of a group."""
-    return f"GET /rest/v1/rollouts/{rollout}/deploygroups/{group}/targets?offset={offset}&limit={PAGE} HTTP/1.1\r\n\r\n".encode()
+    return (f"GET /rest/v1/rollouts/{rollout}/deploygroups/{group}/targets?offset={offset}&limit={PAGE} "
+            "HTTP/1.1\r\n\r\n".encode())
 
 
 def shown_members(first, total, word):
@@ -124,7 +133,8 @@ def shown_groups(targets, groups):
     """The page of the groups of one size of the first rollout, of which the first one is started."""
     size = targets // groups
     content = [
-        f'{{"bad":0,"error":100,"gone":0,"id":{group},"ok":0,"size":{size},"status":"{"scheduled" if group > 1 else "running"}","success":100}}'
+        f'{{"bad":0,"error":100,"gone":0,"id":{group},"ok":0,"size":{size},'
+        f'"status":"{"scheduled" if group > 1 else "running"}","success":100}}'
         for group in range(1, groups + 1)
     ]
     return desk.reply("200 OK", f'{{"content":[{",".join(content)}],"size":{groups},"total":{groups}}}')
@@ -244,8 +254,8 @@ def connected(port):
 
 @dataclass(frozen=True)
 class Fleet:
-    """So many targets, and rollouts of all of them, the first group of each started: the first rollout is of two groups where nothing is
-    said, the others of fifty."""
+    """So many targets, and rollouts of all of them, the first group of each started: the first rollout is of two groups
+    where nothing is said, the others of fifty."""
 
     name: str
     targets: int
@@ -313,8 +323,8 @@ BOUNDS = {
 
 @dataclass(frozen=True)
 class Spread:
-    """The largest of these figures of the program over the smallest has to be under the limit; each is the least of its turns, since a
-    disk's syncs come in bursts."""
+    """The largest of these figures of the program over the smallest has to be under the limit; each is the least of its
+    turns, since a disk's syncs come in bursts."""
 
     what: str
     rows: tuple
@@ -323,8 +333,10 @@ class Spread:
 
 SPREADS = [
     Spread("poll is flat", ("poll, 10 targets", "poll, 1,000 targets", "poll, 10,000 targets"), 1.3),
-    Spread("final feedback is flat", ("final feedback, 10 targets", "final feedback, 1,000 targets", "final feedback, 10,000 targets"), 1.3),
-    Spread("final feedback, 100 rollouts beside 1", ("final feedback, 1,000 targets", "final feedback, 100 rollouts"), 5),
+    Spread("final feedback is flat",
+           ("final feedback, 10 targets", "final feedback, 1,000 targets", "final feedback, 10,000 targets"), 1.3),
+    Spread("final feedback, 100 rollouts beside 1",
+           ("final feedback, 1,000 targets", "final feedback, 100 rollouts"), 5),
 ]
 
 
@@ -408,7 +420,8 @@ def measure_fleet(sides, fleet, called):
 
 def measure_fifty(sides, fleet, called):
     """The page of the groups too, where there are many."""
-    sides.note("page of 50 groups", [(b"GET /rest/v1/rollouts/1/deploygroups HTTP/1.1\r\n\r\n", shown_groups(fleet.targets, fleet.groups))] * 20)
+    sides.note("page of 50 groups", [(b"GET /rest/v1/rollouts/1/deploygroups HTTP/1.1\r\n\r\n",
+                                      shown_groups(fleet.targets, fleet.groups))] * 20)
     measure_fleet(sides, fleet, called)
 
 
@@ -421,7 +434,8 @@ def measure_hundred(sides, fleet):
 
 
 def members(fleet, group, offset, word):
-    """The request for a page of the targets of a group of the first rollout, and its reply, where each target has the word."""
+    """The request for a page of the targets of a group of the first rollout, and its reply,
+    where each target has the word."""
     size = fleet.targets // fleet.groups
     first = (group - 1) * size + offset + 1
     return asking_members(1, group, offset), shown_members(first, size, word)
@@ -435,14 +449,17 @@ def measure_start(sides, fleet):
     sides.note("Start of 10,000", [(plan.starting(), DONE)])
     sides.note("page of 50 targets, of a started group", [members(fleet, 1, 0, "pending")] * 20)
     sides.note("page of 50 targets, of a waiting group", [members(fleet, 2, 0, "unknown")] * 20)
-    sides.note("page of 50 targets, the last of that group", [members(fleet, 2, fleet.targets // 2 - PAGE, "unknown")] * 20)
+    sides.note("page of 50 targets, the last of that group",
+               [members(fleet, 2, fleet.targets // 2 - PAGE, "unknown")] * 20)
     sides.note("report of 10,000", [(b"GET /desk/v1/rollouts/1/report HTTP/1.1\r\n\r\n", reported(fleet.targets))] * 20)
-    sides.note("table of 10,000 actions", [(b"GET /desk/v1/rollouts/1/actions HTTP/1.1\r\n\r\n", listed(fleet.targets))] * 3)
+    sides.note("table of 10,000 actions",
+               [(b"GET /desk/v1/rollouts/1/actions HTTP/1.1\r\n\r\n", listed(fleet.targets))] * 3)
 
 
 def measure_nearly(sides, fleet):
     """The one feedback that starts a group of 5,000."""
-    sides.ask_all(polls(fleet.targets, WARM, lambda number: number if fleet.ended < number <= fleet.targets // 2 else 0))
+    sides.ask_all(polls(fleet.targets, WARM,
+                        lambda number: number if fleet.ended < number <= fleet.targets // 2 else 0))
     sides.note("feedback that starts 5,000", [(ending(fleet.ended + 1, fleet.ended + 1), DONE)])
 
 
@@ -533,7 +550,8 @@ def verdict(bound, milliseconds, ratio):
 def print_table(title, figures):
     """The table of one place."""
     print(f"\n{title}\n")
-    print("| | fwdesk | C, the same statements | ratio | C, whole sets | ratio | bound |\n|---|---|---|---|---|---|---|")
+    print("| | fwdesk | C, the same statements | ratio | C, whole sets | ratio | "
+          "bound |\n|---|---|---|---|---|---|---|")
     middle = {name: {row: statistics.median(values) for row, values in rows.items()} for name, rows in figures.items()}
     ours, same, sets = (middle[name] for name in ("fwdesk", "same", "sets"))
     for row in ours:
@@ -556,4 +574,5 @@ def run(program, folders, turns):
             masters = make_masters(place)
             before = os.getloadavg()[0]
             figures = measure(place, masters, programs, turns)
-        print_table(f"Rollouts, in {folder}: medians of {turns} turns; load {before:.1f} to {os.getloadavg()[0]:.1f}", figures)
+        print_table(f"Rollouts, in {folder}: medians of {turns} turns; load {before:.1f} to {os.getloadavg()[0]:.1f}",
+                    figures)

@@ -1,7 +1,9 @@
-"""The verify part of `run`: what `fwdesk verify` takes above an order that opens the same file and shows little, `report`.
+"""The verify part of `run`: what `fwdesk verify` takes above an order that opens the same file and shows little,
+`report`.
 
-Each desk is a file that the program made, filled by the system's SQLite with rows that agree. Both orders are run by turns, and the least of
-their processor times is taken, so that a busy machine changes little. Less that of `report`, `verify` is held to a share of it.
+Each desk is a file that the program made, filled by the system's SQLite with rows that agree. Both orders are run by
+turns, and the least of their processor times is taken, so that a busy machine changes little. Less that of `report`,
+`verify` is held to a share of it.
 """
 import hashlib
 import os
@@ -22,7 +24,8 @@ KINDS = [  # how an action ends: its share, its outcome, and the kinds and words
 
 @dataclass(frozen=True)
 class Full:
-    """How full a desk is: artifacts of 1 MiB, rollouts of so many members in groups, of which the last rollout's last one waits.
+    """How full a desk is: artifacts of 1 MiB, rollouts of so many members in groups,
+    of which the last rollout's last one waits.
 
     Or all groups are started, and nobody has said anything, so that each member is offered its action."""
 
@@ -76,10 +79,13 @@ def fill(path, full):
     db.execute("INSERT INTO set_module VALUES (1,1,1)")
     for k in range(1, full.artifacts + 1):
         contents = random.Random(k).randbytes(1 << 20)
-        db.execute("INSERT INTO artifact VALUES (?,?,?,?,?)", (k, k, f"f{k}.bin", len(contents), hashlib.sha256(contents).digest()))
-        db.executemany("INSERT INTO piece VALUES (?,?,?)", [(k, s + 1, contents[s << 16 : (s + 1) << 16]) for s in range(16)])
+        db.execute("INSERT INTO artifact VALUES (?,?,?,?,?)",
+                   (k, k, f"f{k}.bin", len(contents), hashlib.sha256(contents).digest()))
+        db.executemany("INSERT INTO piece VALUES (?,?,?)",
+                       [(k, s + 1, contents[s << 16 : (s + 1) << 16]) for s in range(16)])
     ids = [f"dev-{k:06d}" for k in range(1, full.members + 1)]
-    db.executemany("INSERT INTO target VALUES (?,'Valve',?)", [(it, hashlib.sha256(it.encode()).digest()) for it in ids])
+    db.executemany("INSERT INTO target VALUES (?,'Valve',?)",
+                   [(it, hashlib.sha256(it.encode()).digest()) for it in ids])
     chance, offers, number = random.Random(7), {}, 0
     for rollout in range(1, full.rollouts + 1):
         number = fill_rollout(db, full, rollout, ids, chance, offers, number)
@@ -105,12 +111,15 @@ def fill_rollout(db, full, rollout, ids, chance, offers, number):
         if started and not outcome:
             offers.setdefault(it, number)
         notes = sum(word < 3 for _, word in said)
-        db.execute("INSERT INTO action VALUES (?,?,?,?,0,?,?,?)", (number, rollout, place, it, outcome, notes, len(said)))
-        db.executemany("INSERT INTO feedback VALUES (?,?,?,?,'')", [(number, s, kind, word) for s, (kind, word) in enumerate(said, 1)])
+        db.execute("INSERT INTO action VALUES (?,?,?,?,0,?,?,?)",
+                   (number, rollout, place, it, outcome, notes, len(said)))
+        db.executemany("INSERT INTO feedback VALUES (?,?,?,?,'')",
+                       [(number, s, kind, word) for s, (kind, word) in enumerate(said, 1)])
     for group in range(1, full.groups + 1):
         places = full.last_place(group - 1) + 1, full.last_place(group)
         ended = [counts.get((group, outcome), 0) for outcome in (1, 2, 3)]
-        db.execute("INSERT INTO rollout_group VALUES (?,?,?,?,?,?,?,?)", (rollout, group, *places, full.is_started(rollout, group), *ended))
+        db.execute("INSERT INTO rollout_group VALUES (?,?,?,?,?,?,?,?)",
+                   (rollout, group, *places, full.is_started(rollout, group), *ended))
         db.execute("INSERT INTO group_rule VALUES (?,?,NULL,50,100)", (rollout, group))
     return number
 
@@ -122,7 +131,8 @@ def run(program, folder, turns):
     for full, (bound, is_met) in BOUNDS.items():
         with tempfile.TemporaryDirectory(dir=folder) as place:
             path = f"{place}/desk.db"
-            subprocess.run([*program.split(), "run", "--db", path, "--interface", "mgmt"], stdin=subprocess.DEVNULL, check=True)
+            subprocess.run([*program.split(), "run", "--db", path, "--interface", "mgmt"],
+                           stdin=subprocess.DEVNULL, check=True)
             fill(path, full)
             orders = [["report", "--db", path, "--rollout", "1"], ["verify", "--db", path]]
             taken = [[run_order(program, order) for order in orders] for _ in range(turns)]
@@ -130,4 +140,5 @@ def run(program, folder, turns):
             more = (max(it[1][1] for it in taken) - max(it[0][1] for it in taken)) / 1024
             share = (verifying - opening) / opening
             met = f"{bound}: {'met' if is_met(verifying - opening, share, more) else 'not met'}" if is_met else ""
-            print(f"{full.name:38} {opening:8.3f} {verifying:8.3f} {verifying - opening:8.3f} {share:6.2f} {more:10.1f}  {met}")
+            print(f"{full.name:38} {opening:8.3f} {verifying:8.3f} {verifying - opening:8.3f} {share:6.2f} "
+                  f"{more:10.1f}  {met}")
