@@ -1,16 +1,18 @@
-"""Orders for later. systemd's timers keep them on this machine, the one that keeps the clock: it has to be on at their time.
+"""Orders for later. systemd's timers keep them on this machine, the one that keeps the clock:
+it has to be on at their time.
 
     fwdesk-ctl at TIME start|resume|pause|trigger|hold|release .. [--if-missed do|tell] [--zone ZONE] [--dry-run]
     fwdesk-ctl at --list [--ended] [--json]
     fwdesk-ctl at --cancel N
 
-TIME is 03:00 (when a clock next shows it), '2026-11-28 03:00' or 2026-11-28T03:00+01:00, by this machine's zone or by --zone
-Europe/Berlin. A time that clocks jump over in that night, or show twice, is refused in words that say what to write instead.
-The moment is fixed with the order: where this machine gets another zone afterwards, it stays.
---if-missed says what becomes of an order whose time comes while the machine is off: at the next start it is told that it wasn't
-done (tell, which is the default), or it is done, however late. What the desk refuses, or what isn't done for another reason, is
-an error in the journal (journalctl -u 'fwdesk-at@*') and counts in the metrics. A desk that isn't reached is tried again for 15
-minutes. It is for root. The login for a desk elsewhere is the line of its host in root's ~/.netrc, and stays there."""
+TIME is 03:00 (when a clock next shows it), '2026-11-28 03:00' or 2026-11-28T03:00+01:00, by this machine's zone or by
+--zone Europe/Berlin. A time that clocks jump over in that night, or show twice, is refused in words that say what to
+write instead. The moment is fixed with the order: where this machine gets another zone afterwards, it stays.
+--if-missed says what becomes of an order whose time comes while the machine is off: at the next start it is told that
+it wasn't done (tell, which is the default), or it is done, however late. What the desk refuses, or what isn't done for
+another reason, is an error in the journal (journalctl -u 'fwdesk-at@*') and counts in the metrics. A desk that isn't
+reached is tried again for 15 minutes. It is for root. The login for a desk elsewhere is the line of its host in root's
+~/.netrc, and stays there."""
 import argparse
 import json
 

@@ -48,12 +48,14 @@ def metrics():
 
 
 def answer():
-    """Answers the one request of a connection, which is standard input and output. The fleet is a field that the proxy sets."""
+    """Answers the one request of a connection, which is standard input and output.
+    The fleet is a field that the proxy sets."""
     fields = {}
     while line := sys.stdin.readline().strip():
         name, _, value = line.partition(":")
         fields[name.lower()] = value.strip()
     body = json.dumps(of_fleet(fields.get("x-fleet", ""))).encode()
-    head = f"HTTP/1.1 200 OK\r\nContent-Type: application/json\r\nCache-Control: no-store\r\nContent-Length: {len(body)}\r\nConnection: close\r\n\r\n"
+    head = ("HTTP/1.1 200 OK\r\nContent-Type: application/json\r\nCache-Control: no-store\r\n"
+            f"Content-Length: {len(body)}\r\nConnection: close\r\n\r\n")
     sys.stdout.buffer.write(head.encode() + body)
     sys.stdout.flush()

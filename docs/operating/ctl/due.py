@@ -1,4 +1,4 @@
-"""Carries out an order that is due, once: what systemd starts for its timer. What goes wrong is an error in the journal."""
+"""Carries out an order that is due, once: its timer starts this. What goes wrong is an error in the journal."""
 import datetime
 import os
 import time
@@ -29,10 +29,10 @@ def is_away(error):
 
 
 def attempt(order, sends):
-    """What becomes of an order now. Steering is sent once, and not while the desk is away; a hold may be ordered again."""
+    """What becomes of an order now. Steering is sent once, never while the desk is away; holds may be ordered again."""
     file, read = orders.read(order.words)
     desk, steers = Desk(order.url, order.ca), hasattr(read, "rollout")
-    desk.fields["X-Who"] = quote(f"{order.who}, by order {order.number}")  # of holds, which the port for this machine takes from us
+    desk.fields["X-Who"] = quote(f"{order.who}, by order {order.number}")  # of holds: this machine's port takes it
     if steers:
         desk.get(f"/rest/v1/rollouts/{read.rollout}")
         sends()

@@ -23,8 +23,9 @@ def asked(path, line, seconds=30):
 
 
 def workers(path):
-    """How each process is addressed that may still answer somebody: those of a master, old ones too, or the only one. While
-    a master reads its files its socket is closed: so a worker that it names started with the file as it is, or is told."""
+    """How each process is addressed that may still answer somebody: those of a master, old ones too, or the only
+    one. While a master reads its files its socket is closed: so a worker that it names started with the file as it
+    is, or is told."""
     if "master" not in Path(path).name:
         return {""}
     return {f"@!{number} " for number in re.findall(r"^(\d+)\s+worker\s", asked(path, "show proc", 5), re.M)}
@@ -50,8 +51,9 @@ def set_map(path, worker, file, wanted):
 
 
 def tell(sockets, file, wanted):
-    """Gives a map's lines to each process, old and new ones, and answers once all have them. The first of the sockets that
-    is there is asked, again where it is closed: behind a closed one a HAProxy may be about to start with the file of before."""
+    """Gives a map's lines to each process, old and new ones, and answers once all have them. The first of the sockets
+    that is there is asked, again where it is closed: behind a closed one a HAProxy may be about to start with the
+    file of before."""
     until, told, why = time.monotonic() + PATIENCE, set(), "there is no socket"
     while time.monotonic() < until:
         try:

@@ -28,7 +28,8 @@ def sentence(kind, it):
 
 
 def run(desk, order):
-    query = {"hold": {"kind": order.kind, "reason": order.reason}, "release": {"kind": order.kind}, "held": {}}[order.verb]
+    query = {"hold": {"kind": order.kind, "reason": order.reason}, "release": {"kind": order.kind},
+             "held": {}}[order.verb]
     try:
         told = json.loads(desk.ask(METHODS[order.verb], PATH, **query))
     except Refused as why:
@@ -36,4 +37,5 @@ def run(desk, order):
             raise NotDone("the proxy has no brake: docs/PROXIES.md says which one has") from None
         raise
     held = [sentence(kind, it) for kind, it in told.items() if it]
-    print(json.dumps(told) if order.json else "\n".join(held) or "nothing is held", file=sys.stdout if order.json or held else sys.stderr)
+    print(json.dumps(told) if order.json else "\n".join(held) or "nothing is held",
+          file=sys.stdout if order.json or held else sys.stderr)

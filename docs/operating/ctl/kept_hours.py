@@ -18,7 +18,8 @@ def told(rule, since):
     """What a rule says of a moment: whether it is quiet, and until when it stays so."""
     begin, end = stretches(hours_in(rule["words"]), zone_of(rule["zone"]), since)[0]
     until = end if begin <= since else begin
-    return {"hours": " ".join(rule["words"]), "zone": rule["zone"], "isQuiet": begin <= since, "until": until.isoformat()}
+    return {"hours": " ".join(rule["words"]), "zone": rule["zone"], "isQuiet": begin <= since,
+            "until": until.isoformat()}
 
 
 def keep(fleet, rule):

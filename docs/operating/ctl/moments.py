@@ -69,7 +69,8 @@ def moment_of(text, zone, since):
         return meant.astimezone(UTC)
     found = readings(meant, zone)
     if not found:
-        raise Wrong(f"{zone}: no clock shows {meant:%H:%M} on {meant:%Y-%m-%d}, since they jump to {said(jump(meant, zone), zone)}")
+        raise Wrong(f"{zone}: no clock shows {meant:%H:%M} on {meant:%Y-%m-%d}, "
+                    f"since they jump to {said(jump(meant, zone), zone)}")
     if len(found) == 2:
         either = " or ".join(it.astimezone(zone).isoformat(timespec="minutes") for it in found)
         raise Wrong(f"{zone}: clocks show {meant:%H:%M} twice on {meant:%Y-%m-%d}: say {either}")

@@ -9,7 +9,7 @@ from ctl.moments import now
 from ctl.verbs import VERBS
 from ctl.words import NotDone, Wrong
 
-LATER = ("start", "pause", "resume", "trigger", "hold", "release")
+LATER = [it for it in ("start", "pause", "resume", "trigger", "hold", "release") if it in VERBS]
 OUTCOMES, KEPT = ("done", "refused", "missed", "unreached", "unsure"), 50  # so many ended orders are kept
 
 
@@ -54,8 +54,8 @@ def waiting():
 
 def read(words):
     """The file of a verb that may be ordered for later, and what its words say to it."""
-    if words[0] not in LATER or words[0] not in VERBS:
-        raise Wrong(f"{words[0]!r} can't be ordered for later: these can: {', '.join(it for it in LATER if it in VERBS)}")
+    if words[0] not in LATER:
+        raise Wrong(f"{words[0]!r} can't be ordered for later: these can: {', '.join(LATER)}")
     file = importlib.import_module(f"ctl.{VERBS[words[0]][0]}")
     parser = argparse.ArgumentParser(f"fwdesk-ctl at TIME {words[0]}", allow_abbrev=False, add_help=False)
     file.options(parser)
@@ -75,4 +75,5 @@ def end(order, outcome, told):
     with units.book() as book:
         book["begun"].pop(str(order.number), None)
         book["counts"][outcome] = book["counts"].get(outcome, 0) + 1
-        book["ended"] = [*book["ended"], {**asdict(order), "outcome": outcome, "told": told, "ended": now().isoformat()}][-KEPT:]
+        book["ended"] = [*book["ended"],
+                         {**asdict(order), "outcome": outcome, "told": told, "ended": now().isoformat()}][-KEPT:]

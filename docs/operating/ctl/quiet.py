@@ -1,4 +1,5 @@
-"""Quiet hours: from the first time until the second no device is handed firmware, by holds that begin and end by themselves.
+"""Quiet hours: from the first time until the second no device is handed firmware,
+by holds that begin and end by themselves.
 
     fwdesk-ctl quiet HOURS [DAYS] [HOURS [DAYS]].. [--zone ZONE] [--fleet FLEET] [--dry-run [--from TIME]]
     fwdesk-ctl quiet off [--fleet FLEET]
@@ -7,10 +8,11 @@
     fwdesk-ctl quiet 06:00-22:00 Mon-Fri    for pumps that work by day: firmware is handed out at night and at weekends
     fwdesk-ctl quiet 22:00-06:00            for alarms of houses that sleep: firmware is handed out from 06:00 to 22:00
 
-DAYS are those on which the hours begin: 22:00-06:00 Fri ends on Saturday at 06:00. Without DAYS it is each day. Clocks are
-those of this machine's zone, or of --zone. Where they jump over a time, the moment of the jump is taken for it; of a time that
-they show twice the first one begins and the last one ends. For root, on HAProxy's machine, whose systemd keeps them.
-Their end releases no brake that somebody pulled by `hold`. `release --kind quiet` ends them this time, `quiet off` for good.
+DAYS are those on which the hours begin: 22:00-06:00 Fri ends on Saturday at 06:00. Without DAYS it is each day. Clocks
+are those of this machine's zone, or of --zone. Where they jump over a time, the moment of the jump is taken for it; of
+a time that they show twice the first one begins and the last one ends. For root, on HAProxy's machine, whose systemd
+keeps them. Their end releases no brake that somebody pulled by `hold`. `release --kind quiet` ends them this time,
+`quiet off` for good.
 --dry-run only tells when it would be quiet, from now on or from a TIME on."""
 import argparse
 import json

@@ -8,13 +8,15 @@ from ctl.kept_hours import rules, told
 from ctl.moments import now
 from ctl.words import NotDone
 
-SOON = datetime.timedelta(seconds=10)  # a change that is that near is waited for: systemd starts no second look beside this
+# a change that is that near is waited for: systemd starts no second look beside this
+SOON = datetime.timedelta(seconds=10)
 
 
 def brake(*words):
     """Has fwdesk-brake do something to holds of the second kind."""
     try:
-        ran = subprocess.run(["fwdesk-brake", *words, "--kind", "quiet", "--who", "quiet hours"], capture_output=True, text=True, timeout=120)
+        ran = subprocess.run(["fwdesk-brake", *words, "--kind", "quiet", "--who", "quiet hours"], capture_output=True,
+                             text=True, timeout=120)
     except OSError as error:
         raise NotDone(f"fwdesk-brake: {error.strerror}: it is of HAProxy's machine, and so are quiet hours") from None
     if ran.returncode:
@@ -22,8 +24,8 @@ def brake(*words):
 
 
 def settle(book, fleet, rule, since):
-    """Holds where quiet hours have begun, and releases where they have ended, until that is confirmed; once, so that somebody may
-    release for one night what they hold. A brake that somebody pulled stays."""
+    """Holds where quiet hours have begun, and releases where they have ended, until that is confirmed; once, so that
+    somebody may release for one night what they hold. A brake that somebody pulled stays."""
     confirmed, it = book.setdefault("quiet", {}), told(rule, since) if rule else {"isQuiet": False}
     if confirmed.get(fleet) == it["isQuiet"]:
         return

@@ -39,7 +39,8 @@ def silences(order):
 
 
 def of_fleet(seen, path):
-    """Those of the desk's own fleet: of many fleets each key has its fleet's name before the device's, and the desk's address has it too."""
+    """Those of the desk's own fleet: of many fleets each key has its fleet's name before the device's,
+    and the desk's address has it too."""
     fleet = re.fullmatch(r"/fleets/(\w+)/?", path)
     begins = f"{fleet[1]}/" if fleet else ""
     return {key.removeprefix(begins): hours for key, hours in seen.items() if key.startswith(begins)}

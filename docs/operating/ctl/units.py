@@ -39,11 +39,11 @@ def timers(pattern):
 
 
 def place(name, about, times, service, what):
-    """Makes a timer, or makes it anew; it is kept through a reboot, and looks at once and after each boot whether something is due.
-    Its last section is for us alone: systemd passes over one that begins with X-."""
-    lines = ["# written by fwdesk-ctl, which reads its last line", "[Unit]", f"Description={about.replace('%', '%%')}", "", "[Timer]"]
-    lines += [f"OnCalendar={it}" for it in times]
-    lines += ["Persistent=true", "OnActiveSec=0", "AccuracySec=1s", f"Unit={service}", "", "[Install]", "WantedBy=timers.target", ""]
+    """Makes a timer, or makes it anew; it is kept through a reboot, and looks at once and after each boot whether
+    something is due. Its last section is for us alone: systemd passes over one that begins with X-."""
+    lines = ["# written by fwdesk-ctl, which reads its last line", "[Unit]", f"Description={about.replace('%', '%%')}",
+             "", "[Timer]", *(f"OnCalendar={it}" for it in times), "Persistent=true", "OnActiveSec=0",
+             "AccuracySec=1s", f"Unit={service}", "", "[Install]", "WantedBy=timers.target", ""]
     placed(UNITS / name, ["\n".join([*lines, "[X-Fwdesk]", f"What={json.dumps(what)}", ""]).encode()])
     systemctl("enable", "--quiet", name)
     systemctl("restart", name)
@@ -61,7 +61,7 @@ def take_away(name):
 def known():
     """What is known beside the timers."""
     file = BOOK / "orders.json"
-    return json.loads(file.read_text(encoding="utf-8")) if file.exists() else {"last": 0, "begun": {}, "counts": {}, "ended": []}
+    return json.loads(file.read_text("utf-8")) if file.exists() else {"last": 0, "begun": {}, "counts": {}, "ended": []}
 
 
 @contextlib.contextmanager
