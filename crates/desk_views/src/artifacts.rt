@@ -17,6 +17,7 @@ ghost use Rattle.desk_store.specs.Rows.{IfRowsBroken};
 ghost use Rattle.desk_views.specs.Sizes.{AgreesIn, IsArtifactOf, KeepsSize};
 ghost use Rattle.desk_store.specs.Changing.{FindsIn, StaysIn};
 
+use crate::pages::part_on;
 use desk_store::{Fault, OpenChange, StoredArtifact};
 use rollout_model::limits::{ARTIFACT_SIZE_LIMIT, PIECE_LENGTH};
 use rollout_model::{Artifact, ArtifactNo, Contents, ModuleNo, Page, PageOf, Refusal, Reply};
@@ -107,9 +108,7 @@ fn part_of(alloc: Global, all: &[Artifact], page: Page) -> Result<PageOf<Artifac
     let Ok(total) = u32::try_from(all.len()) else {
         return Err(Fault::Broken);
     };
-    let after = &all[all.len().min(page.offset as usize)..];
-    let part = &after[..after.len().min(page.limit as usize)];
-    let content = Vec::from_slice(alloc, part)?;
+    let content = Vec::from_slice(alloc, part_on(all, page))?;
     Ok(PageOf { content, total })
 }
 

@@ -1,6 +1,6 @@
 //! What devices are to install: deployments, and the contents of their artifacts.
 
-ghost use Rattle.std.specs.Prelude.{◌≡◌, ℕ, true, ◌++◌, ◌∷◌, [], IfErr, IfOk, Some, map, nat_eq};
+ghost use Rattle.std.specs.Prelude.{◌≡◌, ℕ, true, ◌++◌, [], IfOk, Some, map, nat_eq};
 ghost use Rattle.std.specs.List.{find, list_any};
 ghost use Rattle.std.specs.Option.{option_copied, option_map};
 ghost use Rattle.rollout_machine.specs.Answers.{modules_offered, query_reply};
@@ -11,7 +11,6 @@ ghost use Rattle.rollout_machine.specs.Requests.{Download, ShowDeployment};
 ghost use Rattle.rollout_machine.specs.Views.{chunk, reply_of};
 ghost use Rattle.desk_records.specs.declared.rollout_row.StoredRollout.{StoredRollout};
 ghost use Rattle.rollout_model.specs.declared.artifact.Artifact.{Artifact};
-ghost use Rattle.sql_calls.specs.declared.fault.Fault.TheVariants.{Memory};
 ghost use Rattle.desk_reads.specs.AtLists.{FailsAtListsIn};
 ghost use Rattle.desk_views.specs.Downloads.{downloadable, named};
 ghost use Rattle.desk_views.specs.Kept.{AreKept, TellsKept};
@@ -110,14 +109,8 @@ fn add_chunk<S: Alter>(
         label,
         artifacts,
     };
-    push(chunks, chunk)
-}
-
-fn push(chunks: &mut Vec<Chunk>, chunk: Chunk) -> Result<(), Fault>
-    ensures ok { IfOk result (λ _. chunks.new.items ≡ chunks.old.items ++ chunk ∷ []) }
-    ensures err { IfErr result (λ fault. fault ≡ Memory) }
-{
-    Ok(chunks.push(chunk)?)
+    chunks.push(chunk)?;
+    Ok(())
 }
 
 /// The modules that an action installs, in the order of its set.

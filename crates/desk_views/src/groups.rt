@@ -1,6 +1,6 @@
 //! Groups of rollouts.
 
-ghost use Rattle.std.specs.Prelude.{◌≡◌, ◌+◌, ◌-◌, ◌<◌, ◌≤◌, ◌^◌, ◌++◌, ◌⊎◌, ◌∷◌, [], IfErr, IfOk, MatchResult, Some, None, drop, length, map, min, take};
+ghost use Rattle.std.specs.Prelude.{◌≡◌, ◌+◌, ◌-◌, ◌<◌, ◌≤◌, ◌^◌, ◌++◌, ◌⊎◌, IfErr, IfOk, MatchResult, Some, None, drop, length, map, min, take};
 ghost use Rattle.rollout_machine.specs.Answers.{target_if, targets_of};
 ghost use Rattle.rollout_machine.specs.ByteStrings.{item_numbered};
 ghost use Rattle.rollout_machine.specs.Commands.{RolloutPlan};
@@ -13,7 +13,7 @@ ghost use Rattle.rollout_machine.specs.Views.{listed, shown_target};
 ghost use Rattle.rollout_machine.specs.declared.records.RolloutRecord.{RolloutRecord};
 ghost use Rattle.desk_reads.specs.AtLists.{FailsAtListsIn};
 ghost use Rattle.desk_reads.specs.Rollouts.{IsSeenOf};
-ghost use Rattle.sql_calls.specs.declared.fault.Fault.TheVariants.{Broken, Memory};
+ghost use Rattle.sql_calls.specs.declared.fault.Fault.TheVariants.{Broken};
 ghost use Rattle.desk_store.specs.Rows.{IfRowsBroken};
 ghost use Rattle.desk_views.specs.Failing.{FailsWith};
 ghost use Rattle.desk_views.specs.Groups.{HasUnshown, IsGroupOf};
@@ -160,15 +160,8 @@ fn add_target<S: Alter>(
         Some(shown) => shown,
         None => return Ok(()),
     };
-    push(content, shown)?;
+    content.push(shown)?;
     Ok(())
-}
-
-fn push(content: &mut Vec<ShownTarget>, shown: ShownTarget) -> Result<(), Fault>
-    ensures ok { IfOk result (λ _. content.new.items ≡ content.old.items ++ shown ∷ []) }
-    ensures err { IfErr result (λ fault. fault ≡ Memory) }
-{
-    Ok(content.push(shown)?)
 }
 
 /// How many members a group has. Where they are more than are counted, the store has failed.

@@ -1,6 +1,6 @@
 //! Pages of targets: of all, or of those that match a filter.
 
-ghost use Rattle.std.specs.Prelude.{◌≡◌, ◌≤◌, ◌<◌, ◌^◌, ◌+◌, ◌++◌, [], ◌∷◌, List, length, map, take, IfErr, IfOk, Some, None};
+ghost use Rattle.std.specs.Prelude.{◌≡◌, ◌≤◌, ◌<◌, ◌^◌, ◌+◌, ◌++◌, [], ◌∷◌, List, length, map, take, IfOk, Some, None};
 ghost use Rattle.rollout_machine.specs.Answers.{query_reply};
 ghost use Rattle.rollout_machine.specs.Filters.{seen};
 ghost use Rattle.rollout_machine.specs.Objects.{page_of};
@@ -9,7 +9,6 @@ ghost use Rattle.rollout_machine.specs.Views.{listed, reply_of};
 ghost use Rattle.rollout_model.specs.declared.shown_target.ShownTarget.{ShownTarget};
 ghost use Rattle.target_filter.specs.Grammar.{Tree};
 ghost use Rattle.target_filter.specs.Profile.{filter_of};
-ghost use Rattle.sql_calls.specs.declared.fault.Fault.TheVariants.{Memory};
 ghost use Rattle.desk_reads.specs.AtLists.{FailsAtListsIn};
 ghost use Rattle.desk_views.specs.Failing.{FailsWith};
 ghost use Rattle.desk_views.specs.Targets.{matching_shown, worded};
@@ -222,12 +221,6 @@ fn add<S: Alter>(
         return Ok(());
     }
     let entry = with_word(change, target)?;
-    push(&mut shown.content, entry)
-}
-
-fn push(content: &mut Vec<ShownTarget>, entry: ShownTarget) -> Result<(), Fault>
-    ensures ok { IfOk result (λ _. content.new.items ≡ content.old.items ++ entry ∷ []) }
-    ensures err { IfErr result (λ fault. fault ≡ Memory) }
-{
-    Ok(content.push(entry)?)
+    shown.content.push(entry)?;
+    Ok(())
 }

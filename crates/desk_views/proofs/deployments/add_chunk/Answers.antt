@@ -1,4 +1,4 @@
-use Rattle.desk_views.proofs.Answering.{refl, both_found, finds_as, found_if, no_chunk, one_chunk}
+use Rattle.desk_views.proofs.Answering.{refl, both_found, finds_as, no_chunk, one_chunk}
 use Rattle.desk_views.proofs.deployments.add_chunk.Goals as goal
 
 pub returns-in-None-clause-reads : goal.returns-in-None-clause-reads
@@ -6,6 +6,7 @@ returns-in-None-clause-reads g c = finds_as (rw c.in-None.is at c.in_ok-label.en
 
 pub returns-clause-reads : goal.returns-clause-reads
 returns-clause-reads g c =
-    found_if (both_found (rw c.in-Some.is at c.in_ok-label.ensures.reads) c.in_ok-artifacts.ensures.reads) _ c.push.ensures.ok
-    (λ r y is got. one_chunk r c.args.module_number c.args.chunks.now.items _
-    (record { module_number = c.args.module_number; label = c.in-Some.label; artifacts = c.in_ok-artifacts.artifacts }) is.0 refl is.1 got)
+    finds_as (both_found (rw c.in-Some.is at c.in_ok-label.ensures.reads) c.in_ok-artifacts.ensures.reads)
+    (λ r is. one_chunk r c.args.module_number c.args.chunks.now.items _
+    (record { module_number = c.args.module_number; label = c.in-Some.label; artifacts = c.in_ok-artifacts.artifacts }) is.0 refl is.1
+    c.in_ok-push.ensures.items)

@@ -7,4 +7,4 @@ returns-in-None-clause-reads g c = finds_as (rw c.in-None.is at c.in_ok-shown.en
 
 pub returns-clause-reads : goal.returns-clause-reads
 returns-clause-reads g c = finds_as (rw c.in-Some.is at c.in_ok-shown.ensures.reads)
-    (λ r is. one_added r c.args.content.now.items _ c.in-Some.shown (target_of r c.args.id) is c.in_ok-push.ensures.ok)
+    (λ r is. one_added r c.args.content.now.items _ c.in-Some.shown (target_of r c.args.id) is c.in_ok-push.ensures.items)

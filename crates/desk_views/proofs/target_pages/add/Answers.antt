@@ -1,4 +1,4 @@
-use Rattle.desk_views.proofs.Answering.{◌++◌, ◌∷◌, [], false, true, ap, ◌∙◌, refl, rules, sym, found_if, known, worded, page_with}
+use Rattle.desk_views.proofs.Answering.{◌++◌, ◌∷◌, [], false, true, ap, ◌∙◌, refl, rules, sym, finds_as, known, worded, page_with}
 use Rattle.desk_views.proofs.target_pages.add.Goals as goal
 
 pub returns-then-not-is_on-clause-reads : goal.returns-then-not-is_on-clause-reads
@@ -8,6 +8,7 @@ returns-then-not-is_on-clause-reads g c =
 
 pub returns-clause-reads : goal.returns-clause-reads
 returns-clause-reads g c =
-    found_if c.in_ok-entry.ensures.reads _ c.push.ensures.ok
-    (λ r y said got all was. page_with c.args.page c.args.shown.now c.push.new.content all (worded r c.args.target) was true
-    (sym c.if-not-is_on.false ∙ c.is_on.ensures) c.in-Some.total (search rules) (got ∙ ap (λ s. c.args.shown.now.content.items ++ s ∷ []) said))
+    finds_as c.in_ok-entry.ensures.reads
+    (λ r said all was. page_with c.args.page c.args.shown.now c.push.new.self all (worded r c.args.target) was true
+    (sym c.if-not-is_on.false ∙ c.is_on.ensures) c.in-Some.total (search rules) (c.in_ok-push.ensures.items
+    ∙ ap (λ s. c.args.shown.now.content.items ++ s ∷ []) said))
