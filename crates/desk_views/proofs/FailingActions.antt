@@ -1,6 +1,6 @@
 -- Why the actions of a list and their histories can be counted.
 use Rattle.desk_views.proofs.Common.{◌≡◌, ◌≤◌, ◌^◌, ◌+◌, ℕ, suc, Bool, true, false, cond, List, [], ◌∷◌, length, map, take, drop}
-use Rattle.desk_views.proofs.Common.{refl, sym, ap, subst, arith, zip, length-drop, length-take}
+use Rattle.desk_views.proofs.Common.{sym, ap, subst, arith, zip, length-drop, length-take}
 use Rattle.desk_views.proofs.Common.{HistoryEntry, limits_hold, Tally, history_of, tally_of, ledger_of}
 use Rattle.desk_views.proofs.Common.{listed_where, stored_action, ListedAction, IsReadable, item_numbered, Records}
 use Rattle.desk_views.proofs.Common.{ActionRecord, RolloutRecord, AreOfList}

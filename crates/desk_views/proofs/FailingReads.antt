@@ -1,41 +1,19 @@
--- Why reads of modules, sets, artifacts and targets of a list of accepted commands are no failed stores by themselves.
+-- Why reads of sets, artifacts and targets of a list of accepted commands are no failed stores by themselves.
 use Rattle.desk_views.proofs.Common.{◌≡◌, ◌≤◌, ◌<◌, ◌+◌, ◌*◌, ◌^◌, ◌≢◌, ◌⊎◌, inl, inr, ℕ, suc, nat_eq, Bool, true, false, cond, List, [], ◌∷◌, map, length}
 use Rattle.desk_views.proofs.Common.{take, drop, Option, Some, None, Result, Err, refl, sym, ap, ◌∙◌, arith, false≢true, length-map, length-take, option_map}
 use Rattle.desk_views.proofs.Common.{IsSome, listed_target, Target, artifact_if, artifact_of_module, artifact_shown, artifacts_shown, modules_of_set}
 use Rattle.desk_views.proofs.Common.{item_numbered, ArtifactRecord, Records, Artifact, SetLabel, AreOfList, Fault, contents_found, IsErrAnd, div_ceil_times}
-use Rattle.desk_views.proofs.Common.{err_from_is_err_and, artifact_size_limit, piece_length, is_contents, is_module_list, number_of, stored, piece_numbered}
+use Rattle.desk_views.proofs.Common.{err_from_is_err_and, artifact_size_limit, piece_length, is_contents, is_module_list, stored, piece_numbered}
 use Rattle.desk_views.proofs.Common.{called, StoredArtifact, ListedTarget, SetName}
 use Rattle.std.specs.Int.{div_ceil}
 use Rattle.std.specs.Iterator.{Yields}
 use Rattle.std.specs.Vec.Iter.{into_iter_items, into_iter_steps}
 use Rattle.std.specs.declared.vec.IntoIter.{IntoIter}
-use Rattle.desk_views.proofs.FailingViews.{entry_there, numbered_so}
-use Rattle.desk_views.proofs.ListRules.{few_artifacts, few_modules, few_sets, few_targets, keeps_contents, keeps_list, keeps_size, no_piece}
+use Rattle.desk_views.proofs.ListRules.{few_artifacts, few_targets, keeps_contents, keeps_list, keeps_size, no_piece}
 
 -- a fault that is passed on
 pub passed : {B : Type 0} (out : Result B Fault) (fault : Fault) → IsErrAnd out (λ other. other ≡ fault) → out ≡ Err fault
 passed out fault is = let it = err_from_is_err_and out is in it.1 ∙ ap Err it.2
-
--- ---- entries by their numbers
-
-none_made : {X Y : Type 0} (f : X → Y) (o : Option X) → None ≡ option_map f o → None ≡ o
-none_made f None is = refl
-none_made f (Some x) is = absurd cc
-
-module _ (r : Records) (of : AreOfList r) (n : ℕ) where
-  pub module_numbered : None ≡ number_of n → 1 ≤ n → n ≤ length r.modules → ⊥
-  module_numbered none low high = numbered_so n (length r.modules) none low high (omega (arith, few_modules r of))
-
-  pub set_numbered : None ≡ number_of n → 1 ≤ n → n ≤ length r.sets → ⊥
-  set_numbered none low high = numbered_so n (length r.sets) none low high (omega (arith, few_sets r of))
-
--- an entry that is found by its number
-pub is_there : {X : Type 0} (xs : List X) (n k : ℕ) → k ≡ n → 1 ≤ n → n ≤ length xs → None ≡ item_numbered xs k → ⊥
-is_there xs n k same low high none = entry_there xs n low high (ap (item_numbered xs) (sym same) ∙ sym none)
-
--- as it is shown
-pub is_shown : {X Y : Type 0} (f : X → Y) (xs : List X) (n k : ℕ) → k ≡ n → 1 ≤ n → n ≤ length xs → None ≡ option_map f (item_numbered xs k) → ⊥
-is_shown f xs n k same low high none = is_there xs n k same low high (none_made f (item_numbered xs k) none)
 
 -- ---- sets
 

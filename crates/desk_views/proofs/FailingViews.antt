@@ -1,6 +1,6 @@
 -- Why a view of a list of accepted commands is no failed store by itself.
 use Rattle.desk_views.proofs.Common.{◌≡◌, ◌≤◌, ◌<◌, ℕ, zero, suc, true, List, [], ◌∷◌, length, slice_get, Some, None, Result, Ok, Err, IfErr, refl, sym, ap}
-use Rattle.desk_views.proofs.Common.{subst, arith, Broken, Memory, Store, number_limit, is_number, number_of, records, Records, HoldsLedger, Ledger, ledger_of}
+use Rattle.desk_views.proofs.Common.{subst, arith, Broken, Memory, Store, is_number, number_of, records, Records, HoldsLedger, Ledger, ledger_of}
 use Rattle.desk_views.proofs.Common.{seen_in, FindsIn, IsReadable, IfRowsBroken, IsOfList, AreOfList, item_numbered, Fault, IsOfListWith}
 use Rattle.sqlite.specs.Store.{Ghosts}
 use Rattle.sql_calls.specs.Standing.{Sees, Wears}
@@ -103,7 +103,7 @@ never_answers kept (Err fault) why failed = failed fault why refl
 -- ---- entries of lists
 
 -- a number of an entry is one
-pub numbered_so : (n most : ℕ) → None ≡ number_of n → 1 ≤ n → n ≤ most → most ≤ number_limit → ⊥
+pub numbered_so : (n most : ℕ) → None ≡ number_of n → 1 ≤ n → n ≤ most → most ≤ 1000 → ⊥
 numbered_so n most none low high few =
     let good : is_number n ≡ true = is_in_range n low (omega (arith, high, few)) in
     let some : None ≡ Some n = rw good at none in

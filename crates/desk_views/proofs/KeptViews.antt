@@ -1,6 +1,6 @@
 -- Offers that are told, by what is kept of them.
-use Rattle.desk_views.proofs.Common.{◌≡◌, ℕ, Bool, true, false, cond, ◌&&◌, not, nat_eq, List, [], ◌∷◌, Option, Some, None, Result, Ok, Err, IfOk, refl, sym}
-use Rattle.desk_views.proofs.Common.{ap, subst, ◌∙◌, arith, list_any, nat_tests, and_parts, false≢true, is_offer_of, Bytes, Offer}
+use Rattle.desk_views.proofs.Common.{◌≡◌, ℕ, Bool, true, false, cond, not, nat_eq, List, [], ◌∷◌, Option, Some, None, Result, Ok, Err, IfOk, refl, sym}
+use Rattle.desk_views.proofs.Common.{subst, ◌∙◌, arith, list_any, nat_tests, and_parts, false≢true, is_offer_of, Bytes, Offer}
 use Rattle.desk_records.specs.Tables.{Tables}
 use Rattle.desk_store.specs.KeptOffers.{IsKept, IsKeptAs}
 use Rattle.desk_views.specs.Kept.{AreKept}

@@ -4,7 +4,6 @@ pub mod ListRules
 pub mod FewActions
 pub mod FailingReads
 pub mod FailingGroups
-pub mod FailingRollouts
 pub mod FailingActions
 pub mod HistoryViews
 pub mod ActionViews
@@ -13,7 +12,6 @@ pub mod GroupViews
 pub mod MemberLemmas
 pub mod RolloutViews
 pub mod PageLemmas
-pub mod ModuleViews
 pub mod SetViews
 pub mod ArtifactViews
 pub mod WordViews

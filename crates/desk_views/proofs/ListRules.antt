@@ -1,7 +1,7 @@
 -- What accepted commands keep: few modules and sets, the rule of the modules of each set, and that of the contents of each artifact.
 use Rattle.desk_views.proofs.Common.{◌≡◌, ◌≤◌, ◌<◌, ◌+◌, ◌-◌, ◌*◌, ℕ, zero, suc, true, List, [], length, All, Option, Some, None, refl, sym, subst, ap, ◌∙◌}
 use Rattle.desk_views.proofs.Common.{arith, nat_le, and_parts, leb-true, list_all, length-map, pieces_of_artifact, item_numbered, ArtifactRecord, Records}
-use Rattle.desk_views.proofs.Common.{added_artifacts, artifacts, modules, sets, Command, SetLabel, AddArtifact, AreOfList, contents_found, div_ceil_times}
+use Rattle.desk_views.proofs.Common.{added_artifacts, artifacts, Command, SetLabel, AddArtifact, AreOfList, contents_found, div_ceil_times}
 use Rattle.desk_views.proofs.Common.{piece_at, piece_bytes, piece_count, pieces_of, artifact_size_limit, piece_length, is_byte, is_contents, is_filename}
 use Rattle.desk_views.proofs.Common.{is_module_list, is_number, is_text, CommandList, Make, ◌▸◌, IsValid, limits_hold}
 use Rattle.rollout_machine.specs.Records.{records}
@@ -12,10 +12,10 @@ use Rattle.std.proofs.Math.ListN.{get_or}
 use Rattle.rollout_machine.specs.CommandRules.{IsWellFormed, is_digest_or_none}
 use Rattle.sqlite_rules.proofs.ListLemmas.{has_got}
 use Rattle.desk_records.proofs.WholeArtifacts.{IsWhole, all_whole}
-use Rattle.desk_reads.proofs.LabelRules.{few_modules as modules_few, few_sets as sets_few, sets_keep}
+use Rattle.desk_reads.proofs.LabelRules.{sets_keep}
 
 -- what is so of the records of each list of accepted commands
-at_list : (P : Records → Type 0) → ((h : CommandList) → IsValid h → P (records h)) → (r : Records) → AreOfList r → P r
+pub at_list : (P : Records → Type 0) → ((h : CommandList) → IsValid h → P (records h)) → (r : Records) → AreOfList r → P r
 at_list P so r of = subst P (sym of.are) (so of.list of.valid)
 
 -- what is so of all is so of the one of a number
@@ -28,12 +28,6 @@ each_numbered P xs all (suc i) x is =
     subst P same (All-get_or P xs i x within all)
 
 -- ---- how many
-
-pub few_modules : (r : Records) → AreOfList r → length r.modules ≤ 1000
-few_modules = at_list (λ r. length r.modules ≤ 1000) modules_few
-
-pub few_sets : (r : Records) → AreOfList r → length r.sets ≤ 1000
-few_sets = at_list (λ r. length r.sets ≤ 1000) sets_few
 
 pub few_artifacts : (r : Records) → AreOfList r → length r.artifacts ≤ 256
 few_artifacts = at_list (λ r. length r.artifacts ≤ 256) (λ h valid. (limits_hold h valid).artifacts)

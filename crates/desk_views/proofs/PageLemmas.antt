@@ -1,6 +1,7 @@
 -- Entries of a list by their numbers, and the part of it that is on a page.
 use Rattle.desk_views.proofs.Common.{◌≡◌, ℕ, zero, suc, ◌+◌, ◌-◌, min, List, [], ◌∷◌, ◌++◌, length, take, drop, Some, refl, sym, ap, ◌∙◌, arith, add-one}
-use Rattle.desk_views.proofs.Common.{length-drop, slice_get, take-nil, option_map, item_numbered, numbered}
+use Rattle.desk_views.proofs.Common.{length-drop, slice_get, take-nil, Option, None, option_map, if_found, item_numbered, numbered, page_of, Page}
+use Rattle.rollout_machine.specs.Replies.{Reply}
 
 pub numbered_length : {X Y : Type 0} (f : ℕ → X → Y) (n : ℕ) (xs : List X) → length (numbered f n xs) ≡ length xs
 numbered_length f n [] = refl
@@ -12,9 +13,20 @@ numbered_get f n (x ∷ xs) zero k is = let same : n ≡ k = omega (arith, is) i
 numbered_get f n (x ∷ xs) (suc i) k is = numbered_get f (suc n) xs i k (omega (arith, is))
 
 -- the entry of a number is made of the item of that number
-pub entry_numbered : {X Y : Type 0} (f : ℕ → X → Y) (xs : List X) (k : ℕ) → item_numbered (numbered f 1 xs) k ≡ option_map (f k) (item_numbered xs k)
+entry_numbered : {X Y : Type 0} (f : ℕ → X → Y) (xs : List X) (k : ℕ) → item_numbered (numbered f 1 xs) k ≡ option_map (f k) (item_numbered xs k)
 entry_numbered f xs zero = refl
 entry_numbered f xs (suc i) = numbered_get f 1 xs i (suc i) (omega arith)
+
+-- .. that was found
+pub entry_is : {X Y : Type 0} (f : ℕ → X → Y) (xs : List X) (k n : ℕ) (found : Option Y) → k ≡ n → found ≡ option_map (f k) (item_numbered xs k)
+    → item_numbered (numbered f 1 xs) n ≡ found
+entry_is f xs k n found same is = ap (item_numbered (numbered f 1 xs)) (sym same) ∙ entry_numbered f xs k ∙ sym is
+
+-- the reply to a query for it
+pub found_replied : {X Y : Type 0} (f : X → Y) (reply : Y → Reply) (o : Option X) (found : Option Y) → found ≡ option_map f o → if_found reply found
+    ≡ if_found (λ x. reply (f x)) o
+found_replied f reply None found is = ap (if_found reply) is
+found_replied f reply (Some x) found is = ap (if_found reply) is
 
 drop_get : {X : Type 0} (n : ℕ) (xs : List X) (i k : ℕ) → k ≡ n + i → slice_get (drop n xs) i ≡ slice_get xs k
 drop_get zero xs i k is = ap (slice_get xs) (omega (arith, is))
@@ -46,6 +58,9 @@ take_within zero (x ∷ xs) (suc m) is = absurd (omega (arith, is))
 take_within (suc n) (x ∷ xs) (suc m) is = ap (λ l. x ∷ l) (take_within n xs m (omega (arith, is)))
 
 -- as many entries as are on the page are all of them
-pub page_ends : {X : Type 0} (xs items : List X) (offset limit total place : ℕ) → place ≡ min limit (total - offset) → items ≡ take place (drop offset xs)
-    → total ≡ length xs → items ≡ take limit (drop offset xs)
-page_ends xs items offset limit total place end is count = is ∙ take_within limit (drop offset xs) place (omega (arith, end, count, length-drop offset xs))
+pub page_ends : {X : Type 0} (xs : List X) (page : Page) (items : List X) (total place : ℕ) → place ≡ min page.limit (total - page.offset)
+    → items ≡ take place (drop page.offset xs) → total ≡ length xs
+    → record { content = items; total = total } ≡ page_of page xs
+page_ends xs page items total place end is count =
+    let all = is ∙ take_within page.limit (drop page.offset xs) place (omega (arith, end, count, length-drop page.offset xs)) in
+    λ i. record { content = all i; total = count i }

@@ -1,4 +1,5 @@
-use Rattle.desk_views.proofs.Answering.{is_ok, map, ap, ◌∙◌, arith, rules, take_all, both_found, finds_as, listed_shown, more_shown}
+use Rattle.desk_views.proofs.Answering.{map, ap, ◌∙◌, arith, rules, take_all, both_found, finds_as, listed_shown, more_shown}
+use Rattle.std.specs.Result.{is_ok}
 use Rattle.desk_views.proofs.actions.read_all_shown.Goals as goal
 
 pub loop-one-preserved : goal.loop-one-preserved

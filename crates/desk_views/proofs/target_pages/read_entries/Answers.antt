@@ -1,4 +1,5 @@
-use Rattle.desk_views.proofs.Answering.{is_ok, map, ap, ◌∙◌, rules, both_found, finds_as, target_listed, worded, all_given, entries_grow}
+use Rattle.desk_views.proofs.Answering.{map, ap, ◌∙◌, rules, both_found, finds_as, target_listed, worded, all_given, entries_grow}
+use Rattle.std.specs.Result.{is_ok}
 use Rattle.desk_views.proofs.target_pages.read_entries.Goals as goal
 
 pub loop-entry-preserved : goal.loop-entry-preserved
