@@ -8,9 +8,11 @@ use Rattle.sqlite_trees.specs.declared.store.Store.{Ghosts}
 use Rattle.http_wire.specs.Watched.{inner_of, has_failed}
 use Rattle.http_wire.specs.declared.watched.Watched.{Watched}
 use Rattle.desk_opening.specs.declared.opening.OpenFault.{OpenFault}
+use Rattle.desk_opening.specs.declared.path.PathLeftover.{PathLeftover}
 use Rattle.rollout_machine.specs.Standing.{DeskState}
 use Rattle.rollout_desk.specs.DeskStates.{desk_state}
-use Rattle.rollout_desk.specs.Openings.{ReopensDesk, LeftPath, PathRefusal}
+use Rattle.desk_opening.specs.Reopening.{LeavesPath}
+use Rattle.rollout_desk.specs.Openings.{ReopensDesk}
 use Rattle.rollout_desk.specs.declared.desk.Desk.{Desk}
 use Rattle.stream_server.specs.declared.interface.Interface.{Interface}
 use Rattle.desk_server.specs.declared.order.Order.{Order}
@@ -18,6 +20,7 @@ use Rattle.desk_server.specs.declared.order.Order.TheVariants.{Run, Serve, Impor
 use Rattle.desk_server.specs.Orders.{asks_approval, database_of}
 use Rattle.desk_server.specs.Program.{CarriesOut, CarriesOutOn, Network, Tells, open_line}
 use Rattle.desk_server.specs.Imports.{CarriesOutImport}
+use Rattle.desk_server.specs.Refusals.{PathRefusal, refusal_of}
 use Rattle.desk_server.specs.ReportOrders.{ReportsRollout}
 use Rattle.desk_server.specs.Verifications.{Verifies}
 
@@ -80,11 +83,13 @@ pub record LeavesDesk {D C : Type 0} (g : disk.Ghosts D) (image : Image) (reads 
   pub opened : ReopensDesk image (desk_state over_files before) (asks_approval order)
   pub does : Does over_files reads listens net order before after input input_new output output_new errors errors_new status
 
--- The order was carried out over its desk, which is left as that says; or the host refused to open it, and that is told.
+-- The order was carried out over its desk, which is left as that says; or the host refused to open it, and that is told: then what is
+-- left of its files is unharmed.
 pub record CarriesOutOrder {D C : Type 0} (g : disk.Ghosts D) (image : List ℕ → Image) (refuses : List ℕ → Bool → PathRefusal D → Type 0)
     (reads : List ℕ → Option (List ℕ) → Type 0) (listens : List ℕ → ℕ → Bool → Type 0) (net : Network C) (order : Order)
-    (input input_new output output_new errors errors_new : Stream) (status : ℕ) (left : Result (Desk (FileStore D g)) (PathRefusal D)) : Type 0 where
+    (input input_new output output_new errors errors_new : Stream) (status : ℕ)
+    (left : Result (Desk (FileStore D g)) (OpenFault × PathLeftover D g)) : Type 0 where
   pub leaves : IfOk left (LeavesDesk g (image (database_of order)) reads listens net order input input_new output output_new errors errors_new status)
-  pub refused : IfErr left (LeftPath g (image (database_of order)) (asks_approval order))
-  pub told : IfErr left (refuses (database_of order) (asks_approval order))
+  pub refused : IfErr left (λ e. LeavesPath (image (database_of order)) (asks_approval order) e.0 e.1)
+  pub told : IfErr left (λ e. refuses (database_of order) (asks_approval order) (refusal_of e))
   pub unopened : IfErr left (λ e. LacksDesk e.0 input input_new output output_new errors errors_new status)

@@ -10,7 +10,7 @@ use crate::order::{Order, Setup};
 use crate::program::{FAILED, listen_address, open_line, run, serve_on_port, tell};
 use crate::report::report;
 use crate::verify::verify;
-use desk_opening::{NoFile, OpenFault};
+use desk_opening::{OpenFault, PathLeftover};
 use http_wire::Watched;
 use rollout_desk::Desk;
 use sqlite::{Alter, FileStore};
@@ -87,13 +87,13 @@ fn carry_out_over<H: Host, R: Read, W: Write, E: Write, S: Alter>(
     }
 }
 
-/// An order that was carried out: the exit status, and the order's desk as it was left. Nothing can be done to that desk any more but to let go
-/// of it.
+/// An order that was carried out: the exit status, and the order's desk as it was left. Where none was opened, what is left of its files.
+/// Nothing can be done to either any more but to let go of it.
 #[derive(Drop)]
 pub struct CarriedOut<D: Disk + Drop> {
     pub status: u8,
-    /// The desk, or why it couldn't be opened.
-    left: Result<Desk<FileStore<D>>, (OpenFault, Option<NoFile<D>>)>,
+    /// The desk, or why it couldn't be opened and what is left of its files.
+    left: Result<Desk<FileStore<D>>, (OpenFault, PathLeftover<D>)>,
 }
 
 /// Carries an order out on a machine: opens the order's desk, does what the order asks, and tells what failed.

@@ -5,9 +5,11 @@ ghost use Rattle.std.specs.Net.Addr.{ipv4_octets};
 ghost use Rattle.sqlite.specs.Files.{over_files};
 ghost use Rattle.sqlite.specs.Recovery.{Image};
 ghost use Rattle.rollout_desk.specs.DeskStates.{desk_state};
-ghost use Rattle.rollout_desk.specs.Openings.{ReopensDesk, LeftPath, PathRefusal};
+ghost use Rattle.desk_opening.specs.Reopening.{LeavesPath};
+ghost use Rattle.rollout_desk.specs.Openings.{ReopensDesk};
+ghost use Rattle.desk_server.specs.Refusals.{PathRefusal, refusal_of};
 
-use desk_opening::{NoFile, OpenFault};
+use desk_opening::{OpenFault, PathLeftover};
 use rollout_desk::Desk;
 use sqlite::FileStore;
 use sqlite_disk::Disk;
@@ -39,15 +41,16 @@ pub trait Host {
     ghost listens: { List ℕ → ℕ → Bool → Type 0 };
 
     /// Opens the desk in the database at a path, with the log beside it. A desk that is made for it asks for approval where it is told so.
+    /// A refusal comes with what is left of the files.
     fn open(
         &mut self,
         path: &str,
         start: Self::Start,
         approval_if_new: bool,
-    ) -> Result<Desk<FileStore<Self::Disk>>, (OpenFault, Option<NoFile<Self::Disk>>)>
+    ) -> Result<Desk<FileStore<Self::Disk>>, (OpenFault, PathLeftover<Self::Disk>)>
         ensures opened { IfOk result (λ desk. ReopensDesk (image path.now) (desk_state over_files desk) approval_if_new) }
-        ensures refused { IfErr result (LeftPath Self.Disk.Disk (image path.now) approval_if_new) }
-        ensures told { IfErr result (refuses path.now approval_if_new) };
+        ensures refused { IfErr result (λ e. LeavesPath (image path.now) approval_if_new e.0 e.1) }
+        ensures told { IfErr result (λ e. refuses path.now approval_if_new (refusal_of e)) };
 
     /// The first bytes of the file at a path, by which one that is too large is known as such. None where it can't be read.
     fn read(&mut self, alloc: Global, path: &str) -> Option<Vec<u8>>

@@ -121,7 +121,7 @@ fn leave(alloc: Global, course: &Course, log_calls: u64, db_calls: u64) -> Optio
         log: Fuse::new(Memory::new(alloc), log_calls),
         db: Fuse::new(Memory::new(alloc), db_calls),
     };
-    match Desk::reopen_over(alloc, files, OPTIONS, false) {
+    match Desk::reopen(alloc, files, OPTIONS, false) {
         Ok(desk) => left_by(desk, course),
         Err((_, unopened)) => Some(Left {
             files: files_left(unopened),

@@ -2,7 +2,7 @@
 
 ghost use Rattle.sqlite.specs.WalFiles.{image_at};
 
-use desk_opening::{NoFile, OpenFault};
+use desk_opening::{OpenFault, PathLeftover};
 use desk_server::{Host, TcpConnections};
 use rollout_desk::Desk;
 use rollout_model::limits::FILE_LENGTH_LIMIT;
@@ -63,7 +63,7 @@ impl<'a, S: Start> Host for Machine<'a, S> {
         path: &str,
         start: S,
         approval_if_new: bool,
-    ) -> Result<Desk<FileStore<FileFrom<S>>>, (OpenFault, Option<NoFile<FileFrom<S>>>)> {
+    ) -> Result<Desk<FileStore<FileFrom<S>>>, (OpenFault, PathLeftover<FileFrom<S>>)> {
         Desk::reopen_path(self.rt, path, start, approval_if_new)
     }
 

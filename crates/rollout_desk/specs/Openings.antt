@@ -1,5 +1,5 @@
 -- A desk over files that were opened, and the files that it gives back.
-use Rattle.std.specs.Prelude.{◌≡◌, Bool, Option, Some, None}
+use Rattle.std.specs.Prelude.{◌≡◌, Bool}
 use Rattle.sqlite_disk.specs.declared.Disk as disk
 use Rattle.sqlite_disk.specs.declared.Files.{Files}
 use Rattle.sqlite.specs.Recovery.{Image}
@@ -11,11 +11,7 @@ use Rattle.sqlite.specs.FileStore.{files as files_in}
 use Rattle.sqlite_store.specs.declared.store.FileStore.{FileStore}
 use Rattle.rollout_machine.specs.CommandList.{CommandList, Make}
 use Rattle.rollout_machine.specs.Standing.{DeskState, StandsFor}
-use Rattle.desk_opening.specs.declared.opening.OpenFault.{OpenFault}
-use Rattle.desk_opening.specs.declared.reopening.DeskLeftover.{DeskLeftover}
-use Rattle.desk_opening.specs.declared.path.NoFile.{NoFile}
-use Rattle.desk_opening.specs.Opening.{IsFailure}
-use Rattle.desk_opening.specs.Reopening.{HoldsNone, IsOpenable, LeavesUnharmed}
+use Rattle.desk_opening.specs.Reopening.{HoldsNone, IsOpenable}
 use Rattle.rollout_desk.specs.DeskStates.{desk_state}
 use Rattle.rollout_desk.specs.declared.desk.Desk.{Desk}
 
@@ -26,19 +22,6 @@ pub record ReopensDesk (image : Image) (desk : DeskState Trees) (approval : Bool
   pub finds : desk.is_clean → (db : Trees) × AreFoundIn image db × IsOpenable db
   pub holds : (db : Trees) (h : CommandList) → ∥ HoldsDatabase image db ∥₁ → desk.holds db h → desk.is_clean → StandsFor desk h
   pub makes : HoldsNone HoldsDatabase image → desk.is_clean → StandsFor desk (Make approval)
-
--- Of a call that lets go of what a refused opening left: what was left then was unharmed.
-abbrev pub LeftUnharmed : {D : Type 0} (g : disk.Ghosts D) → (Image → Type 0) → Image → Bool → OpenFault → Type 0
-LeftUnharmed {D = D} g before image approval e = (rest : DeskLeftover D g) × LeavesUnharmed before image approval e rest
-
--- why the desk at a path isn't opened, and whether no file was
-abbrev pub PathRefusal : Type 0 → Type 0
-PathRefusal D = OpenFault × Option (NoFile D)
-
--- The same of files at a path, which held this. Where none was opened, memory was wanting or the store failed.
-abbrev pub LeftPath : {D : Type 0} (g : disk.Ghosts D) → Image → Bool → PathRefusal D → Type 0
-LeftPath g image approval (e, Some none) = IsFailure e
-LeftPath g image approval (e, None) = LeftUnharmed g (λ left. left ≡ image) image approval e
 
 -- ---- given back
 

@@ -11,12 +11,10 @@ ghost use Rattle.rollout_machine.specs.Standing.{StandsFor};
 ghost use Rattle.desk_opening.specs.Opening.{IsFailure};
 ghost use Rattle.desk_opening.specs.Reopening.{BeginsPlain, LeavesPath, LeavesUnharmed};
 ghost use Rattle.rollout_desk.specs.DeskStates.{desk_state};
-ghost use Rattle.rollout_desk.specs.Openings.{ReopensDesk, LeftUnharmed, LeftPath, GivesBack, GoesOnAfterCrash, GoesOnOver};
+ghost use Rattle.rollout_desk.specs.Openings.{ReopensDesk, GivesBack, GoesOnAfterCrash, GoesOnOver};
 
 use crate::desk::Desk;
-use desk_opening::{
-    DeskLeftover, NoFile, OpenFault, PathLeftover, open_desk, reopen_files, reopen_path,
-};
+use desk_opening::{DeskLeftover, OpenFault, PathLeftover, open_desk, reopen_files, reopen_path};
 use desk_store::DeskStore;
 use sqlite::{Alter, Connection, Error, FileFrom, FileStore, Files, MemStore, Options, Start};
 use sqlite_disk::Disk;
@@ -25,7 +23,7 @@ use std::alloc::Global;
 impl<D: Disk + Drop> Desk<FileStore<D>> {
     /// Opens the desk that the files hold, or makes a new one where they hold no database, or one that uses no name of a desk. A fault
     /// comes with what is left of the files.
-    pub fn reopen_over(
+    pub fn reopen(
         alloc: Global,
         files: Files<D>,
         options: Options,
@@ -40,25 +38,6 @@ impl<D: Disk + Drop> Desk<FileStore<D>> {
         match reopen_files(alloc, files, options, approval_if_new) {
             Ok(conn) => Ok(Desk::over(alloc, DeskStore::new(alloc, conn))),
             Err(refused) => Err(refused),
-        }
-    }
-
-    /// The same, and lets go of what is left after a fault.
-    pub fn reopen(
-        alloc: Global,
-        files: Files<D>,
-        options: Options,
-        approval_if_new: bool,
-    ) -> Result<Desk<FileStore<D>>, OpenFault>
-        requires log { IsTrue (D.Disk.is_usable files.log) }
-        requires db { IsTrue (D.Disk.is_usable files.db) }
-        ensures reopened { IfOk result (λ desk. ReopensDesk (image_of D.Disk files) (desk_state over_files desk) approval_if_new) }
-        ensures plain { IfOk result (λ desk. BeginsPlain (image_of D.Disk files) approval_if_new desk.store.calls.conn) }
-        ensures refused { IfErr result (LeftUnharmed D.Disk (outcomes D.Disk files.log files.db) (image_of D.Disk files) approval_if_new) }
-    {
-        match Desk::reopen_over(alloc, files, options, approval_if_new) {
-            Ok(desk) => Ok(desk),
-            Err((fault, _)) => Err(fault),
         }
     }
 
@@ -91,8 +70,9 @@ pub fn goes_on_after_crash<D: Disk + Drop, S: Alter>(
 }
 
 impl<S: Start> Desk<FileStore<FileFrom<S>>> {
-    /// The same for the file at a path, with its log beside it. A file that another process holds is refused as `Store`.
-    pub fn reopen_at(
+    /// The same for the file at a path, with its log beside it, or with a `NoFile` where none was opened. A file that another process holds
+    /// is refused as `Store`.
+    pub fn reopen_path(
         rt: &HostRuntime,
         path: &str,
         start: S,
@@ -108,24 +88,6 @@ impl<S: Start> Desk<FileStore<FileFrom<S>>> {
                 Ok(Desk::over(alloc, DeskStore::new(alloc, conn)))
             }
             Err(refused) => Err(refused),
-        }
-    }
-
-    /// The same, and lets go of what is left after a fault. It still tells whether a file was opened.
-    pub fn reopen_path(
-        rt: &HostRuntime,
-        path: &str,
-        start: S,
-        approval_if_new: bool,
-    ) -> Result<Desk<FileStore<FileFrom<S>>>, (OpenFault, Option<NoFile<FileFrom<S>>>)>
-        ensures reopened { IfOk result (λ desk. ReopensDesk (image_at S.Start) (desk_state over_files desk) approval_if_new) }
-        ensures plain { IfOk result (λ desk. BeginsPlain (image_at S.Start) approval_if_new desk.store.calls.conn) }
-        ensures refused { IfErr result (LeftPath ⟦<FileFrom<S> as Disk>⟧ (image_at S.Start) approval_if_new) }
-    {
-        match Desk::reopen_at(rt, path, start, approval_if_new) {
-            Ok(desk) => Ok(desk),
-            Err((fault, PathLeftover::NoFile(none))) => Err((fault, Some(none))),
-            Err((fault, PathLeftover::Opened(_))) => Err((fault, None)),
         }
     }
 }
