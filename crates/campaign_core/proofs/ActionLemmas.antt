@@ -1,13 +1,13 @@
 -- What commands on actions come to, by the views of these actions, over sound records.
 use Rattle.campaign_core.proofs.Common.{◌≡◌, ℕ, Bool, true, false, cond, ◌&&◌, ◌||◌, List, [], ◌∷◌, ◌++◌, refl, sym, ◌∙◌, ap, subst, Option, Some, None, Ok}
-use Rattle.campaign_core.proofs.Common.{IfSome, is_none, is_some, map, nat_eq, not, option_map, option_or, unwrap_or, eq-eqb, cancel_standing_said}
+use Rattle.campaign_core.proofs.Common.{Err, Result, is_none, is_some, map, nat_eq, not, option_map, option_or, unwrap_or, eq-eqb, cancel_standing_said}
 use Rattle.campaign_core.proofs.Common.{outcome_given, item_numbered, Bytes, Cancel, Command, action_after, change_rollout, counted, is_same_action}
 use Rattle.campaign_core.proofs.Common.{outcome_if_new, own_group, rollout_after, rollouts_after_outcome, act_on, step_action, Records, Reported, is_again}
 use Rattle.campaign_core.proofs.Common.{reported_by, ActionRecord, RolloutRecord, group_number_of, has_started, is_for, check, first_refusal, on_action}
-use Rattle.campaign_core.proofs.Common.{target_of, Outcome, Effects, Refusal, ClosedAction, NotFound, WrongState, OwnDecides, own_effects, own_view_of}
-use Rattle.campaign_core.proofs.Common.{OwnView, AreSound, BothOrNone, ChangesAction, Decides, IsActionView, IsCancelView, MakesCancel, action_for}
-use Rattle.campaign_core.proofs.Common.{action_with, cancel_refusal, change_by, change_numbered, ended_by, moved_by, only_if, outcome_forced, rollout_with}
-use Rattle.campaign_core.proofs.Common.{rollouts_with, ActionChange, ActionView, CancelView}
+use Rattle.campaign_core.proofs.Common.{target_of, Outcome, Effects, Refusal, ClosedAction, NotFound, WrongState, OwnDecides, own_effects, own_view_of, OwnView}
+use Rattle.campaign_core.proofs.Common.{AreSound, BothOrNone, ChangesAction, DecidesAs, IsActionView, IsCancelView, JudgesCancel, action_for, action_with}
+use Rattle.campaign_core.proofs.Common.{cancel_refusal, change_by, change_numbered, ended_by, moved_by, only_if, outcome_forced, rollout_with, rollouts_with}
+use Rattle.campaign_core.proofs.Common.{ActionChange, ActionView, CancelView}
 use Rattle.rollout_machine.proofs.Actions.{append_none}
 use Rattle.rollout_machine.specs.Targets.{Target}
 use Rattle.campaign_core.specs.declared.rollout_checks.RolloutChange.TheVariants as change
@@ -187,21 +187,15 @@ open_if : (o : Option Outcome) (rest : Option Refusal) → cond (is_some o) (Som
 open_if None rest e = refl
 open_if (Some o) rest e = cc
 
-pub cancel_makes : (v : Option CancelView) (force : Bool) (c : ActionChange) → cancel_refusal v force ≡ None
-    → IfSome v (λ w. c ≡ change_by w.action (outcome_forced w.action.canceling force) true) → MakesCancel v force c
-cancel_makes None force c e by = cc
-cancel_makes (Some w) force c e by = (w, refl, e, by)
-
-pub cancels : (v : Option CancelView) (t : Bytes) (k : ℕ) (force : Bool) (c : ActionChange) → cancel_refusal v force ≡ None
-    → IfSome v (λ w. c ≡ change_by w.action (outcome_forced w.action.canceling force) true)
-    → Decides (seen.Cancel v) (Cancel t k force) (Ok (change.Cancel c))
-cancels None t k force c e by rs sound is = cc
-cancels (Some w) t k force c e by rs sound is =
-    let it : IsFound (λ w a. IsCancelView w a rs) w (action_for rs t k) = found (λ w a. IsCancelView w a rs) (Some w) w (action_for rs t k) refl is in
+pub cancels : (v : CancelView) (t : Bytes) (k : ℕ) (force : Bool) (result : Result ActionChange Refusal) → JudgesCancel v force result
+    → DecidesAs change.Cancel (seen.Cancel (Some v)) (Cancel t k force) result
+cancels v t k force (Ok c) e rs sound is =
+    let it : IsFound (λ w a. IsCancelView w a rs) v (action_for rs t k) = found (λ w a. IsCancelView w a rs) (Some v) v (action_for rs t k) refl is in
     let at : item_numbered rs.actions k ≡ Some it.item = only_found (is_some (target_of rs t) && on_action (is_for rs t) (item_numbered rs.actions k))
     (item_numbered rs.actions k) it.item it.there in (
-      cancel_row rs t k force (Some w) is ∙ e,
-      subst (λ d. ChangesAction d [] k rs (step_action rs (Cancel t k force) (item_numbered rs.actions k))) (sym by)
-          (acts rs sound (Cancel t k force) k it.item w.action (outcome_forced w.action.canceling force) true at refl (open_if w.action.outcome _ e)
+      cancel_row rs t k force (Some v) is ∙ e.0,
+      subst (λ d. ChangesAction d [] k rs (step_action rs (Cancel t k force) (item_numbered rs.actions k))) (sym e.1)
+          (acts rs sound (Cancel t k force) k it.item v.action (outcome_forced v.action.canceling force) true at refl (open_if v.action.outcome _ e.0)
           it.is.action (ap (λ b. outcome_forced b force) (sym it.is.action.canceling)) refl),
     )
+cancels v t k force (Err refusal) e rs sound is = cancel_row rs t k force (Some v) is ∙ e

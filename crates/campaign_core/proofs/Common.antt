@@ -1,10 +1,9 @@
 -- The names of other modules that the proofs here cite, passed on from one place. Declares nothing.
 pub use Rattle.std.proofs.Common.{◌≡◌, ℕ, zero, suc, ◌+◌, ◌-◌, ◌<◌, ◌≤◌, Bool, true, false, cond, not, ◌&&◌, ◌||◌, List, [], ◌∷◌, ◌++◌, map, length, take}
-pub use Rattle.std.proofs.Common.{drop, is_some, is_none, IfSome, IfOk, nat_eq, nat_lt, nat_le, slice_get, Some, None, Ok, Err, Option, Result, sym, refl, ap}
+pub use Rattle.std.proofs.Common.{drop, is_some, is_none, IfOk, nat_eq, nat_lt, nat_le, slice_get, Some, None, Ok, Err, Option, Result, sym, refl, ap}
 pub use Rattle.std.proofs.Common.{◌∙◌, subst, inl, inr, arith}
 pub use Rattle.std.proofs.lemmas.Bool.{and_parts, cases_Bool, cases_lt, cases_order, eq-eqb, eqb-true, false≢true, le-ltb, lt-ltb, ltb-true, ne_eqb, or_parts}
 pub use Rattle.std.proofs.lemmas.Option.{slice_get_read}
-pub use Rattle.std.proofs.lemmas.Result.{err_from_is_err_and}
 pub use Rattle.std.specs.Option.{option_map, option_or, unwrap_or}
 pub use Rattle.rollout_model.specs.declared.refusal.Refusal.{Refusal}
 pub use Rattle.rollout_model.specs.declared.refusal.Refusal.TheVariants.{BadFilter, ClosedAction, Exists, Locked, NotFound, OldNumber, Quota, TooFewTargets}
@@ -52,7 +51,8 @@ pub use Rattle.rollout_machine.specs.declared.view.RolloutView.{RolloutView}
 pub use Rattle.campaign_core.specs.OwnGroups.{FollowsOutcome, IsOwnView, OwnDecides, OwnGroupDecides, effects_by, effects_of, following, own_effects}
 pub use Rattle.campaign_core.specs.OwnGroups.{own_view_of, waits}
 pub use Rattle.campaign_core.specs.RolloutChecks.{AreSound, BothOrNone, ChangesAction, ChangesRollout, Decides, Follows, IsActionView, IsCancelView}
-pub use Rattle.campaign_core.specs.RolloutChecks.{IsDeviceAction, IsFeedbackView, IsResumeView, IsStandingView, IsTriggerView, LeadsTo, MakesCancel}
+pub use Rattle.campaign_core.specs.RolloutChecks.{IsDeviceAction, IsFeedbackView, IsResumeView, IsStandingView, IsTriggerView, LeadsTo}
+pub use Rattle.campaign_core.specs.RolloutChecks.{DecidesAs, DecidesAt, JudgesCancel, JudgesFeedback, of_device}
 pub use Rattle.campaign_core.specs.RolloutChecks.{MayChangeAction, StartsRollout, action_for, action_with, cancel_feedback_refusal, cancel_refusal}
 pub use Rattle.campaign_core.specs.RolloutChecks.{canceling_after, change_by, change_if_fresh, change_numbered, with_approval, device_action, device_refusal}
 pub use Rattle.campaign_core.specs.RolloutChecks.{ended_by, feedback_refusal, gives_other, is_fresh, is_overtaken, moved_by, only_if, outcome_forced, paused}

@@ -4,14 +4,14 @@ use Rattle.campaign_core.proofs.Common.{nat_le, not, option_or, unwrap_or, cance
 use Rattle.campaign_core.proofs.Common.{item_numbered, CancelFeedback, CancelWord, CanceledCancel, ClosedCancel, Command, Credential, DeploymentWord, Feedback}
 use Rattle.campaign_core.proofs.Common.{DeviceFeedback, NotedCancel, RejectedCancel, act_on, step_action, Records, OfCancel, OfDeployment, Reported, Said}
 use Rattle.campaign_core.proofs.Common.{is_again, reported, reported_by, says_again, says_old, standing_of, Standing, Again, Fresh, Old, ActionRecord, check}
-use Rattle.campaign_core.proofs.Common.{first_refusal, is_device_action, is_known, notes_of, on_action, same_outcome, says_note, Outcome, Refusal}
-use Rattle.campaign_core.proofs.Common.{ClosedAction, NotFound, OldNumber, Quota, Unauthorized, WrongState, AreSound, IsFeedbackView, IsDeviceAction}
-use Rattle.campaign_core.proofs.Common.{MayChangeAction, canceling_after, change_by, change_if_fresh, device_action, gives_other, is_fresh, is_overtaken}
-use Rattle.campaign_core.proofs.Common.{only_if}
-use Rattle.campaign_core.proofs.Common.{report_refusal, says_fresh, ActionChange, DeviceAction}
+use Rattle.campaign_core.proofs.Common.{first_refusal, is_device_action, is_known, notes_of, on_action, same_outcome, says_note, Outcome, Refusal, ClosedAction}
+use Rattle.campaign_core.proofs.Common.{NotFound, OldNumber, Quota, Unauthorized, WrongState, AreSound, IsFeedbackView, IsDeviceAction, MayChangeAction}
+use Rattle.campaign_core.proofs.Common.{canceling_after, change_by, change_if_fresh, device_action, gives_other, is_fresh, is_overtaken, arith, option_map}
+use Rattle.campaign_core.proofs.Common.{device_refusal, only_if, Ok, Err, Result, LeadsTo, DecidesAt, JudgesFeedback, of_device, step_records, report_refusal}
+use Rattle.campaign_core.proofs.Common.{says_fresh, ActionChange, DeviceAction}
 use Rattle.rollout_machine.specs.Verdicts as row
 use Rattle.rollout_model.specs.Limits.{note_limit}
-use Rattle.campaign_core.specs.declared.rollout_checks.of_devices.FeedbackView.{FeedbackView}
+use Rattle.campaign_core.specs.declared.rollout_checks.RolloutChange.{RolloutChange}
 use Rattle.campaign_core.proofs.ActionLemmas.{acts, stays}
 use Rattle.campaign_core.proofs.ItemLemmas.{IsFound, found, only_found}
 
@@ -28,16 +28,16 @@ only_test : {X : Type 0} (b : Bool) (o : Option X) (x : X) → only_if b o ≡ S
 only_test true o x e = refl
 only_test false o x e = cc
 
-own_action : (v : FeedbackView) (w : DeviceAction) (device : Credential) (k : ℕ) (new : Reported) (rs : Records) → v.misses_device ≡ false → v.own_action
-    ≡ Some w → IsFeedbackView v device k new rs → IsOfDevice w device k new rs
-own_action v w device k new rs misses e is =
+own_action : (w : DeviceAction) (device : Credential) (k : ℕ) (new : Reported) (rs : Records) → IsFeedbackView (of_device w) device k new rs
+    → IsOfDevice w device k new rs
+own_action w device k new rs is =
     let it : IsFound (λ w a. IsDeviceAction w a new rs) w (device_action rs device.id k) =
-    found (λ w a. IsDeviceAction w a new rs) v.own_action w (device_action rs device.id k) e is.own_action in
+    found (λ w a. IsDeviceAction w a new rs) (Some w) w (device_action rs device.id k) refl is.own_action in
     record {
       action = it.item;
       numbered = only_found (is_device_action rs device.id (item_numbered rs.actions k)) (item_numbered rs.actions k) it.item it.there;
       is = it.is;
-      known = sym is.misses_device ∙ misses;
+      known = sym is.misses_device;
       own = only_test (is_device_action rs device.id (item_numbered rs.actions k)) (item_numbered rs.actions k) it.item it.there;
     }
 
@@ -134,13 +134,11 @@ not_old gives w more accepted = go (gives_other gives w.action) (is_overtaken w)
 
 module _ {c : Command} {device : Credential} {k : ℕ} {new : Reported} {gives : Option Outcome} {canceling : Bool → Bool} {tests : ℕ → Bool → Bool
     → List (Bool × Refusal)}
-    (report : IsReport c device k new gives canceling tests) (v : FeedbackView) (w : DeviceAction) (misses : v.misses_device ≡ false)
-    (there : v.own_action ≡ Some w)
-    (rs : Records) (is : IsFeedbackView v device k new rs) where
+    (report : IsReport c device k new gives canceling tests) (w : DeviceAction) (rs : Records) (is : IsFeedbackView (of_device w) device k new rs) where
   it : IsOfDevice w device k new rs
-  it = own_action v w device k new rs misses there is
+  it = own_action w device k new rs is
 
-  pub report_row : check rs c ≡ option_or (report_refusal gives w) (first_refusal (tests w.notes w.action.canceling (is_fresh w)))
+  report_row : check rs c ≡ option_or (report_refusal gives w) (first_refusal (tests w.notes w.action.canceling (is_fresh w)))
   report_row =
       report.check_is rs
       ∙ past_device (not (is_known rs device)) (is_device_action rs device.id (item_numbered rs.actions k)) (report.row (item_numbered rs.actions k)) it.known
@@ -175,7 +173,17 @@ module _ {c : Command} {device : Credential} {k : ℕ} {new : Reported} {gives :
       go None Old e d f = cc
       go (Some o) s e d f = stays rs sound c k it.action o it.numbered (sym it.is.action.outcome ∙ e)
 
-  pub report_changes : (d : Option ActionChange) → option_or (report_refusal gives w) (first_refusal (tests w.notes w.action.canceling (is_fresh w))) ≡ None
-      → d ≡ change_if_fresh w gives (canceling w.action.canceling)
-      → AreSound rs → (check rs c ≡ None) × Makes d
-  report_changes d accepted by sound = (report_row ∙ accepted, subst Makes (sym by) (may_act sound (not_old gives w _ accepted)))
+  pub reports : (its : Option ActionChange → RolloutChange) → ((d : Option ActionChange) → Makes d → LeadsTo (its d) c rs (step_records rs c)) → AreSound rs
+      → (result : Result (Option ActionChange) Refusal)
+      → JudgesFeedback w (option_or (report_refusal gives w) (first_refusal (tests w.notes w.action.canceling (is_fresh w)))) gives
+      (canceling w.action.canceling) result → DecidesAt its rs c result
+  reports its leads sound (Ok d) e = (report_row ∙ e.0, leads d (subst Makes (sym e.1) (may_act sound (not_old gives w _ e.0))))
+  reports its leads sound (Err refusal) e = report_row ∙ e
+
+-- on no action of the device it is refused
+module _ {c : Command} {device : Credential} {k : ℕ} {new : Reported} {gives : Option Outcome} {canceling : Bool → Bool} {tests : ℕ → Bool → Bool
+    → List (Bool × Refusal)} (report : IsReport c device k new gives canceling tests) (rs : Records) {refusal : Refusal} where
+  pub refuses_device : {A : Type 0} (misses : Bool) (found : Option A) (view : A → DeviceAction)
+      → IsFeedbackView (record { misses_device = misses; own_action = option_map view found }) device k new rs
+      → device_refusal misses found ≡ Some refusal → check rs c ≡ Some refusal
+  refuses_device misses found view is e = report.check_is rs ∙ grind arith

@@ -87,10 +87,10 @@ cancel_of_closed = refl
 abbrev own_action : (standing : Standing) (outcome : Option Outcome) (canceling : Bool) (notes : ℕ) → DeviceAction
 own_action standing o canceling notes = record { notes = notes; standing = standing; action = acted o canceling }
 
-stranger : device_refusal (record { misses_device = true; own_action = None }) ≡ Some Unauthorized
+stranger : device_refusal {A = DeviceAction} true None ≡ Some Unauthorized
 stranger = refl
 
-action_of_another : device_refusal (record { misses_device = false; own_action = None }) ≡ Some NotFound
+action_of_another : device_refusal {A = DeviceAction} false None ≡ Some NotFound
 action_of_another = refl
 
 note_100 : feedback_refusal (Noted Proceeding) (own_action Fresh None false 99) ≡ None

@@ -202,8 +202,12 @@ abbrev pub outcome_forced : Bool → Bool → Option Outcome
 outcome_forced canceling force = cond (force && canceling) (Some Gone) None
 
 -- the device has to be known, and the action its own
-abbrev pub device_refusal : FeedbackView → Option Refusal
-device_refusal v = first_refusal ((v.misses_device, Unauthorized) ∷ (is_none v.own_action, NotFound) ∷ [])
+abbrev pub device_refusal : {A : Type 0} → Bool → Option A → Option Refusal
+device_refusal misses_device found = first_refusal ((misses_device, Unauthorized) ∷ (is_none found, NotFound) ∷ [])
+
+-- that of a known device's own action
+abbrev pub of_device : DeviceAction → FeedbackView
+of_device a = record { misses_device = false; own_action = Some a }
 
 -- another outcome than this one, or none, is given
 abbrev pub gives_other : Option Outcome → ActionView → Bool
@@ -255,14 +259,15 @@ abbrev pub canceling_after : CancelWord → Bool → Bool
 canceling_after RejectedCancel canceling = false
 canceling_after _ canceling = canceling
 
--- accepted feedback makes of its action what its outcome says, and what it says of the canceling
-abbrev pub MakesFeedback : FeedbackView → Option Outcome → (Bool → Bool) → Option ActionChange → Type 0
-MakesFeedback v gives canceling c = (a : DeviceAction) × (v.own_action ≡ Some a) × (c ≡ change_if_fresh a gives (canceling a.action.canceling))
+-- it is refused so, or makes of its action what its outcome says, and what it says of the canceling
+abbrev pub JudgesFeedback : DeviceAction → Option Refusal → Option Outcome → Bool → Result (Option ActionChange) Refusal → Type 0
+JudgesFeedback a refused gives canceling (Ok c) = (refused ≡ None) × (c ≡ change_if_fresh a gives canceling)
+JudgesFeedback a refused gives canceling (Err refusal) = refused ≡ Some refusal
 
--- so does an accepted cancel
-abbrev pub MakesCancel : Option CancelView → Bool → ActionChange → Type 0
-MakesCancel v force c = (a : CancelView) × (v ≡ Some a) × (cancel_refusal v force ≡ None)
-    × (c ≡ change_by a.action (outcome_forced a.action.canceling force) true)
+-- so does a cancel
+abbrev pub JudgesCancel : CancelView → Bool → Result ActionChange Refusal → Type 0
+JudgesCancel v force (Ok c) = (cancel_refusal (Some v) force ≡ None) × (c ≡ change_by v.action (outcome_forced v.action.canceling force) true)
+JudgesCancel v force (Err refusal) = cancel_refusal (Some v) force ≡ Some refusal
 
 abbrev pub action_with : ActionChange → ActionRecord → ActionRecord
 action_with (StaysOpen canceling) a = record a { canceling = canceling }
@@ -319,14 +324,17 @@ LeadsTo (change.Feedback c) (Feedback feedback) old new = MayChangeAction c (rep
 LeadsTo (change.CancelFeedback c) (CancelFeedback feedback) old new = MayChangeAction c (reported OfCancel feedback ∷ []) feedback.action old new
 LeadsTo _ _ old new = ⊥
 
--- the machine's verdict over these records, and its step
-abbrev pub DecidesAt : Records → Command → Result RolloutChange Refusal → Type 0
-DecidesAt rs c (Ok change) = (check rs c ≡ None) × LeadsTo change c rs (step_records rs c)
-DecidesAt rs c (Err refusal) = check rs c ≡ Some refusal
+-- the machine's verdict over these records, and its step, by what an accepted command changes
+abbrev pub DecidesAt : {C : Type 0} → (C → RolloutChange) → Records → Command → Result C Refusal → Type 0
+DecidesAt its rs c (Ok it) = (check rs c ≡ None) × LeadsTo (its it) c rs (step_records rs c)
+DecidesAt its rs c (Err refusal) = check rs c ≡ Some refusal
 
 -- The verdict and the change are those of all sound records that the view is of.
+abbrev pub DecidesAs : {C : Type 0} → (C → RolloutChange) → RolloutCommandView → Command → Result C Refusal → Type 0
+DecidesAs its v c result = (rs : Records) → AreSound rs → IsViewOf v c rs → DecidesAt its rs c result
+
 abbrev pub Decides : RolloutCommandView → Command → Result RolloutChange Refusal → Type 0
-Decides v c result = (rs : Records) → AreSound rs → IsViewOf v c rs → DecidesAt rs c result
+Decides v c result = DecidesAs (λ it. it) v c result
 
 -- the machine's verdict at this list, and the records of the longer one
 abbrev pub FollowsAt : CommandList → Command → Result RolloutChange Refusal → Type 0

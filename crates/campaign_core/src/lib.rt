@@ -23,7 +23,8 @@ pub use own_group::{Following, OwnView, after_feedback, own_group_decides};
 pub use rollout_checks::{
     ActionChange, ActionView, CancelView, DeviceAction, Ending, FeedbackView, NewRollout, PlanView,
     ResumeView, RolloutChange, RolloutCommandView, StandingView, TriggerView, approve, cancel,
-    cancel_feedback, create, deny, feedback, new_rollout, pause, resume, start, trigger,
+    cancel_feedback, create, deny, feedback, new_rollout, own_action, pause, resume, start,
+    trigger,
 };
 pub use splits::{SplitFault, split_bounds, split_groups};
 pub use status_words::{

@@ -11,10 +11,13 @@ mod plans;
 mod progress;
 mod standing;
 
+use actions::check_cancel;
 pub use actions::{ActionChange, ActionView, CancelView, Ending, cancel};
 pub use of_cancels::cancel_feedback;
+use of_cancels::check_cancel_feedback;
+use of_deployments::check_feedback;
 pub use of_deployments::feedback;
-pub use of_devices::{DeviceAction, FeedbackView};
+pub use of_devices::{DeviceAction, FeedbackView, own_action};
 pub use plans::{NewRollout, PlanView, create, new_rollout};
 pub use progress::{ResumeView, TriggerView, resume, trigger};
 use rollout_machine::Effects;
@@ -70,9 +73,11 @@ fn decide(view: &RolloutCommandView, command: &Command) -> Result<RolloutChange,
         (Seen::Pause(view), Asked::Pause(_)) => pause(view),
         (Seen::Resume(view), Asked::Resume(_)) => resume(view),
         (Seen::TriggerNext(view), Asked::TriggerNext(_)) => trigger(view),
-        (Seen::Cancel(view), Asked::Cancel(asked)) => cancel(view, asked),
-        (Seen::Feedback(view), Asked::Feedback(given)) => feedback(view, given),
-        (Seen::CancelFeedback(view), Asked::CancelFeedback(given)) => cancel_feedback(view, given),
+        (Seen::Cancel(view), Asked::Cancel(asked)) => check_cancel(view, asked),
+        (Seen::Feedback(view), Asked::Feedback(given)) => check_feedback(view, given),
+        (Seen::CancelFeedback(view), Asked::CancelFeedback(given)) => {
+            check_cancel_feedback(view, given)
+        }
         (_, _) => Err(Refusal::WrongState),
     }
 }

@@ -1,9 +1,9 @@
 -- What a command on an action counts has room, and what it rests on is there.
 use Rattle.desk_commands.proofs.Common.{◌≡◌, ◌≤◌, ◌<◌, ◌^◌, ℕ, zero, suc, ◌+◌, Bool, true, false, cond, List, [], ◌∷◌, ◌++◌, length, Option, Some, None}
-use Rattle.desk_commands.proofs.Common.{option_map, Err, refl, sym, ap, ◌∙◌, subst, arith, is_some, length-map, length-set, ok_or, zip, item_numbered}
+use Rattle.desk_commands.proofs.Common.{option_map, refl, sym, ap, ◌∙◌, subst, arith, is_some, length-map, length-set, zip, item_numbered}
 use Rattle.desk_commands.proofs.Common.{CommandList, Bytes, Reported, entries_in, is_note, notes_of, IsValid, Records, records, Outcome, Good, Bad, Gone}
 use Rattle.desk_commands.proofs.Common.{ActionRecord, GroupRecord, RolloutRecord, numbered_map, ActionChange, Ends, Tally, tally_of, borne_at, numbers_from}
-use Rattle.desk_commands.proofs.Common.{numbers_of, Ledger, ledger_of, set_numbered, StoredAction, PlacedNumber, Acts, MayAct, TellsAction, FollowsSo}
+use Rattle.desk_commands.proofs.Common.{numbers_of, Ledger, ledger_of, set_numbered, StoredAction, PlacedNumber, Acts, TellsAction, FollowsSo}
 use Rattle.desk_commands.proofs.Common.{StartsGroupOf, outcomes_in, MayReoffer, CountsNumbers, entries_by, notes_by, SeenAction, Told, Has, limits_hold}
 use Rattle.desk_commands.proofs.Common.{Following, Ending, CanEnd, CanEndBy, CanFollow, CanTell, HasNext, Leads, TakesSteps, AreActionsNumbered}
 use Rattle.std.proofs.lemmas.List.Sums.{count_by-le-length, length-filter}
@@ -163,11 +163,3 @@ can_end seen after told l w = record { ends = λ e is. go e (subst (λ a. Leads 
           counts = record { room = omega (arith, few) };
           follows = follows_there seen e.following _ w.next f.follows;
         }
-
--- ---- the action
-
-pub never_unseen : (seen : Option SeenAction) (after : Option ActionChange) (told : Option Told) (l next : Ledger) (it : ActionChange) {E : Type 0} (e f : E)
-    → after ≡ Some it → Err f ≡ ok_or seen e → MayAct seen after told l next → ⊥
-never_unseen None None told l next it e f is missing acts = cc
-never_unseen None (Some a) told l next it e f is missing acts = acts
-never_unseen (Some s) after told l next it e f is missing acts = cc

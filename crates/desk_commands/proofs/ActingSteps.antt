@@ -1,13 +1,12 @@
 -- Commands on actions, by what was seen of the action and what the rule of the command made of it.
-use Rattle.desk_commands.proofs.Common.{◌≡◌, ℕ, Bool, true, false, cond, ◌&&◌, ◌||◌, not, List, [], ◌∷◌, Option, Some, None, option_map, Ok, refl, sym, ap}
-use Rattle.desk_commands.proofs.Common.{◌∙◌, subst, is_some, is_none, and_parts, item_numbered, same_bytes, CommandList, IsWellFormed, Bytes, Cancel, Command}
-use Rattle.desk_commands.proofs.Common.{Credential, step_records, Records, records, Reported, Standing, IsValid, check, first_refusal, target_of, Outcome}
-use Rattle.desk_commands.proofs.Common.{ActionRecord, same_true, Refusal, ClosedAction, WrongState, ChangesAction, Decides, IsFeedbackView, IsViewOf, LeadsTo}
-use Rattle.desk_commands.proofs.Common.{MakesCancel, MakesFeedback, MayChangeAction, cancel_refusal, change_by, change_if_fresh, is_fresh, outcome_forced}
-use Rattle.desk_commands.proofs.Common.{says_fresh, RolloutChange, RolloutCommandView, ActionChange, records_are_sound, numbers_of, ledger_of, actor, Acts}
-use Rattle.desk_commands.proofs.Common.{ActsBy, MayAct, WritesFeedback, action_change_of, does_act, CountsNumbers, TellsReports, IsSeen, MaySee, SeesFeedback}
-use Rattle.desk_commands.proofs.Common.{SeesTarget, action_view_seen, cancel_view_seen, only_of, only_started, feedback_view_seen, device_action_seen, seen_if}
-use Rattle.desk_commands.proofs.Common.{Told, SeenAction, SeenFeedback}
+use Rattle.desk_commands.proofs.Common.{◌≡◌, ℕ, Bool, true, false, cond, ◌&&◌, ◌||◌, not, List, [], ◌∷◌, Option, Some, None, option_map, Ok, refl, sym, ap, ◌∙◌}
+use Rattle.desk_commands.proofs.Common.{subst, is_some, is_none, and_parts, item_numbered, same_bytes, CommandList, IsWellFormed, Bytes, Cancel, Command}
+use Rattle.desk_commands.proofs.Common.{Credential, step_records, Records, records, Reported, IsValid, check, first_refusal, target_of, Outcome, AreSound}
+use Rattle.desk_commands.proofs.Common.{DecidesAs, JudgesCancel, of_device, ActionRecord, same_true, Refusal, ClosedAction, WrongState, ChangesAction}
+use Rattle.desk_commands.proofs.Common.{IsFeedbackView, MayChangeAction, cancel_refusal, change_by, change_if_fresh, is_fresh, outcome_forced, says_fresh}
+use Rattle.desk_commands.proofs.Common.{ActionChange, records_are_sound, numbers_of, ledger_of, actor, Acts, WritesFeedback, CountsNumbers, TellsReports}
+use Rattle.desk_commands.proofs.Common.{IsSeen, MaySee, SeesFeedback, SeesTarget, action_view_seen, cancel_view_seen, only_of, only_started, device_action_seen}
+use Rattle.desk_commands.proofs.Common.{seen_if, Told, SeenAction, SeenFeedback}
 use Rattle.campaign_core.specs.declared.rollout_checks.RolloutChange.TheVariants as change
 use Rattle.campaign_core.specs.declared.rollout_checks.RolloutCommandView.TheVariants as view
 use Rattle.campaign_core.specs.declared.rollout_checks.actions.CancelView.{CancelView}
@@ -74,82 +73,55 @@ module _ (h : CommandList) (c : Command) (valid : IsValid h) (formed : IsWellFor
               (sym is) (λ by unended begun leads. acts h c valid formed accepted k w.placed told reports tells (counted w.placed.action w.placed.at) by unended
               begun gives canceling leads)
 
-  -- by feedback
-  may_act : (id : Bytes) (found seen : Option SeenAction) → MaySee k (ledger_of (records h)) found → seen ≡ only_started (only_of id found)
-      → ((s : SeenAction) → seen ≡ Some s → s.action.outcome ≡ None → Counted) → actor c ≡ Some id
-      → (gives : Option Outcome) (canceling : Bool → Bool) (standing : Standing) (a : DeviceAction) (after : Option ActionChange)
-      → option_map (device_action_seen standing) seen ≡ Some a → after ≡ change_if_fresh a gives (canceling a.action.canceling)
-      → MayChangeAction after reports k (records h) (step_records (records h) c)
-      → MayAct seen after told (ledger_of (records h)) (ledger_of (step_records (records h) c))
-  may_act id found None sees is counted by gives canceling standing a after viewed made leads = cc
-  may_act id found (Some s) sees is counted by gives canceling standing a after viewed made leads =
-      let on = started_too (only_of id found) s (sym is) in
-      let its = of_target id found s on.0 in
-      let view : device_action_seen standing s ≡ a = cc in
-      go (is_fresh (device_action_seen standing s)) refl its on.1
-      (made ∙ ap (λ (v : DeviceAction). change_if_fresh v gives (canceling v.action.canceling)) (sym view))
-    where
-      after_it : ActionChange
-      after_it = change_by (action_view_seen s) gives (canceling s.action.canceling)
-
-      go : (fresh : Bool) → is_fresh (device_action_seen standing s) ≡ fresh → IsOf id found s → s.own.started ≡ true
-          → after ≡ cond (is_fresh (device_action_seen standing s)) (Some after_it) None
-          → MayAct (Some s) after told (ledger_of (records h)) (ledger_of (step_records (records h) c))
-      go true fresh its begun made =
-          let unended = (and_parts (is_none s.action.outcome) _ fresh).0 in
-          let is : after ≡ Some after_it = made ∙ ap (λ b. cond b (Some after_it) None) fresh in
-          let leads2 : ChangesAction after_it reports k (records h) (step_records (records h) c) =
-          subst (λ o. MayChangeAction o reports k (records h) (step_records (records h) c)) is leads in
-          subst (λ o. MayAct (Some s) o told (ledger_of (records h)) (ledger_of (step_records (records h) c))) (sym is)
-          (acts_on s (subst (λ o. MaySee k (ledger_of (records h)) o) its.is_found sees) (counted s refl (none_of s.action.outcome unended))
-          (by ∙ ap (λ t. Some t) (sym its.target)) unended begun gives (canceling s.action.canceling) leads2)
-      go false fresh its begun made =
-          let is : after ≡ None = made ∙ ap (λ b. cond b (Some after_it) None) fresh in
-          let leads2 : step_records (records h) c ≡ records h = subst (λ o. MayChangeAction o reports k (records h) (step_records (records h) c)) is leads in
-          subst (λ o. MayAct (Some s) o told (ledger_of (records h)) (ledger_of (step_records (records h) c))) (sym is) (ap ledger_of leads2)
-
 -- ---- feedback, on a deployment or on its cancel
 
-module _ (seen : SeenFeedback) (accepted : RolloutChange) (device : Credential) (k : ℕ) (new : Reported) (c : Command) (v : RolloutCommandView)
-    (its : Option ActionChange → RolloutChange) (gives : Option Outcome) (canceling : Bool → Bool)
-    (makes : (o : Option ActionChange) × (accepted ≡ its o) × MakesFeedback (feedback_view_seen seen) gives canceling o) where
-  module _ (is_its : (o : Option ActionChange) → action_change_of (its o) ≡ Some o)
-      (views : (rs : Records) → IsFeedbackView (feedback_view_seen seen) device k new rs → IsViewOf v c rs)
-      (leads : (o : Option ActionChange) (old new' : Records) → LeadsTo (its o) c old new' → MayChangeAction o (new ∷ []) k old new')
-      (by : actor c ≡ Some device.id) (formed : IsWellFormed c) (decides : Decides v c (Ok accepted)) where
-    pub feedback_taken : (h : CommandList) → IsValid h → SeesFeedback device k new (records h) seen → (check (records h) c ≡ None)
-        × WritesFeedback seen accepted new (ledger_of (records h)) (ledger_of (step_records (records h) c))
-    feedback_taken h valid w =
-        let it = decides (records h) (records_are_sound h valid) (views (records h) (feedback_viewed h valid k device new seen w)) in
-        let changed : MayChangeAction makes.0 (new ∷ []) k (records h) (step_records (records h) c) =
-        leads makes.0 (records h) (step_records (records h) c) (subst (λ o. LeadsTo o c (records h) (step_records (records h) c)) makes.1 it.1) in (
-          it.0,
-          record {
-            acts = λ told tells numbers. record {
-              after = makes.0;
-              is_its = ap action_change_of makes.1 ∙ is_its makes.0;
-              acts = may_act h c valid formed it.0 k (Some told) (new ∷ []) tells device.id w.found seen.action w.sees w.action
-                  (λ s is open_still a at bears. numbers ∙ (heard_whole h valid k device new seen w s is open_still a at).numbers
-                  (sym (ap is_some tells.number) ∙ bears))
-                  by gives canceling seen.report.standing makes.2.0 makes.0 makes.2.1 makes.2.2 changed;
-            };
-          },
-        )
+module _ {seen : SeenFeedback} {s : SeenAction} (own : (seen.misses_device ≡ false) × (seen.action ≡ Some s)) (device : Credential) (k : ℕ) (new : Reported)
+  where
+    pub own_viewed : (h : CommandList) → IsValid h → SeesFeedback device k new (records h) seen
+        → IsFeedbackView (of_device (device_action_seen seen.report.standing s)) device k new (records h)
+    own_viewed h valid w = subst (λ v. IsFeedbackView v device k new (records h))
+        (λ i. record { misses_device = own.0 i; own_action = option_map (device_action_seen seen.report.standing) (own.1 i) })
+        (feedback_viewed h valid k device new seen w)
 
-  -- it acts only where the report is new
-  pub acts_on_fresh : ((o : Option ActionChange) → does_act (its o) ≡ is_some o) → does_act accepted ≡ true → says_fresh seen.report.standing ≡ true
-  acts_on_fresh its_act acts = go seen.action makes.2.0 makes.2.1 (sym (ap is_some makes.2.2) ∙ sym (its_act makes.0) ∙ sym (ap does_act makes.1) ∙ acts)
-    where
-      if_fresh : (b : Bool) (o : Option ActionChange) → is_some (cond b o None) ≡ true → b ≡ true
-      if_fresh true o is = refl
-      if_fresh false o is = cc
+    module _ {after : Option ActionChange} (gives : Option Outcome) (canceling : Bool)
+        (judged : after ≡ change_if_fresh (device_action_seen seen.report.standing s) gives canceling) (c : Command) (by : actor c ≡ Some device.id)
+        (formed : IsWellFormed c)
+        (decides : (rs : Records) → AreSound rs → IsFeedbackView (of_device (device_action_seen seen.report.standing s)) device k new rs → (check rs c ≡ None)
+        × MayChangeAction after (new ∷ []) k rs (step_records rs c)) where
+      module _ (h : CommandList) (valid : IsValid h) (w : SeesFeedback device k new (records h) seen) where
+        it : (check (records h) c ≡ None) × MayChangeAction after (new ∷ []) k (records h) (step_records (records h) c)
+        it = decides (records h) (records_are_sound h valid) (own_viewed h valid w)
 
-      go : (o : Option SeenAction) (a : DeviceAction) → option_map (device_action_seen seen.report.standing) o ≡ Some a
-          → is_some (change_if_fresh a gives (canceling a.action.canceling)) ≡ true → says_fresh seen.report.standing ≡ true
-      go None a viewed some = cc
-      go (Some s) a viewed some =
-          let view : device_action_seen seen.report.standing s ≡ a = cc in
-          ap (λ (v : DeviceAction). says_fresh v.standing) view ∙ (and_parts (is_none a.action.outcome) _ (if_fresh (is_fresh a) _ some)).1
+        abbrev Writes : Option ActionChange → Type 0
+        Writes o = WritesFeedback s o seen.report.numbers new (ledger_of (records h)) (ledger_of (step_records (records h) c))
+
+        changes : (o : Option ActionChange) → after ≡ o → MayChangeAction o (new ∷ []) k (records h) (step_records (records h) c)
+        changes o is = subst (λ o. MayChangeAction o (new ∷ []) k (records h) (step_records (records h) c)) is it.1
+
+        writes : (fresh : Bool) → is_fresh (device_action_seen seen.report.standing s) ≡ fresh
+            → after ≡ cond fresh (Some (change_by (action_view_seen s) gives canceling)) None → Writes after
+        writes true at is =
+            let on = started_too (only_of device.id w.found) s (sym w.action ∙ own.1) in
+            let its = of_target device.id w.found s on.0 in
+            let unended = (and_parts (is_none s.action.outcome) _ at).0 in
+            subst Writes (sym is) (λ told tells numbers. acts_on h c valid formed it.0 k (Some told) (new ∷ []) tells s
+            (subst (λ o. MaySee k (ledger_of (records h)) o) its.is_found w.sees)
+            (λ r there bears. numbers
+            ∙ (heard_whole h valid k device new seen w s own.1 (none_of s.action.outcome unended) r there).numbers (sym (ap is_some tells.number) ∙ bears))
+            (by ∙ ap (λ t. Some t) (sym its.target)) unended on.1 gives canceling (changes _ is))
+        writes false at is = subst Writes (sym is) (ap ledger_of (changes _ is))
+
+        pub feedback_taken : (check (records h) c ≡ None) × Writes after
+        feedback_taken = (it.0, writes (is_fresh (device_action_seen seen.report.standing s)) refl judged)
+
+-- it acts only where the report is new
+pub acts_on_fresh : (v : DeviceAction) {after : Option ActionChange} (gives : Option Outcome) (canceling : Bool) → after ≡ change_if_fresh v gives canceling
+    → is_some after ≡ true → says_fresh v.standing ≡ true
+acts_on_fresh v gives canceling judged some = (and_parts (is_none v.action.outcome) _ (if_fresh (is_fresh v) _ (sym (ap is_some judged) ∙ some))).1
+  where
+    if_fresh : (b : Bool) (o : Option ActionChange) → is_some (cond b o None) ≡ true → b ≡ true
+    if_fresh true o is = refl
+    if_fresh false o is = cc
 
 -- ---- cancels
 
@@ -171,43 +143,22 @@ open_of v force none = go v.action.outcome none
     go None is = refl
     go (Some o) is = cc
 
-module _ (id : Bytes) (k : ℕ) (force : Bool) (seen : Option SeenAction) (accepted : RolloutChange) (formed : IsWellFormed (Cancel id k force))
-    (decides : Decides (view.Cancel (option_map cancel_view_seen seen)) (Cancel id k force) (Ok accepted))
-    (makes : (o : ActionChange) × (accepted ≡ change.Cancel o) × MakesCancel (option_map cancel_view_seen seen) force o) where
-  pub cancel_accepted : (h : CommandList) → IsValid h → SeesTarget id k (records h) seen → check (records h) (Cancel id k force) ≡ None
-  cancel_accepted h valid w = (decides (records h) (records_are_sound h valid) (cancel_viewed h valid k id seen w)).0
+there : (gone : Bool) (o : Option SeenAction) (s : SeenAction) → Some s ≡ cond gone None o → o ≡ Some s
+there true o s is = cc
+there false o s is = sym is
 
-  pub cancel_acts : (h : CommandList) → IsValid h → SeesTarget id k (records h) seen
-      → ActsBy seen accepted None (ledger_of (records h)) (ledger_of (step_records (records h) (Cancel id k force)))
-  cancel_acts h valid w =
-      let it = decides (records h) (records_are_sound h valid) (cancel_viewed h valid k id seen w) in
-      let unrefused : cancel_refusal (Some makes.2.0) force ≡ None = subst (λ v. cancel_refusal v force ≡ None) makes.2.1 makes.2.2 in
-      let leads : ChangesAction makes.0 [] k (records h) (step_records (records h) (Cancel id k force)) =
-      subst (λ o. LeadsTo o (Cancel id k force) (records h) (step_records (records h) (Cancel id k force))) makes.1 it.1 in
-      record {
-        after = Some makes.0;
-        is_its = ap action_change_of makes.1;
-        acts = go seen w.action makes.2.0 makes.2.1 (open_of makes.2.0 force unrefused) (begun_of makes.2.0 force unrefused) makes.2.3 it.0 leads;
-      }
-    where
-      there : (gone : Bool) (s : SeenAction) → Some s ≡ cond gone None (only_of id w.found) → only_of id w.found ≡ Some s
-      there true s is = cc
-      there false s is = sym is
-
-      go : (o : Option SeenAction) → o ≡ cond (is_none (target_of (records h) id)) None (only_of id w.found) → (v : CancelView) → option_map cancel_view_seen o
-          ≡ Some v → is_none v.action.outcome ≡ true → v.started ≡ true
-          → makes.0 ≡ change_by v.action (outcome_forced v.action.canceling force) true → check (records h) (Cancel id k force) ≡ None
-          → ChangesAction makes.0 [] k (records h) (step_records (records h) (Cancel id k force))
-          → MayAct o (Some makes.0) None (ledger_of (records h)) (ledger_of (step_records (records h) (Cancel id k force)))
-      go None is v viewed unended begun made none leads = cc
-      go (Some s) is v viewed unended begun made none leads =
-          let view : cancel_view_seen s ≡ v = cc in
-          let its = of_target id w.found s (there (is_none (target_of (records h) id)) s is) in
-          let made_so : makes.0 ≡ change_by (action_view_seen s) (outcome_forced s.action.canceling force) true = made
-          ∙ ap (λ (u : CancelView). change_by u.action (outcome_forced u.action.canceling force) true) (sym view) in
-          subst (λ o. Acts s o None (ledger_of (records h)) (ledger_of (step_records (records h) (Cancel id k force)))) (sym made_so)
-          (acts_on h (Cancel id k force) valid formed none k None [] tt s (subst (λ o. MaySee k (ledger_of (records h)) o) its.is_found w.sees) (λ a at. tt)
-          (ap (λ t. Some t) (sym its.target)) (ap (λ (u : CancelView). is_none u.action.outcome) view ∙ unended)
-          (ap (λ (u : CancelView). u.started) view ∙ begun)
-          (outcome_forced s.action.canceling force) true
-          (subst (λ o. ChangesAction o [] k (records h) (step_records (records h) (Cancel id k force))) made_so leads))
+module _ (id : Bytes) (k : ℕ) (force : Bool) {s : SeenAction} {after : ActionChange} (formed : IsWellFormed (Cancel id k force))
+    (decides : DecidesAs change.Cancel (view.Cancel (Some (cancel_view_seen s))) (Cancel id k force) (Ok after))
+    (judged : JudgesCancel (cancel_view_seen s) force (Ok after)) where
+  pub cancel_taken : (h : CommandList) → IsValid h → SeesTarget id k (records h) (Some s) → (check (records h) (Cancel id k force) ≡ None)
+      × Acts s after None (ledger_of (records h)) (ledger_of (step_records (records h) (Cancel id k force)))
+  cancel_taken h valid w =
+      let it = decides (records h) (records_are_sound h valid) (cancel_viewed h valid k id (Some s) w) in
+      let its = of_target id w.found s (there (is_none (target_of (records h) id)) (only_of id w.found) s w.action) in (
+        it.0,
+        subst (λ o. Acts s o None (ledger_of (records h)) (ledger_of (step_records (records h) (Cancel id k force)))) (sym judged.1)
+            (acts_on h (Cancel id k force) valid formed it.0 k None [] tt s (subst (λ o. MaySee k (ledger_of (records h)) o) its.is_found w.sees) (λ a at. tt)
+            (ap (λ t. Some t) (sym its.target)) (open_of (cancel_view_seen s) force judged.0) (begun_of (cancel_view_seen s) force judged.0)
+            (outcome_forced s.action.canceling force) true
+            (subst (λ o. ChangesAction o [] k (records h) (step_records (records h) (Cancel id k force))) judged.1 it.1)),
+      )

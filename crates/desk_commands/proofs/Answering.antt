@@ -1,7 +1,7 @@
 -- What the answers here cite, passed on from one place. Declares nothing.
 pub use Rattle.desk_commands.proofs.Common.{makes_three, le_trans, ◌≡◌, None, Some, sym, ◌∙◌, makes_as, refl, ledger_made, ledger_of, records_are_sound}
-pub use Rattle.desk_commands.proofs.Common.{records, step_records, ActsBy, Cancel, Leads, makes_nothing, WritesFeedback, does_act, CancelFeedback, OfCancel}
-pub use Rattle.desk_commands.proofs.Common.{reported, canceling_after, feedback_view_seen, Feedback, OfDeployment, makes_then, ◌≤◌, length, arith, nat_tests}
+pub use Rattle.desk_commands.proofs.Common.{records, step_records, Acts, Cancel, Leads, makes_nothing, WritesFeedback, CancelFeedback, OfCancel, is_some}
+pub use Rattle.desk_commands.proofs.Common.{reported, device_action_seen, Feedback, OfDeployment, makes_then, ◌≤◌, length, arith, nat_tests}
 pub use Rattle.desk_commands.proofs.Common.{subst, both_found, finds_as, true, false, ap, wrong_digest, Artifact, ◌+◌, same_number, cond, sorted_from, take}
 pub use Rattle.desk_commands.proofs.Common.{in_byte_order, keys_of, keys_after, GivesAttribute, rules, GivesAttributes, Ok, Fault, MakesIn, StaysIn, WritesIn}
 pub use Rattle.desk_commands.proofs.Common.{◌<◌, found_held, filter_of, map, target_listed, ids_matching, Tree, FindsIn, FailsAtListsIn, nat_lt, ledger_found}
@@ -11,8 +11,8 @@ pub use Rattle.desk_commands.proofs.Common.{StartsIf, details_kept, not, only_st
 pub use Rattle.desk_commands.proofs.Common.{StartsWhole, AddsActions, target_of, AddsTags, DropsTags, PutsOver, option_map, HoldsLedger, Ledger, renamed}
 pub use Rattle.desk_commands.proofs.Common.{with_changed, seen_in, stored_target, Sees, IsReadable, ChangesRow, TargetsPut, Renames, are_sorted, tags_of}
 pub use Rattle.desk_commands.proofs.Common.{Retags, ◌-◌, LeavesRoom}
-pub use Rattle.desk_commands.proofs.ActingExits.{can_end, can_tell, never_unseen, numbers_stay}
-pub use Rattle.desk_commands.proofs.ActingSteps.{acts_on_fresh, cancel_accepted, cancel_acts, feedback_taken}
+pub use Rattle.desk_commands.proofs.ActingExits.{can_end, can_tell, numbers_stay}
+pub use Rattle.desk_commands.proofs.ActingSteps.{acts_on_fresh, cancel_taken, feedback_taken, own_viewed}
 pub use Rattle.desk_commands.proofs.AdditionLemmas.{adds_front, adds_none, adds_whole, lacks, module_accepted, module_added, module_exists, module_is_step}
 pub use Rattle.desk_commands.proofs.AdditionLemmas.{modules_full, set_accepted, set_added, set_exists, set_lacks, sets_full, whole_is_step}
 pub use Rattle.desk_commands.proofs.ArtifactLemmas.{adds_first_piece, adds_no_bytes, adds_parts, artifact_added, artifact_is_step, desk_full, file_exists}
@@ -40,7 +40,8 @@ pub use Rattle.desk_commands.proofs.StartLemmas.{all_members, no_action, one_act
 pub use Rattle.desk_commands.proofs.TagLemmas.{any_word, drops_front, drops_none, has_front, keeps_front, none_left, pointwise_is, retags_parts, tags_distinct}
 pub use Rattle.desk_commands.proofs.TagStepLemmas.{had_accepted, had_is_step, lacks_it, no_target_to_tag, no_target_to_untag, tag_accepted, tag_is_step}
 pub use Rattle.desk_commands.proofs.TagStepLemmas.{tags_full, untag_accepted}
-pub use Rattle.desk_commands.proofs.TellingLemmas.{acting_parts, acts_after, no_number, none_told, number_adds, offered_anew, offered_still, telling_parts}
+pub use Rattle.desk_commands.proofs.TellingLemmas.{acting_parts, no_number, none_told, number_adds, offered_anew, offered_still, telling_parts}
 pub use Rattle.desk_commands.proofs.TellingLemmas.{told_parts}
 pub use Rattle.desk_commands.proofs.WorkLemmas.{number_within, taken_within}
-pub use Rattle.rollout_machine.specs.Actions.{outcome_of_cancel, outcome_of_deployment}
+pub use Rattle.campaign_core.proofs.ActionLemmas.{cancel_row}
+pub use Rattle.campaign_core.proofs.FeedbackLemmas.{on_cancel, on_deployment, refuses_device}

@@ -64,9 +64,9 @@ pub use Rattle.rollout_machine.specs.declared.standing.Standing.{Standing}
 pub use Rattle.offer_laws.specs.GroupOffers.{GroupStarts, acted, actor, group_offers, offers_before_start, put_offers, with_actor}
 pub use Rattle.campaign_core.proofs.SoundLemmas.{records_are_sound}
 pub use Rattle.campaign_core.specs.OwnGroups.{effects_by, following, own_view_of, waits}
-pub use Rattle.campaign_core.specs.RolloutChecks.{AreSound, BothOrNone, ChangesAction, Decides, IsActionView, IsCancelView, IsDeviceAction, IsFeedbackView}
-pub use Rattle.campaign_core.specs.RolloutChecks.{IsPlanView, IsResumeView, IsStandingView, IsTriggerView, IsViewOf, LeadsTo, MakesCancel, MakesFeedback}
-pub use Rattle.campaign_core.specs.RolloutChecks.{MayChangeAction, action_for, action_with, approval_at, cancel_refusal, canceling_after, change_by}
+pub use Rattle.campaign_core.specs.RolloutChecks.{AreSound, BothOrNone, ChangesAction, Decides, DecidesAs, IsActionView, IsCancelView, IsDeviceAction}
+pub use Rattle.campaign_core.specs.RolloutChecks.{IsFeedbackView, IsPlanView, IsResumeView, IsStandingView, IsTriggerView, IsViewOf, JudgesCancel, of_device}
+pub use Rattle.campaign_core.specs.RolloutChecks.{MayChangeAction, action_for, action_with, approval_at, cancel_refusal, change_by}
 pub use Rattle.campaign_core.specs.RolloutChecks.{change_if_fresh, change_numbered, device_action, ended_by, is_fresh, moved_by, only_if, outcome_forced}
 pub use Rattle.campaign_core.specs.RolloutChecks.{plan_refusal, rollout_with, says_fresh}
 pub use Rattle.campaign_core.specs.declared.own_group.Following.{Following}
@@ -112,8 +112,7 @@ pub use Rattle.desk_reads.specs.AtLists.{AreOfList, FailsAtListsIn, IsOfList}
 pub use Rattle.desk_reads.specs.Rollouts.{IsSeenOf}
 pub use Rattle.desk_reads.specs.Targets.{target_listed}
 pub use Rattle.desk_reads.specs.declared.rollouts.SeenRollout.{SeenRollout}
-pub use Rattle.desk_commands.specs.ActionSteps.{Acts, ActsBy, FollowsChange, MayAct, TellsAction, WritesFeedback, action_change_of, canceling_by, does_act}
-pub use Rattle.desk_commands.specs.ActionSteps.{outcome_by, stays_offered}
+pub use Rattle.desk_commands.specs.ActionSteps.{Acts, FollowsChange, TellsAction, WritesFeedback, canceling_by, outcome_by, stays_offered}
 pub use Rattle.desk_commands.specs.Additions.{AddsArtifact, AddsContents, AddsModules, AddsWhole, LacksModule, and_modules, is_full}
 pub use Rattle.desk_commands.specs.Attributes.{GivesAttribute, GivesAttributes, attributed_with, has_attribute, keys_after}
 pub use Rattle.desk_commands.specs.Creations.{CreatesRollout, IsChosen, IsWordOf, and_rollout, first_rules, ids_matching, in_part, shown_new}

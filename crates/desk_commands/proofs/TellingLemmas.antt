@@ -1,11 +1,9 @@
 -- What is told of an action and what becomes of it, write by write.
-use Rattle.desk_commands.proofs.Common.{◌≡◌, ℕ, ◌+◌, Bool, true, false, List, [], ◌∷◌, ◌++◌, Option, Some, None, refl, sym, ap, ◌∙◌, subst, is_some, Then}
-use Rattle.desk_commands.proofs.Common.{item_numbered, Bytes, Reported, Outcome, ActionRecord, action_with, RolloutChange, ActionChange, StaysOpen, Ends}
-use Rattle.desk_commands.proofs.Common.{borne_at, Ledger, AddsEntry, AddsNumber, SetsAction, and_entry, set_numbered, with_actions, with_numbers, PlacedNumber}
-use Rattle.desk_commands.proofs.Common.{StoredAction, Acts, ActsBy, FollowsChange, MayAct, TellsAction, action_change_of, canceling_by, outcome_by}
-use Rattle.desk_commands.proofs.Common.{stays_offered}
-use Rattle.desk_commands.proofs.Common.{MayReoffer, Reoffers, TellsReports, WritesNumber, WritesTold, entries_by, notes_by, numbers_by, tally_by, with_reports}
-use Rattle.desk_commands.proofs.Common.{SeenAction, Told}
+use Rattle.desk_commands.proofs.Common.{◌≡◌, ℕ, ◌+◌, Bool, true, false, List, [], ◌∷◌, ◌++◌, Option, Some, None, refl, sym, ap, ◌∙◌, is_some, Then}
+use Rattle.desk_commands.proofs.Common.{item_numbered, Bytes, Reported, Outcome, ActionRecord, action_with, ActionChange, StaysOpen, Ends, borne_at, Ledger}
+use Rattle.desk_commands.proofs.Common.{AddsEntry, AddsNumber, SetsAction, and_entry, set_numbered, with_actions, with_numbers, PlacedNumber, StoredAction}
+use Rattle.desk_commands.proofs.Common.{Acts, FollowsChange, TellsAction, canceling_by, outcome_by, stays_offered, MayReoffer, Reoffers, TellsReports}
+use Rattle.desk_commands.proofs.Common.{WritesNumber, WritesTold, entries_by, notes_by, numbers_by, tally_by, with_reports, SeenAction, Told}
 use Rattle.desk_records.specs.LedgerSteps.{action_turned}
 use Rattle.desk_commands.proofs.ItemSteps.{append_none, set_same, set_twice, zip_at, zip_set}
 
@@ -122,12 +120,6 @@ telling_parts seen after told l next w = (
 pub acting_parts : (seen : SeenAction) (after : ActionChange) (told : Option Told) (l next : Ledger) → Acts seen after told l next
     → Then (Then (TellsAction seen after told) (MayReoffer (stays_offered seen.action.canceling after) seen.action.target)) (FollowsChange seen after) l next
 acting_parts seen after told l next w = (w.offered, (w.acted, w.tells, w.offers), w.follows)
-
-pub acts_after : (seen : Option SeenAction) (accepted : RolloutChange) (after : Option ActionChange) (told : Option Told) (l next : Ledger)
-    → action_change_of accepted ≡ Some after → ActsBy seen accepted told l next → MayAct seen after told l next
-acts_after seen accepted after told l next is w =
-    let both : Some w.after ≡ Some after = sym w.is_its ∙ is in
-    subst (λ (o : Option ActionChange). MayAct seen o told l next) (let same : w.after ≡ after = cc in same) w.acts
 
 -- ---- the offer
 

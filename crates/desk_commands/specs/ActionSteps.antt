@@ -1,13 +1,11 @@
 -- What an accepted command on an action makes of a ledger.
-use Rattle.std.specs.Prelude.{◌≡◌, Bool, true, false, not, cond, List, length, Option, Some, None, is_some}
+use Rattle.std.specs.Prelude.{◌≡◌, ℕ, Bool, false, not, cond, List, length, Option, Some, None}
 use Rattle.std.specs.List.{zip}
 use Rattle.rollout_machine.specs.ByteStrings.{item_numbered}
 use Rattle.rollout_machine.specs.Reports.{Reported}
 use Rattle.rollout_machine.specs.declared.outcome.Outcome.{Outcome}
 use Rattle.rollout_machine.specs.declared.records.ActionRecord.{ActionRecord}
 use Rattle.campaign_core.specs.RolloutChecks.{action_with}
-use Rattle.campaign_core.specs.declared.rollout_checks.RolloutChange.{RolloutChange}
-use Rattle.campaign_core.specs.declared.rollout_checks.RolloutChange.TheVariants as change
 use Rattle.campaign_core.specs.declared.rollout_checks.actions.ActionChange.{ActionChange}
 use Rattle.campaign_core.specs.declared.rollout_checks.actions.ActionChange.TheVariants.{StaysOpen, Ends}
 use Rattle.desk_records.specs.Actions.{Tally}
@@ -20,7 +18,6 @@ use Rattle.desk_commands.specs.Offering.{MayReoffer}
 use Rattle.desk_commands.specs.Telling.{CountsNumbers, TellsReports, entries_by, numbers_by, tally_by, with_reports}
 use Rattle.desk_records.specs.declared.number_row.PlacedNumber.{PlacedNumber}
 use Rattle.desk_commands.specs.declared.seen_actions.SeenAction.{SeenAction}
-use Rattle.desk_commands.specs.declared.seen_actions.SeenFeedback.{SeenFeedback}
 use Rattle.desk_commands.specs.declared.telling.Told.{Told}
 
 -- ---- the action and its history
@@ -72,31 +69,7 @@ pub record Acts (seen : SeenAction) (after : ActionChange) (told : Option Told) 
   pub offers : MayReoffer (stays_offered seen.action.canceling after) seen.action.target acted offered
   pub follows : FollowsChange seen after offered next
 
-abbrev pub MayAct : Option SeenAction → Option ActionChange → Option Told → Ledger → Ledger → Type 0
-MayAct seen None told l next = next ≡ l
-MayAct None (Some after) told l next = ⊥
-MayAct (Some seen) (Some after) told l next = Acts seen after told l next
-
--- what a change makes of its action, where it is one of an action
-abbrev pub action_change_of : RolloutChange → Option (Option ActionChange)
-action_change_of (change.Cancel after) = Some (Some after)
-action_change_of (change.Feedback after) = Some after
-action_change_of (change.CancelFeedback after) = Some after
-action_change_of _ = None
-
--- whether it makes something of it
-abbrev pub does_act : RolloutChange → Bool
-does_act (change.Cancel after) = true
-does_act (change.Feedback after) = is_some after
-does_act (change.CancelFeedback after) = is_some after
-does_act _ = false
-
-pub record ActsBy (seen : Option SeenAction) (accepted : RolloutChange) (told : Option Told) (l next : Ledger) : Type 0 where
-  pub after : Option ActionChange
-  pub is_its : action_change_of accepted ≡ Some after
-  pub acts : MayAct seen after told l next
-
--- accepted feedback is told as it was reported, with as many numbers before as were seen
-pub record WritesFeedback (seen : SeenFeedback) (accepted : RolloutChange) (new : Reported) (l next : Ledger) : Type 0 where
-  pub acts : (told : Told) → TellsEntry new told.entry → told.numbers ≡ seen.report.numbers
-      → ActsBy seen.action accepted (Some told) l next
+-- accepted feedback is told as it was reported, with so many numbers before, where something becomes of the action
+abbrev pub WritesFeedback : SeenAction → Option ActionChange → ℕ → Reported → Ledger → Ledger → Type 0
+WritesFeedback seen None numbers new l next = next ≡ l
+WritesFeedback seen (Some after) numbers new l next = (told : Told) → TellsEntry new told.entry → told.numbers ≡ numbers → Acts seen after (Some told) l next

@@ -1,11 +1,10 @@
 //! Feedback on actions, and the cancels of actions.
 
-ghost use Rattle.std.specs.Prelude.{◌≡◌, ◌+◌, cond, MatchResult, None, Some, is_some};
-ghost use Rattle.sql_calls.specs.declared.fault.Fault.TheVariants.{Broken};
+ghost use Rattle.std.specs.Prelude.{◌≡◌, ◌+◌, cond, is_some};
 ghost use Rattle.rollout_machine.specs.Reports.{reported};
 ghost use Rattle.rollout_machine.specs.Commands.{Cancel as CancelCommand, CancelFeedback, Feedback};
-ghost use Rattle.desk_commands.specs.ActionSteps.{Acts, ActsBy, FollowsChange, MayAct, TellsAction, WritesFeedback};
-ghost use Rattle.desk_commands.specs.ActionSteps.{action_change_of, canceling_by, does_act, outcome_by, stays_offered};
+ghost use Rattle.desk_commands.specs.ActionSteps.{Acts, FollowsChange, TellsAction, WritesFeedback};
+ghost use Rattle.desk_commands.specs.ActionSteps.{canceling_by, outcome_by, stays_offered};
 ghost use Rattle.desk_commands.specs.Offering.{MayReoffer};
 ghost use Rattle.desk_commands.specs.Telling.{if_numbered, number_told};
 ghost use Rattle.desk_commands.specs.Failures.{CanEndBy, CanTell, CountsIf, FailsStepIn, FailsWriting, Leads};
@@ -16,15 +15,13 @@ ghost use Rattle.desk_store.specs.Failing.{FailsSeeing, AreActionsNumbered};
 
 use crate::endings::follow_ending;
 use crate::offering::offer_anew;
-use crate::seen_actions::{
-    SeenAction, SeenFeedback, cancel_view, feedback_view, see_feedback, see_target,
-};
+use crate::seen_actions::{SeenAction, cancel_view, device_action, see_feedback, see_target};
 use crate::step::Step;
 use crate::telling::{Told, entries_with, notes_with, write_told};
-use campaign_core::{ActionChange, RolloutChange, cancel, cancel_feedback, feedback};
+use campaign_core::{ActionChange, cancel, cancel_feedback, feedback, own_action};
 use desk_store::{Fault, OpenChange, tell_entry};
 use rollout_machine::{Outcome, cancel_is_well_formed, feedback_is_well_formed};
-use rollout_model::{Cancel, CancelWord, DeploymentWord, DeviceFeedback, Reply, Said};
+use rollout_model::{Cancel, CancelWord, DeploymentWord, DeviceFeedback, Refusal, Reply, Said};
 use sqlite::Alter;
 use std::alloc::Global;
 
@@ -135,74 +132,28 @@ fn act<S: Alter>(
     follow(change, seen, after)
 }
 
-/// Writes what becomes of the action that was seen, where something does.
-fn may_act<S: Alter>(
-    change: &mut OpenChange<'_, S>,
-    seen: &Option<SeenAction>,
-    after: &Option<ActionChange>,
-    told: &Option<Told>,
-) -> Result<(), Fault>
-    ensures stays { StaysIn S.Store change.old change.new result }
-    ensures writes { MakesLedger S.Store change.old change.new result (MayAct seen.now after.now told.now) }
-    ensures fails { FailsWriting S.Store (Leads (MayAct seen.now after.now told.now)) change.old change.new result }
-    ensures work { AddsIn (cond (is_some after.now) (7 + if_numbered (number_told told.now) 1) 0) (cond (is_some after.now) 1 0) change.old change.new }
-{
-    let Some(after) = after else {
-        return Ok(());
-    };
-    let seen = seen.ok_or(Fault::Broken)?;
-    act(change, &seen, after, told)
-}
-
-/// What an accepted command makes of its action: nothing where it repeats an outcome.
-fn action_change(accepted: &RolloutChange) -> Result<Option<ActionChange>, Fault>
-    ensures { MatchResult result (λ after. action_change_of accepted.now ≡ Some after) (λ e. (e ≡ Broken) × (action_change_of accepted.now ≡ None)) }
-{
-    match accepted {
-        RolloutChange::Cancel(after) => Ok(Some(*after)),
-        RolloutChange::Feedback(after) => Ok(*after),
-        RolloutChange::CancelFeedback(after) => Ok(*after),
-        _ => Err(Fault::Broken),
-    }
-}
-
-/// Writes an accepted command on an action.
-fn act_by<S: Alter>(
-    change: &mut OpenChange<'_, S>,
-    seen: &Option<SeenAction>,
-    accepted: &RolloutChange,
-    told: &Option<Told>,
-) -> Result<(), Fault>
-    ensures stays { StaysIn S.Store change.old change.new result }
-    ensures writes { MakesLedger S.Store change.old change.new result (ActsBy seen.now accepted.now told.now) }
-    ensures fails { FailsWriting S.Store (Leads (ActsBy seen.now accepted.now told.now)) change.old change.new result }
-    ensures work { AddsIn (cond (does_act accepted.now) (7 + if_numbered (number_told told.now) 1) 0) (cond (does_act accepted.now) 1 0) change.old change.new }
-{
-    let after = action_change(accepted)?;
-    may_act(change, seen, &after, told)
-}
-
-/// Writes accepted feedback. The memory for it is taken before anything is written.
+/// Writes what becomes of an action by accepted feedback, where something does. `numbers` is how many the action has before. The memory
+/// for the report is taken before anything is written.
 fn write_feedback<S: Alter, W: Copy>(
     alloc: Global,
     change: &mut OpenChange<'_, S>,
-    seen: &SeenFeedback,
-    accepted: &RolloutChange,
+    seen: &SeenAction,
+    after: &Option<ActionChange>,
+    numbers: u32,
     given: &DeviceFeedback<W>,
     said: Said,
 ) -> Result<(), Fault>
     ensures stays { StaysIn S.Store change.old change.new result }
     ensures writes { MakesLedger S.Store change.old change.new result
-        (WritesFeedback seen.now accepted.now (reported (λ word. said) given.now)) }
-    ensures fails { FailsWriting S.Store (Leads (WritesFeedback seen.now accepted.now (reported (λ word. said) given.now))) change.old change.new result }
-    ensures work { AddsIn (cond (does_act accepted.now) (7 + if_numbered given.now.number 1) 0) (cond (does_act accepted.now) 1 0) change.old change.new }
+        (WritesFeedback seen.now after.now numbers (reported (λ word. said) given.now)) }
+    ensures fails { FailsWriting S.Store (Leads (WritesFeedback seen.now after.now numbers (reported (λ word. said) given.now))) change.old change.new result }
+    ensures work { AddsIn (cond (is_some after.now) (7 + if_numbered given.now.number 1) 0) (cond (is_some after.now) 1 0) change.old change.new }
 {
-    let entry = tell_entry(alloc, said, &given.details, given.number)?;
-    let told = Told {
-        entry,
-        numbers: seen.report.numbers,
+    let Some(after) = after else {
+        return Ok(());
     };
-    act_by(change, &seen.action, accepted, &Some(told))
+    let entry = tell_entry(alloc, said, &given.details, given.number)?;
+    act(change, seen, after, &Some(Told { entry, numbers }))
 }
 
 /// Takes feedback on a deployment.
@@ -219,11 +170,16 @@ pub(crate) fn take_feedback<S: Alter>(
     feedback_is_well_formed(given);
     let said = Said::Deployment(given.word);
     let seen = see_feedback(change, given, said)?;
-    let accepted = match feedback(&feedback_view(&seen), given) {
-        Ok(accepted) => accepted,
+    let report = seen.report;
+    let action = match own_action(seen.misses_device, &seen.action) {
+        Ok(action) => action,
         Err(refusal) => return Ok(Step::Refused(refusal)),
     };
-    write_feedback(alloc, change, &seen, &accepted, given, said)?;
+    let after = match feedback(&device_action(&action, report.standing), given) {
+        Ok(after) => after,
+        Err(refusal) => return Ok(Step::Refused(refusal)),
+    };
+    write_feedback(alloc, change, &action, &after, report.numbers, given, said)?;
     Ok(Step::Accepted(Reply::Done))
 }
 
@@ -241,11 +197,16 @@ pub(crate) fn take_cancel_feedback<S: Alter>(
     feedback_is_well_formed(given);
     let said = Said::Cancel(given.word);
     let seen = see_feedback(change, given, said)?;
-    let accepted = match cancel_feedback(&feedback_view(&seen), given) {
-        Ok(accepted) => accepted,
+    let report = seen.report;
+    let action = match own_action(seen.misses_device, &seen.action) {
+        Ok(action) => action,
         Err(refusal) => return Ok(Step::Refused(refusal)),
     };
-    write_feedback(alloc, change, &seen, &accepted, given, said)?;
+    let after = match cancel_feedback(&device_action(&action, report.standing), given) {
+        Ok(after) => after,
+        Err(refusal) => return Ok(Step::Refused(refusal)),
+    };
+    write_feedback(alloc, change, &action, &after, report.numbers, given, said)?;
     Ok(Step::Accepted(Reply::Done))
 }
 
@@ -259,11 +220,14 @@ pub(crate) fn cancel_action<S: Alter>(
     ensures fails { FailsStepIn S.Store change.old change.new result }
 {
     cancel_is_well_formed(asked);
-    let seen = see_target(change, &asked.target, asked.action)?;
-    let accepted = match cancel(&cancel_view(&seen), asked) {
-        Ok(accepted) => accepted,
+    let found = see_target(change, &asked.target, asked.action)?;
+    let Some(seen) = found else {
+        return Ok(Step::Refused(Refusal::NotFound));
+    };
+    let after = match cancel(&cancel_view(&seen), asked) {
+        Ok(after) => after,
         Err(refusal) => return Ok(Step::Refused(refusal)),
     };
-    act_by(change, &seen, &accepted, &None)?;
+    act(change, &seen, &after, &None)?;
     Ok(Step::Accepted(Reply::Done))
 }

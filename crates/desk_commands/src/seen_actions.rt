@@ -1,6 +1,6 @@
 //! An action as commands on it find it: with its group and its rollout.
 
-ghost use Rattle.std.specs.Prelude.{◌≡◌, ◌+◌, option_map, MatchResult, Some};
+ghost use Rattle.std.specs.Prelude.{◌≡◌, ◌+◌, MatchResult, Some};
 ghost use Rattle.sql_calls.specs.declared.fault.Fault.TheVariants.{Broken};
 ghost use Rattle.campaign_core.specs.OwnGroups.{waits};
 ghost use Rattle.desk_store.specs.Counting.{AddsIn};
@@ -8,7 +8,7 @@ ghost use Rattle.rollout_machine.specs.Reports.{reported};
 ghost use Rattle.desk_commands.specs.GroupViews.{EndsBeyond};
 ghost use Rattle.desk_commands.specs.SeenReports.{reads_for, standing_in};
 ghost use Rattle.desk_commands.specs.SeenActions.{MaySee, SeesIn, SeesFeedback, SeesTarget, action_view_seen};
-ghost use Rattle.desk_commands.specs.SeenActions.{cancel_view_seen, only_of, only_started, own_seen, feedback_view_seen};
+ghost use Rattle.desk_commands.specs.SeenActions.{cancel_view_seen, device_action_seen, only_of, only_started, own_seen};
 ghost use Rattle.desk_store.specs.Changing.{FindsIn, FindsLedger, StaysIn};
 ghost use Rattle.desk_store.specs.Failing.{FailsGiven};
 ghost use Rattle.desk_reads.specs.AtLists.{FailsAtListsIn};
@@ -17,10 +17,10 @@ ghost use Rattle.desk_commands.specs.Failures.{IsActionOf};
 use crate::group_views::group_view;
 use crate::reports::{SeenReport, see_report};
 use crate::tags::lacks_target;
-use campaign_core::{ActionView, CancelView, DeviceAction, FeedbackView, OwnView};
+use campaign_core::{ActionView, CancelView, DeviceAction, OwnView};
 use desk_reads::knows_device;
 use desk_store::{Fault, OpenChange, StoredAction, StoredRollout};
-use rollout_machine::GroupRecord;
+use rollout_machine::{GroupRecord, Standing};
 use rollout_model::{ActionNo, Approval, ControllerId, DeviceFeedback, GroupRule, Said};
 use sqlite::Alter;
 
@@ -212,34 +212,23 @@ fn action_view(seen: &SeenAction) -> ActionView
     }
 }
 
-/// The feedback as its rule rests on it.
-pub(crate) fn feedback_view(seen: &SeenFeedback) -> FeedbackView
-    ensures { result ≡ feedback_view_seen seen.now }
+/// The action as the rules of feedback rest on it.
+pub(crate) fn device_action(seen: &SeenAction, standing: Standing) -> DeviceAction
+    ensures { result ≡ device_action_seen standing seen.now }
 {
-    let standing = seen.report.standing;
-    let own_action = match &seen.action {
-        Some(seen) => Some(DeviceAction {
-            notes: seen.action.notes,
-            standing,
-            action: action_view(seen),
-        }),
-        None => None,
-    };
-    FeedbackView {
-        misses_device: seen.misses_device,
-        own_action,
+    DeviceAction {
+        notes: seen.action.notes,
+        standing,
+        action: action_view(seen),
     }
 }
 
-/// The cancel as its rule rests on it.
-pub(crate) fn cancel_view(seen: &Option<SeenAction>) -> Option<CancelView>
-    ensures { result ≡ option_map cancel_view_seen seen.now }
+/// The action as the rule of its cancel rests on it.
+pub(crate) fn cancel_view(seen: &SeenAction) -> CancelView
+    ensures { result ≡ cancel_view_seen seen.now }
 {
-    match seen {
-        Some(seen) => Some(CancelView {
-            started: seen.own.started,
-            action: action_view(seen),
-        }),
-        None => None,
+    CancelView {
+        started: seen.own.started,
+        action: action_view(seen),
     }
 }

@@ -1,8 +1,8 @@
 //! Cancels, and what becomes of single actions.
 
-ghost use Rattle.std.specs.Prelude.{◌≡◌, true, Some, None, IfOk, IfSome, MatchResult};
+ghost use Rattle.std.specs.Prelude.{◌≡◌, Some};
 ghost use Rattle.rollout_machine.specs.Commands.{Cancel as CancelCommand};
-ghost use Rattle.campaign_core.specs.RolloutChecks.{cancel_refusal, change_by, ended_by, outcome_forced, Decides, MakesCancel};
+ghost use Rattle.campaign_core.specs.RolloutChecks.{change_by, ended_by, outcome_forced, Decides, DecidesAs, JudgesCancel};
 ghost use Rattle.campaign_core.specs.declared.rollout_checks.RolloutCommandView.TheVariants as seen;
 ghost use Rattle.campaign_core.specs.declared.rollout_checks.RolloutChange.TheVariants as made;
 
@@ -83,14 +83,9 @@ fn outcome_of_force(canceling: bool, force: bool) -> Option<Outcome>
 }
 
 /// What becomes of the action by its cancel, or the first refusal that applies.
-fn after_cancel(view: &Option<CancelView>, force: bool) -> Result<ActionChange, Refusal>
-    ensures { MatchResult result
-        (λ c. (cancel_refusal view.now force ≡ None) × IfSome view.now (λ v. c ≡ change_by v.action (outcome_forced v.action.canceling force) true))
-        (λ refusal. cancel_refusal view.now force ≡ Some refusal) }
+fn after_cancel(view: &CancelView, force: bool) -> Result<ActionChange, Refusal>
+    ensures { JudgesCancel view.now force result }
 {
-    let Some(view) = view else {
-        return Err(Refusal::NotFound);
-    };
     let action = view.action;
     if action.outcome.is_some() {
         return Err(Refusal::ClosedAction);
@@ -101,11 +96,24 @@ fn after_cancel(view: &Option<CancelView>, force: bool) -> Result<ActionChange, 
     Ok(change(&action, outcome_of_force(action.canceling, force), true))
 }
 
-/// The verdict on the cancel of an action.
-pub fn cancel(view: &Option<CancelView>, cancel: &Cancel) -> Result<RolloutChange, Refusal>
-    ensures decides { Decides (seen.Cancel view.now) (CancelCommand cancel.now.target cancel.now.action cancel.now.force) result }
-    ensures makes { IfOk result (λ change. (c : _) × (change ≡ made.Cancel c) × MakesCancel view.now cancel.now.force c) }
+/// The verdict on the cancel of an action that its target has: what becomes of it.
+pub fn cancel(view: &CancelView, asked: &Cancel) -> Result<ActionChange, Refusal>
+    ensures decides { DecidesAs made.Cancel (seen.Cancel (Some view.now)) (CancelCommand asked.now.target asked.now.action asked.now.force) result }
+    ensures judges { JudgesCancel view.now asked.now.force result }
 {
-    let change = after_cancel(view, cancel.force)?;
+    after_cancel(view, asked.force)
+}
+
+/// The verdict on a cancel, of whatever action.
+pub(crate) fn check_cancel(
+    view: &Option<CancelView>,
+    asked: &Cancel,
+) -> Result<RolloutChange, Refusal>
+    ensures { Decides (seen.Cancel view.now) (CancelCommand asked.now.target asked.now.action asked.now.force) result }
+{
+    let Some(view) = view else {
+        return Err(Refusal::NotFound);
+    };
+    let change = cancel(view, asked)?;
     Ok(RolloutChange::Cancel(change))
 }

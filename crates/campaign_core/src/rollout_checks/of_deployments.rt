@@ -1,15 +1,14 @@
 //! Feedback on deployments.
 
-ghost use Rattle.std.specs.Prelude.{◌≡◌, Some, None, IfOk, MatchResult};
 ghost use Rattle.rollout_machine.specs.Actions.{outcome_of_deployment};
 ghost use Rattle.rollout_machine.specs.Commands.{Feedback};
-ghost use Rattle.campaign_core.specs.RolloutChecks.{change_if_fresh, feedback_refusal, Decides, MakesFeedback};
+ghost use Rattle.campaign_core.specs.RolloutChecks.{feedback_refusal, Decides, DecidesAs, JudgesFeedback, of_device};
 ghost use Rattle.campaign_core.specs.declared.rollout_checks.RolloutCommandView.TheVariants as seen;
 ghost use Rattle.campaign_core.specs.declared.rollout_checks.RolloutChange.TheVariants as made;
 
 use super::RolloutChange;
 use super::actions::{ActionChange, change};
-use super::of_devices::{DeviceAction, FeedbackView, device_action, is_news};
+use super::of_devices::{DeviceAction, FeedbackView, is_news, own_action};
 use rollout_machine::outcome_of_deployment;
 use rollout_model::limits::NOTE_LIMIT;
 use rollout_model::{DeploymentWord, DeviceFeedback, Refusal};
@@ -19,10 +18,7 @@ fn after_feedback(
     own_action: &DeviceAction,
     word: DeploymentWord,
 ) -> Result<Option<ActionChange>, Refusal>
-    ensures { MatchResult result
-        (λ c. (feedback_refusal word own_action.now ≡ None)
-        × (c ≡ change_if_fresh own_action.now (outcome_of_deployment word) own_action.now.action.canceling))
-        (λ refusal. feedback_refusal word own_action.now ≡ Some refusal) }
+    ensures { JudgesFeedback own_action.now (feedback_refusal word own_action.now) (outcome_of_deployment word) own_action.now.action.canceling result }
 {
     let action = own_action.action;
     let gives = outcome_of_deployment(word);
@@ -35,16 +31,27 @@ fn after_feedback(
     Ok(Some(change(&action, gives, action.canceling)))
 }
 
-/// The verdict on feedback on a deployment.
+/// The verdict on feedback on a deployment, of an action that the device has: what becomes of it, or nothing where it had the same
+/// outcome, or had heard it by its number.
 pub fn feedback(
-    view: &FeedbackView,
-    feedback: &DeviceFeedback<DeploymentWord>,
-) -> Result<RolloutChange, Refusal>
-    ensures decides { Decides (seen.Feedback view.now) (Feedback feedback.now) result }
-    ensures makes { IfOk result (λ change. (c : _) × (change ≡ made.Feedback c)
-        × MakesFeedback view.now (outcome_of_deployment feedback.now.word) (λ canceling. canceling) c) }
+    own_action: &DeviceAction,
+    given: &DeviceFeedback<DeploymentWord>,
+) -> Result<Option<ActionChange>, Refusal>
+    ensures decides { DecidesAs made.Feedback (seen.Feedback (of_device own_action.now)) (Feedback given.now) result }
+    ensures judges { JudgesFeedback own_action.now (feedback_refusal given.now.word own_action.now) (outcome_of_deployment given.now.word)
+        own_action.now.action.canceling result }
 {
-    let own_action = device_action(view)?;
-    let change = after_feedback(&own_action, feedback.word)?;
+    after_feedback(own_action, given.word)
+}
+
+/// The verdict on feedback on a deployment, of whatever action.
+pub(crate) fn check_feedback(
+    view: &FeedbackView,
+    given: &DeviceFeedback<DeploymentWord>,
+) -> Result<RolloutChange, Refusal>
+    ensures { Decides (seen.Feedback view.now) (Feedback given.now) result }
+{
+    let own_action = own_action(view.misses_device, &view.own_action)?;
+    let change = feedback(&own_action, given)?;
     Ok(RolloutChange::Feedback(change))
 }

@@ -58,17 +58,18 @@ pub(crate) fn is_news(own_action: &DeviceAction, gives: Option<Outcome>) -> Resu
     }
 }
 
-/// The action that the feedback is on, or the first refusal that applies.
-pub(crate) fn device_action(view: &FeedbackView) -> Result<DeviceAction, Refusal>
+/// The action that feedback of a device is on, as it was found where it is the device's and its group is started, or the first refusal
+/// that applies.
+pub fn own_action<A: Copy>(misses_device: bool, found: &Option<A>) -> Result<A, Refusal>
     ensures { MatchResult result
-        (λ a. (view.now.misses_device ≡ false) × (view.now.own_action ≡ Some a))
-        (λ refusal. device_refusal view.now ≡ Some refusal) }
+        (λ a. (misses_device ≡ false) × (found.now ≡ Some a))
+        (λ refusal. device_refusal misses_device found.now ≡ Some refusal) }
 {
-    if view.misses_device {
+    if misses_device {
         return Err(Refusal::Unauthorized);
     }
-    match view.own_action {
-        Some(own_action) => Ok(own_action),
+    match found {
+        Some(own_action) => Ok(*own_action),
         None => Err(Refusal::NotFound),
     }
 }
