@@ -71,8 +71,7 @@ Does g reads listens net (Report db rollout) before after input input_new output
     errors.bytes errors_new.bytes errors_new.failed output.failed output_new.failed status
 Does g reads listens net (Verify db) before after input input_new output output_new errors errors_new status =
     (input_new ≡ input)
-    × Verifies g before.store.calls after.store.calls (desk_state g before) (desk_state g after)
-    output.bytes output_new.bytes errors.bytes errors_new.bytes errors_new.failed output.failed output_new.failed status
+    × Verifies g before after output.bytes output_new.bytes errors.bytes errors_new.bytes errors_new.failed output.failed output_new.failed status
 
 -- The desk at the order's path was opened, with the order's approval where it is new, and the order was carried out over it: this desk is what
 -- that left.

@@ -1,15 +1,14 @@
 -- What the order `verify` comes to, and what is told of it.
-use Rattle.std.specs.Prelude.{◌≡◌, ℕ, Bool, true, List, ◌++◌, Option, Result, Ok, Err, IfErr, codes}
-use Rattle.sqlite.specs.Held.{state}
+use Rattle.std.specs.Prelude.{◌≡◌, ℕ, Bool, List, ◌++◌, Option, Result, Ok, Err, IfErr, codes}
 use Rattle.sqlite.specs.Store.{Ghosts}
-use Rattle.sql_calls.specs.declared.calls.Calls.{Calls}
-use Rattle.rollout_model.specs.declared.refusal.Refusal.TheVariants.{Stopped, StoreFailed}
-use Rattle.rollout_machine.specs.Standing.{DeskState, StaysStopped}
 use Rattle.desk_verify.specs.Names.{table_name}
 use Rattle.desk_verify.specs.declared.damage.CheckedTable.{CheckedTable}
 use Rattle.desk_verify.specs.declared.damage.Damage.{Damage}
 use Rattle.desk_verify.specs.declared.damage.Damage.TheVariants.{Refused, Table}
-use Rattle.rollout_desk.specs.Verifying.{HasCause, Judges, KeepsDesk, MayTell}
+use Rattle.rollout_desk.specs.Conduct.{BehavesVerifying}
+use Rattle.rollout_desk.specs.DeskStates.{desk_state}
+use Rattle.rollout_desk.specs.Verifying.{Judges, KeepsDesk, MayTell}
+use Rattle.rollout_desk.specs.declared.desk.Desk.{Desk}
 use Rattle.desk_server.specs.Telling.{Prints, Refuses}
 
 -- the line of a table that doesn't agree
@@ -30,17 +29,13 @@ TellsFound (Ok done) out out_new told told_new telling_fails failed_write writin
 TellsFound (Err damage) out out_new told told_new telling_fails failed_write writing_fails status =
     TellsDamage damage out out_new told told_new telling_fails failed_write writing_fails status
 
--- The desk, whose store made these calls before and those after, looked whether its tables agree, and that is told. Nothing else keeps it from it
--- than want of memory and a failed store, which has a cause, and after which the desk is stopped, whatever it stood for. A stopped one refuses to
--- look as stopped, and stays as it is.
-pub record Verifies {S File : Type 0} (g : Ghosts S) (was now : Calls S) (old new : DeskState File) (out out_new told told_new : Option (List ℕ))
+-- The desk looked whether its tables agree, and that is told. Nothing else keeps it from it than want of memory and a failed store, which has a
+-- cause, and after which the desk is stopped, whatever it stood for. A stopped one refuses to look as stopped, and stays as it is.
+pub record Verifies {S : Type 0} (g : Ghosts S) (old new : Desk S) (out out_new told told_new : Option (List ℕ))
     (telling_fails failed_write writing_fails : Bool) (status : ℕ) : Type 0 where
-  pub clean : new.is_clean → old.is_clean
   pub found : Result (Unit {0}) Damage
-  pub judges : Judges (state g was.conn) (state g now.conn) found
-  pub keeps : KeepsDesk old new found
-  pub refuses : IfErr found (MayTell old.is_stopped)
-  pub blames : found ≡ Err (Refused StoreFailed) → HasCause g was now
-  pub fails : found ≡ Err (Refused StoreFailed) → new.is_stopped ≡ true
-  pub stopped : old.is_stopped ≡ true → (found ≡ Err (Refused Stopped)) × StaysStopped old new
+  pub conduct : BehavesVerifying g old new found
+  pub judges : Judges g old new found
+  pub keeps : KeepsDesk g old new found
+  pub refuses : IfErr found (MayTell (desk_state g old).is_stopped)
   pub tells : TellsFound found out out_new told told_new telling_fails failed_write writing_fails status

@@ -2,7 +2,6 @@
 
 ghost use Rattle.std.specs.Prelude.{◌≡◌};
 ghost use Rattle.http_wire.specs.Watched.{inner_of, has_failed};
-ghost use Rattle.rollout_desk.specs.DeskStates.{desk_state};
 ghost use Rattle.desk_server.specs.Verifications.{TellsDamage, TellsFound, Verifies, damage_line};
 
 use crate::program::FAILED;
@@ -63,8 +62,7 @@ pub(crate) fn verify<W: Write, E: Write, S: Alter>(
     output: &mut Watched<W>,
     errors: &mut Watched<E>,
 ) -> u8
-    ensures { Verifies S.Store desk.old.store.calls desk.new.store.calls (desk_state S.Store desk.old)
-        (desk_state S.Store desk.new) (W.contents (inner_of output.old)) (W.contents (inner_of output.new))
+    ensures { Verifies S.Store desk.old desk.new (W.contents (inner_of output.old)) (W.contents (inner_of output.new))
         (E.contents (inner_of errors.old)) (E.contents (inner_of errors.new)) (has_failed errors.new) (has_failed output.old) (has_failed output.new) result }
 {
     let found = desk.verify();

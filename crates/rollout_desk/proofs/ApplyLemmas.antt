@@ -1,8 +1,8 @@
 -- From the calls of the store to one request of a desk.
 use Rattle.rollout_desk.proofs.Common.{◌≡◌, ◌≢◌, ◌⊎◌, inl, inr, Bool, false, Option, Some, None, Ok, refl, sym, subst, ap, ◌∙◌, arith, cases_Bool, false≢true}
-use Rattle.rollout_desk.proofs.Common.{Trees, State, HasCleanDisk, HoldIn, IsAtRest, Rests, Doubts, Begins, Keeps, Finds, Opens, Sees, Spoiled, Wears, Answer}
-use Rattle.rollout_desk.proofs.Common.{answer, query_reply, CommandList, ◌▸◌, followed_by, Command, Records, records, step_records, Reply, Refused, Request}
-use Rattle.rollout_desk.proofs.Common.{Do, Ask, Query, Asks, one, StandsFor, Becomes, AppliesAt, IsValid, reply_of, query_answer, refused_answer}
+use Rattle.rollout_desk.proofs.Common.{Trees, State, HasCleanDisk, HoldIn, IsAtRest, Rests, Doubts, Begins, Keeps, Opens, Sees, Spoiled, Wears, Answer}
+use Rattle.rollout_desk.proofs.Common.{answer, CommandList, ◌▸◌, followed_by, Command, Records, records, step_records, Reply, Refused, Request}
+use Rattle.rollout_desk.proofs.Common.{Do, Asks, one, StandsFor, Becomes, AppliesAt, IsValid, reply_of, refused_answer}
 use Rattle.rollout_desk.proofs.Common.{accepted_step, records_step, answer_never_stores, failed_true, Refusal, StoreFailed, NoMemory, HoldsList, desk_state_at}
 use Rattle.rollout_desk.proofs.Common.{rest_shows, Fault, Broken, Memory, Store, is_failed_store, refusal_of_fault, Handles, EndsByCommit, EndsByRollback}
 use Rattle.rollout_desk.proofs.Common.{HoldsLedger, HoldsRecords, Ledger, ledger_of, HoldsReadable}
@@ -12,7 +12,6 @@ use Rattle.rollout_machine.specs.Verdicts.{check}
 use Rattle.desk_commands.specs.Steps.{Steps}
 use Rattle.desk_commands.specs.declared.step.Step.TheVariants as step
 use Rattle.desk_records.proofs.Readable.{newest_is_readable}
-use Rattle.desk_reads.specs.AtLists.{AreOfList}
 
 -- ---- the reply of a failed store
 
@@ -204,17 +203,27 @@ module _ (a b : State) (begins : Begins HoldsLedger a b) (c d : State) where
           ];
     }
 
-  -- ---- a query
+-- ---- a look
 
-  module _ (query : Query) where
-    pub shown : {E : Type 0} (rust : model.Reply) → GoesOn
-        → Finds HoldsLedger ledger_of {E = E} b c (Ok rust) (λ r reply. AreOfList r → reply_of reply ≡ query_reply r query) → (reply : Reply)
-        → EndsByRollback c d (reply_of rust) reply
-        → Handles HoldsRecords a d (Ask query) reply
-    shown rust goes shows = found (Ask query) (reply_of rust) shows.wears (spoils goes) (λ (r : Records). reply_of rust ≡ query_reply r query)
-        (λ h valid is. ap (λ (x : Reply). record { reply = x; accepted = None }) is ∙ sym (query_answer h query))
-        (λ h valid was clean. (shows.finds (records h) was).1 clean (record { list = h; valid = valid; are = refl }))
+module _ (a d : State) (request : Request) (wears : Wears a d) where
+  -- what was found is the answer, and nothing is accepted
+  pub shown : (made : Reply) → ((l : Ledger) → Rests HoldsLedger a l → Rests HoldsLedger d l)
+      → ((h : CommandList) → StandsFor (desk_state_at HoldsRecords false a) h → HasCleanDisk d
+      → record { reply = made; accepted = None } ≡ answer h (Asks request)) → Handles HoldsRecords a d request made
+  shown made rests means = record {
+    wears = wears;
+    handles = λ h clean was. answered h was.valid d request made None (means h was clean)
+        (stands d h was.valid (rests_records d (records h) (rests _ (stood a h was)) clean));
+  }
 
-    pub unshown : (made : Reply) → LeavesSpoiled → Wears b c → IsFailure made → (reply : Reply) → EndsByRollback c d made reply
-        → Handles HoldsRecords a d (Ask query) reply
-    unshown made leaves wears = lost (Ask query) made wears leaves
+  pub unshown : {Why : Type 0} (refusal : Refusal) → ((refusal ≡ NoMemory) × ((l : Ledger) → Rests HoldsLedger a l → Rests HoldsLedger d l))
+      ⊎ ((refusal ≡ StoreFailed) × ((l : Ledger) → Rests HoldsLedger a l → Doubts HoldsLedger d l l) × Why) → Handles HoldsRecords a d request (Refused refusal)
+  unshown refusal why = record {
+    wears = wears;
+    handles = λ h clean was. elim why [
+      | inl none ↦ without_memory h was.valid d request (Refused refusal) (ap Refused none.0)
+          (rests_records d (records h) (none.1 _ (stood a h was)) clean)
+      | inr lost ↦ left_alone h was.valid d request (Refused refusal) (ap Refused lost.0)
+          (λ db left. elim ((lost.1 _ (stood a h was) clean).crash db left) [ inl one ↦ one | inr one ↦ one ])
+    ];
+  }

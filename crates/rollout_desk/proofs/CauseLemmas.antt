@@ -1,14 +1,17 @@
 -- Why a request's failed store is a call that failed: what was blamed inside its change, and how the change ended.
-use Rattle.rollout_desk.proofs.Common.{Result, ◌≡◌, ◌≢◌, ◌≤◌, ◌⊎◌, inl, inr, Bool, false, Option, Some, None, Ok, refl, sym, subst, ap, ◌∙◌, arith, state}
-use Rattle.rollout_desk.proofs.Common.{Ghosts, State, HasCleanDisk, Begins, Finds, Sees, Wears, Fault, rest_shows, HoldsLedger, HoldsRecords, Ledger}
+use Rattle.rollout_desk.proofs.Common.{◌≡◌, ◌≢◌, ◌≤◌, ◌⊎◌, inl, inr, Bool, false, Option, Some, None, Ok, refl, sym, subst, ap, ◌∙◌, arith, state}
+use Rattle.rollout_desk.proofs.Common.{Ghosts, State, HasCleanDisk, Begins, Sees, Wears, Fault, rest_shows, HoldsLedger, HoldsRecords, Ledger}
 use Rattle.rollout_desk.proofs.Common.{ledger_of, OpenChange, Answer, answer, CommandList, Command, records, Reply, Refused, Refusal, Request, Do, Ask, Query}
-use Rattle.rollout_desk.proofs.Common.{Asks, query_reply, reply_of, query_answer, refused_answer, accepted_step, IsValid, StandsFor, StoreFailed, Broken}
-use Rattle.rollout_desk.proofs.Common.{answer_never_stores, refusal_of_fault, desk_state_at, Err, Store}
+use Rattle.rollout_desk.proofs.Common.{Asks, reply_of, query_answer, refused_answer, accepted_step, IsValid, StandsFor, StoreFailed, Broken}
+use Rattle.rollout_desk.proofs.Common.{answer_never_stores, refusal_of_fault, desk_state_at, Store}
 use Rattle.rollout_model.specs.declared.request.Reply as model
 use Rattle.sql_calls.specs.declared.calls.Calls.{Calls}
 use Rattle.desk_commands.specs.Steps.{Steps}
 use Rattle.desk_commands.specs.declared.step.Step.TheVariants as step
-use Rattle.desk_reads.specs.AtLists.{AreOfList}
+use Rattle.desk_reads.specs.AtLists.{IsOfList}
+use Rattle.desk_store.specs.Failing.{ReadableAs}
+use Rattle.rollout_desk.specs.Looks.{Looked}
+use Rattle.rollout_desk.specs.Sizes.{ReadsAnswer}
 use Rattle.desk_reads.specs.Counted.{AreCounted}
 use Rattle.desk_verify.proofs.ReadableRecords.{readable}
 use Rattle.desk_store.specs.Blaming.{HasFailed}
@@ -25,13 +28,9 @@ pub never_answered : (h : CommandList) (request : Request) (made : Reply) (accep
     ≡ answer h (Asks request) → made ≢ Refused StoreFailed
 never_answered h request made accepted is failed = answer_never_stores h request (ap (λ (a : Answer). a.reply) (sym is) ∙ failed)
 
--- the fault of a reply, or of a result, that says that the store failed
+-- the fault of a reply that says that the store failed
 pub told_reply : (fault : Fault) (made : Reply) → made ≡ Refused (refusal_of_fault fault) → made ≡ Refused StoreFailed → (fault ≡ Store) ⊎ (fault ≡ Broken)
 told_reply fault made named is = stored fault (let told : Refused (refusal_of_fault fault) ≡ Refused StoreFailed = sym named ∙ is in cc)
-
-pub told_result : {A : Type 0} (fault : Fault) (refusal : Refusal) → refusal ≡ refusal_of_fault fault
-    → ◌≡◌ {A = Result A Refusal} (Err refusal) (Err StoreFailed) → (fault ≡ Store) ⊎ (fault ≡ Broken)
-told_result fault refusal named is = stored fault (let same : refusal ≡ StoreFailed = cc in sym named ∙ same)
 
 module _ {S : Type 0} (g : Ghosts S) (old : Calls S) (begun read : OpenChange S) (end : Calls S)
     (begins : Begins HoldsLedger (state g old.conn) (seen_in g begun))
@@ -65,13 +64,6 @@ module _ {S : Type 0} (g : Ghosts S) (old : Calls S) (begun read : OpenChange S)
 -- ---- replies that the machine gives
 
 module _ {E : Type 0} {b c : State} (h : CommandList) (valid : IsValid h) (seen : Sees HoldsLedger b (ledger_of (records h))) (clean : HasCleanDisk c) where
-  pub query_never : (query : Query) (rust : model.Reply)
-      → Finds HoldsLedger ledger_of {E = E} b c (Ok rust) (λ r reply. AreOfList r → reply_of reply ≡ query_reply r query) → reply_of rust ≢ Refused StoreFailed
-  query_never query rust shows =
-      never_answered h (Ask query) (reply_of rust) None
-      (ap (λ (x : Reply). record { reply = x; accepted = None }) ((shows.finds (records h) seen).1 clean (record { list = h; valid = valid; are = refl }))
-      ∙ sym (query_answer h query))
-
   pub refused_never : (command : Command) (refusal : Refusal) → Steps {E = E} b c command (Ok (step.Refused refusal)) → Refused refusal ≢ Refused StoreFailed
   refused_never command refusal steps =
       never_answered h (Do command) (Refused refusal) None (sym (refused_answer h command refusal (steps.steps h valid seen clean)))
@@ -81,6 +73,23 @@ module _ {E : Type 0} {b c : State} (h : CommandList) (valid : IsValid h) (seen 
       let facts = (steps.steps h valid seen).1 clean in
       never_answered h (Do command) (reply_of rust) (Some command) (ap (λ (x : Reply). record { reply = x; accepted = Some command }) facts.1
       ∙ sym (accepted_step h command valid facts.0))
+
+-- a query's answer at the list that the desk stood for
+module _ {S : Type 0} (g : Ghosts S) {old new : Calls S} (query : Query) (rust : model.Reply) (it : Looked g (ReadsAnswer g query) old new (Ok rust)) where
+  pub query_found : (h : CommandList) → StandsFor (desk_state_at HoldsRecords false (state g old.conn)) h → HasCleanDisk (state g new.conn)
+      → record { reply = reply_of rust; accepted = None } ≡ answer h (Asks (Ask query))
+  query_found h was clean = let at = it.to.0 in
+      ap (λ (x : Reply). record { reply = x; accepted = None })
+      ((at.finds.answers.shows.finds (records h) (at.begins.sees _ (rest_shows HoldsLedger _ _ (stood (state g old.conn) h was)))).1
+      (omega (arith, clean, at.wears)) (record { list = h; valid = was.valid; are = refl })) ∙ sym (query_answer h query)
+
+  -- the machine never answers so
+  pub query_never : reply_of rust ≡ Refused StoreFailed → FailsByCalls g old new
+  query_never is h clean counted was = absurd (never_answered h (Ask query) (reply_of rust) None (query_found h was clean) is)
+
+-- of a list's records
+pub of_list : (h : CommandList) → IsValid h → AreCounted (records h) → ReadableAs IsOfList (ledger_of (records h))
+of_list h valid counted = record { readable = readable h valid counted; given = record { list = h; valid = valid; is = refl } }
 
 -- a desk that isn't stopped stands by its connection
 pub stands_running : (s : State) (was : Bool) (h : CommandList) → was ≡ false → StandsFor (desk_state_at HoldsRecords was s) h

@@ -1,16 +1,15 @@
 -- From looks at the records, and from answers, to downloads.
 use Rattle.rollout_desk.proofs.Common.{◌≡◌, ◌≢◌, ◌≤◌, ◌<◌, inl, inr, ◌+◌, ◌*◌, ◌++◌, ℕ, zero, suc, List, [], ◌∷◌, Bool, true, false, cond, nat_eq, take, drop}
-use Rattle.rollout_desk.proofs.Common.{Vec, Option, Some, None, Result, Ok, Err, IfOk, refl, sym, subst, ap, ◌∙◌, arith, Global, option_map, State, Doubts}
-use Rattle.rollout_desk.proofs.Common.{Finds, Keeps, Opens, Rests, Spoiled, Wears, rest_shows, Fault, HoldsLedger, HoldsRecords, Ledger, ledger_of}
+use Rattle.rollout_desk.proofs.Common.{Vec, Option, Some, None, Result, Ok, Err, refl, sym, subst, ap, ◌∙◌, arith, Global, option_map, State}
+use Rattle.rollout_desk.proofs.Common.{rest_shows, HoldsLedger, HoldsRecords}
 use Rattle.rollout_desk.proofs.Common.{piece_numbered, pieces_of_artifact, Answer, query_reply, if_found, artifact_if, artifact_of_module, item_numbered}
 use Rattle.rollout_desk.proofs.Common.{CommandList, followed_by, Bytes, Command, Credential, ArtifactRecord, Records, added_artifacts, artifacts, Reply}
-use Rattle.rollout_desk.proofs.Common.{Refused, ArtifactShown, ContentsShown, Ask, Asks, Query, Request, ShowArtifact, ShowContents, one, DeskState, StandsFor}
+use Rattle.rollout_desk.proofs.Common.{Refused, ArtifactShown, ContentsShown, Ask, Asks, Request, ShowArtifact, ShowContents, one, DeskState, StandsFor}
 use Rattle.rollout_desk.proofs.Common.{Applies, reply_of, query_answer, piece_length, Refusal, NoMemory, NotFound, StoreFailed, desk_state_at, sent}
 use Rattle.rollout_desk.proofs.Common.{next_length, BeginsAt, HandsPieces, artifact_in, BeginsOffered, HandsItsArtifact, IsNextOf, RefusesContents}
-use Rattle.rollout_desk.proofs.Common.{DownloadsGoOn, EndsLook, FindsDownload, Looks, bytes_of, Handles, refusal_of_fault, is_store, IsPromised, length}
+use Rattle.rollout_desk.proofs.Common.{DownloadsGoOn, FindsDownload, Looks, bytes_of, IsPromised, length}
 use Rattle.rollout_desk.proofs.Common.{length-take, length-drop, find, Sends, same_bytes, artifacts_shown, modules_offered, offer, list_any, is_known}
 use Rattle.rollout_desk.proofs.Common.{Unauthorized, HasCleanDisk}
-use Rattle.sql_calls.specs.Standing.{Begins as BeginsChange}
 use Rattle.desk_views.specs.Downloads.{downloadable, or_not_found}
 use Rattle.desk_views.proofs.DeviceViews.{answered_by}
 use Rattle.rollout_machine.specs.Objects.{artifact_shown}
@@ -22,8 +21,11 @@ use Rattle.rollout_model.specs.declared.request.Reply.TheVariants as reply
 use Rattle.contents_handler.specs.declared.download.Download.{Download}
 use Rattle.rollout_desk.specs.Downloads.{Begins}
 use Rattle.rollout_desk.specs.Looks.{IsOtherThan}
-use Rattle.rollout_desk.proofs.ApplyLemmas.{fault_fails, found as found_inside, lost, stands, unbegun, rests_records, stood}
-use Rattle.rollout_desk.proofs.DeskLemmas.{answers}
+use Rattle.rollout_desk.proofs.ApplyLemmas.{rests_records, shown, stands, stood, unshown}
+use Rattle.rollout_desk.proofs.Common.{Ghosts, state}
+use Rattle.sql_calls.specs.declared.calls.Calls.{Calls}
+use Rattle.rollout_desk.specs.Causes.{FailsByCalls}
+use Rattle.rollout_desk.specs.Looks.{Looked, ReadsDownload}
 use Rattle.rollout_desk.proofs.PromiseLemmas.{downloaded}
 use Rattle.rollout_desk.proofs.PieceLemmas.{size_is, piece_is, piece_there, so_far, joins}
 
@@ -227,68 +229,46 @@ never_stores r device m filename found is failed =
     go true false o e = absurd cc
     go false among o e = absurd cc
 
+module _ {S : Type 0} (g : Ghosts S) (old new : Calls S) (device : Credential) (m : ℕ) (filename : Bytes) where
+  abbrev LooksFor : Result (Result Artifact Refusal) Refusal → Type 0
+  LooksFor result = Looked g (ReadsDownload g device m filename) old new result
+
+  abbrev FindsIt : Result Artifact Refusal → Type 0
+  FindsIt found = FindsDownload HoldsRecords (state g old.conn) (state g new.conn) device m filename found
+
+  is_found : (found : Result Artifact Refusal) → LooksFor (Ok found) → (h : CommandList) → StandsFor (desk_state_at HoldsRecords false (state g old.conn)) h
+      → HasCleanDisk (state g new.conn) → found ≡ downloadable (records h) device m filename
+  is_found found it h was clean = let at = it.to.0 in
+      (at.finds.reads.finds (records h) (at.begins.sees _ (rest_shows HoldsLedger _ _ (stood (state g old.conn) h was)))).1 (omega (arith, clean, at.wears))
+
+  pub looked_for : (found : Result Artifact Refusal) → LooksFor (Ok found) → FindsIt found
+  looked_for (Ok s) it = record {
+    wears = it.wears;
+    finds = λ h clean was. (
+      stands (state g new.conn) h was.valid (rests_records (state g new.conn) (records h) (it.to.1 _ (stood (state g old.conn) h was)) clean),
+      is_found (Ok s) it h was clean,
+    );
+  }
+  looked_for (Err refusal) it = record {
+    wears = it.wears;
+    finds = (shown (state g old.conn) (state g new.conn) (Ask (DownloadOf device m filename)) it.wears (Refused refusal) it.to.1
+        (λ h was clean. (λ i. record {
+          reply = sym (answered_by m filename (records h) device (Err refusal) (is_found (Err refusal) it h was clean)) i;
+          accepted = None;
+        }) ∙ sym (query_answer h (DownloadOf device m filename)))).handles;
+  }
+
+  pub looked_in_vain : (refusal : Refusal) → LooksFor (Err refusal) → FindsIt (Err refusal)
+  looked_in_vain refusal it =
+      record { wears = it.wears; finds = (unshown (state g old.conn) (state g new.conn) (Ask (DownloadOf device m filename)) it.wears refusal it.to).handles }
+
+  -- the machine never refuses a download so
+  pub never_failed : (found : Result Artifact Refusal) → LooksFor (Ok found) → found ≡ Err StoreFailed → FailsByCalls g old new
+  never_failed found it is h clean counted was = absurd (never_stores (records h) device m filename found (is_found found it h was clean) is)
+
 module _ (a : State) (device : Credential) (m : ℕ) (filename : Bytes) where
   abbrev request : Request
   request = Ask (DownloadOf device m filename)
-
-  finds_none : (b : State) (refusal : Refusal) → Handles HoldsRecords a b request (Refused refusal)
-      → FindsDownload HoldsRecords a b device m filename (Err refusal)
-  finds_none b refusal h = record { wears = h.wears; finds = h.handles }
-
-  pub not_looked : (b : State) (fault : Fault) (refusal : Refusal) → Keeps HoldsLedger a b → refusal ≡ refusal_of_fault fault
-      → FindsDownload HoldsRecords a b device m filename (Err refusal)
-  not_looked b fault refusal keeps is = finds_none b refusal (unbegun a b request (Refused refusal) keeps (fault_fails fault (Refused refusal) (ap Refused is)))
-
-  module _ (b : State) (begins : BeginsChange HoldsLedger a b) (c d : State) where
-    abbrev FindsIt : Result Artifact Refusal → Type 0
-    FindsIt result = FindsDownload HoldsRecords a d device m filename result
-
-    abbrev IsFound : Records → Result Artifact Refusal → Type 0
-    IsFound r found = found ≡ downloadable r device m filename
-
-    abbrev Leaves : Type 0
-    Leaves = (kept : Ledger) → Opens HoldsLedger b kept → Spoiled HoldsLedger c kept
-
-    -- the change can't be given up
-    not_given_up : (wears : Wears b c) → Leaves → (last : Wears c d) → ((kept : Ledger) → Spoiled HoldsLedger c kept → Doubts HoldsLedger d kept kept)
-        → FindsIt (Err StoreFailed)
-    not_given_up wears leaves last doubts =
-        finds_none d StoreFailed (lost a b begins c d request (Refused StoreFailed) wears leaves (inr refl) (Refused StoreFailed)
-        (record { wears = last; ends = inr (refl, doubts) }))
-
-    given_up : {E : Type 0} (found : Result Artifact Refusal) → Leaves → Finds HoldsLedger ledger_of {E = E} b c (Ok found) IsFound → (last : Wears c d)
-        → ((kept : Ledger) → Spoiled HoldsLedger c kept → Rests HoldsLedger d kept) → FindsIt found
-    given_up (Ok s) leaves reads last rests = record {
-      wears = omega (arith, begins.wears, reads.wears, last);
-      finds = λ h clean was.
-          let rested = stood a h was in (
-            stands d h was.valid (rests_records d (records h) (rests _ (leaves _ (begins.opens _ rested))) clean),
-            (reads.finds (records h) (begins.sees _ (rest_shows HoldsLedger _ _ rested))).1 (omega (arith, clean, last)),
-          );
-    }
-    given_up (Err refusal) leaves reads last rests =
-        finds_none d refusal (found_inside a b begins c d request (Refused refusal) reads.wears leaves (λ r. IsFound r (Err refusal))
-        (λ h valid is. (λ i. record { reply = sym (answered_by m filename (records h) device (Err refusal) is) i; accepted = None })
-        ∙ sym (query_answer h (DownloadOf device m filename)))
-        (λ h valid was. (reads.finds (records h) was).1) (Refused refusal) (record { wears = last; ends = inl (refl, rests) }))
-
-    pub looked_for : {E : Type 0} (found result : Result Artifact Refusal) → ((kept : Ledger) → Opens HoldsLedger b kept → Opens HoldsLedger c kept)
-        → Finds HoldsLedger ledger_of {E = E} b c (Ok found) IsFound → EndsLook c d found result → FindsIt result
-    looked_for found result goes reads ends =
-        let leaves : Leaves = λ kept was. (goes kept was).spoiled in
-        elim ends.ends [
-          | inl it ↦ subst FindsIt (sym it.0) (given_up found leaves reads ends.wears it.1)
-          | inr it ↦ subst FindsIt (sym it.0) (not_given_up reads.wears leaves ends.wears it.1)
-        ]
-
-    pub looked_in_vain : (fault : Fault) (refusal : Refusal) (result : Result Artifact Refusal) → Leaves → (wears : Wears b c) → refusal
-        ≡ refusal_of_fault fault → EndsLook c d (Err refusal) result → FindsIt result
-    looked_in_vain fault refusal result leaves wears is ends = elim ends.ends [
-      | inl it ↦ subst FindsIt (sym it.0)
-          (finds_none d refusal (lost a b begins c d request (Refused refusal) wears leaves (fault_fails fault (Refused refusal) (ap Refused is))
-          (Refused refusal) (record { wears = ends.wears; ends = inl (refl, it.1) })))
-      | inr it ↦ subst FindsIt (sym it.0) (not_given_up wears leaves ends.wears it.1)
-    ]
 
   -- of a desk that runs
   module _ (was : Bool) (runs : was ≡ false) (b : State) where
@@ -305,22 +285,16 @@ module _ (a : State) (device : Credential) (m : ℕ) (filename : Bytes) where
           start = omega arith;
         }
 
-    pub offered_refused : (refusal : Refusal) (stopped : Bool) → FindsDownload HoldsRecords a b device m filename (Err refusal) → stopped ≡ is_store refusal
-        → Applies (desk_state_at HoldsRecords was a) (desk_state_at HoldsRecords stopped b) (Asks request) (Refused refusal)
-    offered_refused refusal stopped found is = answers HoldsRecords a b was stopped request (Refused refusal) runs
-        (record { wears = found.wears; handles = found.finds }) is
-
--- what begins is of what the device is offered
-pub begun_offered : {File : Type 0} (old new : DeskState File) (query : Query) (result : Result Download model.Reply) → Begins old new (Asks (Ask query)) result
-    → IfOk result (λ p. IsPromised old new (λ h. BeginsOffered h query p))
-begun_offered old new query (Err r) begins = tt
-begun_offered old new (DownloadOf device m filename) (Ok p) begins = λ h clean standing. let it = begins h clean standing in (
-  it.contents,
-  it.sends,
-  downloaded h device m filename it.contents
-      (ap (λ (a : Answer). a.reply) (sym (query_answer h (DownloadOf device m filename)) ∙ it.answer)),
-)
-begun_offered old new query (Ok p) begins = λ h clean standing. tt
+    -- .. of what the device is offered
+    pub offered_to_it : (s : Artifact) → FindsDownload HoldsRecords a b device m filename (Ok s)
+        → IsPromised (desk_state_at HoldsRecords was a) (desk_state_at HoldsRecords was b)
+        (λ h. BeginsOffered h (DownloadOf device m filename) (record { number = s.number; size = s.size; pieces = 0 }))
+    offered_to_it s found h clean standing = let it = offered_begins s found h clean standing in (
+      it.contents,
+      it.sends,
+      downloaded h device m filename it.contents
+          (ap (λ (a : Answer). a.reply) (sym (query_answer h (DownloadOf device m filename)) ∙ it.answer)),
+    )
 
 -- ---- later commands
 

@@ -1,88 +1,144 @@
 -- From the calls of the store to a look at the records.
 use Rattle.rollout_desk.proofs.Common.{◌≡◌, ◌⊎◌, inl, inr, Bool, None, Ok, Err, Result, refl, sym, ap, subst, ◌∙◌, arith, Trees, State, HasCleanDisk, Begins}
-use Rattle.rollout_desk.proofs.Common.{Doubts, Finds, HoldIn, Keeps, Opens, Rests, Spoiled, Wears, rest_shows, Fault, Broken, Memory, Store, HoldsLedger}
+use Rattle.rollout_desk.proofs.Common.{Doubts, HoldIn, Opens, Rests, Spoiled, Wears, rest_shows, Fault, Broken, Memory, Store, HoldsLedger}
 use Rattle.rollout_desk.proofs.Common.{HoldsRecords, Ledger, ledger_of, CommandList, Records, records, Refused, Becomes, DeskState, IsInDoubt, StandsFor}
 use Rattle.rollout_desk.proofs.Common.{is_store, Refusal, NoMemory, StoreFailed, Looks, EndsLook, refusal_of_fault, desk_state_at}
-use Rattle.rollout_desk.proofs.ApplyLemmas.{readable, rests_ledger, rests_records, stands}
+use Rattle.rollout_desk.proofs.Common.{◌≤◌, Ghosts, IsValid, OpenChange, Sees, HoldsTables, state}
+use Rattle.sql_calls.specs.Calls.{Grows, failures_of}
+use Rattle.sql_calls.specs.declared.calls.Calls.{Calls}
+use Rattle.desk_reads.specs.Counted.{AreCounted}
+use Rattle.desk_store.specs.Blaming.{HasFailed}
+use Rattle.desk_store.specs.Breaking.{BreaksOnly}
+use Rattle.desk_store.specs.Changing.{seen_in}
+use Rattle.desk_store.specs.Failing.{nothing}
+use Rattle.rollout_desk.specs.Causes.{FailsByCalls}
+use Rattle.rollout_desk.specs.Looks.{FoundIn, Looked, LookedTo}
+use Rattle.rollout_desk.proofs.ApplyLemmas.{readable, rests_ledger, rests_records, stands, stood}
+use Rattle.rollout_desk.proofs.VerifyLemmas.{failed_within, is_counted}
 
--- the refusal of a fault
-abbrev IsFailing : Refusal → Type 0
-IsFailing refusal = (refusal ≡ NoMemory) ⊎ (refusal ≡ StoreFailed)
+-- ---- what was found in a change
 
-fails : (fault : Fault) (refusal : Refusal) → refusal ≡ refusal_of_fault fault → IsFailing refusal
-fails Memory refusal is = inl is
-fails Store refusal is = inr is
-fails Broken refusal is = inr is
+module _ {S : Type 0} (g : Ghosts S) {A : Type 0} (Finds : OpenChange S → OpenChange S → Result A Fault → Type 0) where
+  module _ (old : Calls S) (begun read : OpenChange S) (end : Calls S) (begins : Begins HoldsLedger (state g old.conn) (seen_in g begun))
+      (tables : Begins HoldsTables (state g old.conn) (seen_in g begun)) (worn : Wears (seen_in g begun) (seen_in g read))
+      (grew : old.failures ≤ begun.store.now.calls.failures) where
+    abbrev Comes : Result A Refusal → Type 0
+    Comes result = LookedTo g Finds old end result
 
-module _ {A : Type 0} (a d : State) (Answer : Records → A → Type 0) where
-  -- the store failed, and a crash leaves what stood
-  in_doubt : (refusal : Refusal) → refusal ≡ StoreFailed → Wears a d → ((l : Ledger) → Rests HoldsLedger a l → Doubts HoldsLedger d l l)
-      → Looks HoldsRecords a d (Err refusal) Answer
-  in_doubt refusal is wears doubts =
-      record { wears = wears; looks = inr (is, λ r was clean. record { crash = (doubts (ledger_of r) (rests_ledger a r was) clean).crash }) }
+    abbrev HasMore : Type 0
+    HasMore = HasFailed read.store.now.calls.failures end.failures
 
-  -- nothing was found, and what stood stands
-  broken : (refusal : Refusal) → IsFailing refusal → Wears a d → ((l : Ledger) → Rests HoldsLedger a l → Rests HoldsLedger d l)
-      → Looks HoldsRecords a d (Err refusal) Answer
-  broken refusal (inl is) wears rests = record { wears = wears; looks = inl (is, λ r was. rests_records d r (rests (ledger_of r) (rests_ledger a r was))) }
-  broken refusal (inr is) wears rests = in_doubt refusal is wears (λ l was clean. record { crash = λ db left. inl ((rests l was clean).held.crash db left) })
+    -- what stood stands, or a crash leaves it
+    abbrev Rested : Type 0
+    Rested = (l : Ledger) → Rests HoldsLedger (state g old.conn) l → Rests HoldsLedger (state g end.conn) l
 
-  -- no change begins
-  pub unbegun : (fault : Fault) (refusal : Refusal) → refusal ≡ refusal_of_fault fault → Keeps HoldsLedger a d → Looks HoldsRecords a d (Err refusal) Answer
-  unbegun fault refusal is keeps = broken refusal (fails fault refusal is) keeps.wears keeps.rests
+    abbrev Doubted : Type 0
+    Doubted = (l : Ledger) → Rests HoldsLedger (state g old.conn) l → Doubts HoldsLedger (state g end.conn) l l
 
-  module _ (b c : State) (begins : Begins HoldsLedger a b) (result : Result A Refusal) where
-    -- what was read in the change
-    pub read : {E : Type 0} (found : A) → Finds HoldsLedger ledger_of {E = E} b c (Ok found) Answer → (r : Records) → Rests HoldsLedger a (ledger_of r)
-        → HasCleanDisk c → Answer r found
-    read found reads r rested clean = (reads.finds r (begins.sees _ (rest_shows HoldsLedger _ _ rested))).1 clean
+    rested : Rested → Doubted
+    rested rests l was clean = record { crash = λ db left. inl ((rests l was clean).held.crash db left) }
 
-    -- .. is what was found
-    pub looked : (found : A) → ((kept : Ledger) → Opens HoldsLedger b kept → Opens HoldsLedger c kept) → Wears b c
-        → ((r : Records) → Rests HoldsLedger a (ledger_of r) → HasCleanDisk c → Answer r found) → EndsLook c d (Ok found) result
-        → Looks HoldsRecords a d result Answer
-    looked found goes worn answers ends =
-        let wears : Wears a d = omega (arith, begins.wears, worn, ends.wears) in
-        elim ends.ends [
-          | inl it ↦ subst (λ x. Looks HoldsRecords a d x Answer) (sym it.0) (record {
-            wears = wears;
-            looks = λ r was.
-                let rested = rests_ledger a r was in
-                (rests_records d r (it.1 _ (goes _ (begins.opens _ rested)).spoiled), λ clean. answers r rested (omega (arith, clean, ends.wears)));
-          })
-          | inr it ↦ subst (λ x. Looks HoldsRecords a d x Answer) (sym it.0)
-              (in_doubt StoreFailed refl wears (λ l was. it.1 l (goes l (begins.opens l was)).spoiled))
-        ]
+    found_in : (found : Result A Fault) → Finds begun read found → Wears (seen_in g read) (state g end.conn) → FoundIn g Finds old end found
+    found_in found finds wears = record { begun = begun; read = read; begins = begins; tables = tables; finds = finds; wears = wears }
 
-    -- nothing was read
-    pub look_failed : (fault : Fault) (refusal : Refusal) → ((kept : Ledger) → Opens HoldsLedger b kept → Spoiled HoldsLedger c kept) → Wears b c → refusal
-        ≡ refusal_of_fault fault → EndsLook c d (Err refusal) result → Looks HoldsRecords a d result Answer
-    look_failed fault refusal leaves worn is ends =
-        let wears : Wears a d = omega (arith, begins.wears, worn, ends.wears) in
-        elim ends.ends [
-          | inl it ↦ subst (λ x. Looks HoldsRecords a d x Answer) (sym it.0)
-              (broken refusal (fails fault refusal is) wears (λ l was. it.1 l (leaves l (begins.opens l was))))
-          | inr it ↦ subst (λ x. Looks HoldsRecords a d x Answer) (sym it.0) (in_doubt StoreFailed refl wears (λ l was. it.1 l (leaves l (begins.opens l was))))
-        ]
+    pub found_well : (a : A) (result : Result A Refusal)
+        → ((kept : Ledger) → Opens HoldsLedger (seen_in g begun) kept → Opens HoldsLedger (seen_in g read) kept)
+        → Finds begun read (Ok a) → begun.store.now.calls.failures ≤ read.store.now.calls.failures
+        → EndsLook (seen_in g read) (state g end.conn) (Ok a) result → (result ≡ Ok a) ⊎ HasMore → Comes result
+    found_well a result goes finds rose ends fails = elim ends.ends [
+      | inl it ↦ subst Comes (sym it.0) (found_in (Ok a) finds ends.wears, λ l was. it.1 l (goes l (begins.opens l was)).spoiled)
+      | inr it ↦ elim fails [
+        | inl same ↦ absurd cc
+        | inr more ↦ subst Comes (sym it.0)
+            (inr (refl, (λ l was. it.1 l (goes l (begins.opens l was)).spoiled), inl (failed_within (omega (arith, grew, rose)) more (omega arith))))
+      ]
+    ]
+
+    pub found_in_vain : (fault : Fault) (refusal : Refusal) (result : Result A Refusal) → refusal ≡ refusal_of_fault fault
+        → ((kept : Ledger) → Opens HoldsLedger (seen_in g begun) kept → Spoiled HoldsLedger (seen_in g read) kept) → Finds begun read (Err fault)
+        → Grows (failures_of fault) begun.store.now.calls read.store.now.calls → read.store.now.calls.failures ≤ end.failures
+        → EndsLook (seen_in g read) (state g end.conn) (Err refusal) result → (result ≡ Err refusal) ⊎ HasMore → Comes result
+    found_in_vain fault refusal result named leaves finds grows ended ends fails = elim ends.ends [
+      | inl it ↦ subst Comes (sym it.0) (by_fault fault named finds grows (λ l was. it.1 l (leaves l (begins.opens l was))))
+      | inr it ↦ elim fails [
+        | inl same ↦ let failed : refusal ≡ StoreFailed = cc in
+            subst Comes (sym it.0) (inr (refl, (λ l was. it.1 l (leaves l (begins.opens l was))), why fault (sym named ∙ failed) finds grows))
+        | inr more ↦ subst Comes (sym it.0) (inr (
+          refl,
+          (λ l was. it.1 l (leaves l (begins.opens l was))),
+          inl (failed_within (omega (arith, grew, grows.failures)) more (omega arith)),
+        ))
+      ]
+    ]
+      where
+        why : (fault : Fault) → refusal_of_fault fault ≡ StoreFailed → Finds begun read (Err fault) → Grows (failures_of fault) begun.store.now.calls
+            read.store.now.calls → HasFailed old.failures end.failures ⊎ FoundIn g Finds old end (Err Broken)
+        why Memory never finds grows = absurd cc
+        why Store is finds grows = inl (failed_within grew (is_counted Store refl grows) ended)
+        why Broken is finds grows = inr (found_in (Err Broken) finds ends.wears)
+
+        by_fault : (fault : Fault) → refusal ≡ refusal_of_fault fault → Finds begun read (Err fault) → Grows (failures_of fault) begun.store.now.calls
+            read.store.now.calls → Rested → Comes (Err refusal)
+        by_fault Memory is finds grows rests = inl (is, rests)
+        by_fault Store is finds grows rests = inr (is, rested rests, why Store refl finds grows)
+        by_fault Broken is finds grows rests = inr (is, rested rests, why Broken refl finds grows)
+
+  -- ---- what a look says
+
+  module _ {old new : Calls S} where
+    pub looks_at : (Answer : Records → A → Type 0) → ((b c : OpenChange S) (x : A) → Finds b c (Ok x) → (r : Records)
+        → Sees HoldsLedger (seen_in g b) (ledger_of r) → HasCleanDisk (seen_in g c) → Answer r x) → (result : Result A Refusal)
+        → Looked g Finds old new result → Looks HoldsRecords (state g old.conn) (state g new.conn) result Answer
+    looks_at Answer reads (Ok x) it = record {
+      wears = it.wears;
+      looks = λ r was.
+          let at = it.to.0 in
+          let rests = rests_ledger (state g old.conn) r was in (
+            rests_records (state g new.conn) r (it.to.1 _ rests),
+            λ clean. reads at.begun at.read x at.finds r (at.begins.sees _ (rest_shows HoldsLedger _ _ rests)) (omega (arith, clean, at.wears)),
+          );
+    }
+    looks_at Answer reads (Err refusal) it = record {
+      wears = it.wears;
+      looks = elim it.to [
+        | inl none ↦ inl (none.0, λ r was. rests_records (state g new.conn) r (none.1 _ (rests_ledger (state g old.conn) r was)))
+        | inr lost ↦ inr (lost.0, λ r was clean. record { crash = (lost.1 _ (rests_ledger (state g old.conn) r was) clean).crash })
+      ];
+    }
+
+    -- a failed store is a call that failed, where no rows of a list are broken
+    pub fails_at : (Given : Ledger → Type 0) → ((b c : OpenChange S) → Finds b c (Err Broken) → BreaksOnly g HoldsLedger Given nothing {A = A} b c (Err Broken))
+        → ((h : CommandList) → IsValid h → AreCounted (records h) → Given (ledger_of (records h))) → (result : Result A Refusal)
+        → Looked g Finds old new result → result ≡ Err StoreFailed → FailsByCalls g old new
+    fails_at Given breaks given (Ok x) it is h clean counted stands = absurd cc
+    fails_at Given breaks given (Err refusal) it is h clean counted stands = elim it.to [
+      | inl none ↦ absurd cc
+      | inr lost ↦ elim lost.2 [
+        | inl failed ↦ failed
+        | inr at ↦ absurd (((breaks at.begun at.read at.finds).to (ledger_of (records h))
+            (at.begins.sees _ (rest_shows HoldsLedger _ _ (stood (state g old.conn) h stands))) (given h stands.valid counted)).reason refl
+            (omega (arith, clean, at.wears)))
+      ]
+    ]
 
 -- ---- a look that is refused
 
-module _ {A : Type 0} (was : Bool) (a b : State) (Answer : Records → A → Type 0) (h : CommandList) (clean : HasCleanDisk b)
-    (standing : StandsFor (desk_state_at HoldsRecords was a) h) where
+module _ {A : Type 0} (was : Bool) (a b : State) (Answer : Records → A → Type 0) where
   -- whatever a look finds, a crash leaves what stood
-  left_by : (found : Result A Refusal) → Looks HoldsRecords a b found Answer → (db : Trees) → b.may_leave db → HoldIn HoldsRecords db (records h)
-  left_by (Ok x) look db left = ((look.looks (records h) (λ _. standing.shows)).0 clean).held.crash db left
-  left_by (Err refusal) look db left = elim look.looks [
+  left_by : (found : Result A Refusal) → Looks HoldsRecords a b found Answer → (h : CommandList) → HasCleanDisk b
+      → StandsFor (desk_state_at HoldsRecords was a) h → (db : Trees) → b.may_leave db → HoldIn HoldsRecords db (records h)
+  left_by (Ok x) look h clean standing db left = ((look.looks (records h) (λ _. standing.shows)).0 clean).held.crash db left
+  left_by (Err refusal) look h clean standing db left = elim look.looks [
     | inl it ↦ (it.1 (records h) (λ _. standing.shows) clean).held.crash db left
     | inr it ↦ elim ((it.1 (records h) (λ _. standing.shows) clean).crash db left) [ inl one ↦ one | inr one ↦ one ]
   ]
 
   -- memory was wanted, or the store failed, and the desk is stopped
   pub interrupted : (found : Result A Refusal) → Looks HoldsRecords a b found Answer → (refusal : Refusal) {Other : Type 0} → (found ≡ Err refusal)
-      ⊎ ((refusal ≡ StoreFailed) × Other) → (stopped : Bool) → stopped ≡ is_store refusal
-      → ((refusal ≡ NoMemory) × StandsFor (desk_state_at HoldsRecords stopped b) h)
+      ⊎ ((refusal ≡ StoreFailed) × Other) → (stopped : Bool) → stopped ≡ is_store refusal → (h : CommandList) → HasCleanDisk b
+      → StandsFor (desk_state_at HoldsRecords was a) h → ((refusal ≡ NoMemory) × StandsFor (desk_state_at HoldsRecords stopped b) h)
       ⊎ ((refusal ≡ StoreFailed) × IsInDoubt (desk_state_at HoldsRecords stopped b) h None)
-  interrupted found look refusal why stopped is = elim why [
+  interrupted found look refusal why stopped is h clean standing = elim why [
     | inl same ↦ elim (subst (λ x. Looks HoldsRecords a b x Answer) same look).looks [
       | inl it ↦ inl (
         it.0,
@@ -99,7 +155,7 @@ module _ {A : Type 0} (was : Bool) (a b : State) (Answer : Records → A → Typ
         fails,
         record {
           stopped = is ∙ ap is_store fails;
-          crash = λ db left. inl (standing.valid, readable db (records h) (left_by found look db left));
+          crash = λ db left. inl (standing.valid, readable db (records h) (left_by found look h clean standing db left));
         },
       )
 

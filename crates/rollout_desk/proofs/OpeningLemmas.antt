@@ -1,6 +1,6 @@
 -- From a connection that was opened to a desk over it.
-use Rattle.rollout_desk.proofs.Common.{◌≡◌, ℕ, zero, suc, Bool, false, List, [], Some, None, Ok, Err, Result, IfOk, IfErr, refl, sym, ap, ◌∙◌, subst}
-use Rattle.rollout_desk.proofs.Common.{slice_get, Files, Trees, AreClean, IsClosed, file_state, recovers, Held, FileStore, HoldIn, IsAtRest, Rests, Image}
+use Rattle.rollout_desk.proofs.Common.{◌≡◌, Bool, false, Ok, Err, Result, IfOk, IfErr, refl, sym, ap, ◌∙◌, subst}
+use Rattle.rollout_desk.proofs.Common.{Files, Trees, AreClean, IsClosed, file_state, recovers, Held, FileStore, Rests, Image}
 use Rattle.rollout_desk.proofs.Common.{State, HasCleanDisk, HoldsRecords, Reopens, CommandList, Make, records, StandsFor, IsValid, desk_state_at, Global}
 use Rattle.rollout_desk.proofs.Common.{ReopensDesk, GivesBack}
 use Rattle.sqlite_disk.specs.declared.Disk as disk

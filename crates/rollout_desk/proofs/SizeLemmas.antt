@@ -1,15 +1,17 @@
 -- From what a call inside a change says of the tables to what a query is answered.
-use Rattle.rollout_desk.proofs.Common.{◌≡◌, ℕ, inl, inr, Result, Ok, Err, IfOk, sym, subst, arith, Ghosts, State, HasCleanDisk, Begins, Sees, Fault, Refused}
-use Rattle.rollout_desk.proofs.Common.{Query, Download, Poll, ShowCancel, ShowContents, ShowDeployment, reply_of, Refusal, StoreFailed, HoldsTables, Tables}
-use Rattle.rollout_desk.proofs.Common.{OpenChange, EndsByRollback, EndsLook, AnswersIn, KeepsOffer, KeepsOffers, KeepsSizes}
+use Rattle.rollout_desk.proofs.Common.{◌≡◌, ℕ, Result, Ok, Err, IfOk, sym, subst, arith, Ghosts, Fault, Refused}
+use Rattle.rollout_desk.proofs.Common.{Query, Download, Poll, ShowCancel, ShowContents, ShowDeployment, reply_of, Refusal, Tables}
+use Rattle.rollout_desk.proofs.Common.{OpenChange, AnswersIn, KeepsOffer, KeepsOffers, KeepsSizes}
 use Rattle.rollout_machine.specs.Commands.{Bytes, Credential}
 use Rattle.rollout_model.specs.declared.artifact.Artifact.{Artifact}
-use Rattle.sql_calls.specs.Standing.{Shows}
 use Rattle.rollout_machine.specs.Replies as shown
 use Rattle.rollout_model.specs.declared.request.Reply.{Reply}
 use Rattle.desk_views.specs.Showing.{ShowsIn}
-use Rattle.desk_store.specs.KeptOffers.{IsKeptAs}
 use Rattle.desk_views.specs.Sizes.{AgreesIn, KeepsSize}
+use Rattle.rollout_desk.proofs.Common.{state}
+use Rattle.sql_calls.specs.declared.calls.Calls.{Calls}
+use Rattle.rollout_desk.specs.Looks.{Looked, ReadsDownload}
+use Rattle.rollout_desk.specs.Sizes.{ReadsAnswer}
 
 every : {A E : Type 0} {P : A → Type 0} (out : Result A E) → ((a : A) → P a) → IfOk out P
 every (Ok a) all = all a
@@ -47,29 +49,22 @@ unoffered t query refusal = tt
 pub refused_kept : (t : Tables) (query : Query) (reply : shown.Reply) (refusal : Refusal) → reply ≡ Refused refusal → KeepsOffer t query reply
 refused_kept t query reply refusal is = subst (KeepsOffer t query) (sym is) (unoffered t query refusal)
 
--- what was answered before the change is given up
-shown_so : (Is : Tables → shown.Reply → Type 0) (a b c d : State) (made reply : shown.Reply) → ((t : Tables) → Is t (Refused StoreFailed))
-    → Begins HoldsTables a b → ((t : Tables) → Sees HoldsTables b t → HasCleanDisk c → Is t made) → EndsByRollback c d made reply
-    → (t : Tables) → HasCleanDisk d → Shows HoldsTables a t → Is t reply
-shown_so Is a b c d made reply none begins is ends t clean shown = elim ends.ends [
-  | inl it ↦ subst (Is t) (sym it.0) (is t (begins.sees t shown) (omega (arith, clean, ends.wears)))
-  | inr it ↦ subst (Is t) (sym it.0) (none t)
-]
+-- ---- what was found in a look
 
-pub shown_sized : (a b c d : State) (query : Query) (made reply : shown.Reply) → Begins HoldsTables a b
-    → ((t : Tables) → Sees HoldsTables b t → HasCleanDisk c → KeepsSize t query made) → EndsByRollback c d made reply → KeepsSizes a d query reply
-shown_sized a b c d query made reply = shown_so (λ t r. KeepsSize t query r) a b c d made reply (λ t. refused t query StoreFailed)
+module _ {S : Type 0} (g : Ghosts S) {old new : Calls S} where
+  -- a query was answered
+  pub shown_sized : (query : Query) (reply : Reply) → Looked g (ReadsAnswer g query) old new (Ok reply)
+      → KeepsSizes (state g old.conn) (state g new.conn) query (reply_of reply)
+  shown_sized query reply it t clean shown = let at = it.to.0 in at.finds.answers.sized.agrees t (at.tables.sees t shown) (omega (arith, clean, at.wears))
 
-pub shown_kept : (a b c d : State) (query : Query) (made reply : shown.Reply) → Begins HoldsTables a b
-    → ((t : Tables) → Sees HoldsTables b t → HasCleanDisk c → KeepsOffer t query made) → EndsByRollback c d made reply → KeepsOffers a d query reply
-shown_kept a b c d query made reply = shown_so (λ t r. KeepsOffer t query r) a b c d made reply (λ t. unoffered t query StoreFailed)
+  pub shown_kept : (query : Query) (reply : Reply) → Looked g (ReadsAnswer g query) old new (Ok reply)
+      → KeepsOffers (state g old.conn) (state g new.conn) query (reply_of reply)
+  shown_kept query reply it t clean shown = let at = it.to.0 in at.finds.answers.kept.agrees t (at.tables.sees t shown) (omega (arith, clean, at.wears))
 
--- what was found before the change is given up
-pub found_kept : (a b c d : State) (device : Credential) (m : ℕ) (filename : Bytes) (found result : Result Artifact Refusal) → Begins HoldsTables a b
-    → ((t : Tables) → Sees HoldsTables b t → HasCleanDisk c → IfOk found (λ x. (action : ℕ) × IsKeptAs t device.id action)) → EndsLook c d found result
-    → IfOk result (λ x. (contents : Bytes) → KeepsOffers a d (Download device m filename) (shown.ContentsShown contents))
-found_kept a b c d device m filename found (Err refusal) begins is ends = tt
-found_kept a b c d device m filename found (Ok x) begins is ends = λ contents t clean shown. elim ends.ends [
-  | inl it ↦ subst (λ r. IfOk r (λ y. (action : ℕ) × IsKeptAs t device.id action)) (sym it.0) (is t (begins.sees t shown) (omega (arith, clean, ends.wears)))
-  | inr it ↦ absurd cc
-]
+  -- a device's download was found
+  pub found_kept : (device : Credential) (m : ℕ) (filename : Bytes) (found : Result Artifact Refusal)
+      → Looked g (ReadsDownload g device m filename) old new (Ok found)
+      → IfOk found (λ x. (contents : Bytes) → KeepsOffers (state g old.conn) (state g new.conn) (Download device m filename) (shown.ContentsShown contents))
+  found_kept device m filename (Err refusal) it = tt
+  found_kept device m filename (Ok x) it = λ contents t clean shown. let at = it.to.0 in
+      at.finds.kept.agrees t (at.tables.sees t shown) (omega (arith, clean, at.wears))

@@ -1,49 +1,15 @@
 -- From what a change sees of the tables to what a verification says.
-use Rattle.rollout_desk.proofs.Common.{◌≡◌, ◌≢◌, ◌≤◌, ◌-◌, ◌⊎◌, ℕ, inl, inr, Option, Result, Ok, Err, refl, sym, subst, arith, state, Ghosts, State}
-use Rattle.rollout_desk.proofs.Common.{HasCleanDisk, Begins, Finds, Rests, Sees, Wears, Fault, Broken, Memory, Store, rest_shows, HoldsLedger, ledger_of}
-use Rattle.rollout_desk.proofs.Common.{HoldsTables, Tables, OpenChange, Records, Refusal, StoreFailed, refusal_of_fault, EndsLook, FindsDamage, HasCause}
-use Rattle.rollout_desk.proofs.Common.{IsNeverDamaged, HoldsRecords, ap}
-use Rattle.rollout_desk.specs.Looks.{LooksTo}
-use Rattle.rollout_desk.specs.Verifying.{SparesRecords}
-use Rattle.desk_verify.specs.declared.damage.Damage.TheVariants.{Refused}
+use Rattle.rollout_desk.proofs.Common.{◌≡◌, ◌≢◌, ◌≤◌, ◌-◌, ◌⊎◌, ℕ, inl, inr, Option, Result, Ok, Err, refl, subst, arith, state, Ghosts}
+use Rattle.rollout_desk.proofs.Common.{Fault, Broken, Memory, Store}
+use Rattle.rollout_desk.proofs.Common.{Refusal, StoreFailed, refusal_of_fault, FindsDamage, HasCause}
 use Rattle.sql_calls.specs.declared.calls.Calls.{Calls}
 use Rattle.sql_calls.specs.Calls.{Grows, failures_of}
 use Rattle.std.specs.Prelude.{Bool, nat_lt, true, false, ◌^◌}
 use Rattle.std.proofs.lemmas.Bool.Decides.{nat_tests}
 use Rattle.desk_store.specs.Blaming.{HasFailed}
-use Rattle.desk_store.specs.Changing.{seen_in}
-use Rattle.desk_verify.specs.Agreement.{IsDamage}
-use Rattle.desk_verify.specs.Promises.{NamesNone}
-use Rattle.desk_verify.specs.Stopping.{StopsInOrder}
+use Rattle.rollout_desk.specs.Looks.{Looked}
+use Rattle.rollout_desk.specs.Verifying.{ReadsDamage}
 use Rattle.desk_verify.specs.declared.damage.CheckedTable.{CheckedTable}
-
-module _ (a b c : State) (found : Option CheckedTable) (reads : Finds HoldsTables (λ (t : Tables). t) {E = Fault} b c (Ok found) IsDamage) where
-  -- of whatever tables were shown before it
-  pub judged : (d : State) → Begins HoldsTables a b → (result : Result (Option CheckedTable) Refusal) → EndsLook c d (Ok found) result → FindsDamage a d result
-  judged d begins result ends = elim ends.ends [
-    | inl it ↦ subst (FindsDamage a d) (sym it.0) (λ t clean shown. (reads.finds t (begins.sees t shown)).1 (omega (arith, clean, ends.wears)))
-    | inr it ↦ subst (FindsDamage a d) (sym it.0) tt
-  ]
-
-  -- records of accepted commands aren't damaged
-  pub never_damaged : Begins HoldsLedger a b → NamesNone {E = Fault} b c (Ok found) → (r : Records) → Rests HoldsLedger a (ledger_of r) → HasCleanDisk c
-      → IsNeverDamaged r found
-  never_damaged begins never r rested clean h valid is =
-      never h valid (subst (λ (x : Records). Sees HoldsLedger b (ledger_of x)) is (begins.sees (ledger_of r) (rest_shows HoldsLedger a _ rested))) clean
-
--- nothing was found
-pub none_found : (a c d : State) (refusal : Refusal) (result : Result (Option CheckedTable) Refusal) → EndsLook c d (Err refusal) result
-    → FindsDamage a d result
-none_found a c d refusal result ends = elim ends.ends [
-  | inl it ↦ subst (FindsDamage a d) (sym it.0) tt
-  | inr it ↦ subst (FindsDamage a d) (sym it.0) tt
-]
-
--- where nothing was found out, the records are as they were, or the store failed
-pub spared_in_vain : (a d : State) (refusal : Refusal) → LooksTo HoldsRecords {A = Option CheckedTable} a d IsNeverDamaged (Err refusal)
-    → SparesRecords a d (Err (Refused refusal))
-spared_in_vain a d refusal (inl it) = λ r was. inl (it.1 r was)
-spared_in_vain a d refusal (inr it) = λ r was. inr (ap (λ x. Err (Refused x)) it.0, it.1 r was)
 
 -- ---- why a store failed
 
@@ -72,18 +38,20 @@ pub failed_call : {S : Type 0} {old new : Calls S} (fault : Fault) → fault ≢
 failed_call fault sound grows (inl store) = is_counted fault store grows
 failed_call fault sound grows (inr broken) = absurd (sound broken)
 
-module _ {S : Type 0} (g : Ghosts S) (old : Calls S) (begun read : OpenChange S) (end : Calls S) where
-  -- why the checks stopped before the change is given up is why afterwards
-  pub read_in_vain : (fault : Fault) (refusal : Refusal) (result : Result (Option CheckedTable) Refusal) → refusal ≡ refusal_of_fault fault
-      → Begins HoldsTables (state g old.conn) (seen_in g begun)
-      → old.failures ≤ begun.store.now.calls.failures → StopsInOrder g {A = Option CheckedTable} begun read (Err fault)
-      → Wears (seen_in g read) (state g end.conn)
-      → read.store.now.calls.failures ≤ end.failures
-      → Grows (failures_of fault) begun.store.now.calls read.store.now.calls → (result ≡ Err refusal) ⊎ HasFailed read.store.now.calls.failures end.failures
-      → result ≡ Err StoreFailed → HasCause g old end
-  read_in_vain fault refusal result named begins grew stops wears ended grows (inr failed) is t clean shown =
-      inl (failed_within (omega (arith, grew, grows.failures)) failed (omega arith))
-  read_in_vain fault refusal result named begins grew stops wears ended grows (inl same) is t clean shown = elim (stored fault (cc)) [
-    | inl store ↦ inl (failed_within grew (is_counted fault store grows) ended)
-    | inr broken ↦ inr ((stops.to t (begins.sees t shown) (tt {0})).reason broken (omega (arith, clean, wears)))
+module _ {S : Type 0} (g : Ghosts S) {old new : Calls S} where
+  -- of whatever tables were shown before it
+  pub judged : (result : Result (Option CheckedTable) Refusal) → Looked g (ReadsDamage g) old new result
+      → FindsDamage (state g old.conn) (state g new.conn) result
+  judged (Err refusal) it = tt
+  judged (Ok found) it = λ t clean shown. let at = it.to.0 in (at.finds.judges.finds t (at.tables.sees t shown)).1 (omega (arith, clean, at.wears))
+
+  -- a call failed, or the checks stopped at what can't be read
+  pub blamed : (result : Result (Option CheckedTable) Refusal) → Looked g (ReadsDamage g) old new result → result ≡ Err StoreFailed → HasCause g old new
+  blamed (Ok found) it is t clean shown = absurd cc
+  blamed (Err refusal) it is t clean shown = elim it.to [
+    | inl none ↦ absurd cc
+    | inr lost ↦ elim lost.2 [
+      | inl failed ↦ inl failed
+      | inr at ↦ inr ((at.finds.stops.to t (at.tables.sees t shown) (tt {0})).reason refl (omega (arith, clean, at.wears)))
+    ]
   ]

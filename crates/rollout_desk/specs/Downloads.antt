@@ -1,8 +1,10 @@
 -- Downloads: what a desk says of them beside the words of `contents_handler`.
-use Rattle.std.specs.Prelude.{◌≡◌, ◌⊎◌, ℕ, ◌*◌, Bool, true, take, drop, Vec, Option, Some, None, Result, Ok, Err}
+use Rattle.std.specs.Prelude.{◌≡◌, ◌⊎◌, ℕ, ◌*◌, Bool, true, false, take, drop, Vec, Option, Some, None, Result, Ok, Err, IfOk, IfErr}
 use Rattle.std.specs.declared.alloc.Global.{Global}
 use Rattle.std.specs.Option.{option_map}
-use Rattle.contents_handler.specs.Downloads.{Sends, Begins as BeginsAnswered}
+use Rattle.sqlite.specs.Held.{state}
+use Rattle.sqlite.specs.Store.{Ghosts}
+use Rattle.contents_handler.specs.Downloads.{HandsPieces, Sends, Begins as BeginsAnswered}
 use Rattle.contents_handler.specs.declared.answered.Answered.TheVariants as answered
 use Rattle.contents_handler.specs.declared.download.Download.{Download}
 use Rattle.rollout_machine.specs.ByteStrings.{item_numbered}
@@ -13,13 +15,17 @@ use Rattle.rollout_machine.specs.Replies as answers
 use Rattle.rollout_machine.specs.Replies.{Refused}
 use Rattle.rollout_machine.specs.Requests.{Asked, Query, ShowContents, Download as DownloadOf}
 use Rattle.rollout_machine.specs.Standing.{DeskState, StandsFor, IsInDoubt}
+use Rattle.rollout_machine.specs.Views.{reply_of}
 use Rattle.rollout_model.specs.Limits.{piece_length}
 use Rattle.rollout_model.specs.declared.artifact.Artifact.{Artifact}
 use Rattle.rollout_model.specs.declared.refusal.Refusal.{Refusal}
 use Rattle.rollout_model.specs.declared.refusal.Refusal.TheVariants.{NoMemory, StoreFailed, Stopped}
 use Rattle.rollout_model.specs.declared.request.Reply.{Reply}
 use Rattle.rollout_model.specs.declared.request.Reply.TheVariants as reply
-use Rattle.rollout_desk.specs.Promises.{DownloadsItsOffer}
+use Rattle.rollout_desk.specs.DeskStates.{desk_state}
+use Rattle.rollout_desk.specs.Promises.{DownloadsItsOffer, IsPromised}
+use Rattle.rollout_desk.specs.Sizes.{BeginsKept}
+use Rattle.rollout_desk.specs.declared.desk.Desk.{Desk}
 
 -- the artifact that a reply shows, or else the reply
 abbrev pub artifact_in : Reply → Result Artifact Reply
@@ -42,6 +48,15 @@ RefusesContents old new (ShowContents m k) r = (h : CommandList) → new.is_clea
 RefusesContents old new (DownloadOf device m filename) r = (h : CommandList) → new.is_clean → StandsFor old h → (refusal : Refusal) × (r ≡ Refused refusal)
 RefusesContents old new _ r = Unit {0}
 
+-- What begins keeps to what the device is offered, and to what the tables keep of that; a stopped desk begins nothing. Contents are refused where none
+-- begins. What is told of the last command's work stays.
+pub record KeepsToQuery {S : Type 0} (g : Ghosts S) (old new : Desk S) (query : Query) (result : Result Download Reply) : Type 0 where
+  pub offered : IfOk result (λ p. IsPromised (desk_state g old) (desk_state g new) (λ h. BeginsOffered h query p))
+  pub refuses : IfErr result (λ reply. RefusesContents (desk_state g old) (desk_state g new) query (reply_of reply))
+  pub kept : BeginsKept (state g old.store.calls.conn) (state g new.store.calls.conn) query result
+  pub runs : IfOk result (λ _. (desk_state g old).is_stopped ≡ false)
+  pub work : new.work ≡ old.work
+
 -- these bytes are the next piece of the artifact that has the download's number at the list h
 pub record IsNextOf (h : CommandList) (p : Download) (piece : Bytes) : Type 0 where
   pub contents : Bytes
@@ -58,6 +73,11 @@ StaysAt h new p (Err refusal) = ((refusal ≡ NoMemory) × StandsFor new h) ⊎ 
 -- Or memory was wanted, and it does; or the store failed, and a crash leaves the list.
 abbrev pub HandsItsArtifact : {File : Type 0} → DeskState File → DeskState File → Download → Result (Option (Vec ℕ Global)) Refusal → Type 0
 HandsItsArtifact old new p result = (h : CommandList) → new.is_clean → StandsFor old h → StaysAt h new p result
+
+-- The next piece, of a download of this desk and of any other.
+pub record HandsOut {S : Type 0} (g : Ghosts S) (old new : Desk S) (p q : Download) (result : Result (Option (Vec ℕ Global)) Refusal) : Type 0 where
+  pub pieces : HandsPieces (desk_state g old) (desk_state g new) p q result
+  pub own : HandsItsArtifact (desk_state g old) (desk_state g new) p result
 
 -- memory was wanted, the store failed, or the desk was stopped before
 abbrev pub IsInterruption : Bool → Refusal → Type 0

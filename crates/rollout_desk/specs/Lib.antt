@@ -11,3 +11,4 @@ pub mod Working
 pub mod Verifying
 pub mod Sizes
 pub mod Causes
+pub mod Conduct

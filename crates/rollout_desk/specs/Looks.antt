@@ -1,10 +1,15 @@
 -- A look at the records in a change of its own, which is given up.
-use Rattle.std.specs.Prelude.{◌≡◌, ◌≢◌, ◌⊎◌, ℕ, false, length, Vec, Option, Some, None, Result, Ok, Err, vec_items}
+use Rattle.std.specs.Prelude.{◌≡◌, ◌≢◌, ◌⊎◌, ℕ, false, length, Vec, Option, Some, None, Result, Ok, Err, IfOk, vec_items}
 use Rattle.std.specs.declared.alloc.Global.{Global}
 use Rattle.std.specs.Option.{option_map}
 use Rattle.sqlite.specs.Effect.{Database}
+use Rattle.sqlite.specs.Held.{state}
+use Rattle.sqlite.specs.Store.{Ghosts}
 use Rattle.sqlite.specs.State.{State, HasCleanDisk}
-use Rattle.sql_calls.specs.Standing.{Wears, Spoiled, Rests, Doubts}
+use Rattle.sql_calls.specs.Standing.{Begins, Wears, Spoiled, Rests, Doubts}
+use Rattle.sql_calls.specs.declared.calls.Calls.{Calls}
+use Rattle.sql_calls.specs.declared.fault.Fault.{Fault}
+use Rattle.sql_calls.specs.declared.fault.Fault.TheVariants.{Broken}
 use Rattle.rollout_machine.specs.CommandList.{CommandList}
 use Rattle.rollout_machine.specs.Commands.{Bytes, Credential}
 use Rattle.rollout_machine.specs.Records.{Records, records}
@@ -16,12 +21,34 @@ use Rattle.rollout_model.specs.declared.artifact.Artifact.{Artifact}
 use Rattle.rollout_model.specs.declared.refusal.Refusal.{Refusal}
 use Rattle.rollout_model.specs.declared.refusal.Refusal.TheVariants.{NoMemory, StoreFailed}
 use Rattle.desk_records.specs.Holds.{HoldsLedger, Ledger}
+use Rattle.desk_records.specs.Tables.{HoldsTables}
+use Rattle.desk_store.specs.Blaming.{HasFailed}
+use Rattle.desk_store.specs.Changing.{FindsIn, seen_in}
+use Rattle.desk_store.specs.Failing.{FailsIn}
+use Rattle.desk_store.specs.KeptOffers.{IsKeptAs}
+use Rattle.desk_reads.specs.AtLists.{FailsAtListsIn}
+use Rattle.desk_store.specs.declared.change.OpenChange.{OpenChange}
+use Rattle.desk_records.specs.Artifacts.{piece_numbered}
 use Rattle.desk_views.specs.Downloads.{downloadable}
+use Rattle.desk_views.specs.Sizes.{AgreesIn}
+use Rattle.rollout_desk.specs.Working.{TellsFailures, tells_store}
 use Rattle.rollout_desk.specs.Desks.{desk_state_at}
 
 -- the bytes of what was found
 abbrev pub bytes_of : Option (Vec ℕ Global) → Option Bytes
 bytes_of found = option_map vec_items found
+
+-- the piece of this place of an artifact's contents was read, or why not
+pub record ReadsPiece {S : Type 0} (g : Ghosts S) (number place : ℕ) (old new : OpenChange S) (result : Result (Option (Vec ℕ Global)) Fault) : Type 0 where
+  pub reads : FindsIn g old new result (λ r found. bytes_of found ≡ piece_numbered r.artifacts number place)
+  pub fails : FailsIn g old new result
+
+-- the artifact that a device may download was read, or its refusal, or why not
+pub record ReadsDownload {S : Type 0} (g : Ghosts S) (device : Credential) (m : ℕ) (filename : Bytes) (old new : OpenChange S)
+    (result : Result (Result Artifact Refusal) Fault) : Type 0 where
+  pub reads : FindsIn g old new result (λ r found. found ≡ downloadable r device m filename)
+  pub fails : FailsAtListsIn g old new result
+  pub kept : AgreesIn g old new result (λ t found. IfOk found (λ _. (action : ℕ) × IsKeptAs t device.id action))
 
 -- what was found is no piece of this many bytes
 abbrev pub IsOtherThan : ℕ → Result (Option (Vec ℕ Global)) Refusal → Type 0
@@ -34,6 +61,30 @@ pub record EndsLook {A : Type 0} (old new : State) (found result : Result A Refu
   pub wears : Wears old new
   pub ends : ((result ≡ found) × ((kept : Ledger) → Spoiled HoldsLedger old kept → Rests HoldsLedger new kept))
       ⊎ ((result ≡ Err StoreFailed) × ((kept : Ledger) → Spoiled HoldsLedger old kept → Doubts HoldsLedger new kept kept))
+
+module _ {S : Type 0} (g : Ghosts S) {A : Type 0} (Finds : OpenChange S → OpenChange S → Result A Fault → Type 0) where
+  -- a change was begun, this was found in it, and it was given up
+  pub record FoundIn (old new : Calls S) (found : Result A Fault) : Type 0 where
+    pub begun : OpenChange S
+    pub read : OpenChange S
+    pub begins : Begins HoldsLedger (state g old.conn) (seen_in g begun)
+    pub tables : Begins HoldsTables (state g old.conn) (seen_in g begun)
+    pub finds : Finds begun read found
+    pub wears : Wears (seen_in g read) (state g new.conn)
+
+  abbrev pub LookedTo : Calls S → Calls S → Result A Refusal → Type 0
+  LookedTo old new (Ok a) = FoundIn old new (Ok a) × ((l : Ledger) → Rests HoldsLedger (state g old.conn) l → Rests HoldsLedger (state g new.conn) l)
+  LookedTo old new (Err refusal) =
+      ((refusal ≡ NoMemory) × ((l : Ledger) → Rests HoldsLedger (state g old.conn) l → Rests HoldsLedger (state g new.conn) l))
+      ⊎ ((refusal ≡ StoreFailed) × ((l : Ledger) → Rests HoldsLedger (state g old.conn) l → Doubts HoldsLedger (state g new.conn) l l)
+      × (HasFailed old.failures new.failures ⊎ FoundIn old new (Err Broken)))
+
+  -- What was found, and what stood stands. Or memory was wanted, and it stands; or the store failed, and a crash leaves it: a call failed, or broken rows
+  -- were found.
+  pub record Looked (old new : Calls S) (result : Result A Refusal) : Type 0 where
+    pub wears : Wears (state g old.conn) (state g new.conn)
+    pub tells : TellsFailures (tells_store result) old new
+    pub to : LookedTo old new result
 
 module _ (Holds : Database → Records → Type 0) where
   abbrev pub LooksTo : {A : Type 0} → State → State → (Records → A → Type 0) → Result A Refusal → Type 0

@@ -1,5 +1,6 @@
 -- What devices and operators rely on in an answer to a query, at any list that the desk stands for.
 use Rattle.std.specs.Prelude.{◌≡◌, ℕ, true, false, length, Option, Some, None}
+use Rattle.sqlite.specs.Store.{Ghosts}
 use Rattle.rollout_machine.specs.Actions.{ActionPlace}
 use Rattle.rollout_machine.specs.Answers.{artifact_named, artifact_of_module}
 use Rattle.rollout_machine.specs.CommandList.{CommandList}
@@ -13,6 +14,8 @@ use Rattle.rollout_machine.specs.Replies.{Reply, PollShown, DeploymentShown, Can
 use Rattle.rollout_machine.specs.Requests.{Query, Poll, ShowDeployment, ShowCancel, Download, ShowContents}
 use Rattle.rollout_machine.specs.Standing.{DeskState, StandsFor}
 use Rattle.rollout_machine.specs.Targets.{last_row_of}
+use Rattle.rollout_desk.specs.DeskStates.{desk_state}
+use Rattle.rollout_desk.specs.declared.desk.Desk.{Desk}
 
 -- it holds of each list that the desk stood for
 abbrev pub IsPromised : {File : Type 0} → DeskState File → DeskState File → (CommandList → Type 0) → Type 0
@@ -79,3 +82,8 @@ ShowsWhole h (ShowContents m k) (ContentsShown contents) = (a : ArtifactRecord) 
 ShowsWhole h (Download device m filename) (ContentsShown contents) = (a : ArtifactRecord)
     × (artifact_named m filename (records h).artifacts ≡ Some a) × Describes a contents
 ShowsWhole h _ _ = Unit {0}
+
+-- all of it, of a desk's answer
+pub record KeepsPromises {S : Type 0} (g : Ghosts S) (old new : Desk S) (query : Query) (reply : Reply) : Type 0 where
+  pub offered : IsPromised (desk_state g old) (desk_state g new) (λ h. KeepsToOffers h query reply)
+  pub whole : IsPromised (desk_state g old) (desk_state g new) (λ h. ShowsWhole h query reply)

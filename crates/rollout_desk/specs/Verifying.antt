@@ -5,6 +5,7 @@ use Rattle.sqlite.specs.Store.{Ghosts}
 use Rattle.sqlite.specs.State.{State, HasCleanDisk}
 use Rattle.sql_calls.specs.Standing.{Doubts, Rests, Shows}
 use Rattle.sql_calls.specs.declared.calls.Calls.{Calls}
+use Rattle.sql_calls.specs.declared.fault.Fault.{Fault}
 use Rattle.rollout_machine.specs.CommandList.{CommandList}
 use Rattle.rollout_machine.specs.Records.{Records, records}
 use Rattle.rollout_machine.specs.Replies.{Refused as RefusedReply}
@@ -16,18 +17,29 @@ use Rattle.rollout_model.specs.declared.refusal.Refusal.TheVariants.{StoreFailed
 use Rattle.desk_records.specs.Holds.{HoldsRecords}
 use Rattle.desk_records.specs.Tables.{HoldsTables, Tables}
 use Rattle.desk_store.specs.Blaming.{HasFailed}
+use Rattle.desk_store.specs.Changing.{FindsTables, seen_in}
+use Rattle.desk_store.specs.declared.change.OpenChange.{OpenChange}
 use Rattle.desk_verify.specs.Agreement.{IsDamage}
-use Rattle.desk_verify.specs.Stopping.{IsStuck}
+use Rattle.desk_verify.specs.Promises.{NamesNone}
+use Rattle.desk_verify.specs.Stopping.{IsStuck, StopsInOrder}
 use Rattle.desk_verify.specs.declared.damage.CheckedTable.{CheckedTable}
 use Rattle.desk_verify.specs.declared.damage.Damage.{Damage}
 use Rattle.desk_verify.specs.declared.damage.Damage.TheVariants.{Refused, Table}
+use Rattle.rollout_desk.specs.DeskStates.{desk_state}
 use Rattle.rollout_desk.specs.Downloads.{IsInterruption}
+use Rattle.rollout_desk.specs.declared.desk.Desk.{Desk}
 
 -- ---- inside a change
 
 -- what was found is the first table that doesn't agree, whatever tables are shown
 abbrev pub FindsDamage : State → State → Result (Option CheckedTable) Refusal → Type 0
 FindsDamage old new result = IfOk result (λ found. (t : Tables) → HasCleanDisk new → Shows HoldsTables old t → IsDamage t found)
+
+-- what a verification reads: the first table that doesn't agree, none of those of accepted commands, or why it stopped
+pub record ReadsDamage {S : Type 0} (g : Ghosts S) (old new : OpenChange S) (result : Result (Option CheckedTable) Fault) : Type 0 where
+  pub judges : FindsTables g old new result IsDamage
+  pub never : NamesNone (seen_in g old) (seen_in g new) result
+  pub stops : StopsInOrder g old new result
 
 -- the records of accepted commands are never damaged
 abbrev pub IsNeverDamaged : Records → Option CheckedTable → Type 0
@@ -47,8 +59,9 @@ SaysOf t (Err (Table table)) = IsDamage t (Some table)
 SaysOf t (Err (Refused refusal)) = ⊤
 
 -- It is said of the tables that are shown, whatever rows they have.
-abbrev pub Judges : State → State → Result (Unit {0}) Damage → Type 0
-Judges old new result = (t : Tables) → HasCleanDisk new → Shows HoldsTables old t → SaysOf t result
+abbrev pub Judges : {S : Type 0} → Ghosts S → Desk S → Desk S → Result (Unit {0}) Damage → Type 0
+Judges g old new result =
+    (t : Tables) → HasCleanDisk (state g new.store.calls.conn) → Shows HoldsTables (state g old.store.calls.conn) t → SaysOf t result
 
 -- a desk that stands for the list goes on, and isn't told of a table; or it is what a refusal makes of it
 abbrev pub GoesOn : {File : Type 0} → CommandList → DeskState File → Result (Unit {0}) Damage → Type 0
@@ -56,8 +69,8 @@ GoesOn h new (Ok done) = StandsFor new h
 GoesOn h new (Err (Table table)) = ⊥
 GoesOn h new (Err (Refused refusal)) = Becomes new h (RefusedReply refusal) None
 
-abbrev pub KeepsDesk : {File : Type 0} → DeskState File → DeskState File → Result (Unit {0}) Damage → Type 0
-KeepsDesk old new result = (h : CommandList) → new.is_clean → StandsFor old h → GoesOn h new result
+abbrev pub KeepsDesk : {S : Type 0} → Ghosts S → Desk S → Desk S → Result (Unit {0}) Damage → Type 0
+KeepsDesk g old new result = (h : CommandList) → (desk_state g new).is_clean → StandsFor (desk_state g old) h → GoesOn h (desk_state g new) result
 
 -- a table, or why none was found out
 abbrev pub MayTell : Bool → Damage → Type 0
@@ -70,6 +83,7 @@ tells_damage (Err (Refused refusal)) = is_store refusal
 tells_damage _ = false
 
 -- Whatever records the tables hold, be they damaged, they hold them afterwards; where the store failed, whatever a crash leaves does.
-abbrev pub SparesRecords : State → State → Result (Unit {0}) Damage → Type 0
-SparesRecords old new result =
-    (r : Records) → Rests HoldsRecords old r → Rests HoldsRecords new r ⊎ ((result ≡ Err (Refused StoreFailed)) × Doubts HoldsRecords new r r)
+abbrev pub SparesRecords : {S : Type 0} → Ghosts S → Desk S → Desk S → Result (Unit {0}) Damage → Type 0
+SparesRecords g old new result = (r : Records) → Rests HoldsRecords (state g old.store.calls.conn) r
+    → Rests HoldsRecords (state g new.store.calls.conn) r
+    ⊎ ((result ≡ Err (Refused StoreFailed)) × Doubts HoldsRecords (state g new.store.calls.conn) r r)

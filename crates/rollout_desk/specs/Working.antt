@@ -1,10 +1,12 @@
 -- How much a request makes the store do, and what it tells of a store that failed.
-use Rattle.std.specs.Prelude.{◌≡◌, ◌≤◌, Bool, true, false, Result, Ok, Err}
-use Rattle.rollout_machine.specs.StoreFailures.{is_failed_store, is_store}
-use Rattle.rollout_machine.specs.Views.{reply_of}
+use Rattle.std.specs.Prelude.{◌≡◌, ◌≤◌, Bool, false, Result, Ok, Err}
+use Rattle.rollout_machine.specs.Bounds.{KeepsBound}
+use Rattle.rollout_machine.specs.Commands.{Command}
+use Rattle.rollout_machine.specs.StoreFailures.{is_store}
 use Rattle.rollout_model.specs.declared.refusal.Refusal.{Refusal}
-use Rattle.rollout_model.specs.declared.request.Reply.{Reply}
+use Rattle.sql_calls.specs.Calls.{since}
 use Rattle.sql_calls.specs.declared.calls.Calls.{Calls}
+use Rattle.rollout_desk.specs.declared.desk.Desk.{Desk}
 
 -- no count falls; and unless a failed store is told, no call failed but for want of memory
 pub record TellsFailures {S : Type 0} (told : Bool) (old new : Calls S) : Type 0 where
@@ -17,6 +19,7 @@ abbrev pub tells_store : {A : Type 0} → Result A Refusal → Bool
 tells_store (Ok a) = false
 tells_store (Err refusal) = is_store refusal
 
-abbrev pub replies_store : {A : Type 0} → Result A Reply → Bool
-replies_store (Ok a) = false
-replies_store (Err reply) = is_failed_store (reply_of reply)
+-- what is told of a command's work is what the store counted more, and within the command's bound
+pub record CountsWork {S : Type 0} (command : Command) (old new : Desk S) : Type 0 where
+  pub bound : KeepsBound command new.work.statements new.work.rows
+  pub counted : new.work ≡ since new.store.calls.work old.store.calls.work

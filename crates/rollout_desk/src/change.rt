@@ -9,7 +9,7 @@ ghost use Rattle.rollout_machine.specs.StoreFailures.{is_failed_store};
 ghost use Rattle.rollout_machine.specs.Views.{command_of, query_of, reply_of};
 ghost use Rattle.rollout_model.specs.declared.refusal.Refusal.TheVariants.{StoreFailed};
 ghost use Rattle.rollout_desk.specs.Causes.{FailsByCalls};
-ghost use Rattle.rollout_desk.specs.Sizes.{AnswersIn, KeepsOffers, KeepsSizes};
+ghost use Rattle.rollout_desk.specs.Sizes.{AnswersIn, KeepsOffers, KeepsSizes, ReadsAnswer};
 ghost use Rattle.rollout_desk.specs.Working.{TellsFailures};
 ghost use Rattle.rollout_machine.specs.Bounds.{is_feedback};
 ghost use Rattle.rollout_desk.specs.Changes.{Handles, EndsByCommit, EndsByRollback};
@@ -18,6 +18,7 @@ ghost use Rattle.desk_store.specs.Blaming.{HasFailed};
 ghost use Rattle.desk_store.specs.Counting.{Adds};
 ghost use Rattle.desk_store.specs.Changing.{StaysIn};
 
+use crate::look::{Question, look};
 use crate::refusals::reply_of_fault;
 use desk_commands::{Step, take_step};
 use desk_store::{DeskStore, Fault, OpenChange};
@@ -131,6 +132,21 @@ pub(crate) fn run_command<S: Alter>(
     }
 }
 
+/// A query.
+#[derive(Drop)]
+struct Asked<'a> {
+    alloc: Global,
+    query: &'a Query,
+}
+
+impl<'a, S: Alter> Question<S, Reply> for Asked<'a> {
+    ghost finds = { λ it. ReadsAnswer S.Store (query_of it.query.now) };
+
+    fn read(&self, change: &mut OpenChange<'_, S>) -> Result<Reply, Fault> {
+        answer(self.alloc, change, self.query)
+    }
+}
+
 /// Answers a query inside a transaction that changes nothing.
 pub(crate) fn run_query<S: Alter>(alloc: Global, store: &mut DeskStore<S>, query: &Query) -> Reply
     ensures handles { Handles HoldsRecords (state S.Store store.old.calls.conn) (state S.Store store.new.calls.conn) (Ask (query_of query.now))
@@ -140,12 +156,8 @@ pub(crate) fn run_query<S: Alter>(alloc: Global, store: &mut DeskStore<S>, query
     ensures tells { TellsFailures (is_failed_store (reply_of result)) store.old.calls store.new.calls }
     ensures fails { reply_of result ≡ Refused StoreFailed → FailsByCalls S.Store store.old.calls store.new.calls }
 {
-    let mut change = match store.begin() {
-        Ok(change) => change,
-        Err(fault) => return reply_of_fault(fault),
-    };
-    match answer(alloc, &mut change, query) {
-        Ok(reply) => give_up(change, reply),
-        Err(fault) => give_up(change, reply_of_fault(fault)),
+    match look(store, &Asked { alloc, query }) {
+        Ok(reply) => reply,
+        Err(refusal) => Reply::Refused(refusal),
     }
 }

@@ -1,20 +1,14 @@
 //! The desk.
 
-ghost use Rattle.std.specs.Prelude.{◌≡◌, true, false};
-ghost use Rattle.sqlite.specs.Held.{state};
-ghost use Rattle.rollout_model.specs.declared.refusal.Refusal.TheVariants.{Stopped, StoreFailed};
-ghost use Rattle.rollout_machine.specs.Bounds.{KeepsBound};
-ghost use Rattle.rollout_machine.specs.Replies.{Refused};
-ghost use Rattle.rollout_machine.specs.Requests.{Asks, Do, Ask};
-ghost use Rattle.rollout_machine.specs.Standing.{Applies, StaysStopped};
-ghost use Rattle.rollout_machine.specs.StoreFailures.{is_failed_store};
+ghost use Rattle.std.specs.Prelude.{◌≡◌, false};
+ghost use Rattle.rollout_machine.specs.Requests.{Do, Ask};
 ghost use Rattle.rollout_machine.specs.Views.{command_of, query_of, request_of, reply_of};
-ghost use Rattle.rollout_desk.specs.Causes.{FailsByCall};
+ghost use Rattle.rollout_desk.specs.Conduct.{Answers, BehavesReplying};
 ghost use Rattle.rollout_desk.specs.DeskStates.{desk_state};
-ghost use Rattle.rollout_desk.specs.Promises.{IsPromised, KeepsToOffers, ShowsWhole};
-ghost use Rattle.rollout_desk.specs.Sizes.{KeepsOffers, KeepsSizes};
-ghost use Rattle.rollout_desk.specs.Working.{TellsFailures};
-ghost use Rattle.sql_calls.specs.Calls.{no_work, since};
+ghost use Rattle.rollout_desk.specs.Promises.{KeepsPromises};
+ghost use Rattle.rollout_desk.specs.Sizes.{OnlyReads};
+ghost use Rattle.rollout_desk.specs.Working.{CountsWork};
+ghost use Rattle.sql_calls.specs.Calls.{no_work};
 
 use crate::change::{run_command, run_query};
 use desk_store::{DeskStore, Work};
@@ -56,16 +50,9 @@ impl<S: Alter> Desk<S> {
     /// Runs a command as one transaction, which is committed, or surely not, before the reply is known: only after
     /// `StoreFailed` it may be either.
     pub fn apply(&mut self, command: &Command) -> Reply
-        ensures clean { (desk_state S.Store self.new).is_clean → (desk_state S.Store self.old).is_clean }
-        ensures applies { Applies (desk_state S.Store self.old) (desk_state S.Store self.new) (Asks (Do (command_of command.now))) (reply_of result) }
-        ensures stops { reply_of result ≡ Refused StoreFailed → (desk_state S.Store self.new).is_stopped ≡ true }
-        ensures stopped { (desk_state S.Store self.old).is_stopped ≡ true → (reply_of result ≡ Refused Stopped)
-            × StaysStopped (desk_state S.Store self.old) (desk_state S.Store self.new) }
-        ensures untouched { (desk_state S.Store self.old).is_stopped ≡ true → self.new.store ≡ self.old.store }
-        ensures bound { KeepsBound (command_of command.now) self.new.work.statements self.new.work.rows }
-        ensures counted { self.new.work ≡ since self.new.store.calls.work self.old.store.calls.work }
-        ensures tells { TellsFailures (is_failed_store (reply_of result)) self.old.store.calls self.new.store.calls }
-        ensures fails { reply_of result ≡ Refused StoreFailed → FailsByCall S.Store self.old self.new }
+        ensures conduct { BehavesReplying S.Store self.old self.new (reply_of result) }
+        ensures applies { Answers S.Store self.old self.new (Do (command_of command.now)) (reply_of result) }
+        ensures counts { CountsWork (command_of command.now) self.old self.new }
     {
         self.work = NO_WORK;
         if self.stopped {
@@ -80,19 +67,10 @@ impl<S: Alter> Desk<S> {
 
     /// Answers a query, and changes nothing. A device is told of its own offer alone, and gets no contents but of what it is offered.
     pub fn ask(&mut self, query: &Query) -> Reply
-        ensures clean { (desk_state S.Store self.new).is_clean → (desk_state S.Store self.old).is_clean }
-        ensures applies { Applies (desk_state S.Store self.old) (desk_state S.Store self.new) (Asks (Ask (query_of query.now))) (reply_of result) }
-        ensures offered { IsPromised (desk_state S.Store self.old) (desk_state S.Store self.new) (λ h. KeepsToOffers h (query_of query.now) (reply_of result)) }
-        ensures whole { IsPromised (desk_state S.Store self.old) (desk_state S.Store self.new) (λ h. ShowsWhole h (query_of query.now) (reply_of result)) }
-        ensures sized { KeepsSizes (state S.Store self.old.store.calls.conn) (state S.Store self.new.store.calls.conn) (query_of query.now) (reply_of result) }
-        ensures kept { KeepsOffers (state S.Store self.old.store.calls.conn) (state S.Store self.new.store.calls.conn) (query_of query.now) (reply_of result) }
-        ensures stops { reply_of result ≡ Refused StoreFailed → (desk_state S.Store self.new).is_stopped ≡ true }
-        ensures stopped { (desk_state S.Store self.old).is_stopped ≡ true → (reply_of result ≡ Refused Stopped)
-            × StaysStopped (desk_state S.Store self.old) (desk_state S.Store self.new) }
-        ensures untouched { (desk_state S.Store self.old).is_stopped ≡ true → self.new.store ≡ self.old.store }
-        ensures tells { TellsFailures (is_failed_store (reply_of result)) self.old.store.calls self.new.store.calls }
-        ensures fails { reply_of result ≡ Refused StoreFailed → FailsByCall S.Store self.old self.new }
-        ensures work { self.new.work ≡ self.old.work }
+        ensures conduct { BehavesReplying S.Store self.old self.new (reply_of result) }
+        ensures applies { Answers S.Store self.old self.new (Ask (query_of query.now)) (reply_of result) }
+        ensures promised { KeepsPromises S.Store self.old self.new (query_of query.now) (reply_of result) }
+        ensures reads { OnlyReads S.Store self.old self.new (query_of query.now) (reply_of result) }
     {
         if self.stopped {
             return Reply::Refused(Refusal::Stopped);
@@ -104,21 +82,10 @@ impl<S: Alter> Desk<S> {
 
     /// Runs a command or answers a query.
     pub fn answer(&mut self, request: &Request) -> Reply
-        ensures clean { (desk_state S.Store self.new).is_clean → (desk_state S.Store self.old).is_clean }
-        ensures applies { Applies (desk_state S.Store self.old) (desk_state S.Store self.new) (Asks (request_of request.now)) (reply_of result) }
-        ensures sized { (query : _) → request_of request.now ≡ Ask query
-            → KeepsSizes (state S.Store self.old.store.calls.conn) (state S.Store self.new.store.calls.conn) query (reply_of result) }
-        ensures kept { (query : _) → request_of request.now ≡ Ask query
-            → KeepsOffers (state S.Store self.old.store.calls.conn) (state S.Store self.new.store.calls.conn) query (reply_of result) }
-        ensures stops { reply_of result ≡ Refused StoreFailed → (desk_state S.Store self.new).is_stopped ≡ true }
-        ensures stopped { (desk_state S.Store self.old).is_stopped ≡ true → (reply_of result ≡ Refused Stopped)
-            × StaysStopped (desk_state S.Store self.old) (desk_state S.Store self.new) }
-        ensures untouched { (desk_state S.Store self.old).is_stopped ≡ true → self.new.store ≡ self.old.store }
-        ensures bound { (c : _) → request_of request.now ≡ Do c → KeepsBound c self.new.work.statements self.new.work.rows }
-        ensures counted { (c : _) → request_of request.now ≡ Do c → self.new.work ≡ since self.new.store.calls.work self.old.store.calls.work }
-        ensures work { (query : _) → request_of request.now ≡ Ask query → self.new.work ≡ self.old.work }
-        ensures tells { TellsFailures (is_failed_store (reply_of result)) self.old.store.calls self.new.store.calls }
-        ensures fails { reply_of result ≡ Refused StoreFailed → FailsByCall S.Store self.old self.new }
+        ensures conduct { BehavesReplying S.Store self.old self.new (reply_of result) }
+        ensures applies { Answers S.Store self.old self.new (request_of request.now) (reply_of result) }
+        ensures counts { (c : _) → request_of request.now ≡ Do c → CountsWork c self.old self.new }
+        ensures reads { (query : _) → request_of request.now ≡ Ask query → OnlyReads S.Store self.old self.new query (reply_of result) }
     {
         match request {
             Request::Do(command) => self.apply(command),

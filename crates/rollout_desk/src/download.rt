@@ -1,19 +1,12 @@
 //! Downloads: the contents of an artifact, piece by piece.
 
-ghost use Rattle.std.specs.Prelude.{◌≡◌, true, false, Err, IfOk, IfErr};
-ghost use Rattle.rollout_machine.specs.Replies.{Refused};
+ghost use Rattle.std.specs.Prelude.{◌≡◌, IfErr};
 ghost use Rattle.rollout_machine.specs.Requests.{Ask, Asks, Download as DownloadOf, ShowContents};
-ghost use Rattle.rollout_machine.specs.Standing.{StaysStopped};
-ghost use Rattle.rollout_machine.specs.Views.{query_of, reply_of};
-ghost use Rattle.rollout_model.specs.declared.refusal.Refusal.TheVariants.{Stopped, StoreFailed};
+ghost use Rattle.rollout_machine.specs.Views.{query_of};
+ghost use Rattle.rollout_desk.specs.Conduct.{BehavesBeginning, BehavesHanding};
 ghost use Rattle.rollout_desk.specs.DeskStates.{desk_state};
-ghost use Rattle.rollout_desk.specs.Causes.{FailsByCall, FailsHandingByCall};
-ghost use Rattle.contents_handler.specs.Downloads.{HandsPieces, KeepsCount};
-ghost use Rattle.rollout_desk.specs.Downloads.{Begins, BeginsOffered, HandsItsArtifact, IsInterruption, RefusesContents, DownloadsGoOn, artifact_in};
-ghost use Rattle.sqlite.specs.Held.{state};
-ghost use Rattle.rollout_desk.specs.Promises.{IsPromised};
-ghost use Rattle.rollout_desk.specs.Sizes.{BeginsKept};
-ghost use Rattle.rollout_desk.specs.Working.{TellsFailures, replies_store, tells_store};
+ghost use Rattle.contents_handler.specs.Downloads.{KeepsCount};
+ghost use Rattle.rollout_desk.specs.Downloads.{Begins, DownloadsGoOn, HandsOut, IsInterruption, KeepsToQuery, artifact_in};
 
 use crate::desk::Desk;
 use crate::look::{look_for_download, of_length, read_piece};
@@ -42,21 +35,9 @@ impl<S: Alter> Desk<S> {
     /// is answered as `ask`
     /// answers it.
     pub fn download(&mut self, query: &Query) -> Result<Download, Reply>
-        ensures clean { (desk_state S.Store self.new).is_clean → (desk_state S.Store self.old).is_clean }
+        ensures conduct { BehavesBeginning S.Store self.old self.new result }
         ensures begins { Begins (desk_state S.Store self.old) (desk_state S.Store self.new) (Asks (Ask (query_of query.now))) result }
-        ensures offered { IfOk result (λ p. IsPromised (desk_state S.Store self.old) (desk_state S.Store self.new)
-            (λ h. BeginsOffered h (query_of query.now) p)) }
-        ensures refuses { IfErr result (λ reply. RefusesContents (desk_state S.Store self.old) (desk_state S.Store self.new) (query_of query.now)
-            (reply_of reply)) }
-        ensures kept { BeginsKept (state S.Store self.old.store.calls.conn) (state S.Store self.new.store.calls.conn) (query_of query.now) result }
-        ensures runs { IfOk result (λ _. (desk_state S.Store self.old).is_stopped ≡ false) }
-        ensures stops { IfErr result (λ reply. reply_of reply ≡ Refused StoreFailed → (desk_state S.Store self.new).is_stopped ≡ true) }
-        ensures stopped { (desk_state S.Store self.old).is_stopped ≡ true
-            → IfErr result (λ reply. reply_of reply ≡ Refused Stopped) × StaysStopped (desk_state S.Store self.old) (desk_state S.Store self.new) }
-        ensures untouched { (desk_state S.Store self.old).is_stopped ≡ true → self.new.store ≡ self.old.store }
-        ensures tells { TellsFailures (replies_store result) self.old.store.calls self.new.store.calls }
-        ensures fails { IfErr result (λ reply. reply_of reply ≡ Refused StoreFailed → FailsByCall S.Store self.old self.new) }
-        ensures work { self.new.work ≡ self.old.work }
+        ensures keeps { KeepsToQuery S.Store self.old self.new (query_of query.now) result }
     {
         match query {
             Query::Contents(module_number, number) => self.find_artifact(*module_number, *number),
@@ -74,18 +55,9 @@ impl<S: Alter> Desk<S> {
         module_number: ModuleNo,
         number: ArtifactNo,
     ) -> Result<Download, Reply>
-        ensures clean { (desk_state S.Store self.new).is_clean → (desk_state S.Store self.old).is_clean }
+        ensures conduct { BehavesBeginning S.Store self.old self.new result }
         ensures begins { Begins (desk_state S.Store self.old) (desk_state S.Store self.new) (Asks (Ask (ShowContents module_number number))) result }
-        ensures refuses { IfErr result (λ reply. RefusesContents (desk_state S.Store self.old) (desk_state S.Store self.new)
-            (ShowContents module_number number) (reply_of reply)) }
-        ensures runs { IfOk result (λ _. (desk_state S.Store self.old).is_stopped ≡ false) }
-        ensures stops { IfErr result (λ reply. reply_of reply ≡ Refused StoreFailed → (desk_state S.Store self.new).is_stopped ≡ true) }
-        ensures stopped { (desk_state S.Store self.old).is_stopped ≡ true
-            → IfErr result (λ reply. reply_of reply ≡ Refused Stopped) × StaysStopped (desk_state S.Store self.old) (desk_state S.Store self.new) }
-        ensures untouched { (desk_state S.Store self.old).is_stopped ≡ true → self.new.store ≡ self.old.store }
-        ensures tells { TellsFailures (replies_store result) self.old.store.calls self.new.store.calls }
-        ensures fails { IfErr result (λ reply. reply_of reply ≡ Refused StoreFailed → FailsByCall S.Store self.old self.new) }
-        ensures work { self.new.work ≡ self.old.work }
+        ensures keeps { KeepsToQuery S.Store self.old self.new (ShowContents module_number number) result }
     {
         let reply = self.ask(&Query::Artifact(module_number, number));
         match artifact_in(reply) {
@@ -105,21 +77,10 @@ impl<S: Alter> Desk<S> {
         module_number: ModuleNo,
         filename: &Filename,
     ) -> Result<Download, Reply>
-        ensures clean { (desk_state S.Store self.new).is_clean → (desk_state S.Store self.old).is_clean }
+        ensures conduct { BehavesBeginning S.Store self.old self.new result }
         ensures begins { Begins (desk_state S.Store self.old) (desk_state S.Store self.new)
             (Asks (Ask (DownloadOf device.now module_number filename.now))) result }
-        ensures refuses { IfErr result (λ reply. RefusesContents (desk_state S.Store self.old) (desk_state S.Store self.new)
-            (DownloadOf device.now module_number filename.now) (reply_of reply)) }
-        ensures kept { BeginsKept (state S.Store self.old.store.calls.conn) (state S.Store self.new.store.calls.conn)
-            (DownloadOf device.now module_number filename.now) result }
-        ensures runs { IfOk result (λ _. (desk_state S.Store self.old).is_stopped ≡ false) }
-        ensures stops { IfErr result (λ reply. reply_of reply ≡ Refused StoreFailed → (desk_state S.Store self.new).is_stopped ≡ true) }
-        ensures stopped { (desk_state S.Store self.old).is_stopped ≡ true
-            → IfErr result (λ reply. reply_of reply ≡ Refused Stopped) × StaysStopped (desk_state S.Store self.old) (desk_state S.Store self.new) }
-        ensures untouched { (desk_state S.Store self.old).is_stopped ≡ true → self.new.store ≡ self.old.store }
-        ensures tells { TellsFailures (replies_store result) self.old.store.calls self.new.store.calls }
-        ensures fails { IfErr result (λ reply. reply_of reply ≡ Refused StoreFailed → FailsByCall S.Store self.old self.new) }
-        ensures work { self.new.work ≡ self.old.work }
+        ensures keeps { KeepsToQuery S.Store self.old self.new (DownloadOf device.now module_number filename.now) result }
     {
         if self.stopped {
             return Err(Reply::Refused(Refusal::Stopped));
@@ -141,17 +102,10 @@ impl<S: Alter> Desk<S> {
     /// the same piece is next. After `StoreFailed` the desk is stopped, and this is `Stopped`; pieces that aren't as many bytes as
     /// the artifact's size are a failed store too. A download of another desk gets pieces of this one's artifact of its number, or none.
     pub fn next_piece(&mut self, download: &mut Download) -> Result<Option<Vec<u8>>, Refusal>
-        ensures clean { (desk_state S.Store self.new).is_clean → (desk_state S.Store self.old).is_clean }
-        ensures hands { HandsPieces (desk_state S.Store self.old) (desk_state S.Store self.new) download.old download.new result }
-        ensures own { HandsItsArtifact (desk_state S.Store self.old) (desk_state S.Store self.new) download.old result }
+        ensures conduct { BehavesHanding S.Store self.old self.new download.old result }
+        ensures hands { HandsOut S.Store self.old self.new download.old download.new result }
         ensures counts { KeepsCount download.old download.new result }
         ensures interrupted { IfErr result (IsInterruption (desk_state S.Store self.old).is_stopped) }
-        ensures stops { result ≡ Err Refusal.StoreFailed → (desk_state S.Store self.new).is_stopped ≡ true }
-        ensures stopped { (desk_state S.Store self.old).is_stopped ≡ true → (result ≡ Err Refusal.Stopped)
-            × StaysStopped (desk_state S.Store self.old) (desk_state S.Store self.new) }
-        ensures untouched { (desk_state S.Store self.old).is_stopped ≡ true → self.new.store ≡ self.old.store }
-        ensures tells { TellsFailures (tells_store result) self.old.store.calls self.new.store.calls }
-        ensures fails { result ≡ Err Refusal.StoreFailed → FailsHandingByCall S.Store download.old self.old self.new }
         ensures work { self.new.work ≡ self.old.work }
     {
         if self.stopped {

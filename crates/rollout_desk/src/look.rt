@@ -1,19 +1,23 @@
-//! Looks at the records that change nothing: at a piece of an artifact's contents, and at the artifact that a device downloads.
+//! Looks at the records, in changes that are given up: what is read in one, a piece of an artifact's contents, and the artifact that a device downloads.
 
-ghost use Rattle.std.specs.Prelude.{◌≡◌, ◌≤◌, ◌⊎◌, length, Some, Ok, Err, IfOk, MatchResult};
+ghost use Rattle.std.specs.Prelude.{◌≡◌, ◌≤◌, ◌⊎◌, length, Some, Result, Ok, Err, IfOk, MatchResult};
 ghost use Rattle.sqlite.specs.Held.{state};
 ghost use Rattle.desk_records.specs.Artifacts.{piece_numbered};
 ghost use Rattle.desk_records.specs.Holds.{HoldsRecords};
 ghost use Rattle.desk_store.specs.Blaming.{HasFailed};
 ghost use Rattle.rollout_desk.specs.Causes.{FailsByCalls};
-ghost use Rattle.rollout_desk.specs.Looks.{Looks, EndsLook, FindsDownload, IsOtherThan, bytes_of};
+ghost use Rattle.desk_store.specs.Changing.{StaysIn, seen_in};
+ghost use Rattle.sql_calls.specs.Standing.{Wears};
+ghost use Rattle.desk_store.specs.declared.change.OpenChange.{OpenChange};
+ghost use Rattle.sql_calls.specs.declared.fault.Fault.{Fault};
+ghost use Rattle.rollout_desk.specs.Looks.{EndsLook, FindsDownload, IsOtherThan, Looked, Looks, ReadsDownload, ReadsPiece, bytes_of};
 ghost use Rattle.rollout_machine.specs.Replies.{ContentsShown};
 ghost use Rattle.rollout_machine.specs.Requests.{Download};
 ghost use Rattle.rollout_desk.specs.Sizes.{KeepsOffers};
 ghost use Rattle.rollout_desk.specs.Working.{TellsFailures, tells_store};
 
 use crate::refusals::refusal_of;
-use desk_store::{DeskStore, OpenChange};
+use desk_store::{DeskStore, Fault, OpenChange};
 use desk_views::find_download;
 use rollout_model::{Artifact, ArtifactNo, Credential, Filename, ModuleNo, Refusal};
 use sqlite::Alter;
@@ -35,6 +39,49 @@ pub(crate) fn give_up<S: Alter, T: Drop>(
     }
 }
 
+/// What is read in a change.
+pub(crate) trait Question<S: Alter, T: Drop> {
+    // what is known of what was read, by the change before it and after it
+    ghost finds: { Self → OpenChange S → OpenChange S → Result T Fault → Type 0 };
+
+    fn read(&self, change: &mut OpenChange<'_, S>) -> Result<T, Fault>
+        ensures stays { StaysIn S.Store change.old change.new result }
+        ensures wears { Wears (seen_in S.Store change.old) (seen_in S.Store change.new) }
+        ensures finds { finds self.now change.old change.new result };
+}
+
+/// Looks at what is read, inside a transaction that changes nothing.
+pub(crate) fn look<Q: Question<S, T>, S: Alter, T: Drop>(
+    store: &mut DeskStore<S>,
+    it: &Q,
+) -> Result<T, Refusal>
+    ensures { Looked S.Store (Q.finds it.now) store.old.calls store.new.calls result }
+{
+    let mut change = match store.begin() {
+        Ok(change) => change,
+        Err(fault) => return Err(refusal_of(fault)),
+    };
+    match it.read(&mut change) {
+        Ok(found) => give_up(change, Ok(found)),
+        Err(fault) => give_up(change, Err(refusal_of(fault))),
+    }
+}
+
+/// A piece of an artifact's contents, by its place counted from 1.
+#[derive(Drop)]
+pub(crate) struct PieceOf {
+    pub(crate) number: ArtifactNo,
+    pub(crate) place: u32,
+}
+
+impl<S: Alter> Question<S, Option<Vec<u8>>> for PieceOf {
+    ghost finds = { λ it. ReadsPiece S.Store it.number it.place };
+
+    fn read(&self, change: &mut OpenChange<'_, S>) -> Result<Option<Vec<u8>>, Fault> {
+        change.read_piece(self.number, self.place)
+    }
+}
+
 /// Reads a piece of an artifact's contents, by its place counted from 1, inside a transaction that changes nothing.
 pub(crate) fn read_piece<S: Alter>(
     store: &mut DeskStore<S>,
@@ -46,13 +93,29 @@ pub(crate) fn read_piece<S: Alter>(
     ensures tells { TellsFailures (tells_store result) store.old.calls store.new.calls }
     ensures fails { result ≡ Err Refusal.StoreFailed → FailsByCalls S.Store store.old.calls store.new.calls }
 {
-    let mut change = match store.begin() {
-        Ok(change) => change,
-        Err(fault) => return Err(refusal_of(fault)),
-    };
-    match change.read_piece(number, place) {
-        Ok(found) => give_up(change, Ok(found)),
-        Err(fault) => give_up(change, Err(refusal_of(fault))),
+    look(store, &PieceOf { number, place })
+}
+
+/// The artifact whose contents a device asks for.
+#[derive(Drop)]
+struct OfferedFile<'a> {
+    alloc: Global,
+    device: &'a Credential,
+    module_number: ModuleNo,
+    filename: &'a Filename,
+}
+
+impl<'a, S: Alter> Question<S, Result<Artifact, Refusal>> for OfferedFile<'a> {
+    ghost finds = { λ it. ReadsDownload S.Store it.device.now it.module_number it.filename.now };
+
+    fn read(&self, change: &mut OpenChange<'_, S>) -> Result<Result<Artifact, Refusal>, Fault> {
+        find_download(
+            self.alloc,
+            change,
+            self.device,
+            self.module_number,
+            self.filename,
+        )
     }
 }
 
@@ -71,13 +134,15 @@ pub(crate) fn look_for_download<S: Alter>(
     ensures tells { TellsFailures (tells_store result) store.old.calls store.new.calls }
     ensures fails { result ≡ Err Refusal.StoreFailed → FailsByCalls S.Store store.old.calls store.new.calls }
 {
-    let mut change = match store.begin() {
-        Ok(change) => change,
-        Err(fault) => return Err(refusal_of(fault)),
+    let it = OfferedFile {
+        alloc,
+        device,
+        module_number,
+        filename,
     };
-    match find_download(alloc, &mut change, device, module_number, filename) {
-        Ok(found) => give_up(change, found),
-        Err(fault) => give_up(change, Err(refusal_of(fault))),
+    match look(store, &it) {
+        Ok(found) => found,
+        Err(refusal) => Err(refusal),
     }
 }
 

@@ -1,23 +1,34 @@
 //! Whether the tables of a desk agree with what each of them is to have.
 
-ghost use Rattle.std.specs.Prelude.{◌≡◌, true, Err, IfErr};
+ghost use Rattle.std.specs.Prelude.{◌≡◌, Err, IfErr};
 ghost use Rattle.sqlite.specs.Held.{state};
-ghost use Rattle.rollout_model.specs.declared.refusal.Refusal.TheVariants.{Stopped, StoreFailed};
-ghost use Rattle.rollout_machine.specs.Standing.{StaysStopped};
+ghost use Rattle.rollout_model.specs.declared.refusal.Refusal.TheVariants.{StoreFailed};
 ghost use Rattle.desk_records.specs.Holds.{HoldsRecords};
+ghost use Rattle.rollout_desk.specs.Conduct.{BehavesVerifying};
 ghost use Rattle.rollout_desk.specs.DeskStates.{desk_state};
 ghost use Rattle.rollout_desk.specs.Looks.{Looks};
-ghost use Rattle.rollout_desk.specs.Verifying.{FindsDamage, HasCause, IsNeverDamaged, Judges, KeepsDesk, MayTell, SparesRecords, tells_damage};
+ghost use Rattle.rollout_desk.specs.Verifying.{FindsDamage, HasCause, IsNeverDamaged, Judges, KeepsDesk, MayTell, ReadsDamage, SparesRecords};
 ghost use Rattle.rollout_desk.specs.Working.{TellsFailures, tells_store};
 
 use crate::desk::Desk;
-use crate::look::give_up;
-use crate::refusals::refusal_of;
-use desk_store::DeskStore;
+use crate::look::{Question, look};
+use desk_store::{DeskStore, Fault, OpenChange};
 use desk_verify::{CheckedTable, Damage, find_damage};
 use rollout_machine::is_failed_store;
 use rollout_model::Refusal;
 use sqlite::Alter;
+
+/// The first table that doesn't agree.
+#[derive(Drop)]
+struct FirstDamage;
+
+impl<S: Alter> Question<S, Option<CheckedTable>> for FirstDamage {
+    ghost finds = { λ it. ReadsDamage S.Store };
+
+    fn read(&self, change: &mut OpenChange<'_, S>) -> Result<Option<CheckedTable>, Fault> {
+        find_damage(change)
+    }
+}
 
 /// Finds the first table that doesn't agree, inside a transaction that changes nothing.
 fn look_for_damage<S: Alter>(store: &mut DeskStore<S>) -> Result<Option<CheckedTable>, Refusal>
@@ -26,14 +37,7 @@ fn look_for_damage<S: Alter>(store: &mut DeskStore<S>) -> Result<Option<CheckedT
     ensures blames { result ≡ Err StoreFailed → HasCause S.Store store.old.calls store.new.calls }
     ensures tells { TellsFailures (tells_store result) store.old.calls store.new.calls }
 {
-    let mut change = match store.begin() {
-        Ok(change) => change,
-        Err(fault) => return Err(refusal_of(fault)),
-    };
-    match find_damage(&mut change) {
-        Ok(found) => give_up(change, Ok(found)),
-        Err(fault) => give_up(change, Err(refusal_of(fault))),
-    }
+    look(store, &FirstDamage)
 }
 
 impl<S: Alter> Desk<S> {
@@ -41,17 +45,11 @@ impl<S: Alter> Desk<S> {
     /// written. `Refused` is `NoMemory`, `StoreFailed`, after which the desk is stopped, or `Stopped`. `StoreFailed` is said only where a call of
     /// the store failed, or the tables before some table agree, and what its check reads can't be read.
     pub fn verify(&mut self) -> Result<(), Damage>
-        ensures clean { (desk_state S.Store self.new).is_clean → (desk_state S.Store self.old).is_clean }
-        ensures judges { Judges (state S.Store self.old.store.calls.conn) (state S.Store self.new.store.calls.conn) result }
-        ensures keeps { KeepsDesk (desk_state S.Store self.old) (desk_state S.Store self.new) result }
-        ensures spares { SparesRecords (state S.Store self.old.store.calls.conn) (state S.Store self.new.store.calls.conn) result }
-        ensures blames { result ≡ Err (Damage.Refused StoreFailed) → HasCause S.Store self.old.store.calls self.new.store.calls }
-        ensures stops { result ≡ Err (Damage.Refused StoreFailed) → (desk_state S.Store self.new).is_stopped ≡ true }
-        ensures stopped { (desk_state S.Store self.old).is_stopped ≡ true → (result ≡ Err (Damage.Refused Stopped))
-            × StaysStopped (desk_state S.Store self.old) (desk_state S.Store self.new) }
-        ensures untouched { (desk_state S.Store self.old).is_stopped ≡ true → self.new.store ≡ self.old.store }
+        ensures conduct { BehavesVerifying S.Store self.old self.new result }
+        ensures judges { Judges S.Store self.old self.new result }
+        ensures keeps { KeepsDesk S.Store self.old self.new result }
+        ensures spares { SparesRecords S.Store self.old self.new result }
         ensures refuses { IfErr result (MayTell (desk_state S.Store self.old).is_stopped) }
-        ensures tells { TellsFailures (tells_damage result) self.old.store.calls self.new.store.calls }
         ensures work { self.new.work ≡ self.old.work }
     {
         if self.stopped {

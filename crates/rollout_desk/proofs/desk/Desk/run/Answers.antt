@@ -21,10 +21,10 @@ loop-request-preserved g c =
     let now = desk_state g.S.Store c.answer-reply.new.self in record {
       room = search rules;
       count = search rules;
-      clean = λ clean. so_far.clean (c.answer-reply.ensures.clean clean);
+      clean = λ clean. so_far.clean (c.answer-reply.ensures.conduct.clean clean);
       ran = goes_on was before now c.args.requests.now c.loop-request.request-index c.request-item.result c.loop-request-test.true c.request-item.is
           c.loop-request.replies.items c.push_reserved.new.self.items c.answer-reply.result c.push_reserved.ensures.items so_far.ran
-          c.answer-reply.ensures.clean c.answer-reply.ensures.applies c.if-failed.ensures.is;
+          c.answer-reply.ensures.conduct.clean c.answer-reply.ensures.applies c.if-failed.ensures.is;
       none = none_failed_more c.loop-request.replies.items c.push_reserved.new.self.items c.answer-reply.result c.push_reserved.ensures.items
           c.if-failed.ensures.is so_far.none;
     }
@@ -39,13 +39,13 @@ returns-then-failed g c =
     → EndsRun h now (map request_of c.args.requests.now) (map reply_of c.push_reserved.new.self.items)
     = λ h clean stands. inr (ends was before now c.args.requests.now c.loop-request.request-index c.request-item.result c.loop-request-test.true
     c.request-item.is
-    c.loop-request.replies.items c.push_reserved.new.self.items c.answer-reply.result c.push_reserved.ensures.items so_far.ran c.answer-reply.ensures.clean
-    c.answer-reply.ensures.applies c.if-failed.ensures.is h clean stands) in record {
-      clean = λ clean. so_far.clean (c.answer-reply.ensures.clean clean);
+    c.loop-request.replies.items c.push_reserved.new.self.items c.answer-reply.result c.push_reserved.ensures.items so_far.ran
+    c.answer-reply.ensures.conduct.clean c.answer-reply.ensures.applies c.if-failed.ensures.is h clean stands) in record {
+      clean = λ clean. so_far.clean (c.answer-reply.ensures.conduct.clean clean);
       ran = ended;
       once = λ h clean stands. ends_once HoldsRecords c.answer-reply.new.self.stopped (state g.S.Store c.answer-reply.new.self.store.calls.conn) h _ _
           (ended h clean stands);
-      stops = λ _. c.answer-reply.ensures.stops (c.if-failed.ensures.only.0 refl);
+      stops = λ _. c.answer-reply.ensures.conduct.stops (c.if-failed.ensures.only.0 refl);
       stopped = λ stopped. absurd (false≢true (sym c.if-self.false ∙ stopped));
       untouched = λ stopped. absurd (false≢true (sym c.if-self.false ∙ stopped));
     }
