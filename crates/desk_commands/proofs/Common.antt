@@ -91,7 +91,8 @@ pub use Rattle.desk_records.specs.NextOffers.{any_starts, next_offer, next_offer
 pub use Rattle.desk_records.specs.Parts.{parts_of}
 pub use Rattle.desk_records.specs.RolloutRow.{stored_action, stored_rollout, told_plan}
 pub use Rattle.desk_records.specs.Rollouts.{groups_of, members_of, numbered_from, rule_numbered}
-pub use Rattle.desk_records.specs.TargetRow.{broken_attribute_column, broken_listed_column, broken_target_column, listed_target, stored_target}
+pub use Rattle.desk_records.specs.TargetRow.{listed_target, stored_target}
+pub use Rattle.desk_records.specs.ReadRows.{broken_attribute_column, broken_listed_target_column, broken_stored_target_column, columns_of_listed_target}
 pub use Rattle.desk_records.specs.Targets.{AddsAttribute, AddsTag, AddsTarget, SetsAttribute, are_sorted, attribute_rows, attributed, attributes_of, ids_of}
 pub use Rattle.desk_records.specs.Targets.{in_byte_order, is_sorted, keys_of, renamed, tag_rows, tagged, target_row, untagged, with_changed, with_target}
 pub use Rattle.desk_records.specs.declared.number_row.PlacedNumber.{PlacedNumber}
@@ -103,7 +104,8 @@ pub use Rattle.desk_store.specs.Changing.{FindsIn, FindsLedger, MakesIn, MakesLe
 pub use Rattle.desk_store.specs.Failing.{FailsGiven, AreActionsNumbered, ReadableAs, WritesIn}
 pub use Rattle.desk_store.specs.Breaking.{HasReason}
 pub use Rattle.desk_store.specs.GroupPairs.{group_and_next}
-pub use Rattle.desk_store.specs.Readable.{BreaksColumn, IsReadable, second_shown, third_shown}
+pub use Rattle.desk_store.specs.Readable.{IsReadable, third_shown}
+pub use Rattle.desk_store.specs.BrokenRows.{BreaksColumn}
 pub use Rattle.desk_store.specs.declared.change.OpenChange.{OpenChange}
 pub use Rattle.desk_store.specs.declared.groups.GroupAndNext.{GroupAndNext}
 pub use Rattle.desk_reads.proofs.HistoryKept.{details_kept}

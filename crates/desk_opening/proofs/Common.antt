@@ -1,8 +1,8 @@
 -- The names of other modules that the proofs here cite, passed on from one place. Declares nothing.
-pub use Rattle.std.proofs.Common.{◌≡◌, ℕ, zero, suc, ◌+◌, ◌-◌, ◌*◌, ◌%◌, ◌^◌, ◌<◌, ◌≤◌, min, Bool, true, false, cond, not, ◌||◌, ◌≢◌, ◌⊎◌, List, [], ◌∷◌, ◌++◌}
-pub use Rattle.std.proofs.Common.{map, length, get_or, take, drop, set, ℤ, pos, ◌<ℤ◌, IfOk, IfErr, if◌then◌else◌, IsErr, IsTrue, ◌==◌, slice_get, slice_index}
-pub use Rattle.std.proofs.Common.{slice_index_or, Some, None, Ok, Err, codes, filter, Option, Result, MatchOption, option_map, find, unwrap_or, sym, refl, ap}
-pub use Rattle.std.proofs.Common.{◌∙◌, subst, ap₂, inl, inr, zero-add, arith, get_or-take}
+pub use Rattle.std.proofs.Common.{◌≡◌, ℕ, zero, suc, ◌+◌, ◌-◌, ◌*◌, ◌%◌, ◌^◌, ◌<◌, ◌≤◌, min, Bool, true, false, cond, not, ◌||◌, ◌≢◌, ◌⊎◌, List, [], ◌∷◌}
+pub use Rattle.std.proofs.Common.{◌++◌, map, length, get_or, take, drop, set, ℤ, pos, ◌<ℤ◌, IfOk, IfErr, if◌then◌else◌, IsErr, IsTrue, ◌==◌, slice_get}
+pub use Rattle.std.proofs.Common.{slice_index, slice_index_or, Some, None, Ok, Err, codes, filter, Option, Result, MatchOption, option_map, find, unwrap_or}
+pub use Rattle.std.proofs.Common.{sym, refl, ap, ◌∙◌, subst, ap₂, inl, inr, zero-add, arith, get_or-take}
 pub use Rattle.std.proofs.Math.Logic.{∥∥₁_elim, ∥∥₁_map}
 pub use Rattle.std.proofs.lemmas.Bool.{and_parts, both_ways, cases_Bool, cases_eq, eqb-true, or_parts, true≢false}
 pub use Rattle.std.proofs.lemmas.List.{drop_all, drop_more, length-map, length-take, nil_from_length, take-append-drop, take_all, take_more}
@@ -42,8 +42,8 @@ pub use Rattle.rollout_machine.specs.declared.records.RolloutRecord.{RolloutReco
 pub use Rattle.sql_calls.proofs.Ends.{begin_is, commit_is, rollback_is}
 pub use Rattle.sql_calls.proofs.FrameEnds.{begins, fails_to_begin, gives_up, still_holds}
 pub use Rattle.sql_calls.proofs.Inserts.{Inserted, given_rows, inserts, uncounted}
-pub use Rattle.sql_calls.proofs.Leavings.{crash_kept, first_shown, first_unchanged, never_commits_inside, never_shows_inside, none_shown, runs_plain, shows_as}
-pub use Rattle.sql_calls.proofs.Leavings.{stays_inside, unchanged_by}
+pub use Rattle.sql_calls.proofs.Leavings.{crash_kept, first_shown, first_unchanged, never_commits_inside, never_shows_inside, none_shown, runs_plain}
+pub use Rattle.sql_calls.proofs.Leavings.{shows_as, stays_inside, unchanged_by}
 pub use Rattle.sql_calls.proofs.NumberedRows.{cast_int, cast_null}
 pub use Rattle.sql_calls.proofs.Selects.{passes, shown_of, simple, simple_rows}
 pub use Rattle.sql_calls.specs.Apart.{HasNoForeignKey}
@@ -61,10 +61,11 @@ pub use Rattle.desk_records.proofs.Meaning.{desk_query, desk_terms, get_desk_is,
 pub use Rattle.desk_records.proofs.MeaningWords.{asked_at, at_key, changed_at, is_equal, means_of, put_at}
 pub use Rattle.desk_records.proofs.Places.{among, is_among, is_named, place_named, place_or_other, same_elsewhere, same_places}
 pub use Rattle.desk_records.proofs.Readable.{at_newest, from_newest, has_desk, is_known, newest_is_readable, of_all, one_numbered}
+pub use Rattle.desk_records.specs.Codes.{flag}
 pub use Rattle.desk_records.specs.Holds.{AreRowsOf, Content, HoldsLedger, HoldsRecords, IsHeld, Ledger, Offered, Ordered, Spot, Unordered, content_at}
 pub use Rattle.desk_records.specs.Holds.{content_of, desk_row, ledger_of}
 pub use Rattle.desk_records.specs.Readable.{HoldsAt, HoldsPlace, HoldsReadable}
-pub use Rattle.desk_records.specs.Rollouts.{flag, rule_row, rules_from, told_rollout}
+pub use Rattle.desk_records.specs.Rollouts.{rule_row, rules_from, told_rollout}
 pub use Rattle.desk_records.specs.Schema.{Desk, Numbers, Offers, Place, Rollouts, Rules, desk_names, desk_table, name_of, offer_table, places, rule_table}
 pub use Rattle.desk_records.specs.Schema.{table_at}
 pub use Rattle.desk_records.specs.Versions.{IsEven, IsTellable, IsUnnumbered, later_than, newest, version_number, places_at, table_count_of}
@@ -74,13 +75,12 @@ pub use Rattle.desk_records.specs.declared.version.Version.{Version}
 pub use Rattle.desk_records.specs.declared.version.Version.TheVariants.{One, Three, Two}
 pub use Rattle.desk_opening.specs.Filling.{FillsLater, FillsRollout, FindsLedger, IsOfNumber, Leaves, MakesLedger, Stays, WritesCopies, WritesRules}
 pub use Rattle.desk_opening.specs.Filling.{WritesUpTo, bare_ledger, no_rules, rules_up_to}
-pub use Rattle.desk_opening.specs.Making.{AreApart, At, Before, Changes, Free, HoldsBefore, HoldsPartly, HoldsStage, IsEmptyTable, LeavesDeskWith, LeavesNoDesk}
-pub use Rattle.desk_opening.specs.Making.{Makes, MakesTables, Nothing, Older, Partly, Stage, Standing, Whole, first_records, told}
+pub use Rattle.desk_opening.specs.Making.{AreApart, At, Before, Changes, Free, HoldsBefore, HoldsPartly, HoldsStage, IsEmptyTable, LeavesDeskWith}
+pub use Rattle.desk_opening.specs.Making.{LeavesNoDesk, Makes, MakesTables, Nothing, Older, Partly, Stage, Standing, Whole, first_records, told}
 pub use Rattle.desk_opening.specs.Migrating.{HoldsFrom, Migrates, MigratesTo}
 pub use Rattle.desk_opening.specs.Opening.{Adopts, FindsTo, HasDesk, HasDeskAt, HasDeskTables, HasNoDesk, HasNoRow, HasRow, IsDeskRow, IsFailure, IsKnownOpen}
 pub use Rattle.desk_opening.specs.Opening.{IsNewerRow, IsOtherRow, IsSettled, IsWholeAt, Keeps, LacksAt, LacksPartOfDesk, LacksTables, OpensDesk, OpensTo}
-pub use Rattle.desk_opening.specs.Opening.{TakesDeskRow}
-pub use Rattle.desk_opening.specs.Opening.{TellsOfRow, TellsVersion}
+pub use Rattle.desk_opening.specs.Opening.{TakesDeskRow, TellsOfRow, TellsVersion}
 pub use Rattle.desk_opening.specs.Places.{create_text_of, place_of}
 pub use Rattle.desk_opening.specs.Reopening.{BeginsPlain, EachAfter, HasNewer, HoldsDesk, HoldsDeskAt, HoldsNoDesk, HoldsNone, HoldsPlain, HoldsWhatWas}
 pub use Rattle.desk_opening.specs.Reopening.{IsForeign, IsOpenable, LeavesUnharmed, RefusesOpened, Reopens, Spares, UsesNoName}

@@ -1,11 +1,11 @@
 -- Reads and writes of a change that fills the tables of the newest version.
 use Rattle.desk_opening.proofs.Common.{◌≡◌, ◌<◌, ◌≤◌, ◌⊎◌, inl, inr, ◌++◌, ℕ, zero, suc, ◌+◌, List, [], ◌∷◌, length, map, codes, pos, slice_get, set, Option}
 use Rattle.desk_opening.proofs.Common.{Some, None, option_map, Ok, Err, Result, IsErr, IfOk, MatchOption, Bool, if◌then◌else◌, refl, sym, ap, subst, ◌∙◌}
-use Rattle.desk_opening.proofs.Common.{arith, Int, Row, Insert, Select, Values, Database, IsDatabase, State, Stands, Fault, RunsText, TakesFirst, Known, Knows}
-use Rattle.desk_opening.proofs.Common.{inserts, simple, GroupRule, even_rules, RolloutRecord, HoldsLedger, Ledger, ledger_of, rule_row, told_rollout, Rollouts}
-use Rattle.desk_opening.proofs.Common.{Rules, name_of, rule_table, table_at, GET_ROLLOUT, LAST_ROLLOUT, PUT_RULE, Version, One, Two, Three, at_key, FillsLater}
-use Rattle.desk_opening.proofs.Common.{FillsRollout, FindsLedger, IsOfNumber, MakesLedger, Stays, WritesCopies, WritesRules, WritesUpTo, no_rules, rules_up_to}
-use Rattle.desk_opening.proofs.Common.{HoldsStage, Standing, same_some, asked_at, put_at}
+use Rattle.desk_opening.proofs.Common.{arith, Int, Row, Insert, Select, Values, Database, IsDatabase, State, Stands, Fault, RunsText, TakesFirst, Known}
+use Rattle.desk_opening.proofs.Common.{Knows, inserts, simple, GroupRule, even_rules, RolloutRecord, HoldsLedger, Ledger, ledger_of, rule_row, told_rollout}
+use Rattle.desk_opening.proofs.Common.{Rollouts, Rules, name_of, rule_table, table_at, GET_ROLLOUT, LAST_ROLLOUT, PUT_RULE, Version, One, Two, Three, at_key}
+use Rattle.desk_opening.proofs.Common.{FillsLater, FillsRollout, FindsLedger, IsOfNumber, MakesLedger, Stays, WritesCopies, WritesRules, WritesUpTo, no_rules}
+use Rattle.desk_opening.proofs.Common.{rules_up_to, HoldsStage, Standing, same_some, asked_at, put_at}
 use Rattle.sql_calls.proofs.Composing.{found_then_makes, makes_as, makes_nothing, makes_then}
 use Rattle.sql_calls.proofs.Finding.{ShowsFirst, first_finds, run_makes}
 use Rattle.rollout_model.specs.Rules.{is_group_count, is_percentage}
@@ -15,12 +15,12 @@ use Rattle.rollout_machine.proofs.Lists.{each_from_more, length_each}
 use Rattle.desk_records.specs.LedgerSteps.{AddsRule, set_numbered, with_rules}
 use Rattle.desk_records.specs.Modules.{IsLastRow}
 use Rattle.desk_records.specs.Codes.{coded_in}
-use Rattle.desk_records.specs.RolloutRow.{IsRolloutRow}
 use Rattle.desk_records.specs.declared.rollout_row.StoredRollout.{StoredRollout}
 use Rattle.desk_records.proofs.NumberColumns.{ranged_is}
 use Rattle.desk_records.proofs.PartWrites.{adds_rule}
 use Rattle.desk_records.proofs.RolloutMeaning.{get_rollout_is, last_rollout_is, last_rollout_query, put_rule_is, rollout_columns, rollout_names, rule_terms}
 use Rattle.desk_records.proofs.RolloutRecords.{gets_rollout, lasts_rollout}
+use Rattle.desk_records.specs.ReadRows.{IsStoredRolloutRow}
 use Rattle.desk_opening.proofs.RuleLists.{all_even, all_said, got_set, none_said, none_yet, one_more, set_same, set_twice}
 use Rattle.desk_opening.proofs.Steps.{leaves_of, read_fails, read_step, step, step_fails}
 
@@ -145,12 +145,12 @@ told_number : (fits : ℕ → Bool) (n m : ℕ) → coded_in (λ k. if fits k th
 told_number fits n m h = let both : Int (pos n) ≡ Int (pos m) = ranged_is fits (Int (pos n)) m h in cc
 
 found_one : (number : ℕ) (l : Ledger) (row : Option Row) (found : StoredRollout) (x : Option RolloutRecord) → item_numbered l.records.rollouts number ≡ x
-    → row ≡ option_map told_rollout x → MatchOption row ⊥ (λ row. IsRolloutRow row found) → IsOfNumber number l found
+    → row ≡ option_map told_rollout x → MatchOption row ⊥ (λ row. IsStoredRolloutRow row found) → IsOfNumber number l found
 found_one number l None found x at is reads = absurd reads
 found_one number l (Some row) found None at is reads = absurd cc
 found_one number l (Some row) found (Some x) at is reads =
     let same : row ≡ told_rollout x = cc in
-    let told = subst (λ r. IsRolloutRow r found) same reads in
+    let told = subst (λ r. IsStoredRolloutRow r found) same reads in
     record {
       rollout = x;
       is_there = at;
@@ -160,12 +160,12 @@ found_one number l (Some row) found (Some x) at is reads =
     }
 
 pub rollout_found : (number : ℕ) → 1 ≤ number → (old new : State) (row : Option Row) → TakesFirst old new GET_ROLLOUT.now (Int (pos number) ∷ []) (Ok row)
-    → (out : Result StoredRollout Fault) → IfOk out (λ found. MatchOption row ⊥ (λ row. IsRolloutRow row found))
+    → (out : Result StoredRollout Fault) → IfOk out (λ found. MatchOption row ⊥ (λ row. IsStoredRolloutRow row found))
     → FindsLedger old new out (IsOfNumber number)
 rollout_found number least old new row h out is = first_finds HoldsLedger (λ (l : Ledger). l) GET_ROLLOUT.now (Int (pos number) ∷ []) old new
     (IsOfNumber number) getting (λ db r holds at given. tt) row h out (answers out is)
   where
-    answers : (it : Result StoredRollout Fault) → IfOk it (λ found. MatchOption row ⊥ (λ row. IsRolloutRow row found))
+    answers : (it : Result StoredRollout Fault) → IfOk it (λ found. MatchOption row ⊥ (λ row. IsStoredRolloutRow row found))
         → IfOk it (λ found. (db : Database) (l : Ledger) (holds : HoldsLedger db l) → ShowsFirst (getting db l holds).command db (Int (pos number) ∷ []) row
         → IsOfNumber number l found)
     answers (Err e) is = tt

@@ -10,7 +10,7 @@ use Rattle.rollout_machine.specs.Records.{Records}
 use Rattle.rollout_machine.specs.declared.records.RolloutRecord.{RolloutRecord}
 use Rattle.desk_records.specs.Holds.{HoldsLedger, Ledger}
 use Rattle.desk_records.specs.Readable.{HoldsAt}
-use Rattle.desk_records.specs.RolloutRow.{broken_rollout_column}
+use Rattle.desk_records.specs.ReadRows.{broken_stored_rollout_column}
 use Rattle.desk_records.specs.Rollouts.{told_rollout}
 use Rattle.desk_records.specs.declared.version.Version.{Version}
 use Rattle.sql_calls.specs.declared.calls.Calls.{Calls}
@@ -57,7 +57,7 @@ CountsOpening = CountsBy IsStore
 
 -- the row of the rollout keeps the rule of each column
 abbrev pub IsRolloutReadable : RolloutRecord → Type 0
-IsRolloutReadable x = broken_rollout_column (told_rollout x) ≡ None
+IsRolloutReadable x = broken_stored_rollout_column (told_rollout x) ≡ None
 
 -- those of all rollouts do, and 32 bits count them
 pub record AreReadable (r : Records) : Type 0 where

@@ -11,10 +11,10 @@ use Rattle.rollout_machine.specs.GroupRules.{even_rules}
 use Rattle.rollout_machine.specs.Ranges.{each_from}
 use Rattle.rollout_machine.specs.Records.{Records}
 use Rattle.rollout_machine.specs.declared.records.RolloutRecord.{RolloutRecord}
-use Rattle.desk_records.specs.RolloutRow.{broken_rollout_column}
 use Rattle.desk_records.specs.RowFaults.{BreaksRule}
 use Rattle.desk_records.specs.Holds.{HoldsLedger, Ledger, ledger_of}
 use Rattle.desk_records.specs.LedgerSteps.{set_numbered, with_rules}
+use Rattle.desk_records.specs.ReadRows.{broken_stored_rollout_column}
 use Rattle.desk_records.specs.Versions.{IsTellable}
 use Rattle.desk_records.specs.declared.rollout_row.StoredRollout.{StoredRollout}
 use Rattle.desk_records.specs.declared.version.Version.{Version}
@@ -62,7 +62,7 @@ HasNoNumber (Some row) = (0 < length row) → (n : ℕ) → n < 2 ^ 32 → colum
 -- the row is not there, or one of its columns breaks its rule
 abbrev pub LacksRollout : Option Row → Type 0
 LacksRollout None = Unit {0}
-LacksRollout (Some row) = BreaksRule (broken_rollout_column row)
+LacksRollout (Some row) = BreaksRule (broken_stored_rollout_column row)
 
 -- the same of the first so many groups of a rollout of whose groups nothing is said
 pub record WritesCopies (number groups : ℕ) (rule : GroupRule) (l next : Ledger) : Type 0 where

@@ -4,11 +4,11 @@ ghost use Rattle.std.specs.Prelude.{◌≡◌, ◌<◌, ◌≤◌, ◌^◌, IfEr
 ghost use Rattle.sqlite.specs.Held.{state};
 ghost use Rattle.desk_records.specs.LedgerSteps.{AddsRule};
 ghost use Rattle.desk_records.specs.Modules.{IsLastRow};
-ghost use Rattle.desk_records.specs.RolloutRow.{IsRolloutRow};
+ghost use Rattle.desk_records.specs.ReadRows.{IsStoredRolloutRow};
 ghost use Rattle.desk_records.specs.RowFaults.{IfRowsBroken};
 ghost use Rattle.desk_opening.specs.Counting.{Counts, FailsGiven, HasReadable};
-ghost use Rattle.desk_opening.specs.Filling.{FillsLater, FillsRollout, FindsLedger, GivenBare, GivenRules, HasNoNumber};
-ghost use Rattle.desk_opening.specs.Filling.{IsOfNumber, LacksRollout, MakesLedger, Stays, WritesCopies, WritesRules};
+ghost use Rattle.desk_opening.specs.Filling.{FillsLater, FillsRollout, FindsLedger, GivenBare, GivenRules, HasNoNumber, IsOfNumber, LacksRollout, MakesLedger};
+ghost use Rattle.desk_opening.specs.Filling.{Stays, WritesCopies, WritesRules};
 
 use crate::running::{first, run};
 use desk_records::{
@@ -142,7 +142,7 @@ fn last_number(row: Option<Row>) -> Result<u32, Fault>
 
 /// The rollout in a row, which has to be there.
 fn rollout_in(alloc: Global, row: Option<Row>) -> Result<StoredRollout, Fault>
-    ensures ok { IfOk result (λ rollout. MatchOption row ⊥ (λ row. IsRolloutRow row rollout)) }
+    ensures ok { IfOk result (λ rollout. MatchOption row ⊥ (λ row. IsStoredRolloutRow row rollout)) }
     ensures err { IfErr result (λ fault. IfRowsBroken fault (LacksRollout row)) }
 {
     let Some(row) = row else {

@@ -1,7 +1,7 @@
 -- Targets as they are listed, and then read by their ids.
-use Rattle.desk_reads.proofs.Common.{◌≡◌, ℕ, ◌-◌, true, false, List, [], ◌∷◌, map, find, take, drop, Option, Some, None, refl, sym, ap, ◌∙◌, and_parts}
-use Rattle.desk_reads.proofs.Common.{or_parts, contains_word, same_bytes, Records, Target, IsSorted, not_above, are_sorted, ids_of, in_byte_order}
-use Rattle.desk_reads.proofs.Common.{attributes_of, sorted_from, has_id, tags_of, target_of, Bytes, Attribute, same_refl}
+use Rattle.desk_reads.proofs.Common.{◌≡◌, ℕ, true, false, List, [], ◌∷◌, map, find, take, drop, Option, Some, None, refl, sym, ap, ◌∙◌, and_parts, or_parts}
+use Rattle.desk_reads.proofs.Common.{contains_word, same_bytes, Records, Target, IsSorted, not_above, are_sorted, ids_of, in_byte_order, attributes_of}
+use Rattle.desk_reads.proofs.Common.{sorted_from, has_id, tags_of, target_of, Bytes, Attribute, same_refl}
 use Rattle.std.proofs.IntoIterSteps.{All-taken}
 use Rattle.std.proofs.lemmas.List.{drop-map, take-map}
 use Rattle.std.specs.Iterator.{Yields}

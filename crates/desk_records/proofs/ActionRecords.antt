@@ -3,28 +3,17 @@ use Rattle.desk_records.proofs.Common.{◌≡◌, ◌≤◌, ℕ, ◌+◌, pos, 
 use Rattle.desk_records.proofs.Common.{None, option_map, refl, ap, ◌∙◌, nat_eq, zip, take-map, drop-map, Value, Null, Int, Text, Row, Binary, Term, col}
 use Rattle.desk_records.proofs.Common.{Select, Database, plain, agree, rows_from, ShowsFirst, on_content, keys_apart, reads_key, numbered_in_order, simple, by}
 use Rattle.desk_records.proofs.Common.{passes, shown_of, item_numbered, same_bytes, Bytes, TargetOffer, offer_to, ActionRecord, Offer, Tally, action_row}
-use Rattle.desk_records.proofs.Common.{actor_of, outcome_code, HoldsLedger, Ledger, IsLastRow, is_to, offer_row, actions_of, actions_for, listed_where}
-use Rattle.desk_records.proofs.Common.{stored_action, flag, Actions, Offers, offer_table, and-true}
+use Rattle.desk_records.proofs.Common.{actor_of, HoldsLedger, Ledger, IsLastRow, is_to, offer_row, actions_of, actions_for, listed_where, stored_action}
+use Rattle.desk_records.proofs.Common.{Actions, Offers, offer_table, and-true}
 use Rattle.sqlite.specs.Effect.{Reads as Shows}
 use Rattle.sqlite_value.specs.Keys.{first_key}
-use Rattle.desk_records.specs.declared.rollout_row.ListedAction.{ListedAction}
-use Rattle.desk_records.specs.declared.rollout_row.StoredAction.{StoredAction}
+use Rattle.desk_records.specs.ReadRows.{shown_stored_action, shown_listed_action, shown_offer}
 use Rattle.desk_records.proofs.ActionMeaning.{last_action_query, action_columns, listed_columns, list_actions_query, list_target_actions_query, of_rollout}
 use Rattle.desk_records.proofs.ActionMeaning.{of_actor, of_controller, offer_columns}
 use Rattle.desk_records.proofs.Comparisons.{numbers_equal, words_equal}
 use Rattle.desk_records.proofs.MeaningWords.{at_key}
 use Rattle.desk_records.proofs.NumberedReads.{gets, lasts, passes_number}
 use Rattle.desk_records.proofs.TargetRecords.{first_row}
-
--- what is read of an action
-abbrev pub shown_action : StoredAction → Row
-shown_action a = Int (pos a.rollout) ∷ Int (pos a.position) ∷ Text a.target ∷ Int (pos (flag a.canceling)) ∷ Int (pos (outcome_code a.outcome))
-    ∷ Int (pos a.notes) ∷ Int (pos a.entries) ∷ []
-
--- .. and of one with its number
-abbrev pub told_listed : ListedAction → Row
-told_listed it = Int (pos it.action.rollout) ∷ Int (pos it.action.position) ∷ Text it.action.target ∷ Int (pos (flag it.action.canceling))
-    ∷ Int (pos (outcome_code it.action.outcome)) ∷ Int (pos it.action.notes) ∷ Int (pos it.action.entries) ∷ Int (pos it.number) ∷ []
 
 module _ (db : Database) (l : Ledger) (holds : HoldsLedger db l) (names : List (List ℕ)) where
   abbrev tree : ℕ
@@ -44,7 +33,7 @@ module _ (db : Database) (l : Ledger) (holds : HoldsLedger db l) (names : List (
   -- an action by its number
   pub gets_action : (number : ℕ) → 1 ≤ number → (found : Option Row)
       → ShowsFirst (Select (record { lets = []; body = simple tree (at_key 0 0 ∷ []) action_columns }) names) db (Int (pos number) ∷ []) found
-      → found ≡ option_map (λ it. shown_action (stored_action l.records.rollouts it)) (item_numbered xs number)
+      → found ≡ option_map (λ it. shown_stored_action (stored_action l.records.rollouts it)) (item_numbered xs number)
   gets_action = gets row tree db xs (holds.rows Actions) names (λ n x. refl) (at_key 0 0 ∷ []) action_columns (passes_number row (λ n x. refl))
 
   -- those that pass, a page of them in the order of their numbers
@@ -54,17 +43,18 @@ module _ (db : Database) (l : Ledger) (holds : HoldsLedger db l) (names : List (
 
     its_actions : ((n : ℕ) (y : ActionRecord × Tally) → passes test params (row n y) ≡ wanted y) → (n : ℕ) (ys : List (ActionRecord × Tally))
         → map (shown_of listed_columns params) (filter (passes test params) (rows_from row n ys))
-        ≡ map told_listed (listed_where wanted l.records.rollouts n ys)
+        ≡ map shown_listed_action (listed_where wanted l.records.rollouts n ys)
     its_actions is n [] = refl
     its_actions is n (y ∷ ys) = rw (is n y) (go (wanted y) (its_actions is (n + 1) ys))
       where
         go : (b : Bool) → map (shown_of listed_columns params) (filter (passes test params) (rows_from row (n + 1) ys))
-            ≡ map told_listed (listed_where wanted l.records.rollouts (n + 1) ys)
+            ≡ map shown_listed_action (listed_where wanted l.records.rollouts (n + 1) ys)
             → map (shown_of listed_columns params)
             (cond b (row n y ∷ filter (passes test params) (rows_from row (n + 1) ys)) (filter (passes test params) (rows_from row (n + 1) ys)))
-            ≡ map told_listed (cond b (record { number = n; action = stored_action l.records.rollouts y } ∷ listed_where wanted l.records.rollouts (n + 1) ys)
+            ≡ map shown_listed_action
+            (cond b (record { number = n; action = stored_action l.records.rollouts y } ∷ listed_where wanted l.records.rollouts (n + 1) ys)
             (listed_where wanted l.records.rollouts (n + 1) ys))
-        go true rest = ap (λ more. told_listed (record { number = n; action = stored_action l.records.rollouts y }) ∷ more) rest
+        go true rest = ap (λ more. shown_listed_action (record { number = n; action = stored_action l.records.rollouts y }) ∷ more) rest
         go false rest = rest
 
     lists_where : ((n : ℕ) (y : ActionRecord × Tally) → passes test params (row n y) ≡ wanted y) → (rows : List Row)
@@ -73,32 +63,28 @@ module _ (db : Database) (l : Ledger) (holds : HoldsLedger db l) (names : List (
           body = by (simple tree test listed_columns) ((col 1 0, record { descending = false; collation = Binary }) ∷ [])
               (col 0 1) (col 0 2);
         }) names) db params rows
-        → rows ≡ map told_listed (take limit (drop offset (listed_where wanted l.records.rollouts 1 xs)))
+        → rows ≡ map shown_listed_action (take limit (drop offset (listed_where wanted l.records.rollouts 1 xs)))
     lists_where is rows shows =
         let all = listed_where wanted l.records.rollouts 1 xs in
         numbered_in_order row (λ n x. refl) tree test listed_columns (col 0 1) (col 0 2) params db.trees xs (holds.rows Actions) rows (shows.answer Null)
-        ∙ ap (λ more. take limit (drop offset more)) (its_actions is 1 xs) ∙ ap (take limit) (drop-map told_listed offset all)
-        ∙ take-map told_listed limit (drop offset all)
+        ∙ ap (λ more. take limit (drop offset more)) (its_actions is 1 xs) ∙ ap (take limit) (drop-map shown_listed_action offset all)
+        ∙ take-map shown_listed_action limit (drop offset all)
 
   -- those of a rollout
   pub lists_actions : (rollout limit offset : ℕ) (rows : List Row) → Shows (Select (record { lets = []; body = list_actions_query tree }) names) db
       (Int (pos rollout) ∷ Int (pos limit) ∷ Int (pos offset) ∷ []) rows
-      → rows ≡ map told_listed (take limit (drop offset (actions_of l.records.rollouts rollout 1 xs)))
+      → rows ≡ map shown_listed_action (take limit (drop offset (actions_of l.records.rollouts rollout 1 xs)))
   lists_actions rollout limit offset = lists_where (Int (pos rollout)) of_rollout (λ it. nat_eq it.0.rollout rollout) limit offset
       (λ n y. and-true _ ∙ numbers_equal y.0.rollout rollout)
 
   -- those of a target
   pub lists_target_actions : (id : Bytes) (limit offset : ℕ) (rows : List Row)
       → Shows (Select (record { lets = []; body = list_target_actions_query tree }) names) db (Text id ∷ Int (pos limit) ∷ Int (pos offset) ∷ []) rows
-      → rows ≡ map told_listed (take limit (drop offset (actions_for l.records.rollouts id 1 xs)))
+      → rows ≡ map shown_listed_action (take limit (drop offset (actions_for l.records.rollouts id 1 xs)))
   lists_target_actions id limit offset = lists_where (Text id) of_actor (λ it. same_bytes (actor_of l.records.rollouts it.0) id) limit offset
       (λ n y. and-true _ ∙ words_equal (actor_of l.records.rollouts y.0) id)
 
 -- ---- offers
-
--- what is told of an offer
-abbrev pub told_offer : Offer → Row
-told_offer o = Int (pos o.action) ∷ Int (pos (flag o.canceling)) ∷ []
 
 pub offer_keyed : (given r : Row) → passes of_controller given r ≡ true → agree plain (1 ∷ []) r (0 ∷ []) given ≡ true
 unfolding first_key
@@ -124,13 +110,13 @@ module _ (db : Database) (l : Ledger) (holds : HoldsLedger db l) (names : List (
   query_params = Text id ∷ []
 
   first_offer_row : (o : Option Offer) → slice_get (map (on_content (shown_of offer_columns query_params)) (map offer_row (offer_to id o))) 0
-      ≡ option_map told_offer o
+      ≡ option_map shown_offer o
   first_offer_row None = refl
   first_offer_row (Some o) = refl
 
   -- the offer of a target
   pub gets_offer : (found : Option Row) → ShowsFirst (Select (record { lets = []; body = simple (holds.spot Offers).tree of_controller offer_columns }) names)
-      db query_params found → found ≡ option_map told_offer (l.offers id)
+      db query_params found → found ≡ option_map shown_offer (l.offers id)
   gets_offer found shown =
       let spot = holds.spot Offers in
       let held = holds.rows Offers in

@@ -1,6 +1,6 @@
 -- The names of other modules that the proofs here cite, passed on from one place. Declares nothing.
-pub use Rattle.std.proofs.Common.{◌≡◌, ℕ, zero, suc, ◌+◌, ◌-◌, ◌*◌, ◌/◌, ◌%◌, ◌^◌, ◌<◌, ◌≤◌, min, Bool, true, false, cond, not, ◌&&◌, ◌||◌, ◌≢◌, ◌⊎◌, List, []}
-pub use Rattle.std.proofs.Common.{◌∷◌, ◌++◌, map, reverse, length, get_or, take, drop, set, ℤ, pos, negsuc, IfNone, if◌then◌else◌, nat_eq, nat_lt, nat_le}
+pub use Rattle.std.proofs.Common.{◌≡◌, ℕ, zero, suc, ◌+◌, ◌-◌, ◌*◌, ◌/◌, ◌%◌, ◌^◌, ◌<◌, ◌≤◌, min, Bool, true, false, cond, not, ◌&&◌, ◌||◌, ◌≢◌, ◌⊎◌, List}
+pub use Rattle.std.proofs.Common.{[], ◌∷◌, ◌++◌, map, reverse, length, get_or, take, drop, set, ℤ, pos, negsuc, IfNone, if◌then◌else◌, nat_eq, nat_lt, nat_le}
 pub use Rattle.std.proofs.Common.{◌==◌, slice_get, slice_index, Some, None, Ok, string_bytes, codes, All, filter, Option, IsPermutation, find, filter_map}
 pub use Rattle.std.proofs.Common.{nat_cmp, int_cmp, Ordering, Less, Equal, Greater, sym, refl, ap, ◌∙◌, subst, ap₂, inl, inr, append_assoc, append-nil, arith}
 pub use Rattle.std.proofs.Common.{length-append, rules}
@@ -11,10 +11,10 @@ pub use Rattle.std.proofs.lemmas.Int.{ints}
 pub use Rattle.std.proofs.lemmas.List.{drop-append-le, drop-map, get_or_past, length-drop, length-map, map-append, take-append-le, take-map, take_all}
 pub use Rattle.std.proofs.lemmas.List.Elements.{All-append, All-cons, All-nil, Contains-get_or, filter-append}
 pub use Rattle.std.proofs.lemmas.List.Folds.{list_all-append, list_any-append}
-pub use Rattle.std.proofs.lemmas.List.Sorted.{Contains-permutation, IsNonDecreasingBy-from_all_adjacent, IsPermutation-append_left, IsPermutation-append_right}
-pub use Rattle.std.proofs.lemmas.List.Sorted.{IsPermutation-cons, IsPermutation-map, IsPermutation-middle, IsPermutation-refl, IsPermutation-reverse}
-pub use Rattle.std.proofs.lemmas.List.Sorted.{IsPermutation-sym, IsPermutation-to_front, IsPermutation-trans, length_permutation, ranks_by, sorted_far}
-pub use Rattle.std.proofs.lemmas.List.Sorted.{sum_by-IsPermutation}
+pub use Rattle.std.proofs.lemmas.List.Sorted.{Contains-permutation, IsNonDecreasingBy-from_all_adjacent, IsPermutation-append_left}
+pub use Rattle.std.proofs.lemmas.List.Sorted.{IsPermutation-append_right, IsPermutation-cons, IsPermutation-map, IsPermutation-middle, IsPermutation-refl}
+pub use Rattle.std.proofs.lemmas.List.Sorted.{IsPermutation-reverse, IsPermutation-sym, IsPermutation-to_front, IsPermutation-trans, length_permutation}
+pub use Rattle.std.proofs.lemmas.List.Sorted.{ranks_by, sorted_far, sum_by-IsPermutation}
 pub use Rattle.std.proofs.lemmas.Str.{IsUtf8-append, IsUtf8-from_ascii, IsUtf8-from_is_utf8, IsUtf8-nil, is_utf8-from_IsUtf8}
 pub use Rattle.std.specs.List.{AllByRecursion, AllZip, cons_option, flat_map, last_or, list_all, list_any, range_with_len, zip}
 pub use Rattle.std.specs.Option.{is_none, is_some, option_and_then, option_map, option_or, option_to_list}
@@ -93,34 +93,35 @@ pub use Rattle.sql_calls.specs.Keyed.{AreIn, IsHeldBy, Rise, by_column, rows_fro
 pub use Rattle.sql_calls.specs.Means.{Means}
 pub use Rattle.sql_calls.specs.Tables.{strict}
 pub use Rattle.sql_front.specs.Stands.{Stands}
-pub use Rattle.desk_records.specs.Actions.{Tally, action_row, actor_of, entries_of, entry_row, history_of, lines_of, outcome_code, told_entry}
+pub use Rattle.desk_records.specs.Actions.{Tally, action_row, actor_of, entries_of, entry_row, history_of, lines_of, told_entry}
 pub use Rattle.desk_records.specs.Artifacts.{AddsPiece, and_piece, artifact_filed, artifact_row, file_of, is_same_artifact, piece_numbered, piece_row}
 pub use Rattle.desk_records.specs.Artifacts.{piece_rows_from, pieces_in, pieces_of_artifact, shown_rows, told_of, with_artifact}
+pub use Rattle.desk_records.specs.Codes.{approval_code, flag, outcome_code}
+pub use Rattle.desk_records.specs.Columns.{has_filter, has_text, has_value}
 pub use Rattle.desk_records.specs.FeedbackNumbers.{borne_at, number_row, number_rows, numbers_from, numbers_numbered, told_number}
 pub use Rattle.desk_records.specs.FoundPieces.{ArePieces, lies_at}
 pub use Rattle.desk_records.specs.Holds.{AreRowsOf, HoldsLedger, HoldsRecords, IsHeld, Ledger, Offered, Ordered, Unordered, content_of, desk_row, ledger_of}
 pub use Rattle.desk_records.specs.Holds.{module_row}
 pub use Rattle.desk_records.specs.LedgerSteps.{AddsAction, AddsEntry, AddsGroup, AddsMember, AddsNumber, AddsRollout, AddsRule, OffersGroup, SetsAction}
-pub use Rattle.desk_records.specs.LedgerSteps.{SetsGroup, SetsOffer, SetsRollout, action_turned, and_entry, and_group, and_member, group_counted, bare_rollout}
-pub use Rattle.desk_records.specs.LedgerSteps.{cut_group}
-pub use Rattle.desk_records.specs.LedgerSteps.{no_tally, scheduled, turned, with_actions, with_groups, with_numbers, with_offer, with_rollouts, with_rules}
+pub use Rattle.desk_records.specs.LedgerSteps.{SetsGroup, SetsOffer, SetsRollout, action_turned, and_entry, and_group, and_member, group_counted}
+pub use Rattle.desk_records.specs.LedgerSteps.{bare_rollout, cut_group, no_tally, scheduled, turned, with_actions, with_groups, with_numbers, with_offer}
+pub use Rattle.desk_records.specs.LedgerSteps.{with_rollouts, with_rules}
 pub use Rattle.desk_records.specs.Listings.{AreBroken, AreRead, AreSaid, IsAmong, IsLastNumber, IsOnly, IsSaid, has_at, has_text_at, is_number_of, is_text_of}
-pub use Rattle.desk_records.specs.ModuleRow.{fault_at, has_text}
+pub use Rattle.desk_records.specs.ModuleRow.{fault_at}
 pub use Rattle.desk_records.specs.Modules.{IsLastRow, is_same, with_module, words_of}
 pub use Rattle.desk_records.specs.Offers.{HoldsOffers, is_to, offer_row}
 pub use Rattle.desk_records.specs.Parts.{listed_parts, part_row, parts_from, parts_numbered, parts_of}
-pub use Rattle.desk_records.specs.RolloutRow.{actions_for, actions_of, has_filter, listed_where, stored_action}
-pub use Rattle.desk_records.specs.Rollouts.{approval_code, flag, group_row, groups_from, groups_of, is_called, member_row, members_from, members_of}
-pub use Rattle.desk_records.specs.Rollouts.{numbered_from, rollout_row, rule_numbered, rule_row, rules_from, rules_numbered, that_reach, told_group}
-pub use Rattle.desk_records.specs.Rollouts.{told_rollout, told_rule}
+pub use Rattle.desk_records.specs.RolloutRow.{actions_for, actions_of, listed_where, stored_action}
+pub use Rattle.desk_records.specs.Rollouts.{group_row, groups_from, groups_of, is_called, member_row, members_from, members_of, numbered_from, rollout_row}
+pub use Rattle.desk_records.specs.Rollouts.{rule_numbered, rule_row, rules_from, rules_numbered, that_reach, told_group, told_rollout, told_rule}
 pub use Rattle.desk_records.specs.Schema.{Actions, Artifacts, Desk, Feedbacks, Groups, Members, Modules, Numbers, Offers, Pieces, Place, Rollouts, Rules}
 pub use Rattle.desk_records.specs.Schema.{SetModules, Sets, TargetAttributes, TargetTags, Targets, action_table, artifact_table, feedback_table, group_table}
 pub use Rattle.desk_records.specs.Schema.{member_table, module_table, name_of, number_table, offer_table, piece_table, places, rollout_table, rule_table}
 pub use Rattle.desk_records.specs.Schema.{set_module_table, set_table, table_at, table_by, target_attribute_table, target_table, target_tag_table}
-pub use Rattle.desk_records.specs.Sets.{AddsSetModule, and_module, is_same_set, module_rows, names_of, place_row, place_rows_from, set_named, set_row, with_set}
+pub use Rattle.desk_records.specs.Sets.{AddsSetModule, and_module, is_same_set, module_rows, names_of, place_row, place_rows_from, set_named, set_row}
+pub use Rattle.desk_records.specs.Sets.{with_set}
 pub use Rattle.desk_records.specs.TableRows.{IsPiece}
 pub use Rattle.desk_records.specs.Tables.{HoldsTables, Tables}
-pub use Rattle.desk_records.specs.TargetRow.{has_value}
 pub use Rattle.desk_records.specs.Targets.{AddsAttribute, AddsTag, AddsTarget, SetsAttribute, are_sorted, attribute_rows, attributed, attributes_of, ids_of}
 pub use Rattle.desk_records.specs.Targets.{in_byte_order, is_sorted, keys_of, renamed, tag_rows, tagged, target_row, untagged, with_changed, with_target}
 pub use Rattle.desk_records.specs.Versions.{newest, version_number, places_at}

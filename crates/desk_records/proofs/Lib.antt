@@ -46,6 +46,9 @@ mod OfferPuts
 pub mod GroupOfferWrites
 pub mod Membership
 pub mod NumberColumns
+pub mod KeptColumns
+pub mod RowsTold
+mod ShownRows
 pub mod TextColumns
 pub mod TableColumns
 pub mod AnyRows

@@ -8,7 +8,7 @@ use Rattle.std.proofs.Math.Bool.{or-false}
 use Rattle.sql_calls.proofs.NumberedWithin.{counts_any, held_any, is_beside, passes_within, seen, within_in_order}
 use Rattle.rollout_machine.specs.declared.outcome.Outcome.TheVariants.{Good, Bad, Gone}
 use Rattle.desk_records.specs.NextOffers.{any_starts, is_next, next_offer, next_offer_from, starts_at}
-use Rattle.desk_records.proofs.ActionRecords.{told_offer}
+use Rattle.desk_records.specs.ReadRows.{shown_offer}
 use Rattle.desk_records.proofs.Comparisons.{numbers_equal, numbers_at_least, numbers_at_most, words_equal}
 use Rattle.desk_records.proofs.ActionMeaning.{next_action, next_columns, next_group, next_offer_query}
 use Rattle.desk_records.proofs.TargetRecords.{first_row}
@@ -113,18 +113,18 @@ module _ (db : Database) (l : Ledger) (holds : HoldsLedger db l) (names : List (
       ) refl
 
   first_next : (n : ℕ) (as' : List ActionRecord) (ts : List Tally) → length ts ≡ length as'
-      → slice_get (map show (filter passes (rows_from row n (zip as' ts)))) 0 ≡ option_map told_offer (next_offer_from rollouts id n as')
+      → slice_get (map show (filter passes (rows_from row n (zip as' ts)))) 0 ≡ option_map shown_offer (next_offer_from rollouts id n as')
   first_next n [] ts same = refl
   first_next n (a ∷ as') [] same = absurd (omega (arith, same))
   first_next n (a ∷ as') (t ∷ ts) same =
       rw (passes_is n (a, t)) (go (is_next rollouts id a) (first_next (n + 1) as' ts (omega (arith, same))
-      ∙ ap (λ k. option_map told_offer (next_offer_from rollouts id k as')) (let next : n + 1 ≡ suc n = omega arith in next)))
+      ∙ ap (λ k. option_map shown_offer (next_offer_from rollouts id k as')) (let next : n + 1 ≡ suc n = omega arith in next)))
     where
       go : (b : Bool) → slice_get (map show (filter passes (rows_from row (n + 1) (zip as' ts)))) 0
-          ≡ option_map told_offer (next_offer_from rollouts id (suc n) as')
+          ≡ option_map shown_offer (next_offer_from rollouts id (suc n) as')
           → slice_get (map show (cond b (row n (a, t) ∷ filter passes (rows_from row (n + 1) (zip as' ts)))
           (filter passes (rows_from row (n + 1) (zip as' ts))))) 0
-          ≡ option_map told_offer (cond b (Some (record { action = n; canceling = a.canceling })) (next_offer_from rollouts id (suc n) as'))
+          ≡ option_map shown_offer (cond b (Some (record { action = n; canceling = a.canceling })) (next_offer_from rollouts id (suc n) as'))
       go true rest = refl
       go false rest = rest
 
@@ -135,7 +135,7 @@ module _ (db : Database) (l : Ledger) (holds : HoldsLedger db l) (names : List (
   -- what a target is offered next
   pub gets_next_offer : length l.tallies ≡ length l.records.actions → (found : Option Row)
       → ShowsFirst (Select (record { lets = []; body = next_offer_query tree other }) names) db params found
-      → found ≡ option_map told_offer (next_offer l.records id)
+      → found ≡ option_map shown_offer (next_offer l.records id)
   gets_next_offer tallied found shown =
       first_row (Select (record { lets = []; body = next_offer_query tree other }) names) db params _ (λ rows shows. ap (λ (r : List Row). slice_get r 0)
       (within_in_order row (λ n x. refl) tree other next_group next_action next_columns (lit (Int (pos 1))) (lit (Int (pos 0))) params db.trees

@@ -5,10 +5,10 @@ use Rattle.desk_records.proofs.Common.{ints, Value, Null, Int, Real, Text, Blob,
 use Rattle.desk_records.proofs.Common.{is_true, Compare, Eq, Binary, passes, number_limit, is_number, has_at, is_number_of, and-true}
 use Rattle.sqlite_sql.specs.Ops.{binary}
 use Rattle.rollout_model.specs.Rules.{number_of}
-use Rattle.desk_records.specs.ArtifactRow.{small_number}
 use Rattle.desk_records.specs.Codes.{coded_in, number_in}
 use Rattle.desk_records.proofs.Comparisons.{judged}
 use Rattle.desk_records.proofs.MeaningWords.{at_key}
+use Rattle.desk_records.specs.Columns.{small_number}
 
 -- ---- one number
 

@@ -4,7 +4,7 @@ use Rattle.desk_records.proofs.Common.{Some, None, option_map, refl, sym, ap, �
 use Rattle.desk_records.proofs.Common.{lit, first_taken, rows_from, ShowsFirst, numbers_numbered, told_number, HoldsLedger, Ledger, Numbers, PlacedNumber}
 use Rattle.sqlite.specs.Effect.{Reads as Shows}
 use Rattle.desk_records.specs.FeedbackNumbers.{last_number}
-use Rattle.desk_records.specs.declared.number_row.LastNumber.{LastNumber}
+use Rattle.desk_records.specs.ReadRows.{shown_last_number}
 use Rattle.desk_records.proofs.ActionMeaning.{last_number_columns, last_number_query, list_numbers_query, number_columns}
 use Rattle.desk_records.proofs.PartReads.{reads_listed, unplaced}
 use Rattle.desk_records.proofs.TargetRecords.{first_row}
@@ -36,21 +36,17 @@ last_row f n y (z ∷ ys) = let at : (n + 1) + length ys ≡ n + suc (length ys)
 
 -- ---- what is shown
 
--- of the last number, with its place
-abbrev pub told_last : LastNumber → Row
-told_last last = Int (pos last.it.sequence) ∷ Int (pos last.it.number) ∷ Int (pos last.place) ∷ []
-
 abbrev told_at : ℕ → PlacedNumber → Row
-told_at place it = told_last (record { place = place; it = it })
+told_at place it = shown_last_number (record { place = place; it = it })
 
-last_told : (its : List PlacedNumber) → slice_get (take 1 (reverse (rows_from told_at 1 its))) 0 ≡ option_map told_last (last_number its)
+last_told : (its : List PlacedNumber) → slice_get (take 1 (reverse (rows_from told_at 1 its))) 0 ≡ option_map shown_last_number (last_number its)
 last_told its = first_taken _ ∙ first_turned (rows_from told_at 1 its) ∙ go its
   where
-    told : (n : ℕ) (o : Option PlacedNumber) → option_map (told_at n) o ≡ option_map told_last (option_map (λ it. record { place = n; it = it }) o)
+    told : (n : ℕ) (o : Option PlacedNumber) → option_map (told_at n) o ≡ option_map shown_last_number (option_map (λ it. record { place = n; it = it }) o)
     told n None = refl
     told n (Some it) = refl
 
-    go : (l : List PlacedNumber) → last_or None (rows_from told_at 1 l) ≡ option_map told_last (last_number l)
+    go : (l : List PlacedNumber) → last_or None (rows_from told_at 1 l) ≡ option_map shown_last_number (last_number l)
     go [] = refl
     go (it ∷ more) = let at : 1 + length more ≡ suc (length more) = omega arith in last_row told_at 1 it more
         ∙ ap (λ n. option_map (told_at n) (last_or (Some it) more)) at ∙ told (suc (length more)) (last_or (Some it) more)
@@ -69,7 +65,7 @@ module _ (db : Database) (l : Ledger) (holds : HoldsLedger db l) (names : List (
 
   -- the last one
   pub lasts_number : (number : ℕ) → 1 ≤ number → (row : Option Row) → ShowsFirst (Select (record { lets = []; body = last_number_query tree }) names) db
-      (Int (pos number) ∷ []) row → row ≡ option_map told_last (last_number (numbers_numbered l.numbers number))
+      (Int (pos number) ∷ []) row → row ≡ option_map shown_last_number (last_number (numbers_numbered l.numbers number))
   lasts_number number least row shown =
       first_row (Select (record { lets = []; body = last_number_query tree }) names) db (Int (pos number) ∷ []) _
       (λ rows shows. ap (λ (r : List Row). slice_get r 0)

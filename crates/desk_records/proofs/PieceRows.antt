@@ -2,7 +2,7 @@
 use Rattle.desk_records.proofs.Common.{◌≡◌, ℕ, pos, true, List, [], ◌∷◌, refl, AllZip, and_parts, Null, Int, Row, column, Select, Database, Query, col, Has}
 use Rattle.desk_records.proofs.Common.{passes, simple, Bytes, ArePieces, lies_at, has_at, Pieces, IsPiece, HoldsTables, Tables}
 use Rattle.sqlite.specs.Effect.{Reads as Shows}
-use Rattle.desk_records.specs.ArtifactRow.{StoredBytes}
+use Rattle.desk_records.specs.Columns.{StoredBytes}
 use Rattle.desk_records.proofs.AnyRows.{are_said}
 use Rattle.desk_records.proofs.ArtifactMeaning.{at_piece}
 use Rattle.desk_records.proofs.NumberColumns.{number_is}

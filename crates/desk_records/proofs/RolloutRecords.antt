@@ -1,10 +1,10 @@
 -- What is read of rollouts and groups, where a ledger is held.
-use Rattle.desk_records.proofs.Common.{◌≡◌, ◌≤◌, ◌&&◌, ℕ, ◌+◌, pos, negsuc, List, [], ◌∷◌, map, filter, take, drop, find, length, slice_get, Bool, true, false}
-use Rattle.desk_records.proofs.Common.{cond, Option, Some, option_map, refl, ap, ◌∙◌, arith, nat_eq, nat_le, nat_lt, list_any, is_some, take-map, nat_tests}
-use Rattle.desk_records.proofs.Common.{Null, Int, Text, Row, Term, lit, col, Select, Database, rows_from, ShowsFirst, on_content, simple, passes, shown_of}
-use Rattle.desk_records.proofs.Common.{GroupRule, item_numbered, Bytes, holds_position, GroupRecord, RolloutRecord, IsLastRow, Rollouts, Groups, Members}
-use Rattle.desk_records.proofs.Common.{Rules, parts_of, is_called, rollout_row, told_rollout, group_row, told_group, numbered_from, groups_of, member_row}
-use Rattle.desk_records.proofs.Common.{members_of, rule_numbered, rules_numbered, that_reach, told_rule, HoldsLedger, Ledger, and-true}
+use Rattle.desk_records.proofs.Common.{◌≡◌, ◌≤◌, ◌&&◌, ℕ, ◌+◌, pos, negsuc, List, [], ◌∷◌, map, filter, take, drop, find, length, slice_get, Bool, true}
+use Rattle.desk_records.proofs.Common.{false, cond, Option, Some, option_map, refl, ap, ◌∙◌, arith, nat_eq, nat_le, nat_lt, list_any, is_some, take-map}
+use Rattle.desk_records.proofs.Common.{nat_tests, Null, Int, Text, Row, Term, lit, col, Select, Database, rows_from, ShowsFirst, on_content, simple, passes}
+use Rattle.desk_records.proofs.Common.{shown_of, GroupRule, item_numbered, Bytes, holds_position, GroupRecord, RolloutRecord, IsLastRow, Rollouts, Groups}
+use Rattle.desk_records.proofs.Common.{Members, Rules, parts_of, is_called, rollout_row, told_rollout, group_row, told_group, numbered_from, groups_of}
+use Rattle.desk_records.proofs.Common.{member_row, members_of, rule_numbered, rules_numbered, that_reach, told_rule, HoldsLedger, Ledger, and-true}
 use Rattle.sqlite.specs.Effect.{Reads as Shows}
 use Rattle.rollout_machine.specs.StateWords.{group_numbered, group_holding}
 use Rattle.desk_records.proofs.Comparisons.{numbers_above, numbers_equal, numbers_at_least, numbers_at_most, words_equal}
@@ -16,6 +16,7 @@ use Rattle.desk_records.proofs.NumberedReads.{finds, gets, lasts, passes_number}
 use Rattle.desk_records.proofs.PartReads.{later_shown, reads_listed, reads_parts, unplaced}
 use Rattle.desk_records.proofs.PlacedParts.{gets_part}
 use Rattle.desk_records.proofs.TargetRecords.{first_row}
+use Rattle.desk_records.specs.ReadRows.{shown_group}
 
 same : (n : ℕ) → nat_eq n n ≡ true
 same n = grind (arith, nat_tests)
@@ -46,10 +47,6 @@ module _ (db : Database) (l : Ledger) (holds : HoldsLedger db l) (names : List (
       (passes_number rollout_row (λ n x. refl))
 
 -- ---- groups
-
--- what is read of a group: its number, and what is told of it
-abbrev pub shown_group : GroupRecord → Row
-shown_group g = Int (pos g.number) ∷ told_group g
 
 shown_groups : (rollout : ℕ) (test : List Term) (params : Row) (wanted : GroupRecord → Bool)
     → ((place : ℕ) (g : GroupRecord) → on_content (passes test params) (group_row rollout place g) ≡ wanted (record g { number = place }))

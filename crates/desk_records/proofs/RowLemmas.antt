@@ -6,7 +6,7 @@ use Rattle.sqlite.specs.declared.error.Error.{Error}
 use Rattle.sqlite.specs.declared.error.Error.TheVariants.{SqliteFailure}
 use Rattle.sqlite.specs.declared.error.ErrorCode.{ErrorCode}
 use Rattle.sqlite.specs.declared.error.ErrorCode.TheVariants.{OutOfMemory}
-use Rattle.desk_records.specs.declared.module_row.Column.{Column}
+use Rattle.desk_records.specs.declared.table_columns.Column.{Column}
 use Rattle.desk_records.specs.declared.module_row.RowFault.TheVariants.{Memory, Broken}
 
 unread_text : (t : List ℕ) → ((s : List ℕ) × (Text t ≡ Text s) × IsUtf8 s → ⊥) → is_text t ≡ false

@@ -1,5 +1,5 @@
 -- Actions in records and in rows.
-use Rattle.std.specs.Prelude.{ℕ, List, [], ◌∷◌, ◌++◌, length, Option, Some, None, pos}
+use Rattle.std.specs.Prelude.{ℕ, List, [], ◌∷◌, ◌++◌, length, Option, pos}
 use Rattle.std.specs.List.{flat_map}
 use Rattle.sqlite_value.specs.declared.value.Value.TheVariants.{Null, Int, Text}
 use Rattle.sqlite_value.specs.Order.{Row}
@@ -9,12 +9,10 @@ use Rattle.rollout_machine.specs.Commands.{Noted, ClosedCancel, CanceledCancel, 
 use Rattle.rollout_machine.specs.Reports.{HistoryEntry, Said, OfDeployment, OfCancel, entries_in}
 use Rattle.rollout_machine.specs.StateWords.{member_at}
 use Rattle.rollout_machine.specs.Verdicts.{notes_of}
-use Rattle.rollout_machine.specs.declared.outcome.Outcome.{Outcome}
-use Rattle.rollout_machine.specs.declared.outcome.Outcome.TheVariants.{Good, Bad, Gone}
 use Rattle.rollout_machine.specs.declared.records.ActionRecord.{ActionRecord}
 use Rattle.rollout_machine.specs.declared.records.RolloutRecord.{RolloutRecord}
 use Rattle.desk_records.specs.Parts.{part_row, parts_of}
-use Rattle.desk_records.specs.Rollouts.{flag}
+use Rattle.desk_records.specs.Codes.{flag, outcome_code}
 
 -- ---- what is kept beside an action
 
@@ -27,13 +25,6 @@ abbrev pub tally_of : ActionRecord → Tally
 tally_of a = record { notes = notes_of a; entries = length a.history }
 
 -- ---- the rows
-
--- 0 while it is open
-abbrev pub outcome_code : Option Outcome → ℕ
-outcome_code None = 0
-outcome_code (Some Good) = 1
-outcome_code (Some Bad) = 2
-outcome_code (Some Gone) = 3
 
 -- the id of the target that is to act
 abbrev pub actor_of : List RolloutRecord → ActionRecord → Bytes

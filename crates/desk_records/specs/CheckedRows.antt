@@ -4,27 +4,25 @@ use Rattle.std.specs.Option.{is_none, option_and_then, option_map}
 use Rattle.sqlite_value.specs.declared.value.Value.{Value}
 use Rattle.sqlite_value.specs.declared.value.Value.TheVariants.{Int, Text}
 use Rattle.sqlite_value.specs.Order.{Row, column}
-use Rattle.desk_records.specs.ArtifactRow.{IsStoredRow, broken_stored_column, small_number}
 use Rattle.desk_records.specs.Codes.{outcome_in}
-use Rattle.desk_records.specs.RolloutRow.{IsOfferRow, broken_listed_action_column, broken_offer_column}
-use Rattle.desk_records.specs.SetRow.{has_number}
-use Rattle.desk_records.specs.TargetRow.{has_word}
+use Rattle.desk_records.specs.Columns.{has_number, has_word, small_number}
+use Rattle.desk_records.specs.ReadRows.{IsOfferRow, IsStoredArtifactRow, broken_listed_action_column, broken_offer_column, broken_stored_artifact_column}
 use Rattle.desk_records.specs.declared.checked_rows.CheckedArtifact.{CheckedArtifact}
 use Rattle.desk_records.specs.declared.checked_rows.CountedAction.{CountedAction}
 use Rattle.desk_records.specs.declared.checked_rows.OwnedOffer.{OwnedOffer}
-use Rattle.desk_records.specs.declared.module_row.Column.{Column}
-use Rattle.desk_records.specs.declared.module_row.Column.TheVariants as rule
+use Rattle.desk_records.specs.declared.table_columns.Column.{Column}
+use Rattle.desk_records.specs.declared.table_columns.Column.TheVariants as rule
 
 -- ---- the row of module, filename, size, digest and number
 
 pub record IsCheckedArtifactRow (row : Row) (a : CheckedArtifact) : Type 0 where
-  pub artifact : IsStoredRow row a.artifact
-  pub kept : broken_stored_column row ≡ None
+  pub artifact : IsStoredArtifactRow row a.artifact
+  pub kept : broken_stored_artifact_column row ≡ None
   pub number : column row 4 ≡ Int (pos a.number)
   pub good : has_number (column row 4) ≡ true
 
 abbrev pub keeps_artifact_rules : Row → Bool
-keeps_artifact_rules row = is_none (broken_stored_column row) && has_number (column row 4)
+keeps_artifact_rules row = is_none (broken_stored_artifact_column row) && has_number (column row 4)
 
 -- ---- the row of action, kind and id
 

@@ -8,8 +8,8 @@ use Rattle.rollout_machine.specs.declared.outcome.Outcome.TheVariants.{Good, Bad
 use Rattle.rollout_model.specs.Rules.{number_of, feedback_number_of, group_count_of, percentage_of}
 use Rattle.rollout_model.specs.declared.approval.Approval.{Approval}
 use Rattle.rollout_model.specs.declared.approval.Approval.TheVariants.{Waiting, Denied, Given}
-use Rattle.desk_records.specs.ArtifactRow.{small_number}
-use Rattle.desk_records.specs.declared.module_row.Column.{Column}
+use Rattle.desk_records.specs.Columns.{small_number}
+use Rattle.desk_records.specs.declared.table_columns.Column.{Column}
 
 -- ---- the codes
 
@@ -18,6 +18,21 @@ flag_of n = if nat_eq n 0 then Some false else (if nat_eq n 1 then Some true els
 
 abbrev pub approval_from : ℕ → Option Approval
 approval_from n = if nat_eq n 0 then Some Waiting else (if nat_eq n 1 then Some Given else (if nat_eq n 2 then Some Denied else None))
+
+abbrev pub flag : Bool → ℕ
+flag b = if b then 1 else 0
+
+abbrev pub approval_code : Approval → ℕ
+approval_code Waiting = 0
+approval_code Given = 1
+approval_code Denied = 2
+
+-- 0 while it is open
+abbrev pub outcome_code : Option Outcome → ℕ
+outcome_code None = 0
+outcome_code (Some Good) = 1
+outcome_code (Some Bad) = 2
+outcome_code (Some Gone) = 3
 
 -- None in Some is open
 abbrev pub outcome_from : ℕ → Option (Option Outcome)

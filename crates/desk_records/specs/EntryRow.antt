@@ -9,11 +9,11 @@ use Rattle.rollout_machine.specs.Commands.{Bytes, DeploymentWord, CancelWord, Pr
 use Rattle.rollout_machine.specs.Commands.{ClosedCancel, CanceledCancel, RejectedCancel, NotedCancel}
 use Rattle.rollout_model.specs.Rules.{are_details}
 use Rattle.desk_records.specs.Actions.{lines_of}
-use Rattle.desk_records.specs.ArtifactRow.{has_size}
+use Rattle.desk_records.specs.Columns.{has_size}
 use Rattle.desk_records.specs.Codes.{coded_in, first_broken, flag_in}
 use Rattle.desk_records.specs.declared.entry_row.SequencedEntry.{SequencedEntry}
-use Rattle.desk_records.specs.declared.module_row.Column.{Column}
-use Rattle.desk_records.specs.declared.module_row.Column.TheVariants as rule
+use Rattle.desk_records.specs.declared.table_columns.Column.{Column}
+use Rattle.desk_records.specs.declared.table_columns.Column.TheVariants as rule
 
 abbrev pub deployment_from : ℕ → Option DeploymentWord
 deployment_from n = if nat_eq n 0 then Some (Noted Proceeding) else

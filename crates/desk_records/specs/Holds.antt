@@ -21,7 +21,8 @@ use Rattle.desk_records.specs.Artifacts.{artifact_row, piece_rows_from}
 use Rattle.desk_records.specs.FeedbackNumbers.{number_rows, numbers_of}
 use Rattle.desk_records.specs.Offers.{HoldsOffers}
 use Rattle.desk_records.specs.Parts.{parts_from}
-use Rattle.desk_records.specs.Rollouts.{flag, rollout_row, members_from, groups_from, rules_from}
+use Rattle.desk_records.specs.Rollouts.{rollout_row, members_from, groups_from, rules_from}
+use Rattle.desk_records.specs.Codes.{flag}
 use Rattle.desk_records.specs.Sets.{set_row, place_rows_from}
 use Rattle.desk_records.specs.Versions.{newest, version_number}
 use Rattle.desk_records.specs.declared.number_row.PlacedNumber.{PlacedNumber}

@@ -18,9 +18,9 @@ pub mod Actions
 pub mod NewEntries
 pub mod Offers
 pub mod Codes
+pub mod Columns
+pub mod ReadRows
 pub mod RolloutRow
-pub mod RuleRow
-pub mod NumberRow
 pub mod LedgerSteps
 pub mod EntryRow
 pub mod NextOffers

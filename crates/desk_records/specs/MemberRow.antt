@@ -2,8 +2,7 @@
 use Rattle.std.specs.Prelude.{◌≡◌, Bool, true, ◌&&◌, Some}
 use Rattle.sqlite_value.specs.declared.value.Value.TheVariants.{Text}
 use Rattle.sqlite_value.specs.Order.{Row, column}
-use Rattle.desk_records.specs.ArtifactRow.{has_size, small_number}
-use Rattle.desk_records.specs.TargetRow.{has_word}
+use Rattle.desk_records.specs.Columns.{has_size, has_word, small_number}
 use Rattle.desk_records.specs.declared.member_row.PlacedMember.{PlacedMember}
 
 -- the row of id and place

@@ -7,7 +7,7 @@ use Rattle.rollout_machine.specs.ByteStrings.{same_bytes}
 use Rattle.rollout_machine.specs.Commands.{Bytes}
 use Rattle.rollout_machine.specs.Kinds.{TargetOffer, offer_to}
 use Rattle.rollout_model.specs.declared.rollout.Offer.{Offer}
-use Rattle.desk_records.specs.Rollouts.{flag}
+use Rattle.desk_records.specs.Codes.{flag}
 
 -- of what a target is offered: an action, to deploy or to cancel
 abbrev pub offer_row : TargetOffer → Row

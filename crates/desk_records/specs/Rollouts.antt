@@ -1,5 +1,5 @@
 -- Rollouts in records and in rows.
-use Rattle.std.specs.Prelude.{ℕ, ◌+◌, Bool, if◌then◌else◌, nat_le, List, ◌∷◌, [], filter, Option, pos}
+use Rattle.std.specs.Prelude.{ℕ, ◌+◌, Bool, nat_le, List, ◌∷◌, [], filter, Option, pos}
 use Rattle.sqlite_value.specs.declared.value.Value.TheVariants.{Null, Int, Text}
 use Rattle.sqlite_value.specs.Order.{Row}
 use Rattle.sqlite.specs.Values.{or_null}
@@ -8,17 +8,8 @@ use Rattle.rollout_machine.specs.Commands.{Bytes}
 use Rattle.rollout_machine.specs.declared.records.GroupRecord.{GroupRecord}
 use Rattle.rollout_machine.specs.declared.records.RolloutRecord.{RolloutRecord}
 use Rattle.rollout_model.specs.declared.group_rule.GroupRule.{GroupRule}
-use Rattle.rollout_model.specs.declared.approval.Approval.{Approval}
-use Rattle.rollout_model.specs.declared.approval.Approval.TheVariants.{Waiting, Denied, Given}
+use Rattle.desk_records.specs.Codes.{approval_code, flag}
 use Rattle.desk_records.specs.Parts.{listed_parts, part_row, parts_from, parts_numbered, parts_of}
-
-abbrev pub flag : Bool → ℕ
-flag b = if b then 1 else 0
-
-abbrev pub approval_code : Approval → ℕ
-approval_code Waiting = 0
-approval_code Given = 1
-approval_code Denied = 2
 
 -- what is told of a rollout; its members and groups lie in the other tables
 abbrev pub told_rollout : RolloutRecord → Row

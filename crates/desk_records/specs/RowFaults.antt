@@ -2,9 +2,9 @@
 use Rattle.std.specs.Prelude.{◌≡◌, Option, Some}
 use Rattle.sql_calls.specs.declared.fault.Fault.{Fault}
 use Rattle.sql_calls.specs.declared.fault.Fault.TheVariants.{Broken, Memory, Store}
-use Rattle.desk_records.specs.declared.module_row.Column.{Column}
 use Rattle.desk_records.specs.declared.module_row.RowFault.{RowFault}
 use Rattle.desk_records.specs.declared.module_row.RowFault.TheVariants as row
+use Rattle.desk_records.specs.declared.table_columns.Column.{Column}
 
 -- a row that breaks a column's rule is broken: it isn't what was written
 abbrev pub fault_of_row : RowFault → Fault

@@ -6,49 +6,28 @@ use Rattle.rollout_machine.specs.Reports.{HistoryEntry}
 use Rattle.rollout_machine.specs.Commands.{Bytes}
 use Rattle.rollout_machine.specs.declared.records.GroupRecord.{GroupRecord}
 use Rattle.rollout_model.specs.declared.rollout.Offer.{Offer}
-use Rattle.desk_records.specs.ArtifactRow.{IsStoredRow, broken_stored_column, has_size, small_number}
 use Rattle.desk_records.specs.Codes.{number_in}
+use Rattle.desk_records.specs.Columns.{has_size, has_word, small_number}
 use Rattle.desk_records.specs.EntryRow.{IsEntryRow}
-use Rattle.desk_records.specs.RolloutRow.{IsActionRow, IsGroupRow, IsOfferRow, IsRolloutRow, broken_group_column}
-use Rattle.desk_records.specs.TargetRow.{has_word}
+use Rattle.desk_records.specs.ReadRows.{IsStoredActionRow, IsGroupRow, IsOfferRow, IsStoredRolloutRow, IsStoredArtifactRow, broken_group_column}
+use Rattle.desk_records.specs.ReadRows.{broken_stored_artifact_column}
+use Rattle.desk_records.specs.ReadRows.{columns_of_stored_action, columns_of_stored_artifact, columns_of_group, columns_of_offer, columns_of_stored_rollout}
 use Rattle.desk_records.specs.declared.artifact_row.StoredArtifact.{StoredArtifact}
 use Rattle.desk_records.specs.declared.rollout_row.StoredAction.{StoredAction}
 use Rattle.desk_records.specs.declared.rollout_row.StoredRollout.{StoredRollout}
 
 -- ---- what is shown of a row
 
-abbrev pub columns_of_artifact : Row → Row
-columns_of_artifact row = column row 2 ∷ column row 3 ∷ column row 4 ∷ column row 5 ∷ column row 0 ∷ []
-
-abbrev pub columns_of_rollout : Row → Row
-columns_of_rollout row = column row 2 ∷ column row 3 ∷ column row 4 ∷ column row 5 ∷ column row 6 ∷ column row 7 ∷ column row 8 ∷ column row 9
-    ∷ column row 10 ∷ []
-
-abbrev pub columns_of_group : Row → Row
-columns_of_group row = column row 2 ∷ column row 3 ∷ column row 4 ∷ column row 5 ∷ column row 6 ∷ column row 7 ∷ column row 8 ∷ []
-
-abbrev pub columns_of_rule : Row → Row
-columns_of_rule row = column row 3 ∷ column row 4 ∷ column row 5 ∷ []
-
-abbrev pub columns_of_action : Row → Row
-columns_of_action row = column row 2 ∷ column row 3 ∷ column row 4 ∷ column row 5 ∷ column row 6 ∷ column row 7 ∷ column row 8 ∷ column row 0 ∷ []
-
 abbrev pub columns_of_entry : Row → Row
 columns_of_entry row = column row 3 ∷ column row 4 ∷ column row 5 ∷ []
-
-abbrev pub columns_of_number : Row → Row
-columns_of_number row = column row 3 ∷ column row 4 ∷ []
-
-abbrev pub columns_of_offer : Row → Row
-columns_of_offer row = column row 2 ∷ column row 3 ∷ column row 1 ∷ []
 
 -- ---- what it says
 
 -- the artifact of a number
 pub record IsArtifact (row : Row) (number : ℕ) (a : StoredArtifact) : Type 0 where
   pub number_is : number_in (column row 0) ≡ Some number
-  pub shows : IsStoredRow (columns_of_artifact row) a
-  pub kept : broken_stored_column (columns_of_artifact row) ≡ None
+  pub shows : IsStoredArtifactRow (columns_of_stored_artifact row) a
+  pub kept : broken_stored_artifact_column (columns_of_stored_artifact row) ≡ None
 
 -- the piece of an artifact at a place of the sequence
 pub record IsPiece (row : Row) (number sequence : ℕ) (bytes : Bytes) : Type 0 where
@@ -57,7 +36,7 @@ pub record IsPiece (row : Row) (number sequence : ℕ) (bytes : Bytes) : Type 0 
   pub bytes_are : column row 3 ≡ Blob bytes
 
 abbrev pub IsRollout : Row → StoredRollout → Type 0
-IsRollout row x = IsRolloutRow (columns_of_rollout row) x
+IsRollout row x = IsStoredRolloutRow (columns_of_stored_rollout row) x
 
 -- a member of a rollout, at its place
 pub record IsMember (row : Row) (rollout place : ℕ) (id : Bytes) : Type 0 where
@@ -75,7 +54,7 @@ pub record IsGroup (row : Row) (rollout : ℕ) (g : GroupRecord) : Type 0 where
 -- The action of a number. Its count of entries is a whole number of any size, since nothing limits a history.
 pub record IsAction (row : Row) (number : ℕ) (a : StoredAction) : Type 0 where
   pub number_is : number_in (column row 0) ≡ Some number
-  pub shows : IsActionRow (columns_of_action row) a
+  pub shows : IsStoredActionRow (columns_of_stored_action row) a
   pub place : has_size (column row 3) ≡ true
   pub word : has_word (column row 4) ≡ true
   pub notes : has_size (column row 7) ≡ true

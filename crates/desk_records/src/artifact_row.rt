@@ -1,14 +1,12 @@
 //! The rows of artifacts and of their pieces.
 
-ghost use Rattle.std.specs.Prelude.{◌≡◌, ◌⊎◌, IfOk, IfErr, true, false, None, Some};
+ghost use Rattle.std.specs.Prelude.{◌≡◌, ◌⊎◌, IfOk, IfErr, true, false};
 ghost use Rattle.sqlite_value.specs.Order.{column};
-ghost use Rattle.desk_records.specs.ModuleRow.{StoredText};
-ghost use Rattle.desk_records.specs.SetRow.{StoredNumber, has_number};
-ghost use Rattle.desk_records.specs.ArtifactRow.{IsStoredRow, IsArtifactRow, StoredBytes, small_number, has_filename, has_size, has_digest};
-ghost use Rattle.desk_records.specs.ArtifactRow.{has_bytes, broken_stored_column, broken_artifact_column};
+ghost use Rattle.desk_records.specs.Columns.{StoredBytes, StoredNumber, StoredText, has_bytes, has_digest, has_filename, has_number, has_size, small_number};
 
-use crate::module_row::{Column, RowFault, row_fault};
-use rollout_model::{Artifact, ArtifactNo, Digest, Filename, ModuleNo};
+use crate::module_row::{RowFault, row_fault};
+use crate::table_columns::Column;
+use rollout_model::{Digest, Filename, ModuleNo, Number};
 use sqlite::Row;
 use sqlite_value::value::ValueRef;
 use std::str;
@@ -24,41 +22,6 @@ pub struct StoredArtifact {
     pub digest: Digest,
 }
 
-/// The artifact in a row of module, filename, size and digest. Takes no memory.
-pub fn read_stored_artifact(row: &Row) -> Result<StoredArtifact, RowFault>
-    ensures ok { IfOk result (IsStoredRow row.now) }
-    ensures kept { IfOk result (λ it. broken_stored_column row.now ≡ None) }
-    ensures err { IfErr result (λ e. (c : _) × (e ≡ RowFault.Broken c) × (broken_stored_column row.now ≡ Some c)) }
-{
-    let module_number = module_at(row, 0)?;
-    let filename = filename_at(row, 1)?;
-    let size = size_at(row, 2)?;
-    let digest = digest_at(row, 3, Column::ArtifactDigest)?;
-    Ok(StoredArtifact {
-        module_number,
-        filename,
-        size,
-        digest,
-    })
-}
-
-/// The artifact in a row of number, filename, size and digest. Takes no memory.
-pub fn read_artifact(row: &Row) -> Result<Artifact, RowFault>
-    ensures ok { IfOk result (IsArtifactRow row.now) }
-    ensures err { IfErr result (λ e. (c : _) × (e ≡ RowFault.Broken c) × (broken_artifact_column row.now ≡ Some c)) }
-{
-    let number = artifact_at(row, 0)?;
-    let filename = filename_at(row, 1)?;
-    let size = size_at(row, 2)?;
-    let digest = digest_at(row, 3, Column::ArtifactDigest)?;
-    Ok(Artifact {
-        number,
-        filename,
-        size,
-        digest,
-    })
-}
-
 /// The bytes in a row of a piece.
 pub fn read_piece(row: &Row) -> Result<Vec<u8>, RowFault>
     ensures ok { IfOk result (λ bytes. column row.now 0 ≡ StoredBytes bytes.items) }
@@ -70,33 +33,28 @@ pub fn read_piece(row: &Row) -> Result<Vec<u8>, RowFault>
     }
 }
 
-fn module_at(row: &Row, at: usize) -> Result<ModuleNo, RowFault>
+/// The number of a module or of an artifact in a column.
+pub(crate) fn own_number_at<Kind>(
+    row: &Row,
+    at: usize,
+    at_column: Column,
+) -> Result<Number<Kind>, RowFault>
     ensures ok { IfOk result (λ number. column row.now at ≡ StoredNumber number) }
     ensures kept { IfOk result (λ number. has_number (column row.now at) ≡ true) }
-    ensures err { IfErr result (λ e. (e ≡ RowFault.Broken Column.ArtifactModule) × (has_number (column row.now at) ≡ false)) }
+    ensures err { IfErr result (λ e. (e ≡ RowFault.Broken at_column) × (has_number (column row.now at) ≡ false)) }
 {
-    let broken = RowFault::Broken(Column::ArtifactModule);
+    let broken = RowFault::Broken(at_column);
     let number = number_at(row, at).ok_or(broken)?;
-    ModuleNo::new(number).ok_or(broken)
+    Number::new(number).ok_or(broken)
 }
 
-/// The number of an artifact in a column.
-pub(crate) fn artifact_at(row: &Row, at: usize) -> Result<ArtifactNo, RowFault>
-    ensures ok { IfOk result (λ number. column row.now at ≡ StoredNumber number) }
-    ensures kept { IfOk result (λ number. has_number (column row.now at) ≡ true) }
-    ensures err { IfErr result (λ e. (e ≡ RowFault.Broken Column.ArtifactNumber) × (has_number (column row.now at) ≡ false)) }
-{
-    let broken = RowFault::Broken(Column::ArtifactNumber);
-    let number = number_at(row, at).ok_or(broken)?;
-    ArtifactNo::new(number).ok_or(broken)
-}
-
-fn filename_at(row: &Row, at: usize) -> Result<Filename, RowFault>
+/// The filename in a column.
+pub(crate) fn filename_at(row: &Row, at: usize, at_column: Column) -> Result<Filename, RowFault>
     ensures ok { IfOk result (λ filename. column row.now at ≡ StoredText filename) }
     ensures kept { IfOk result (λ filename. has_filename (column row.now at) ≡ true) }
-    ensures err { IfErr result (λ e. (e ≡ RowFault.Broken Column.ArtifactFilename) × (has_filename (column row.now at) ≡ false)) }
+    ensures err { IfErr result (λ e. (e ≡ RowFault.Broken at_column) × (has_filename (column row.now at) ≡ false)) }
 {
-    let broken = RowFault::Broken(Column::ArtifactFilename);
+    let broken = RowFault::Broken(at_column);
     let Ok(ValueRef::Text(text)) = row.get_ref(at) else {
         return Err(broken);
     };
@@ -106,12 +64,13 @@ fn filename_at(row: &Row, at: usize) -> Result<Filename, RowFault>
     Filename::read(text).ok_or(broken)
 }
 
-fn size_at(row: &Row, at: usize) -> Result<u32, RowFault>
+/// The number of 32 bits in a column that has one.
+pub(crate) fn size_at(row: &Row, at: usize, at_column: Column) -> Result<u32, RowFault>
     ensures ok { IfOk result (λ size. column row.now at ≡ StoredNumber size) }
     ensures kept { IfOk result (λ size. has_size (column row.now at) ≡ true) }
-    ensures err { IfErr result (λ e. (e ≡ RowFault.Broken Column.ArtifactSize) × (has_size (column row.now at) ≡ false)) }
+    ensures err { IfErr result (λ e. (e ≡ RowFault.Broken at_column) × (has_size (column row.now at) ≡ false)) }
 {
-    number_at(row, at).ok_or(RowFault::Broken(Column::ArtifactSize))
+    number_at(row, at).ok_or(RowFault::Broken(at_column))
 }
 
 /// The digest in a column.

@@ -2,13 +2,14 @@
 
 ghost use Rattle.std.specs.Prelude.{◌≡◌, IfNone, IfSome, Some, false};
 ghost use Rattle.sqlite_value.specs.Order.{column};
-ghost use Rattle.desk_records.specs.CheckedRows.{IsCheckedArtifactRow, IsOwnedOfferRow, counted_of};
-ghost use Rattle.desk_records.specs.CheckedRows.{are_entries, is_too_long, is_wide, keeps_artifact_rules, keeps_offer_rules};
+ghost use Rattle.desk_records.specs.CheckedRows.{IsCheckedArtifactRow, IsOwnedOfferRow, counted_of, are_entries, is_too_long, is_wide, keeps_artifact_rules};
+ghost use Rattle.desk_records.specs.CheckedRows.{keeps_offer_rules};
 
-use crate::artifact_row::{StoredArtifact, artifact_at, number_at, read_stored_artifact};
+use crate::artifact_row::{StoredArtifact, number_at, own_number_at};
 use crate::codes::outcome_at;
-use crate::module_row::{Column, RowFault};
-use crate::rollout_row::{read_listed_action, read_offer};
+use crate::module_row::RowFault;
+use crate::read_rows::{read_listed_action, read_offer, read_stored_artifact};
+use crate::table_columns::Column;
 use crate::target_row::id_at;
 use rollout_machine::Outcome;
 use rollout_model::{ArtifactNo, ControllerId, Offer};
@@ -44,7 +45,7 @@ pub fn read_checked_artifact(row: &Row) -> Option<CheckedArtifact>
     let Ok(artifact) = read_stored_artifact(row) else {
         return None;
     };
-    let Ok(number) = artifact_at(row, 4) else {
+    let Ok(number) = own_number_at(row, 4, Column::ArtifactNumber) else {
         return None;
     };
     Some(CheckedArtifact { number, artifact })
@@ -58,7 +59,7 @@ pub fn read_owned_offer(row: &Row) -> Option<OwnedOffer>
     let Ok(offer) = read_offer(row) else {
         return None;
     };
-    let Ok(id) = id_at(row, 2) else {
+    let Ok(id) = id_at(row, 2, Column::TargetId) else {
         return None;
     };
     Some(OwnedOffer { id, offer })

@@ -5,7 +5,8 @@ ghost use Rattle.sqlite_value.specs.Order.{column};
 ghost use Rattle.desk_records.specs.Codes.{flag_in};
 
 use crate::codes::flag_at;
-use crate::module_row::{Column, RowFault};
+use crate::module_row::RowFault;
+use crate::table_columns::Column;
 use sqlite::Row;
 
 /// Whether rollouts wait for approval, in the row of format, version and approval. Takes no memory.

@@ -6,11 +6,12 @@ ghost use Rattle.desk_records.specs.Actions.{lines_of};
 ghost use Rattle.rollout_model.specs.Rules.{details_of};
 ghost use Rattle.desk_records.specs.EntryRow.{BreaksEntry, BreaksSequenced, HasNoDetails, IsEntryRow, IsSequencedRow};
 ghost use Rattle.desk_records.specs.EntryRow.{broken_word, cancel_in, deployment_in, said_in};
-ghost use Rattle.desk_records.specs.ModuleRow.{StoredText};
+ghost use Rattle.desk_records.specs.Columns.{StoredText};
 
 use crate::artifact_row::number_at;
 use crate::codes::flag_at;
-use crate::module_row::{Column, RowFault};
+use crate::module_row::RowFault;
+use crate::table_columns::Column;
 use rollout_model::limits::DETAIL_LIMIT;
 use rollout_model::{CancelWord, DeploymentWord, Detail, Details, HistoryEntry, NoteWord, Said};
 use sqlite::Row;

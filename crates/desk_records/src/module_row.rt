@@ -1,73 +1,16 @@
-//! A module's row.
+//! Columns with a text, and why a row gives no record.
 
-ghost use Rattle.std.specs.Prelude.{◌≡◌, ◌⊎◌, IfOk, IfErr, true, false, Some};
+ghost use Rattle.std.specs.Prelude.{◌≡◌, ◌⊎◌, IfOk, IfErr, true, false};
 ghost use Rattle.sqlite_value.specs.Order.{column};
-ghost use Rattle.desk_records.specs.ModuleRow.{StoredText, has_text, fault_at, IsLabelRow, broken_column};
+ghost use Rattle.desk_records.specs.Columns.{StoredText, has_text};
+ghost use Rattle.desk_records.specs.ModuleRow.{fault_at};
 ghost use Rattle.desk_records.specs.RowFaults.{fault_of_row};
 
-use rollout_model::{ModuleLabel, Text};
+use crate::table_columns::Column;
+use rollout_model::Text;
 use sql_calls::Fault;
 use sqlite::{Error, ErrorCode, Row};
 use std::alloc::Global;
-
-/// A column that has a rule.
-#[derive(Clone, Copy)]
-pub enum Column {
-    DeskApproval,
-    ModuleName,
-    ModuleType,
-    ModuleVersion,
-    SetName,
-    SetVersion,
-    SetModule,
-    ArtifactNumber,
-    ArtifactModule,
-    ArtifactFilename,
-    ArtifactSize,
-    ArtifactDigest,
-    PieceBytes,
-    TargetId,
-    TargetName,
-    TargetDigest,
-    TargetTag,
-    AttributeKey,
-    AttributeValue,
-    RolloutName,
-    RolloutSet,
-    RolloutFilter,
-    RolloutGroups,
-    RolloutSuccess,
-    RolloutError,
-    RolloutApproval,
-    RolloutStarted,
-    RolloutPaused,
-    GroupNumber,
-    GroupFirst,
-    GroupLast,
-    GroupStarted,
-    GroupOk,
-    GroupBad,
-    GroupGone,
-    RulePercentage,
-    RuleSuccess,
-    RuleError,
-    ActionNumber,
-    ActionRollout,
-    ActionPlace,
-    ActionCanceling,
-    ActionOutcome,
-    ActionNotes,
-    ActionEntries,
-    EntryKind,
-    EntryWord,
-    EntryDetails,
-    EntrySequence,
-    NumberSequence,
-    NumberValue,
-    NumberPlace,
-    OfferAction,
-    OfferKind,
-}
 
 /// Why a row gives no record.
 #[derive(Clone, Copy)]
@@ -85,21 +28,6 @@ pub fn fault_of_row(fault: RowFault) -> Fault
         RowFault::Memory => Fault::Memory,
         RowFault::Broken(_) => Fault::Broken,
     }
-}
-
-/// The module in a row of name, type and version.
-pub fn read_module_label(alloc: Global, row: &Row) -> Result<ModuleLabel, RowFault>
-    ensures ok { IfOk result (IsLabelRow row.now) }
-    ensures err { IfErr result (λ e. (e ≡ RowFault.Memory) ⊎ ((c : _) × (e ≡ RowFault.Broken c) × (broken_column row.now ≡ Some c))) }
-{
-    let name = text_at(alloc, row, 0, Column::ModuleName)?;
-    let kind = text_at(alloc, row, 1, Column::ModuleType)?;
-    let version = text_at(alloc, row, 2, Column::ModuleVersion)?;
-    Ok(ModuleLabel {
-        name,
-        kind,
-        version,
-    })
 }
 
 /// The text of a column, where it keeps the rule of names, kinds and versions.

@@ -1,30 +1,20 @@
 //! The rows of distribution sets.
 
-ghost use Rattle.std.specs.Prelude.{◌≡◌, ◌⊎◌, IfOk, IfErr, false, Some};
+ghost use Rattle.std.specs.Prelude.{◌≡◌, IfOk, IfErr, false};
 ghost use Rattle.sqlite_value.specs.Order.{column};
-ghost use Rattle.desk_records.specs.SetRow.{IsSetNameRow, StoredNumber, has_number, broken_set_column};
+ghost use Rattle.desk_records.specs.Columns.{StoredNumber, has_number};
 
 use crate::artifact_row::number_at;
-use crate::module_row::{Column, RowFault, text_at};
+use crate::module_row::RowFault;
+use crate::table_columns::Column;
 use rollout_model::{ModuleNo, Text};
 use sqlite::Row;
-use std::alloc::Global;
 
 /// How a set is called: no two sets of a desk have the same name and version.
 #[derive(Drop)]
 pub struct SetName {
     pub name: Text,
     pub version: Text,
-}
-
-/// The name and the version in a row of them.
-pub fn read_set_name(alloc: Global, row: &Row) -> Result<SetName, RowFault>
-    ensures ok { IfOk result (IsSetNameRow row.now) }
-    ensures err { IfErr result (λ e. (e ≡ RowFault.Memory) ⊎ ((c : _) × (e ≡ RowFault.Broken c) × (broken_set_column row.now ≡ Some c))) }
-{
-    let name = text_at(alloc, row, 0, Column::SetName)?;
-    let version = text_at(alloc, row, 1, Column::SetVersion)?;
-    Ok(SetName { name, version })
 }
 
 /// The number in a row of a module's number.

@@ -1,14 +1,12 @@
 //! The rows of targets, of their tags and of their attributes.
 
-ghost use Rattle.std.specs.Prelude.{◌≡◌, ◌⊎◌, IfOk, IfErr, true, false, Some};
+ghost use Rattle.std.specs.Prelude.{◌≡◌, ◌⊎◌, IfOk, IfErr, true, false};
 ghost use Rattle.sqlite_value.specs.Order.{column};
-ghost use Rattle.desk_records.specs.ModuleRow.{StoredText};
-ghost use Rattle.desk_records.specs.TargetRow.{IsAttributeRow, IsListedTargetRow, IsTargetRow, broken_attribute_column, broken_listed_column};
-ghost use Rattle.desk_records.specs.TargetRow.{broken_target_column, has_value, has_word};
+ghost use Rattle.desk_records.specs.Columns.{StoredText, has_value, has_word};
 
-use crate::artifact_row::digest_at;
-use crate::module_row::{Column, RowFault, row_fault, text_at};
-use rollout_model::{Attribute, ControllerId, Digest, Text, Value, Word};
+use crate::module_row::{RowFault, row_fault};
+use crate::table_columns::Column;
+use rollout_model::{ControllerId, Digest, Text, Value, Word};
 use sqlite::Row;
 use sqlite_value::value::ValueRef;
 use std::alloc::Global;
@@ -29,32 +27,12 @@ pub struct ListedTarget {
     pub name: Text,
 }
 
-/// The target in a row of name and digest.
-pub fn read_stored_target(alloc: Global, row: &Row) -> Result<StoredTarget, RowFault>
-    ensures ok { IfOk result (IsTargetRow row.now) }
-    ensures err { IfErr result (λ e. (e ≡ RowFault.Memory) ⊎ ((c : _) × (e ≡ RowFault.Broken c) × (broken_target_column row.now ≡ Some c))) }
-{
-    let name = text_at(alloc, row, 0, Column::TargetName)?;
-    let digest = digest_at(row, 1, Column::TargetDigest)?;
-    Ok(StoredTarget { name, digest })
-}
-
-/// The target in a row of id and name.
-pub fn read_listed_target(alloc: Global, row: &Row) -> Result<ListedTarget, RowFault>
-    ensures ok { IfOk result (IsListedTargetRow row.now) }
-    ensures err { IfErr result (λ e. (e ≡ RowFault.Memory) ⊎ ((c : _) × (e ≡ RowFault.Broken c) × (broken_listed_column row.now ≡ Some c))) }
-{
-    let id = id_at(row, 0)?;
-    let name = text_at(alloc, row, 1, Column::TargetName)?;
-    Ok(ListedTarget { id, name })
-}
-
 /// The member of a rollout in a row of its id. Takes no memory.
 pub fn read_member(row: &Row) -> Result<ControllerId, RowFault>
     ensures ok { IfOk result (λ id. column row.now 0 ≡ StoredText id) }
     ensures err { IfErr result (λ e. (e ≡ RowFault.Broken Column.TargetId) × (has_word (column row.now 0) ≡ false)) }
 {
-    id_at(row, 0)
+    id_at(row, 0, Column::TargetId)
 }
 
 /// The tag in a row of one. Takes no memory.
@@ -65,23 +43,13 @@ pub fn read_tag(row: &Row) -> Result<Word, RowFault>
     word_at(row, 0, Column::TargetTag)
 }
 
-/// The attribute in a row of key and value.
-pub fn read_attribute(alloc: Global, row: &Row) -> Result<Attribute, RowFault>
-    ensures ok { IfOk result (IsAttributeRow row.now) }
-    ensures err { IfErr result (λ e. (e ≡ RowFault.Memory) ⊎ ((c : _) × (e ≡ RowFault.Broken c) × (broken_attribute_column row.now ≡ Some c))) }
-{
-    let key = word_at(row, 0, Column::AttributeKey)?;
-    let value = value_at(alloc, row, 1)?;
-    Ok(Attribute { key, value })
-}
-
 /// The id of a target in a column.
-pub(crate) fn id_at(row: &Row, at: usize) -> Result<ControllerId, RowFault>
+pub(crate) fn id_at(row: &Row, at: usize, at_column: Column) -> Result<ControllerId, RowFault>
     ensures ok { IfOk result (λ id. column row.now at ≡ StoredText id) }
     ensures kept { IfOk result (λ id. has_word (column row.now at) ≡ true) }
-    ensures err { IfErr result (λ e. (e ≡ RowFault.Broken Column.TargetId) × (has_word (column row.now at) ≡ false)) }
+    ensures err { IfErr result (λ e. (e ≡ RowFault.Broken at_column) × (has_word (column row.now at) ≡ false)) }
 {
-    let broken = RowFault::Broken(Column::TargetId);
+    let broken = RowFault::Broken(at_column);
     let Ok(ValueRef::Text(text)) = row.get_ref(at) else {
         return Err(broken);
     };
@@ -92,7 +60,7 @@ pub(crate) fn id_at(row: &Row, at: usize) -> Result<ControllerId, RowFault>
 }
 
 /// The word of a column.
-fn word_at(row: &Row, at: usize, at_column: Column) -> Result<Word, RowFault>
+pub(crate) fn word_at(row: &Row, at: usize, at_column: Column) -> Result<Word, RowFault>
     ensures ok { IfOk result (λ word. column row.now at ≡ StoredText word) }
     ensures kept { IfOk result (λ word. has_word (column row.now at) ≡ true) }
     ensures err { IfErr result (λ e. (e ≡ RowFault.Broken at_column) × (has_word (column row.now at) ≡ false)) }
@@ -108,18 +76,23 @@ fn word_at(row: &Row, at: usize, at_column: Column) -> Result<Word, RowFault>
 }
 
 /// The value of an attribute in a column.
-fn value_at(alloc: Global, row: &Row, at: usize) -> Result<Value, RowFault>
+pub(crate) fn value_at(
+    alloc: Global,
+    row: &Row,
+    at: usize,
+    at_column: Column,
+) -> Result<Value, RowFault>
     ensures ok { IfOk result (λ value. column row.now at ≡ StoredText value) }
     ensures kept { IfOk result (λ value. has_value (column row.now at) ≡ true) }
-    ensures err { IfErr result (λ e. (e ≡ RowFault.Memory) ⊎ ((e ≡ RowFault.Broken Column.AttributeValue) × (has_value (column row.now at) ≡ false))) }
+    ensures err { IfErr result (λ e. (e ≡ RowFault.Memory) ⊎ ((e ≡ RowFault.Broken at_column) × (has_value (column row.now at) ≡ false))) }
 {
     let text = match row.get::<String>(at) {
         Ok(text) => text,
-        Err(error) => return Err(row_fault(error, Column::AttributeValue)),
+        Err(error) => return Err(row_fault(error, at_column)),
     };
     match Value::read(alloc, text.as_str()) {
         Ok(Some(value)) => Ok(value),
-        Ok(None) => Err(RowFault::Broken(Column::AttributeValue)),
+        Ok(None) => Err(RowFault::Broken(at_column)),
         Err(_) => Err(RowFault::Memory),
     }
 }

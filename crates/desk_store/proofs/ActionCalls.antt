@@ -4,15 +4,16 @@ use Rattle.desk_store.proofs.Common.{option_map, Vec, vec_items, refl, sym, ap, 
 use Rattle.desk_store.proofs.Common.{Database, State, Fault, AsksText, TakesFirst, Finds, ShowsFirst, ask_finds, first_finds, and_parts, slice_get-map}
 use Rattle.desk_store.proofs.Common.{HistoryEntry, item_numbered, Bytes, Offer, LAST_ACTION, GET_ACTION, LIST_ACTIONS, LIST_TARGET_ACTIONS, LIST_ENTRIES}
 use Rattle.desk_store.proofs.Common.{GET_OFFER, ListedAction, StoredAction, history_of, told_entry, IsEntryRow, keeps_details, HoldsLedger, Ledger, IsLastRow}
-use Rattle.desk_store.proofs.Common.{IsActionRow, IsListedActionRow, IsOfferRow, actions_for, actions_of, stored_action, action_names, listed_names}
+use Rattle.desk_store.proofs.Common.{IsStoredActionRow, IsListedActionRow, IsOfferRow, actions_for, actions_of, stored_action, action_names, listed_names}
 use Rattle.desk_store.proofs.Common.{entry_names, last_action_is, get_action_is, list_actions_is, list_target_actions_is, list_entries_is, get_offer_is}
-use Rattle.desk_store.proofs.Common.{shown_action, told_listed, lasts_action, gets_action, lists_actions, lists_target_actions, told_offer, gets_offer}
-use Rattle.desk_store.proofs.Common.{AreReadAs, IsReadAs}
+use Rattle.desk_store.proofs.Common.{shown_stored_action, lasts_action, gets_action, lists_actions, lists_target_actions, gets_offer, AreReadAs, IsReadAs}
+use Rattle.desk_store.proofs.Common.{shown_listed_action, shown_offer}
 use Rattle.sqlite.specs.Effect.{Reads as Shows}
 use Rattle.sqlite_keyed.proofs.ListLemmas.{first_taken}
 use Rattle.desk_records.proofs.EntryRecords.{lists_entries, told_part}
+use Rattle.desk_records.proofs.RowsTold.{one_stored_action, one_listed_action, one_offer}
 use Rattle.desk_store.proofs.Known.{in_ledgers, known}
-use Rattle.desk_store.proofs.LedgerReads.{both_mapped, one_action, one_entry, one_listed, one_offer, same_entries}
+use Rattle.desk_store.proofs.LedgerReads.{both_mapped, one_entry, same_entries}
 use Rattle.desk_store.proofs.ReadLemmas.{asks_all, one_read, read_parts, takes_last, takes_one}
 
 -- ---- what the texts mean where a ledger is held
@@ -25,14 +26,14 @@ last_read old new row = takes_last (λ (l : Ledger). l) LAST_ACTION.now old new 
     (λ db r holds at given. tt) row (λ db l holds. lasts_action db l holds (codes "number" ∷ []) row)
 
 pub action_read : (number : ℕ) → 1 ≤ number → (old new : State) (row : Option Row) → TakesFirst old new GET_ACTION.now (Int (pos number) ∷ []) (Ok row)
-    → (out : Result (Option StoredAction) Fault) → IfOk out (λ found. IsReadAs IsActionRow found row)
+    → (out : Result (Option StoredAction) Fault) → IfOk out (λ found. IsReadAs IsStoredActionRow found row)
     → Finds HoldsLedger (λ (l : Ledger). l) old new out
     (λ l found. found ≡ option_map (stored_action l.records.rollouts) (item_numbered (zip l.records.actions l.tallies) number))
 action_read number least old new row =
-    takes_one (λ (l : Ledger). l) IsActionRow shown_action GET_ACTION.now (Int (pos number) ∷ []) old new (known get_action_is)
+    takes_one (λ (l : Ledger). l) IsStoredActionRow shown_stored_action GET_ACTION.now (Int (pos number) ∷ []) old new (known get_action_is)
     (λ l. option_map (stored_action l.records.rollouts) (item_numbered (zip l.records.actions l.tallies) number)) ◌≡◌ refl
-    (λ a b h. ap Some (one_action a b h)) (λ db l holds at given. tt) row
-    (λ db l holds shown. gets_action db l holds action_names number least row shown ∙ both_mapped shown_action (stored_action l.records.rollouts) _)
+    (λ a b h. ap Some (one_stored_action a b h)) (λ db l holds at given. tt) row
+    (λ db l holds shown. gets_action db l holds action_names number least row shown ∙ both_mapped shown_stored_action (stored_action l.records.rollouts) _)
 
 pub actions_read : (number limit offset : ℕ) (old new : State) (rows : Vec Row Global)
     → AsksText old new LIST_ACTIONS.now (Int (pos number) ∷ Int (pos limit) ∷ Int (pos offset) ∷ []) (Ok rows) → (out : Result (Vec ListedAction Global) Fault)
@@ -40,7 +41,7 @@ pub actions_read : (number limit offset : ℕ) (old new : State) (rows : Vec Row
     → Finds HoldsLedger (λ (l : Ledger). l) old new out
     (λ l found. found.items ≡ take limit (drop offset (actions_of l.records.rollouts number 1 (zip l.records.actions l.tallies))))
 actions_read number limit offset old new rows =
-    asks_all (λ (l : Ledger). l) vec_items IsListedActionRow told_listed one_listed LIST_ACTIONS.now
+    asks_all (λ (l : Ledger). l) vec_items IsListedActionRow shown_listed_action one_listed_action LIST_ACTIONS.now
     (Int (pos number) ∷ Int (pos limit) ∷ Int (pos offset) ∷ []) old new (known list_actions_is)
     (λ l. take limit (drop offset (actions_of l.records.rollouts number 1 (zip l.records.actions l.tallies)))) rows
     (λ db l holds shown. lists_actions db l holds listed_names number limit offset rows.items shown)
@@ -51,8 +52,9 @@ pub target_actions_read : (id : Bytes) (limit offset : ℕ) (old new : State) (r
     → Finds HoldsLedger (λ (l : Ledger). l) old new out
     (λ l found. found.items ≡ take limit (drop offset (actions_for l.records.rollouts id 1 (zip l.records.actions l.tallies))))
 target_actions_read id limit offset old new rows =
-    asks_all (λ (l : Ledger). l) vec_items IsListedActionRow told_listed one_listed LIST_TARGET_ACTIONS.now (Text id ∷ Int (pos limit) ∷ Int (pos offset) ∷ [])
-    old new (known list_target_actions_is) (λ l. take limit (drop offset (actions_for l.records.rollouts id 1 (zip l.records.actions l.tallies)))) rows
+    asks_all (λ (l : Ledger). l) vec_items IsListedActionRow shown_listed_action one_listed_action LIST_TARGET_ACTIONS.now
+    (Text id ∷ Int (pos limit) ∷ Int (pos offset) ∷ []) old new (known list_target_actions_is)
+    (λ l. take limit (drop offset (actions_for l.records.rollouts id 1 (zip l.records.actions l.tallies)))) rows
     (λ db l holds shown. lists_target_actions db l holds listed_names id limit offset rows.items shown)
 
 -- ---- histories
@@ -157,6 +159,6 @@ pub offer_read : (id : Bytes) (old new : State) (row : Option Row) → TakesFirs
     → (out : Result (Option Offer) Fault) → IfOk out (λ found. IsReadAs IsOfferRow found row)
     → Finds HoldsLedger (λ (l : Ledger). l) old new out (λ l found. found ≡ l.offers id)
 offer_read id old new row =
-    takes_one (λ (l : Ledger). l) IsOfferRow told_offer GET_OFFER.now (Text id ∷ []) old new (known get_offer_is) (λ l. l.offers id) ◌≡◌ refl
+    takes_one (λ (l : Ledger). l) IsOfferRow shown_offer GET_OFFER.now (Text id ∷ []) old new (known get_offer_is) (λ l. l.offers id) ◌≡◌ refl
     (λ a b h. ap Some (one_offer a b h)) (λ db l holds at given. tt) row
     (λ db l holds shown. gets_offer db l holds (codes "action" ∷ codes "kind" ∷ []) id row shown)

@@ -1,12 +1,14 @@
 -- The calls on artifacts and their pieces.
 use Rattle.desk_store.proofs.Common.{◌≡◌, ◌≤◌, ℕ, ◌+◌, pos, [], ◌∷◌, length, Bool, Option, Some, Ok, Result, IfOk, option_map, Vec, vec_items, refl, sym, ap}
-use Rattle.desk_store.proofs.Common.{subst, codes, list_any, Global, is_some, Int, Text, Blob, Row, column, State, Fault, RunsText, AsksText, TakesFirst}
-use Rattle.desk_store.proofs.Common.{Finds, Makes, first_finds, run_makes, item_numbered, Bytes, ArtifactRecord, Records, Artifact, FIND_ARTIFACT}
-use Rattle.desk_store.proofs.Common.{LAST_ARTIFACT, GET_ARTIFACT, LIST_ARTIFACTS, GET_PIECE, PUT_ARTIFACT, PUT_PIECE, StoredArtifact, HoldsLedger}
-use Rattle.desk_store.proofs.Common.{HoldsRecords, ledger_of, IsLastRow, told_of, piece_row, is_same_artifact, file_of, piece_numbered, artifact_filed}
-use Rattle.desk_store.proofs.Common.{with_artifact, AddsPiece, IsStoredRow, IsArtifactRow, StoredBytes, stored, told_names, shown_names, find_artifact_is}
-use Rattle.desk_store.proofs.Common.{last_artifact_is, get_artifact_is, list_artifacts_is, get_piece_is, put_artifact_is, put_piece_is, AreReadAs, IsReadAs}
-use Rattle.desk_store.proofs.Common.{put_at}
+use Rattle.desk_store.proofs.Common.{subst, codes, list_any, Global, is_some, Int, Blob, Row, column, State, Fault, RunsText, AsksText, TakesFirst, Finds}
+use Rattle.desk_store.proofs.Common.{Makes, first_finds, run_makes, item_numbered, Bytes, Records, Artifact, FIND_ARTIFACT, LAST_ARTIFACT, GET_ARTIFACT}
+use Rattle.desk_store.proofs.Common.{LIST_ARTIFACTS, GET_PIECE, PUT_ARTIFACT, PUT_PIECE, StoredArtifact, HoldsLedger, HoldsRecords, ledger_of, IsLastRow}
+use Rattle.desk_store.proofs.Common.{told_of, piece_row, is_same_artifact, file_of, piece_numbered, artifact_filed, with_artifact, AddsPiece}
+use Rattle.desk_store.proofs.Common.{IsStoredArtifactRow}
+use Rattle.desk_store.proofs.Common.{IsArtifactRow, StoredBytes, stored, told_names, shown_names, find_artifact_is, last_artifact_is, get_artifact_is}
+use Rattle.desk_store.proofs.Common.{list_artifacts_is, get_piece_is, put_artifact_is, put_piece_is, AreReadAs, IsReadAs, put_at}
+use Rattle.desk_records.specs.ReadRows.{shown_artifact}
+use Rattle.desk_records.proofs.RowsTold.{one_artifact, one_stored_artifact}
 use Rattle.rollout_machine.specs.Objects.{artifacts_shown}
 use Rattle.desk_records.proofs.ArtifactRecords.{finds_artifact, lasts_artifact, gets_artifact, lists_artifacts, gets_piece, adds_artifact, adds_piece}
 use Rattle.desk_store.proofs.ReadLemmas.{asks_all, takes_last, takes_one}
@@ -37,25 +39,13 @@ last_read old new row = takes_last ledger_of LAST_ARTIFACT.now old new (known la
 abbrev pub Gets : ℕ → Records → Option StoredArtifact → Type 0
 Gets number r found = found ≡ option_map stored (item_numbered r.artifacts number)
 
--- a row tells of one artifact
-one_told : (told : StoredArtifact) (a : ArtifactRecord) → IsStoredRow (told_of a) told → told ≡ stored a
-one_told told a h =
-    let first : Int (pos a.module_number) ≡ Int (pos told.module_number) = h.module_number in
-    let second : Text a.filename ≡ Text told.filename = h.filename in
-    let third : Int (pos a.size) ≡ Int (pos told.size) = h.size in
-    let fourth : Blob a.digest ≡ Blob told.digest = h.digest in
-    let m : told.module_number ≡ a.module_number = cc in
-    let name : told.filename ≡ a.filename = cc in
-    let size : told.size ≡ a.size = cc in
-    let digest : told.digest ≡ a.digest = cc in
-    λ i. record { module_number = m i; filename = name i; size = size i; digest = digest i }
-
 pub artifact_read : (number : ℕ) → 1 ≤ number → (old new : State) (row : Option Row) → TakesFirst old new GET_ARTIFACT.now (Int (pos number) ∷ []) (Ok row)
     → (out : Result (Option StoredArtifact) Fault)
-    → IfOk out (λ found. IsReadAs IsStoredRow found row) → Finds HoldsLedger ledger_of old new out (Gets number)
+    → IfOk out (λ found. IsReadAs IsStoredArtifactRow found row) → Finds HoldsLedger ledger_of old new out (Gets number)
 artifact_read number least old new row =
-    takes_one ledger_of IsStoredRow told_of GET_ARTIFACT.now (Int (pos number) ∷ []) old new (known get_artifact_is) (λ r. item_numbered r.artifacts number)
-    (λ found a. found ≡ option_map stored a) refl (λ told a h. ap Some (one_told told a h)) (λ db r holds at given. tt) row
+    takes_one ledger_of IsStoredArtifactRow told_of GET_ARTIFACT.now (Int (pos number) ∷ []) old new (known get_artifact_is)
+    (λ r. item_numbered r.artifacts number)
+    (λ found a. found ≡ option_map stored a) refl (λ told a h. ap Some (one_stored_artifact told (stored a) h)) (λ db r holds at given. tt) row
     (λ db now holds. gets_artifact db now holds told_names number least row)
 
 -- ---- the artifacts of a module
@@ -63,27 +53,11 @@ artifact_read number least old new row =
 abbrev pub Lists : ℕ → Records → Vec Artifact Global → Type 0
 Lists m r artifacts = artifacts.items ≡ artifacts_shown m 1 r.artifacts
 
-abbrev shown_row : Artifact → Row
-shown_row a = Int (pos a.number) ∷ Text a.filename ∷ Int (pos a.size) ∷ Blob a.digest ∷ []
-
--- a row shows one artifact
-one_shown : (a b : Artifact) → IsArtifactRow (shown_row b) a → a ≡ b
-one_shown a b h =
-    let first : Int (pos b.number) ≡ Int (pos a.number) = h.number in
-    let second : Text b.filename ≡ Text a.filename = h.filename in
-    let third : Int (pos b.size) ≡ Int (pos a.size) = h.size in
-    let fourth : Blob b.digest ≡ Blob a.digest = h.digest in
-    let number : a.number ≡ b.number = cc in
-    let name : a.filename ≡ b.filename = cc in
-    let size : a.size ≡ b.size = cc in
-    let digest : a.digest ≡ b.digest = cc in
-    λ i. record { number = number i; filename = name i; size = size i; digest = digest i }
-
 pub artifacts_read : (m : ℕ) (old new : State) (rows : Vec Row Global) → AsksText old new LIST_ARTIFACTS.now (Int (pos m) ∷ []) (Ok rows)
     → (out : Result (Vec Artifact Global) Fault)
     → IfOk out (λ artifacts. AreReadAs IsArtifactRow rows.items artifacts.items) → Finds HoldsLedger ledger_of old new out (Lists m)
 artifacts_read m old new rows =
-    asks_all ledger_of vec_items IsArtifactRow shown_row one_shown LIST_ARTIFACTS.now (Int (pos m) ∷ []) old new (known list_artifacts_is)
+    asks_all ledger_of vec_items IsArtifactRow shown_artifact one_artifact LIST_ARTIFACTS.now (Int (pos m) ∷ []) old new (known list_artifacts_is)
     (λ r. artifacts_shown m 1 r.artifacts) rows (λ db now holds. lists_artifacts db now holds shown_names m rows.items)
 
 -- ---- a piece

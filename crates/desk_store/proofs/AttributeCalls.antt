@@ -3,6 +3,8 @@ use Rattle.desk_store.proofs.Common.{◌≡◌, List, [], ◌∷◌, Ok, Result,
 use Rattle.desk_store.proofs.Common.{run_makes, Bytes, Attribute, Records, target_of, LIST_TARGET_ATTRIBUTES, PUT_TARGET_ATTRIBUTE, SET_TARGET_ATTRIBUTE}
 use Rattle.desk_store.proofs.Common.{HoldsLedger, ledger_of, IsAttributeRow, attribute_row, AreReadAs, put_target_attribute_is, set_target_attribute_is}
 use Rattle.desk_store.proofs.Common.{changed_at, put_at}
+use Rattle.desk_records.specs.ReadRows.{shown_attribute}
+use Rattle.desk_records.proofs.RowsTold.{one_attribute}
 use Rattle.desk_records.specs.Targets.{attributes_of, AddsAttribute, SetsAttribute}
 use Rattle.desk_records.proofs.TargetMeaning.{list_target_attributes_is, put_target_attribute_is, set_target_attribute_is}
 use Rattle.desk_records.proofs.AttributeRecords.{lists_target_attributes, adds_attribute, sets_attribute}
@@ -16,23 +18,11 @@ use Rattle.desk_store.proofs.Known.{known, in_ledgers, tables_know}
 abbrev pub Lists : Bytes → Records → List Attribute → Type 0
 Lists id r attributes = attributes ≡ attributes_of (target_of r id)
 
-abbrev shown_row : Attribute → Row
-shown_row a = Text a.key ∷ Text a.value ∷ []
-
--- a row shows one attribute
-one_shown : (a b : Attribute) → IsAttributeRow (shown_row b) a → a ≡ b
-one_shown a b h =
-    let first : Text b.key ≡ Text a.key = h.key in
-    let second : Text b.value ≡ Text a.value = h.value in
-    let key : a.key ≡ b.key = cc in
-    let value : a.value ≡ b.value = cc in
-    λ i. record { key = key i; value = value i }
-
 pub attributes_read : (id : Bytes) (old new : State) (rows : Vec Row Global) → AsksText old new LIST_TARGET_ATTRIBUTES.now (Text id ∷ []) (Ok rows)
     → (out : Result (List Attribute) Fault) → IfOk out (AreReadAs IsAttributeRow rows.items)
     → Finds HoldsLedger ledger_of old new out (Lists id)
 attributes_read id old new rows =
-    asks_all ledger_of (λ l. l) IsAttributeRow shown_row one_shown LIST_TARGET_ATTRIBUTES.now (Text id ∷ []) old new (known list_target_attributes_is)
+    asks_all ledger_of (λ l. l) IsAttributeRow shown_attribute one_attribute LIST_TARGET_ATTRIBUTES.now (Text id ∷ []) old new (known list_target_attributes_is)
     (λ r. attributes_of (target_of r id)) rows (λ db now holds. lists_target_attributes db now holds (codes "key" ∷ codes "value" ∷ []) id rows.items)
 
 -- ---- what is written

@@ -55,8 +55,7 @@ pub use Rattle.desk_records.proofs.ActionMeaning.{get_offer_is, last_action_is, 
 pub use Rattle.desk_records.proofs.ActionMeaning.{list_numbers_is, list_offers_is, list_target_actions_is, listed_columns, listed_names, next_offer_is}
 pub use Rattle.desk_records.proofs.ActionMeaning.{next_offer_query, number_names, of_action, offer_columns, owned_columns, put_action_is, put_feedback_is}
 pub use Rattle.desk_records.proofs.ActionMeaning.{put_number_is, set_action_is, set_offer_is}
-pub use Rattle.desk_records.proofs.ActionRecords.{gets_action, gets_offer, lasts_action, lists_actions, lists_target_actions, shown_action, told_listed}
-pub use Rattle.desk_records.proofs.ActionRecords.{told_offer}
+pub use Rattle.desk_records.proofs.ActionRecords.{gets_action, gets_offer, lasts_action, lists_actions, lists_target_actions}
 pub use Rattle.desk_records.proofs.AnyRows.{are_said, broken, count_shown, from_shown, is_only, none_passes, number_order, rise}
 pub use Rattle.desk_records.proofs.ArtifactMeaning.{all_columns, find_artifact_is, get_artifact_is, get_piece_is, last_artifact_is, list_all_artifacts_is}
 pub use Rattle.desk_records.proofs.ArtifactMeaning.{list_artifacts_is, put_artifact_is, put_piece_is, shown_names, told_names}
@@ -65,7 +64,7 @@ pub use Rattle.desk_records.proofs.GroupOfferWrites.{group_params, offers_group,
 pub use Rattle.desk_records.proofs.LedgerWrites.{acted_params, adds_action, adds_rollout, created_params, scheduled_params, sets_action, sets_rollout}
 pub use Rattle.desk_records.proofs.LedgerWrites.{turned_params}
 pub use Rattle.desk_records.proofs.NumberColumns.{is_number_in, number_in_good, number_in_is, number_is, passes_rowid, ranged_is}
-pub use Rattle.desk_records.proofs.NumberRecords.{lasts_number, lists_numbers, told_last}
+pub use Rattle.desk_records.proofs.NumberRecords.{lasts_number, lists_numbers}
 pub use Rattle.desk_records.proofs.OfferWrites.{drops_offer, offered_params, sets_offer}
 pub use Rattle.desk_records.proofs.PartWrites.{adds_entry, adds_group, adds_member, adds_number, adds_rule, counted_params, cut_params, entry_params}
 pub use Rattle.desk_records.proofs.PartWrites.{sets_group}
@@ -75,48 +74,42 @@ pub use Rattle.desk_records.proofs.RolloutMeaning.{list_members_is, list_places_
 pub use Rattle.desk_records.proofs.RolloutMeaning.{put_group_is, put_member_is, put_rollout_is, put_rule_is, rollout_names, rule_names, set_group_is}
 pub use Rattle.desk_records.proofs.RolloutMeaning.{set_rollout_is}
 pub use Rattle.desk_records.proofs.RolloutRecords.{finds_rollout, gets_group, gets_group_and_next, gets_rollout, gets_rule, holds_group, lasts_rollout}
-pub use Rattle.desk_records.proofs.RolloutRecords.{lists_groups, lists_members, lists_rules, shown_group}
+pub use Rattle.desk_records.proofs.RolloutRecords.{lists_groups, lists_members, lists_rules}
 pub use Rattle.desk_records.proofs.Targets.{tag_row}
-pub use Rattle.desk_records.specs.Actions.{Tally, cancel_code, deployment_code, history_of, kind_code, lines_of, outcome_code, told_entry, word_code}
-pub use Rattle.desk_records.specs.ArtifactRow.{IsArtifactRow, IsStoredRow, StoredBytes, has_bytes, has_size, small_number, stored}
+pub use Rattle.desk_records.specs.Actions.{Tally, cancel_code, deployment_code, history_of, kind_code, lines_of, told_entry, word_code}
+pub use Rattle.desk_records.specs.ArtifactRow.{stored}
 pub use Rattle.desk_records.specs.Artifacts.{AddsPiece, artifact_filed, file_of, is_same_artifact, piece_numbered, piece_row, told_of, with_artifact}
-pub use Rattle.desk_records.specs.CheckedRows.{IsCheckedArtifactRow, IsOwnedOfferRow, are_entries, counted_of, is_too_long, is_wide}
-pub use Rattle.desk_records.specs.CheckedRows.{keeps_action_rules, keeps_artifact_rules, keeps_offer_rules}
-pub use Rattle.desk_records.specs.Codes.{approval_from, approval_in, coded_in, first_broken, flag_in, flag_of, number_in, outcome_from, outcome_in}
-pub use Rattle.desk_records.specs.Codes.{percentage_in, percentage_or_none_in, place_from, place_in}
-pub use Rattle.desk_records.specs.EntryRow.{BreaksSequenced, IsEntryRow, IsSequencedRow, cancel_from, cancel_in, deployment_from, deployment_in, keeps_details}
-pub use Rattle.desk_records.specs.EntryRow.{said_in}
+pub use Rattle.desk_records.specs.CheckedRows.{IsCheckedArtifactRow, IsOwnedOfferRow, are_entries, counted_of, is_too_long, is_wide, keeps_action_rules}
+pub use Rattle.desk_records.specs.CheckedRows.{keeps_artifact_rules, keeps_offer_rules}
+pub use Rattle.desk_records.specs.Codes.{approval_code, approval_from, approval_in, coded_in, first_broken, flag, flag_in, flag_of, number_in, outcome_code}
+pub use Rattle.desk_records.specs.Codes.{outcome_from, outcome_in, percentage_in, percentage_or_none_in, place_from, place_in}
+pub use Rattle.desk_records.specs.EntryRow.{BreaksSequenced, IsEntryRow, IsSequencedRow, cancel_from, cancel_in, deployment_from, deployment_in}
+pub use Rattle.desk_records.specs.EntryRow.{keeps_details, said_in}
 pub use Rattle.desk_records.specs.FeedbackNumbers.{last_number, number_row, numbers_numbered, told_number}
 pub use Rattle.desk_records.specs.Holds.{HoldsLedger, HoldsRecords, Ledger, ledger_of}
 pub use Rattle.desk_records.specs.Listings.{AreRead, AreSaid, FindsOne, IsLastNumber, IsSaid, has_text_at}
 pub use Rattle.desk_records.specs.Modules.{IsLastRow, is_same, with_module, words_of}
-pub use Rattle.desk_records.specs.NumberRow.{IsLastNumberRow, IsNumberRow, broken_number_column}
-pub use Rattle.desk_records.specs.RolloutRow.{IsActionRow, IsGroupRow, IsListedActionRow, IsOfferRow, IsRolloutRow, actions_for, actions_of}
-pub use Rattle.desk_records.specs.RolloutRow.{broken_action_column, broken_group_column, broken_listed_action_column, broken_offer_column}
-pub use Rattle.desk_records.specs.RolloutRow.{broken_rollout_column, stored_action, stored_rollout}
-pub use Rattle.desk_records.specs.Rollouts.{approval_code, flag, groups_of, is_called, member_row, members_of, rule_numbered, rule_row, rules_numbered}
-pub use Rattle.desk_records.specs.Rollouts.{that_reach, told_rule}
-pub use Rattle.desk_records.specs.RuleRow.{IsRuleRow, broken_rule_column}
+pub use Rattle.desk_records.specs.RolloutRow.{actions_for, actions_of, stored_action, stored_rollout}
+pub use Rattle.desk_records.specs.Rollouts.{groups_of, is_called, member_row, members_of, rule_numbered, rule_row, rules_numbered, that_reach, told_rule}
 pub use Rattle.desk_records.specs.Schema.{Actions, Artifacts, Feedbacks, Groups, Members, Numbers, Offers, Pieces, Place, Rollouts, Rules, Targets, name_of}
 pub use Rattle.desk_records.specs.Schema.{table_at}
 pub use Rattle.desk_records.specs.Sets.{AddsSetModule, is_same_set, names_of, place_row, with_set}
 pub use Rattle.desk_records.specs.Tables.{HoldsTables, Tables}
-pub use Rattle.desk_records.specs.TargetRow.{IsAttributeRow, IsListedTargetRow, IsTargetRow, broken_attribute_column, has_word, listed_target, stored_target}
+pub use Rattle.desk_records.specs.TargetRow.{listed_target, stored_target}
 pub use Rattle.desk_records.specs.declared.action_texts.TheConstants.{DROP_OFFER, GET_ACTION, GET_OFFER, LAST_ACTION, LAST_NUMBER, LIST_ACTIONS, LIST_ENTRIES}
 pub use Rattle.desk_records.specs.declared.action_texts.TheConstants.{LIST_NUMBERS, LIST_OFFERS, LIST_TARGET_ACTIONS, NEXT_OFFER, PUT_ACTION, PUT_FEEDBACK}
 pub use Rattle.desk_records.specs.declared.action_texts.TheConstants.{PUT_GROUP_OFFERS, PUT_NUMBER, SET_ACTION, SET_OFFER}
 pub use Rattle.desk_records.specs.declared.artifact_row.StoredArtifact.{StoredArtifact}
 pub use Rattle.desk_records.specs.declared.artifact_texts.TheConstants.{FIND_ARTIFACT, GET_ARTIFACT, GET_PIECE, LAST_ARTIFACT, LIST_ALL_ARTIFACTS}
 pub use Rattle.desk_records.specs.declared.artifact_texts.TheConstants.{LIST_ARTIFACTS, PUT_ARTIFACT, PUT_PIECE}
-pub use Rattle.desk_records.specs.declared.module_row.Column.{Column}
 pub use Rattle.desk_records.specs.declared.number_row.LastNumber.{LastNumber}
 pub use Rattle.desk_records.specs.declared.number_row.PlacedNumber.{PlacedNumber}
 pub use Rattle.desk_records.specs.declared.rollout_row.ListedAction.{ListedAction}
 pub use Rattle.desk_records.specs.declared.rollout_row.StoredAction.{StoredAction}
 pub use Rattle.desk_records.specs.declared.rollout_row.StoredRollout.{StoredRollout}
 pub use Rattle.desk_records.specs.declared.rollout_texts.TheConstants.{FIND_ROLLOUT, GET_GROUP, GET_ROLLOUT, GET_RULE, GROUP_AND_NEXT, HOLDING_GROUP}
-pub use Rattle.desk_records.specs.declared.rollout_texts.TheConstants.{LAST_ROLLOUT, LIST_GROUPS, LIST_MEMBERS, LIST_PLACES, LIST_RULES, PUT_GROUP, PUT_MEMBER}
-pub use Rattle.desk_records.specs.declared.rollout_texts.TheConstants.{PUT_ROLLOUT, PUT_RULE, SET_GROUP, SET_ROLLOUT}
+pub use Rattle.desk_records.specs.declared.rollout_texts.TheConstants.{LAST_ROLLOUT, LIST_GROUPS, LIST_MEMBERS, LIST_PLACES, LIST_RULES, PUT_GROUP}
+pub use Rattle.desk_records.specs.declared.rollout_texts.TheConstants.{PUT_MEMBER, PUT_ROLLOUT, PUT_RULE, SET_GROUP, SET_ROLLOUT}
 pub use Rattle.desk_records.specs.declared.set_texts.TheConstants.{FIND_SET, GET_SET, LAST_SET, LIST_SET_MODULES, MODULE_LOCKED, PUT_SET, PUT_SET_MODULE}
 pub use Rattle.desk_records.specs.declared.target_texts.TheConstants.{COUNT_TARGETS, DROP_TARGET_TAG, GET_TARGET, LIST_TARGETS, LIST_TARGET_ATTRIBUTES}
 pub use Rattle.desk_records.specs.declared.target_texts.TheConstants.{LIST_TARGET_TAGS, PUT_TARGET, PUT_TARGET_ATTRIBUTE, PUT_TARGET_TAG, SET_TARGET}
@@ -136,3 +129,12 @@ pub use Rattle.desk_records.proofs.TargetMeaning.{count_targets_is, drop_target_
 pub use Rattle.desk_records.proofs.TargetMeaning.{list_targets_is, put_target_attribute_is, put_target_is, put_target_tag_is, set_target_attribute_is}
 pub use Rattle.desk_records.proofs.TargetMeaning.{set_target_is}
 pub use Rattle.desk_records.proofs.MeaningWords.{changed_at, counted_at, dropped_at, put_at}
+pub use Rattle.desk_records.specs.Columns.{StoredBytes, has_bytes, has_size, has_word, small_number}
+pub use Rattle.desk_records.specs.ReadRows.{IsStoredActionRow, IsArtifactRow, IsAttributeRow, IsGroupRow, IsLastNumberRow, IsListedActionRow, IsListedTargetRow}
+pub use Rattle.desk_records.specs.ReadRows.{IsNumberRow, IsOfferRow, IsStoredRolloutRow, IsRuleRow, IsStoredArtifactRow, IsStoredTargetRow}
+pub use Rattle.desk_records.specs.ReadRows.{broken_stored_action_column}
+pub use Rattle.desk_records.specs.ReadRows.{broken_attribute_column, broken_group_column, broken_listed_action_column, broken_number_column}
+pub use Rattle.desk_records.specs.ReadRows.{broken_offer_column, broken_stored_rollout_column, broken_rule_column, shown_stored_action, shown_group}
+pub use Rattle.desk_records.specs.ReadRows.{shown_last_number}
+pub use Rattle.desk_records.specs.ReadRows.{shown_listed_action, shown_offer}
+pub use Rattle.desk_records.specs.declared.table_columns.Column.{Column}

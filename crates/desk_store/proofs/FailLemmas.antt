@@ -1,8 +1,8 @@
 -- Why a call over a ledger that can be read is no failed store by itself.
-use Rattle.desk_store.proofs.Common.{Place, ◌≡◌, ℕ, zero, suc, inl, inr, List, [], ◌∷◌, take, drop, filter, map, Option, Some, None, Ok, Err, Result}
-use Rattle.desk_store.proofs.Common.{IfErr, Vec, refl, sym, ap, subst, ◌∙◌, Global, Row, Query, Output, page, Database, Ghosts, Has, has_filtered, Fault}
-use Rattle.desk_store.proofs.Common.{Memory, Store, AsksFew, AsksText, TakesFirst, ShowsFirst, first_finds, ask_finds, few_finds, IsOrdered, by, ordered_rows}
-use Rattle.desk_store.proofs.Common.{passes, shown_in, shown_of, simple, HoldsLedger, Ledger, HoldsTables, Tables, IfRowsBroken, HasBroken, seen_in, OpenChange}
+use Rattle.desk_store.proofs.Common.{Place, ◌≡◌, ℕ, zero, suc, inl, inr, List, [], ◌∷◌, take, drop, filter, map, Option, Some, None, Ok, Err, Result, IfErr}
+use Rattle.desk_store.proofs.Common.{Vec, refl, sym, ap, subst, ◌∙◌, Global, Row, Query, Output, page, Database, Ghosts, Has, has_filtered, Fault, Memory}
+use Rattle.desk_store.proofs.Common.{Store, AsksFew, AsksText, TakesFirst, ShowsFirst, first_finds, ask_finds, few_finds, IsOrdered, by, ordered_rows, passes}
+use Rattle.desk_store.proofs.Common.{shown_in, shown_of, simple, HoldsLedger, Ledger, HoldsTables, Tables, IfRowsBroken, HasBroken, seen_in, OpenChange}
 use Rattle.std.specs.Prelude.{◌≢◌}
 use Rattle.sqlite.specs.Effect.{Reads as Shows}
 use Rattle.sql_calls.specs.Standing.{Finds, Sees}
@@ -16,9 +16,10 @@ use Rattle.desk_records.proofs.HeldTables.{rows_of}
 use Rattle.desk_records.proofs.Membership.{has_mapped, has_permuted}
 use Rattle.desk_store.specs.Changing.{FindsLedger}
 use Rattle.desk_store.specs.Failing.{FailsIn}
-use Rattle.desk_store.specs.Readable.{BreaksColumn, IsReadable}
+use Rattle.desk_store.specs.Readable.{IsReadable}
 use Rattle.desk_store.specs.Rows.{IsBroken}
 use Rattle.desk_store.proofs.Known.{answer_of, in_ledgers, known}
+use Rattle.desk_store.specs.BrokenRows.{BreaksColumn}
 use Rattle.desk_records.proofs.MeaningWords.{Asks}
 
 -- ---- one call

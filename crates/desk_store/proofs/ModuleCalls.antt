@@ -1,9 +1,10 @@
 -- The calls on modules.
 use Rattle.desk_store.proofs.Common.{◌≡◌, ◌≤◌, ℕ, ◌+◌, pos, [], ◌∷◌, length, Bool, Option, Some, Ok, Result, IfOk, refl, sym, ap, subst, codes, list_any}
-use Rattle.desk_store.proofs.Common.{is_some, Int, Text, Row, State, Fault, RunsText, TakesFirst, Finds, Makes, first_finds, run_makes, item_numbered}
-use Rattle.desk_store.proofs.Common.{ModuleLabel, Records, FIND_MODULE, LAST_MODULE, GET_MODULE, PUT_MODULE, HoldsLedger, HoldsRecords, ledger_of, is_same}
-use Rattle.desk_store.proofs.Common.{words_of, with_module, IsLastRow, IsReadAs, put_module_is, put_at}
-use Rattle.desk_records.specs.ModuleRow.{IsLabelRow}
+use Rattle.desk_store.proofs.Common.{is_some, Int, Row, State, Fault, RunsText, TakesFirst, Finds, Makes, first_finds, run_makes, item_numbered, ModuleLabel}
+use Rattle.desk_store.proofs.Common.{Records, FIND_MODULE, LAST_MODULE, GET_MODULE, PUT_MODULE, HoldsLedger, HoldsRecords, ledger_of, is_same, words_of}
+use Rattle.desk_store.proofs.Common.{with_module, IsLastRow, IsReadAs, put_module_is, put_at}
+use Rattle.desk_records.specs.ReadRows.{IsModuleLabelRow}
+use Rattle.desk_records.proofs.RowsTold.{one_module_label}
 use Rattle.desk_records.proofs.Meaning.{find_module_is, last_module_is, get_module_is, put_module_is}
 use Rattle.desk_records.proofs.Modules.{finds_module, lasts_module, gets_module, adds_module}
 use Rattle.desk_store.proofs.ReadLemmas.{takes_last, takes_one}
@@ -33,22 +34,11 @@ last_read old new row = takes_last ledger_of LAST_MODULE.now old new (known last
 abbrev pub Gets : ℕ → Records → Option ModuleLabel → Type 0
 Gets number r found = found ≡ item_numbered r.modules number
 
--- a row has one label
-one_label : (a b : ModuleLabel) → IsLabelRow (words_of b) a → a ≡ b
-one_label a b h =
-    let first : Text b.name ≡ Text a.name = h.name in
-    let second : Text b.kind ≡ Text a.kind = h.kind in
-    let third : Text b.version ≡ Text a.version = h.version in
-    let name : a.name ≡ b.name = cc in
-    let kind : a.kind ≡ b.kind = cc in
-    let version : a.version ≡ b.version = cc in
-    λ i. record { name = name i; kind = kind i; version = version i }
-
 pub module_read : (number : ℕ) → 1 ≤ number → (old new : State) (row : Option Row) → TakesFirst old new GET_MODULE.now (Int (pos number) ∷ []) (Ok row)
-    → (out : Result (Option ModuleLabel) Fault) → IfOk out (λ found. IsReadAs IsLabelRow found row)
+    → (out : Result (Option ModuleLabel) Fault) → IfOk out (λ found. IsReadAs IsModuleLabelRow found row)
     → Finds HoldsLedger ledger_of old new out (Gets number)
-module_read number least old new row = takes_one ledger_of IsLabelRow words_of GET_MODULE.now (Int (pos number) ∷ []) old new (known get_module_is)
-    (λ r. item_numbered r.modules number) ◌≡◌ refl (λ a b h. ap Some (one_label a b h)) (λ db r holds at given. tt) row
+module_read number least old new row = takes_one ledger_of IsModuleLabelRow words_of GET_MODULE.now (Int (pos number) ∷ []) old new (known get_module_is)
+    (λ r. item_numbered r.modules number) ◌≡◌ refl (λ a b h. ap Some (one_module_label a b h)) (λ db r holds at given. tt) row
     (λ db now holds. gets_module number least db now holds (codes "name" ∷ codes "type" ∷ codes "version" ∷ []) row)
 
 -- ---- a new module

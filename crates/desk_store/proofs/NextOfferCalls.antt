@@ -2,11 +2,11 @@
 use Rattle.desk_store.proofs.Common.{◌≡◌, ℕ, List, [], ◌∷◌, length, Option, Some, Ok, Err, Result, IfOk, refl, ap, codes, Text, Row, Command, Select, Database}
 use Rattle.desk_store.proofs.Common.{Schema, State, Stands, Fault, TakesFirst, Finds, Knows, ShowsFirst, Means, first_finds, Bytes, Offer, NEXT_OFFER}
 use Rattle.desk_store.proofs.Common.{HoldsLedger, Ledger, IsOfferRow, Place, Actions, Groups, name_of, table_at, HoldsTables, next_offer_query, next_offer_is}
-use Rattle.desk_store.proofs.Common.{told_offer, IsReadAs}
+use Rattle.desk_store.proofs.Common.{shown_offer, IsReadAs}
 use Rattle.desk_records.specs.NextOffers.{next_offer}
 use Rattle.desk_records.proofs.NextOfferRecords.{gets_next_offer}
 use Rattle.desk_store.proofs.Known.{in_ledgers}
-use Rattle.desk_store.proofs.LedgerReads.{one_offer}
+use Rattle.desk_records.proofs.RowsTold.{one_offer}
 use Rattle.desk_store.proofs.ReadLemmas.{one_read}
 
 -- what a text means wherever its two tables stand
@@ -35,6 +35,6 @@ next_offer_read id old new row h out is_read =
         → IfOk out (λ found. (db : Database) (l : Ledger) (holds : HoldsLedger db l) → ShowsFirst (in_ledgers next db l holds).command db (Text id ∷ []) row
         → length l.tallies ≡ length l.records.actions → found ≡ next_offer l.records id)
     answers (Ok found) is = λ db l holds shown tallied.
-        one_read IsOfferRow told_offer ◌≡◌ refl (λ a b read. ap Some (one_offer a b read)) found (next_offer l.records id) row is
+        one_read IsOfferRow shown_offer ◌≡◌ refl (λ a b read. ap Some (one_offer a b read)) found (next_offer l.records id) row is
         (gets_next_offer db l holds (codes "number" ∷ codes "canceling" ∷ []) id tallied row shown)
     answers (Err e) is = tt

@@ -1,27 +1,29 @@
 -- What a failed read of a table is blamed on.
 use Rattle.std.specs.Prelude.{◌&&◌}
-use Rattle.desk_store.proofs.Common.{◌≡◌, ◌≤◌, ◌<◌, ◌⊎◌, ◌^◌, inl, inr, ℕ, min, nat_lt, pos, negsuc, Bool, true, false, not, List, [], ◌∷◌, length}
-use Rattle.desk_store.proofs.Common.{nat_le, Option, Some, None, Ok, Err, Result, IfErr, Vec, refl, sym, subst, arith, and_parts, nat_tests, number_in_good}
+use Rattle.desk_store.proofs.Common.{◌≡◌, ◌≤◌, ◌<◌, ◌⊎◌, ◌^◌, inl, inr, ℕ, min, nat_lt, pos, negsuc, Bool, true, false, not, List, [], ◌∷◌, length, nat_le}
+use Rattle.desk_store.proofs.Common.{Option, Some, None, Ok, Err, Result, IfErr, Vec, refl, sym, subst, arith, and_parts, nat_tests, number_in_good}
 use Rattle.desk_store.proofs.Common.{number_in_is, Global, Value, Null, Int, Text, Row, column, Database, Query, Ghosts, lit, Has, Fault, Memory, Store}
-use Rattle.desk_store.proofs.Common.{AsksFew, AsksText, TakesFirst, ShowsFirst, first_finds, passes, shown_of, Members, Place, Rollouts, HoldsTables}
-use Rattle.desk_store.proofs.Common.{Tables, has_bytes, are_entries, is_too_long, is_wide, first_broken, number_in, BreaksSequenced, broken_number_column}
-use Rattle.desk_store.proofs.Common.{broken_action_column, broken_offer_column, broken_rollout_column, broken_rule_column, Offer, Column, StoredAction}
+use Rattle.desk_store.proofs.Common.{AsksFew, AsksText, TakesFirst, ShowsFirst, first_finds, passes, shown_of, Members, Place, Rollouts, HoldsTables, Tables}
+use Rattle.desk_store.proofs.Common.{has_bytes, are_entries, is_too_long, is_wide, first_broken, number_in, BreaksSequenced, broken_number_column}
+use Rattle.desk_store.proofs.Common.{broken_stored_action_column, broken_offer_column, broken_stored_rollout_column, broken_rule_column, Offer, Column}
+use Rattle.desk_store.proofs.Common.{StoredAction}
 use Rattle.desk_store.proofs.Common.{GET_ACTION, GET_OFFER, LIST_ACTIONS, LIST_ENTRIES, LIST_NUMBERS, LIST_OFFERS, GET_PIECE, LIST_ALL_ARTIFACTS, GET_ROLLOUT}
 use Rattle.desk_store.proofs.Common.{GET_RULE, LAST_ROLLOUT, LIST_GROUPS, LIST_PLACES, get_action_is, get_offer_is, list_actions_is, list_entries_is}
 use Rattle.desk_store.proofs.Common.{list_numbers_is, list_offers_is, count_shown, get_piece_is, list_all_artifacts_is, get_rollout_is, get_rule_is}
 use Rattle.desk_store.proofs.Common.{list_groups_is, list_places_is, of_rollout, placed_columns, places_query, Blames, BlamesGiven, FindsTables, seen_in}
-use Rattle.desk_store.proofs.Common.{BreaksRule, HasBroken, HasNoNumber, IfRowsBroken, broken_entry, broken_number, broken_piece, broken_rollout}
-use Rattle.desk_store.proofs.Common.{broken_rule, large_count, large_number, many_rows, OpenChange, last_rollout_is, HasUnreadable, Reading, ReadsOf}
+use Rattle.desk_store.proofs.Common.{BreaksRule, HasBroken, HasNoNumber, IfRowsBroken, broken_entry, broken_number, broken_piece, broken_rollout, broken_rule}
+use Rattle.desk_store.proofs.Common.{large_count, large_number, many_rows, OpenChange, last_rollout_is, HasUnreadable, Reading, ReadsOf}
 use Rattle.sql_calls.specs.declared.fault.Fault.TheVariants.{Broken}
 use Rattle.std.proofs.lemmas.List.Filters.{length-filter_both}
 use Rattle.rollout_model.specs.Limits.{number_limit}
 use Rattle.sqlite.specs.Effect.{Reads as Shows}
-use Rattle.desk_records.specs.TableRows.{IsAction, IsOffer, columns_of_action, columns_of_offer}
-use Rattle.desk_records.specs.declared.module_row.Column.TheVariants as rule
+use Rattle.desk_records.specs.TableRows.{IsAction, IsOffer}
 use Rattle.desk_records.specs.Schema.{Actions, Feedbacks, Numbers, Pieces, Rules}
 use Rattle.desk_store.specs.RawLists.{AreActions, AreOffers}
 use Rattle.desk_store.proofs.BlameLemmas.{blamed, unread}
 use Rattle.desk_records.proofs.MeaningWords.{Asks, Counts, counted_at}
+use Rattle.desk_records.specs.ReadRows.{columns_of_stored_action, columns_of_offer}
+use Rattle.desk_records.specs.declared.table_columns.Column.TheVariants as rule
 use Rattle.desk_store.proofs.FailLemmas.{from_table}
 use Rattle.desk_store.proofs.Known.{known, tables_know}
 use Rattle.desk_store.proofs.RawCalls.{all_read, count_shown as row_of_count, few_read}
@@ -67,8 +69,9 @@ module _ {p : Place} {sql : List ℕ} {query : ℕ → Query} {names : List (Lis
 -- ---- rows of tables that were judged
 
 -- an action that can't be read has a history that is too long
-long_action : (row : Row) (number : ℕ) (a : StoredAction) → IsAction row number a → (c : Column) → broken_action_column (columns_of_action row) ≡ Some c
-    → is_too_long (columns_of_action row) ≡ true
+long_action : (row : Row) (number : ℕ) (a : StoredAction) → IsAction row number a → (c : Column) → broken_stored_action_column (columns_of_stored_action row)
+    ≡ Some c
+    → is_too_long (columns_of_stored_action row) ≡ true
 long_action row number a is c broken =
     let told : first_broken ((not (is_wide (Int (pos a.entries))), rule.ActionEntries) ∷ []) ≡ Some c =
     rw (is.shows.rollout, is.place, is.word, is.shows.canceling, is.shows.outcome, is.notes, is.shows.entries, small_or_wide a.entries) at broken in
@@ -111,20 +114,21 @@ module _ {S B : Type 0} (g : Ghosts S) (old new : OpenChange S) (rows : Vec Row 
 
   -- ---- by a number
 
-  pub rollout_blamed : (r : ℕ) → AreSpoiled (λ row. BreaksRule (broken_rollout_column row)) → AsksOne GET_ROLLOUT.now (Int (pos r) ∷ [])
+  pub rollout_blamed : (r : ℕ) → AreSpoiled (λ row. BreaksRule (broken_stored_rollout_column row)) → AsksOne GET_ROLLOUT.now (Int (pos r) ∷ [])
       → BlamesGiven g (ReadsOf Rollouts) old new out
   rollout_blamed r broken = few_blamed get_rollout_is (Int (pos r) ∷ []) rows g (ReadsOf Rollouts)
-      (λ row. BreaksRule (broken_rollout_column row)) (λ reading row among is given. unread reading (broken_rollout row among is) given) old new out broken 1
+      (λ row. BreaksRule (broken_stored_rollout_column row)) (λ reading row among is given. unread reading (broken_rollout row among is) given) old new out
+      broken 1
 
   pub rule_blamed : (number group : ℕ) → AreSpoiled (λ row. BreaksRule (broken_rule_column row))
       → AsksOne GET_RULE.now (Int (pos number) ∷ Int (pos group) ∷ []) → BlamesGiven g (ReadsOf Rules) old new out
   rule_blamed number group broken = few_blamed get_rule_is (Int (pos number) ∷ Int (pos group) ∷ []) rows g (ReadsOf Rules)
       (λ row. BreaksRule (broken_rule_column row)) (λ reading row among is given. unread reading (broken_rule row among is) given) old new out broken 1
 
-  pub action_blamed : (k : ℕ) → AreSpoiled (λ row. BreaksRule (broken_action_column row)) → AsksOne GET_ACTION.now (Int (pos k) ∷ [])
+  pub action_blamed : (k : ℕ) → AreSpoiled (λ row. BreaksRule (broken_stored_action_column row)) → AsksOne GET_ACTION.now (Int (pos k) ∷ [])
       → BlamesGiven g JudgedActions old new out
   action_blamed k broken =
-      few_blamed get_action_is (Int (pos k) ∷ []) rows g JudgedActions (λ row. BreaksRule (broken_action_column row))
+      few_blamed get_action_is (Int (pos k) ∷ []) rows g JudgedActions (λ row. BreaksRule (broken_stored_action_column row))
       (λ reading row among is given. let it = given.0 row among in
       unread reading (large_count row among (long_action row it.0 it.1 it.2 is.first is.is)) given.1) old new out broken 1
 

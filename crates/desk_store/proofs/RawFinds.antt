@@ -2,7 +2,8 @@
 use Rattle.desk_store.proofs.Common.{◌≡◌, inl, ◌≤◌, ℕ, pos, Bool, true, List, [], ◌∷◌, length, slice_get, nat_le, cond, false, Option, Some, None, IfSome, Ok}
 use Rattle.desk_store.proofs.Common.{Err, Result, IfOk, Vec, refl, sym, subst, arith, Global, nat_tests, Int, Text, Row, column, Database, State, Has, Fault}
 use Rattle.desk_store.proofs.Common.{Store, AsksFew, TakesFirst, few_of, ShowsFirst, first_finds, passes, shown_of, simple, Bytes, is_word, GroupRule, Offer}
-use Rattle.desk_store.proofs.Common.{IsStoredRow, FindsOne, IsSaid, has_text_at, IsActionRow, IsOfferRow, IsRolloutRow, IsRuleRow, Actions, Offers, Place}
+use Rattle.desk_store.proofs.Common.{IsStoredArtifactRow, FindsOne, IsSaid, has_text_at, IsStoredActionRow, IsOfferRow, IsStoredRolloutRow, IsRuleRow, Actions}
+use Rattle.desk_store.proofs.Common.{Offers, Place}
 use Rattle.desk_store.proofs.Common.{Rollouts, Rules, HoldsTables, Tables, GET_ACTION, GET_OFFER, StoredArtifact, GET_ARTIFACT, StoredAction, StoredRollout}
 use Rattle.desk_store.proofs.Common.{GET_ROLLOUT, GET_RULE, action_columns, get_action_is, get_offer_is, offer_columns, from_shown, is_only, none_passes}
 use Rattle.desk_store.proofs.Common.{get_artifact_is, passes_rowid, get_rollout_is, get_rule_is, IsReadAs, Query, by, page}
@@ -104,18 +105,20 @@ module _ {p : Place} {sql : List ℕ} {query : ℕ → Query} {names : List (Lis
 -- ---- by a number
 
 pub artifact_told : (k : ℕ) (old new : State) (row : Option Row) → TakesFirst old new GET_ARTIFACT.now (Int (pos k) ∷ []) (Ok row)
-    → (out : Result (Option StoredArtifact) Fault) → IfOk out (λ found. IsReadAs IsStoredRow found row)
+    → (out : Result (Option StoredArtifact) Fault) → IfOk out (λ found. IsReadAs IsStoredArtifactRow found row)
     → FindsOf old new out (λ t found. IfSome found (HasNumbered t k))
-artifact_told k = first_said get_artifact_is (Int (pos k) ∷ []) (λ tree xs. refl) (has_rowid (pos k)) (λ db t holds row among. passes_rowid row k) IsStoredRow
+artifact_told k = first_said get_artifact_is (Int (pos k) ∷ []) (λ tree xs. refl) (has_rowid (pos k)) (λ db t holds row among. passes_rowid row k)
+    IsStoredArtifactRow
     SaysStored (λ row numbered a is. record { module_number = is.module_number; filename = is.filename; size = is.size; digest = is.digest })
 
 pub rollout_read : (r : ℕ) (old new : State) (rows : Vec Row Global) → AsksFew old new GET_ROLLOUT.now (Int (pos r) ∷ []) 1 (Ok rows)
-    → (out : Result (Option StoredRollout) Fault) → IfOk out (λ found. IsReadAs IsRolloutRow found (slice_get rows.items 0))
+    → (out : Result (Option StoredRollout) Fault) → IfOk out (λ found. IsReadAs IsStoredRolloutRow found (slice_get rows.items 0))
     → FindsOf old new out (λ t found. FindsOne (t Rollouts) (has_rowid (pos r)) IsRollout found)
-rollout_read r = one_read get_rollout_is (Int (pos r) ∷ []) (λ tree xs. refl) (has_rowid (pos r)) (λ db t holds row among. passes_rowid row r) IsRolloutRow
+rollout_read r = one_read get_rollout_is (Int (pos r) ∷ []) (λ tree xs. refl) (has_rowid (pos r)) (λ db t holds row among. passes_rowid row r)
+    IsStoredRolloutRow
     IsRollout (λ row numbered x is. is)
 
-says_numbered : (params row : Row) (a : StoredAction) → IsActionRow (shown_of action_columns params row) a → SaysNumbered row a
+says_numbered : (params row : Row) (a : StoredAction) → IsStoredActionRow (shown_of action_columns params row) a → SaysNumbered row a
 says_numbered params row a is = record {
   rollout = is.rollout;
   position = is.position;
@@ -127,9 +130,9 @@ says_numbered params row a is = record {
 }
 
 pub action_read : (k : ℕ) (old new : State) (rows : Vec Row Global) → AsksFew old new GET_ACTION.now (Int (pos k) ∷ []) 1 (Ok rows)
-    → (out : Result (Option StoredAction) Fault) → IfOk out (λ found. IsReadAs IsActionRow found (slice_get rows.items 0))
+    → (out : Result (Option StoredAction) Fault) → IfOk out (λ found. IsReadAs IsStoredActionRow found (slice_get rows.items 0))
     → FindsOf old new out (λ t found. FindsOne (t Actions) (has_rowid (pos k)) SaysNumbered found)
-action_read k = one_read get_action_is (Int (pos k) ∷ []) (λ tree xs. refl) (has_rowid (pos k)) (λ db t holds row among. passes_rowid row k) IsActionRow
+action_read k = one_read get_action_is (Int (pos k) ∷ []) (λ tree xs. refl) (has_rowid (pos k)) (λ db t holds row among. passes_rowid row k) IsStoredActionRow
     SaysNumbered (λ row numbered. says_numbered (Int (pos k) ∷ []) row)
 
 pub rule_read : (number group : ℕ) (old new : State) (rows : Vec Row Global) → AsksFew old new GET_RULE.now (Int (pos number) ∷ Int (pos group) ∷ []) 1

@@ -5,19 +5,16 @@ use Rattle.desk_store.proofs.Common.{option_map, Vec, vec_items, refl, sym, ap, 
 use Rattle.desk_store.proofs.Common.{output_cmp, page, State, col, Has, Fault, AsksText, by, passes, shown_in, shown_of, simple, GroupRecord, is_number}
 use Rattle.desk_store.proofs.Common.{Artifact, IsArtifactRow, has_size, small_number, IsCheckedArtifactRow, IsOwnedOfferRow, are_entries, is_wide}
 use Rattle.desk_store.proofs.Common.{keeps_action_rules, keeps_artifact_rules, keeps_offer_rules, first_broken, flag_in, number_in, outcome_in, AreRead}
-use Rattle.desk_store.proofs.Common.{AreSaid, IsSequencedRow}
-use Rattle.desk_store.proofs.Common.{IsNumberRow, broken_group_column, broken_listed_action_column, Actions, Artifacts, Feedbacks, Groups, Numbers, Offers}
-use Rattle.desk_store.proofs.Common.{Place, HoldsTables, Tables, has_word, Column, LIST_ACTIONS, LIST_ENTRIES, LIST_NUMBERS, LIST_OFFERS, LIST_ALL_ARTIFACTS}
-use Rattle.desk_store.proofs.Common.{LIST_ARTIFACTS, PlacedNumber, ListedAction, LIST_GROUPS, entry_columns, list_actions_is, list_entries_is, list_numbers_is}
-use Rattle.desk_store.proofs.Common.{list_offers_is, listed_columns, of_action, owned_columns, are_said, broken, number_order, rise, all_columns}
-use Rattle.desk_store.proofs.Common.{list_all_artifacts_is, list_artifacts_is, is_number_in, number_in_good, number_in_is, number_is, group_columns}
-use Rattle.desk_store.proofs.Common.{list_groups_is, of_rollout, AreReadAs, Query}
+use Rattle.desk_store.proofs.Common.{AreSaid, IsSequencedRow, IsNumberRow, broken_group_column, broken_listed_action_column, Actions, Artifacts, Feedbacks}
+use Rattle.desk_store.proofs.Common.{Groups, Numbers, Offers, Place, HoldsTables, Tables, has_word, Column, LIST_ACTIONS, LIST_ENTRIES, LIST_NUMBERS}
+use Rattle.desk_store.proofs.Common.{LIST_OFFERS, LIST_ALL_ARTIFACTS, LIST_ARTIFACTS, PlacedNumber, ListedAction, LIST_GROUPS, entry_columns, list_actions_is}
+use Rattle.desk_store.proofs.Common.{list_entries_is, list_numbers_is, list_offers_is, listed_columns, of_action, owned_columns, are_said, broken}
+use Rattle.desk_store.proofs.Common.{number_order, rise, all_columns, list_all_artifacts_is, list_artifacts_is, is_number_in, number_in_good, number_in_is}
+use Rattle.desk_store.proofs.Common.{number_is, group_columns, list_groups_is, of_rollout, AreReadAs, Query}
 use Rattle.std.specs.List.Sorted.{IsNonDecreasingBy}
 use Rattle.std.specs.Ordering.{is_lt}
 use Rattle.sqlite.specs.Effect.{Reads as Shows}
 use Rattle.desk_records.specs.Listings.{has_at}
-use Rattle.desk_records.specs.SetRow.{has_number}
-use Rattle.desk_records.specs.declared.module_row.Column.TheVariants as rule
 use Rattle.desk_records.specs.declared.checked_rows.CheckedArtifact.{CheckedArtifact}
 use Rattle.desk_records.specs.declared.checked_rows.OwnedOffer.{OwnedOffer}
 use Rattle.desk_records.specs.declared.entry_row.SequencedEntry.{SequencedEntry}
@@ -26,6 +23,8 @@ use Rattle.desk_records.proofs.TableColumns.{passes_integer}
 use Rattle.desk_store.specs.RawLists.{IsFoundInOrder, AreListed, IsKeptActionRow, IsKeptGroupRow, ListsRows, SaysAction, SaysArtifact, SaysEntry, SaysGroup}
 use Rattle.desk_store.specs.RawLists.{SaysListed, SaysNumber, SaysOffer, any_row}
 use Rattle.desk_records.proofs.MeaningWords.{Asks}
+use Rattle.desk_records.specs.Columns.{has_number}
+use Rattle.desk_records.specs.declared.table_columns.Column.TheVariants as rule
 use Rattle.desk_store.proofs.Known.{answer_of, known}
 use Rattle.desk_store.proofs.RawCalls.{FindsOf, all_read}
 

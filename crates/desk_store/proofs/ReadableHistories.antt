@@ -14,17 +14,15 @@ use Rattle.rollout_machine.specs.Records.{Records}
 use Rattle.rollout_machine.specs.Reports.{Reported}
 use Rattle.rollout_machine.specs.declared.records.ActionRecord.{ActionRecord}
 use Rattle.desk_records.specs.Actions.{Tally, action_row, history_of, tally_of}
-use Rattle.desk_records.specs.ArtifactRow.{has_size}
+use Rattle.desk_records.specs.Columns.{has_size, has_word}
 use Rattle.desk_records.specs.Codes.{first_broken, flag_in, number_in, outcome_in}
 use Rattle.desk_records.specs.Holds.{ledger_of}
-use Rattle.desk_records.specs.RolloutRow.{broken_action_column}
+use Rattle.desk_records.specs.ReadRows.{broken_stored_action_column, columns_of_stored_action}
 use Rattle.desk_records.specs.RowFaults.{BreaksRule}
 use Rattle.desk_records.specs.Schema.{Actions}
-use Rattle.desk_records.specs.TableRows.{columns_of_action}
-use Rattle.desk_records.specs.TargetRow.{has_word}
-use Rattle.desk_records.specs.declared.module_row.Column.{Column}
-use Rattle.desk_records.specs.declared.module_row.Column.TheVariants.{ActionCanceling, ActionEntries, ActionNotes, ActionOutcome, ActionPlace, ActionRollout}
-use Rattle.desk_records.specs.declared.module_row.Column.TheVariants.{TargetId}
+use Rattle.desk_records.specs.declared.table_columns.Column.{Column}
+use Rattle.desk_records.specs.declared.table_columns.Column.TheVariants.{ActionCanceling, ActionEntries, ActionNotes, ActionOutcome, ActionPlace, ActionRollout}
+use Rattle.desk_records.specs.declared.table_columns.Column.TheVariants.{TargetId}
 use Rattle.desk_store.specs.Readable.{IsReadable}
 
 tallied_at : (as' : List ActionRecord) (i : ℕ) (a : ActionRecord) → slice_get as' i ≡ Some a → slice_get (zip as' (map tally_of as')) i ≡ Some (a, tally_of a)
@@ -43,7 +41,7 @@ breaks_last [] c kept broken = record { first = c; is = rw broken refl }
 breaks_last ((true, d) ∷ more) c kept broken = breaks_last more c kept broken
 breaks_last ((false, d) ∷ more) c kept broken = record { first = d; is = refl }
 
-unread_entries : (row : Row) → has_size (column row 6) ≡ false → BreaksRule (broken_action_column row)
+unread_entries : (row : Row) → has_size (column row 6) ≡ false → BreaksRule (broken_stored_action_column row)
 unread_entries row unread =
     breaks_last ((is_some (number_in (column row 0)), ActionRollout) ∷ (has_size (column row 1), ActionPlace) ∷ (has_word (column row 2), TargetId)
     ∷ (is_some (flag_in (column row 3)), ActionCanceling)
@@ -67,4 +65,4 @@ history_few r readable (suc i) large = go (slice_get r.actions i) refl large
         let wide : 2 ^ 32 ≤ length a.history = omega (arith, large, length-map a.history (λ (it : Reported). it.entry)) in
         let unread : has_size (Int (pos (length a.history))) ≡ false = no_size (length a.history) wide in
         readable.keep Actions (rows_from (action_row r.rollouts) 1 its) refl (action_row r.rollouts row.0 (a, tally_of a)) row.1
-        (inr (inl (unread_entries (columns_of_action (action_row r.rollouts row.0 (a, tally_of a))) unread)))
+        (inr (inl (unread_entries (columns_of_stored_action (action_row r.rollouts row.0 (a, tally_of a))) unread)))

@@ -17,12 +17,14 @@ use Rattle.desk_records.specs.Holds.{IsHeld, ledger_of}
 use Rattle.desk_records.specs.RowFaults.{BreaksRule}
 use Rattle.desk_records.specs.Schema.{Actions, Artifacts, Desk, Feedbacks, Groups, Members, Modules, Numbers, Offers, Pieces, Place, Rollouts, Rules}
 use Rattle.desk_records.specs.Schema.{SetModules, Sets, TargetAttributes, TargetTags, Targets}
-use Rattle.desk_records.specs.TargetRow.{broken_attribute_column, broken_listed_column, broken_target_column}
+use Rattle.desk_records.specs.ReadRows.{broken_attribute_column, broken_listed_target_column, broken_stored_target_column}
+use Rattle.desk_records.specs.ReadRows.{columns_of_attribute, columns_of_listed_target, columns_of_stored_target}
 use Rattle.desk_records.specs.Targets.{attribute_rows, tag_rows, target_row}
-use Rattle.desk_records.specs.declared.module_row.Column.{Column}
+use Rattle.desk_records.specs.declared.table_columns.Column.{Column}
 use Rattle.desk_records.proofs.HeldTables.{wanted_of}
 use Rattle.desk_records.proofs.Membership.{has_flat, has_mapped}
-use Rattle.desk_store.specs.Readable.{BreaksColumn, IsReadable, second_shown, third_shown}
+use Rattle.desk_store.specs.BrokenRows.{BreaksColumn}
+use Rattle.desk_store.specs.Readable.{IsReadable}
 
 -- its own words and texts, and those of its tags and attributes, are such
 pub record KeepsTarget (x : Target) : Type 0 where
@@ -38,9 +40,11 @@ unbroken column none broken = let told : None ≡ Some broken.first = sym none �
 module _ (r : Records) (w : IsReadable (ledger_of r)) (ts : List Target) (keep : (x : Target) → Has ts x → KeepsTarget x) (few : length ts < 2 ^ 32) where
   of_target : (n : ℕ) (x : Target) → KeepsTarget x → BreaksColumn Targets (Int (pos n) ∷ target_row x) → ⊥
   of_target n x keeps (inl broken) =
-      unbroken _ (let is : broken_target_column (third_shown (Int (pos n) ∷ target_row x)) ≡ None = rw (keeps.name, keeps.digest) refl in is) broken
+      unbroken _ (let is : broken_stored_target_column (columns_of_stored_target (Int (pos n) ∷ target_row x)) ≡ None = rw (keeps.name, keeps.digest) refl in
+      is) broken
   of_target n x keeps (inr broken) =
-      unbroken _ (let is : broken_listed_column (second_shown (Int (pos n) ∷ target_row x)) ≡ None = rw (keeps.id, keeps.name) refl in is) broken
+      unbroken _ (let is : broken_listed_target_column (columns_of_listed_target (Int (pos n) ∷ target_row x)) ≡ None = rw (keeps.id, keeps.name) refl in is)
+      broken
 
   of_tag : (n : ℕ) (x : Target) (tag : Bytes) → KeepsTarget x → Has x.tags tag → BreaksColumn TargetTags (Int (pos n) ∷ Text x.id ∷ Text tag ∷ []) → ⊥
   of_tag n x tag keeps its broken = true≢false (sym (test_has is_word x.tags tag keeps.tags its) ∙ broken)
@@ -49,7 +53,7 @@ module _ (r : Records) (w : IsReadable (ledger_of r)) (ts : List Target) (keep :
       → BreaksColumn TargetAttributes (Int (pos n) ∷ Text x.id ∷ Text a.key ∷ Text a.value ∷ []) → ⊥
   of_attribute n x a keeps its broken =
       let parts = and_parts (is_word a.key) (is_value a.value) (test_has is_attribute x.attributes a keeps.attributes its) in
-      unbroken _ (let is : broken_attribute_column (third_shown (Int (pos n) ∷ Text x.id ∷ Text a.key ∷ Text a.value ∷ [])) ≡ None =
+      unbroken _ (let is : broken_attribute_column (columns_of_attribute (Int (pos n) ∷ Text x.id ∷ Text a.key ∷ Text a.value ∷ [])) ≡ None =
       rw (parts.0, parts.1) refl in is) broken
 
   keeps : (p : Place) (rows : List Row) → IsHeld (ledger_of (record r { targets = ts })) p rows → (row : Row) → Has rows row → BreaksColumn p row → ⊥

@@ -2,21 +2,24 @@
 use Rattle.desk_store.proofs.Common.{◌≡◌, ◌<◌, ◌≤◌, ℕ, Bool, pos, take, drop, slice_get, arith, [], ◌∷◌, length, map, Option, Some, None, Ok, Err, Result}
 use Rattle.desk_store.proofs.Common.{IfOk, option_map, Vec, vec_items, refl, ap, subst, ◌∙◌, codes, list_any, is_some, Global, Int, Text, Row, column}
 use Rattle.desk_store.proofs.Common.{Database, State, slice_get-map, Fault, AsksFew, AsksText, TakesFirst, Finds, ShowsFirst, few_finds, first_finds}
-use Rattle.desk_store.proofs.Common.{item_numbered, Bytes, group_numbered, group_holding, GroupRecord, Word, GET_DESK, FIND_ROLLOUT, LAST_ROLLOUT, GET_ROLLOUT}
-use Rattle.desk_store.proofs.Common.{LIST_MEMBERS, LIST_GROUPS, GET_GROUP, HOLDING_GROUP, GROUP_AND_NEXT, GET_RULE, LIST_RULES, StoredRollout, HoldsLedger}
-use Rattle.desk_store.proofs.Common.{Ledger, IsLastRow, IsRolloutRow, IsGroupRow, stored_rollout, is_called, groups_of, members_of, rule_numbered}
-use Rattle.desk_store.proofs.Common.{rules_numbered, that_reach, told_rule, IsRuleRow, GroupRule, flag_in, rollout_names, group_names, find_rollout_is}
-use Rattle.desk_store.proofs.Common.{last_rollout_is, get_rollout_is, list_members_is, list_groups_is, get_group_is, holding_group_is, group_and_next_is}
-use Rattle.desk_store.proofs.Common.{rule_names, get_rule_is, list_rules_is, finds_rollout, lasts_rollout, gets_rollout, lists_members, shown_group}
-use Rattle.desk_store.proofs.Common.{lists_groups, gets_group, gets_group_and_next, holds_group, gets_rule, lists_rules, group_and_next, GroupAndNext}
-use Rattle.desk_store.proofs.Common.{AreReadAs, IsApproval, IsReadAs}
+use Rattle.desk_store.proofs.Common.{item_numbered, Bytes, group_numbered, group_holding, GroupRecord, Word, GET_DESK, FIND_ROLLOUT, LAST_ROLLOUT}
+use Rattle.desk_store.proofs.Common.{GET_ROLLOUT, LIST_MEMBERS, LIST_GROUPS, GET_GROUP, HOLDING_GROUP, GROUP_AND_NEXT, GET_RULE, LIST_RULES, StoredRollout}
+use Rattle.desk_store.proofs.Common.{HoldsLedger, Ledger, IsLastRow, IsStoredRolloutRow, IsGroupRow, stored_rollout, is_called, groups_of, members_of}
+use Rattle.desk_store.proofs.Common.{rule_numbered, rules_numbered, that_reach, told_rule, IsRuleRow, GroupRule, flag_in, rollout_names, group_names}
+use Rattle.desk_store.proofs.Common.{find_rollout_is, last_rollout_is, get_rollout_is, list_members_is, list_groups_is, get_group_is, holding_group_is}
+use Rattle.desk_store.proofs.Common.{group_and_next_is, rule_names, get_rule_is, list_rules_is, finds_rollout, lasts_rollout, gets_rollout, lists_members}
+use Rattle.desk_store.proofs.Common.{shown_group, lists_groups, gets_group, gets_group_and_next, holds_group, gets_rule, lists_rules, group_and_next}
+use Rattle.desk_store.proofs.Common.{GroupAndNext, AreReadAs, IsApproval, IsReadAs}
 use Rattle.sqlite.specs.Effect.{Reads as Shows}
 use Rattle.sqlite.proofs.MarkLemmas.{slice_get-take}
 use Rattle.rollout_model.specs.declared.word.TargetKind.{TargetKind}
 use Rattle.desk_records.proofs.DeskRecords.{gets_desk, told_desk}
+use Rattle.desk_records.proofs.KeptColumns.{kept_flag}
 use Rattle.desk_records.proofs.Meaning.{get_desk_is}
+use Rattle.desk_records.proofs.RowsTold.{one_group, one_stored_rollout, one_rule}
+use Rattle.desk_records.specs.ReadRows.{shown_stored_rollout}
 use Rattle.desk_store.proofs.Known.{in_ledgers, known}
-use Rattle.desk_store.proofs.LedgerReads.{both_mapped, kept_flag, shown_rollout, one_rollout, one_group, one_rule}
+use Rattle.desk_store.proofs.LedgerReads.{both_mapped}
 use Rattle.desk_store.proofs.ReadLemmas.{asks_all, one_read, takes_last, takes_one}
 
 -- ---- what the texts mean where a ledger is held
@@ -54,13 +57,14 @@ last_read old new row = takes_last (λ (l : Ledger). l) LAST_ROLLOUT.now old new
     (λ db r holds at given. tt) row (λ db l holds. lasts_rollout db l holds (codes "number" ∷ []) row)
 
 pub rollout_read : (number : ℕ) → 1 ≤ number → (old new : State) (row : Option Row) → TakesFirst old new GET_ROLLOUT.now (Int (pos number) ∷ []) (Ok row)
-    → (out : Result (Option StoredRollout) Fault) → IfOk out (λ found. IsReadAs IsRolloutRow found row)
+    → (out : Result (Option StoredRollout) Fault) → IfOk out (λ found. IsReadAs IsStoredRolloutRow found row)
     → Finds HoldsLedger (λ (l : Ledger). l) old new out (λ l found. found ≡ option_map stored_rollout (item_numbered l.records.rollouts number))
 rollout_read number least old new row =
-    takes_one (λ (l : Ledger). l) IsRolloutRow shown_rollout GET_ROLLOUT.now (Int (pos number) ∷ []) old new (known get_rollout_is)
-    (λ l. option_map stored_rollout (item_numbered l.records.rollouts number)) ◌≡◌ refl (λ a b h. ap Some (one_rollout a b h)) (λ db l holds at given. tt)
+    takes_one (λ (l : Ledger). l) IsStoredRolloutRow shown_stored_rollout GET_ROLLOUT.now (Int (pos number) ∷ []) old new (known get_rollout_is)
+    (λ l. option_map stored_rollout (item_numbered l.records.rollouts number)) ◌≡◌ refl (λ a b h. ap Some (one_stored_rollout a b h))
+    (λ db l holds at given. tt)
     row
-    (λ db l holds shown. gets_rollout db l holds rollout_names number least row shown ∙ both_mapped shown_rollout stored_rollout _)
+    (λ db l holds shown. gets_rollout db l holds rollout_names number least row shown ∙ both_mapped shown_stored_rollout stored_rollout _)
 
 -- ---- members
 

@@ -2,9 +2,8 @@
 use Rattle.desk_store.proofs.Common.{◌≡◌, ◌⊎◌, ◌≤◌, ◌<◌, ◌^◌, ◌+◌, ℕ, suc, inl, inr, min, nat_lt, length, pos, Bool, true, false, cond, List, [], ◌∷◌, Option}
 use Rattle.desk_store.proofs.Common.{Some, None, option_map, Ok, Err, Result, IfErr, refl, ap, subst, arith, codes, is_some, Value, Int, Text, Row, column}
 use Rattle.desk_store.proofs.Common.{has_size, small_number, flag_in, first_broken, flag, Fault, Memory, Store, TakesFirst, first_finds, shown_of, Ghosts}
-use Rattle.desk_store.proofs.Common.{HoldsLedger, Ledger, IfRowsBroken, HasNoNumber, BreaksRule, broken_offer_column, told_offer, is_number, seen_in}
-use Rattle.desk_store.proofs.Common.{OpenChange}
-use Rattle.desk_store.proofs.Common.{COUNT_TARGETS, GET_DESK, NEXT_OFFER, Targets, get_desk_is, count_targets_is, counted_at, Place, Query}
+use Rattle.desk_store.proofs.Common.{HoldsLedger, Ledger, IfRowsBroken, HasNoNumber, BreaksRule, broken_offer_column, is_number, seen_in, OpenChange}
+use Rattle.desk_store.proofs.Common.{COUNT_TARGETS, GET_DESK, NEXT_OFFER, Targets, get_desk_is, count_targets_is, counted_at, Place, Query, shown_offer}
 use Rattle.sql_calls.specs.declared.fault.Fault.TheVariants.{Broken}
 use Rattle.std.proofs.lemmas.Bool.Decides.{nat_tests}
 use Rattle.rollout_machine.specs.declared.records.RolloutRecord.{RolloutRecord}
@@ -13,7 +12,6 @@ use Rattle.rollout_model.specs.declared.rollout.Offer.{Offer}
 use Rattle.rollout_machine.specs.Commands.{Bytes}
 use Rattle.rollout_machine.specs.declared.records.ActionRecord.{ActionRecord}
 use Rattle.desk_records.specs.NextOffers.{is_next, next_offer, next_offer_from}
-use Rattle.desk_records.specs.declared.module_row.Column.TheVariants as rule
 use Rattle.desk_records.proofs.DeskRecords.{gets_desk, told_desk}
 use Rattle.desk_records.proofs.HeldTables.{rows_of}
 use Rattle.desk_records.proofs.NextOfferRecords.{gets_next_offer}
@@ -21,13 +19,15 @@ use Rattle.desk_records.proofs.NumberColumns.{is_in_range, is_number_in, small_i
 use Rattle.desk_records.proofs.TargetMeaning.{count_targets_is}
 use Rattle.desk_store.specs.Changing.{FindsLedger}
 use Rattle.desk_store.specs.Failing.{FailsIn, FailsSeeing, AreActionsNumbered}
-use Rattle.desk_store.specs.Readable.{BreaksColumn, HasNoKey, IsReadable}
+use Rattle.desk_store.specs.Readable.{IsReadable}
 use Rattle.desk_store.specs.Rows.{HasNoApproval, IsBroken}
 use Rattle.desk_store.proofs.FailLemmas.{breaks_by, first_fails, tables_of, told_never}
 use Rattle.desk_store.proofs.Known.{in_ledgers, known, tables_know}
 use Rattle.desk_records.proofs.MeaningWords.{Asks}
+use Rattle.desk_records.specs.declared.table_columns.Column.TheVariants as rule
 use Rattle.desk_store.proofs.NextOfferCalls.{next}
 use Rattle.desk_store.proofs.RawCalls.{count_shown}
+use Rattle.desk_store.specs.BrokenRows.{BreaksColumn, HasNoKey}
 
 -- a value that is no number of 32 bits
 no_size : (v : Value) → ((n : ℕ) → n < 2 ^ 32 → v ≡ Int (pos n) → ⊥) → has_size v ≡ false
@@ -95,12 +95,12 @@ next_in_range : (rollouts : List RolloutRecord) (id : Bytes) (as' : List ActionR
     → next_offer_from rollouts id 1 as' ≡ Some o → is_number o.action ≡ true
 next_in_range rollouts id as' few o is = let its = next_from rollouts id 1 as' o is in is_in_range o.action its.0 (omega (arith, its.1, few))
 
-never_next : (wanted : Option Offer) (row : Option Row) → row ≡ option_map told_offer wanted → ((o : Offer) → wanted ≡ Some o → is_number o.action ≡ true)
+never_next : (wanted : Option Offer) (row : Option Row) → row ≡ option_map shown_offer wanted → ((o : Offer) → wanted ≡ Some o → is_number o.action ≡ true)
     → IsBroken (λ r. BreaksRule (broken_offer_column r)) row → ⊥
 never_next wanted None is good broken = broken
 never_next None (Some x) is good broken = absurd cc
 never_next (Some o) (Some x) is good broken =
-    let it : x ≡ told_offer o = cc in
+    let it : x ≡ shown_offer o = cc in
     go o.canceling (subst (λ r. BreaksRule (broken_offer_column r)) it broken)
   where
     go : (b : Bool) → BreaksRule (broken_offer_column (Int (pos o.action) ∷ Int (pos (flag b)) ∷ [])) → ⊥

@@ -1,14 +1,17 @@
 -- The calls on distribution sets.
 use Rattle.desk_store.proofs.Common.{◌≡◌, ◌≤◌, ℕ, ◌+◌, pos, [], ◌∷◌, length, Bool, Option, Some, Ok, Result, IfOk, option_map, Vec, vec_items, refl, sym, ap}
-use Rattle.desk_store.proofs.Common.{subst, codes, list_any, Global, is_some, Int, Text, Row, column, State, Fault, RunsText, AsksText, TakesFirst, Finds}
-use Rattle.desk_store.proofs.Common.{Makes, first_finds, run_makes, item_numbered, Bytes, SetLabel, Records, is_named_by_set, FIND_SET, LAST_SET, GET_SET}
+use Rattle.desk_store.proofs.Common.{subst, codes, list_any, Global, is_some, Int, Row, column, State, Fault, RunsText, AsksText, TakesFirst, Finds, Makes}
+use Rattle.desk_store.proofs.Common.{first_finds, run_makes, item_numbered, Bytes, SetLabel, Records, is_named_by_set, FIND_SET, LAST_SET, GET_SET}
 use Rattle.desk_store.proofs.Common.{LIST_SET_MODULES, MODULE_LOCKED, PUT_SET, PUT_SET_MODULE, HoldsLedger, HoldsRecords, ledger_of, IsLastRow, place_row}
 use Rattle.desk_store.proofs.Common.{is_same_set, names_of, with_set, AddsSetModule, AreReadAs, IsReadAs, put_set_is, put_set_module_is, put_at}
+use Rattle.desk_records.proofs.RowsTold.{one_set_name}
 use Rattle.rollout_machine.specs.Objects.{modules_of_set}
 use Rattle.rollout_model.specs.declared.number.ModuleKind.{ModuleKind}
 use Rattle.rollout_model.specs.declared.number.Number.{Number}
 use Rattle.desk_records.specs.declared.set_row.SetName.{SetName}
-use Rattle.desk_records.specs.SetRow.{IsSetNameRow, StoredNumber, called}
+use Rattle.desk_records.specs.SetRow.{called}
+use Rattle.desk_records.specs.ReadRows.{IsSetNameRow}
+use Rattle.desk_records.specs.Columns.{StoredNumber}
 use Rattle.desk_records.proofs.SetMeaning.{find_set_is, last_set_is, get_set_is, list_set_modules_is, module_locked_is, put_set_is, put_set_module_is}
 use Rattle.desk_records.proofs.SetRecords.{finds_set, lasts_set, gets_set, lists_set_modules, finds_lock, adds_set, adds_set_module}
 use Rattle.desk_store.proofs.ReadLemmas.{asks_all, takes_last, takes_one}
@@ -39,21 +42,12 @@ last_read old new row = takes_last ledger_of LAST_SET.now old new (known last_se
 abbrev pub Gets : ℕ → Records → Option SetName → Type 0
 Gets number r found = found ≡ option_map called (item_numbered r.sets number)
 
--- a row has one name
-one_name : (name : SetName) (set : SetLabel) → IsSetNameRow (names_of set.name set.version) name → name ≡ called set
-one_name name set h =
-    let first : Text set.name ≡ Text name.name = h.name in
-    let second : Text set.version ≡ Text name.version = h.version in
-    let same : name.name ≡ set.name = cc in
-    let alike : name.version ≡ set.version = cc in
-    λ i. record { name = same i; version = alike i }
-
 pub set_read : (number : ℕ) → 1 ≤ number → (old new : State) (row : Option Row) → TakesFirst old new GET_SET.now (Int (pos number) ∷ []) (Ok row)
     → (out : Result (Option SetName) Fault) → IfOk out (λ found. IsReadAs IsSetNameRow found row)
     → Finds HoldsLedger ledger_of old new out (Gets number)
 set_read number least old new row =
     takes_one ledger_of IsSetNameRow (λ (set : SetLabel). names_of set.name set.version) GET_SET.now (Int (pos number) ∷ []) old new (known get_set_is)
-    (λ r. item_numbered r.sets number) (λ found set. found ≡ option_map called set) refl (λ a b h. ap Some (one_name a b h))
+    (λ r. item_numbered r.sets number) (λ found set. found ≡ option_map called set) refl (λ a b h. ap Some (one_set_name a (called b) h))
     (λ db r holds at given. tt) row (λ db now holds. gets_set db now holds (codes "name" ∷ codes "version" ∷ []) number least row)
 
 -- ---- a set's modules

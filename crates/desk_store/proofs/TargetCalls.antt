@@ -3,14 +3,17 @@ use Rattle.desk_store.proofs.Common.{◌≡◌, ◌<◌, ◌^◌, ℕ, min, pos,
 use Rattle.desk_store.proofs.Common.{Vec, vec_items, refl, sym, ap, subst, ◌∙◌, arith, codes, Global, Int, Text, Blob, Row, column, Database, State, Fault}
 use Rattle.desk_store.proofs.Common.{RunsText, AsksText, TakesFirst, Finds, Makes, ShowsFirst, first_finds, run_makes, Bytes, Records, tags_of, target_of}
 use Rattle.desk_store.proofs.Common.{Word, COUNT_TARGETS, DROP_TARGET_TAG, GET_TARGET, LIST_TARGETS, LIST_TARGET_TAGS, PUT_TARGET, PUT_TARGET_TAG, SET_TARGET}
-use Rattle.desk_store.proofs.Common.{HoldsLedger, HoldsRecords, ledger_of, IsTargetRow, IsListedTargetRow, listed_target, stored_target, tag_row, AreReadAs}
+use Rattle.desk_store.proofs.Common.{HoldsLedger, HoldsRecords, ledger_of, IsStoredTargetRow, IsListedTargetRow, listed_target, stored_target, tag_row}
+use Rattle.desk_store.proofs.Common.{AreReadAs}
 use Rattle.desk_store.proofs.Common.{IsCount, IsReadAs, put_target_is, set_target_is, put_target_tag_is, drop_target_tag_is, count_targets_is, changed_at}
 use Rattle.desk_store.proofs.Common.{counted_at, dropped_at, put_at}
+use Rattle.desk_records.specs.ReadRows.{shown_listed_target}
+use Rattle.desk_records.proofs.RowsTold.{one_listed_target, one_stored_target}
 use Rattle.rollout_machine.specs.Targets.{Target}
 use Rattle.rollout_model.specs.declared.word.LabelKind.{LabelKind}
 use Rattle.desk_records.specs.declared.target_row.ListedTarget.{ListedTarget}
 use Rattle.desk_records.specs.declared.target_row.StoredTarget.{StoredTarget}
-use Rattle.desk_records.specs.ModuleRow.{StoredText}
+use Rattle.desk_records.specs.Columns.{StoredText}
 use Rattle.desk_records.specs.Targets.{AddsTag, AddsTarget, renamed, untagged, with_changed}
 use Rattle.desk_records.proofs.TargetMeaning.{get_target_is, count_targets_is, list_targets_is, list_target_tags_is, put_target_is, set_target_is}
 use Rattle.desk_records.proofs.TargetMeaning.{put_target_tag_is, drop_target_tag_is}
@@ -26,21 +29,12 @@ use Rattle.desk_store.proofs.Known.{in_ledgers, known, tables_know}
 abbrev pub Gets : Bytes → Records → Option StoredTarget → Type 0
 Gets id r found = found ≡ option_map stored_target (target_of r id)
 
--- a row tells of one target
-one_told : (told : StoredTarget) (t : Target) → IsTargetRow (told_target t) told → told ≡ stored_target t
-one_told told t h =
-    let first : Text t.name ≡ Text told.name = h.name in
-    let second : Blob t.digest ≡ Blob told.digest = h.digest in
-    let name : told.name ≡ t.name = cc in
-    let digest : told.digest ≡ t.digest = cc in
-    λ i. record { name = name i; digest = digest i }
-
 pub target_read : (id : Bytes) (old new : State) (row : Option Row) → TakesFirst old new GET_TARGET.now (Text id ∷ []) (Ok row)
-    → (out : Result (Option StoredTarget) Fault) → IfOk out (λ found. IsReadAs IsTargetRow found row)
+    → (out : Result (Option StoredTarget) Fault) → IfOk out (λ found. IsReadAs IsStoredTargetRow found row)
     → Finds HoldsLedger ledger_of old new out (Gets id)
 target_read id old new row =
-    takes_one ledger_of IsTargetRow told_target GET_TARGET.now (Text id ∷ []) old new (known get_target_is) (λ r. target_of r id)
-    (λ found t. found ≡ option_map stored_target t) refl (λ told t h. ap Some (one_told told t h)) (λ db r holds at given. tt) row
+    takes_one ledger_of IsStoredTargetRow told_target GET_TARGET.now (Text id ∷ []) old new (known get_target_is) (λ r. target_of r id)
+    (λ found t. found ≡ option_map stored_target t) refl (λ told t h. ap Some (one_stored_target told (stored_target t) h)) (λ db r holds at given. tt) row
     (λ db now holds. gets_target db now holds (codes "name" ∷ codes "digest" ∷ []) id row)
 
 -- ---- how many there are
@@ -74,19 +68,7 @@ count_read old new row h out is small = first_finds HoldsLedger ledger_of COUNT_
 abbrev pub Pages : ℕ → ℕ → Records → Vec ListedTarget Global → Type 0
 Pages limit offset r targets = targets.items ≡ map listed_target (take limit (drop offset r.targets))
 
-abbrev row_of : ListedTarget → Row
-row_of listed = Text listed.id ∷ Text listed.name ∷ []
-
--- a row shows one target
-one_listed : (a b : ListedTarget) → IsListedTargetRow (row_of b) a → a ≡ b
-one_listed a b h =
-    let first : Text b.id ≡ Text a.id = h.id in
-    let second : Text b.name ≡ Text a.name = h.name in
-    let id : a.id ≡ b.id = cc in
-    let name : a.name ≡ b.name = cc in
-    λ i. record { id = id i; name = name i }
-
-rows_listed : (ts : List Target) → map listed_row ts ≡ map row_of (map listed_target ts)
+rows_listed : (ts : List Target) → map listed_row ts ≡ map shown_listed_target (map listed_target ts)
 rows_listed [] = refl
 rows_listed (t ∷ ts) = ap (λ l. listed_row t ∷ l) (rows_listed ts)
 
@@ -94,8 +76,8 @@ pub targets_read : (limit offset : ℕ) (old new : State) (rows : Vec Row Global
     (Ok rows) → (out : Result (Vec ListedTarget Global) Fault)
     → IfOk out (λ targets. AreReadAs IsListedTargetRow rows.items targets.items) → Finds HoldsLedger ledger_of old new out (Pages limit offset)
 targets_read limit offset old new rows =
-    asks_all ledger_of vec_items IsListedTargetRow row_of one_listed LIST_TARGETS.now (Int (pos limit) ∷ Int (pos offset) ∷ []) old new (known list_targets_is)
-    (λ r. map listed_target (take limit (drop offset r.targets))) rows
+    asks_all ledger_of vec_items IsListedTargetRow shown_listed_target one_listed_target LIST_TARGETS.now (Int (pos limit) ∷ Int (pos offset) ∷ []) old new
+    (known list_targets_is) (λ r. map listed_target (take limit (drop offset r.targets))) rows
     (λ db now holds shown. lists_targets db now holds (codes "controller" ∷ codes "name" ∷ []) limit offset rows.items shown ∙ rows_listed _)
 
 -- ---- the tags of a target

@@ -11,5 +11,6 @@ pub mod RuleTables
 pub mod Unreadable
 pub mod Breaking
 pub mod Blaming
+pub mod BrokenRows
 pub mod Readable
 pub mod Failing

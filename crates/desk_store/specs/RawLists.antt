@@ -1,7 +1,7 @@
 -- What is listed or found of a table, whatever rows it has.
-use Rattle.std.specs.Prelude.{◌≡◌, ℕ, Bool, true, List, [], ◌∷◌, Option, Some, None, pos}
+use Rattle.std.specs.Prelude.{◌≡◌, ℕ, Bool, true, List, Option, Some, None, pos}
 use Rattle.std.specs.List.Sorted.{IsNonDecreasingBy}
-use Rattle.sqlite_value.specs.Order.{Row, column}
+use Rattle.sqlite_value.specs.Order.{Row}
 use Rattle.sqlite_rules.specs.Lists.{Has}
 use Rattle.rollout_machine.specs.Commands.{Bytes}
 use Rattle.sqlite_trees.specs.Tree.{has_rowid}
@@ -9,15 +9,15 @@ use Rattle.rollout_machine.specs.declared.records.GroupRecord.{GroupRecord}
 use Rattle.rollout_model.specs.declared.artifact.Artifact.{Artifact}
 use Rattle.rollout_model.specs.declared.group_rule.GroupRule.{GroupRule}
 use Rattle.rollout_model.specs.declared.rollout.Offer.{Offer}
-use Rattle.desk_records.specs.ArtifactRow.{IsArtifactRow, IsStoredRow}
 use Rattle.desk_records.specs.Listings.{AreBroken, AreSaid, IsSaid, has_at}
-use Rattle.desk_records.specs.NumberRow.{IsNumberRow}
-use Rattle.desk_records.specs.RolloutRow.{IsActionRow, IsGroupRow, IsListedActionRow, broken_group_column, broken_listed_action_column}
-use Rattle.desk_records.specs.RuleRow.{IsRuleRow}
+use Rattle.desk_records.specs.ReadRows.{IsStoredActionRow, IsArtifactRow, IsGroupRow, IsListedActionRow, IsNumberRow, IsRuleRow, IsStoredArtifactRow}
+use Rattle.desk_records.specs.ReadRows.{broken_group_column}
+use Rattle.desk_records.specs.ReadRows.{broken_listed_action_column, columns_of_artifact, columns_of_stored_action, columns_of_stored_artifact}
+use Rattle.desk_records.specs.ReadRows.{columns_of_number}
+use Rattle.desk_records.specs.ReadRows.{columns_of_rule}
 use Rattle.desk_records.specs.Schema.{Actions, Artifacts, Offers}
 use Rattle.desk_records.specs.Tables.{Tables}
-use Rattle.desk_records.specs.TableRows.{IsAction, IsArtifact, IsEntry, IsGroup, IsOffer, columns_of_action, columns_of_artifact, columns_of_number}
-use Rattle.desk_records.specs.TableRows.{columns_of_rule}
+use Rattle.desk_records.specs.TableRows.{IsAction, IsArtifact, IsEntry, IsGroup, IsOffer}
 use Rattle.desk_records.specs.declared.artifact_row.StoredArtifact.{StoredArtifact}
 use Rattle.desk_records.specs.declared.checked_rows.CheckedArtifact.{CheckedArtifact}
 use Rattle.desk_records.specs.declared.checked_rows.OwnedOffer.{OwnedOffer}
@@ -30,10 +30,6 @@ use Rattle.desk_records.specs.declared.rollout_row.StoredAction.{StoredAction}
 abbrev pub ListsRows : {A : Type 0} → List Row → (Row → Bool) → (Row → A → Type 0) → Option (List A) → Type 0
 ListsRows rows test says (Some found) = AreSaid rows test says found
 ListsRows rows test says None = AreBroken rows test says
-
--- what is shown of an artifact in a listing
-abbrev pub columns_in_listing : Row → Row
-columns_in_listing row = column row 0 ∷ column row 3 ∷ column row 4 ∷ column row 5 ∷ []
 
 -- each row
 abbrev pub any_row : Row → Bool
@@ -64,15 +60,15 @@ SaysNumber row it = IsNumberRow (columns_of_number row) it
 
 -- the action of a number that is known
 abbrev pub SaysNumbered : Row → StoredAction → Type 0
-SaysNumbered row a = IsActionRow (columns_of_action row) a
+SaysNumbered row a = IsStoredActionRow (columns_of_stored_action row) a
 
 -- the artifact of a number that is known
 abbrev pub SaysStored : Row → StoredArtifact → Type 0
-SaysStored row a = IsStoredRow (columns_of_artifact row) a
+SaysStored row a = IsStoredArtifactRow (columns_of_stored_artifact row) a
 
 -- an artifact of a module that is known
 abbrev pub SaysListed : Row → Artifact → Type 0
-SaysListed row a = IsArtifactRow (columns_in_listing row) a
+SaysListed row a = IsArtifactRow (columns_of_artifact row) a
 
 -- what the target of an id is offered
 abbrev pub SaysOfferOf : Bytes → Row → Offer → Type 0

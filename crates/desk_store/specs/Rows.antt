@@ -5,9 +5,9 @@ use Rattle.std.specs.List.{AllZip}
 use Rattle.sqlite_value.specs.Order.{Row, column}
 use Rattle.sqlite_rules.specs.Lists.{Has}
 use Rattle.desk_records.specs.Codes.{flag_in}
--- what a row that can't be read makes of a call
+use Rattle.desk_records.specs.Columns.{StoredNumber}
 pub use Rattle.desk_records.specs.RowFaults.{BreaksRule, IfBroken, IfRowsBroken}
-use Rattle.desk_records.specs.SetRow.{StoredNumber}
+-- what a row that can't be read makes of a call
 
 -- no row is nothing
 abbrev pub IsReadAs : {A : Type 0} → (Row → A → Type 0) → Option A → Option Row → Type 0

@@ -3,23 +3,21 @@ use Rattle.std.specs.Prelude.{◌≡◌, ◌≤◌, ◌^◌, ◌&&◌, ℕ, nat_
 use Rattle.std.specs.List.Sorted.{IsNonDecreasingBy}
 use Rattle.sqlite_value.specs.Order.{Row, column}
 use Rattle.sqlite_rules.specs.Lists.{Has}
-use Rattle.desk_records.specs.ArtifactRow.{has_bytes}
 use Rattle.desk_records.specs.CheckedRows.{is_too_long}
 use Rattle.desk_records.specs.Codes.{number_in}
+use Rattle.desk_records.specs.Columns.{has_bytes}
 use Rattle.desk_records.specs.EntryRow.{BreaksSequenced}
 use Rattle.rollout_model.specs.declared.group_rule.GroupRule.{GroupRule}
 use Rattle.desk_records.specs.Listings.{AreSaid, HasNumber, has_at}
-use Rattle.desk_records.specs.NumberRow.{broken_number_column}
 use Rattle.desk_records.specs.PlaceLists.{SaysMember, is_of}
-use Rattle.desk_records.specs.RuleRow.{broken_rule_column}
+use Rattle.desk_records.specs.ReadRows.{broken_number_column, broken_stored_rollout_column, broken_rule_column, columns_of_stored_action, columns_of_number}
+use Rattle.desk_records.specs.ReadRows.{columns_of_stored_rollout, columns_of_rule}
 use Rattle.desk_records.specs.Schema.{Actions, Feedbacks, Members, Numbers, Pieces, Place, Rollouts, Rules}
-use Rattle.desk_records.specs.RolloutRow.{broken_rollout_column}
-use Rattle.desk_records.specs.TableRows.{columns_of_action, columns_of_number, columns_of_rollout, columns_of_rule}
 use Rattle.desk_records.specs.Tables.{Tables}
 use Rattle.desk_records.specs.declared.entry_row.SequencedEntry.{SequencedEntry}
 use Rattle.desk_records.specs.declared.member_row.PlacedMember.{PlacedMember}
 use Rattle.desk_records.specs.declared.rollout_row.ListedAction.{ListedAction}
-use Rattle.desk_records.specs.declared.module_row.Column.{Column}
+use Rattle.desk_records.specs.declared.table_columns.Column.{Column}
 use Rattle.desk_store.specs.RawLists.{SaysAction, SaysEntry}
 use Rattle.desk_store.specs.Rows.{BreaksRule}
 use Rattle.desk_store.specs.RuleTables.{HasGroupCount, HasNoRule, HasRule, HaveRules, grouping_of}
@@ -43,7 +41,7 @@ pub record HasTwins {A : Type 0} (rows : List Row) (test : Row → Bool) (says :
 -- Rows that are read and that nothing is recomputed of: one that breaks a rule, a number that is missing or is there twice, rules that make no grouping,
 -- and what is past its limit.
 pub data IsUnreadable (t : Tables) : Type 0 where
-  broken_rollout : (row : Row) → Has (t Rollouts) row → BreaksRule (broken_rollout_column (columns_of_rollout row)) → IsUnreadable t
+  broken_rollout : (row : Row) → Has (t Rollouts) row → BreaksRule (broken_stored_rollout_column (columns_of_stored_rollout row)) → IsUnreadable t
   broken_rule : (row : Row) → Has (t Rules) row → BreaksRule (broken_rule_column (columns_of_rule row)) → IsUnreadable t
   broken_piece : (row : Row) → Has (t Pieces) row → has_bytes (column row 3) ≡ false → IsUnreadable t
   broken_entry : (row : Row) (c : Column) → Has (t Feedbacks) row → BreaksSequenced (sequenced_shown row) c → IsUnreadable t
@@ -56,7 +54,7 @@ pub data IsUnreadable (t : Tables) : Type 0 where
   no_grouping : (rollout : ℕ) (rules : List GroupRule) → HasGroupCount t rollout (length rules) → HaveRules (HasRule t rollout) 1 rules
       → grouping_of rules ≡ None → IsUnreadable t
   large_number : (row : Row) → Has (t Rollouts) row → number_in (column row 0) ≡ None → IsUnreadable t
-  large_count : (row : Row) → Has (t Actions) row → is_too_long (columns_of_action row) ≡ true → IsUnreadable t
+  large_count : (row : Row) → Has (t Actions) row → is_too_long (columns_of_stored_action row) ≡ true → IsUnreadable t
   many_rows : (p : Place) → 2 ^ 32 ≤ length (t p) → IsUnreadable t
 
 -- the table whose rows they are

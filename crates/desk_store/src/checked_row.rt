@@ -3,11 +3,11 @@
 ghost use Rattle.std.specs.Prelude.{◌≡◌, Bool, IfErr, IfNone, IfOk, IfSome, None, false, option_map, true, vec_items};
 ghost use Rattle.std.specs.Option.{is_none};
 ghost use Rattle.sqlite_value.specs.Order.{Row};
-ghost use Rattle.desk_records.specs.CheckedRows.{IsCheckedArtifactRow, IsOwnedOfferRow, is_too_long};
-ghost use Rattle.desk_records.specs.CheckedRows.{keeps_action_rules, keeps_artifact_rules, keeps_offer_rules};
+ghost use Rattle.desk_records.specs.CheckedRows.{IsCheckedArtifactRow, IsOwnedOfferRow, is_too_long, keeps_action_rules, keeps_artifact_rules};
+ghost use Rattle.desk_records.specs.CheckedRows.{keeps_offer_rules};
 ghost use Rattle.desk_records.specs.Listings.{AreRead};
 ghost use Rattle.desk_records.specs.MemberRow.{IsPlacedRow, keeps_member_rules};
-ghost use Rattle.desk_records.specs.RolloutRow.{broken_group_column};
+ghost use Rattle.desk_records.specs.ReadRows.{broken_group_column};
 ghost use Rattle.desk_store.specs.RawLists.{IsKeptActionRow, IsKeptGroupRow};
 ghost use Rattle.desk_store.specs.Rows.{HasBroken, IfRowsBroken};
 

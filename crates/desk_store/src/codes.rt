@@ -1,8 +1,7 @@
 //! The codes of columns.
 
 ghost use Rattle.std.specs.Prelude.{◌≡◌};
-ghost use Rattle.desk_records.specs.Actions.{outcome_code};
-ghost use Rattle.desk_records.specs.Rollouts.{approval_code, flag};
+ghost use Rattle.desk_records.specs.Codes.{approval_code, flag, outcome_code};
 
 use rollout_machine::Outcome;
 use rollout_model::Approval;

@@ -4,7 +4,7 @@ ghost use Rattle.std.specs.Prelude.{◌+◌, ◌≡◌, ◌≤◌, IfErr, IfOk, 
 ghost use Rattle.rollout_machine.specs.ByteStrings.{item_numbered};
 ghost use Rattle.rollout_machine.specs.StateWords.{group_holding, group_numbered};
 ghost use Rattle.desk_records.specs.LedgerSteps.{AddsGroup, SetsGroup};
-ghost use Rattle.desk_records.specs.RolloutRow.{IsGroupRow, broken_group_column};
+ghost use Rattle.desk_records.specs.ReadRows.{IsGroupRow, broken_group_column};
 ghost use Rattle.desk_records.specs.Rollouts.{groups_of};
 ghost use Rattle.desk_store.specs.Changing.{FindsLedger, MakesLedger, StaysIn};
 ghost use Rattle.desk_store.specs.Counting.{AddsIn};

@@ -23,6 +23,7 @@ mod raw_rollouts;
 mod raw_rules;
 mod reading;
 mod rollouts;
+mod row_reads;
 mod rules;
 mod sets;
 mod statements;

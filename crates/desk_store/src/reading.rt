@@ -2,7 +2,7 @@
 
 ghost use Rattle.std.specs.Prelude.{◌≡◌, ◌<◌, ◌≤◌, ◌^◌, ◌⊎◌, IfErr, IfOk, None, length, slice_get};
 ghost use Rattle.desk_records.specs.Modules.{IsLastRow};
-ghost use Rattle.desk_records.specs.TargetRow.{IsAttributeRow, broken_attribute_column};
+ghost use Rattle.desk_records.specs.ReadRows.{IsAttributeRow, broken_attribute_column};
 ghost use Rattle.desk_store.specs.Rows.{AreReadAs, BreaksRule, HasBroken, HasNoApproval, HasNoNumber, IfRowsBroken, IsApproval, IsBroken, IsCount, IsReadAs};
 ghost use Rattle.desk_store.specs.Faults.{as_store};
 

@@ -1,12 +1,12 @@
 -- What the reads of the tables of actions, members and rollouts come to.
+use Rattle.desk_records.proofs.KeptColumns.{one_in}
 use Rattle.desk_verify.proofs.Common.{◌≡◌, ◌<◌, ℕ, true, false, true≢false, List, [], ◌∷◌, length, nat_eq, pos, Some, None, inl, refl, sym, ap, subst, ◌∙◌}
 use Rattle.desk_verify.proofs.Common.{arith, AllByRecursion, Int, Text, Row, column, Has, all_from, all_has, Bytes, has_at, Actions, IsAction, Tables}
 use Rattle.desk_verify.proofs.Common.{PlacedMember, ListedAction, StoredAction, StoredRollout, is_at, number_in_is, number_in_least, number_is, one_number}
 use Rattle.desk_verify.proofs.Common.{AreActionsInTurn, AreMembersInTurn, AreActionsWhole, FitsItsEntries, ListsActions, PassesHistory, are_for, count_none}
-use Rattle.desk_verify.proofs.Common.{is_for_member}
-use Rattle.desk_verify.proofs.Common.{AgreesActions, AreInOrder, FitsEntries, HasActions, HasMember, IsRightAction, IsStarted, KeepsNumbers, PassesActions}
-use Rattle.desk_verify.proofs.Common.{Settles, AreAllChecked, HasRollout, IsChecked, JudgesOne, IsThere}
-use Rattle.desk_verify.proofs.OneRow.{one_action, one_in}
+use Rattle.desk_verify.proofs.Common.{is_for_member, AgreesActions, AreInOrder, FitsEntries, HasActions, HasMember, IsRightAction, IsStarted, KeepsNumbers}
+use Rattle.desk_verify.proofs.Common.{PassesActions, Settles, AreAllChecked, HasRollout, IsChecked, JudgesOne, IsThere}
+use Rattle.desk_verify.proofs.OneRow.{one_action}
 use Rattle.desk_verify.proofs.RolloutLemmas.{decided}
 use Rattle.desk_verify.proofs.TurnLemmas.{AreFollowing, AreTurns, following, is_own, own_is, turns}
 

@@ -74,12 +74,13 @@ pub use Rattle.desk_records.proofs.NumberColumns.{has_own_number, is_at, is_in_r
 pub use Rattle.desk_records.proofs.NumberColumns.{number_is, one_number, small_is}
 pub use Rattle.desk_records.proofs.PieceLists.{count_pieces, count_whole, nth_piece, one_more, same_contents}
 pub use Rattle.desk_records.proofs.WholeArtifacts.{IsWhole, KeepsRules, all_keep, all_whole, digest_is_one}
-pub use Rattle.desk_records.specs.Actions.{Tally, action_row, actor_of, entries_of, entry_row, history_of, kind_code, outcome_code, tally_of, told_action}
-pub use Rattle.desk_records.specs.Actions.{told_entry, word_code}
-pub use Rattle.desk_records.specs.ArtifactRow.{broken_artifact_column, broken_stored_column, has_size, stored}
+pub use Rattle.desk_records.specs.Actions.{Tally, action_row, actor_of, entries_of, entry_row, history_of, kind_code, tally_of, told_action, told_entry}
+pub use Rattle.desk_records.specs.Actions.{word_code}
+pub use Rattle.desk_records.specs.ArtifactRow.{stored}
 pub use Rattle.desk_records.specs.Artifacts.{artifact_row, piece_numbered, piece_row, pieces_in, pieces_of_artifact}
-pub use Rattle.desk_records.specs.Codes.{approval_in, feedback_number_in, first_broken, flag_in, group_count_in, number_in, outcome_in, percentage_in}
-pub use Rattle.desk_records.specs.Codes.{percentage_or_none_in, place_in}
+pub use Rattle.desk_records.specs.Codes.{approval_code, approval_in, feedback_number_in, first_broken, flag, flag_in, group_count_in, number_in, outcome_code}
+pub use Rattle.desk_records.specs.Codes.{outcome_in, percentage_in, percentage_or_none_in, place_in}
+pub use Rattle.desk_records.specs.Columns.{has_size}
 pub use Rattle.desk_records.specs.EntryRow.{BreaksEntry, broken_word, keeps_details, said_by}
 pub use Rattle.desk_records.specs.FoundPieces.{ArePieces}
 pub use Rattle.desk_records.specs.Holds.{HoldsLedger, HoldsRecords, IsHeld, Ledger, desk_row, ledger_of, module_row}
@@ -87,42 +88,46 @@ pub use Rattle.desk_records.specs.Listings.{AreBroken, AreSaid, FindsOne, HasNum
 pub use Rattle.desk_records.specs.Offers.{HoldsOffers, is_to, offer_row}
 pub use Rattle.desk_records.specs.Parts.{parts_from}
 pub use Rattle.desk_records.specs.PlaceLists.{AreMembers, ListsPlaces, SaysMember, is_of}
-pub use Rattle.desk_records.specs.RolloutRow.{IsActionRow, IsRolloutRow, broken_action_column, broken_group_column, broken_listed_action_column}
-pub use Rattle.desk_records.specs.RolloutRow.{broken_offer_column, broken_rollout_column, stored_action, stored_rollout}
-pub use Rattle.desk_records.specs.Rollouts.{approval_code, flag, group_row, groups_from, member_row, members_from, rollout_row, rule_row, rules_from}
-pub use Rattle.desk_records.specs.Rollouts.{told_rollout, told_rule}
-pub use Rattle.desk_records.specs.RuleRow.{IsRuleRow, broken_rule_column}
+pub use Rattle.desk_records.specs.ReadRows.{IsStoredActionRow, IsStoredRolloutRow, IsRuleRow, columns_of_attribute, broken_stored_action_column}
+pub use Rattle.desk_records.specs.ReadRows.{broken_artifact_column}
+pub use Rattle.desk_records.specs.ReadRows.{broken_group_column, broken_listed_action_column, broken_offer_column, broken_stored_rollout_column}
+pub use Rattle.desk_records.specs.ReadRows.{broken_rule_column}
+pub use Rattle.desk_records.specs.ReadRows.{broken_stored_artifact_column, columns_of_artifact, columns_of_stored_action, columns_of_stored_artifact}
+pub use Rattle.desk_records.specs.ReadRows.{columns_of_group}
+pub use Rattle.desk_records.specs.ReadRows.{columns_of_number, columns_of_offer, columns_of_stored_rollout, columns_of_rule, columns_of_module_label}
+pub use Rattle.desk_records.specs.ReadRows.{columns_of_listed_target}
+pub use Rattle.desk_records.specs.ReadRows.{columns_of_last_number, columns_of_set_name, columns_of_stored_target}
+pub use Rattle.desk_records.specs.RolloutRow.{stored_action, stored_rollout}
+pub use Rattle.desk_records.specs.Rollouts.{group_row, groups_from, member_row, members_from, rollout_row, rule_row, rules_from, told_rollout, told_rule}
 pub use Rattle.desk_records.specs.Schema.{Actions, Artifacts, Desk, Feedbacks, Groups, Members, Modules, Numbers, Offers, Pieces, Place, Rollouts, Rules}
 pub use Rattle.desk_records.specs.Schema.{SetModules, Sets, TargetAttributes, TargetTags, Targets}
-pub use Rattle.desk_records.specs.TableRows.{IsAction, IsEntry, IsGroup, IsMember, IsOffer, IsRollout, columns_of_action, columns_of_artifact}
-pub use Rattle.desk_records.specs.TableRows.{columns_of_group, columns_of_number}
-pub use Rattle.desk_records.specs.TableRows.{columns_of_offer, columns_of_rollout, columns_of_rule}
+pub use Rattle.desk_records.specs.TableRows.{IsAction, IsEntry, IsGroup, IsMember, IsOffer, IsRollout}
 pub use Rattle.desk_records.specs.Tables.{HoldsTables, Tables}
 pub use Rattle.desk_records.specs.declared.checked_rows.OwnedOffer.{OwnedOffer}
 pub use Rattle.desk_records.specs.declared.entry_row.SequencedEntry.{SequencedEntry}
 pub use Rattle.desk_records.specs.declared.member_row.PlacedMember.{PlacedMember}
-pub use Rattle.desk_records.specs.declared.module_row.Column.{Column}
 pub use Rattle.desk_records.specs.declared.number_row.PlacedNumber.{PlacedNumber}
 pub use Rattle.desk_records.specs.declared.rollout_row.ListedAction.{ListedAction}
 pub use Rattle.desk_records.specs.declared.rollout_row.StoredAction.{StoredAction}
 pub use Rattle.desk_records.specs.declared.rollout_row.StoredRollout.{StoredRollout}
+pub use Rattle.desk_records.specs.declared.table_columns.Column.{Column}
 pub use Rattle.desk_store.proofs.BlameLemmas.{blamed, unread}
 pub use Rattle.desk_store.specs.Blaming.{BlamesGiven, ReadsOf}
+pub use Rattle.desk_store.specs.BrokenRows.{BreaksColumn}
 pub use Rattle.desk_store.specs.Changing.{FindsTables, StaysIn, seen_in}
 pub use Rattle.desk_store.specs.RawLists.{AreActions, AreOffers, ListsRows, SaysAction, SaysArtifact, SaysGroup, SaysNumber, SaysNumbered, SaysOffer}
-pub use Rattle.desk_store.specs.RawLists.{SaysOfferOf, SaysRule, any_row, columns_in_listing}
-pub use Rattle.desk_store.specs.Readable.{BreaksColumn, IsReadable, label_shown, placed_shown, second_shown, third_shown}
+pub use Rattle.desk_store.specs.RawLists.{SaysOfferOf, SaysRule, any_row}
+pub use Rattle.desk_store.specs.Readable.{IsReadable}
 pub use Rattle.desk_store.specs.RuleTables.{HasGroupCount, HasRule, HaveRules, definition_by, definitions_in, grouping_of, grouping_with}
-pub use Rattle.desk_store.specs.Unreadable.{large_number, many_rows, missing_rollout, missing_rule, no_grouping, rise, twin_actions}
-pub use Rattle.desk_store.specs.Unreadable.{twin_entries, twin_members}
+pub use Rattle.desk_store.specs.Unreadable.{large_number, many_rows, missing_rollout, missing_rule, no_grouping, rise, twin_actions, twin_entries}
+pub use Rattle.desk_store.specs.Unreadable.{twin_members}
 pub use Rattle.desk_reads.proofs.ListMembers.{AreIds, member_ids}
 pub use Rattle.desk_reads.specs.Counted.{AreCounted}
 pub use Rattle.desk_verify.specs.ActionChecks.{AreActionsInTurn, AreMembersInTurn, AreActionsWhole, FitsItsEntries, IsGiven, IsGivenFirst, ListsActions}
-pub use Rattle.desk_verify.specs.ActionChecks.{PassesHistory}
-pub use Rattle.desk_verify.specs.ActionChecks.{are_for, count_none, count_on, first_said, is_each_for, is_fit, is_for_member, numbers_rise, sequences_rise}
+pub use Rattle.desk_verify.specs.ActionChecks.{PassesHistory, are_for, count_none, count_on, first_said, is_each_for, is_fit, is_for_member, numbers_rise}
+pub use Rattle.desk_verify.specs.ActionChecks.{sequences_rise}
 pub use Rattle.desk_verify.specs.Actions.{AgreesActions, AreInOrder, FitsEntries, EntryGivesOutcome, HasActions, HasMember, IsRightAction, IsStarted}
-pub use Rattle.desk_verify.specs.Actions.{KeepsNumbers}
-pub use Rattle.desk_verify.specs.Actions.{PassesActions}
+pub use Rattle.desk_verify.specs.Actions.{KeepsNumbers, PassesActions}
 pub use Rattle.desk_verify.specs.Agreement.{AgreeBefore, Agrees, SettlesWhether, IsDamage, NamesFirst, Passes, Settles, checked}
 pub use Rattle.desk_verify.specs.ArtifactChecks.{HashesPieces, IsHashed}
 pub use Rattle.desk_verify.specs.Artifacts.{AgreesArtifacts, HasPieces}

@@ -6,11 +6,11 @@ use Rattle.desk_verify.proofs.Common.{Outcome, Good, Bad, Gone, GroupRecord, Has
 use Rattle.desk_verify.proofs.Common.{number_in_is, number_in_least, number_is, one_number, ListsRows, SaysGroup, HasGroupCount, SettlesWhether, are_bounds}
 use Rattle.desk_verify.proofs.Common.{are_right, counts_them, has_each, has_group_numbered, is_cut, is_right, same_bounds, HasEach, IsCutOnlyBy, IsGroupCount}
 use Rattle.desk_verify.proofs.Common.{AgreesGroups, HasGroup, IsCutBy, IsInRollout, IsRightGroup, ended_in, has_ended, member_count, AreAllChecked, IsChecked}
-use Rattle.desk_verify.proofs.Common.{length-filter, not-true}
+use Rattle.desk_verify.proofs.Common.{length-filter, not-true, columns_of_group}
 use Rattle.rollout_machine.specs.Groupings.{Grouping}
+use Rattle.desk_records.proofs.RowsTold.{same_group}
 use Rattle.desk_records.specs.CountedActions.{CountsAgree}
 use Rattle.desk_records.specs.declared.checked_rows.CountedAction.{CountedAction}
-use Rattle.desk_verify.proofs.OneRow.{one_in}
 use Rattle.desk_verify.proofs.RolloutLemmas.{decided}
 use Rattle.desk_verify.proofs.RuleLemmas.{some_groups}
 
@@ -20,15 +20,7 @@ pub one_rollout : (row : Row) (r s : ℕ) (g h : GroupRecord) → IsGroup row r 
 one_rollout row r s g h a b = one_number (column row 1) r s (number_in_is _ _ a.rollout_is) (number_in_is _ _ b.rollout_is)
 
 pub one_group : (row : Row) (r s : ℕ) (g h : GroupRecord) → IsGroup row r g → IsGroup row s h → g ≡ h
-one_group row r s g h a b =
-    let number : g.number ≡ h.number = one_number (column row 2) g.number h.number a.shows.number b.shows.number in
-    let first : g.bounds.first ≡ h.bounds.first = one_number (column row 3) g.bounds.first h.bounds.first a.shows.first b.shows.first in
-    let last : g.bounds.last ≡ h.bounds.last = one_number (column row 4) g.bounds.last h.bounds.last a.shows.last b.shows.last in
-    let started : g.started ≡ h.started = one_in _ g.started h.started a.shows.started b.shows.started in
-    let ok : g.ok ≡ h.ok = one_number (column row 6) g.ok h.ok a.shows.ok b.shows.ok in
-    let bad : g.bad ≡ h.bad = one_number (column row 7) g.bad h.bad a.shows.bad b.shows.bad in
-    let gone : g.gone ≡ h.gone = one_number (column row 8) g.gone h.gone a.shows.gone b.shows.gone in
-    λ i. record { number = number i; bounds = record { first = first i; last = last i }; started = started i; ok = ok i; bad = bad i; gone = gone i }
+one_group row r s g h a b = same_group (columns_of_group row) g h a.shows b.shows
 
 of_rollout : (row : Row) (r : ℕ) (g : GroupRecord) → IsGroup row r g → has_at 1 r row ≡ true
 of_rollout row r g it = is_at row 1 r (number_in_is _ _ it.rollout_is)

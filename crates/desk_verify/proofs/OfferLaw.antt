@@ -16,7 +16,8 @@ use Rattle.desk_verify.proofs.GroupLaw.{group_lies, is_group, one_of}
 use Rattle.desk_verify.proofs.CodeLemmas.{flag_is}
 use Rattle.desk_verify.proofs.GroupLemmas.{one_group, one_rollout}
 use Rattle.desk_verify.proofs.OfferLemmas.{none_ended}
-use Rattle.desk_verify.proofs.OneRow.{one_action, one_in}
+use Rattle.desk_verify.proofs.OneRow.{one_action}
+use Rattle.desk_records.proofs.KeptColumns.{one_in}
 
 -- ---- the law
 

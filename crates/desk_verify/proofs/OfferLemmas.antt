@@ -1,22 +1,22 @@
 -- What the reads of the tables of offers, actions and groups come to.
 use Rattle.desk_verify.proofs.Common.{◌≡◌, ℕ, Bool, true, false, List, is_none, is_some, length, Option, Some, None, true≢false, refl, sym, ap, subst, ◌∙◌}
 use Rattle.desk_verify.proofs.Common.{pos, AllByRecursion, and_from, and_parts, Row, column, has_rowid, Has, all_from, all_has, some_from, some_has, Offer}
-use Rattle.desk_verify.proofs.Common.{Bytes, holds_position, Outcome, GroupRecord, same_refl, FindsOne, has_at, has_text_at, Actions, Groups, Offers, IsAction}
-use Rattle.desk_verify.proofs.Common.{IsOffer, Tables, OwnedOffer, ListedAction, StoredAction, StoredRollout, is_at, number_in_is, number_in_least, number_is}
-use Rattle.desk_verify.proofs.Common.{one_number, ListsRows, SaysAction, SaysGroup, SaysNumbered, SaysOffer, SaysOfferOf, any_row, SettlesWhether, Fits}
-use Rattle.desk_verify.proofs.Common.{IsRight}
-use Rattle.desk_verify.proofs.Common.{IsRowOffered, IsOfferedIfDue, holds_started, is_due, is_started_at, AgreesOffers, HasNumberedAction, IsDue}
-use Rattle.desk_verify.proofs.Common.{IsInStartedGroup, IsOffered, IsRightOffer, HasRollout, IsChecked, JudgesAll, IsThere}
+use Rattle.desk_verify.proofs.Common.{Bytes, holds_position, Outcome, GroupRecord, same_refl, FindsOne, has_at, has_text_at, Actions, Groups, Offers}
+use Rattle.desk_verify.proofs.Common.{IsAction, IsOffer, Tables, OwnedOffer, ListedAction, StoredAction, StoredRollout, is_at, number_in_is, number_in_least}
+use Rattle.desk_verify.proofs.Common.{number_is, one_number, ListsRows, SaysAction, SaysGroup, SaysNumbered, SaysOffer, SaysOfferOf, any_row, SettlesWhether}
+use Rattle.desk_verify.proofs.Common.{Fits, IsRight, IsRowOffered, IsOfferedIfDue, holds_started, is_due, is_started_at, AgreesOffers, HasNumberedAction}
+use Rattle.desk_verify.proofs.Common.{IsDue, IsInStartedGroup, IsOffered, IsRightOffer, HasRollout, IsChecked, JudgesAll, IsThere}
 use Rattle.std.proofs.lemmas.Bool.Decides.{nat_tests}
 use Rattle.std.proofs.Common.{arith}
 use Rattle.std.proofs.lemmas.List.Sorted.{IsPermutation-sym, length_permutation}
 use Rattle.std.specs.List.Sorted.{IsPermutation}
 use Rattle.sqlite_trees.proofs.ListLemmas.{all-permutation}
+use Rattle.desk_records.proofs.KeptColumns.{one_in, one_text}
 use Rattle.desk_records.specs.Listings.{AreSaid, IsSaid}
 use Rattle.desk_verify.specs.OfferChecks.{is_that_rollout}
 use Rattle.desk_verify.proofs.Counting.{is_within}
 use Rattle.desk_verify.proofs.GroupLemmas.{one_group}
-use Rattle.desk_verify.proofs.OneRow.{one_action, one_in, one_text}
+use Rattle.desk_verify.proofs.OneRow.{one_action}
 use Rattle.desk_verify.proofs.RolloutLemmas.{rollout_there}
 
 -- ---- what is decided

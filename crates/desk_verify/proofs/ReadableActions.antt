@@ -1,19 +1,18 @@
 -- The tables of actions, histories, offers and numbers can be read where records of accepted commands are held that can be counted.
-use Rattle.desk_verify.proofs.Common.{◌≡◌, inl, inr, ◌<◌, ◌^◌, ℕ, suc, pos, true, List, [], ◌∷◌, length, map, slice_get, unwrap_or, zip, Option, Some}
-use Rattle.desk_verify.proofs.Common.{None, refl, sym, ap, subst, ◌∙◌, arith, CommandList, IsValid, list_all}
-use Rattle.desk_verify.proofs.Common.{has_got, has_kept, test_has, Has, Row, column, Int, actions_follow_members, offered_one, same_refl}
-use Rattle.desk_verify.proofs.Common.{limits_hold, is_feedback_number_or_none, Bytes, TargetOffer, offer_to, IsOfMember, offer, records, HistoryEntry}
-use Rattle.desk_verify.proofs.Common.{member_at, AreWithinLimits, IsWithinLimits, ActionRecord, is_feedback_number, is_number, is_word, Offer}
-use Rattle.desk_verify.proofs.Common.{has_place, place_within, has_mapped, is_in_range, is_number_in, Tally, action_row, actor_of, entries_of, entry_row}
-use Rattle.desk_verify.proofs.Common.{history_of, tally_of, told_entry, has_size, feedback_number_in, number_in, place_in, BreaksEntry}
-use Rattle.desk_verify.proofs.Common.{broken_word, keeps_details, HoldsOffers, is_to, offer_row, IsActionRow, broken_action_column}
-use Rattle.desk_verify.proofs.Common.{broken_listed_action_column, broken_offer_column, stored_action, Actions, Feedbacks, Numbers, Offers, columns_of_action}
-use Rattle.desk_verify.proofs.Common.{columns_of_number, columns_of_offer, Column, PlacedNumber, StoredAction, BreaksColumn, placed_shown, AreCounted}
-use Rattle.desk_verify.proofs.Common.{member_ids}
+use Rattle.desk_verify.proofs.Common.{◌≡◌, inl, inr, ◌<◌, ◌^◌, ℕ, suc, pos, true, List, [], ◌∷◌, length, map, slice_get, unwrap_or, zip, Option, Some, None}
+use Rattle.desk_verify.proofs.Common.{refl, sym, ap, subst, ◌∙◌, arith, CommandList, IsValid, list_all, has_got, has_kept, test_has, Has, Row, Int}
+use Rattle.desk_verify.proofs.Common.{actions_follow_members, offered_one, same_refl, limits_hold, is_feedback_number_or_none, Bytes, TargetOffer, offer_to}
+use Rattle.desk_verify.proofs.Common.{IsOfMember, offer, records, HistoryEntry, member_at, AreWithinLimits, IsWithinLimits, ActionRecord, is_feedback_number}
+use Rattle.desk_verify.proofs.Common.{is_number, is_word, Offer, has_place, place_within, has_mapped, is_in_range, is_number_in, Tally, action_row, actor_of}
+use Rattle.desk_verify.proofs.Common.{entries_of, entry_row, history_of, tally_of, told_entry, feedback_number_in, number_in, place_in, BreaksEntry}
+use Rattle.desk_verify.proofs.Common.{broken_word, keeps_details, HoldsOffers, is_to, offer_row, broken_stored_action_column, broken_offer_column}
+use Rattle.desk_verify.proofs.Common.{stored_action}
+use Rattle.desk_verify.proofs.Common.{Actions, Feedbacks, Numbers, Offers, columns_of_stored_action, columns_of_number, columns_of_offer, Column, PlacedNumber}
+use Rattle.desk_verify.proofs.Common.{BreaksColumn, columns_of_last_number, AreCounted, member_ids}
 use Rattle.rollout_machine.specs.Verdicts.{notes_of}
+use Rattle.desk_records.proofs.RowsTold.{whole_stored_action, whole_listed_action}
 use Rattle.desk_records.specs.FeedbackNumbers.{number_row, numbers_of}
-use Rattle.desk_records.specs.NumberRow.{broken_last_number_column, broken_number_column}
-use Rattle.desk_records.specs.TargetRow.{has_word}
+use Rattle.desk_records.specs.ReadRows.{broken_last_number_column, broken_number_column}
 use Rattle.desk_verify.proofs.CodeLemmas.{feedback_number_is, flag_is, is_sized, kind_is, outcome_is, place_is, said_is}
 use Rattle.desk_reads.proofs.HistoryKept.{details_kept}
 use Rattle.desk_verify.proofs.HistoryRules.{few_numbers, is_borne, keeps_number, numbers_kept}
@@ -24,14 +23,6 @@ use Rattle.desk_verify.proofs.FewNotes.{few_notes}
 -- ---- places in lists
 
 -- ---- one action
-
--- a row that says an action
-whole_action : (row : Row) (x : StoredAction) → IsActionRow row x → has_size (column row 1) ≡ true → has_word (column row 2) ≡ true → has_size (column row 5)
-    ≡ true → has_size (column row 6) ≡ true → broken_action_column row ≡ None
-whole_action row x says place word notes entries = rw (says.rollout, place, word, says.canceling, says.outcome, notes, entries) refl
-
-numbered_action : (row : Row) (n : ℕ) → broken_action_column row ≡ None → number_in (column row 7) ≡ Some n → broken_listed_action_column row ≡ None
-numbered_action row n whole number = rw number whole
 
 module _ (h : CommandList) (valid : IsValid h) (d : ℕ) (a : ActionRecord) (at : slice_get (records h).actions d ≡ Some a) where
   limits : AreWithinLimits (records h)
@@ -74,10 +65,10 @@ module _ (h : CommandList) (valid : IsValid h) (d : ℕ) (a : ActionRecord) (at 
   row = action_row (records h).rollouts (suc d) (a, tally_of a)
 
   module _ (counted : length a.history < 2 ^ 32) where
-    whole : broken_action_column (columns_of_action row) ≡ None
+    whole : broken_stored_action_column (columns_of_stored_action row) ≡ None
     whole =
         let notes = few_notes h valid (suc d) a at in
-        whole_action (columns_of_action row) (stored_action (records h).rollouts (a, tally_of a))
+        whole_stored_action (columns_of_stored_action row) (stored_action (records h).rollouts (a, tally_of a))
         (record {
           rollout = is_number_in a.rollout rollout_number;
           position = refl;
@@ -93,7 +84,10 @@ module _ (h : CommandList) (valid : IsValid h) (d : ℕ) (a : ActionRecord) (at 
     one_action : BreaksColumn Actions row → ⊥
     one_action (inl none) = fails_not _ (is_sized (suc d) (omega (arith, few))) none
     one_action (inr (inl broken)) = unbroken _ whole broken
-    one_action (inr (inr broken)) = unbroken _ (numbered_action (columns_of_action row) (suc d) whole number) broken
+    one_action (inr (inr broken)) =
+        unbroken _ (whole_listed_action (columns_of_stored_action row) (record { number = suc d; action = stored_action (records h).rollouts (a, tally_of a) })
+        whole
+        number) broken
 
 pub keeps_actions : (h : CommandList) → IsValid h → AreCounted (records h) → Keeps (records h) Actions
 keeps_actions h valid counted rows are = of_ordered (λ row. BreaksColumn Actions row → ⊥) (action_row (records h).rollouts)
@@ -159,7 +153,7 @@ whole_number : (place : ℕ) (it : PlacedNumber) → place_in (Int (pos it.seque
     → BreaksColumn Numbers (Int (pos n) ∷ number_row d place it) → ⊥
 whole_number place it sequence number at n d (inl broken) = unbroken (broken_number_column (columns_of_number (Int (pos n) ∷ number_row d place it)))
     (rw (sequence, number) refl) broken
-whole_number place it sequence number at n d (inr broken) = unbroken (broken_last_number_column (placed_shown (Int (pos n) ∷ number_row d place it)))
+whole_number place it sequence number at n d (inr broken) = unbroken (broken_last_number_column (columns_of_last_number (Int (pos n) ∷ number_row d place it)))
     (rw (sequence, number, at) refl) broken
 
 pub keeps_numbers : (h : CommandList) → IsValid h → AreCounted (records h) → Keeps (records h) Numbers

@@ -3,11 +3,12 @@ use Rattle.desk_verify.proofs.Common.{◌≡◌, inl, inr, ◌<◌, ◌^◌, ◌
 use Rattle.desk_verify.proofs.Common.{sym, ap, ◌∙◌, arith, and_parts, CommandList, IsValid, All-contains, list_all, contains_had, has_got, test_has}
 use Rattle.desk_verify.proofs.Common.{limits_hold, Bytes, ModuleLabel, SetLabel, ArtifactRecord, records, are_distinct_numbers, is_digest, is_module_list}
 use Rattle.desk_verify.proofs.Common.{is_number, is_text, place_within, is_in_range, is_small, IsWhole, KeepsRules, all_keep, all_whole, digest_is_one}
-use Rattle.desk_verify.proofs.Common.{broken_artifact_column, broken_stored_column, artifact_row, piece_row, pieces_in, desk_row, module_row, Artifacts, Desk}
-use Rattle.desk_verify.proofs.Common.{Modules, Pieces, SetModules, Sets, columns_of_artifact, columns_in_listing, BreaksColumn, label_shown, third_shown, Has}
-use Rattle.desk_verify.proofs.Common.{Row, Int}
-use Rattle.desk_records.specs.ModuleRow.{broken_column}
-use Rattle.desk_records.specs.SetRow.{broken_set_column}
+use Rattle.desk_verify.proofs.Common.{broken_artifact_column, broken_stored_artifact_column, artifact_row, piece_row, pieces_in, desk_row, module_row}
+use Rattle.desk_verify.proofs.Common.{Artifacts, Desk}
+use Rattle.desk_verify.proofs.Common.{Modules, Pieces, SetModules, Sets, columns_of_stored_artifact, columns_of_artifact, BreaksColumn}
+use Rattle.desk_verify.proofs.Common.{columns_of_module_label, Has, Row, Int}
+use Rattle.desk_verify.proofs.Common.{columns_of_set_name}
+use Rattle.desk_records.specs.ReadRows.{broken_module_label_column, broken_set_name_column}
 use Rattle.desk_records.specs.Sets.{place_row, set_row}
 use Rattle.desk_records.specs.Versions.{newest}
 use Rattle.desk_verify.proofs.CodeLemmas.{flag_is, is_sized}
@@ -34,7 +35,8 @@ keeps_desk h rows are = go rows are
 pub keeps_modules : (h : CommandList) → IsValid h → Keeps (records h) Modules
 keeps_modules h valid rows are = of_ordered (λ row. BreaksColumn Modules row → ⊥) module_row (records h).modules rows are each
   where
-    told : (d : ℕ) (m : ModuleLabel) → slice_get (records h).modules d ≡ Some m → broken_column (label_shown (module_row (suc d) m)) ≡ None
+    told : (d : ℕ) (m : ModuleLabel) → slice_get (records h).modules d ≡ Some m → broken_module_label_column (columns_of_module_label (module_row (suc d) m))
+        ≡ None
     told d m at =
         let parts = and_parts (is_text m.name) (is_text m.kind && is_text m.version) (labels_keep h valid m (has_got (records h).modules d m at)) in
         let rest = and_parts (is_text m.kind) (is_text m.version) parts.1 in
@@ -50,7 +52,7 @@ keeps_modules h valid rows are = of_ordered (λ row. BreaksColumn Modules row �
 pub keeps_sets : (h : CommandList) → IsValid h → Keeps (records h) Sets
 keeps_sets h valid rows are = of_ordered (λ row. BreaksColumn Sets row → ⊥) set_row (records h).sets rows are each
   where
-    told : (d : ℕ) (s : SetLabel) → slice_get (records h).sets d ≡ Some s → broken_set_column (third_shown (set_row (suc d) s)) ≡ None
+    told : (d : ℕ) (s : SetLabel) → slice_get (records h).sets d ≡ Some s → broken_set_name_column (columns_of_set_name (set_row (suc d) s)) ≡ None
     told d s at =
         let parts = and_parts (is_text s.name) (is_text s.version && is_module_list s.modules) (sets_keep h valid s (has_got (records h).sets d s at)) in
         let rest = and_parts (is_text s.version) (is_module_list s.modules) parts.1 in
@@ -94,10 +96,10 @@ module _ (h : CommandList) (valid : IsValid h) (d : ℕ) (a : ArtifactRecord) (a
   small : a.size < 2 ^ 32
   small = omega (arith, whole.0, keeps.few)
 
-  stored : broken_stored_column (columns_of_artifact (artifact_row (suc d) a)) ≡ None
+  stored : broken_stored_artifact_column (columns_of_stored_artifact (artifact_row (suc d) a)) ≡ None
   stored = rw (keeps.module_number, keeps.filename, is_small a.size small, digest) refl
 
-  listed : broken_artifact_column (columns_in_listing (artifact_row (suc d) a)) ≡ None
+  listed : broken_artifact_column (columns_of_artifact (artifact_row (suc d) a)) ≡ None
   listed = rw (is_in_range (suc d) (omega arith) (omega (arith, few)), keeps.filename, is_small a.size small, digest) refl
 
   one_artifact : BreaksColumn Artifacts (artifact_row (suc d) a) → ⊥

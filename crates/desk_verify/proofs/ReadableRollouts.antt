@@ -1,24 +1,19 @@
 -- The tables of rollouts, groups and rules can be read where records of accepted commands are held.
-use Rattle.desk_verify.proofs.Common.{◌≡◌, inl, inr, ◌≤◌, ◌<◌, ◌&&◌, ℕ, suc, ◌+◌, ◌-◌, pos, true, List, ◌∷◌, length, map, slice_get, Some, None, refl, sym, ap}
-use Rattle.desk_verify.proofs.Common.{subst, arith, and_parts, numbered_each, CommandList, IsValid, RolloutRecord, has_got, Row, Int, groups_are_counted}
+use Rattle.desk_verify.proofs.Common.{◌≡◌, inl, inr, ◌≤◌, ◌<◌, ◌&&◌, ℕ, suc, ◌+◌, ◌-◌, pos, List, ◌∷◌, length, map, slice_get, Some, None, refl, sym, ap}
+use Rattle.desk_verify.proofs.Common.{subst, arith, and_parts, numbered_each, CommandList, IsValid, RolloutRecord, has_got, Int, groups_are_counted}
 use Rattle.desk_verify.proofs.Common.{grouping_is_cut, limits_hold, HasCountedGroups, IsCountedGroup, GroupRule, rule_at, rules_of, last_by, IsCut, records}
-use Rattle.desk_verify.proofs.Common.{IsWithinLimits, Bounds, GroupRecord, is_grouping, is_number, is_percentage, is_text, has_place, place_within, has_mapped}
-use Rattle.desk_verify.proofs.Common.{is_number_in, IsRolloutRow, broken_group_column, broken_rollout_column, stored_rollout, group_row, rollout_row, rule_row}
-use Rattle.desk_verify.proofs.Common.{told_rollout, told_rule, IsRuleRow, broken_rule_column, Groups, Rollouts, Rules, columns_of_group, columns_of_rollout}
-use Rattle.desk_verify.proofs.Common.{columns_of_rule}
-use Rattle.desk_verify.proofs.Common.{StoredRollout, BreaksColumn}
+use Rattle.desk_verify.proofs.Common.{IsWithinLimits, Bounds, GroupRecord, is_grouping, is_number, is_percentage, is_text, has_place, place_within}
+use Rattle.desk_verify.proofs.Common.{has_mapped, is_number_in, IsStoredRolloutRow, broken_group_column, broken_stored_rollout_column, stored_rollout}
+use Rattle.desk_verify.proofs.Common.{group_row}
+use Rattle.desk_verify.proofs.Common.{rollout_row, rule_row, told_rollout, told_rule, broken_rule_column, Groups, Rollouts, Rules, columns_of_group}
+use Rattle.desk_verify.proofs.Common.{columns_of_stored_rollout, columns_of_rule, BreaksColumn}
 use Rattle.std.specs.Str.{is_utf8}
+use Rattle.desk_records.proofs.RowsTold.{whole_stored_rollout, whole_rule}
 use Rattle.desk_verify.proofs.CodeLemmas.{approval_is, flag_is, group_count_is, is_sized, kept_group, percentage_is}
 use Rattle.desk_verify.proofs.PlanLaw.{IsPlanned, plans_are, rule_told}
 use Rattle.desk_verify.proofs.ReadableRows.{Keeps, fails_not, of_ordered, of_parts, unbroken}
 
 -- ---- rollouts
-
--- a row that says a rollout
-whole_rollout : (row : Row) (x : StoredRollout) → IsRolloutRow row x → is_text x.plan.name ≡ true → is_utf8 x.plan.filter_text ≡ true
-    → broken_rollout_column row ≡ None
-whole_rollout row x says name filter_text =
-    rw (says.name, says.set_number, says.filter_text, says.groups, says.success, says.error, says.approval, says.started, says.paused, name, filter_text) refl
 
 module _ (h : CommandList) (valid : IsValid h) (d : ℕ) (x : RolloutRecord) (at : slice_get (records h).rollouts d ≡ Some x) where
   within : IsWithinLimits x
@@ -38,7 +33,7 @@ module _ (h : CommandList) (valid : IsValid h) (d : ℕ) (x : RolloutRecord) (at
       let error = and_parts (is_percentage x.plan.error) _ success.1 in
       let name = and_parts (is_text x.plan.name) (is_number x.plan.set_number && is_utf8 x.plan.filter_text) error.1 in
       let rest = and_parts (is_number x.plan.set_number) (is_utf8 x.plan.filter_text) name.1 in
-      let says : IsRolloutRow (told_rollout x) (stored_rollout x) = record {
+      let says : IsStoredRolloutRow (told_rollout x) (stored_rollout x) = record {
         name = refl;
         set_number = is_number_in x.plan.set_number rest.0;
         filter_text = refl;
@@ -49,7 +44,8 @@ module _ (h : CommandList) (valid : IsValid h) (d : ℕ) (x : RolloutRecord) (at
         started = flag_is x.started;
         paused = flag_is x.paused;
       } in
-      unbroken (broken_rollout_column (columns_of_rollout (rollout_row (suc d) x))) (whole_rollout (told_rollout x) (stored_rollout x) says name.0 rest.1)
+      unbroken (broken_stored_rollout_column (columns_of_stored_rollout (rollout_row (suc d) x)))
+      (whole_stored_rollout (told_rollout x) (stored_rollout x) says name.0 rest.1)
       broken
 
   -- ---- groups
@@ -94,9 +90,6 @@ keeps_groups h valid rows held = of_parts (λ row. BreaksColumn Groups row → �
     (λ n d e x g at lies. one_group h valid d x at e g lies n)
 
 -- ---- rules
-
-whole_rule : (row : Row) (it : GroupRule) → IsRuleRow row it → broken_rule_column row ≡ None
-whole_rule row it says = rw (says.percentage, says.success, says.error) refl
 
 abbrev rules_in : RolloutRecord → List GroupRule
 rules_in x = rules_of x.plan

@@ -1,12 +1,12 @@
 -- The tables of targets and members can be read where records of accepted commands are held.
 use Rattle.desk_verify.proofs.Common.{◌≡◌, inl, inr, ◌<◌, ◌^◌, ℕ, pos, List, [], ◌∷◌, length, None, refl, arith, and_parts, CommandList, IsValid}
 use Rattle.desk_verify.proofs.Common.{RolloutRecord, ledger_of, IsHeld, length-map, has_got, test_has, Has, Row, Int, Text, limits_hold, Attribute, Bytes}
-use Rattle.desk_verify.proofs.Common.{records, is_value, is_word, member_row, Members, TargetAttributes, TargetTags, Targets, BreaksColumn, second_shown}
-use Rattle.desk_verify.proofs.Common.{third_shown, member_ids}
+use Rattle.desk_verify.proofs.Common.{records, is_value, is_word, member_row, Members, TargetAttributes, TargetTags, Targets, BreaksColumn, member_ids}
+use Rattle.desk_verify.proofs.Common.{columns_of_attribute, columns_of_listed_target, columns_of_stored_target}
 use Rattle.rollout_machine.specs.Targets.{Target}
 use Rattle.sql_calls.proofs.Counts.{length_held}
 use Rattle.rollout_model.specs.Pairs.{is_attribute}
-use Rattle.desk_records.specs.TargetRow.{broken_attribute_column, broken_listed_column, broken_target_column}
+use Rattle.desk_records.specs.ReadRows.{broken_attribute_column, broken_listed_target_column, broken_stored_target_column}
 use Rattle.desk_records.specs.Targets.{target_row}
 use Rattle.desk_verify.proofs.ReadableRows.{Keeps, fails_not, of_lists, of_mapped, of_parts, unbroken}
 use Rattle.desk_reads.proofs.TargetRules.{targets_keep}
@@ -16,10 +16,10 @@ use Rattle.desk_reads.proofs.TargetRules.{targets_keep}
 pub keeps_targets : (h : CommandList) → IsValid h → Keeps (records h) Targets
 keeps_targets h valid rows held = of_mapped (λ row. BreaksColumn Targets row → ⊥) target_row (records h).targets rows held each
   where
-    told : (n : ℕ) (x : Target) → Has (records h).targets x → broken_target_column (third_shown (Int (pos n) ∷ target_row x)) ≡ None
+    told : (n : ℕ) (x : Target) → Has (records h).targets x → broken_stored_target_column (columns_of_stored_target (Int (pos n) ∷ target_row x)) ≡ None
     told n x among = let keeps = targets_keep h valid x among in rw (keeps.name, keeps.digest) refl
 
-    listed : (n : ℕ) (x : Target) → Has (records h).targets x → broken_listed_column (second_shown (Int (pos n) ∷ target_row x)) ≡ None
+    listed : (n : ℕ) (x : Target) → Has (records h).targets x → broken_listed_target_column (columns_of_listed_target (Int (pos n) ∷ target_row x)) ≡ None
     listed n x among = let keeps = targets_keep h valid x among in rw (keeps.id, keeps.name) refl
 
     each : (n : ℕ) (x : Target) → Has (records h).targets x → BreaksColumn Targets (Int (pos n) ∷ target_row x) → ⊥
@@ -57,7 +57,7 @@ keeps_target_attributes h valid rows held = of_lists (λ row. BreaksColumn Targe
     (λ n x a among its. unbroken _ (told n x a among its))
   where
     told : (n : ℕ) (x : Target) (a : Attribute) → Has (records h).targets x → Has x.attributes a
-        → broken_attribute_column (third_shown (Int (pos n) ∷ attribute_row x a)) ≡ None
+        → broken_attribute_column (columns_of_attribute (Int (pos n) ∷ attribute_row x a)) ≡ None
     told n x a among its = let parts =
         and_parts (is_word a.key) (is_value a.value) (test_has is_attribute x.attributes a (targets_keep h valid x among).attributes its) in
         rw (parts.0, parts.1) refl

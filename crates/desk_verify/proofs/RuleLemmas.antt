@@ -2,11 +2,11 @@
 use Rattle.desk_verify.proofs.Common.{◌≡◌, ◌≤◌, ℕ, suc, ◌+◌, Bool, true, false, cond, List, [], ◌∷◌, ◌++◌, length, Some, None, refl, sym, ap, subst, ◌∙◌}
 use Rattle.desk_verify.proofs.Common.{arith, pos, and_parts, leb-true, Row, column, has_rowid, Grouping, is_grouping, GroupRule, percentage_in}
 use Rattle.desk_verify.proofs.Common.{percentage_or_none_in, IsOnly, Rollouts, IsRollout, Tables, StoredRollout, SaysRule, HasGroupCount, HasRule, HaveRules}
-use Rattle.desk_verify.proofs.Common.{definitions_in, grouping_of, grouping_with, no_grouping, HasOnlyRule, HaveOnlyRules, IsCutOnlyBy}
-use Rattle.desk_verify.proofs.Common.{IsGroupCount, IsCutBy, HasRollout, Place, Rules}
+use Rattle.desk_verify.proofs.Common.{definitions_in, grouping_of, grouping_with, no_grouping, HasOnlyRule, HaveOnlyRules, IsCutOnlyBy, IsGroupCount, IsCutBy}
+use Rattle.desk_verify.proofs.Common.{HasRollout, Place, Rules}
 use Rattle.rollout_model.specs.declared.group_definition.GroupDefinition.{GroupDefinition}
+use Rattle.desk_records.proofs.KeptColumns.{one_in}
 use Rattle.desk_store.specs.Unreadable.{IsUnreadableIn}
-use Rattle.desk_verify.proofs.OneRow.{one_in}
 
 -- ---- how many groups a rollout is to have
 

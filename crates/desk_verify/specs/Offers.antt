@@ -7,9 +7,9 @@ use Rattle.rollout_machine.specs.Commands.{Bytes}
 use Rattle.rollout_machine.specs.Groups.{holds_position}
 use Rattle.rollout_machine.specs.declared.records.GroupRecord.{GroupRecord}
 use Rattle.rollout_model.specs.declared.rollout.Offer.{Offer}
-use Rattle.desk_records.specs.RolloutRow.{IsActionRow}
+use Rattle.desk_records.specs.ReadRows.{IsStoredActionRow, columns_of_stored_action}
 use Rattle.desk_records.specs.Schema.{Actions, Groups, Offers}
-use Rattle.desk_records.specs.TableRows.{IsAction, IsGroup, IsOffer, columns_of_action}
+use Rattle.desk_records.specs.TableRows.{IsAction, IsGroup, IsOffer}
 use Rattle.desk_records.specs.Tables.{Tables}
 use Rattle.desk_records.specs.declared.rollout_row.StoredAction.{StoredAction}
 use Rattle.desk_verify.specs.Rollouts.{IsThere}
@@ -21,7 +21,7 @@ pub record HasNumberedAction (t : Tables) (number : ℕ) (action : StoredAction)
   pub row : Row
   pub among : Has (t Actions) row
   pub numbered : has_rowid (pos number) row ≡ true
-  pub shows : IsActionRow (columns_of_action row) action
+  pub shows : IsStoredActionRow (columns_of_stored_action row) action
 
 -- a started group of the rollout holds the place
 pub record IsInStartedGroup (t : Tables) (rollout place : ℕ) : Type 0 where

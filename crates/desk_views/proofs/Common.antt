@@ -1,8 +1,8 @@
 -- The names of other modules that the proofs here cite, passed on from one place. Declares nothing.
 pub use Rattle.std.proofs.Common.{All, Bool, Err, IfErr, IfOk, List, None, Ok, Option, Result, Some, Vec, [], add-one, ap, append-nil, append_assoc, arith}
-pub use Rattle.std.proofs.Common.{cond, drop, false, filter, find, get_or, inl, inr, is_none, length, map, min, nat_eq, nat_le, nat_lt, not}
-pub use Rattle.std.proofs.Common.{refl, rules, slice_get, subst, suc, sym, take, true, vec_len, zero, ℕ, ◌%◌, ◌&&◌, ◌*◌, ◌++◌, ◌+◌, ◌-◌, ◌/◌, ◌<◌, ◌^◌, ◌||◌}
-pub use Rattle.std.proofs.Common.{◌∙◌, ◌∷◌, ◌≡◌, ◌≢◌, ◌≤◌, ◌⊎◌}
+pub use Rattle.std.proofs.Common.{cond, drop, false, filter, find, get_or, inl, inr, is_none, length, map, min, nat_eq, nat_le, nat_lt, not, refl, rules}
+pub use Rattle.std.proofs.Common.{slice_get, subst, suc, sym, take, true, vec_len, zero, ℕ, ◌%◌, ◌&&◌, ◌*◌, ◌++◌, ◌+◌, ◌-◌, ◌/◌, ◌<◌, ◌^◌, ◌||◌, ◌∙◌, ◌∷◌}
+pub use Rattle.std.proofs.Common.{◌≡◌, ◌≢◌, ◌≤◌, ◌⊎◌}
 pub use Rattle.std.proofs.Math.Seq.{take-add, take-nil}
 pub use Rattle.std.proofs.lemmas.Bool.{and_parts, cases_lt, cases_order, false≢true, leb-false, leb-true, or_parts}
 pub use Rattle.std.proofs.lemmas.Bool.Decides.{nat_tests}
@@ -34,14 +34,14 @@ pub use Rattle.rollout_machine.specs.Filters.{matches, seen}
 pub use Rattle.rollout_machine.specs.GroupRules.{GroupRule, rule_at, rules_of}
 pub use Rattle.rollout_machine.specs.Objects.{action_shown, actions_of_rollout, actions_of_target, actions_where, artifact_shown, artifacts_shown, chunks_of}
 pub use Rattle.rollout_machine.specs.Objects.{chunks_of_module, entry_shown, group_of_action, group_shown, groups_shown, members_in, module_shown}
-pub use Rattle.rollout_machine.specs.Objects.{modules_of_action, modules_of_rollout, modules_of_set, numbered, page_of, report_of}
-pub use Rattle.rollout_machine.specs.Objects.{rollout_shown, rollouts_shown, set_shown, target_shown, targets_shown}
+pub use Rattle.rollout_machine.specs.Objects.{modules_of_action, modules_of_rollout, modules_of_set, numbered, page_of, report_of, rollout_shown}
+pub use Rattle.rollout_machine.specs.Objects.{rollouts_shown, set_shown, target_shown, targets_shown}
 pub use Rattle.rollout_machine.specs.Offers.{Offer, first_offer, offer}
 pub use Rattle.rollout_machine.specs.Records.{ArtifactRecord, Records, added_artifacts, artifacts, group_in, modules, records, sets}
 pub use Rattle.rollout_machine.specs.Replies.{ActionShown, ActionsShown, ActionsTableShown, Artifact, ArtifactShown, ArtifactsShown, Chunk, ContentsShown}
-pub use Rattle.rollout_machine.specs.Replies.{DeploymentShown, GroupShown, GroupsShown, HistoryShown, ModuleShown, ModulesShown}
-pub use Rattle.rollout_machine.specs.Replies.{PageOf, PollShown, Refused, ReportShown, RolloutShown, RolloutsShown, SetShown, SetsShown, ShownAction}
-pub use Rattle.rollout_machine.specs.Replies.{ShownGroup, ShownRollout, TargetShown, TargetsShown, ShownEntry}
+pub use Rattle.rollout_machine.specs.Replies.{DeploymentShown, GroupShown, GroupsShown, HistoryShown, ModuleShown, ModulesShown, PageOf, PollShown, Refused}
+pub use Rattle.rollout_machine.specs.Replies.{ReportShown, RolloutShown, RolloutsShown, SetShown, SetsShown, ShownAction, ShownGroup, ShownRollout}
+pub use Rattle.rollout_machine.specs.Replies.{TargetShown, TargetsShown, ShownEntry}
 pub use Rattle.rollout_machine.specs.Reports.{HistoryEntry, Reported, entries_in}
 pub use Rattle.rollout_machine.specs.Requests.{Download, Page, ShowArtifact, ShowTarget, ShowTargets}
 pub use Rattle.rollout_machine.specs.Rollouts.{Rollout, chosen, created, rollouts, size_in, size_of}
@@ -62,8 +62,10 @@ pub use Rattle.sql_calls.specs.declared.fault.Fault.TheVariants.{Broken, Memory,
 pub use Rattle.desk_records.specs.Actions.{Tally, actor_of, history_of, tally_of}
 pub use Rattle.desk_records.specs.ArtifactRow.{stored}
 pub use Rattle.desk_records.specs.Artifacts.{piece_numbered, pieces_of_artifact}
+pub use Rattle.desk_records.specs.Columns.{has_size, has_word}
 pub use Rattle.desk_records.specs.Holds.{HoldsLedger, Ledger, ledger_of}
 pub use Rattle.desk_records.specs.Parts.{parts_of}
+pub use Rattle.desk_records.specs.ReadRows.{broken_stored_action_column}
 pub use Rattle.desk_records.specs.RolloutRow.{actions_for, actions_of, listed_where, stored_action, stored_rollout}
 pub use Rattle.desk_records.specs.Rollouts.{groups_of, members_of, numbered_from, rule_numbered, rules_numbered}
 pub use Rattle.desk_records.specs.SetRow.{called}

@@ -1,9 +1,11 @@
 -- Why the actions of a list and their histories can be counted.
-use Rattle.desk_views.proofs.Common.{◌≡◌, ◌≤◌, ◌^◌, ◌+◌, ℕ, suc, Bool, true, false, cond, List, [], ◌∷◌, length, map, take, drop}
-use Rattle.desk_views.proofs.Common.{sym, ap, subst, arith, zip, length-drop, length-take}
-use Rattle.desk_views.proofs.Common.{HistoryEntry, limits_hold, Tally, history_of, tally_of, ledger_of}
-use Rattle.desk_views.proofs.Common.{listed_where, stored_action, ListedAction, IsReadable, item_numbered, Records}
-use Rattle.desk_views.proofs.Common.{ActionRecord, RolloutRecord, AreOfList}
+use Rattle.desk_records.specs.ReadRows.{columns_of_stored_action}
+use Rattle.desk_records.specs.declared.table_columns.Column.{Column}
+use Rattle.desk_records.specs.declared.table_columns.Column.TheVariants.{ActionCanceling, ActionEntries, ActionNotes, ActionOutcome, ActionPlace}
+use Rattle.desk_records.specs.declared.table_columns.Column.TheVariants.{ActionRollout, TargetId}
+use Rattle.desk_views.proofs.Common.{◌≡◌, ◌≤◌, ◌^◌, ◌+◌, ℕ, suc, Bool, true, false, cond, List, [], ◌∷◌, length, map, take, drop, sym, ap, subst, arith, zip}
+use Rattle.desk_views.proofs.Common.{length-drop, length-take, HistoryEntry, limits_hold, Tally, history_of, tally_of, ledger_of, listed_where, stored_action}
+use Rattle.desk_views.proofs.Common.{ListedAction, IsReadable, item_numbered, Records, ActionRecord, RolloutRecord, AreOfList}
 use Rattle.desk_store.proofs.ReadableHistories.{history_few}
 
 -- ---- actions
