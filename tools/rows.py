@@ -8,7 +8,7 @@ makes.
 import collections
 import re
 
-from tables import DESK, cons, filled, used
+from tables import DESK, cons, filled, snake, used
 
 WRITTEN = "Written by tools/meanings from rows.txt of desk_records. What it makes is proved; the tool is not trusted."
 STORE = "Rattle.desk_store"
@@ -105,10 +105,6 @@ class BadRows(Exception):
 
 def camel(name):
     return name.title().replace("_", "")
-
-
-def snake(name):
-    return re.sub(r"(?<!^)(?=[A-Z])", "_", name).lower()
 
 
 def found(what, name, known):

@@ -5,12 +5,17 @@ Each function takes the tables in the order in which they are made, and gives th
 judged by the prover: a table that isn't what SQLite's compiler makes of its text is refused, and so is a list that
 leaves one out.
 """
+import re
 
 WRITTEN = ("Written by tools/meanings from src/table_texts.rt of desk_records. What it makes is proved; "
            "the tool is not trusted.")
 DESK = "Rattle.desk_records"
 OPENING = "Rattle.desk_opening"
 KINDS = {"INTEGER": "Integer", "TEXT": "Text", "BLOB": "Blob"}
+
+
+def snake(name):
+    return re.sub(r"(?<!^)(?=[A-Z])", "_", name).lower()
 
 
 def listed(items):
@@ -116,7 +121,20 @@ def each_place(tables):
         "abbrev pub each_place : (P : Place → Type 0) → AllByRecursion P places → (t : Place) → P t",
         *(f"each_place P all {t.at} = all.{'1.' * k}0" for k, t in enumerate(tables)),
         "",
+        "-- .. where it is said of one after the other",
+        *by_place([t.at for t in tables]),
+        "",
     ])
+
+
+def by_place(places):
+    """What is said of each place, as arguments in their order."""
+    given = [f"({snake(at)} : P {at})" for at in places]
+    return [
+        *filled("module _ (P : Place → Type 0)", [*given, "where"], 150),
+        "  abbrev pub by_place : (t : Place) → P t",
+        *(f"  by_place {at} = {snake(at)}" for at in places),
+    ]
 
 
 def desk_table(tables):

@@ -104,7 +104,7 @@ pub use Rattle.desk_store.specs.Changing.{FindsIn, FindsLedger, MakesIn, MakesLe
 pub use Rattle.desk_store.specs.Failing.{FailsGiven, AreActionsNumbered, ReadableAs, WritesIn}
 pub use Rattle.desk_store.specs.Breaking.{HasReason}
 pub use Rattle.desk_store.specs.GroupPairs.{group_and_next}
-pub use Rattle.desk_store.specs.Readable.{IsReadable, third_shown}
+pub use Rattle.desk_store.specs.Readable.{IsReadable}
 pub use Rattle.desk_store.specs.BrokenRows.{BreaksColumn}
 pub use Rattle.desk_store.specs.declared.change.OpenChange.{OpenChange}
 pub use Rattle.desk_store.specs.declared.groups.GroupAndNext.{GroupAndNext}

@@ -15,14 +15,14 @@ pub use Rattle.desk_store.proofs.Common.{put_rule_is, put_set_is, put_set_module
 pub use Rattle.desk_store.proofs.Common.{err_from_is_err_and, has_at, take, AreReadAs, sym, append-nil, counted_of, filter_map, slice_get_read, IsAttributeRow}
 pub use Rattle.desk_store.proofs.Common.{broken_attribute_column, BreaksRule, Begins, Keeps, HoldsTables}
 pub use Rattle.desk_store.proofs.ActionCalls.{entries_read, entry_read, target_actions_read}
-pub use Rattle.desk_store.proofs.ArtifactCalls.{artifact_read, artifact_written, found, piece_read, piece_written}
-pub use Rattle.desk_store.proofs.AttributeCalls.{attribute_set, attribute_written, attributes_read}
+pub use Rattle.desk_store.proofs.ArtifactCalls.{artifact_read, found, piece_read}
+pub use Rattle.desk_store.proofs.AttributeCalls.{attributes_read}
 pub use Rattle.desk_store.proofs.EndLemmas.{commits_as_store, errors_as_store, gives_up_as_store}
 pub use Rattle.desk_store.proofs.BlameLemmas.{call_blames}
 pub use Rattle.desk_store.proofs.FailLemmas.{all_fails, call_breaks, few_fails, first_fails, never_breaks}
 pub use Rattle.desk_store.proofs.Known.{in_ledgers, known, ledger_writes, tables_know}
-pub use Rattle.desk_store.proofs.ModuleCalls.{module_read, module_written}
-pub use Rattle.desk_store.proofs.NumberCalls.{last_number_read, number_written}
+pub use Rattle.desk_store.proofs.ModuleCalls.{module_read}
+pub use Rattle.desk_store.proofs.NumberCalls.{last_number_read}
 pub use Rattle.desk_store.proofs.RawBlames.{action_blamed, actions_blamed, artifacts_blamed, count_blamed, counted_blamed, groups_blamed, history_blamed}
 pub use Rattle.desk_store.proofs.RawBlames.{last_blamed, numbers_blamed, offer_blamed, offers_blamed, pieces_blamed, place_count_blamed, places_blamed}
 pub use Rattle.desk_store.proofs.RawBlames.{rollout_blamed, rule_blamed}
@@ -33,10 +33,16 @@ pub use Rattle.desk_store.proofs.RawLists.{numbers_read, offers_read}
 pub use Rattle.desk_store.proofs.ReadLemmas.{ask_keeps, ask_sees, few_sees, first_keeps, first_sees, pick_more, read_more, told_broken}
 pub use Rattle.desk_store.proofs.RolloutCalls.{approval_read, group_and_next_read, group_read, holding_read, members_read, rules_read}
 pub use Rattle.desk_store.proofs.RowFails.{approval_fails, count_fails, last_fails, next_fails, no_key}
-pub use Rattle.desk_store.proofs.SetCalls.{locked, modules_read, set_module_written, set_read, set_written}
-pub use Rattle.desk_store.proofs.TargetCalls.{tag_dropped, tag_written, tags_read, target_changed, target_read, target_written, targets_read}
-pub use Rattle.desk_store.proofs.WriteCalls.{action_changed, action_written, entry_written, group_changed, group_written, member_written, offer_changed}
-pub use Rattle.desk_store.proofs.WriteCalls.{offer_dropped, rollout_changed, rollout_written, rule_written}
+pub use Rattle.desk_store.proofs.SetCalls.{locked, modules_read, set_read}
+pub use Rattle.desk_store.proofs.TargetCalls.{tags_read, target_read, targets_read}
+pub use Rattle.desk_store.proofs.WriteCalls.{changes, drops, puts, written}
+pub use Rattle.desk_store.proofs.Common.{HoldsRecords, adds_action, adds_entry, adds_group, adds_member, adds_number, adds_rollout, adds_rule, drops_offer}
+pub use Rattle.desk_store.proofs.Common.{offers_group, sets_action, sets_group, sets_offer, sets_rollout}
+pub use Rattle.desk_records.proofs.ArtifactRecords.{adds_artifact, adds_piece}
+pub use Rattle.desk_records.proofs.AttributeRecords.{adds_attribute, sets_attribute}
+pub use Rattle.desk_records.proofs.Modules.{adds_module}
+pub use Rattle.desk_records.proofs.SetRecords.{adds_set, adds_set_module}
+pub use Rattle.desk_records.proofs.TargetRecords.{adds_tag, adds_target, drops_tag, sets_target}
 pub use Rattle.sql_calls.proofs.Ends.{begin_is, commit_is, rollback_is}
 pub use Rattle.sql_calls.proofs.FrameEnds.{begins, commits, fails_to_begin, gives_up}
 pub use Rattle.sql_calls.proofs.Framing.{ask_frames, few_frames, first_frames, run_frames}

@@ -1,18 +1,18 @@
 -- The calls on artifacts and their pieces.
-use Rattle.desk_store.proofs.Common.{◌≡◌, ◌≤◌, ℕ, ◌+◌, pos, [], ◌∷◌, length, Bool, Option, Some, Ok, Result, IfOk, option_map, Vec, vec_items, refl, sym, ap}
-use Rattle.desk_store.proofs.Common.{subst, codes, list_any, Global, is_some, Int, Blob, Row, column, State, Fault, RunsText, AsksText, TakesFirst, Finds}
-use Rattle.desk_store.proofs.Common.{Makes, first_finds, run_makes, item_numbered, Bytes, Records, Artifact, FIND_ARTIFACT, LAST_ARTIFACT, GET_ARTIFACT}
-use Rattle.desk_store.proofs.Common.{LIST_ARTIFACTS, GET_PIECE, PUT_ARTIFACT, PUT_PIECE, StoredArtifact, HoldsLedger, HoldsRecords, ledger_of, IsLastRow}
-use Rattle.desk_store.proofs.Common.{told_of, piece_row, is_same_artifact, file_of, piece_numbered, artifact_filed, with_artifact, AddsPiece}
+use Rattle.desk_store.proofs.Common.{◌≡◌, ◌≤◌, ℕ, pos, [], ◌∷◌, length, Bool, Option, Some, Ok, Result, IfOk, option_map, Vec, vec_items, refl, ap}
+use Rattle.desk_store.proofs.Common.{codes, list_any, Global, is_some, Int, Blob, Row, column, State, Fault, AsksText, TakesFirst, Finds}
+use Rattle.desk_store.proofs.Common.{first_finds, item_numbered, Bytes, Records, Artifact, FIND_ARTIFACT, LAST_ARTIFACT, GET_ARTIFACT}
+use Rattle.desk_store.proofs.Common.{LIST_ARTIFACTS, GET_PIECE, StoredArtifact, HoldsLedger, ledger_of, IsLastRow}
+use Rattle.desk_store.proofs.Common.{told_of, is_same_artifact, file_of, piece_numbered}
 use Rattle.desk_store.proofs.Common.{IsStoredArtifactRow}
 use Rattle.desk_store.proofs.Common.{IsArtifactRow, StoredBytes, stored, told_names, shown_names, find_artifact_is, last_artifact_is, get_artifact_is}
-use Rattle.desk_store.proofs.Common.{list_artifacts_is, get_piece_is, put_artifact_is, put_piece_is, AreReadAs, IsReadAs, put_at}
+use Rattle.desk_store.proofs.Common.{list_artifacts_is, get_piece_is, AreReadAs, IsReadAs}
 use Rattle.desk_records.specs.ReadRows.{shown_artifact}
 use Rattle.desk_records.proofs.RowsTold.{one_artifact, one_stored_artifact}
 use Rattle.rollout_machine.specs.Objects.{artifacts_shown}
-use Rattle.desk_records.proofs.ArtifactRecords.{finds_artifact, lasts_artifact, gets_artifact, lists_artifacts, gets_piece, adds_artifact, adds_piece}
+use Rattle.desk_records.proofs.ArtifactRecords.{finds_artifact, lasts_artifact, gets_artifact, lists_artifacts, gets_piece}
 use Rattle.desk_store.proofs.ReadLemmas.{asks_all, takes_last, takes_one}
-use Rattle.desk_store.proofs.Known.{in_ledgers, known, tables_know}
+use Rattle.desk_store.proofs.Known.{in_ledgers, known}
 
 -- ---- what the texts mean where the records are held
 
@@ -80,23 +80,3 @@ piece_read number sequence least old new row =
     (λ r. piece_numbered r.artifacts number sequence) (λ found bytes. option_map vec_items found ≡ bytes) refl
     (λ a b h. ap Some (one_piece a b h)) (λ db r holds at given. tt) row
     (λ db now holds. gets_piece db now holds (codes "bytes" ∷ []) number sequence least row)
-
--- ---- a new artifact, and a further piece of it
-
-abbrev pub Puts : ℕ → ℕ → Bytes → ℕ → Bytes → Records → Records → Type 0
-Puts number m filename size digest r next = (number ≡ length r.artifacts + 1) × (next ≡ with_artifact r m filename size digest)
-
-pub artifact_written : (number m : ℕ) (filename : Bytes) (size : ℕ) (digest : Bytes) (old new : State) (out : Result (Unit {0}) Fault)
-    → RunsText old new PUT_ARTIFACT.now (Int (pos number) ∷ told_of (artifact_filed m filename size digest)) out
-    → Makes HoldsLedger ledger_of old new out (Puts number m filename size digest)
-artifact_written number m filename size digest old new out h =
-    run_makes HoldsLedger ledger_of PUT_ARTIFACT.now (Int (pos number) ∷ told_of (artifact_filed m filename size digest)) old new
-    (Puts number m filename size digest) (in_ledgers (tables_know (put_at put_artifact_is))) out h
-    (λ now next change holds count w.
-    (w, subst (HoldsRecords new.now) (sym change.1) (adds_artifact m filename size digest number old new _ count now holds change.0 w)))
-
-pub piece_written : (number sequence : ℕ) (bytes : Bytes) (old new : State) (out : Result (Unit {0}) Fault)
-    → RunsText old new PUT_PIECE.now (piece_row number sequence bytes) out → Makes HoldsLedger ledger_of old new out (AddsPiece number sequence bytes)
-piece_written number sequence bytes old new out h = run_makes HoldsLedger ledger_of PUT_PIECE.now (piece_row number sequence bytes) old new
-    (AddsPiece number sequence bytes) (in_ledgers (tables_know (put_at put_piece_is))) out h
-    (λ now next change holds count w. (w, adds_piece number sequence bytes old new _ count now next holds change w))

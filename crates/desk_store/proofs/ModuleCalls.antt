@@ -1,14 +1,14 @@
 -- The calls on modules.
-use Rattle.desk_store.proofs.Common.{◌≡◌, ◌≤◌, ℕ, ◌+◌, pos, [], ◌∷◌, length, Bool, Option, Some, Ok, Result, IfOk, refl, sym, ap, subst, codes, list_any}
-use Rattle.desk_store.proofs.Common.{is_some, Int, Row, State, Fault, RunsText, TakesFirst, Finds, Makes, first_finds, run_makes, item_numbered, ModuleLabel}
-use Rattle.desk_store.proofs.Common.{Records, FIND_MODULE, LAST_MODULE, GET_MODULE, PUT_MODULE, HoldsLedger, HoldsRecords, ledger_of, is_same, words_of}
-use Rattle.desk_store.proofs.Common.{with_module, IsLastRow, IsReadAs, put_module_is, put_at}
+use Rattle.desk_store.proofs.Common.{◌≡◌, ◌≤◌, ℕ, pos, [], ◌∷◌, length, Bool, Option, Some, Ok, Result, IfOk, refl, ap, codes, list_any}
+use Rattle.desk_store.proofs.Common.{is_some, Int, Row, State, Fault, TakesFirst, Finds, first_finds, item_numbered, ModuleLabel}
+use Rattle.desk_store.proofs.Common.{Records, FIND_MODULE, LAST_MODULE, GET_MODULE, HoldsLedger, ledger_of, is_same, words_of}
+use Rattle.desk_store.proofs.Common.{IsLastRow, IsReadAs}
 use Rattle.desk_records.specs.ReadRows.{IsModuleLabelRow}
 use Rattle.desk_records.proofs.RowsTold.{one_module_label}
-use Rattle.desk_records.proofs.Meaning.{find_module_is, last_module_is, get_module_is, put_module_is}
-use Rattle.desk_records.proofs.Modules.{finds_module, lasts_module, gets_module, adds_module}
+use Rattle.desk_records.proofs.Meaning.{find_module_is, last_module_is, get_module_is}
+use Rattle.desk_records.proofs.Modules.{finds_module, lasts_module, gets_module}
 use Rattle.desk_store.proofs.ReadLemmas.{takes_last, takes_one}
-use Rattle.desk_store.proofs.Known.{in_ledgers, known, tables_know}
+use Rattle.desk_store.proofs.Known.{in_ledgers, known}
 
 -- ---- what the texts mean where the records are held
 
@@ -40,14 +40,3 @@ pub module_read : (number : ℕ) → 1 ≤ number → (old new : State) (row : O
 module_read number least old new row = takes_one ledger_of IsModuleLabelRow words_of GET_MODULE.now (Int (pos number) ∷ []) old new (known get_module_is)
     (λ r. item_numbered r.modules number) ◌≡◌ refl (λ a b h. ap Some (one_module_label a b h)) (λ db r holds at given. tt) row
     (λ db now holds. gets_module number least db now holds (codes "name" ∷ codes "type" ∷ codes "version" ∷ []) row)
-
--- ---- a new module
-
-abbrev pub Puts : ℕ → ModuleLabel → Records → Records → Type 0
-Puts number label r next = (number ≡ length r.modules + 1) × (next ≡ with_module r label)
-
-pub module_written : (number : ℕ) (label : ModuleLabel) (old new : State) (out : Result (Unit {0}) Fault)
-    → RunsText old new PUT_MODULE.now (Int (pos number) ∷ words_of label) out → Makes HoldsLedger ledger_of old new out (Puts number label)
-module_written number label old new out h = run_makes HoldsLedger ledger_of PUT_MODULE.now (Int (pos number) ∷ words_of label) old new (Puts number label)
-    (in_ledgers (tables_know (put_at put_module_is))) out h
-    (λ now next change holds count w. (w, subst (HoldsRecords new.now) (sym change.1) (adds_module label number old new _ count now holds change.0 w)))

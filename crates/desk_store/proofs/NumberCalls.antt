@@ -1,11 +1,10 @@
 -- The calls on the numbers that devices give entries of histories.
 use Rattle.desk_store.proofs.Common.{◌≡◌, ◌≤◌, ℕ, pos, [], ◌∷◌, Option, Some, Ok, Result, IfOk, Vec, vec_items, refl, ap, Global, Int, Row, State, Fault}
-use Rattle.desk_store.proofs.Common.{AsksText, RunsText, TakesFirst, Finds, Makes, run_makes, LAST_NUMBER, LIST_NUMBERS, PUT_NUMBER, LastNumber, PlacedNumber}
-use Rattle.desk_store.proofs.Common.{last_number, number_row, numbers_numbered, told_number, HoldsLedger, Ledger, IsLastNumberRow, IsNumberRow, last_number_is}
-use Rattle.desk_store.proofs.Common.{last_number_names, list_numbers_is, number_names, put_number_is, lasts_number, lists_numbers, shown_last_number}
-use Rattle.desk_store.proofs.Common.{adds_number, AreReadAs, IsReadAs, put_at}
-use Rattle.desk_records.specs.LedgerSteps.{AddsNumber}
-use Rattle.desk_store.proofs.Known.{known, in_ledgers, tables_know}
+use Rattle.desk_store.proofs.Common.{AsksText, TakesFirst, Finds, LAST_NUMBER, LIST_NUMBERS, LastNumber, PlacedNumber}
+use Rattle.desk_store.proofs.Common.{last_number, numbers_numbered, told_number, HoldsLedger, Ledger, IsLastNumberRow, IsNumberRow, last_number_is}
+use Rattle.desk_store.proofs.Common.{last_number_names, list_numbers_is, number_names, lasts_number, lists_numbers, shown_last_number}
+use Rattle.desk_store.proofs.Common.{AreReadAs, IsReadAs}
+use Rattle.desk_store.proofs.Known.{known}
 use Rattle.desk_records.proofs.RowsTold.{one_last_number, one_number}
 use Rattle.desk_store.proofs.ReadLemmas.{asks_all, takes_one}
 
@@ -24,9 +23,3 @@ numbers_read action least old new rows =
     asks_all (λ (l : Ledger). l) vec_items IsNumberRow told_number one_number LIST_NUMBERS.now (Int (pos action) ∷ []) old new (known list_numbers_is)
     (λ l. numbers_numbered l.numbers action) rows
     (λ db l holds shown. lists_numbers db l holds number_names action least rows.items shown)
-
-pub number_written : (action place : ℕ) (it : PlacedNumber) (old new : State) (out : Result (Unit {0}) Fault)
-    → RunsText old new PUT_NUMBER.now (number_row action place it) out → Makes HoldsLedger (λ (l : Ledger). l) old new out (AddsNumber action place it)
-number_written action place it old new out h = run_makes HoldsLedger (λ (l : Ledger). l) PUT_NUMBER.now (number_row action place it) old new
-    (AddsNumber action place it) (in_ledgers (tables_know (put_at put_number_is))) out h
-    (λ now next change holds count w. (w, adds_number action place it old new _ count now next holds change w))

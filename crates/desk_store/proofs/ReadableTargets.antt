@@ -21,6 +21,7 @@ use Rattle.desk_records.specs.ReadRows.{broken_attribute_column, broken_listed_t
 use Rattle.desk_records.specs.ReadRows.{columns_of_attribute, columns_of_listed_target, columns_of_stored_target}
 use Rattle.desk_records.specs.Targets.{attribute_rows, tag_rows, target_row}
 use Rattle.desk_records.specs.declared.table_columns.Column.{Column}
+use Rattle.desk_records.proofs.EachPlace.{by_place}
 use Rattle.desk_records.proofs.HeldTables.{wanted_of}
 use Rattle.desk_records.proofs.Membership.{has_flat, has_mapped}
 use Rattle.desk_store.specs.BrokenRows.{BreaksColumn}
@@ -56,38 +57,36 @@ module _ (r : Records) (w : IsReadable (ledger_of r)) (ts : List Target) (keep :
       unbroken _ (let is : broken_attribute_column (columns_of_attribute (Int (pos n) ∷ Text x.id ∷ Text a.key ∷ Text a.value ∷ [])) ≡ None =
       rw (parts.0, parts.1) refl in is) broken
 
-  keeps : (p : Place) (rows : List Row) → IsHeld (ledger_of (record r { targets = ts })) p rows → (row : Row) → Has rows row → BreaksColumn p row → ⊥
-  keeps Targets rows held row among broken =
+  abbrev Keeps : Place → Type 0
+  Keeps p = (rows : List Row) → IsHeld (ledger_of (record r { targets = ts })) p rows → (row : Row) → Has rows row → BreaksColumn p row → ⊥
+
+  keeps_targets : Keeps Targets
+  keeps_targets rows held row among broken =
       let content = wanted_of rows _ row held among in
       let source = has_mapped target_row ts content.1 content.2 in
       of_target content.0 source.0 (keep source.0 source.1)
       (subst (BreaksColumn Targets) (content.3 ∙ ap (λ (z : Row). Int (pos content.0) ∷ z) source.2) broken)
-  keeps TargetTags rows held row among broken =
+
+  keeps_tags : Keeps TargetTags
+  keeps_tags rows held row among broken =
       let content = wanted_of rows _ row held among in
       let its = has_flat tag_rows ts content.1 content.2 in
       let source = has_mapped (λ (tag : Bytes). Text its.0.id ∷ Text tag ∷ []) its.0.tags content.1 its.2 in
       of_tag content.0 its.0 source.0 (keep its.0 its.1) source.1
       (subst (BreaksColumn TargetTags) (content.3 ∙ ap (λ (z : Row). Int (pos content.0) ∷ z) source.2) broken)
-  keeps TargetAttributes rows held row among broken =
+
+  keeps_attributes : Keeps TargetAttributes
+  keeps_attributes rows held row among broken =
       let content = wanted_of rows _ row held among in
       let its = has_flat attribute_rows ts content.1 content.2 in
       let source = has_mapped (λ (a : Attribute). Text its.0.id ∷ Text a.key ∷ Text a.value ∷ []) its.0.attributes content.1 its.2 in
       of_attribute content.0 its.0 source.0 (keep its.0 its.1) source.1
       (subst (BreaksColumn TargetAttributes) (content.3 ∙ ap (λ (z : Row). Int (pos content.0) ∷ z) source.2) broken)
-  keeps Desk rows held row among broken = w.keep Desk rows held row among broken
-  keeps Modules rows held row among broken = w.keep Modules rows held row among broken
-  keeps Sets rows held row among broken = w.keep Sets rows held row among broken
-  keeps SetModules rows held row among broken = w.keep SetModules rows held row among broken
-  keeps Artifacts rows held row among broken = w.keep Artifacts rows held row among broken
-  keeps Pieces rows held row among broken = w.keep Pieces rows held row among broken
-  keeps Rollouts rows held row among broken = w.keep Rollouts rows held row among broken
-  keeps Members rows held row among broken = w.keep Members rows held row among broken
-  keeps Groups rows held row among broken = w.keep Groups rows held row among broken
-  keeps Actions rows held row among broken = w.keep Actions rows held row among broken
-  keeps Feedbacks rows held row among broken = w.keep Feedbacks rows held row among broken
-  keeps Offers rows held row among broken = w.keep Offers rows held row among broken
-  keeps Rules rows held row among broken = w.keep Rules rows held row among broken
-  keeps Numbers rows held row among broken = w.keep Numbers rows held row among broken
+
+  keeps : (p : Place) → Keeps p
+  keeps = by_place Keeps (w.keep Desk) (w.keep Modules) (w.keep Sets) (w.keep SetModules) (w.keep Artifacts) (w.keep Pieces)
+      keeps_targets keeps_tags keeps_attributes (w.keep Rollouts) (w.keep Members) (w.keep Groups) (w.keep Actions) (w.keep Feedbacks) (w.keep Offers)
+      (w.keep Rules) (w.keep Numbers)
 
   pub readable_with : IsReadable (ledger_of (record r { targets = ts }))
   readable_with = record {

@@ -1,9 +1,9 @@
 -- The calls on distribution sets.
-use Rattle.desk_store.proofs.Common.{◌≡◌, ◌≤◌, ℕ, ◌+◌, pos, [], ◌∷◌, length, Bool, Option, Some, Ok, Result, IfOk, option_map, Vec, vec_items, refl, sym, ap}
-use Rattle.desk_store.proofs.Common.{subst, codes, list_any, Global, is_some, Int, Row, column, State, Fault, RunsText, AsksText, TakesFirst, Finds, Makes}
-use Rattle.desk_store.proofs.Common.{first_finds, run_makes, item_numbered, Bytes, SetLabel, Records, is_named_by_set, FIND_SET, LAST_SET, GET_SET}
-use Rattle.desk_store.proofs.Common.{LIST_SET_MODULES, MODULE_LOCKED, PUT_SET, PUT_SET_MODULE, HoldsLedger, HoldsRecords, ledger_of, IsLastRow, place_row}
-use Rattle.desk_store.proofs.Common.{is_same_set, names_of, with_set, AddsSetModule, AreReadAs, IsReadAs, put_set_is, put_set_module_is, put_at}
+use Rattle.desk_store.proofs.Common.{◌≡◌, ◌≤◌, ℕ, pos, [], ◌∷◌, length, Bool, Option, Some, Ok, Result, IfOk, option_map, Vec, vec_items, refl, ap}
+use Rattle.desk_store.proofs.Common.{codes, list_any, Global, is_some, Int, Row, column, State, Fault, AsksText, TakesFirst, Finds}
+use Rattle.desk_store.proofs.Common.{first_finds, item_numbered, Bytes, SetLabel, Records, is_named_by_set, FIND_SET, LAST_SET, GET_SET}
+use Rattle.desk_store.proofs.Common.{LIST_SET_MODULES, MODULE_LOCKED, HoldsLedger, ledger_of, IsLastRow}
+use Rattle.desk_store.proofs.Common.{is_same_set, names_of, AreReadAs, IsReadAs}
 use Rattle.desk_records.proofs.RowsTold.{one_set_name}
 use Rattle.rollout_machine.specs.Objects.{modules_of_set}
 use Rattle.rollout_model.specs.declared.number.ModuleKind.{ModuleKind}
@@ -12,10 +12,10 @@ use Rattle.desk_records.specs.declared.set_row.SetName.{SetName}
 use Rattle.desk_records.specs.SetRow.{called}
 use Rattle.desk_records.specs.ReadRows.{IsSetNameRow}
 use Rattle.desk_records.specs.Columns.{StoredNumber}
-use Rattle.desk_records.proofs.SetMeaning.{find_set_is, last_set_is, get_set_is, list_set_modules_is, module_locked_is, put_set_is, put_set_module_is}
-use Rattle.desk_records.proofs.SetRecords.{finds_set, lasts_set, gets_set, lists_set_modules, finds_lock, adds_set, adds_set_module}
+use Rattle.desk_records.proofs.SetMeaning.{find_set_is, last_set_is, get_set_is, list_set_modules_is, module_locked_is}
+use Rattle.desk_records.proofs.SetRecords.{finds_set, lasts_set, gets_set, lists_set_modules, finds_lock}
 use Rattle.desk_store.proofs.ReadLemmas.{asks_all, takes_last, takes_one}
-use Rattle.desk_store.proofs.Known.{in_ledgers, known, tables_know}
+use Rattle.desk_store.proofs.Known.{in_ledgers, known}
 
 -- ---- what the texts mean where the records are held
 
@@ -79,20 +79,3 @@ pub locked : {E : Type 0} (number : ℕ) (old new : State) (row : Option Row) �
 locked number old new row h =
     first_finds HoldsLedger ledger_of MODULE_LOCKED.now (Int (pos number) ∷ []) old new (Locks number) (in_ledgers (known module_locked_is))
     (λ db r holds at given. tt) row h (Ok (is_some row)) (λ db now holds shown. finds_lock db now holds (codes "dset" ∷ []) number row shown)
-
--- ---- a new set, and a further module of it
-
-abbrev pub Puts : ℕ → Bytes → Bytes → Records → Records → Type 0
-Puts number name version r next = (number ≡ length r.sets + 1) × (next ≡ with_set r name version)
-
-pub set_written : (number : ℕ) (name version : Bytes) (old new : State) (out : Result (Unit {0}) Fault)
-    → RunsText old new PUT_SET.now (Int (pos number) ∷ names_of name version) out → Makes HoldsLedger ledger_of old new out (Puts number name version)
-set_written number name version old new out h = run_makes HoldsLedger ledger_of PUT_SET.now (Int (pos number) ∷ names_of name version) old new
-    (Puts number name version) (in_ledgers (tables_know (put_at put_set_is))) out h
-    (λ now next change holds count w. (w, subst (HoldsRecords new.now) (sym change.1) (adds_set name version number old new _ count now holds change.0 w)))
-
-pub set_module_written : (number place m : ℕ) (old new : State) (out : Result (Unit {0}) Fault) → RunsText old new PUT_SET_MODULE.now (place_row number place m)
-    out → Makes HoldsLedger ledger_of old new out (AddsSetModule number place m)
-set_module_written number place m old new out h = run_makes HoldsLedger ledger_of PUT_SET_MODULE.now (place_row number place m) old new
-    (AddsSetModule number place m) (in_ledgers (tables_know (put_at put_set_module_is))) out h
-    (λ now next change holds count w. (w, adds_set_module number place m old new _ count now next holds change w))

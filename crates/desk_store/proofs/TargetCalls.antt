@@ -1,12 +1,12 @@
 -- The calls on targets and their tags.
 use Rattle.desk_store.proofs.Common.{◌≡◌, ◌<◌, ◌^◌, ℕ, min, pos, take, drop, List, [], ◌∷◌, length, map, Option, Some, None, option_map, Ok, Err, Result, IfOk}
-use Rattle.desk_store.proofs.Common.{Vec, vec_items, refl, sym, ap, subst, ◌∙◌, arith, codes, Global, Int, Text, Blob, Row, column, Database, State, Fault}
-use Rattle.desk_store.proofs.Common.{RunsText, AsksText, TakesFirst, Finds, Makes, ShowsFirst, first_finds, run_makes, Bytes, Records, tags_of, target_of}
-use Rattle.desk_store.proofs.Common.{Word, COUNT_TARGETS, DROP_TARGET_TAG, GET_TARGET, LIST_TARGETS, LIST_TARGET_TAGS, PUT_TARGET, PUT_TARGET_TAG, SET_TARGET}
-use Rattle.desk_store.proofs.Common.{HoldsLedger, HoldsRecords, ledger_of, IsStoredTargetRow, IsListedTargetRow, listed_target, stored_target, tag_row}
+use Rattle.desk_store.proofs.Common.{Vec, vec_items, refl, sym, ap, ◌∙◌, arith, codes, Global, Int, Text, Row, column, Database, State, Fault}
+use Rattle.desk_store.proofs.Common.{AsksText, TakesFirst, Finds, ShowsFirst, first_finds, Bytes, Records, tags_of, target_of}
+use Rattle.desk_store.proofs.Common.{Word, COUNT_TARGETS, GET_TARGET, LIST_TARGETS, LIST_TARGET_TAGS}
+use Rattle.desk_store.proofs.Common.{HoldsLedger, HoldsRecords, ledger_of, IsStoredTargetRow, IsListedTargetRow, listed_target, stored_target}
 use Rattle.desk_store.proofs.Common.{AreReadAs}
-use Rattle.desk_store.proofs.Common.{IsCount, IsReadAs, put_target_is, set_target_is, put_target_tag_is, drop_target_tag_is, count_targets_is, changed_at}
-use Rattle.desk_store.proofs.Common.{counted_at, dropped_at, put_at}
+use Rattle.desk_store.proofs.Common.{IsCount, IsReadAs, count_targets_is}
+use Rattle.desk_store.proofs.Common.{counted_at}
 use Rattle.desk_records.specs.ReadRows.{shown_listed_target}
 use Rattle.desk_records.proofs.RowsTold.{one_listed_target, one_stored_target}
 use Rattle.rollout_machine.specs.Targets.{Target}
@@ -14,11 +14,8 @@ use Rattle.rollout_model.specs.declared.word.LabelKind.{LabelKind}
 use Rattle.desk_records.specs.declared.target_row.ListedTarget.{ListedTarget}
 use Rattle.desk_records.specs.declared.target_row.StoredTarget.{StoredTarget}
 use Rattle.desk_records.specs.Columns.{StoredText}
-use Rattle.desk_records.specs.Targets.{AddsTag, AddsTarget, renamed, untagged, with_changed}
-use Rattle.desk_records.proofs.TargetMeaning.{get_target_is, count_targets_is, list_targets_is, list_target_tags_is, put_target_is, set_target_is}
-use Rattle.desk_records.proofs.TargetMeaning.{put_target_tag_is, drop_target_tag_is}
-use Rattle.desk_records.proofs.TargetRecords.{told_target, listed_row, gets_target, counts_targets, lists_targets, lists_target_tags, adds_target, sets_target}
-use Rattle.desk_records.proofs.TargetRecords.{adds_tag, drops_tag}
+use Rattle.desk_records.proofs.TargetMeaning.{get_target_is, count_targets_is, list_targets_is, list_target_tags_is}
+use Rattle.desk_records.proofs.TargetRecords.{told_target, listed_row, gets_target, counts_targets, lists_targets, lists_target_tags}
 use Rattle.desk_store.proofs.ReadLemmas.{asks_all, takes_one}
 use Rattle.desk_store.proofs.Known.{in_ledgers, known, tables_know}
 
@@ -98,35 +95,3 @@ pub tags_read : (id : Bytes) (old new : State) (rows : Vec Row Global) → AsksT
 tags_read id old new rows =
     asks_all ledger_of vec_items IsTagRow (λ w. Text w ∷ []) one_tag LIST_TARGET_TAGS.now (Text id ∷ []) old new (known list_target_tags_is)
     (λ r. tags_of (target_of r id)) rows (λ db now holds. lists_target_tags db now holds (codes "tag" ∷ []) id rows.items)
-
--- ---- what is written
-
-abbrev pub named_row : Bytes → Bytes → Bytes → Row
-named_row id name digest = Text id ∷ Text name ∷ Blob digest ∷ []
-
-pub target_written : (id name digest : Bytes) (old new : State) (out : Result (Unit {0}) Fault) → RunsText old new PUT_TARGET.now (named_row id name digest) out
-    → Makes HoldsLedger ledger_of old new out (AddsTarget id name digest)
-target_written id name digest old new out h = run_makes HoldsLedger ledger_of PUT_TARGET.now (named_row id name digest) old new (AddsTarget id name digest)
-    (in_ledgers (tables_know (put_at put_target_is))) out h
-    (λ now next change holds count w. (w, adds_target id name digest old new _ count now next holds change w))
-
-abbrev pub ChangesTarget : Bytes → (Target → Target) → Records → Records → Type 0
-ChangesTarget id f r next = next ≡ with_changed r id f
-
-pub target_changed : (id name digest : Bytes) (old new : State) (out : Result (Unit {0}) Fault) → RunsText old new SET_TARGET.now (named_row id name digest) out
-    → Makes HoldsLedger ledger_of old new out (ChangesTarget id (renamed name digest))
-target_changed id name digest old new out h = run_makes HoldsLedger ledger_of SET_TARGET.now (named_row id name digest) old new
-    (ChangesTarget id (renamed name digest)) (in_ledgers (tables_know (changed_at set_target_is))) out h
-    (λ now next change holds count w. (w, subst (HoldsRecords new.now) (sym change) (sets_target id name digest old new _ count now holds w)))
-
-pub tag_written : (id w : Bytes) (old new : State) (out : Result (Unit {0}) Fault) → RunsText old new PUT_TARGET_TAG.now (tag_row id w) out
-    → Makes HoldsLedger ledger_of old new out (AddsTag id w)
-tag_written id w old new out h = run_makes HoldsLedger ledger_of PUT_TARGET_TAG.now (tag_row id w) old new (AddsTag id w)
-    (in_ledgers (tables_know (put_at put_target_tag_is))) out h
-    (λ now next change holds count done. (done, adds_tag id w old new _ count now next holds change done))
-
-pub tag_dropped : (id w : Bytes) (old new : State) (out : Result (Unit {0}) Fault) → RunsText old new DROP_TARGET_TAG.now (tag_row id w) out
-    → Makes HoldsLedger ledger_of old new out (ChangesTarget id (untagged w))
-tag_dropped id w old new out h = run_makes HoldsLedger ledger_of DROP_TARGET_TAG.now (tag_row id w) old new (ChangesTarget id (untagged w))
-    (in_ledgers (tables_know (dropped_at drop_target_tag_is))) out h
-    (λ now next change holds count done. (done, subst (HoldsRecords new.now) (sym change) (drops_tag id w old new _ count now holds done)))

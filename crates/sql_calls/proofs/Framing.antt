@@ -11,7 +11,7 @@ use Rattle.sql_calls.proofs.Leavings.{first_unchanged, first_fails, none_shown, 
 
 -- ---- rows alone
 
-is_written : (old new : State) (command : Command) (text : List ℕ) (params : Row) (count : ℕ) → writes_rows command ≡ true
+pub is_written : (old new : State) (command : Command) (text : List ℕ) (params : Row) (count : ℕ) → writes_rows command ≡ true
     → Runs old new None command text params count → Writes old new None command text params count
 is_written old new (Insert at from) text params count rows h = h
 is_written old new (InsertOr at way from clauses) text params count rows h = h

@@ -1,9 +1,9 @@
-use Rattle.desk_store.proofs.Answering.{refl, set_action_is, ledger_writes, action_changed, changed_at}
+use Rattle.desk_store.proofs.Answering.{set_action_is, changes, sets_action, written}
 use Rattle.desk_store.proofs.change.OpenChange.change_action.Goals as goal
 
 pub returns-clause-writes : goal.returns-clause-writes
-returns-clause-writes g c = action_changed c.args.number c.args.canceling c.args.outcome (record { notes = c.args.notes; entries = c.args.entries }) _ _
-    c.run.result (rw (
+returns-clause-writes g c = written (changes set_action_is)
+    (sets_action c.args.number c.args.canceling c.args.outcome (record { notes = c.args.notes; entries = c.args.entries }) _ _ _) c.run.result (rw (
       c.params-to_sql.ensures,
       c.params-to_sql-2.ensures,
       c.params-to_sql-3.ensures,
@@ -15,4 +15,4 @@ returns-clause-writes g c = action_changed c.args.number c.args.canceling c.args
     ) at c.run.ensures.runs)
 
 pub run-requires : goal.run-requires
-run-requires g c = ledger_writes (changed_at set_action_is) (λ at tree. refl)
+run-requires g c = changes set_action_is

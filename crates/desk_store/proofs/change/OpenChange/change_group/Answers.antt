@@ -1,8 +1,9 @@
-use Rattle.desk_store.proofs.Answering.{refl, set_group_is, ledger_writes, group_changed, changed_at}
+use Rattle.desk_store.proofs.Answering.{set_group_is, changes, sets_group, written}
 use Rattle.desk_store.proofs.change.OpenChange.change_group.Goals as goal
 
 pub returns-clause-writes : goal.returns-clause-writes
-returns-clause-writes g c = group_changed c.args.number c.args.group c.args.started c.args.ok c.args.bad c.args.gone _ _ c.run.result
+returns-clause-writes g c = written (changes set_group_is) (sets_group c.args.number c.args.group c.args.started c.args.ok c.args.bad c.args.gone _ _ _)
+    c.run.result
     (rw (
       c.params-to_sql.ensures,
       c.params-to_sql-2.ensures,
@@ -15,4 +16,4 @@ returns-clause-writes g c = group_changed c.args.number c.args.group c.args.star
     ) at c.run.ensures.runs)
 
 pub run-requires : goal.run-requires
-run-requires g c = ledger_writes (changed_at set_group_is) (λ at tree. refl)
+run-requires g c = changes set_group_is

@@ -1,8 +1,8 @@
-use Rattle.desk_store.proofs.Answering.{refl, set_offer_is, ledger_writes, offer_changed, changed_at}
+use Rattle.desk_store.proofs.Answering.{set_offer_is, changes, sets_offer, written}
 use Rattle.desk_store.proofs.change.OpenChange.change_offer.Goals as goal
 
 pub returns-clause-writes : goal.returns-clause-writes
-returns-clause-writes g c = offer_changed c.args.id.now c.args.offer _ _ c.run.result
+returns-clause-writes g c = written (changes set_offer_is) (sets_offer c.args.id.now c.args.offer _ _ _) c.run.result
     (rw (
       c.params-to_sql.ensures,
       c.params-to_sql-2.ensures,
@@ -13,4 +13,4 @@ returns-clause-writes g c = offer_changed c.args.id.now c.args.offer _ _ c.run.r
     ) at c.run.ensures.runs)
 
 pub run-requires : goal.run-requires
-run-requires g c = ledger_writes (changed_at set_offer_is) (λ at tree. refl)
+run-requires g c = changes set_offer_is

@@ -1,8 +1,8 @@
-use Rattle.desk_store.proofs.Answering.{refl, set_rollout_is, ledger_writes, rollout_changed, changed_at}
+use Rattle.desk_store.proofs.Answering.{set_rollout_is, changes, sets_rollout, written}
 use Rattle.desk_store.proofs.change.OpenChange.change_rollout.Goals as goal
 
 pub returns-clause-writes : goal.returns-clause-writes
-returns-clause-writes g c = rollout_changed c.args.number c.args.approval c.args.started c.args.paused _ _ c.run.result
+returns-clause-writes g c = written (changes set_rollout_is) (sets_rollout c.args.number c.args.approval c.args.started c.args.paused _ _ _) c.run.result
     (rw (
       c.params-to_sql.ensures,
       c.params-to_sql-2.ensures,
@@ -15,4 +15,4 @@ returns-clause-writes g c = rollout_changed c.args.number c.args.approval c.args
     ) at c.run.ensures.runs)
 
 pub run-requires : goal.run-requires
-run-requires g c = ledger_writes (changed_at set_rollout_is) (λ at tree. refl)
+run-requires g c = changes set_rollout_is

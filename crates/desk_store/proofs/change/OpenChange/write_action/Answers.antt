@@ -1,8 +1,8 @@
-use Rattle.desk_store.proofs.Answering.{refl, put_action_is, ledger_writes, action_written, put_at}
+use Rattle.desk_store.proofs.Answering.{put_action_is, adds_action, puts, written}
 use Rattle.desk_store.proofs.change.OpenChange.write_action.Goals as goal
 
 pub returns-clause-writes : goal.returns-clause-writes
-returns-clause-writes g c = action_written c.args.number c.args.rollout c.args.place c.args.id.now _ _ c.run.result
+returns-clause-writes g c = written (puts put_action_is) (adds_action c.args.number c.args.rollout c.args.place c.args.id.now _ _ _) c.run.result
     (rw (
       c.params-to_sql.ensures,
       c.params-to_sql-2.ensures,
@@ -14,4 +14,4 @@ returns-clause-writes g c = action_written c.args.number c.args.rollout c.args.p
     ) at c.run.ensures.runs)
 
 pub run-requires : goal.run-requires
-run-requires g c = ledger_writes (put_at put_action_is) (λ at tree. refl)
+run-requires g c = puts put_action_is

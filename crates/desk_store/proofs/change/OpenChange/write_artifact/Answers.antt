@@ -1,5 +1,5 @@
-use Rattle.desk_store.proofs.Answering.{refl, ◌∷◌, pos, Int, state, RunsText, PUT_ARTIFACT, told_of, artifact_filed, put_artifact_is, ledger_writes}
-use Rattle.desk_store.proofs.Answering.{artifact_written, put_at}
+use Rattle.desk_store.proofs.Answering.{◌∷◌, pos, Int, state, RunsText, PUT_ARTIFACT, told_of, artifact_filed, put_artifact_is, HoldsRecords, adds_artifact}
+use Rattle.desk_store.proofs.Answering.{puts, subst, sym, written}
 use Rattle.desk_store.proofs.change.OpenChange.write_artifact.Goals as goal
 
 pub returns-clause-writes : goal.returns-clause-writes
@@ -19,7 +19,9 @@ returns-clause-writes g c =
       c.as_slice.ensures,
       c.as_bytes.ensures.value,
     ) at c.run.ensures.runs in
-    artifact_written c.args.number c.args.module_number c.args.filename.now c.args.size c.args.digest.now _ _ c.run.result ran
+    written (puts put_artifact_is)
+    (λ count now next holds change w. subst (HoldsRecords _) (sym change.1)
+    (adds_artifact c.args.module_number c.args.filename.now c.args.size c.args.digest.now c.args.number _ _ _ count now holds change.0 w)) c.run.result ran
 
 pub run-requires : goal.run-requires
-run-requires g c = ledger_writes (put_at put_artifact_is) (λ at tree. refl)
+run-requires g c = puts put_artifact_is

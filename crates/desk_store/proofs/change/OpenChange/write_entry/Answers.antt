@@ -1,8 +1,8 @@
-use Rattle.desk_store.proofs.Answering.{refl, put_feedback_is, ledger_writes, entry_written, put_at}
+use Rattle.desk_store.proofs.Answering.{put_feedback_is, adds_entry, puts, written}
 use Rattle.desk_store.proofs.change.OpenChange.write_entry.Goals as goal
 
 pub returns-clause-writes : goal.returns-clause-writes
-returns-clause-writes g c = entry_written c.args.number c.args.sequence c.args.entry.now _ _ c.run.result
+returns-clause-writes g c = written (puts put_feedback_is) (adds_entry c.args.number c.args.sequence c.args.entry.now _ _ _) c.run.result
     (rw (
       c.params-to_sql.ensures,
       c.params-to_sql-2.ensures,
@@ -14,4 +14,4 @@ returns-clause-writes g c = entry_written c.args.number c.args.sequence c.args.e
     ) at c.run.ensures.runs)
 
 pub run-requires : goal.run-requires
-run-requires g c = ledger_writes (put_at put_feedback_is) (λ at tree. refl)
+run-requires g c = puts put_feedback_is

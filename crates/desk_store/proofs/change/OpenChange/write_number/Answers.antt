@@ -1,8 +1,8 @@
-use Rattle.desk_store.proofs.Answering.{refl, put_number_is, ledger_writes, number_written, put_at}
+use Rattle.desk_store.proofs.Answering.{put_number_is, adds_number, puts, written}
 use Rattle.desk_store.proofs.change.OpenChange.write_number.Goals as goal
 
 pub returns-clause-writes : goal.returns-clause-writes
-returns-clause-writes g c = number_written c.args.action c.args.place c.args.it.now _ _ c.run.result
+returns-clause-writes g c = written (puts put_number_is) (adds_number c.args.action c.args.place c.args.it.now _ _ _) c.run.result
     (rw (
       c.params-to_sql.ensures,
       c.params-to_sql-2.ensures,
@@ -13,4 +13,4 @@ returns-clause-writes g c = number_written c.args.action c.args.place c.args.it.
     ) at c.run.ensures.runs)
 
 pub run-requires : goal.run-requires
-run-requires g c = ledger_writes (put_at put_number_is) (λ at tree. refl)
+run-requires g c = puts put_number_is

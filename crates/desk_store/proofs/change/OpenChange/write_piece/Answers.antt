@@ -1,9 +1,9 @@
-use Rattle.desk_store.proofs.Answering.{refl, put_piece_is, ledger_writes, piece_written, put_at}
+use Rattle.desk_store.proofs.Answering.{put_piece_is, adds_piece, puts, written}
 use Rattle.desk_store.proofs.change.OpenChange.write_piece.Goals as goal
 
 pub returns-clause-writes : goal.returns-clause-writes
-returns-clause-writes g c = piece_written c.args.number c.args.sequence c.args.bytes.now _ _ c.run.result
+returns-clause-writes g c = written (puts put_piece_is) (adds_piece c.args.number c.args.sequence c.args.bytes.now _ _ _) c.run.result
     (rw (c.params-to_sql.ensures, c.params-to_sql-2.ensures, c.params-to_sql-3.ensures, c.get.ensures.value) at c.run.ensures.runs)
 
 pub run-requires : goal.run-requires
-run-requires g c = ledger_writes (put_at put_piece_is) (λ at tree. refl)
+run-requires g c = puts put_piece_is

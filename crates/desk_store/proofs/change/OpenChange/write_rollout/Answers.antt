@@ -1,8 +1,8 @@
-use Rattle.desk_store.proofs.Answering.{refl, put_rollout_is, ledger_writes, rollout_written, put_at}
+use Rattle.desk_store.proofs.Answering.{put_rollout_is, adds_rollout, puts, written}
 use Rattle.desk_store.proofs.change.OpenChange.write_rollout.Goals as goal
 
 pub returns-clause-writes : goal.returns-clause-writes
-returns-clause-writes g c = rollout_written c.args.number c.args.plan.now c.args.approval _ _ c.run.result
+returns-clause-writes g c = written (puts put_rollout_is) (adds_rollout c.args.number c.args.plan.now c.args.approval _ _ _) c.run.result
     (rw (
       c.params-to_sql.ensures,
       c.params-to_sql-2.ensures,
@@ -26,4 +26,4 @@ returns-clause-writes g c = rollout_written c.args.number c.args.plan.now c.args
     ) at c.run.ensures.runs)
 
 pub run-requires : goal.run-requires
-run-requires g c = ledger_writes (put_at put_rollout_is) (λ at tree. refl)
+run-requires g c = puts put_rollout_is

@@ -1,5 +1,5 @@
 use Rattle.desk_store.proofs.Answering.{◌≡◌, ℕ, pos, Option, Some, None, refl, state, bound_value, or_null, Int, RunsText, rule_row, PUT_RULE, put_rule_is}
-use Rattle.desk_store.proofs.Answering.{ledger_writes, rule_written, put_at}
+use Rattle.desk_store.proofs.Answering.{adds_rule, puts, written}
 use Rattle.sqlite_value.specs.Value.{owned}
 use Rattle.desk_store.proofs.change.OpenChange.write_rule.Goals as goal
 
@@ -27,7 +27,7 @@ returns-clause-writes g c =
       c.get-3.ensures.value,
       bound_or_null c.args.rule.now.percentage,
     ) at c.run.ensures.runs in
-    rule_written c.args.number c.args.group c.args.rule.now _ _ c.run.result ran
+    written (puts put_rule_is) (adds_rule c.args.number c.args.group c.args.rule.now _ _ _) c.run.result ran
 
 pub run-requires : goal.run-requires
-run-requires g c = ledger_writes (put_at put_rule_is) (λ at tree. refl)
+run-requires g c = puts put_rule_is

@@ -1,8 +1,11 @@
-use Rattle.desk_store.proofs.Answering.{refl, put_set_is, ledger_writes, set_written, put_at}
+use Rattle.desk_store.proofs.Answering.{put_set_is, HoldsRecords, adds_set, puts, subst, sym, written}
 use Rattle.desk_store.proofs.change.OpenChange.write_set.Goals as goal
 
 pub returns-clause-writes : goal.returns-clause-writes
-returns-clause-writes g c = set_written c.args.number c.args.name.now c.args.version.now _ _ c.run.result
+returns-clause-writes g c =
+    written (puts put_set_is)
+    (λ count now next holds change w. subst (HoldsRecords _) (sym change.1)
+    (adds_set c.args.name.now c.args.version.now c.args.number _ _ _ count now holds change.0 w)) c.run.result
     (rw (
       c.params-to_sql.ensures,
       c.params-to_sql-2.ensures,
@@ -13,4 +16,4 @@ returns-clause-writes g c = set_written c.args.number c.args.name.now c.args.ver
     ) at c.run.ensures.runs)
 
 pub run-requires : goal.run-requires
-run-requires g c = ledger_writes (put_at put_set_is) (λ at tree. refl)
+run-requires g c = puts put_set_is

@@ -1,8 +1,8 @@
-use Rattle.desk_store.proofs.Answering.{refl, put_target_is, ledger_writes, target_written, put_at}
+use Rattle.desk_store.proofs.Answering.{put_target_is, adds_target, puts, written}
 use Rattle.desk_store.proofs.change.OpenChange.write_target.Goals as goal
 
 pub returns-clause-writes : goal.returns-clause-writes
-returns-clause-writes g c = target_written c.args.id.now c.args.name.now c.args.digest.now _ _ c.run.result
+returns-clause-writes g c = written (puts put_target_is) (adds_target c.args.id.now c.args.name.now c.args.digest.now _ _ _) c.run.result
     (rw (
       c.params-to_sql.ensures,
       c.params-to_sql-2.ensures,
@@ -14,4 +14,4 @@ returns-clause-writes g c = target_written c.args.id.now c.args.name.now c.args.
     ) at c.run.ensures.runs)
 
 pub run-requires : goal.run-requires
-run-requires g c = ledger_writes (put_at put_target_is) (λ at tree. refl)
+run-requires g c = puts put_target_is

@@ -1,8 +1,8 @@
-use Rattle.desk_store.proofs.Answering.{refl, put_target_attribute_is, ledger_writes, attribute_written, put_at}
+use Rattle.desk_store.proofs.Answering.{put_target_attribute_is, adds_attribute, puts, written}
 use Rattle.desk_store.proofs.change.OpenChange.write_target_attribute.Goals as goal
 
 pub returns-clause-writes : goal.returns-clause-writes
-returns-clause-writes g c = attribute_written c.args.id.now c.args.attribute.now _ _ c.run.result
+returns-clause-writes g c = written (puts put_target_attribute_is) (adds_attribute c.args.id.now c.args.attribute.now _ _ _) c.run.result
     (rw (
       c.params-to_sql.ensures,
       c.params-to_sql-2.ensures,
@@ -13,4 +13,4 @@ returns-clause-writes g c = attribute_written c.args.id.now c.args.attribute.now
     ) at c.run.ensures.runs)
 
 pub run-requires : goal.run-requires
-run-requires g c = ledger_writes (put_at put_target_attribute_is) (λ at tree. refl)
+run-requires g c = puts put_target_attribute_is
