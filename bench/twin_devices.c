@@ -4,14 +4,14 @@
 #include <stdlib.h>
 #include <string.h>
 
-enum { ACTIONS_OF_TARGET = 1001, NOTE_LIMIT = 100, GOOD = 1, BAD = 2, SUCCEEDED = 3, FAILED = 4, REJECTED = 5 };
+enum { NOTE_LIMIT = 100, GOOD = 1, BAD = 2, SUCCEEDED = 3, FAILED = 4, REJECTED = 5 };
 
 typedef struct { int64_t number, rollout, place, canceling, outcome, notes, entries; Text id; } Action;
 // What a report finds: its rollout, its group with the one behind it, and what is said of its group.
 typedef struct { Rollout rollout; Group own, next; Rule rule; } Seen;
 typedef struct { Text execution, finished; char details[8 * 257]; size_t details_len; } Report;
 
-static sqlite3_stmt *get_offer, *change_offer, *drop_offer, *get_action, *set_action, *put_feedback, *list_target_actions, *next_offer, *last_final;
+static sqlite3_stmt *get_offer, *change_offer, *drop_offer, *get_action, *set_action, *put_feedback, *last_ended, *next_offer, *last_final;
 
 void prepare_devices(void) {
     get_offer = prepared("SELECT action, kind FROM offer WHERE controller = ?1");
@@ -20,8 +20,8 @@ void prepare_devices(void) {
     get_action = prepared("SELECT rollout, place, controller, canceling, outcome, notes, entries FROM action WHERE number = ?1");
     set_action = prepared("UPDATE action SET canceling = ?2, outcome = ?3, notes = ?4, entries = ?5 WHERE number = ?1");
     put_feedback = prepared("INSERT INTO feedback (action, sequence, kind, word, details) VALUES (?1, ?2, ?3, ?4, ?5)");
-    list_target_actions = prepared(
-        "SELECT rollout, place, controller, canceling, outcome, notes, entries, number FROM action WHERE controller = ?1 ORDER BY number LIMIT ?2 OFFSET ?3");
+    last_ended = prepared(
+        "SELECT rollout, place, controller, canceling, outcome, notes, entries, number FROM action WHERE controller = ?1 AND outcome > 0 ORDER BY number DESC LIMIT 1");
     // of whole sets
     next_offer = prepared(
         "SELECT number, canceling FROM action WHERE controller = ?1 AND outcome = 0 AND EXISTS (SELECT 1 FROM rollout_group WHERE rollout_group.rollout = action.rollout AND rollout_group.first_place <= action.place AND rollout_group.last_place >= action.place AND rollout_group.started = 1) ORDER BY number LIMIT 1");
@@ -67,12 +67,6 @@ static void write_offer(sqlite3_stmt *statement, const Text *id, int64_t action,
 
 static void set_offer(const Text *id, int64_t action, int64_t kind) { write_offer(change_offer, id, action, kind); }
 
-static void bind_actions_of(const Text *id) {
-    bind_text(list_target_actions, 1, id);
-    sqlite3_bind_int64(list_target_actions, 2, ACTIONS_OF_TARGET);
-    sqlite3_bind_int64(list_target_actions, 3, 0);
-}
-
 // The target's first open action whose group is started, or 0.
 static int64_t first_offered(const Text *id, int64_t *kind) {
     bind_text(next_offer, 1, id);
@@ -92,17 +86,15 @@ static void offer_anew(const Text *id) {
 
 // ---- words
 
-// How the last action of a target ended whose group is started, or 0, by its actions one after the other.
+// How the last action of a target ended that did and whose group is started, or 0.
 static int64_t last_ending(const Text *id) {
-    static Action actions[ACTIONS_OF_TARGET];
+    Action action;
     Group group;
-    int count = 0;
-    bind_actions_of(id);
-    while (row_of(list_target_actions)) read_action_row(list_target_actions, &actions[count++]);
-    sqlite3_reset(list_target_actions);
-    while (count--)
-        if (holding_group(actions[count].rollout, actions[count].place, &group) && group.started) return actions[count].outcome;
-    return 0;
+    bind_text(last_ended, 1, id);
+    int is_there = row_of(last_ended);
+    if (is_there) read_action_row(last_ended, &action);
+    sqlite3_reset(last_ended);
+    return is_there && holding_group(action.rollout, action.place, &group) && group.started ? action.outcome : 0;
 }
 
 static int64_t last_ending_at_once(const Text *id) {

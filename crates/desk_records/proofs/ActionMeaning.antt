@@ -17,9 +17,9 @@ use Rattle.sql_front.specs.Stands.{Stands}
 use Rattle.sql_front.proofs.TextsWithin.{QueriesWithin, queries_known_within}
 use Rattle.sql_calls.specs.Means.{Means}
 use Rattle.sql_calls.proofs.Selects.{simple, by}
-use Rattle.desk_records.specs.declared.action_texts.TheConstants.{LAST_ACTION, GET_ACTION, LIST_ACTIONS, COUNT_ACTIONS, LIST_TARGET_ACTIONS, PUT_ACTION, SET_ACTION, PUT_FEEDBACK, LIST_ENTRIES, PUT_NUMBER, LAST_NUMBER, LIST_NUMBERS, GET_OFFER, LIST_OFFERS, SET_OFFER, DROP_OFFER, NEXT_OFFER}
+use Rattle.desk_records.specs.declared.action_texts.TheConstants.{LAST_ACTION, GET_ACTION, LIST_ACTIONS, COUNT_ACTIONS, LIST_TARGET_ACTIONS, LAST_ENDED, PUT_ACTION, SET_ACTION, PUT_FEEDBACK, LIST_ENTRIES, PUT_NUMBER, LAST_NUMBER, LIST_NUMBERS, GET_OFFER, LIST_OFFERS, SET_OFFER, DROP_OFFER, NEXT_OFFER}
 use Rattle.desk_records.specs.Schema.{group_table, action_table, Actions, Feedbacks, Offers, Numbers}
-use Rattle.desk_records.proofs.MeaningWords.{means_of, Asks, Counts, Puts, Changes, Drops, is_equal, is_least, is_most, at_key}
+use Rattle.desk_records.proofs.MeaningWords.{means_of, Asks, Counts, Puts, Changes, Drops, is_equal, is_more, is_least, is_most, at_key}
 
 abbrev pub last_action_query : ℕ → Query
 last_action_query tree = by (simple tree [] (col 1 0 ∷ [])) ((col 1 0, record { descending = true; collation = Binary }) ∷ []) (lit (Int (pos 1))) (lit (Int (pos 0)))
@@ -67,6 +67,16 @@ list_target_actions_query tree = by (simple tree of_actor listed_columns) ((col 
 pub list_target_actions_is : Asks Actions LIST_TARGET_ACTIONS.now list_target_actions_query listed_names
 unfolding first combine named paging everything
 list_target_actions_is = record { queries = λ tree. record { parsed = _; select = _; source = _; page = _; shown = _; read = refl; is = (refl, refl, refl, refl); core = (refl, refl, refl); from = (refl, refl, refl, refl, refl); shows = (tt, (tt, (tt, (tt, (tt, (tt, (tt, (tt, tt)))))))); filter = ((refl, λ cx how x y. refl), tt, tt); sorts = (tt, tt); paged = λ s. refl; named = (refl, refl); becomes = (refl, (refl, refl, refl)) }; shape = λ tree. refl }
+
+abbrev pub ended_of : List Term
+ended_of = at_key 4 0 ∷ is_more (col 1 6) (lit (Int (pos 0))) ∷ []
+
+abbrev pub last_ended_query : ℕ → Query
+last_ended_query tree = by (simple tree ended_of listed_columns) ((col 1 0, record { descending = true; collation = Binary }) ∷ []) (lit (Int (pos 1))) (lit (Int (pos 0)))
+
+pub last_ended_is : Asks Actions LAST_ENDED.now last_ended_query listed_names
+unfolding first combine named paging everything
+last_ended_is = record { queries = λ tree. record { parsed = _; select = _; source = _; page = _; shown = _; read = refl; is = (refl, refl, refl, refl); core = (refl, refl, refl); from = (refl, refl, refl, refl, refl); shows = (tt, (tt, (tt, (tt, (tt, (tt, (tt, (tt, tt)))))))); filter = ((refl, λ cx how x y. refl), ((refl, λ cx how x y. refl), tt, tt), ((refl, λ cx how x y. refl), tt, tt)); sorts = (tt, tt); paged = λ s. refl; named = (refl, refl); becomes = (refl, (refl, refl, refl)) }; shape = λ tree. refl }
 
 abbrev pub action_terms : List Term
 action_terms = col 0 0 ∷ lit Null ∷ col 0 1 ∷ col 0 2 ∷ col 0 3 ∷ lit (Int (pos 0)) ∷ lit (Int (pos 0)) ∷ lit (Int (pos 0)) ∷ lit (Int (pos 0)) ∷ []

@@ -1,18 +1,23 @@
 -- What is read of actions and offers, where a ledger is held.
-use Rattle.desk_records.proofs.Common.{◌≡◌, ◌≤◌, ℕ, ◌+◌, pos, List, [], ◌∷◌, map, filter, take, drop, length, slice_get, Bool, true, false, cond, Option, Some}
-use Rattle.desk_records.proofs.Common.{None, option_map, refl, ap, ◌∙◌, nat_eq, zip, take-map, drop-map, Value, Null, Int, Text, Row, Binary, Term, col}
-use Rattle.desk_records.proofs.Common.{Select, Database, plain, agree, rows_from, ShowsFirst, on_content, keys_apart, reads_key, numbered_in_order, simple, by}
-use Rattle.desk_records.proofs.Common.{passes, shown_of, item_numbered, same_bytes, Bytes, TargetOffer, offer_to, ActionRecord, Offer, Tally, action_row}
+use Rattle.std.proofs.lemmas.Option.{slice_get-map}
+use Rattle.desk_records.proofs.Common.{◌≡◌, ◌≤◌, ℕ, ◌+◌, pos, List, [], ◌∷◌, map, filter, take, drop, length, slice_get, Bool, true, false, cond, Option}
+use Rattle.desk_records.proofs.Common.{Some, None, option_map, refl, ap, ◌∙◌, nat_eq, zip, take-map, drop-map, Value, Null, Int, Text, Row, Binary, Term, col}
+use Rattle.desk_records.proofs.Common.{Select, Database, plain, agree, rows_from, ShowsFirst, on_content, keys_apart, reads_key, numbered_in_order, simple}
+use Rattle.desk_records.proofs.Common.{by, passes, shown_of, item_numbered, same_bytes, Bytes, TargetOffer, offer_to, ActionRecord, Offer, Tally, action_row}
 use Rattle.desk_records.proofs.Common.{actor_of, HoldsLedger, Ledger, IsLastRow, is_to, offer_row, actions_of, actions_for, listed_where, stored_action}
-use Rattle.desk_records.proofs.Common.{Actions, Offers, offer_table, and-true}
+use Rattle.desk_records.proofs.Common.{Actions, Offers, offer_table, and-true, Outcome, ended_for, first_taken, is_some, last_or, lit, nat_lt, reverse, sym}
+use Rattle.desk_records.proofs.Common.{◌&&◌, outcome_code}
 use Rattle.sqlite.specs.Effect.{Reads as Shows}
 use Rattle.sqlite_value.specs.Keys.{first_key}
+use Rattle.rollout_machine.specs.declared.outcome.Outcome.TheVariants.{Bad, Gone, Good}
 use Rattle.desk_records.specs.ReadRows.{shown_stored_action, shown_listed_action, shown_offer}
 use Rattle.desk_records.proofs.ActionMeaning.{last_action_query, action_columns, listed_columns, list_actions_query, list_target_actions_query, of_rollout}
-use Rattle.desk_records.proofs.ActionMeaning.{of_actor, of_controller, offer_columns}
-use Rattle.desk_records.proofs.Comparisons.{numbers_equal, words_equal}
+use Rattle.desk_records.proofs.ActionMeaning.{of_actor, of_controller, offer_columns, ended_of, last_ended_query}
+use Rattle.desk_records.proofs.Comparisons.{numbers_above, numbers_equal, words_equal}
 use Rattle.desk_records.proofs.MeaningWords.{at_key}
-use Rattle.desk_records.proofs.NumberedReads.{gets, lasts, passes_number}
+use Rattle.desk_records.proofs.NumberRecords.{first_turned}
+use Rattle.desk_records.proofs.NumberedReads.{gets, lasts, numbered_falling, passes_number}
+use Rattle.desk_records.proofs.PartReads.{map_reverse}
 use Rattle.desk_records.proofs.TargetRecords.{first_row}
 
 module _ (db : Database) (l : Ledger) (holds : HoldsLedger db l) (names : List (List ℕ)) where
@@ -36,11 +41,8 @@ module _ (db : Database) (l : Ledger) (holds : HoldsLedger db l) (names : List (
       → found ≡ option_map (λ it. shown_stored_action (stored_action l.records.rollouts it)) (item_numbered xs number)
   gets_action = gets row tree db xs (holds.rows Actions) names (λ n x. refl) (at_key 0 0 ∷ []) action_columns (passes_number row (λ n x. refl))
 
-  -- those that pass, a page of them in the order of their numbers
-  module _ (given : Value) (test : List Term) (wanted : ActionRecord × Tally → Bool) (limit offset : ℕ) where
-    abbrev params : Row
-    params = given ∷ Int (pos limit) ∷ Int (pos offset) ∷ []
-
+  -- those that pass
+  module _ (params : Row) (test : List Term) (wanted : ActionRecord × Tally → Bool) where
     its_actions : ((n : ℕ) (y : ActionRecord × Tally) → passes test params (row n y) ≡ wanted y) → (n : ℕ) (ys : List (ActionRecord × Tally))
         → map (shown_of listed_columns params) (filter (passes test params) (rows_from row n ys))
         ≡ map shown_listed_action (listed_where wanted l.records.rollouts n ys)
@@ -57,6 +59,11 @@ module _ (db : Database) (l : Ledger) (holds : HoldsLedger db l) (names : List (
         go true rest = ap (λ more. shown_listed_action (record { number = n; action = stored_action l.records.rollouts y }) ∷ more) rest
         go false rest = rest
 
+  -- a page of them in the order of their numbers
+  module _ (given : Value) (test : List Term) (wanted : ActionRecord × Tally → Bool) (limit offset : ℕ) where
+    abbrev params : Row
+    params = given ∷ Int (pos limit) ∷ Int (pos offset) ∷ []
+
     lists_where : ((n : ℕ) (y : ActionRecord × Tally) → passes test params (row n y) ≡ wanted y) → (rows : List Row)
         → Shows (Select (record {
           lets = [];
@@ -67,7 +74,7 @@ module _ (db : Database) (l : Ledger) (holds : HoldsLedger db l) (names : List (
     lists_where is rows shows =
         let all = listed_where wanted l.records.rollouts 1 xs in
         numbered_in_order row (λ n x. refl) tree test listed_columns (col 0 1) (col 0 2) params db.trees xs (holds.rows Actions) rows (shows.answer Null)
-        ∙ ap (λ more. take limit (drop offset more)) (its_actions is 1 xs) ∙ ap (take limit) (drop-map shown_listed_action offset all)
+        ∙ ap (λ more. take limit (drop offset more)) (its_actions params test wanted is 1 xs) ∙ ap (take limit) (drop-map shown_listed_action offset all)
         ∙ take-map shown_listed_action limit (drop offset all)
 
   -- those of a rollout
@@ -83,6 +90,32 @@ module _ (db : Database) (l : Ledger) (holds : HoldsLedger db l) (names : List (
       → rows ≡ map shown_listed_action (take limit (drop offset (actions_for l.records.rollouts id 1 xs)))
   lists_target_actions id limit offset = lists_where (Text id) of_actor (λ it. same_bytes (actor_of l.records.rollouts it.0) id) limit offset
       (λ n y. and-true _ ∙ words_equal (actor_of l.records.rollouts y.0) id)
+
+  -- the last of them that ended
+  pub lasts_ended : (id : Bytes) (found : Option Row) → ShowsFirst (Select (record { lets = []; body = last_ended_query tree }) names) db (Text id ∷ []) found
+      → found ≡ option_map shown_listed_action (last_or None (ended_for l.records.rollouts id 1 xs))
+  lasts_ended id found shown =
+      let all = ended_for l.records.rollouts id 1 xs in
+      first_row (Select (record { lets = []; body = last_ended_query tree }) names) db (Text id ∷ []) _
+      (λ rows shows. ap (λ (r : List Row). slice_get r 0)
+      (numbered_falling row (λ n x. refl) tree ended_of listed_columns (lit (Int (pos 1))) (lit (Int (pos 0))) (Text id ∷ []) db.trees xs (holds.rows Actions)
+      rows (shows.answer Null))
+      ∙ first_taken _
+      ∙ ap (λ r. slice_get (reverse r) 0)
+      (its_actions (Text id ∷ []) ended_of (λ it. same_bytes (actor_of l.records.rollouts it.0) id && is_some it.0.outcome) (ended_is id) 1 xs)
+      ∙ ap (λ (r : List Row). slice_get r 0) (sym (map_reverse shown_listed_action all)) ∙ slice_get-map shown_listed_action (reverse all) 0
+      ∙ ap (option_map shown_listed_action) (first_turned all)) found shown
+    where
+      has_ended : (o : Option Outcome) → nat_lt 0 (outcome_code o) ≡ is_some o
+      has_ended None = refl
+      has_ended (Some Good) = refl
+      has_ended (Some Bad) = refl
+      has_ended (Some Gone) = refl
+
+      ended_is : (id : Bytes) (n : ℕ) (y : ActionRecord × Tally) → passes ended_of (Text id ∷ []) (row n y)
+          ≡ (same_bytes (actor_of l.records.rollouts y.0) id && is_some y.0.outcome)
+      ended_is id n y = rw (words_equal (actor_of l.records.rollouts y.0) id, numbers_above (outcome_code y.0.outcome) 0, has_ended y.0.outcome)
+          (ap (λ b. same_bytes (actor_of l.records.rollouts y.0) id && b) (and-true _))
 
 -- ---- offers
 

@@ -111,7 +111,7 @@ pub use Rattle.desk_records.specs.ModuleRow.{fault_at}
 pub use Rattle.desk_records.specs.Modules.{IsLastRow, is_same, with_module, words_of}
 pub use Rattle.desk_records.specs.Offers.{HoldsOffers, is_to, offer_row}
 pub use Rattle.desk_records.specs.Parts.{listed_parts, part_row, parts_from, parts_numbered, parts_of}
-pub use Rattle.desk_records.specs.RolloutRow.{actions_for, actions_of, listed_where, stored_action}
+pub use Rattle.desk_records.specs.RolloutRow.{actions_for, actions_of, ended_for, listed_where, stored_action}
 pub use Rattle.desk_records.specs.Rollouts.{group_row, groups_from, groups_of, is_called, member_row, members_from, members_of, numbered_from, rollout_row}
 pub use Rattle.desk_records.specs.Rollouts.{rule_numbered, rule_row, rules_from, rules_numbered, that_reach, told_group, told_rollout, told_rule}
 pub use Rattle.desk_records.specs.Schema.{Actions, Artifacts, Desk, Feedbacks, Groups, Members, Modules, Numbers, Offers, Pieces, Place, Rollouts, Rules}

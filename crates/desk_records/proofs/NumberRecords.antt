@@ -23,7 +23,7 @@ first_or_last : {X : Type 0} (xs : List X) (x : X) → slice_get (xs ++ x ∷ []
 first_or_last [] x = refl
 first_or_last (y ∷ xs) x = refl
 
-first_turned : {X : Type 0} (xs : List X) → slice_get (reverse xs) 0 ≡ last_or None xs
+pub first_turned : {X : Type 0} (xs : List X) → slice_get (reverse xs) 0 ≡ last_or None xs
 first_turned [] = refl
 first_turned (x ∷ xs) = ap (λ l. slice_get l 0) (reverse_onto xs x []) ∙ first_or_last (reverse xs) x ∙ ap (λ o. option_or o (Some x)) (first_turned xs)
     ∙ sym (last_joined (Some x) xs)

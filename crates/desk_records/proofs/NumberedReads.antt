@@ -5,11 +5,16 @@ use Rattle.desk_records.proofs.Common.{option_to_list, nat_tests, length-map, ta
 use Rattle.desk_records.proofs.Common.{Term, col, Trees, IsAnswer, overlay, Command, Select, Database, one_permutation, all_of, filter_all, none_counted}
 use Rattle.desk_records.proofs.Common.{rows_from, ShowsFirst, simple, passes, shown_of, simple_rows, number_query, numbered_in_order, has_number}
 use Rattle.desk_records.proofs.Common.{filter_numbered, at_number, row_of, last_query, last_number, last_of, item_numbered, is_eq, Binary, Compare, Eq}
-use Rattle.desk_records.proofs.Common.{is_true, IsLastRow, and-true, not-not}
+use Rattle.desk_records.proofs.Common.{is_true, IsLastRow, and-true, not-not, ◌<◌, Less, Ordering, Query, Output, reverse, by, shown_in, ordered_rows, page}
+use Rattle.desk_records.proofs.Common.{output_cmp, output_cmp_total, sorted_unique, map-map}
 use Rattle.sqlite.specs.Effect.{Reads as Shows}
+use Rattle.sql_calls.proofs.KeyedRows.{ids_less}
+use Rattle.sql_calls.proofs.NumberedTables.{rises}
+use Rattle.sqlite_exec.proofs.ScanLemmas.{ascending-reverse}
 use Rattle.sqlite_sql.specs.Ops.{binary}
 use Rattle.desk_records.proofs.Comparisons.{judged}
 use Rattle.desk_records.proofs.MeaningWords.{at_key}
+use Rattle.desk_records.proofs.PartReads.{map_reverse, turned_same}
 
 -- ---- whether a row passes
 
@@ -106,6 +111,34 @@ module _ {X : Type 0} (f : ℕ → X → Row) where
         gets zero least row shown = absurd (omega (arith, least))
         gets (suc k) least row shown = first_found (shown_of shows (Int (pos (suc k)) ∷ [])) (f (suc k))
             (Select (record { lets = []; body = simple tree test shows }) names) db (Int (pos (suc k)) ∷ []) (slice_get xs k) (numbered_rows k) row shown
+
+-- SELECT .. WHERE .. ORDER BY number DESC LIMIT .. OFFSET ..
+module _ {X : Type 0} (f : ℕ → X → Row) (ids : (n : ℕ) (x : X) → rowid (f n x) ≡ Int (pos n)) (tree : ℕ) (test shows : List Term) (limit offset : Term)
+    (params : Row) where
+  abbrev pub falling_query : Query
+  falling_query = by (simple tree test shows) ((col 1 0, record { descending = true; collation = Binary }) ∷ []) limit offset
+
+  abbrev ahead : Output → Output → Ordering
+  ahead a b = output_cmp falling_query b a
+
+  ahead_is : (m n : ℕ) (x y : X) → m < n → ahead (shown_in falling_query params (f m x)) (shown_in falling_query params (f n y)) ≡ Less
+  ahead_is m n x y h = rw (ids m x, ids n y, ids_less m n h) refl
+
+  -- those that pass, from the greatest number down
+  pub numbered_falling : (db : Trees) (xs : List X) → db tree ≡ rows_from f 1 xs → (rows : List Row) → IsAnswer falling_query (overlay db []) params rows
+      → rows ≡ page falling_query params (reverse (map (shown_of shows params) (filter (passes test params) (rows_from f 1 xs))))
+  numbered_falling db xs was rows answer =
+      let it = ordered_rows tree test shows ((col 1 0, record { descending = true; collation = Binary }) ∷ []) limit offset params db rows answer in
+      let passing = filter (passes test params) (rows_from f 1 xs) in
+      let kept = map (shown_in falling_query params) passing in
+      let same = subst (λ l. IsPermutation (map (shown_in falling_query params) (filter (passes test params) l)) it.ordered) was it.same in
+      it.is
+      ∙ ap (λ l. page falling_query params (map (λ (o : Output). o.1) l))
+      (sorted_unique (output_cmp falling_query) (output_cmp_total falling_query) (reverse kept) it.ordered
+      (ascending-reverse (λ a b. ahead a b ≡ Less) kept (rises f ahead (shown_in falling_query params) (passes test params) ahead_is 1 xs))
+      (turned_same true kept it.ordered same) it.sorted)
+      ∙ ap (page falling_query params)
+      (map_reverse (λ (o : Output). o.1) kept ∙ ap reverse (map-map (λ (o : Output). o.1) (shown_in falling_query params) passing))
 
 -- WHERE number = ?1
 pub passes_number : {X : Type 0} (f : ℕ → X → Row) (ids : (n : ℕ) (x : X) → rowid (f n x) ≡ Int (pos n)) (number n : ℕ) (x : X)

@@ -26,7 +26,7 @@ map_turned : {A B : Type 0} (f : A → B) (falling : Bool) (xs : List A) → map
 map_turned f false xs = refl
 map_turned f true xs = map_reverse f xs
 
-turned_same : {A : Type 0} (falling : Bool) (xs ys : List A) → IsPermutation xs ys → IsPermutation (turned falling xs) ys
+pub turned_same : {A : Type 0} (falling : Bool) (xs ys : List A) → IsPermutation xs ys → IsPermutation (turned falling xs) ys
 turned_same false xs ys same = same
 turned_same true xs ys same = IsPermutation-trans _ _ _ (IsPermutation-sym xs _ (IsPermutation-reverse xs)) same
 

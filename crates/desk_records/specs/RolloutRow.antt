@@ -1,5 +1,6 @@
 -- What rows of rollouts, of their groups, of actions and of offers are read as.
-use Rattle.std.specs.Prelude.{ℕ, ◌+◌, Bool, cond, nat_eq, List, [], ◌∷◌}
+use Rattle.std.specs.Option.{is_some}
+use Rattle.std.specs.Prelude.{ℕ, ◌+◌, Bool, cond, nat_eq, List, [], ◌∷◌, ◌&&◌}
 use Rattle.rollout_machine.specs.ByteStrings.{same_bytes}
 use Rattle.rollout_machine.specs.Commands.{Bytes, RolloutPlan}
 use Rattle.rollout_machine.specs.declared.records.ActionRecord.{ActionRecord}
@@ -53,3 +54,7 @@ actions_of rollouts rollout = listed_where (λ it. nat_eq it.0.rollout rollout) 
 -- the actions of a target
 abbrev pub actions_for : List RolloutRecord → Bytes → ℕ → List (ActionRecord × Tally) → List ListedAction
 actions_for rollouts id = listed_where (λ it. same_bytes (actor_of rollouts it.0) id) rollouts
+
+-- those of them that ended
+abbrev pub ended_for : List RolloutRecord → Bytes → ℕ → List (ActionRecord × Tally) → List ListedAction
+ended_for rollouts id = listed_where (λ it. same_bytes (actor_of rollouts it.0) id && is_some it.0.outcome) rollouts

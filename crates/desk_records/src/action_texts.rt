@@ -17,6 +17,11 @@ pub const COUNT_ACTIONS: &str = "SELECT count(*) FROM action";
 pub const LIST_TARGET_ACTIONS: &str =
     "SELECT rollout, place, controller, canceling, outcome, notes, entries, number FROM action WHERE controller = ?1 ORDER BY number LIMIT ?2 OFFSET ?3";
 
+/// The last of a target's actions that ended.
+pub const LAST_ENDED: &str =
+    "SELECT rollout, place, controller, canceling, outcome, notes, entries, number FROM action WHERE controller = ?1 AND outcome > 0 \
+        ORDER BY number DESC LIMIT 1";
+
 /// An action that is open, with no history.
 pub const PUT_ACTION: &str =
     "INSERT INTO action (number, rollout, place, controller, canceling, outcome, notes, entries) VALUES (?1, ?2, ?3, ?4, 0, 0, 0, 0)";

@@ -29,6 +29,7 @@ pub use crate::action_texts::DROP_OFFER;
 pub use crate::action_texts::GET_ACTION;
 pub use crate::action_texts::GET_OFFER;
 pub use crate::action_texts::LAST_ACTION;
+pub use crate::action_texts::LAST_ENDED;
 pub use crate::action_texts::LAST_NUMBER;
 pub use crate::action_texts::LIST_ACTIONS;
 pub use crate::action_texts::LIST_ENTRIES;

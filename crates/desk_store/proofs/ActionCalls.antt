@@ -1,4 +1,5 @@
 -- The calls on actions and offers.
+use Rattle.std.specs.List.{last_or}
 use Rattle.desk_store.proofs.Common.{◌≡◌, ◌≤◌, ℕ, zero, suc, pos, take, drop, Bool, true, List, [], ◌∷◌, length, Option, Some, None, Ok, Err, Result, IfOk}
 use Rattle.desk_store.proofs.Common.{option_map, Vec, vec_items, refl, sym, ap, subst, map, slice_get, ◌∙◌, codes, list_all, zip, Global, Int, Text, Row}
 use Rattle.desk_store.proofs.Common.{Database, State, Fault, AsksText, TakesFirst, Finds, ShowsFirst, ask_finds, first_finds, and_parts, slice_get-map}
@@ -7,7 +8,7 @@ use Rattle.desk_store.proofs.Common.{GET_OFFER, ListedAction, StoredAction, hist
 use Rattle.desk_store.proofs.Common.{IsStoredActionRow, IsListedActionRow, IsOfferRow, actions_for, actions_of, stored_action, action_names, listed_names}
 use Rattle.desk_store.proofs.Common.{entry_names, last_action_is, get_action_is, list_actions_is, list_target_actions_is, list_entries_is, get_offer_is}
 use Rattle.desk_store.proofs.Common.{shown_stored_action, lasts_action, gets_action, lists_actions, lists_target_actions, gets_offer, AreReadAs, IsReadAs}
-use Rattle.desk_store.proofs.Common.{shown_listed_action, shown_offer}
+use Rattle.desk_store.proofs.Common.{shown_listed_action, shown_offer, LAST_ENDED, ended_for, last_ended_is, lasts_ended}
 use Rattle.sqlite.specs.Effect.{Reads as Shows}
 use Rattle.sqlite_keyed.proofs.ListLemmas.{first_taken}
 use Rattle.desk_records.proofs.EntryRecords.{lists_entries, told_part}
@@ -56,6 +57,15 @@ target_actions_read id limit offset old new rows =
     (Text id ∷ Int (pos limit) ∷ Int (pos offset) ∷ []) old new (known list_target_actions_is)
     (λ l. take limit (drop offset (actions_for l.records.rollouts id 1 (zip l.records.actions l.tallies)))) rows
     (λ db l holds shown. lists_target_actions db l holds listed_names id limit offset rows.items shown)
+
+pub last_ended_read : (id : Bytes) (old new : State) (row : Option Row) → TakesFirst old new LAST_ENDED.now (Text id ∷ []) (Ok row)
+    → (out : Result (Option ListedAction) Fault) → IfOk out (λ found. IsReadAs IsListedActionRow found row)
+    → Finds HoldsLedger (λ (l : Ledger). l) old new out
+    (λ l found. found ≡ last_or None (ended_for l.records.rollouts id 1 (zip l.records.actions l.tallies)))
+last_ended_read id old new row =
+    takes_one (λ (l : Ledger). l) IsListedActionRow shown_listed_action LAST_ENDED.now (Text id ∷ []) old new (known last_ended_is)
+    (λ l. last_or None (ended_for l.records.rollouts id 1 (zip l.records.actions l.tallies))) ◌≡◌ refl (λ a b h. ap Some (one_listed_action a b h))
+    (λ db l holds at given. tt) row (λ db l holds. lasts_ended db l holds listed_names id row)
 
 -- ---- histories
 

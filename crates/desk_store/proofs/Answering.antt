@@ -10,10 +10,12 @@ pub use Rattle.desk_store.proofs.Common.{list_members_is, get_module_is, list_ar
 pub use Rattle.desk_store.proofs.Common.{find_rollout_is, find_set_is, get_set_is, list_set_modules_is, get_target_is, list_target_actions_is}
 pub use Rattle.desk_store.proofs.Common.{list_target_attributes_is, count_targets_is, list_target_tags_is, list_targets_is, put_action_is, RunsText}
 pub use Rattle.desk_store.proofs.Common.{PUT_ARTIFACT, told_of, artifact_filed, put_artifact_is, put_feedback_is, put_group_is, put_member_is, put_module_is}
-pub use Rattle.desk_store.proofs.Common.{put_number_is, put_piece_is, put_rollout_is, ℕ, Option, Some, None, refl, bound_value, or_null, rule_row, PUT_RULE}
+pub use Rattle.desk_store.proofs.Common.{put_number_is, put_piece_is, put_rollout_is, ℕ, Option, Some, None, bound_value, or_null, rule_row, PUT_RULE}
 pub use Rattle.desk_store.proofs.Common.{put_rule_is, put_set_is, put_set_module_is, put_target_is, put_target_attribute_is, put_target_tag_is, Err, ap, ◌∙◌}
-pub use Rattle.desk_store.proofs.Common.{err_from_is_err_and, has_at, take, AreReadAs, sym, append-nil, counted_of, filter_map, slice_get_read, IsAttributeRow}
-pub use Rattle.desk_store.proofs.Common.{broken_attribute_column, BreaksRule, Begins, Keeps, HoldsTables}
+pub use Rattle.desk_store.proofs.Common.{err_from_is_err_and, has_at, take, AreReadAs, sym, append-nil, counted_of, filter_map, slice_get_read}
+pub use Rattle.desk_store.proofs.Common.{IsAttributeRow, broken_attribute_column, BreaksRule, Begins, Keeps, HoldsTables, HoldsRecords, adds_action}
+pub use Rattle.desk_store.proofs.Common.{adds_entry, adds_group, adds_member, adds_number, adds_rollout, adds_rule, drops_offer, offers_group, sets_action}
+pub use Rattle.desk_store.proofs.Common.{sets_group, sets_offer, sets_rollout, last_ended_is}
 pub use Rattle.desk_store.proofs.ActionCalls.{entries_read, entry_read, target_actions_read}
 pub use Rattle.desk_store.proofs.ArtifactCalls.{artifact_read, found, piece_read}
 pub use Rattle.desk_store.proofs.AttributeCalls.{attributes_read}
@@ -36,8 +38,6 @@ pub use Rattle.desk_store.proofs.RowFails.{approval_fails, count_fails, last_fai
 pub use Rattle.desk_store.proofs.SetCalls.{locked, modules_read, set_read}
 pub use Rattle.desk_store.proofs.TargetCalls.{tags_read, target_read, targets_read}
 pub use Rattle.desk_store.proofs.WriteCalls.{changes, drops, puts, written}
-pub use Rattle.desk_store.proofs.Common.{HoldsRecords, adds_action, adds_entry, adds_group, adds_member, adds_number, adds_rollout, adds_rule, drops_offer}
-pub use Rattle.desk_store.proofs.Common.{offers_group, sets_action, sets_group, sets_offer, sets_rollout}
 pub use Rattle.desk_records.proofs.ArtifactRecords.{adds_artifact, adds_piece}
 pub use Rattle.desk_records.proofs.AttributeRecords.{adds_attribute, sets_attribute}
 pub use Rattle.desk_records.proofs.Modules.{adds_module}

@@ -51,11 +51,11 @@ pub use Rattle.sql_calls.specs.declared.fault.Fault.{Fault}
 pub use Rattle.sql_calls.specs.declared.fault.Fault.TheVariants.{Memory, Store}
 pub use Rattle.sql_front.specs.Stands.{Stands}
 pub use Rattle.desk_records.proofs.ActionMeaning.{action_columns, action_names, count_actions_is, drop_offer_is, entry_columns, entry_names, get_action_is}
-pub use Rattle.desk_records.proofs.ActionMeaning.{get_offer_is, last_action_is, last_number_is, last_number_names, list_actions_is, list_entries_is}
-pub use Rattle.desk_records.proofs.ActionMeaning.{list_numbers_is, list_offers_is, list_target_actions_is, listed_columns, listed_names, next_offer_is}
-pub use Rattle.desk_records.proofs.ActionMeaning.{next_offer_query, number_names, of_action, offer_columns, owned_columns, put_action_is, put_feedback_is}
-pub use Rattle.desk_records.proofs.ActionMeaning.{put_number_is, set_action_is, set_offer_is}
-pub use Rattle.desk_records.proofs.ActionRecords.{gets_action, gets_offer, lasts_action, lists_actions, lists_target_actions}
+pub use Rattle.desk_records.proofs.ActionMeaning.{get_offer_is, last_action_is, last_ended_is, last_number_is, last_number_names, list_actions_is}
+pub use Rattle.desk_records.proofs.ActionMeaning.{list_entries_is, list_numbers_is, list_offers_is, list_target_actions_is, listed_columns, listed_names}
+pub use Rattle.desk_records.proofs.ActionMeaning.{next_offer_is, next_offer_query, number_names, of_action, offer_columns, owned_columns, put_action_is}
+pub use Rattle.desk_records.proofs.ActionMeaning.{put_feedback_is, put_number_is, set_action_is, set_offer_is}
+pub use Rattle.desk_records.proofs.ActionRecords.{gets_action, gets_offer, lasts_action, lasts_ended, lists_actions, lists_target_actions}
 pub use Rattle.desk_records.proofs.AnyRows.{are_said, broken, count_shown, from_shown, is_only, none_passes, number_order, rise}
 pub use Rattle.desk_records.proofs.ArtifactMeaning.{all_columns, find_artifact_is, get_artifact_is, get_piece_is, last_artifact_is, list_all_artifacts_is}
 pub use Rattle.desk_records.proofs.ArtifactMeaning.{list_artifacts_is, put_artifact_is, put_piece_is, shown_names, told_names}
@@ -89,16 +89,16 @@ pub use Rattle.desk_records.specs.FeedbackNumbers.{last_number, number_row, numb
 pub use Rattle.desk_records.specs.Holds.{HoldsLedger, HoldsRecords, Ledger, ledger_of}
 pub use Rattle.desk_records.specs.Listings.{AreRead, AreSaid, FindsOne, IsLastNumber, IsSaid, has_text_at}
 pub use Rattle.desk_records.specs.Modules.{IsLastRow, is_same, with_module, words_of}
-pub use Rattle.desk_records.specs.RolloutRow.{actions_for, actions_of, stored_action, stored_rollout}
+pub use Rattle.desk_records.specs.RolloutRow.{actions_for, actions_of, ended_for, stored_action, stored_rollout}
 pub use Rattle.desk_records.specs.Rollouts.{groups_of, is_called, member_row, members_of, rule_numbered, rule_row, rules_numbered, that_reach, told_rule}
 pub use Rattle.desk_records.specs.Schema.{Actions, Artifacts, Feedbacks, Groups, Members, Numbers, Offers, Pieces, Place, Rollouts, Rules, Targets, name_of}
 pub use Rattle.desk_records.specs.Schema.{table_at}
 pub use Rattle.desk_records.specs.Sets.{AddsSetModule, is_same_set, names_of, place_row, with_set}
 pub use Rattle.desk_records.specs.Tables.{HoldsTables, Tables}
 pub use Rattle.desk_records.specs.TargetRow.{listed_target, stored_target}
-pub use Rattle.desk_records.specs.declared.action_texts.TheConstants.{DROP_OFFER, GET_ACTION, GET_OFFER, LAST_ACTION, LAST_NUMBER, LIST_ACTIONS, LIST_ENTRIES}
-pub use Rattle.desk_records.specs.declared.action_texts.TheConstants.{LIST_NUMBERS, LIST_OFFERS, LIST_TARGET_ACTIONS, NEXT_OFFER, PUT_ACTION, PUT_FEEDBACK}
-pub use Rattle.desk_records.specs.declared.action_texts.TheConstants.{PUT_GROUP_OFFERS, PUT_NUMBER, SET_ACTION, SET_OFFER}
+pub use Rattle.desk_records.specs.declared.action_texts.TheConstants.{DROP_OFFER, GET_ACTION, GET_OFFER, LAST_ACTION, LAST_ENDED, LAST_NUMBER, LIST_ACTIONS}
+pub use Rattle.desk_records.specs.declared.action_texts.TheConstants.{LIST_ENTRIES, LIST_NUMBERS, LIST_OFFERS, LIST_TARGET_ACTIONS, NEXT_OFFER, PUT_ACTION}
+pub use Rattle.desk_records.specs.declared.action_texts.TheConstants.{PUT_FEEDBACK, PUT_GROUP_OFFERS, PUT_NUMBER, SET_ACTION, SET_OFFER}
 pub use Rattle.desk_records.specs.declared.artifact_row.StoredArtifact.{StoredArtifact}
 pub use Rattle.desk_records.specs.declared.artifact_texts.TheConstants.{FIND_ARTIFACT, GET_ARTIFACT, GET_PIECE, LAST_ARTIFACT, LIST_ALL_ARTIFACTS}
 pub use Rattle.desk_records.specs.declared.artifact_texts.TheConstants.{LIST_ARTIFACTS, PUT_ARTIFACT, PUT_PIECE}
@@ -130,11 +130,9 @@ pub use Rattle.desk_records.proofs.TargetMeaning.{list_targets_is, put_target_at
 pub use Rattle.desk_records.proofs.TargetMeaning.{set_target_is}
 pub use Rattle.desk_records.proofs.MeaningWords.{changed_at, counted_at, dropped_at, put_at}
 pub use Rattle.desk_records.specs.Columns.{StoredBytes, has_bytes, has_size, has_word, small_number}
-pub use Rattle.desk_records.specs.ReadRows.{IsStoredActionRow, IsArtifactRow, IsAttributeRow, IsGroupRow, IsLastNumberRow, IsListedActionRow, IsListedTargetRow}
-pub use Rattle.desk_records.specs.ReadRows.{IsNumberRow, IsOfferRow, IsStoredRolloutRow, IsRuleRow, IsStoredArtifactRow, IsStoredTargetRow}
-pub use Rattle.desk_records.specs.ReadRows.{broken_stored_action_column}
-pub use Rattle.desk_records.specs.ReadRows.{broken_attribute_column, broken_group_column, broken_listed_action_column, broken_number_column}
-pub use Rattle.desk_records.specs.ReadRows.{broken_offer_column, broken_stored_rollout_column, broken_rule_column, shown_stored_action, shown_group}
-pub use Rattle.desk_records.specs.ReadRows.{shown_last_number}
-pub use Rattle.desk_records.specs.ReadRows.{shown_listed_action, shown_offer}
+pub use Rattle.desk_records.specs.ReadRows.{IsStoredActionRow, IsArtifactRow, IsAttributeRow, IsGroupRow, IsLastNumberRow, IsListedActionRow}
+pub use Rattle.desk_records.specs.ReadRows.{IsListedTargetRow, IsNumberRow, IsOfferRow, IsStoredRolloutRow, IsRuleRow, IsStoredArtifactRow, IsStoredTargetRow}
+pub use Rattle.desk_records.specs.ReadRows.{broken_stored_action_column, broken_attribute_column, broken_group_column, broken_listed_action_column}
+pub use Rattle.desk_records.specs.ReadRows.{broken_number_column, broken_offer_column, broken_stored_rollout_column, broken_rule_column, shown_stored_action}
+pub use Rattle.desk_records.specs.ReadRows.{shown_group, shown_last_number, shown_listed_action, shown_offer}
 pub use Rattle.desk_records.specs.declared.table_columns.Column.{Column}

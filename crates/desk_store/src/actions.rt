@@ -1,12 +1,12 @@
 //! Actions, in a change that is under way.
 
-ghost use Rattle.std.specs.List.{zip};
+ghost use Rattle.std.specs.List.{last_or, zip};
 ghost use Rattle.std.specs.Option.{option_map};
-ghost use Rattle.std.specs.Prelude.{◌+◌, ◌≡◌, ◌≤◌, drop, length, take};
+ghost use Rattle.std.specs.Prelude.{◌+◌, ◌≡◌, ◌≤◌, None, drop, length, take};
 ghost use Rattle.rollout_machine.specs.ByteStrings.{item_numbered};
 ghost use Rattle.desk_records.specs.FeedbackNumbers.{last_number};
 ghost use Rattle.desk_records.specs.LedgerSteps.{AddsAction, SetsAction};
-ghost use Rattle.desk_records.specs.RolloutRow.{actions_for, actions_of, stored_action};
+ghost use Rattle.desk_records.specs.RolloutRow.{actions_for, actions_of, ended_for, stored_action};
 ghost use Rattle.desk_store.specs.Changing.{FindsLedger, KeepsTables, MakesLedger, StaysIn};
 ghost use Rattle.desk_store.specs.Counting.{AddsIn};
 ghost use Rattle.desk_store.specs.Failing.{FailsIn, WritesIn};
@@ -15,8 +15,8 @@ use crate::change::OpenChange;
 use crate::codes::{code_of_outcome, flag_code};
 use crate::reading::{last_number, read_all, read_optional};
 use desk_records::{
-    GET_ACTION, LAST_ACTION, LIST_ACTIONS, LIST_TARGET_ACTIONS, ListedAction, PUT_ACTION,
-    SET_ACTION, StoredAction,
+    GET_ACTION, LAST_ACTION, LAST_ENDED, LIST_ACTIONS, LIST_TARGET_ACTIONS, ListedAction,
+    PUT_ACTION, SET_ACTION, StoredAction,
 };
 use rollout_machine::Outcome;
 use rollout_model::{ActionNo, ControllerId, Page, RolloutNo};
@@ -84,6 +84,19 @@ impl<'a, S: Alter> OpenChange<'a, S> {
             params![id.as_str(), page.limit, page.offset],
         )?;
         read_all(alloc, &rows)
+    }
+
+    /// The last of a target's actions that ended. A row that breaks a column's rule is a failed store.
+    pub fn read_last_ended(&mut self, id: &ControllerId) -> Result<Option<ListedAction>, Fault>
+        ensures stays { StaysIn S.Store self.old self.new result }
+        ensures reads { FindsLedger S.Store self.old self.new result
+            (λ l found. found ≡ last_or None (ended_for l.records.rollouts id.now 1 (zip l.records.actions l.tallies))) }
+        ensures fails { FailsIn S.Store self.old self.new result }
+        ensures work { AddsIn 1 1 self.old self.new }
+    {
+        let alloc = self.store.alloc;
+        let row = self.first(LAST_ENDED, params![id.as_str()])?;
+        read_optional(alloc, row)
     }
 
     /// Adds the action of the next number, which is open and has no history, for the target that is its rollout's member at the place.

@@ -11,7 +11,7 @@ pub use Rattle.desk_views.proofs.Common.{rules_of, group_shown, RolloutRecord, I
 pub use Rattle.desk_views.proofs.Common.{group_reply, GroupShown, group_numbered, members_in, TargetsShown, groups_shown, GroupsShown, rules_there}
 pub use Rattle.desk_views.proofs.Common.{module_shown, ModuleShown, ModulesShown, same_number, FailsWith, report_of, ReportShown, rollout_shown, vec_len}
 pub use Rattle.desk_views.proofs.Common.{RolloutShown, RolloutsShown, SetShown, SetsShown, option_map, set_shown, worded, found_held, matching_shown}
-pub use Rattle.desk_views.proofs.Common.{target_listed, ◌<◌, ◌^◌, listed, ShownTarget, Tree, filter_of, seen, group_is_started, last_ending, TargetWord}
+pub use Rattle.desk_views.proofs.Common.{target_listed, ◌<◌, ◌^◌, listed, ShownTarget, Tree, filter_of, seen, group_is_started, TargetWord}
 pub use Rattle.desk_views.proofs.ActionViews.{action_replied, all_listed, more_shown, no_action, none_there, not_found, of_rollout_is, of_target_is}
 pub use Rattle.desk_views.proofs.ActionViews.{one_action, one_there, page_is, stored_at}
 pub use Rattle.desk_views.proofs.ArtifactViews.{artifact_replied, contents_replied, no_artifact, no_contents, no_module, of_another, of_this, page_shown}
@@ -33,4 +33,4 @@ pub use Rattle.desk_views.proofs.SetViews.{no_set, one_set}
 pub use Rattle.desk_views.proofs.TargetPages.{all_replied, chunk_matched, entries_grow, last_chunk, match_added, match_left, matching_grow, matching_replied}
 pub use Rattle.desk_views.proofs.TargetPages.{next_chunk, nothing_yet, page_with}
 pub use Rattle.desk_views.proofs.TargetViews.{id_found, no_target, one_target}
-pub use Rattle.desk_views.proofs.WordViews.{it_is, it_is_not, listed_from, none_left, word_ended, word_pending}
+pub use Rattle.desk_views.proofs.WordViews.{word_ended, word_pending}

@@ -1,7 +1,6 @@
 pub mod Common
 pub mod FailingViews
 pub mod ListRules
-pub mod FewActions
 pub mod FailingReads
 pub mod FailingGroups
 pub mod FailingActions
@@ -15,6 +14,7 @@ pub mod PageLemmas
 pub mod SetViews
 pub mod ArtifactViews
 pub mod WordViews
+pub mod EndedActions
 pub mod TargetViews
 pub mod TargetPages
 pub mod DeviceViews

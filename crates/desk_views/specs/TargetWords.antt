@@ -1,9 +1,13 @@
 -- What the actions of a target say of its software.
-use Rattle.std.specs.Prelude.{Bool, cond, List, [], ◌∷◌, Option}
+use Rattle.std.specs.Prelude.{Bool, true, map, Option, Some, None}
+use Rattle.std.specs.List.{last_or, zip}
 use Rattle.rollout_machine.specs.ByteStrings.{item_numbered}
+use Rattle.rollout_machine.specs.Commands.{Bytes}
 use Rattle.rollout_machine.specs.Records.{Records}
 use Rattle.rollout_machine.specs.StateWords.{group_holding, group_is_started}
 use Rattle.rollout_machine.specs.declared.outcome.Outcome.{Outcome}
+use Rattle.desk_records.specs.Actions.{tally_of}
+use Rattle.desk_records.specs.RolloutRow.{ended_for}
 use Rattle.desk_records.specs.Rollouts.{groups_of}
 use Rattle.desk_records.specs.declared.rollout_row.ListedAction.{ListedAction}
 use Rattle.desk_records.specs.declared.rollout_row.StoredAction.{StoredAction}
@@ -12,7 +16,16 @@ use Rattle.desk_records.specs.declared.rollout_row.StoredAction.{StoredAction}
 abbrev pub is_begun : Records → StoredAction → Bool
 is_begun r a = group_is_started (group_holding a.position (groups_of (item_numbered r.rollouts a.rollout)))
 
--- how the last of these actions ended whose group is started; as it is given where there is none
-abbrev pub last_ending : Records → Option Outcome → List ListedAction → Option Outcome
-last_ending r ending [] = ending
-last_ending r ending (it ∷ more) = last_ending r (cond (is_begun r it.action) it.action.outcome ending) more
+-- the last action of a target that ended
+abbrev pub last_ended : Records → Bytes → Option ListedAction
+last_ended r id = last_or None (ended_for r.rollouts id 1 (zip r.actions (map tally_of r.actions)))
+
+-- whether its group is started, if there is one
+abbrev pub has_begun : Records → Option ListedAction → Bool
+has_begun r None = true
+has_begun r (Some it) = is_begun r it.action
+
+-- how it ended
+abbrev pub ending_of : Option ListedAction → Option Outcome
+ending_of None = None
+ending_of (Some it) = it.action.outcome

@@ -1,20 +1,16 @@
 //! The words of targets: what their actions say of their software.
 
-ghost use Rattle.std.specs.Prelude.{◌≡◌, map, None};
-ghost use Rattle.std.specs.List.{zip};
+ghost use Rattle.std.specs.Prelude.{◌≡◌, true};
 ghost use Rattle.rollout_machine.specs.StateWords.{target_word};
 ghost use Rattle.campaign_core.specs.StatusWords.{target_word_from};
-ghost use Rattle.desk_records.specs.Actions.{tally_of};
-ghost use Rattle.desk_records.specs.RolloutRow.{actions_for};
 ghost use Rattle.desk_reads.specs.AtLists.{FailsAtListsIn};
-ghost use Rattle.desk_views.specs.TargetWords.{is_begun, last_ending};
+ghost use Rattle.desk_views.specs.TargetWords.{ending_of, has_begun, is_begun, last_ended};
 ghost use Rattle.desk_store.specs.Changing.{FindsIn, StaysIn};
 
 use campaign_core::{TargetStatus, target_word};
-use desk_store::{Fault, ListedAction, OpenChange, StoredAction};
+use desk_store::{Fault, OpenChange, StoredAction};
 use rollout_machine::Outcome;
-use rollout_model::limits::ROLLOUT_LIMIT;
-use rollout_model::{ControllerId, Page, TargetWord};
+use rollout_model::{ControllerId, TargetWord};
 use sqlite::Alter;
 
 /// The word of the target of an id: pending while one of its started actions is open, or else by the started one of the
@@ -31,7 +27,8 @@ pub(crate) fn read_target_word<S: Alter>(
     Ok(target_word(&status))
 }
 
-/// What the word rests on. A target is offered its first started action that is open, so where it is offered nothing none is.
+/// What the word rests on. A target is offered its first started action that is open, so where it is offered nothing none is, and its
+/// last started action is the last that ended.
 fn read_status<S: Alter>(
     change: &mut OpenChange<'_, S>,
     id: &ControllerId,
@@ -46,49 +43,30 @@ fn read_status<S: Alter>(
             last: None,
         });
     }
-    let actions = read_actions(change, id)?;
-    let last = read_last_ending(change, actions)?;
+    let last = read_last_ending(change, id)?;
     Ok(TargetStatus {
         any_open: false,
         last,
     })
 }
 
-/// The actions of a target, in the order of their numbers. Where they are more than a desk keeps rollouts the store has failed,
-/// since a target has at most one of each.
-fn read_actions<S: Alter>(
-    change: &mut OpenChange<'_, S>,
-    id: &ControllerId,
-) -> Result<Vec<ListedAction>, Fault>
-    ensures stays { StaysIn S.Store change.old change.new result }
-    ensures reads { FindsIn S.Store change.old change.new result
-        (λ now actions. actions.items ≡ actions_for now.rollouts id.now 1 (zip now.actions (map tally_of now.actions))) }
-    ensures fails { FailsAtListsIn S.Store change.old change.new result }
-{
-    let limit = ROLLOUT_LIMIT + 1;
-    let actions = change.read_target_actions(id, Page { offset: 0, limit })?;
-    if actions.len() >= limit as usize {
-        return Err(Fault::Broken);
-    }
-    Ok(actions)
-}
-
-/// How the last of these actions ended whose group is started, from the last one back.
+/// How the last action of a target ended that did. Where its group isn't started the store has failed, since no other action ends.
 fn read_last_ending<S: Alter>(
     change: &mut OpenChange<'_, S>,
-    actions: Vec<ListedAction>,
+    id: &ControllerId,
 ) -> Result<Option<Outcome>, Fault>
     ensures stays { StaysIn S.Store change.old change.new result }
-    ensures reads { FindsIn S.Store change.old change.new result (λ now last. last ≡ last_ending now None actions.items) }
+    ensures reads { FindsIn S.Store change.old change.new result
+        (λ now last. (has_begun now (last_ended now id.now) ≡ true) × (last ≡ ending_of (last_ended now id.now))) }
     ensures fails { FailsAtListsIn S.Store change.old change.new result }
 {
-    let mut left = actions;
-    while let Some(listed) = left.pop() {
-        if read_is_begun(change, &listed.action)? {
-            return Ok(listed.action.outcome);
-        }
+    let Some(listed) = change.read_last_ended(id)? else {
+        return Ok(None);
+    };
+    if !read_is_begun(change, &listed.action)? {
+        return Err(Fault::Broken);
     }
-    Ok(None)
+    Ok(listed.action.outcome)
 }
 
 /// Whether the group of an action is started.

@@ -7,5 +7,5 @@ returns-then-is_some-clause-reads g c = finds_as (ledger_found _ c.in_ok-read_of
 
 pub returns-clause-reads : goal.returns-clause-reads
 returns-clause-reads g c =
-    finds_as (both_found (both_found (ledger_found _ c.in_ok-read_offer.ensures.reads) c.in_ok-actions.ensures.reads) c.in_ok-last.ensures.reads)
-    (λ r is. word_ended r c.args.id.now _ is.0.0 _ _ (rw c.is_some.ensures at c.if-is_some.false) is.0.1 is.1)
+    finds_as (both_found (ledger_found _ c.in_ok-read_offer.ensures.reads) c.in_ok-last.ensures.reads)
+    (λ r is. word_ended r c.args.id.now _ is.0 _ (rw c.is_some.ensures at c.if-is_some.false) is.1.0 is.1.1)
