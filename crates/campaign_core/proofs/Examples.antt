@@ -57,11 +57,11 @@ set_again = refl
 set_of_nothing : set_refusal (record { misses_module = true; same = true; count = 1000 }) ≡ Some NotFound
 set_of_nothing = refl
 
-attributes_32 : attributes_refusal (record { misses_device = false; count_after = 32 }) ≡ None
+attributes_32 : attributes_refusal (record { misses_device = false; count = 30; added = 2 }) ≡ None
 attributes_32 = refl
 
-attributes_33 : attributes_refusal (record { misses_device = false; count_after = 33 }) ≡ Some Quota
+attributes_33 : attributes_refusal (record { misses_device = false; count = 32; added = 1 }) ≡ Some Quota
 attributes_33 = refl
 
-attributes_of_a_stranger : attributes_refusal (record { misses_device = true; count_after = 33 }) ≡ Some Unauthorized
+attributes_of_a_stranger : attributes_refusal (record { misses_device = true; count = 32; added = 1 }) ≡ Some Unauthorized
 attributes_of_a_stranger = refl

@@ -144,10 +144,10 @@ ChangesTags f t old new = new ≡ record old { targets = change_target t (λ (u 
 -- of what a device gives, in these records
 pub record IsAttributesView (v : AttributesView) (device : Credential) (given : List Attribute) (rs : Records) : Type 0 where
   pub misses_device : v.misses_device ≡ not (is_known rs device)
-  pub count_after : v.count_after ≡ length (with_words (map (λ (a : Attribute). a.key) given) (target_keys (target_of rs device.id)))
+  pub count_after : v.count + v.added ≡ length (with_words (map (λ (a : Attribute). a.key) given) (target_keys (target_of rs device.id)))
 
 abbrev pub attributes_refusal : AttributesView → Option Refusal
-attributes_refusal v = first_refusal ((v.misses_device, Unauthorized) ∷ (nat_lt attribute_limit v.count_after, Quota) ∷ [])
+attributes_refusal v = first_refusal ((v.misses_device, Unauthorized) ∷ (nat_lt attribute_limit (v.count + v.added), Quota) ∷ [])
 
 -- the attributes of target t get the values that are given, where it is there
 abbrev pub ChangesAttributes : List Attribute → Bytes → Records → Records → Type 0

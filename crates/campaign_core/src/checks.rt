@@ -9,11 +9,13 @@ mod sets;
 mod targets;
 
 use crate::rollout_checks::{RolloutChange, RolloutCommandView, check_rollout};
-pub use artifacts::{ArtifactView, NewArtifact};
-pub use modules::{ModuleView, NewModule};
+pub use artifacts::{ArtifactView, NewArtifact, add_artifact};
+pub use modules::{ModuleView, NewModule, add_module};
 use rollout_model::{Command, Refusal};
-pub use sets::{NewSet, SetView};
-pub use targets::{AttributesView, ImportView, TagView, UntagView};
+pub use sets::{NewSet, SetView, add_set};
+pub use targets::{
+    AttributesView, ImportView, TagView, UntagView, put_attributes, put_targets, tag, untag,
+};
 
 /// What the verdict on a command and its change rest on.
 #[derive(Clone, Copy)]
@@ -47,40 +49,28 @@ fn decide(view: &View, command: &Command) -> Result<Change, Refusal>
     ensures { Decides view.now (command_of command.now) result }
 {
     match (view, command) {
-        (View::AddModule(view), Command::AddModule(_)) => match modules::add_module(view) {
-            Ok(module) => Ok(Change::AddModule(module)),
-            Err(refusal) => Err(refusal),
-        },
-        (View::AddArtifact(view), Command::AddArtifact(_)) => match artifacts::add_artifact(view) {
-            Ok(artifact) => Ok(Change::AddArtifact(artifact)),
-            Err(refusal) => Err(refusal),
-        },
-        (View::AddSet(view), Command::AddSet(_)) => match sets::add_set(view) {
-            Ok(set) => Ok(Change::AddSet(set)),
-            Err(refusal) => Err(refusal),
-        },
-        (View::PutTargets(view), Command::PutTargets(_)) => match targets::put_targets(view) {
-            Ok(()) => Ok(Change::PutTargets),
-            Err(refusal) => Err(refusal),
-        },
-        (View::Tag(view), Command::Tag(_, _)) => match targets::tag(view) {
-            Ok(()) => Ok(Change::Tag),
-            Err(refusal) => Err(refusal),
-        },
-        (View::Untag(view), Command::Untag(_, _)) => match targets::untag(view) {
-            Ok(()) => Ok(Change::Untag),
-            Err(refusal) => Err(refusal),
-        },
-        (View::PutAttributes(view), Command::PutAttributes(_, _)) => {
-            match targets::put_attributes(view) {
-                Ok(()) => Ok(Change::PutAttributes),
-                Err(refusal) => Err(refusal),
-            }
+        (View::AddModule(view), Command::AddModule(_)) => Ok(Change::AddModule(add_module(view)?)),
+        (View::AddArtifact(view), Command::AddArtifact(_)) => {
+            Ok(Change::AddArtifact(add_artifact(view)?))
         }
-        (View::OnRollouts(view), command) => match check_rollout(view, command) {
-            Ok(change) => Ok(Change::OnRollouts(change)),
-            Err(refusal) => Err(refusal),
-        },
+        (View::AddSet(view), Command::AddSet(_)) => Ok(Change::AddSet(add_set(view)?)),
+        (View::PutTargets(view), Command::PutTargets(_)) => {
+            put_targets(view)?;
+            Ok(Change::PutTargets)
+        }
+        (View::Tag(view), Command::Tag(_, _)) => {
+            tag(view)?;
+            Ok(Change::Tag)
+        }
+        (View::Untag(view), Command::Untag(_, _)) => {
+            untag(view)?;
+            Ok(Change::Untag)
+        }
+        (View::PutAttributes(view), Command::PutAttributes(_, _)) => {
+            put_attributes(view)?;
+            Ok(Change::PutAttributes)
+        }
+        (View::OnRollouts(view), command) => Ok(Change::OnRollouts(check_rollout(view, command)?)),
         (_, _) => Err(Refusal::WrongState),
     }
 }

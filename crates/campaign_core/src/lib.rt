@@ -14,7 +14,8 @@ mod thresholds;
 
 pub use checks::{
     ArtifactView, AttributesView, Change, ImportView, ModuleView, NewArtifact, NewModule, NewSet,
-    SetView, TagView, UntagView, View, check,
+    SetView, TagView, UntagView, View, add_artifact, add_module, add_set, check, put_attributes,
+    put_targets, tag, untag,
 };
 pub use effects::{after_resume, after_trigger};
 pub use groupings::{cut_grouping, leaves_empty};

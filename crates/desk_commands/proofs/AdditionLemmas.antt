@@ -1,29 +1,13 @@
 -- What the reads of an addition say, and what its writes come to.
-use Rattle.desk_commands.proofs.Common.{◌≡◌, ◌≤◌, ◌<◌, ℕ, zero, suc, ◌+◌, nat_le, nat_lt, Bool, true, false, ◌||◌, List, [], ◌∷◌, ◌++◌, length, Some, None}
-use Rattle.desk_commands.proofs.Common.{refl, sym, ap, ◌∙◌, arith, append_assoc, append-nil, get_or, drop, take, ◌-◌, subst, nat_tests, length-append}
-use Rattle.desk_commands.proofs.Common.{take_all, list_any, list_all, is_none, command_reply, item_numbered, ModuleLabel, SetLabel, AddModule, AddSet, Records}
-use Rattle.desk_commands.proofs.Common.{step_records, check, is_named_by_set, reply_of, Exists, NotFound, Quota, is_between, is_module_list, is_number}
-use Rattle.desk_commands.proofs.Common.{AddsModules, AddsWhole, LacksModule, and_modules}
-use Rattle.desk_records.specs.Modules.{is_same, with_module}
-use Rattle.desk_records.specs.Sets.{is_same_set, with_set, set_named, and_module, AddsSetModule}
+use Rattle.desk_commands.proofs.Common.{◌≡◌, ◌≤◌, ℕ, zero, suc, ◌+◌, nat_lt, Bool, true, false, ◌||◌, List, [], ◌∷◌, ◌++◌, length, refl, sym, ap, ◌∙◌, arith}
+use Rattle.desk_commands.proofs.Common.{append_assoc, append-nil, get_or, drop, take, ◌-◌, subst, nat_tests, length-append, take_all, list_any, list_all}
+use Rattle.desk_commands.proofs.Common.{is_none, command_reply, item_numbered, ModuleLabel, SetLabel, AddModule, AddSet, Records, step_records, is_named_by_set}
+use Rattle.desk_commands.proofs.Common.{reply_of, is_between, is_module_list, is_number, AddsModules, AddsWhole, LacksModule, and_modules}
+use Rattle.desk_records.specs.Modules.{with_module}
+use Rattle.desk_records.specs.Sets.{with_set, set_named, and_module, AddsSetModule}
 use Rattle.rollout_model.specs.declared.request.Reply.TheVariants as reply
 
 -- ---- modules
-
-pub module_exists : (r : Records) (label : ModuleLabel) → true ≡ list_any (is_same label) r.modules → check r (AddModule label) ≡ Some Exists
-module_exists r label is = rw (sym is) refl
-
-pub modules_full : (r : Records) (label : ModuleLabel) (last : ℕ) → false ≡ list_any (is_same label) r.modules → last ≡ length r.modules → 1000 ≤ last
-    → check r (AddModule label) ≡ Some Quota
-modules_full r label last other size many =
-    let at : nat_le 1000 (length r.modules) ≡ true = grind (arith, nat_tests) in
-    rw (sym other, at) refl
-
-pub module_accepted : (r : Records) (label : ModuleLabel) (last : ℕ) → false ≡ list_any (is_same label) r.modules → last ≡ length r.modules → last < 1000
-    → check r (AddModule label) ≡ None
-module_accepted r label last other size few =
-    let at : nat_le 1000 (length r.modules) ≡ false = grind (arith, nat_tests) in
-    rw (sym other, at) refl
 
 -- the module that a command adds is shown with the next number
 pub module_added : (r : Records) (label shown : ModuleLabel) (number : ℕ) (locked : Bool) → number ≡ length r.modules + 1 → locked
@@ -50,6 +34,10 @@ past_is_missing [] (suc m) least = sym (let less : nat_lt 0 (suc m) ≡ true = g
 past_is_missing (x ∷ ms) (suc zero) least = sym (let no : nat_lt (suc (length ms)) (suc zero) ≡ false = grind (arith, nat_tests) in no)
 past_is_missing (x ∷ ms) (suc (suc m)) least = past_is_missing ms (suc m) (omega arith) ∙ lt_suc (length ms) (suc m)
 
+-- a number past the last one isn't there
+pub missing : {X : Type 0} (ms : List X) (m last : ℕ) → 1 ≤ m → last ≡ length ms → nat_lt last m ≡ is_none (item_numbered ms m)
+missing ms m last least size = ap (λ n. nat_lt n m) size ∙ sym (past_is_missing ms m least)
+
 both_true : (a b : Bool) → (Rattle.std.proofs.Common.◌&&◌ a b) ≡ true → (a ≡ true) × (b ≡ true)
 both_true true b h = (refl, h)
 both_true false b h = absurd (Rattle.std.proofs.lemmas.Bool.false≢true h)
@@ -63,25 +51,6 @@ past_are_missing ms [] good = refl
 past_are_missing ms (m ∷ numbers) good =
     let parts = both_true (is_number m) (list_all is_number numbers) good in
     λ i. sym (past_is_missing ms m (least_number m parts.0)) i || past_are_missing ms numbers parts.1 i
-
-pub set_lacks : (r : Records) (label : SetLabel) → LacksModule label.modules r true → check r (AddSet label) ≡ Some NotFound
-set_lacks r label is = rw (sym is) refl
-
-pub set_exists : (r : Records) (label : SetLabel) → LacksModule label.modules r false → true ≡ list_any (is_same_set label.name label.version) r.sets
-    → check r (AddSet label) ≡ Some Exists
-set_exists r label whole is = rw (sym whole, sym is) refl
-
-pub sets_full : (r : Records) (label : SetLabel) (last : ℕ) → LacksModule label.modules r false → false ≡ list_any (is_same_set label.name label.version) r.sets
-    → last ≡ length r.sets → 1000 ≤ last → check r (AddSet label) ≡ Some Quota
-sets_full r label last whole other size many =
-    let at : nat_le 1000 (length r.sets) ≡ true = grind (arith, nat_tests) in
-    rw (sym whole, sym other, at) refl
-
-pub set_accepted : (r : Records) (label : SetLabel) (last : ℕ) → LacksModule label.modules r false
-    → false ≡ list_any (is_same_set label.name label.version) r.sets → last ≡ length r.sets → last < 1000 → check r (AddSet label) ≡ None
-set_accepted r label last whole other size few =
-    let at : nat_le 1000 (length r.sets) ≡ false = grind (arith, nat_tests) in
-    rw (sym whole, sym other, at) refl
 
 pub set_added : (r : Records) (label shown : SetLabel) (number : ℕ) → number ≡ length r.sets + 1 → shown ≡ label
     → reply_of (reply.SetAdded (record { number = number; label = shown })) ≡ command_reply (AddSet label) (step_records r (AddSet label))

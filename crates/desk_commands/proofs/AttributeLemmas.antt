@@ -1,15 +1,21 @@
 -- What the attributes that a device gives come to.
-use Rattle.desk_commands.proofs.Common.{◌≡◌, ◌≤◌, ◌<◌, ◌+◌, ℕ, suc, Bool, true, false, cond, ◌||◌, ◌&&◌, not, nat_eq, nat_lt, List, [], ◌∷◌, ◌++◌, length}
-use Rattle.desk_commands.proofs.Common.{get_or, take, Option, Some, None, option_map, refl, sym, ap, ◌∙◌, subst, arith, is_some, list_any, list_all, pointwise}
-use Rattle.desk_commands.proofs.Common.{and_parts, false≢true, nat_tests, map-append, length-map, AddsAttribute, SetsAttribute, are_sorted, attributed}
-use Rattle.desk_commands.proofs.Common.{attributes_of, in_byte_order, is_sorted, keys_of, with_changed, same_bytes, bytes_below, contains_word, with_word}
-use Rattle.desk_commands.proofs.Common.{with_words, Bytes, Attribute, Credential, PutAttributes, Records, change_target, step_records, Target, with_attribute}
-use Rattle.desk_commands.proofs.Common.{with_attributes, check, is_known, target_of, AllAbove, IsSorted, above_more, not_above, sorted_with_all, with_there}
-use Rattle.desk_commands.proofs.Common.{same_pointwise, same_refl, same_sym, same_true, Unauthorized, Quota, GivesAttribute, GivesAttributes, attributed_with}
-use Rattle.desk_commands.proofs.Common.{has_attribute, keys_after, sorted_from, not-true, or_right, or_parts}
+use Rattle.desk_commands.proofs.Common.{◌≡◌, ◌≤◌, ◌<◌, ◌+◌, ℕ, suc, Bool, true, false, cond, ◌||◌, ◌&&◌, not, nat_eq, List, [], ◌∷◌, ◌++◌, length, get_or, take}
+use Rattle.desk_commands.proofs.Common.{Option, Some, None, option_map, refl, sym, ap, ◌∙◌, subst, arith, is_some, list_any, list_all, pointwise, and_parts}
+use Rattle.desk_commands.proofs.Common.{false≢true, map-append, length-map, AddsAttribute, SetsAttribute, are_sorted, attributed, attributes_of, in_byte_order}
+use Rattle.desk_commands.proofs.Common.{is_sorted, keys_of, with_changed, same_bytes, bytes_below, contains_word, with_word, with_words, Bytes, Attribute}
+use Rattle.desk_commands.proofs.Common.{Credential, PutAttributes, Records, change_target, step_records, Target, with_attribute, with_attributes, is_known}
+use Rattle.desk_commands.proofs.Common.{target_of, AllAbove, IsSorted, above_more, not_above, sorted_with_all, with_there, same_pointwise, same_refl, same_sym}
+use Rattle.desk_commands.proofs.Common.{same_true, GivesAttribute, GivesAttributes, attributed_with, has_attribute, keys_after, sorted_from, not-true, or_right}
+use Rattle.desk_commands.proofs.Common.{or_parts}
+use Rattle.std.proofs.lemmas.Bool.{not-false}
+use Rattle.desk_commands.proofs.Common.{nat_lt, Quota, Unauthorized}
 use Rattle.rollout_machine.specs.Verdicts.{target_keys as keys_there}
 use Rattle.rollout_model.specs.Pairs.{is_same_attribute}
 use Rattle.desk_records.proofs.Attributes.{keys_with}
+use Rattle.desk_commands.specs.Attributes.{ViewsAttributes}
+use Rattle.campaign_core.proofs.CheckLemmas.{first_passes}
+use Rattle.campaign_core.specs.Checks.{IsAttributesView, attributes_refusal}
+use Rattle.campaign_core.specs.declared.checks.targets.AttributesView.{AttributesView}
 use Rattle.desk_commands.proofs.ByteOrderLemmas.{count_with}
 use Rattle.desk_commands.proofs.PutLemmas.{one_more, words_then}
 use Rattle.desk_commands.proofs.TagLemmas.{has_all, pointwise_is}
@@ -255,26 +261,19 @@ read_sorted id r sorted = go r.targets (and_parts _ _ sorted).1 where
     first true ok rest = (and_parts _ _ ok).1
     first false ok rest = rest
 
-module _ (r : Records) (device : Credential) (given : List Attribute) where
-  pub unauthorized : false ≡ is_known r device → check r (PutAttributes device given) ≡ Some Unauthorized
-  unauthorized unknown_one = rw (sym unknown_one) refl
+pub given_viewed : (known : Bool) (given had : List Attribute) (count added : ℕ) → count ≡ length had
+    → (in_byte_order (keys_of had) ≡ true → length had + added ≡ length (keys_after given had))
+    → ViewsAttributes known given had (record { misses_device = not known; count = count; added = added })
+given_viewed known given had count added size all device r is read sorted = record {
+  misses_device = ap not is;
+  count_after = ap (λ n. n + added) size ∙ all (ap (λ bs. in_byte_order (keys_of bs)) read ∙ read_sorted device.id r sorted)
+      ∙ ap (λ ks. length (with_words (keys_of given) ks)) (ap keys_of read ∙ sym (keys_read (target_of r device.id)));
+}
 
-  module _ (had : List Attribute) (known : true ≡ is_known r device) (read : had ≡ attributes_of (target_of r device.id)) where
-    pub gives_all : GivesAttributes device.id had given r (step_records r (PutAttributes device given))
-    gives_all = record { is_there = known_there device r known; had_is = read; next_is = refl }
-
-    module _ (added : ℕ) (sorted : are_sorted r.targets ≡ true) (all : in_byte_order (keys_of had) ≡ true → length had + added
-        ≡ length (keys_after given had)) where
-      total : length had + added ≡ length (with_words (keys_of given) (keys_there (target_of r device.id)))
-      total = all (ap (λ bs. in_byte_order (keys_of bs)) read ∙ read_sorted device.id r sorted)
-          ∙ ap (λ ks. length (with_words (keys_of given) ks)) (ap keys_of read ∙ sym (keys_read (target_of r device.id)))
-
-      pub too_many : 32 < length had + added → check r (PutAttributes device given) ≡ Some Quota
-      too_many many =
-          let at : nat_lt 32 (length had + added) ≡ true = grind (arith, nat_tests) in
-          rw (sym known, ap (nat_lt 32) (sym total) ∙ at) refl
-
-      pub not_too_many : length had + added ≤ 32 → check r (PutAttributes device given) ≡ None
-      not_too_many few =
-          let at : nat_lt 32 (length had + added) ≡ false = grind (arith, nat_tests) in
-          rw (sym known, ap (nat_lt 32) (sym total) ∙ at) refl
+pub gives_all : (r : Records) (device : Credential) (given had : List Attribute) → had ≡ attributes_of (target_of r device.id) → (view : AttributesView)
+    → IsAttributesView view device given r → attributes_refusal view ≡ None
+    → GivesAttributes device.id had given r (step_records r (PutAttributes device given))
+gives_all r device given had read view is passes =
+    let unknown : not (is_known r device) ≡ false = sym is.misses_device
+    ∙ first_passes view.misses_device Unauthorized ((nat_lt 32 (view.count + view.added), Quota) ∷ []) passes in
+    record { is_there = known_there device r (sym (not-false _ unknown)); had_is = read; next_is = refl }

@@ -6,8 +6,8 @@ pub use Rattle.std.proofs.Common.{◌≤◌, ◌⊎◌}
 pub use Rattle.std.proofs.Math.Bool.{and-false, and_assoc, and_comm, or-false, or-true, or_assoc, or_comm}
 pub use Rattle.std.proofs.lemmas.Bool.{and_parts, cases_Bool, eq-eqb, eqb-true, false≢true, ltb-true, not-true, or_parts, or_right}
 pub use Rattle.std.proofs.lemmas.Bool.Decides.{nat_tests}
-pub use Rattle.std.proofs.lemmas.List.{length-append, length-drop, length-map, length-set, length-take, length-take-le, map-append, take-append-drop, take_all}
-pub use Rattle.std.proofs.lemmas.List.{take_more}
+pub use Rattle.std.proofs.lemmas.List.{length-append, length-drop, length-map, length-set, length-take, length-take-le, map-append, take-append-drop}
+pub use Rattle.std.proofs.lemmas.List.{take_all, take_more}
 pub use Rattle.std.specs.Cmp.Lexicographic.{pointwise}
 pub use Rattle.std.specs.List.{find, last_or, list_all, list_any, zip}
 pub use Rattle.std.specs.Option.{IsSomeAnd, is_none, ok_or, option_map, unwrap_or}
@@ -33,8 +33,8 @@ pub use Rattle.rollout_machine.specs.ByteStrings.{bytes_below, contains_word, it
 pub use Rattle.rollout_machine.specs.CommandList.{CommandList, ◌▸◌}
 pub use Rattle.rollout_machine.specs.CommandRules.{IsWellFormed}
 pub use Rattle.rollout_machine.specs.Commands.{AddArtifact, AddModule, AddSet, Approve, Attribute, Bytes, Cancel, CancelFeedback, Command, CreateRollout}
-pub use Rattle.rollout_machine.specs.Commands.{Credential, Deny, Feedback, ModuleLabel, Pause, PutAttributes, PutTargets, Resume, RolloutPlan, SetLabel, Start}
-pub use Rattle.rollout_machine.specs.Commands.{Tag, TargetRow, TriggerNext, Untag, Upload}
+pub use Rattle.rollout_machine.specs.Commands.{Credential, Deny, Feedback, ModuleLabel, Pause, PutAttributes, PutTargets, Resume, RolloutPlan, SetLabel}
+pub use Rattle.rollout_machine.specs.Commands.{Start, Tag, TargetRow, TriggerNext, Untag, Upload}
 pub use Rattle.rollout_machine.specs.Counts.{is_outcome}
 pub use Rattle.rollout_machine.specs.GroupRules.{GroupRule, rule_at, rules_of}
 pub use Rattle.rollout_machine.specs.Offers.{Offer, first_offer, offer}
@@ -66,9 +66,9 @@ pub use Rattle.campaign_core.proofs.SoundLemmas.{records_are_sound}
 pub use Rattle.campaign_core.specs.OwnGroups.{effects_by, following, own_view_of, waits}
 pub use Rattle.campaign_core.specs.RolloutChecks.{AreSound, BothOrNone, ChangesAction, Decides, DecidesAs, IsActionView, IsCancelView, IsDeviceAction}
 pub use Rattle.campaign_core.specs.RolloutChecks.{IsFeedbackView, IsPlanView, IsResumeView, IsStandingView, IsTriggerView, IsViewOf, JudgesCancel, of_device}
-pub use Rattle.campaign_core.specs.RolloutChecks.{MayChangeAction, action_for, action_with, approval_at, cancel_refusal, change_by}
-pub use Rattle.campaign_core.specs.RolloutChecks.{change_if_fresh, change_numbered, device_action, ended_by, is_fresh, moved_by, only_if, outcome_forced}
-pub use Rattle.campaign_core.specs.RolloutChecks.{plan_refusal, rollout_with, says_fresh}
+pub use Rattle.campaign_core.specs.RolloutChecks.{MayChangeAction, action_for, action_with, approval_at, cancel_refusal, change_by, change_if_fresh}
+pub use Rattle.campaign_core.specs.RolloutChecks.{change_numbered, device_action, ended_by, is_fresh, moved_by, only_if, outcome_forced, plan_refusal}
+pub use Rattle.campaign_core.specs.RolloutChecks.{rollout_with, says_fresh}
 pub use Rattle.campaign_core.specs.declared.own_group.Following.{Following}
 pub use Rattle.campaign_core.specs.declared.own_group.OwnView.{OwnView}
 pub use Rattle.campaign_core.specs.declared.rollout_checks.RolloutChange.{RolloutChange}
@@ -115,7 +115,7 @@ pub use Rattle.desk_reads.specs.Rollouts.{IsSeenOf}
 pub use Rattle.desk_reads.specs.Targets.{target_listed}
 pub use Rattle.desk_reads.specs.declared.rollouts.SeenRollout.{SeenRollout}
 pub use Rattle.desk_commands.specs.ActionSteps.{Acts, FollowsChange, TellsAction, WritesFeedback, canceling_by, outcome_by, stays_offered}
-pub use Rattle.desk_commands.specs.Additions.{AddsArtifact, AddsContents, AddsModules, AddsWhole, LacksModule, and_modules, is_full}
+pub use Rattle.desk_commands.specs.Additions.{AddsArtifact, AddsContents, AddsModules, AddsWhole, LacksModule, and_modules}
 pub use Rattle.desk_commands.specs.Attributes.{GivesAttribute, GivesAttributes, attributed_with, has_attribute, keys_after}
 pub use Rattle.desk_commands.specs.Creations.{CreatesRollout, IsChosen, IsWordOf, and_rollout, first_rules, ids_matching, in_part, shown_new}
 pub use Rattle.desk_commands.specs.Endings.{CountsOutcome, FollowsEnding, FollowsSo, Pauses, StartsGroupOf, outcomes_in, with_outcome, with_rollout}
@@ -123,7 +123,7 @@ pub use Rattle.desk_commands.specs.Failures.{CanEnd, CanEndBy, CanFollow, CanSta
 pub use Rattle.desk_commands.specs.Failures.{IsLastOf, IsSeenFrom, IsSeenIn, Leads, TakesRow, TakesRows, TakesSteps}
 pub use Rattle.desk_commands.specs.GroupStarts.{StartsAndOffers, started, with_group}
 pub use Rattle.desk_commands.specs.GroupViews.{EndsBeyond, view_by}
-pub use Rattle.desk_commands.specs.Imports.{AddsTags, DropsTags, HasRoom, IsTooMany, LeavesRoom, PutsAll, PutsOver, PutsRow, PutsRows, Renames, Retags}
+pub use Rattle.desk_commands.specs.Imports.{AddsTags, CountsTargets, DropsTags, HasCounted, IsTooMany, PutsAll, PutsOver, PutsRow, PutsRows, Renames, Retags}
 pub use Rattle.desk_commands.specs.Imports.{ids_after, lacking, retagged, row_ids, tagged_with, untagged_from, with_row, without_words}
 pub use Rattle.desk_commands.specs.LedgerEnds.{StartsNoGroup, Waits, starts_of}
 pub use Rattle.desk_commands.specs.Offering.{MayReoffer, Reoffers}

@@ -1,14 +1,14 @@
 -- The creation of a rollout, from what is read to what is written.
-use Rattle.desk_commands.proofs.Common.{◌≡◌, ◌≤◌, ◌<◌, ℕ, zero, suc, ◌+◌, Bool, true, false, not, cond, nat_eq, nat_lt, List, [], ◌∷◌, ◌++◌, map, filter}
-use Rattle.desk_commands.proofs.Common.{get_or, take, drop, length, set, slice_get, Some, None, is_none, refl, sym, ap, subst, ◌∙◌, arith, list_all, IsSomeAnd}
-use Rattle.desk_commands.proofs.Common.{and_parts, nat_tests, length-append, length-map, length-take-le, map-append, take_all, added_rollout, command_reply}
-use Rattle.desk_commands.proofs.Common.{item_numbered, CommandList, Bytes, CreateRollout, RolloutPlan, GroupRule, rule_at, rules_of, first_offer, RolloutAdded}
-use Rattle.desk_commands.proofs.Common.{Records, action_in, rollouts_in, new_group, new_rollout, step_records, bounds_at, chosen, rollouts, RolloutWord}
-use Rattle.desk_commands.proofs.Common.{is_finished, rollout_word, Target, IsValid, check, reply_of, Bounds, ActionRecord, RolloutRecord, each_from_more}
-use Rattle.desk_commands.proofs.Common.{length_each, numbered_each, Tree, filter_of, IsPlanView, approval_at, plan_refusal, Ledger, ledger_of, AddsGroup}
-use Rattle.desk_commands.proofs.Common.{AddsMember, AddsRollout, AddsRule, cut_group, set_numbered, with_rollouts, with_rules, listed_target, are_sorted}
-use Rattle.desk_commands.proofs.Common.{same_ledger, target_listed, CreatesRollout, IsChosen, IsWordOf, and_rollout, first_rules, ids_matching, in_part}
-use Rattle.desk_commands.proofs.Common.{shown_new, invariant_of, not-true}
+use Rattle.desk_commands.proofs.Common.{◌≡◌, ◌≤◌, ◌<◌, ℕ, zero, suc, ◌+◌, Bool, true, false, not, cond, nat_eq, List, [], ◌∷◌, ◌++◌, map, filter, get_or, take}
+use Rattle.desk_commands.proofs.Common.{drop, length, set, slice_get, Some, None, is_none, refl, sym, ap, subst, ◌∙◌, arith, list_all, IsSomeAnd, and_parts}
+use Rattle.desk_commands.proofs.Common.{nat_tests, length-append, length-map, length-take-le, map-append, take_all, added_rollout, command_reply, item_numbered}
+use Rattle.desk_commands.proofs.Common.{CommandList, Bytes, CreateRollout, RolloutPlan, GroupRule, rule_at, rules_of, first_offer, RolloutAdded, Records}
+use Rattle.desk_commands.proofs.Common.{action_in, rollouts_in, new_group, new_rollout, step_records, bounds_at, chosen, rollouts, RolloutWord, is_finished}
+use Rattle.desk_commands.proofs.Common.{rollout_word, Target, IsValid, check, reply_of, Bounds, ActionRecord, RolloutRecord, each_from_more, length_each}
+use Rattle.desk_commands.proofs.Common.{numbered_each, Tree, filter_of, IsPlanView, approval_at, plan_refusal, Ledger, ledger_of, AddsGroup, AddsMember}
+use Rattle.desk_commands.proofs.Common.{AddsRollout, AddsRule, cut_group, set_numbered, with_rollouts, with_rules, listed_target, are_sorted, same_ledger}
+use Rattle.desk_commands.proofs.Common.{target_listed, CreatesRollout, IsChosen, IsWordOf, and_rollout, first_rules, ids_matching, in_part, shown_new}
+use Rattle.desk_commands.proofs.Common.{invariant_of, not-true}
 use Rattle.rollout_machine.specs.Records.{records}
 use Rattle.std.proofs.lemmas.Option.{slice_get-get_or, slice_get_within}
 use Rattle.rollout_machine.specs.Actions.{ActionPlace, action_places}
@@ -25,7 +25,6 @@ use Rattle.campaign_core.specs.declared.rollout_checks.plans.PlanView.{PlanView}
 use Rattle.desk_records.specs.declared.target_row.ListedTarget.{ListedTarget}
 use Rattle.desk_reads.proofs.ListedTargets.{part_seen}
 use Rattle.desk_commands.specs.declared.creation.Chosen.{Chosen}
-use Rattle.desk_commands.proofs.AdditionLemmas.{past_is_missing}
 use Rattle.desk_commands.proofs.ArtifactLemmas.{last_there}
 use Rattle.desk_commands.proofs.PutLemmas.{one_more}
 
@@ -92,9 +91,6 @@ all_chosen r sorted f count entries size listed ids is =
 pub by_filter : (text : Bytes) (r : Records) (f : Tree) (found : Chosen) → filter_of text ≡ Some f → found.bad_filter ≡ false → found.members.items
     ≡ chosen (Some f) r.targets → IsChosen text r found
 by_filter text r f found tree good members = record { bad_filter = good ∙ sym (ap is_none tree); members = members ∙ sym (ap (λ o. chosen o r.targets) tree) }
-
-pub set_missing : (r : Records) (number last : ℕ) → 1 ≤ number → last ≡ length r.sets → nat_lt last number ≡ is_none (item_numbered r.sets number)
-set_missing r number last least size = ap (λ n. nat_lt n number) size ∙ sym (past_is_missing r.sets number least)
 
 -- the verdict is that of the view
 pub judged : (r : Records) (plan : RolloutPlan) (view : PlanView) → IsPlanView view plan r → check r (CreateRollout plan) ≡ plan_refusal view plan.groups

@@ -1,11 +1,13 @@
 -- Rows of targets that are put one after the other, as far as the desk takes them.
-use Rattle.desk_commands.proofs.Common.{◌≡◌, ◌≤◌, ◌<◌, ◌+◌, ◌-◌, ℕ, suc, Bool, true, false, cond, ◌||◌, nat_lt, List, [], ◌∷◌, ◌++◌, length, get_or, take}
-use Rattle.desk_commands.proofs.Common.{drop, Option, Some, None, option_map, Ok, Err, refl, sym, ap, ◌∙◌, subst, arith, is_some, nat_tests, map-append}
-use Rattle.desk_commands.proofs.Common.{take_more, take_all, take-append-drop, length-map, State, HasCleanDisk, Finds, Makes, Sees, Wears, HoldsLedger}
-use Rattle.desk_commands.proofs.Common.{ledger_of, stored_target, are_sorted, ids_of, StoredTarget, same_bytes, bytes_below, contains_word, with_word}
-use Rattle.desk_commands.proofs.Common.{with_words, CommandList, Bytes, TargetRow, PutTargets, Records, records, new_target, put_target, put_targets}
-use Rattle.desk_commands.proofs.Common.{step_records, Target, IsValid, check, target_of, same_sym, same_true, Refusal, Quota, HasRoom, IsTooMany, LeavesRoom}
-use Rattle.desk_commands.proofs.Common.{PutsAll, PutsRow, ids_after, row_ids, with_row, with_there, limits_hold}
+use Rattle.desk_commands.proofs.Common.{◌≡◌, ◌≤◌, ◌<◌, ◌+◌, ℕ, suc, Bool, true, false, cond, ◌||◌, nat_lt, List, [], ◌∷◌, ◌++◌, length, get_or, take, drop}
+use Rattle.desk_commands.proofs.Common.{Option, Some, None, option_map, Ok, Err, refl, sym, ap, ◌∙◌, subst, arith, is_some, nat_tests, map-append, take_more}
+use Rattle.desk_commands.proofs.Common.{take_all, take-append-drop, length-map, State, HasCleanDisk, Finds, Makes, Sees, Wears, HoldsLedger, ledger_of}
+use Rattle.desk_commands.proofs.Common.{stored_target, are_sorted, ids_of, StoredTarget, same_bytes, bytes_below, contains_word, with_word, with_words}
+use Rattle.desk_commands.proofs.Common.{CommandList, Bytes, TargetRow, PutTargets, Records, records, new_target, put_target, put_targets, step_records, Target}
+use Rattle.desk_commands.proofs.Common.{IsValid, check, target_of, same_sym, same_true, Refusal, Quota, HasCounted, IsTooMany, PutsAll, PutsRow, ids_after}
+use Rattle.desk_commands.proofs.Common.{row_ids, with_row, with_there, limits_hold}
+use Rattle.campaign_core.proofs.CheckLemmas.{first_passes}
+use Rattle.campaign_core.specs.Checks.{import_refusal}
 use Rattle.desk_commands.proofs.ByteOrderLemmas.{count_with}
 use Rattle.desk_commands.proofs.TargetLemmas.{found, ids_sorted}
 
@@ -66,10 +68,10 @@ same_count row r stored sorted is =
     let has : contains_word row.id (ids_of ts) ≡ true = has_id row.id ts ∙ ap is_some (sym is) in
     sym (id_count (put_target row ts)) ∙ ap length (put_ids row ts ∙ with_there row.id (ids_of ts) (ids_sorted ts sorted) has) ∙ id_count ts
 
-pub room_kept : (row : TargetRow) (left : Option ℕ) (r : Records) (stored : StoredTarget) → are_sorted r.targets ≡ true → Some stored
-    ≡ option_map stored_target (target_of r row.id) → HasRoom left r → HasRoom left (with_row row r)
-room_kept row None r stored sorted is few = let same = same_count row r stored sorted is in omega (arith, same, few)
-room_kept row (Some left) r stored sorted is room = let same = same_count row r stored sorted is in omega (arith, same, room)
+pub count_kept : (row : TargetRow) (counted : Option ℕ) (r : Records) (stored : StoredTarget) → are_sorted r.targets ≡ true → Some stored
+    ≡ option_map stored_target (target_of r row.id) → HasCounted counted r → HasCounted counted (with_row row r)
+count_kept row None r stored sorted is few = let same = same_count row r stored sorted is in omega (arith, same, few)
+count_kept row (Some count) r stored sorted is all = (all.0 ∙ sym (same_count row r stored sorted is), all.1)
 
 -- that of a new one adds it
 one_new : (row : TargetRow) (ts : List Target) → None ≡ option_map stored_target (found row.id ts) → length (with_word row.id (ids_of ts)) ≡ suc (length ts)
@@ -77,22 +79,34 @@ one_new row ts is =
     let missing : contains_word row.id (ids_of ts) ≡ false = has_id row.id ts ∙ ap is_some (sym is) in
     count_with row.id (ids_of ts) missing ∙ ap suc (id_count ts)
 
-pub room_taken : (row : TargetRow) (r : Records) (left : ℕ) → 1 ≤ left → None ≡ option_map stored_target (target_of r row.id) → HasRoom (Some left) r
-    → HasRoom (Some (left - 1)) (with_row row r)
-room_taken row r left some is room =
-    let ts = r.targets in
-    let more : length (put_target row ts) ≡ suc (length ts) = sym (id_count (put_target row ts)) ∙ ap length (put_ids row ts) ∙ one_new row ts is in
-    omega (arith, more, some, room)
+module _ (row : TargetRow) (r : Records) (count after : ℕ) (next : count ≤ 10000 → after ≡ count + 1)
+    (is : None ≡ option_map stored_target (target_of r row.id)) (all : HasCounted (Some count) r) where
+  pub count_grown : import_refusal (record { count_after = after }) ≡ None → HasCounted (Some after) (with_row row r)
+  count_grown passes =
+      let ts = r.targets in
+      let below : nat_lt 10000 after ≡ false = first_passes (nat_lt 10000 after) Quota [] passes in
+      let more : length (put_target row ts) ≡ suc (length ts) = sym (id_count (put_target row ts)) ∙ ap length (put_ids row ts) ∙ one_new row ts is in
+      let few : after ≤ 10000 = grind (arith, nat_tests) in
+      let one = next all.1 in
+      let size = all.0 in
+      let same : after ≡ length (put_target row ts) = omega (arith, more, one, size) in
+      (same, few)
 
-pub too_many : (row : TargetRow) (r : Records) (left : ℕ) → left ≡ 0 → None ≡ option_map stored_target (target_of r row.id) → HasRoom (Some left) r
-    → IsTooMany row r
-too_many row r left none is room = (nothing (target_of r row.id) is, omega (arith, none, room)) where
-  nothing : (o : Option Target) → None ≡ option_map stored_target o → o ≡ None
-  nothing None is = refl
-  nothing (Some t) is = absurd (cc)
+  pub too_many : (refusal : Refusal) → import_refusal (record { count_after = after }) ≡ Some refusal → (refusal ≡ Quota) × IsTooMany row r
+  too_many refusal refuses = go (nat_lt 10000 after) refl refuses where
+    nothing : (o : Option Target) → None ≡ option_map stored_target o → o ≡ None
+    nothing None is = refl
+    nothing (Some t) is = absurd (cc)
 
-pub room_counted : (count room : ℕ) (r : Records) → count ≡ length r.targets → room ≡ 10000 - count → LeavesRoom None r room
-room_counted count room r size is few = omega (arith, size, is, few)
+    go : (over : Bool) → nat_lt 10000 after ≡ over → cond over (Some Quota) None ≡ Some refusal → (refusal ≡ Quota) × IsTooMany row r
+    go true over why =
+        let beyond : 10000 < after = grind (arith, nat_tests) in
+        let one = next all.1 in
+        let size = all.0 in
+        let few = all.1 in
+        let quota : refusal ≡ Quota = cc in
+        (quota, nothing (target_of r row.id) is, omega (arith, beyond, one, size, few))
+    go false over why = absurd (cc)
 
 -- ---- the quota
 
@@ -129,16 +143,16 @@ over_quota r earlier row later many =
 
 -- ---- one row in a change
 
-module _ {row : TargetRow} {left : Option ℕ} {F : Type 0} where
+module _ {row : TargetRow} {counted : Option ℕ} {F : Type 0} where
   pub row_refused : {A E : Type 0} {a b : State} {x : A} {P : Records → A → Type 0} {refusal : Refusal} → Finds HoldsLedger ledger_of {E = E} a b (Ok x) P
-      → ((r : Records) → P r x → HasRoom left r → (refusal ≡ Quota) × IsTooMany row r)
-      → PutsRow {E = F} a b row left (Ok (Err refusal))
+      → ((r : Records) → P r x → HasCounted counted r → (refusal ≡ Quota) × IsTooMany row r)
+      → PutsRow {E = F} a b row counted (Ok (Err refusal))
   row_refused read means = record { wears = read.wears; puts = λ now was clean. means now ((read.finds now was).1 clean) }
 
   pub row_put : {A E G : Type 0} {a b c : State} {x : A} {P : Records → A → Type 0} → Finds HoldsLedger ledger_of {E = E} a b (Ok x) P
       → (W : Records → Records → Type 0) → ((r : Records) → P r x → W r (with_row row r))
       → (then : Option ℕ) → Makes HoldsLedger ledger_of {A = Unit {0}} {E = G} b c (Ok tt) W
-      → ((r : Records) → P r x → HasRoom left r → HasRoom then (with_row row r)) → PutsRow {E = F} a c row left (Ok (Ok then))
+      → ((r : Records) → P r x → HasCounted counted r → HasCounted then (with_row row r)) → PutsRow {E = F} a c row counted (Ok (Ok then))
   row_put read W writes then write means = record {
     wears = omega (arith, read.wears, write.wears);
     puts = λ now was.
@@ -164,18 +178,18 @@ unfolding with_targets
 then_row earlier row r = ap (with_targets r) (sym (put_more earlier row r.targets))
 
 -- these rows are put
-pub record PutsSoFar (old new : State) (rows : List TargetRow) (left : Option ℕ) : Type 0 where
+pub record PutsSoFar (old new : State) (rows : List TargetRow) (counted : Option ℕ) : Type 0 where
   pub wears : Wears old new
   pub puts : (h : CommandList) → IsValid h → Sees HoldsLedger old (ledger_of (records h))
       → Sees HoldsLedger new (ledger_of (step_records (records h) (PutTargets rows)))
-      × (HasCleanDisk new → HasRoom left (step_records (records h) (PutTargets rows)))
+      × (HasCleanDisk new → HasCounted counted (step_records (records h) (PutTargets rows)))
 
 pub none_put : (a : State) → PutsSoFar a a [] None
 none_put a = record { wears = omega arith; puts = λ h valid was. (was, λ clean. (limits_hold h valid).targets) }
 
-module _ (a b c : State) (rows : List TargetRow) (row : TargetRow) (k : ℕ) (below : k < length rows) (is : row ≡ get_or rows k row) (left : Option ℕ)
-    (so_far : PutsSoFar a b (take k rows) left) {E : Type 0} where
-  pub row_refuses : (refusal : Refusal) → PutsRow {E = E} b c row left (Ok (Err refusal)) → {F : Type 0} → PutsAll {E = F} a c rows (Ok (Some refusal))
+module _ (a b c : State) (rows : List TargetRow) (row : TargetRow) (k : ℕ) (below : k < length rows) (is : row ≡ get_or rows k row) (counted : Option ℕ)
+    (so_far : PutsSoFar a b (take k rows) counted) {E : Type 0} where
+  pub row_refuses : (refusal : Refusal) → PutsRow {E = E} b c row counted (Ok (Err refusal)) → {F : Type 0} → PutsAll {E = F} a c rows (Ok (Some refusal))
   row_refuses refusal next = record {
     wears = omega (arith, so_far.wears, next.wears);
     puts = λ h valid was clean.
@@ -187,7 +201,7 @@ module _ (a b c : State) (rows : List TargetRow) (row : TargetRow) (k : ℕ) (be
         subst (λ l. check r (PutTargets l) ≡ Some refusal) whole (over_quota r (take k rows) row (drop (k + 1) rows) why.1 ∙ ap Some (sym why.0));
   }
 
-  pub row_more : (then : Option ℕ) → PutsRow {E = E} b c row left (Ok (Ok then)) → PutsSoFar a c (take (k + 1) rows) then
+  pub row_more : (then : Option ℕ) → PutsRow {E = E} b c row counted (Ok (Ok then)) → PutsSoFar a c (take (k + 1) rows) then
   row_more then next = record {
     wears = omega (arith, so_far.wears, next.wears);
     puts = λ h valid was.
@@ -197,20 +211,20 @@ module _ (a b c : State) (rows : List TargetRow) (row : TargetRow) (k : ℕ) (be
         let same : with_row row (step_records r (PutTargets (take k rows))) ≡ step_records r (PutTargets (take (k + 1) rows)) = then_row (take k rows) row r
         ∙ ap (λ l. step_records r (PutTargets l)) (sym (one_more rows row k below is)) in (
           subst (λ (s : Records). Sees HoldsLedger c (ledger_of s)) same done.0,
-          λ clean. subst (λ (s : Records). HasRoom then s) same (done.1 clean (it.1 (omega (arith, clean, next.wears)))),
+          λ clean. subst (λ (s : Records). HasCounted then s) same (done.1 clean (it.1 (omega (arith, clean, next.wears)))),
         );
   }
 
-pub few_left : (left : Option ℕ) (r : Records) → HasRoom left r → length r.targets ≤ 10000
+pub few_left : (counted : Option ℕ) (r : Records) → HasCounted counted r → length r.targets ≤ 10000
 few_left None r few = few
-few_left (Some left) r room = omega (arith, room)
+few_left (Some count) r all = omega (arith, all.0, all.1)
 
-pub all_put : (a b : State) (rows : List TargetRow) (k : ℕ) (left : Option ℕ) → length rows ≤ k → PutsSoFar a b (take k rows) left → {E : Type 0}
+pub all_put : (a b : State) (rows : List TargetRow) (k : ℕ) (counted : Option ℕ) → length rows ≤ k → PutsSoFar a b (take k rows) counted → {E : Type 0}
     → PutsAll {E = E} a b rows (Ok None)
-all_put a b rows k left past so_far =
-    let all : PutsSoFar a b rows left = subst (λ l. PutsSoFar a b l left) (take_all k rows past) so_far in record {
+all_put a b rows k counted past so_far =
+    let all : PutsSoFar a b rows counted = subst (λ l. PutsSoFar a b l counted) (take_all k rows past) so_far in record {
       wears = all.wears;
       puts = λ h valid was.
           let it = all.puts h valid was in
-          (it.0, λ clean. within_quota (records h) rows (few_left left (step_records (records h) (PutTargets rows)) (it.1 clean)));
+          (it.0, λ clean. within_quota (records h) rows (few_left counted (step_records (records h) (PutTargets rows)) (it.1 clean)));
     }

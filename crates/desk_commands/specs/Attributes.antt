@@ -1,12 +1,14 @@
 -- What the attributes that a device gives come to.
 use Rattle.std.specs.Prelude.{◌≡◌, Bool, true, List, is_some}
 use Rattle.std.specs.List.{list_any}
-use Rattle.desk_records.specs.Targets.{attributed, attributes_of, keys_of, with_changed}
+use Rattle.campaign_core.specs.Checks.{IsAttributesView}
+use Rattle.campaign_core.specs.declared.checks.targets.AttributesView.{AttributesView}
+use Rattle.desk_records.specs.Targets.{are_sorted, attributed, attributes_of, keys_of, with_changed}
 use Rattle.rollout_machine.specs.ByteStrings.{with_words}
-use Rattle.rollout_machine.specs.Commands.{Bytes, Attribute}
+use Rattle.rollout_machine.specs.Commands.{Bytes, Attribute, Credential}
 use Rattle.rollout_machine.specs.Records.{Records}
 use Rattle.rollout_machine.specs.Targets.{Target, with_attributes}
-use Rattle.rollout_machine.specs.Verdicts.{target_of}
+use Rattle.rollout_machine.specs.Verdicts.{is_known, target_of}
 use Rattle.rollout_model.specs.Pairs.{is_same_attribute}
 
 -- one of the attributes has this key and this value
@@ -31,3 +33,8 @@ pub record GivesAttributes (id : Bytes) (had given : List Attribute) (r next : R
   pub is_there : is_some (target_of r id) ≡ true
   pub had_is : had ≡ attributes_of (target_of r id)
   pub next_is : next ≡ with_changed r id (attributed_with given)
+
+-- the view is of what a device gives, where it is known or not, and its target has these
+abbrev pub ViewsAttributes : Bool → List Attribute → List Attribute → AttributesView → Type 0
+ViewsAttributes known given had view = (device : Credential) (r : Records) → known ≡ is_known r device → had ≡ attributes_of (target_of r device.id)
+    → are_sorted r.targets ≡ true → IsAttributesView view device given r

@@ -1,6 +1,5 @@
 -- What an import of targets reads and writes.
-use Rattle.std.specs.Prelude.{◌≡◌, ◌≤◌, ◌+◌, ℕ, true, false, not, List, [], ◌∷◌, map}
-use Rattle.std.specs.Prelude.{filter, length, Option, Some, None, Result, Ok, Err, option_map, is_some, IfOk}
+use Rattle.std.specs.Prelude.{◌≡◌, ◌≤◌, ℕ, true, false, not, List, [], ◌∷◌, map, filter, length, Option, Some, None, Result, Ok, Err, option_map, is_some, IfOk}
 use Rattle.sqlite.specs.State.{State, HasCleanDisk}
 use Rattle.sql_calls.specs.Standing.{Wears, Sees}
 use Rattle.desk_records.specs.TargetRow.{stored_target}
@@ -77,14 +76,14 @@ row_ids rows = map (λ (row : TargetRow). row.id) rows
 abbrev pub ids_after : List TargetRow → Records → List Bytes
 ids_after rows r = with_words (row_ids rows) (ids_of r.targets)
 
--- the desk takes so many more targets; where they aren't counted yet, there are no more than it takes
-abbrev pub HasRoom : Option ℕ → Records → Type 0
-HasRoom None r = length r.targets ≤ target_limit
-HasRoom (Some left) r = length r.targets + left ≡ target_limit
+-- the desk has no more targets than it takes, and so many where they are counted
+abbrev pub HasCounted : Option ℕ → Records → Type 0
+HasCounted None r = length r.targets ≤ target_limit
+HasCounted (Some count) r = (count ≡ length r.targets) × (count ≤ target_limit)
 
--- counted, so many more
-abbrev pub LeavesRoom : Option ℕ → Records → ℕ → Type 0
-LeavesRoom left r room = HasRoom left r → HasRoom (Some room) r
+-- counted, so many
+abbrev pub CountsTargets : Option ℕ → Records → ℕ → Type 0
+CountsTargets counted r count = HasCounted counted r → HasCounted (Some count) r
 
 -- the row is of a target that isn't there, and the desk takes no more
 abbrev pub IsTooMany : TargetRow → Records → Type 0
@@ -95,14 +94,14 @@ with_row row r = step_records r (PutTargets (row ∷ []))
 
 -- One row is put, or it is of one target too many.
 abbrev pub PutsRowTo : State → State → TargetRow → Option ℕ → Result (Option ℕ) Refusal → Type 0
-PutsRowTo old new row left (Ok then) = (now : Records) → Sees HoldsLedger old (ledger_of now) → Sees HoldsLedger new (ledger_of (with_row row now))
-    × (HasCleanDisk new → HasRoom left now → HasRoom then (with_row row now))
-PutsRowTo old new row left (Err refusal) = (now : Records) → Sees HoldsLedger old (ledger_of now) → HasCleanDisk new → HasRoom left now
+PutsRowTo old new row counted (Ok then) = (now : Records) → Sees HoldsLedger old (ledger_of now) → Sees HoldsLedger new (ledger_of (with_row row now))
+    × (HasCleanDisk new → HasCounted counted now → HasCounted then (with_row row now))
+PutsRowTo old new row counted (Err refusal) = (now : Records) → Sees HoldsLedger old (ledger_of now) → HasCleanDisk new → HasCounted counted now
     → (refusal ≡ Quota) × IsTooMany row now
 
-pub record PutsRow {E : Type 0} (old new : State) (row : TargetRow) (left : Option ℕ) (result : Result (Result (Option ℕ) Refusal) E) : Type 0 where
+pub record PutsRow {E : Type 0} (old new : State) (row : TargetRow) (counted : Option ℕ) (result : Result (Result (Option ℕ) Refusal) E) : Type 0 where
   pub wears : Wears old new
-  pub puts : IfOk result (PutsRowTo old new row left)
+  pub puts : IfOk result (PutsRowTo old new row counted)
 
 -- all rows are put, at a list of accepted commands, or this refuses them
 abbrev pub PutsAllTo : State → State → List TargetRow → Option Refusal → Type 0

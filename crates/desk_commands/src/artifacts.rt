@@ -1,13 +1,12 @@
 //! Artifacts: adding one.
 
-ghost use Rattle.std.specs.Prelude.{◌≡◌, ◌≤◌, ◌+◌, ◌*◌, length, take, cond, Some, None};
+ghost use Rattle.std.specs.Prelude.{◌≡◌, ◌≤◌, ◌+◌, ◌*◌, length};
 ghost use Rattle.rollout_machine.specs.Commands.{AddArtifact};
 ghost use Rattle.rollout_machine.specs.Digests.{digest_of};
-ghost use Rattle.rollout_machine.specs.Objects.{artifact_shown};
-ghost use Rattle.rollout_machine.specs.Records.{artifact_from};
-ghost use Rattle.rollout_machine.specs.Verdicts.{first_refusal, verdict_row, wrong_digest};
+ghost use Rattle.rollout_machine.specs.Verdicts.{wrong_digest};
 ghost use Rattle.rollout_model.specs.Limits.{artifact_size_limit, piece_length};
-ghost use Rattle.desk_commands.specs.Additions.{AddsArtifact, AddsContents, ShowsNextArtifact, is_full};
+ghost use Rattle.campaign_core.specs.Checks.{IsArtifactView};
+ghost use Rattle.desk_commands.specs.Additions.{AddsArtifact, AddsContents};
 ghost use Rattle.desk_store.specs.Changing.{FindsIn, MakesIn, StaysIn};
 ghost use Rattle.desk_commands.specs.Changing.{StepsIn};
 ghost use Rattle.desk_reads.specs.AtLists.{FailsAtListsIn};
@@ -16,67 +15,11 @@ ghost use Rattle.desk_store.specs.Failing.{WritesIn};
 
 use crate::step::Step;
 use artifact_pieces::describe;
+use campaign_core::ArtifactView;
 use desk_store::{Fault, OpenChange};
-use rollout_model::limits::{ARTIFACT_LIMIT, MODULE_ARTIFACT_LIMIT, PIECE_LENGTH};
-use rollout_model::{Artifact, ArtifactNo, Contents, Digest, ModuleNo, Refusal, Reply, Upload};
+use rollout_model::limits::PIECE_LENGTH;
+use rollout_model::{Artifact, ArtifactNo, Contents, Digest, ModuleNo, Reply, Upload};
 use sqlite::Alter;
-
-/// Why the module takes no artifact of this name, whatever its contents.
-fn module_refusal<S: Alter>(
-    change: &mut OpenChange<'_, S>,
-    upload: &Upload,
-) -> Result<Option<Refusal>, Fault>
-    ensures stays { StaysIn S.Store change.old change.new result }
-    ensures reads { FindsIn S.Store change.old change.new result
-        (λ r refusal. refusal ≡ first_refusal (take 3 (verdict_row r (AddArtifact upload.now)))) }
-    ensures fails { FailsAtListsIn S.Store change.old change.new result }
-{
-    let last = change.read_last_module()?;
-    if upload.module_number.get() > last {
-        return Ok(Some(Refusal::NotFound));
-    }
-    if change.read_module_is_locked(upload.module_number)? {
-        return Ok(Some(Refusal::Locked));
-    }
-    if change.read_same_artifact(upload.module_number, &upload.filename)? {
-        return Ok(Some(Refusal::Exists));
-    }
-    Ok(None)
-}
-
-/// The number that the next artifact of a module gets, where there is room for one.
-fn next_number<S: Alter>(
-    change: &mut OpenChange<'_, S>,
-    module_number: ModuleNo,
-) -> Result<Option<ArtifactNo>, Fault>
-    ensures stays { StaysIn S.Store change.old change.new result }
-    ensures reads { FindsIn S.Store change.old change.new result
-        (λ r number. number ≡ cond (is_full module_number r) None (Some (length r.artifacts + 1))) }
-    ensures fails { FailsAtListsIn S.Store change.old change.new result }
-{
-    let of_module = change.read_module_artifacts(module_number)?;
-    if of_module.len() >= MODULE_ARTIFACT_LIMIT {
-        return Ok(None);
-    }
-    let last = change.read_last_artifact()?;
-    if last >= ARTIFACT_LIMIT {
-        return Ok(None);
-    }
-    Ok(Some(ArtifactNo::new(last + 1).unwrap()))
-}
-
-/// The artifact of an upload, once it has a number.
-fn artifact_of(number: ArtifactNo, upload: &Upload) -> Artifact
-    ensures { result ≡ artifact_shown number (artifact_from upload.now) }
-{
-    let described = describe(upload.contents.as_slice());
-    Artifact {
-        number,
-        filename: upload.filename,
-        size: described.size as u32,
-        digest: described.digest,
-    }
-}
 
 /// Whether an upload names a digest, and this is another.
 fn names_another(upload: &Upload, digest: &Digest) -> bool
@@ -88,28 +31,31 @@ fn names_another(upload: &Upload, digest: &Digest) -> bool
     }
 }
 
-/// The artifact that is to be added, or why it is refused.
-fn next_artifact<S: Alter>(
+/// What the verdict on an upload rests on.
+fn read_view<S: Alter>(
     change: &mut OpenChange<'_, S>,
     upload: &Upload,
-) -> Result<Result<Artifact, Refusal>, Fault>
+) -> Result<ArtifactView, Fault>
     ensures stays { StaysIn S.Store change.old change.new result }
-    ensures reads { FindsIn S.Store change.old change.new result (ShowsNextArtifact upload.now) }
+    ensures reads { FindsIn S.Store change.old change.new result (λ r view. IsArtifactView view upload.now r) }
     ensures fails { FailsAtListsIn S.Store change.old change.new result }
 {
-    match module_refusal(change, upload)? {
-        Some(refusal) => return Ok(Err(refusal)),
-        None => {}
-    }
-    let number = match next_number(change, upload.module_number)? {
-        Some(number) => number,
-        None => return Ok(Err(Refusal::Quota)),
-    };
-    let artifact = artifact_of(number, upload);
-    if names_another(upload, &artifact.digest) {
-        return Ok(Err(Refusal::WrongDigest));
-    }
-    Ok(Ok(artifact))
+    let last_module = change.read_last_module()?;
+    let locked = change.read_module_is_locked(upload.module_number)?;
+    let same = change.read_same_artifact(upload.module_number, &upload.filename)?;
+    let of_module = change.read_module_artifacts(upload.module_number)?;
+    let count = change.read_last_artifact()?;
+    let described = describe(upload.contents.as_slice());
+    Ok(ArtifactView {
+        misses_module: upload.module_number.get() > last_module,
+        locked,
+        same,
+        module_count: of_module.len(),
+        count,
+        wrong_digest: names_another(upload, &described.digest),
+        size: described.size as u32,
+        digest: described.digest,
+    })
 }
 
 /// Adds these bytes, piece by piece, to the contents of the last artifact, which have so many whole pieces before them.
@@ -160,9 +106,16 @@ pub(crate) fn add_artifact<S: Alter>(
     ensures steps { StepsIn S.Store change.old change.new (AddArtifact upload.now) result }
     ensures fails { FailsStepIn S.Store change.old change.new result }
 {
-    let artifact = match next_artifact(change, upload)? {
-        Ok(artifact) => artifact,
+    let view = read_view(change, upload)?;
+    let added = match campaign_core::add_artifact(&view) {
+        Ok(added) => added,
         Err(refusal) => return Ok(Step::Refused(refusal)),
+    };
+    let artifact = Artifact {
+        number: added.number,
+        filename: upload.filename,
+        size: added.size,
+        digest: added.digest,
     };
     write_whole(change, upload.module_number, &artifact, &upload.contents)?;
     Ok(Step::Accepted(Reply::ArtifactAdded(artifact)))

@@ -6,17 +6,17 @@ ghost use Rattle.std.specs.List.{list_any};
 ghost use Rattle.desk_records.specs.Targets.{in_byte_order, keys_of};
 ghost use Rattle.rollout_machine.specs.ByteStrings.{contains_word};
 ghost use Rattle.rollout_machine.specs.Commands.{Attribute, PutAttributes};
-ghost use Rattle.desk_commands.specs.Attributes.{GivesAttribute, GivesAttributes, has_attribute, keys_after};
+ghost use Rattle.desk_commands.specs.Attributes.{GivesAttribute, GivesAttributes, ViewsAttributes, has_attribute, keys_after};
 ghost use Rattle.desk_store.specs.Changing.{MakesIn, StaysIn};
 ghost use Rattle.desk_commands.specs.Changing.{StepsIn};
 ghost use Rattle.desk_commands.specs.Failures.{FailsStepIn};
 ghost use Rattle.desk_store.specs.Failing.{WritesIn};
 
 use crate::step::Step;
+use campaign_core::AttributesView;
 use desk_reads::knows_device;
 use desk_store::{Fault, OpenChange};
-use rollout_model::limits::ATTRIBUTE_LIMIT;
-use rollout_model::{Attribute, ConfigData, ControllerId, Credential, Refusal, Reply, Word};
+use rollout_model::{Attribute, ConfigData, ControllerId, Credential, Reply, Word};
 use sqlite::Alter;
 
 /// Whether one of the attributes is of this key.
@@ -52,6 +52,17 @@ fn count_new(given: &[Attribute], had: &[Attribute]) -> usize
         }
     }
     added
+}
+
+/// What the verdict on attributes rests on, where the device is known or not, and its target has these.
+fn view_of(known: bool, given: &[Attribute], had: &[Attribute]) -> AttributesView
+    ensures { ViewsAttributes known given.now had.now result }
+{
+    AttributesView {
+        misses_device: !known,
+        count: had.len(),
+        added: count_new(given, had),
+    }
 }
 
 /// Gives a target an attribute, where it had these and was given others since.
@@ -100,14 +111,14 @@ pub(crate) fn put_attributes<S: Alter>(
     ensures steps { StepsIn S.Store change.old change.new (PutAttributes device.now given.now) result }
     ensures fails { FailsStepIn S.Store change.old change.new result }
 {
-    if !knows_device(change, device)? {
-        return Ok(Step::Refused(Refusal::Unauthorized));
-    }
+    let known = knows_device(change, device)?;
     let attributes = change.read_target_attributes(&device.id)?;
     let had = attributes.as_slice();
     let given = given.as_slice();
-    if had.len().saturating_add(count_new(given, had)) > ATTRIBUTE_LIMIT {
-        return Ok(Step::Refused(Refusal::Quota));
+    let view = view_of(known, given, had);
+    match campaign_core::put_attributes(&view) {
+        Ok(()) => {}
+        Err(refusal) => return Ok(Step::Refused(refusal)),
     }
     give_attributes(change, &device.id, given, had)?;
     Ok(Step::Accepted(Reply::Done))

@@ -1,36 +1,31 @@
 //! Software modules: adding one.
 
 ghost use Rattle.rollout_machine.specs.Commands.{AddModule};
-ghost use Rattle.desk_commands.specs.Additions.{GetsModuleNumber};
+ghost use Rattle.campaign_core.specs.Checks.{IsModuleView};
 ghost use Rattle.desk_store.specs.Changing.{FindsIn, StaysIn};
 ghost use Rattle.desk_commands.specs.Changing.{StepsIn};
 ghost use Rattle.desk_reads.specs.AtLists.{FailsAtListsIn};
 ghost use Rattle.desk_commands.specs.Failures.{FailsStepIn};
 
 use crate::step::Step;
+use campaign_core::ModuleView;
 use desk_store::{Fault, OpenChange};
-use rollout_model::limits::MODULE_LIMIT;
-use rollout_model::{Module, ModuleLabel, ModuleNo, Refusal, Reply};
+use rollout_model::{Module, ModuleLabel, Reply};
 use sqlite::Alter;
 use std::alloc::Global;
 
-/// The number that a module gets, or why it is refused.
-fn next_module<S: Alter>(
+/// What the verdict on a module rests on.
+fn read_view<S: Alter>(
     change: &mut OpenChange<'_, S>,
     label: &ModuleLabel,
-) -> Result<Result<ModuleNo, Refusal>, Fault>
+) -> Result<ModuleView, Fault>
     ensures stays { StaysIn S.Store change.old change.new result }
-    ensures reads { FindsIn S.Store change.old change.new result (GetsModuleNumber label.now) }
+    ensures reads { FindsIn S.Store change.old change.new result (λ r view. IsModuleView view label.now r) }
     ensures fails { FailsAtListsIn S.Store change.old change.new result }
 {
-    if change.read_same_module(label)? {
-        return Ok(Err(Refusal::Exists));
-    }
-    let last = change.read_last_module()?;
-    if last >= MODULE_LIMIT {
-        return Ok(Err(Refusal::Quota));
-    }
-    Ok(Ok(ModuleNo::new(last + 1).unwrap()))
+    let same = change.read_same_module(label)?;
+    let count = change.read_last_module()?;
+    Ok(ModuleView { same, count })
 }
 
 /// Adds a module. The memory of its reply is taken before anything is written.
@@ -43,8 +38,9 @@ pub(crate) fn add_module<S: Alter>(
     ensures steps { StepsIn S.Store change.old change.new (AddModule label.now) result }
     ensures fails { FailsStepIn S.Store change.old change.new result }
 {
-    let number = match next_module(change, label)? {
-        Ok(number) => number,
+    let view = read_view(change, label)?;
+    let number = match campaign_core::add_module(&view) {
+        Ok(added) => added.number,
         Err(refusal) => return Ok(Step::Refused(refusal)),
     };
     let locked = change.read_module_is_locked(number)?;

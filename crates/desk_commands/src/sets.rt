@@ -4,7 +4,8 @@ ghost use Rattle.std.specs.Prelude.{◌≡◌, ◌≤◌, ◌+◌, true, length,
 ghost use Rattle.rollout_model.specs.Rules.{is_module_list};
 ghost use Rattle.std.specs.List.{list_any};
 ghost use Rattle.rollout_machine.specs.Commands.{AddSet};
-ghost use Rattle.desk_commands.specs.Additions.{AddsModules, AddsWhole, GetsSetNumber, LacksModule};
+ghost use Rattle.campaign_core.specs.Checks.{IsSetView};
+ghost use Rattle.desk_commands.specs.Additions.{AddsModules, AddsWhole, LacksModule};
 ghost use Rattle.desk_store.specs.Changing.{FindsIn, MakesIn, StaysIn};
 ghost use Rattle.desk_commands.specs.Changing.{StepsIn};
 ghost use Rattle.desk_reads.specs.AtLists.{FailsAtListsIn};
@@ -12,9 +13,9 @@ ghost use Rattle.desk_commands.specs.Failures.{FailsStepIn};
 ghost use Rattle.desk_store.specs.Failing.{WritesIn};
 
 use crate::step::Step;
+use campaign_core::SetView;
 use desk_store::{Fault, OpenChange};
-use rollout_model::limits::SET_LIMIT;
-use rollout_model::{DistributionSet, ModuleList, ModuleNo, Refusal, Reply, SetLabel, SetNo};
+use rollout_model::{DistributionSet, ModuleList, ModuleNo, Reply, SetLabel, SetNo};
 use sqlite::Alter;
 use std::alloc::Global;
 
@@ -39,26 +40,23 @@ fn lacks_a_module<S: Alter>(
     Ok(any_past(modules, last))
 }
 
-/// The number that a set gets, or why it is refused.
-fn next_set<S: Alter>(
+/// What the verdict on a set rests on.
+fn read_view<S: Alter>(
     change: &mut OpenChange<'_, S>,
     label: &SetLabel,
-) -> Result<Result<SetNo, Refusal>, Fault>
+) -> Result<SetView, Fault>
     ensures stays { StaysIn S.Store change.old change.new result }
-    ensures reads { FindsIn S.Store change.old change.new result (GetsSetNumber label.now) }
+    ensures reads { FindsIn S.Store change.old change.new result (λ r view. IsSetView view label.now r) }
     ensures fails { FailsAtListsIn S.Store change.old change.new result }
 {
-    if lacks_a_module(change, &label.modules)? {
-        return Ok(Err(Refusal::NotFound));
-    }
-    if change.read_same_set(&label.name, &label.version)? {
-        return Ok(Err(Refusal::Exists));
-    }
-    let last = change.read_last_set()?;
-    if last >= SET_LIMIT {
-        return Ok(Err(Refusal::Quota));
-    }
-    Ok(Ok(SetNo::new(last + 1).unwrap()))
+    let misses_module = lacks_a_module(change, &label.modules)?;
+    let same = change.read_same_set(&label.name, &label.version)?;
+    let count = change.read_last_set()?;
+    Ok(SetView {
+        misses_module,
+        same,
+        count,
+    })
 }
 
 /// Adds these modules to the last set, which has so many before them.
@@ -104,8 +102,9 @@ pub(crate) fn add_set<S: Alter>(
     ensures steps { StepsIn S.Store change.old change.new (AddSet label.now) result }
     ensures fails { FailsStepIn S.Store change.old change.new result }
 {
-    let number = match next_set(change, label)? {
-        Ok(number) => number,
+    let view = read_view(change, label)?;
+    let number = match campaign_core::add_set(&view) {
+        Ok(added) => added.number,
         Err(refusal) => return Ok(Step::Refused(refusal)),
     };
     let Ok(shown) = label.copy(alloc) else {

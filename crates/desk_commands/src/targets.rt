@@ -2,7 +2,7 @@
 
 ghost use Rattle.std.specs.Prelude.{◌≡◌, ◌<◌, None, Some, IfNone, IfSome, length};
 ghost use Rattle.rollout_machine.specs.Commands.{PutTargets};
-ghost use Rattle.desk_commands.specs.Imports.{AddsTags, DropsTags, LeavesRoom, PutsAll, PutsOver, PutsRow, Renames, Retags};
+ghost use Rattle.desk_commands.specs.Imports.{AddsTags, CountsTargets, DropsTags, PutsAll, PutsOver, PutsRow, Renames, Retags};
 ghost use Rattle.desk_store.specs.Changing.{FindsIn, MakesIn, StaysIn, seen_in};
 ghost use Rattle.desk_commands.specs.Changing.{StepsIn};
 ghost use Rattle.desk_commands.specs.Failures.{ChangesRow, FailsStepIn, FailsWriting, FailsWritingIn, TakesRow, TakesRows};
@@ -10,8 +10,8 @@ ghost use Rattle.desk_reads.specs.AtLists.{FailsAtListsIn};
 ghost use Rattle.desk_store.specs.Failing.{WritesIn};
 
 use crate::step::Step;
+use campaign_core::ImportView;
 use desk_store::{Fault, OpenChange, StoredTarget};
-use rollout_model::limits::TARGET_LIMIT;
 use rollout_model::{ControllerId, Refusal, Reply, Tags, TargetRow, TargetRows, Word};
 use sqlite::Alter;
 
@@ -112,45 +112,49 @@ fn change_row<S: Alter>(
     retag(change, &row.id, &row.tags)
 }
 
-/// How many more targets the desk takes. They are counted where that isn't known yet.
-fn room_left<S: Alter>(change: &mut OpenChange<'_, S>, left: Option<u32>) -> Result<u32, Fault>
+/// How many targets there are. They are counted where that isn't known yet.
+fn count_targets<S: Alter>(
+    change: &mut OpenChange<'_, S>,
+    counted: Option<u32>,
+) -> Result<u32, Fault>
     ensures stays { StaysIn S.Store change.old change.new result }
-    ensures reads { FindsIn S.Store change.old change.new result (LeavesRoom left) }
+    ensures reads { FindsIn S.Store change.old change.new result (CountsTargets counted) }
     ensures fails { FailsAtListsIn S.Store change.old change.new result }
 {
-    match left {
+    match counted {
         Some(known) => return Ok(known),
         None => {}
     }
     let count = change.read_target_count()?;
-    Ok(TARGET_LIMIT.saturating_sub(count))
+    Ok(count)
 }
 
-/// Puts one row: a new target, or the name, the digest and the tags of the one that is there. Gives how many more targets the desk takes
-/// then, where that is known;
-/// a new target is refused where it takes no more.
+/// Puts one row: a new target, or the name, the digest and the tags of the one that is there. Gives how many targets there are then, where
+/// they are counted; a new one is refused where there would be too many.
 fn put_row<S: Alter>(
     change: &mut OpenChange<'_, S>,
     row: &TargetRow,
-    left: Option<u32>,
+    counted: Option<u32>,
 ) -> Result<Result<Option<u32>, Refusal>, Fault>
     ensures stays { StaysIn S.Store change.old change.new result }
-    ensures puts { PutsRow (seen_in S.Store change.old) (seen_in S.Store change.new) row.now left result }
+    ensures puts { PutsRow (seen_in S.Store change.old) (seen_in S.Store change.new) row.now counted result }
     ensures fails { FailsWriting S.Store (TakesRow row.now) change.old change.new result }
 {
     let found = change.read_target(&row.id)?;
     match &found {
         Some(stored) => {
             change_row(change, row, stored)?;
-            Ok(Ok(left))
+            Ok(Ok(counted))
         }
         None => {
-            let room = room_left(change, left)?;
-            if room == 0 {
-                return Ok(Err(Refusal::Quota));
+            let count = count_targets(change, counted)?;
+            let count_after = count.saturating_add(1);
+            match campaign_core::put_targets(&ImportView { count_after }) {
+                Ok(()) => {}
+                Err(refusal) => return Ok(Err(refusal)),
             }
             add_row(change, row)?;
-            Ok(Ok(Some(room - 1)))
+            Ok(Ok(Some(count_after)))
         }
     }
 }
@@ -166,10 +170,10 @@ fn put_rows<S: Alter>(
     ensures puts { PutsAll (seen_in S.Store change.old) (seen_in S.Store change.new) rows.now result }
     ensures fails { FailsWriting S.Store (TakesRows rows.now) change.old change.new result }
 {
-    let mut left = None;
+    let mut counted = None;
     for row in rows {
-        match put_row(change, row, left)? {
-            Ok(then) => left = then,
+        match put_row(change, row, counted)? {
+            Ok(then) => counted = then,
             Err(refusal) => return Ok(Some(refusal)),
         }
     }

@@ -32,7 +32,6 @@ use Rattle.rollout_model.specs.declared.rollout.Offer.{Offer}
 use Rattle.rollout_model.specs.declared.group_rule.GroupRule.{GroupRule}
 use Rattle.desk_records.specs.declared.number_row.PlacedNumber.{PlacedNumber}
 use Rattle.desk_records.specs.declared.number_row.LastNumber.{LastNumber}
-use Rattle.desk_records.specs.declared.table_columns.Column.TheVariants as rule
 
 -- ---- module_label
 

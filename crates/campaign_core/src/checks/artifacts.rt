@@ -16,7 +16,7 @@ pub struct ArtifactView {
     /// Whether an artifact of the same name is in its module.
     pub same: bool,
     /// How many artifacts are in its module.
-    pub module_count: u32,
+    pub module_count: usize,
     /// How many artifacts are there, in whatever module.
     pub count: u32,
     /// Whether a digest was named and the contents have another.
@@ -46,7 +46,7 @@ fn number_after(count: u32) -> ArtifactNo
 }
 
 /// The artifact that is added, or the first refusal that applies.
-pub(crate) fn add_artifact(view: &ArtifactView) -> Result<NewArtifact, Refusal>
+pub fn add_artifact(view: &ArtifactView) -> Result<NewArtifact, Refusal>
     ensures { MatchResult result
         (λ a. (artifact_refusal view.now ≡ None) × (a ≡ record { number = view.now.count + 1; size = view.now.size; digest = view.now.digest }))
         (λ refusal. artifact_refusal view.now ≡ Some refusal) }
@@ -60,7 +60,7 @@ pub(crate) fn add_artifact(view: &ArtifactView) -> Result<NewArtifact, Refusal>
     if view.same {
         return Err(Refusal::Exists);
     }
-    if view.module_count as usize >= MODULE_ARTIFACT_LIMIT || view.count >= ARTIFACT_LIMIT {
+    if view.module_count >= MODULE_ARTIFACT_LIMIT || view.count >= ARTIFACT_LIMIT {
         return Err(Refusal::Quota);
     }
     if view.wrong_digest {

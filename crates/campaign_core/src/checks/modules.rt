@@ -30,7 +30,7 @@ fn number_after(count: u32) -> ModuleNo
 }
 
 /// The module that is added, or the first refusal that applies.
-pub(crate) fn add_module(view: &ModuleView) -> Result<NewModule, Refusal>
+pub fn add_module(view: &ModuleView) -> Result<NewModule, Refusal>
     ensures { MatchResult result
         (λ m. (module_refusal view.now ≡ None) × (m.number ≡ view.now.count + 1))
         (λ refusal. module_refusal view.now ≡ Some refusal) }

@@ -32,7 +32,7 @@ fn number_after(count: u32) -> SetNo
 }
 
 /// The set that is added, or the first refusal that applies.
-pub(crate) fn add_set(view: &SetView) -> Result<NewSet, Refusal>
+pub fn add_set(view: &SetView) -> Result<NewSet, Refusal>
     ensures { MatchResult result
         (λ s. (set_refusal view.now ≡ None) × (s.number ≡ view.now.count + 1))
         (λ refusal. set_refusal view.now ≡ Some refusal) }

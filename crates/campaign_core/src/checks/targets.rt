@@ -21,7 +21,7 @@ pub struct TagView {
     /// Whether it has the tag.
     pub same: bool,
     /// How many tags it has.
-    pub count: u32,
+    pub count: usize,
 }
 
 /// What untagging a target rests on.
@@ -36,12 +36,14 @@ pub struct UntagView {
 pub struct AttributesView {
     /// Whether no target has the device's id and the digest of its token.
     pub misses_device: bool,
-    /// How many attributes the target of this id has with the new ones.
-    pub count_after: u32,
+    /// How many attributes the target of this id has.
+    pub count: usize,
+    /// How many keys are given that it hasn't.
+    pub added: usize,
 }
 
 /// Nothing, or the first refusal that applies.
-pub(crate) fn put_targets(view: &ImportView) -> Result<(), Refusal>
+pub fn put_targets(view: &ImportView) -> Result<(), Refusal>
     ensures { MatchResult result (λ _. import_refusal view.now ≡ None) (λ refusal. import_refusal view.now ≡ Some refusal) }
 {
     if view.count_after > TARGET_LIMIT {
@@ -51,20 +53,20 @@ pub(crate) fn put_targets(view: &ImportView) -> Result<(), Refusal>
 }
 
 /// Nothing, or the first refusal that applies.
-pub(crate) fn tag(view: &TagView) -> Result<(), Refusal>
+pub fn tag(view: &TagView) -> Result<(), Refusal>
     ensures { MatchResult result (λ _. tag_refusal view.now ≡ None) (λ refusal. tag_refusal view.now ≡ Some refusal) }
 {
     if view.misses_target {
         return Err(Refusal::NotFound);
     }
-    if !view.same && view.count as usize >= TAG_LIMIT {
+    if !view.same && view.count >= TAG_LIMIT {
         return Err(Refusal::Quota);
     }
     Ok(())
 }
 
 /// Nothing, or the first refusal that applies.
-pub(crate) fn untag(view: &UntagView) -> Result<(), Refusal>
+pub fn untag(view: &UntagView) -> Result<(), Refusal>
     ensures { MatchResult result (λ _. untag_refusal view.now ≡ None) (λ refusal. untag_refusal view.now ≡ Some refusal) }
 {
     if view.misses_target {
@@ -74,13 +76,13 @@ pub(crate) fn untag(view: &UntagView) -> Result<(), Refusal>
 }
 
 /// Nothing, or the first refusal that applies.
-pub(crate) fn put_attributes(view: &AttributesView) -> Result<(), Refusal>
+pub fn put_attributes(view: &AttributesView) -> Result<(), Refusal>
     ensures { MatchResult result (λ _. attributes_refusal view.now ≡ None) (λ refusal. attributes_refusal view.now ≡ Some refusal) }
 {
     if view.misses_device {
         return Err(Refusal::Unauthorized);
     }
-    if view.count_after as usize > ATTRIBUTE_LIMIT {
+    if view.count.saturating_add(view.added) > ATTRIBUTE_LIMIT {
         return Err(Refusal::Quota);
     }
     Ok(())

@@ -1,5 +1,5 @@
-use Rattle.desk_commands.proofs.Answering.{sym, ap, ◌∙◌, finds_as, known, ledger_found, rule_at, said_of, none_said, never, never_missing, reads_end}
-use Rattle.desk_commands.proofs.Answering.{last_said, ok_or_some}
+use Rattle.desk_commands.proofs.Answering.{sym, ap, ◌∙◌, finds_as, known, ledger_found, rule_at, said_of, none_said, never, never_missing, reads_end, last_said}
+use Rattle.desk_commands.proofs.Answering.{ok_or_some}
 use Rattle.desk_commands.proofs.progress.read_last_rule.Goals as goal
 
 pub returns-then-last-eq0-clause-reads : goal.returns-then-last-eq0-clause-reads

@@ -1,11 +1,15 @@
-use Rattle.desk_commands.proofs.Answering.{accepted, refused, set_added, whole_is_step}
+use Rattle.desk_commands.proofs.Answering.{◌+◌, ◌∙◌, ap, accepted, refused, set_added, set_row, whole_is_step}
 use Rattle.desk_commands.proofs.sets.add_set.Goals as goal
 
 pub returns-in-Err-clause-steps : goal.returns-in-Err-clause-steps
-returns-in-Err-clause-steps g c = refused (rw c.in-Err.is at c.in_ok-number.ensures.reads) (λ r is. is)
+returns-in-Err-clause-steps g c = refused c.in_ok-view.ensures.reads (λ r is. set_row r c.args.label.now c.in_ok-view.view is ∙ c.in-Err.ensures)
 
 pub returns-clause-steps : goal.returns-clause-steps
 returns-clause-steps g c =
-    accepted (rw c.in-Ok.is at c.in_ok-number.ensures.reads)
-    _ (λ r is. whole_is_step c.in-Ok.number c.args.label.now r is.1) c.in_ok-write_whole.ensures.writes
-    _ (λ r is. (is.0, set_added r c.args.label.now c.in-Ok-copy.shown c.in-Ok.number is.1 c.in-Ok-copy.ensures))
+    let label = c.args.label.now in
+    accepted c.in_ok-view.ensures.reads
+    _ (λ r is. whole_is_step c.in-Ok.added.number label r (c.in-Ok.ensures.1 ∙ ap (λ n. n + 1) is.count)) c.in_ok-write_whole.ensures.writes
+    _ (λ r is. (
+      set_row r label c.in_ok-view.view is ∙ c.in-Ok.ensures.0,
+      set_added r label c.in-Ok-copy.shown c.in-Ok.added.number (c.in-Ok.ensures.1 ∙ ap (λ n. n + 1) is.count) c.in-Ok-copy.ensures,
+    ))

@@ -1,6 +1,6 @@
-use Rattle.desk_commands.proofs.Answering.{◌≡◌, ◌≤◌, None, Some, refl, arith, both_found, found_held, PutsOver, ChangesRow, asked_at, writes_end, room_kept}
-use Rattle.desk_commands.proofs.Answering.{room_taken, row_put, row_refused}
-use Rattle.desk_commands.proofs.PutLemmas.{too_many}
+use Rattle.desk_commands.proofs.Answering.{None, Some, refl, arith, both_found, found_held, PutsOver, ChangesRow, asked_at, writes_end, count_kept, row_put}
+use Rattle.desk_commands.proofs.Answering.{row_refused}
+use Rattle.desk_commands.proofs.PutLemmas.{count_grown, too_many}
 use Rattle.desk_commands.proofs.targets.put_row.Goals as goal
 
 pub returns-in-Some-clause-puts : goal.returns-in-Some-clause-puts
@@ -8,22 +8,23 @@ returns-in-Some-clause-puts g c =
     let row = c.args.row.now in
     row_put (found_held (λ db r holds. holds.sorted) (rw c.in-Some.is at c.in_ok-found.ensures.reads))
     (PutsOver (Some c.in-Some.stored) row) (λ r is. (is.1, refl)) _ c.in_ok-change_row-in-Some.ensures.writes
-    (λ r is room. room_kept row c.args.left r c.in-Some.stored is.0 is.1 room)
+    (λ r is counted. count_kept row c.args.counted r c.in-Some.stored is.0 is.1 counted)
 
-pub returns-then-room-eq0-clause-puts : goal.returns-then-room-eq0-clause-puts
-returns-then-room-eq0-clause-puts g c =
-    let row = c.args.row.now in
-    let none : c.in_ok-room-in-None.room ≡ 0 = omega (arith, c.if-room-eq0.true) in
-    row_refused (both_found (rw c.in-None.is at c.in_ok-found.ensures.reads) c.in_ok-room-in-None.ensures.reads)
-    (λ r is room. (refl, too_many row r c.in_ok-room-in-None.room none is.0 (is.1 room)))
+pub returns-in-Err-clause-puts : goal.returns-in-Err-clause-puts
+returns-in-Err-clause-puts g c =
+    row_refused (both_found (rw c.in-None.is at c.in_ok-found.ensures.reads) c.in_ok-count-in-None.ensures.reads)
+    (λ r is counted. too_many c.args.row.now r c.in_ok-count-in-None.count c.saturating_add-count_after.result
+    (λ few. omega (arith, few, c.saturating_add-count_after.ensures))
+    is.0 (is.1 counted) c.in-Err.refusal c.in-Err.ensures)
 
 pub returns-clause-puts : goal.returns-clause-puts
 returns-clause-puts g c =
     let row = c.args.row.now in
-    let some : 1 ≤ c.in_ok-room-in-None.room = omega (arith, c.if-room-eq0.false) in
-    row_put (both_found (rw c.in-None.is at c.in_ok-found.ensures.reads) c.in_ok-room-in-None.ensures.reads)
+    row_put (both_found (rw c.in-None.is at c.in_ok-found.ensures.reads) c.in_ok-count-in-None.ensures.reads)
     (PutsOver None row) (λ r is. (is.0, refl)) _ c.in_ok-add_row-in-None.ensures.writes
-    (λ r is room. room_taken row r c.in_ok-room-in-None.room some is.0 (is.1 room))
+    (λ r is counted. count_grown row r c.in_ok-count-in-None.count c.saturating_add-count_after.result
+    (λ few. omega (arith, few, c.saturating_add-count_after.ensures))
+    is.0 (is.1 counted) c.in-Ok.ensures)
 
 pub returns-in_err-change_row-in-Some-clause-fails : goal.returns-in_err-change_row-in-Some-clause-fails
 returns-in_err-change_row-in-Some-clause-fails g c =
