@@ -1,8 +1,8 @@
 -- The names of other modules that the proofs here cite, passed on from one place. Declares nothing.
 pub use Rattle.std.proofs.Common.{◌≡◌, ℕ, zero, suc, ◌+◌, ◌-◌, ◌*◌, ◌%◌, ◌^◌, ◌<◌, ◌≤◌, min, Bool, true, false, cond, not, ◌||◌, ◌≢◌, ◌⊎◌, List, [], ◌∷◌}
 pub use Rattle.std.proofs.Common.{◌++◌, map, length, get_or, take, drop, set, ℤ, pos, ◌<ℤ◌, IfOk, IfErr, if◌then◌else◌, IsErr, IsTrue, ◌==◌, slice_get}
-pub use Rattle.std.proofs.Common.{slice_index, slice_index_or, Some, None, Ok, Err, codes, filter, Option, Result, MatchOption, option_map, find, unwrap_or}
-pub use Rattle.std.proofs.Common.{sym, refl, ap, ◌∙◌, subst, ap₂, inl, inr, zero-add, arith, get_or-take}
+pub use Rattle.std.proofs.Common.{slice_index, slice_index_or, Some, None, Ok, Err, codes, filter, Option, Result, option_map, find, unwrap_or, sym, refl, ap}
+pub use Rattle.std.proofs.Common.{◌∙◌, subst, ap₂, inl, inr, zero-add, arith, get_or-take}
 pub use Rattle.std.proofs.Math.Logic.{∥∥₁_elim, ∥∥₁_map}
 pub use Rattle.std.proofs.lemmas.Bool.{and_parts, both_ways, cases_Bool, cases_eq, eqb-true, or_parts, true≢false}
 pub use Rattle.std.proofs.lemmas.List.{drop_all, drop_more, length-map, length-take, nil_from_length, take-append-drop, take_all, take_more}
@@ -16,7 +16,7 @@ pub use Rattle.sqlite.specs.Held.{Held, state}
 pub use Rattle.sqlite.specs.Recovery.{Image}
 pub use Rattle.sqlite.specs.Schema.{Schema}
 pub use Rattle.sqlite.specs.Source.TheVariants.{Values}
-pub use Rattle.sqlite.specs.State.{CommitsBy, CommitsShowing, HasCleanDisk, IsLive, IsUnchanged, Opens, Runs, State, Survives, Writes, store_error, text_of}
+pub use Rattle.sqlite.specs.State.{CommitsBy, HasCleanDisk, IsLive, Opens, Runs, State, Survives, Writes, store_error, text_of}
 pub use Rattle.sqlite.specs.Table.{Table}
 pub use Rattle.sqlite.specs.Term.{Term, col, lit}
 pub use Rattle.sqlite.specs.Tree.{Trees}
@@ -43,9 +43,9 @@ pub use Rattle.sql_calls.proofs.Ends.{begin_is, commit_is, rollback_is}
 pub use Rattle.sql_calls.proofs.FrameEnds.{begins, fails_to_begin, gives_up, still_holds}
 pub use Rattle.sql_calls.proofs.Inserts.{Inserted, given_rows, inserts, uncounted}
 pub use Rattle.sql_calls.proofs.Leavings.{crash_kept, first_shown, first_unchanged, never_commits_inside, never_shows_inside, none_shown, runs_plain}
-pub use Rattle.sql_calls.proofs.Leavings.{shows_as, stays_inside, unchanged_by}
+pub use Rattle.sql_calls.proofs.Leavings.{shows_as, stays_inside}
 pub use Rattle.sql_calls.proofs.NumberedRows.{cast_int, cast_null}
-pub use Rattle.sql_calls.proofs.Selects.{passes, shown_of, simple, simple_rows}
+pub use Rattle.sql_calls.proofs.Selects.{passes, shown_of, simple_rows}
 pub use Rattle.sql_calls.specs.Apart.{HasNoForeignKey}
 pub use Rattle.sql_calls.specs.Calls.{RunsText, TakesFirst, TakesTo}
 pub use Rattle.sql_calls.specs.KeyIndexes.{ComparesBytes}
@@ -58,7 +58,7 @@ pub use Rattle.sql_front.specs.Free.{LeavesFree}
 pub use Rattle.sql_front.specs.Stands.{Stands}
 pub use Rattle.desk_records.proofs.EachPlace.{each_place}
 pub use Rattle.desk_records.proofs.Meaning.{desk_query, desk_terms, get_desk_is, put_desk_is, set_version_is, set_version_query, version_values}
-pub use Rattle.desk_records.proofs.MeaningWords.{asked_at, at_key, changed_at, is_equal, means_of, put_at}
+pub use Rattle.desk_records.proofs.MeaningWords.{asked_at, changed_at, is_equal, means_of, put_at}
 pub use Rattle.desk_records.proofs.Places.{among, is_among, is_named, place_named, place_or_other, same_elsewhere, same_places}
 pub use Rattle.desk_records.proofs.Readable.{at_newest, from_newest, has_desk, is_known, newest_is_readable, of_all, one_numbered}
 pub use Rattle.desk_records.specs.Codes.{flag}
@@ -66,8 +66,7 @@ pub use Rattle.desk_records.specs.Holds.{AreRowsOf, Content, HoldsLedger, HoldsR
 pub use Rattle.desk_records.specs.Holds.{content_of, desk_row, ledger_of}
 pub use Rattle.desk_records.specs.Readable.{HoldsAt, HoldsPlace, HoldsReadable}
 pub use Rattle.desk_records.specs.Rollouts.{rule_row, rules_from, told_rollout}
-pub use Rattle.desk_records.specs.Schema.{Desk, Numbers, Offers, Place, Rollouts, Rules, desk_names, desk_table, name_of, offer_table, places, rule_table}
-pub use Rattle.desk_records.specs.Schema.{table_at}
+pub use Rattle.desk_records.specs.Schema.{Desk, Numbers, Offers, Place, Rules, desk_names, desk_table, name_of, offer_table, places, rule_table, table_at}
 pub use Rattle.desk_records.specs.Versions.{IsEven, IsTellable, IsUnnumbered, later_than, newest, version_number, places_at, table_count_of}
 pub use Rattle.desk_records.specs.declared.rollout_texts.TheConstants.{GET_ROLLOUT, LAST_ROLLOUT, PUT_RULE}
 pub use Rattle.desk_records.specs.declared.texts.TheConstants.{GET_DESK, PUT_DESK, SET_VERSION}

@@ -8,7 +8,8 @@ use Rattle.sql_calls.specs.Calls.{capped, failures_in, failures_of, fails}
 use Rattle.sql_calls.specs.declared.calls.Calls.{Calls}
 use Rattle.sql_calls.specs.declared.fault.Fault.TheVariants as fault
 use Rattle.desk_records.specs.Holds.{Ledger}
-use Rattle.desk_opening.specs.Counting.{Counts, CountsBy, CountsOpening, FailedBefore, FailsAt, FailsGiven, HasCall, HasFailed, IsStore, TellsStore}
+use Rattle.desk_store.specs.Blaming.{HasFailed}
+use Rattle.desk_opening.specs.Counting.{Counts, CountsBy, CountsOpening, FailedBefore, FailsAt, FailsGiven, HasCall, IsStore, TellsStore}
 
 more_failed : (failed before now : ℕ) → failed ≤ before → now ≡ capped (before + 1) → HasFailed failed now
 more_failed failed before now least is = go (nat_lt before (2 ^ 64 - 1)) refl

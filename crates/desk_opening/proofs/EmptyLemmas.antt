@@ -1,9 +1,10 @@
 -- A database without tables is made a desk, and refused for a failure alone.
 use Rattle.desk_opening.proofs.Common.{◌≡◌, ℕ, Bool, zero, suc, List, [], Some, None, Err, slice_get, refl, sym, ap, subst, ◌∙◌, State, HasCleanDisk}
-use Rattle.desk_opening.proofs.Common.{HoldIn, IsAtRest, Schema, Table, Stands, LeavesFree, HoldsStage, Free, OpenFault, NotDesk, NewerVersion}
+use Rattle.desk_opening.proofs.Common.{IsAtRest, Schema, Table, Stands, LeavesFree, HoldsStage, Free, OpenFault, NotDesk, NewerVersion}
 use Rattle.desk_opening.proofs.Common.{Memory, Store, OpensDesk, IsSettled, IsFailure, desk_names}
 use Rattle.sqlite.specs.Steps.{IsEmpty}
 use Rattle.desk_opening.proofs.BlankLemmas.{nothing_is_used}
+use Rattle.desk_opening.proofs.Steps.{settled_at_rest}
 
 empty_is_free : (s : State) → IsEmpty s → LeavesFree s.now.schema desk_names
 empty_is_free s e = nothing_is_used s.now.schema (ap (λ (x : Schema). x.tables) e.2) (ap (λ (x : Schema). x.indexes) e.2) (ap (λ (x : Schema). x.views) e.2)
@@ -11,18 +12,8 @@ empty_is_free s e = nothing_is_used s.now.schema (ap (λ (x : Schema). x.tables)
 
 pub empty_at_rest : (s : State) → IsSettled s → IsEmpty s → IsAtRest HoldsStage s Free
 empty_at_rest s settled e =
-    let opens = e.0 in
-    let sound = (e.1 opens.is_open).1 in
     let free : LeavesFree s.now.schema desk_names = empty_is_free s e in
-    let kept : HoldsStage s.committed Free = (sound, subst (λ d. LeavesFree d.schema desk_names) opens.clean free) in
-    record {
-      mode = opens.autocommit;
-      held = record {
-        ended = λ _ _. opens.clean;
-        kept_holds = λ _. kept;
-        crash = λ db left. subst (λ t. HoldIn HoldsStage t Free) (sym (settled db opens.is_open left)) (s.committed.schema, kept);
-      };
-    }
+    settled_at_rest HoldsStage s Free settled e.0 ((e.1 e.0.is_open).1, subst (λ d. LeavesFree d.schema desk_names) e.0.clean free)
 
 no_item : {X : Type 0} (at : ℕ) → slice_get {X = X} [] at ≡ None
 no_item zero = refl

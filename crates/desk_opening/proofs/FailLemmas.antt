@@ -8,46 +8,27 @@ use Rattle.sql_calls.specs.Standing.{Sees}
 use Rattle.sql_calls.specs.declared.calls.Calls.{Calls}
 use Rattle.sql_calls.specs.declared.fault.Fault.TheVariants.{Broken, Memory, Store}
 use Rattle.sql_calls.proofs.Finding.{first_finds}
-use Rattle.rollout_machine.specs.ByteStrings.{item_numbered}
 use Rattle.desk_records.specs.LedgerSteps.{with_rules}
 use Rattle.desk_records.specs.Modules.{IsLastRow}
 use Rattle.desk_records.specs.RowFaults.{IfRowsBroken}
 use Rattle.desk_records.specs.declared.rollout_row.StoredRollout.{StoredRollout}
-use Rattle.desk_records.proofs.RolloutMeaning.{rollout_names}
+use Rattle.desk_records.proofs.RolloutMeaning.{get_rollout_is, last_rollout_is, rollout_names}
 use Rattle.desk_records.proofs.RolloutRecords.{gets_rollout, lasts_rollout}
+use Rattle.desk_store.specs.Rows.{HasNoNumber}
+use Rattle.desk_store.proofs.Known.{in_ledgers, known}
 use Rattle.desk_opening.specs.Counting.{AreReadable, Counts, FailsGiven, HasReadable, IsRolloutReadable, TellsStore}
-use Rattle.desk_opening.specs.Filling.{GivenBare, GivenRules, HasNoNumber, LacksRollout}
-use Rattle.desk_opening.proofs.FillLemmas.{ending, getting, within}
+use Rattle.desk_opening.specs.Filling.{GivenBare, GivenRules, LacksRollout}
+use Rattle.desk_opening.proofs.FillLemmas.{within}
 use Rattle.desk_opening.proofs.RowLemmas.{within_row}
 
 never_memory : {A : Type 0} → TellsStore Memory → A
 never_memory told = absurd (told refl)
 
-abbrev done : Result (Unit {0}) Fault
-done = Ok tt
-
--- ---- the number of the last rollout
+-- ---- what is read
 
 number_kept : (row : Option Row) (n : ℕ) → n < 2 ^ 32 → IsLastRow n row → HasNoNumber row → ⊥
 number_kept None n few is none = none
 number_kept (Some row) n few is none = none (within_row row 0 (Int (pos n)) is (λ no. cc)) n few is
-
-module _ {S : Type 0} {g : Ghosts S} {old new : Calls S} where
-  pub last_fails : (row : Option Row) → TakesFirst (state g old.conn) (state g new.conn) LAST_ROLLOUT.now [] (Ok row) → Counts {A = Option Row} old new (Ok row)
-      → (out : Result ℕ Fault) → IfErr out (λ fault. IfRowsBroken fault (HasNoNumber row)) → FailsGiven g (λ l. length l.records.rollouts < 2 ^ 32) old new out
-  last_fails row h counts (Ok n) why = record { to = counts.to }
-  last_fails row h counts (Err Memory) why = record { to = λ failed was l sees few clean. record { before = counts.to failed was; call = never_memory } }
-  last_fails row h counts (Err Store) why = absurd why
-  last_fails row h counts (Err Broken) why =
-      let found = first_finds HoldsLedger (λ (l : Ledger). l) LAST_ROLLOUT.now [] (state g old.conn) (state g new.conn)
-      (λ l (u : Unit {0}). IsLastRow (length l.records.rollouts) row) ending (λ db r holds at given. tt) row h done
-      (λ db l holds shown. lasts_rollout db l holds (codes "number" ∷ []) row shown) in
-      record {
-        to = λ failed was l sees few clean.
-            record { before = counts.to failed was; call = λ is. absurd (number_kept row (length l.records.rollouts) few ((found.finds l sees).1 clean) why) };
-      }
-
--- ---- a rollout
 
 row_kept : (row : Option Row) (x : RolloutRecord) → row ≡ Some (told_rollout x) → IsRolloutReadable x → LacksRollout row → ⊥
 row_kept row x is readable lacks =
@@ -55,23 +36,29 @@ row_kept row x is readable lacks =
     let both : None ≡ Some broken.first = sym readable ∙ broken.is in
     absurd cc
 
-module _ {S : Type 0} {g : Ghosts S} {old new : Calls S} (number : ℕ) (least : 1 ≤ number) where
-  pub rollout_fails : (row : Option Row) → TakesFirst (state g old.conn) (state g new.conn) GET_ROLLOUT.now (Int (pos number) ∷ []) (Ok row)
-      → Counts {A = Option Row} old new (Ok row)
+module _ {S : Type 0} {g : Ghosts S} {old new : Calls S} {row : Option Row} (counts : Counts {A = Option Row} old new (Ok row)) where
+  -- what was found leaves no broken row
+  found_fails : {A Why : Type 0} {Given : Ledger → Type 0}
+      → FindsLedger {E = Fault} (state g old.conn) (state g new.conn) (Ok (tt {0})) (λ l u. Given l → Why → ⊥)
+      → (out : Result A Fault) → IfErr out (λ fault. IfRowsBroken fault Why) → FailsGiven g Given old new out
+  found_fails found (Ok x) why = record { to = counts.to }
+  found_fails found (Err Memory) why = record { to = λ failed was l sees given clean. record { before = counts.to failed was; call = never_memory } }
+  found_fails found (Err Store) why = absurd why
+  found_fails found (Err Broken) why =
+      record { to = λ failed was l sees given clean. record { before = counts.to failed was; call = λ is. absurd ((found.finds l sees).1 clean given why) } }
+
+  pub last_fails : TakesFirst (state g old.conn) (state g new.conn) LAST_ROLLOUT.now [] (Ok row) → (out : Result ℕ Fault)
+      → IfErr out (λ fault. IfRowsBroken fault (HasNoNumber row)) → FailsGiven g (λ l. length l.records.rollouts < 2 ^ 32) old new out
+  last_fails h = found_fails (first_finds HoldsLedger (λ (l : Ledger). l) LAST_ROLLOUT.now [] (state g old.conn) (state g new.conn)
+      (λ l u. length l.records.rollouts < 2 ^ 32 → HasNoNumber row → ⊥) (in_ledgers (known last_rollout_is)) (λ db r holds at given. tt) row h (Ok tt)
+      (λ db l holds shown few. number_kept row (length l.records.rollouts) few (lasts_rollout db l holds (codes "number" ∷ []) row shown)))
+
+  pub rollout_fails : (number : ℕ) → 1 ≤ number → TakesFirst (state g old.conn) (state g new.conn) GET_ROLLOUT.now (Int (pos number) ∷ []) (Ok row)
       → (out : Result StoredRollout Fault) → IfErr out (λ fault. IfRowsBroken fault (LacksRollout row)) → FailsGiven g (HasReadable number) old new out
-  rollout_fails row h counts (Ok x) why = record { to = counts.to }
-  rollout_fails row h counts (Err Memory) why = record { to = λ failed was l sees given clean. record { before = counts.to failed was; call = never_memory } }
-  rollout_fails row h counts (Err Store) why = absurd why
-  rollout_fails row h counts (Err Broken) why =
-      let found = first_finds HoldsLedger (λ (l : Ledger). l) GET_ROLLOUT.now (Int (pos number) ∷ []) (state g old.conn) (state g new.conn)
-      (λ l (u : Unit {0}). row ≡ option_map told_rollout (item_numbered l.records.rollouts number)) getting
-      (λ db r holds at given. tt) row h done (λ db l holds shown. gets_rollout db l holds rollout_names number least row shown) in
-      record {
-        to = λ failed was l sees given clean. record {
-          before = counts.to failed was;
-          call = λ is. absurd (row_kept row given.rollout ((found.finds l sees).1 clean ∙ ap (option_map told_rollout) given.is_there) given.readable why);
-        };
-      }
+  rollout_fails number least h = found_fails (first_finds HoldsLedger (λ (l : Ledger). l) GET_ROLLOUT.now (Int (pos number) ∷ []) (state g old.conn)
+      (state g new.conn) (λ l u. HasReadable number l → LacksRollout row → ⊥) (in_ledgers (known get_rollout_is)) (λ db r holds at given. tt) row h (Ok tt)
+      (λ db l holds shown given. row_kept row given.rollout
+      (gets_rollout db l holds rollout_names number least row shown ∙ ap (option_map told_rollout) given.is_there) given.readable))
 
 -- ---- all of them
 

@@ -1,95 +1,55 @@
 -- Reads and writes of a change that fills the tables of the newest version.
-use Rattle.desk_opening.proofs.Common.{◌≡◌, ◌<◌, ◌≤◌, ◌⊎◌, inl, inr, ◌++◌, ℕ, zero, suc, ◌+◌, List, [], ◌∷◌, length, map, codes, pos, slice_get, set, Option}
-use Rattle.desk_opening.proofs.Common.{Some, None, option_map, Ok, Err, Result, IsErr, IfOk, MatchOption, Bool, if◌then◌else◌, refl, sym, ap, subst, ◌∙◌}
-use Rattle.desk_opening.proofs.Common.{arith, Int, Row, Insert, Select, Values, Database, IsDatabase, State, Stands, Fault, RunsText, TakesFirst, Known}
-use Rattle.desk_opening.proofs.Common.{Knows, inserts, simple, GroupRule, even_rules, RolloutRecord, HoldsLedger, Ledger, ledger_of, rule_row, told_rollout}
-use Rattle.desk_opening.proofs.Common.{Rollouts, Rules, name_of, rule_table, table_at, GET_ROLLOUT, LAST_ROLLOUT, PUT_RULE, Version, One, Two, Three, at_key}
-use Rattle.desk_opening.proofs.Common.{FillsLater, FillsRollout, FindsLedger, IsOfNumber, MakesLedger, Stays, WritesCopies, WritesRules, WritesUpTo, no_rules}
-use Rattle.desk_opening.proofs.Common.{rules_up_to, HoldsStage, Standing, same_some, asked_at, put_at}
-use Rattle.sql_calls.proofs.Composing.{found_then_makes, makes_as, makes_nothing, makes_then}
-use Rattle.sql_calls.proofs.Finding.{ShowsFirst, first_finds, run_makes}
-use Rattle.rollout_model.specs.Rules.{is_group_count, is_percentage}
-use Rattle.rollout_machine.specs.ByteStrings.{item_numbered}
+use Rattle.desk_opening.proofs.Common.{◌≡◌, ◌<◌, ◌≤◌, ◌⊎◌, inl, inr, ◌++◌, ℕ, zero, suc, ◌+◌, List, [], ◌∷◌, length, map, pos, slice_get, set, Option, Some}
+use Rattle.desk_opening.proofs.Common.{None, option_map, Ok, Err, Result, IsErr, IfOk, refl, sym, ap, subst, ◌∙◌, arith, Int, Row, Database, IsDatabase}
+use Rattle.desk_opening.proofs.Common.{State, Stands, Fault, RunsText, TakesFirst, Known, Knows, inserts, GroupRule, even_rules, RolloutRecord, Ledger}
+use Rattle.desk_opening.proofs.Common.{ledger_of, Rules, name_of, rule_table, table_at, GET_ROLLOUT, PUT_RULE, Version, One, Two, Three, FillsLater}
+use Rattle.desk_opening.proofs.Common.{FillsRollout, FindsLedger, IsOfNumber, MakesLedger, Stays, WritesCopies, WritesRules, WritesUpTo, no_rules}
+use Rattle.desk_opening.proofs.Common.{rules_up_to, HoldsStage, Standing, same_some, put_at, Changes, HasCleanDisk, Leaves, Stage, TakesTo, crash_kept}
+use Rattle.desk_opening.proofs.Common.{never_shows_inside}
+use Rattle.sql_calls.proofs.Composing.{finds_as, found_then_makes, makes_as, makes_nothing, makes_then}
+use Rattle.sql_calls.proofs.Framing.{took}
 use Rattle.rollout_machine.specs.Ranges.{each_from}
 use Rattle.rollout_machine.proofs.Lists.{each_from_more, length_each}
 use Rattle.desk_records.specs.LedgerSteps.{AddsRule, set_numbered, with_rules}
-use Rattle.desk_records.specs.Modules.{IsLastRow}
-use Rattle.desk_records.specs.Codes.{coded_in}
 use Rattle.desk_records.specs.declared.rollout_row.StoredRollout.{StoredRollout}
-use Rattle.desk_records.proofs.NumberColumns.{ranged_is}
-use Rattle.desk_records.proofs.PartWrites.{adds_rule}
-use Rattle.desk_records.proofs.RolloutMeaning.{get_rollout_is, last_rollout_is, last_rollout_query, put_rule_is, rollout_columns, rollout_names, rule_terms}
-use Rattle.desk_records.proofs.RolloutRecords.{gets_rollout, lasts_rollout}
+use Rattle.desk_records.proofs.RolloutMeaning.{put_rule_is, rule_terms}
 use Rattle.desk_records.specs.ReadRows.{IsStoredRolloutRow}
+use Rattle.desk_records.specs.RolloutRow.{stored_rollout}
+use Rattle.desk_records.specs.Tables.{HoldsTables}
+use Rattle.desk_store.proofs.Known.{tables_know}
+use Rattle.desk_store.proofs.RolloutCalls.{rollout_read}
+use Rattle.desk_store.specs.Rows.{IsReadAs}
 use Rattle.desk_opening.proofs.RuleLists.{all_even, all_said, got_set, none_said, none_yet, one_more, set_same, set_twice}
-use Rattle.desk_opening.proofs.Steps.{leaves_of, read_fails, read_step, step, step_fails}
-
--- ---- what the tables understand, whatever rows they have
-
-abbrev knows_last : (db : Database) → HoldsStage db Standing → Known db.schema LAST_ROLLOUT.now
-knows_last db h = let spot = h.1.spot Rollouts in
-    record {
-      command = Select (record { lets = []; body = last_rollout_query spot.tree }) (codes "number" ∷ []);
-      means = (asked_at last_rollout_is).at db.schema spot.at spot.tree (h.1.stands Rollouts);
-    }
-
-abbrev knows_get : (db : Database) → HoldsStage db Standing → Known db.schema GET_ROLLOUT.now
-knows_get db h = let spot = h.1.spot Rollouts in
-    record {
-      command = Select (record { lets = []; body = simple spot.tree (at_key 0 0 ∷ []) rollout_columns }) rollout_names;
-      means = (asked_at get_rollout_is).at db.schema spot.at spot.tree (h.1.stands Rollouts);
-    }
-
-abbrev knows_put : (db : Database) → HoldsStage db Standing → Known db.schema PUT_RULE.now
-knows_put db h = let spot = h.1.spot Rules in
-    record { command = Insert spot.at (Values rule_terms 6); means = (put_at put_rule_is).at db.schema spot.at spot.tree (h.1.stands Rules) }
-
--- .. where they hold a ledger
-abbrev pub ending : Knows HoldsLedger LAST_ROLLOUT.now
-ending db l h = let spot = h.spot Rollouts in
-    record {
-      command = Select (record { lets = []; body = last_rollout_query spot.tree }) (codes "number" ∷ []);
-      means = (asked_at last_rollout_is).at db.schema spot.at spot.tree (h.stands Rollouts);
-    }
-
-abbrev pub getting : Knows HoldsLedger GET_ROLLOUT.now
-getting db l h = let spot = h.spot Rollouts in
-    record {
-      command = Select (record { lets = []; body = simple spot.tree (at_key 0 0 ∷ []) rollout_columns }) rollout_names;
-      means = (asked_at get_rollout_is).at db.schema spot.at spot.tree (h.stands Rollouts);
-    }
-
-abbrev putting : Knows HoldsLedger PUT_RULE.now
-putting db l h = let spot = h.spot Rules in
-    record { command = Insert spot.at (Values rule_terms 6); means = (put_at put_rule_is).at db.schema spot.at spot.tree (h.stands Rules) }
+use Rattle.desk_opening.proofs.Steps.{goes_on, step, step_fails}
 
 -- ---- what a statement leaves
 
-module _ {A E : Type 0} (sql : List ℕ) (params : Row) (old new : State) where
-  stays_unread : (fault : Fault) → TakesFirst old new sql params (Err fault) → (out : Result A E) → IsErr out → Stays old new out
-  stays_unread fault h (Ok a) bad = absurd cc
-  stays_unread fault h (Err e) bad = record { wears = h.survives.clean; stays = λ kept was. read_fails sql params old new Standing kept was fault h }
+module _ (sql : List ℕ) (params : Row) (old new : State) {taken : Result (Option Row) Fault} (h : TakesFirst old new sql params taken) where
+  -- whatever a query answers, a crash leaves what it would have left before
+  crash_left : (kept : Stage) → Changes old Standing kept → Leaves new kept
+  crash_left kept was = record {
+    crash = λ clean db left.
+        let before : HasCleanDisk old = omega (arith, clean, h.survives.clean) in
+        (was.spoiled.spoiled before).crash db
+        (crash_kept old new _ clean (λ db. never_shows_inside sql params old db (was.sees.sees before).mode) h.survives db left);
+  }
 
-  stays_read : (HoldsStage old.now Standing → Known old.now.schema sql) → (row : Option Row) → TakesFirst old new sql params (Ok row) → (out : Result A E)
-      → Stays old new out
-  stays_read knows row h (Ok a) = record { wears = h.survives.clean; stays = λ kept was. read_step sql params old new Standing kept was knows row h }
-  stays_read knows row h (Err e) =
-      record { wears = h.survives.clean; stays = λ kept was. leaves_of new Standing kept (read_step sql params old new Standing kept was knows row h) }
+  pub stays_unread : {A E : Type 0} (out : Result A E) → IsErr out → Stays old new out
+  stays_unread (Ok a) bad = absurd cc
+  stays_unread (Err e) bad = record { wears = h.survives.clean; stays = crash_left }
 
-pub last_unread : {A E : Type 0} (old new : State) (fault : Fault) → TakesFirst old new LAST_ROLLOUT.now [] (Err fault) → (out : Result A E) → IsErr out
-    → Stays old new out
-last_unread = stays_unread LAST_ROLLOUT.now []
-
-pub last_stays : {A E : Type 0} (old new : State) (row : Option Row) → TakesFirst old new LAST_ROLLOUT.now [] (Ok row) → (out : Result A E) → Stays old new out
-last_stays old new = stays_read LAST_ROLLOUT.now [] old new (knows_last old.now)
-
-module _ {A E : Type 0} (number : ℕ) (old new : State) where
-  pub rollout_unread : (fault : Fault) → TakesFirst old new GET_ROLLOUT.now (Int (pos number) ∷ []) (Err fault) → (out : Result A E) → IsErr out
-      → Stays old new out
-  rollout_unread = stays_unread GET_ROLLOUT.now (Int (pos number) ∷ []) old new
-
-  pub rollout_stays : (row : Option Row) → TakesFirst old new GET_ROLLOUT.now (Int (pos number) ∷ []) (Ok row) → (out : Result A E) → Stays old new out
-  rollout_stays = stays_read GET_ROLLOUT.now (Int (pos number) ∷ []) old new (knows_get old.now)
+  pub stays_read : Knows HoldsTables sql → (row : Option Row) → taken ≡ Ok row → {A E : Type 0} (out : Result A E) → Stays old new out
+  stays_read knows row is (Err e) = record { wears = h.survives.clean; stays = crash_left }
+  stays_read knows row is (Ok a) = record {
+    wears = h.survives.clean;
+    stays = λ kept was. goes_on old new Standing Standing kept was h.survives.clean (λ clean.
+        let first = was.sees.sees (omega (arith, clean, h.survives.clean)) in
+        let known = knows old.now first.now_holds.0 first.now_holds.1 in
+        let it = took HoldsTables sql params old new knows row known (subst (TakesTo old new sql params) is (h.answers clean)) in (
+          record { mode = it.0.mode ∙ first.mode; is_open = it.0.is_open; now_holds = subst (λ d. HoldsStage d Standing) (sym it.0.now_is) first.now_holds },
+          it.0.committed_is,
+        )) (crash_left kept was).crash;
+  }
 
 -- a write of rows leaves the tables where they are
 standing_still : (old new : Database) → HoldsStage old Standing → new.schema ≡ old.schema → IsDatabase new → HoldsStage new Standing
@@ -102,6 +62,9 @@ standing_still old new h same sound = (
     rows = λ p. refl;
   },
 )
+
+abbrev knows_put : (db : Database) → HoldsStage db Standing → Known db.schema PUT_RULE.now
+knows_put db h = tables_know (put_at put_rule_is) db h.0 h.1
 
 pub put_stays : (params : Row) (old new : State) (out : Result (Unit {0}) Fault) → RunsText old new PUT_RULE.now params out → Stays old new out
 put_stays params old new (Err fault) h = record {
@@ -126,58 +89,10 @@ stays_then a b c first (Err e) second =
 
 -- ---- what is read
 
-one_last : (row : Option Row) (m n : ℕ) → IsLastRow m row → IsLastRow n row → m ≡ n
-one_last None m n h k = h ∙ sym k
-one_last (Some row) m n h k = let both : Int (pos m) ≡ Int (pos n) = sym h ∙ k in cc
-
-pub last_found : (old new : State) (row : Option Row) → TakesFirst old new LAST_ROLLOUT.now [] (Ok row) → (out : Result ℕ Fault)
-    → IfOk out (λ n. IsLastRow n row) → FindsLedger old new out (λ l last. last ≡ length l.records.rollouts)
-last_found old new row h out is = first_finds HoldsLedger (λ (l : Ledger). l) LAST_ROLLOUT.now [] old new (λ l last. last ≡ length l.records.rollouts) ending
-    (λ db r holds at given. tt) row h out (answers out is)
-  where
-    answers : (it : Result ℕ Fault) → IfOk it (λ n. IsLastRow n row)
-        → IfOk it (λ n. (db : Database) (l : Ledger) (holds : HoldsLedger db l) → ShowsFirst (ending db l holds).command db [] row
-        → n ≡ length l.records.rollouts)
-    answers (Err e) is = tt
-    answers (Ok n) is = λ db l holds shown. one_last row n (length l.records.rollouts) is (lasts_rollout db l holds (codes "number" ∷ []) row shown)
-
-told_number : (fits : ℕ → Bool) (n m : ℕ) → coded_in (λ k. if fits k then Some k else None) (Int (pos n)) ≡ Some m → m ≡ n
-told_number fits n m h = let both : Int (pos n) ≡ Int (pos m) = ranged_is fits (Int (pos n)) m h in cc
-
-found_one : (number : ℕ) (l : Ledger) (row : Option Row) (found : StoredRollout) (x : Option RolloutRecord) → item_numbered l.records.rollouts number ≡ x
-    → row ≡ option_map told_rollout x → MatchOption row ⊥ (λ row. IsStoredRolloutRow row found) → IsOfNumber number l found
-found_one number l None found x at is reads = absurd reads
-found_one number l (Some row) found None at is reads = absurd cc
-found_one number l (Some row) found (Some x) at is reads =
-    let same : row ≡ told_rollout x = cc in
-    let told = subst (λ r. IsStoredRolloutRow r found) same reads in
-    record {
-      rollout = x;
-      is_there = at;
-      groups = told_number is_group_count x.plan.groups.count found.plan.groups told.groups;
-      success = told_number is_percentage x.plan.success found.plan.success told.success;
-      error = told_number is_percentage x.plan.error found.plan.error told.error;
-    }
-
 pub rollout_found : (number : ℕ) → 1 ≤ number → (old new : State) (row : Option Row) → TakesFirst old new GET_ROLLOUT.now (Int (pos number) ∷ []) (Ok row)
-    → (out : Result StoredRollout Fault) → IfOk out (λ found. MatchOption row ⊥ (λ row. IsStoredRolloutRow row found))
-    → FindsLedger old new out (IsOfNumber number)
-rollout_found number least old new row h out is = first_finds HoldsLedger (λ (l : Ledger). l) GET_ROLLOUT.now (Int (pos number) ∷ []) old new
-    (IsOfNumber number) getting (λ db r holds at given. tt) row h out (answers out is)
-  where
-    answers : (it : Result StoredRollout Fault) → IfOk it (λ found. MatchOption row ⊥ (λ row. IsStoredRolloutRow row found))
-        → IfOk it (λ found. (db : Database) (l : Ledger) (holds : HoldsLedger db l) → ShowsFirst (getting db l holds).command db (Int (pos number) ∷ []) row
-        → IsOfNumber number l found)
-    answers (Err e) is = tt
-    answers (Ok found) is = λ db l holds shown. found_one number l row found (item_numbered l.records.rollouts number) refl
-        (gets_rollout db l holds rollout_names number least row shown) is
-
--- ---- what is written
-
-pub rule_put : (number group : ℕ) (rule : GroupRule) (old new : State) (out : Result (Unit {0}) Fault)
-    → RunsText old new PUT_RULE.now (rule_row number group rule) out → MakesLedger old new out (AddsRule number group rule)
-rule_put number group rule old new out h = run_makes HoldsLedger (λ (l : Ledger). l) PUT_RULE.now (rule_row number group rule) old new
-    (AddsRule number group rule) putting out h (λ now next is holds count w. (w, adds_rule number group rule old new _ count now next holds is w))
+    → (out : Result StoredRollout Fault) → IfOk out (λ found. IsReadAs IsStoredRolloutRow (Some found) row) → FindsLedger old new out (IsOfNumber number)
+rollout_found number least old new row h (Err e) is = record { wears = h.survives.clean; finds = tt }
+rollout_found number least old new row h (Ok found) is = finds_as (rollout_read number least old new row h (Ok (Some found)) is) (λ l same. same)
 
 -- ---- of one rollout
 
@@ -218,13 +133,9 @@ module _ (number : ℕ) (found : StoredRollout) where
 
   copies_of : (l next : Ledger) → IsOfNumber number l found → FillsRollout number l next → WritesCopies number found.plan.groups copy l next
   copies_of l next is fills =
-      let same : is.rollout ≡ fills.rollout = same_some is.rollout fills.rollout (sym is.is_there ∙ fills.is_there) in
-      let its : even_rules is.rollout.plan ≡ copies number copy found.plan.groups = rw (is.groups, is.success, is.error) refl in
-      record {
-        none = fills.none;
-        next_is = fills.next_is ∙ ap (λ rules. with_rules l (set_numbered l.rules number rules))
-            (ap (λ (x : RolloutRecord). even_rules x.plan) (sym same) ∙ its);
-      }
+      let same : found ≡ stored_rollout fills.rollout = same_some found (stored_rollout fills.rollout) (is ∙ ap (option_map stored_rollout) fills.is_there) in
+      let its : even_rules fills.rollout.plan ≡ copies number copy found.plan.groups = rw same refl in
+      record { none = fills.none; next_is = fills.next_is ∙ ap (λ rules. with_rules l (set_numbered l.rules number rules)) its }
 
   pub rollout_filled : (a b c : State) {E : Type 0} → FindsLedger {E = E} a b (Ok found) (IsOfNumber number) → (out : Result (Unit {0}) Fault)
       → MakesLedger b c out (WritesCopies number found.plan.groups copy) → MakesLedger a c out (FillsRollout number)

@@ -2,8 +2,8 @@
 use Rattle.desk_opening.proofs.Common.{◌≡◌, ◌⊎◌, inl, inr, ℕ, ◌+◌, Bool, cond, false, Some, ap, List, [], ◌∷◌, map, ◌∙◌, refl, Ok, Err, Result, IfOk, sym}
 use Rattle.desk_opening.proofs.Common.{subst, arith, ∥∥₁_elim, Trees, Schema, Table, Image, HoldsDatabase, AreFoundIn, IsNothing, IsBlankAs, file_state, Held}
 use Rattle.desk_opening.proofs.Common.{State, HasCleanDisk, Opens, IsLive, AllZip, position_from, Row, Text, IsSound, IsViewRow, same_name, is_used, Stands}
-use Rattle.desk_opening.proofs.Common.{Has, HoldIn, IsAtRest, Rests, still_holds, LeavesFree, Records, desk_names, HoldsAt, HoldsPlace, HoldsReadable, Version}
-use Rattle.desk_opening.proofs.Common.{Database, name_of, later_than, places_at, HoldsStage, Free, told, OpenFault, OpensDesk, HasDesk, HasNoDesk, HasRow}
+use Rattle.desk_opening.proofs.Common.{Has, HoldIn, Rests, still_holds, LeavesFree, Records, desk_names, HoldsAt, HoldsPlace, HoldsReadable, Version}
+use Rattle.desk_opening.proofs.Common.{name_of, later_than, places_at, HoldsStage, Free, told, OpenFault, OpensDesk, HasDesk, HasNoDesk, HasRow}
 use Rattle.desk_opening.proofs.Common.{IsFailure, IsNewerRow, FindsTo, IsSettled, Reopens, RefusesOpened, BeginsPlain, HoldsDesk, HoldsDeskAt, HoldsNone}
 use Rattle.desk_opening.proofs.Common.{HoldsNoDesk, HasNewer, IsOpenable, UsesNoName}
 use Rattle.std.proofs.Math.Bool.{Bool-set}
@@ -23,6 +23,7 @@ use Rattle.sql_calls.proofs.Schemas.{same_indexes, same_tables}
 use Rattle.desk_opening.proofs.BlankLemmas.{nothing_is_unused}
 use Rattle.desk_opening.proofs.Tables.{all_kept}
 use Rattle.desk_opening.proofs.HeldLemmas.{held_fails, free_fails}
+use Rattle.desk_opening.proofs.Steps.{settled_at_rest}
 
 -- ---- whichever schema an open finds
 
@@ -72,35 +73,6 @@ at_over v z trees r sound (s, h) =
 any_over : (z : Schema) (trees : Trees) (r : Records) → IsSound z trees → HoldIn HoldsReadable trees r → HoldsReadable (record { schema = z; trees = trees }) r
 any_over z trees r sound (s, (v, h)) = (v, at_over v z trees r sound (s, h))
 
--- ---- a connection that was just opened
-
-at_rest : (Holds : Database → Records → Type 0)
-    → ((z : Schema) (trees : Trees) (r : Records) → IsSound z trees → HoldIn Holds trees r → Holds (record { schema = z; trees = trees }) r)
-    → (s : State) (r : Records) → IsSettled s → Opens s → IsLive s → HoldIn Holds s.committed.trees r → IsAtRest Holds s r
-at_rest Holds over s r settled opens live held =
-    let kept : Holds s.committed r = over s.committed.schema s.committed.trees r (live opens.is_open).1 held in
-    record {
-      mode = opens.autocommit;
-      held = record {
-        ended = λ _ _. opens.clean;
-        kept_holds = λ _. kept;
-        crash = λ db left. subst (λ t. HoldIn Holds t r) (sym (settled db opens.is_open left)) held;
-      };
-    }
-
-free_at_rest : (s : State) → IsSettled s → Opens s → IsLive s → UsesNoName s.committed.trees → IsAtRest HoldsStage s Free
-free_at_rest s settled opens live none =
-    let sound = (live opens.is_open).1 in
-    let kept : HoldsStage s.committed Free = (sound, none s.committed.schema sound) in
-    record {
-      mode = opens.autocommit;
-      held = record {
-        ended = λ _ _. opens.clean;
-        kept_holds = λ _. kept;
-        crash = λ db left. subst (λ t. HoldIn HoldsStage t Free) (sym (settled db opens.is_open left)) (s.committed.schema, kept);
-      };
-    }
-
 -- ---- what was found
 
 none_is_prop : (db : Trees) → IsProp (UsesNoName db)
@@ -120,16 +92,22 @@ module _ (image : Image) (old : State) (opened : HasCleanDisk old → Opens old 
     (reads : HasCleanDisk old → AreFoundIn image old.committed.trees) (settled : IsSettled old) where
   rests : (r : Records) → HoldsDesk HoldsDatabase image r → Rests HoldsReadable old r
   rests r has clean = let it = opened clean in
-      at_rest HoldsReadable any_over old r settled it.0 it.1 (found_records image old.committed.trees (holds clean) (λ t. HoldIn HoldsReadable t r) has)
+      settled_at_rest HoldsReadable old r settled it.0 (any_over old.committed.schema old.committed.trees r (it.1 it.0.is_open).1
+      (found_records image old.committed.trees (holds clean) (λ t. HoldIn HoldsReadable t r) has))
 
   rests_at : (v : Version) (r : Records) → HoldsDeskAt HoldsDatabase v image r → Rests (HoldsAt v) old r
   rests_at v r has clean = let it = opened clean in
-      at_rest (HoldsAt v) (at_over v) old r settled it.0 it.1 (found_records image old.committed.trees (holds clean) (λ t. HoldIn (HoldsAt v) t r) has)
+      settled_at_rest (HoldsAt v) old r settled it.0 (at_over v old.committed.schema old.committed.trees r (it.1 it.0.is_open).1
+      (found_records image old.committed.trees (holds clean) (λ t. HoldIn (HoldsAt v) t r) has))
 
   rests_free : HoldsNone HoldsDatabase image → Rests HoldsStage old Free
   rests_free none clean = let it = opened clean in
-      free_at_rest old settled it.0 it.1
-      (found_none image old.committed.trees (holds clean) (λ nothing. nothing_is_unused image old.committed.trees nothing (reads clean)) none)
+      let sound = (it.1 it.0.is_open).1 in
+      settled_at_rest HoldsStage old Free settled it.0 (
+        sound,
+        found_none image old.committed.trees (holds clean)
+            (λ nothing. nothing_is_unused image old.committed.trees nothing (reads clean)) none old.committed.schema sound,
+      )
 
   found : HasCleanDisk old → HasDesk old.now ⊎ LeavesFree old.now.schema desk_names → (db : Trees) × AreFoundIn image db × IsOpenable db
   found clean is =

@@ -1,8 +1,8 @@
 -- One statement of a change in which tables are made, where only what the change sees is known to understand it.
-use Rattle.desk_opening.proofs.Common.{◌≡◌, ℕ, true, List, [], Option, Some, None, Ok, Err, sym, subst, ◌∙◌, arith, both_ways, Trees, Database, State}
-use Rattle.desk_opening.proofs.Common.{HasCleanDisk, IsUnchanged, Survives, Runs, Writes, CommitsBy, CommitsShowing, statement_of, Fault, RunsText, TakesFirst}
-use Rattle.desk_opening.proofs.Common.{TakesTo, Known, HoldIn, Rests, stays_inside, never_commits_inside, never_shows_inside, crash_kept, first_unchanged}
-use Rattle.desk_opening.proofs.Common.{none_shown, runs_plain, unchanged_by, Leaves, Stage, HoldsStage, Changes}
+use Rattle.desk_opening.proofs.Common.{◌≡◌, ℕ, true, List, None, Ok, Err, sym, subst, ◌∙◌, arith, both_ways, Trees, Database, State, HasCleanDisk, Opens}
+use Rattle.desk_opening.proofs.Common.{Survives, Runs, Writes, CommitsBy, statement_of, Fault, RunsText, Known, HoldIn, IsAtRest, Rests, stays_inside}
+use Rattle.desk_opening.proofs.Common.{never_commits_inside, crash_kept, runs_plain, IsSettled, Stage, HoldsStage, Changes}
+use Rattle.sql_calls.specs.Standing.{IsSeeing, Wears}
 use Rattle.sqlite.specs.Order.{Row}
 use Rattle.sqlite.specs.Listing.{understood}
 
@@ -22,6 +22,17 @@ rests_as H K r q so s was clean =
       };
     }
 
+-- what the last commit left of a connection that was just opened
+pub settled_at_rest : {R : Type 0} (Holds : Database → R → Type 0) (s : State) (r : R) → IsSettled s → Opens s → Holds s.committed r → IsAtRest Holds s r
+settled_at_rest Holds s r settled opens kept = record {
+  mode = opens.autocommit;
+  held = record {
+    ended = λ _ _. opens.clean;
+    kept_holds = λ _. kept;
+    crash = λ db left. subst (λ t. HoldIn Holds t r) (sym (settled db opens.is_open left)) (s.committed.schema, kept);
+  };
+}
+
 module _ (s : State) (now next kept : Stage) where
   pub changes_as : ((db : Database) → HoldsStage db now → HoldsStage db next) → Changes s now kept → Changes s next kept
   changes_as so was = record {
@@ -32,46 +43,23 @@ module _ (s : State) (now next kept : Stage) where
     spoiled = was.spoiled;
   }
 
-pub leaves_of : (s : State) (now kept : Stage) → Changes s now kept → Leaves s kept
-leaves_of s now kept was = record { crash = λ clean. (was.spoiled.spoiled clean).crash }
-
--- ---- a query
-
-module _ (sql : List ℕ) (params : Row) (old new : State) (now kept : Stage) (was : Changes old now kept) where
-  read_kept : HasCleanDisk new → Survives old new (CommitsShowing sql params old) → (db : Trees) → new.may_leave db → HoldIn HoldsStage db kept
-  read_kept clean survives db left =
-      let before : HasCleanDisk old = omega (arith, clean, survives.clean) in
-      (was.spoiled.spoiled before).crash db (crash_kept old new _ clean (λ db. never_shows_inside sql params old db (was.sees.sees before).mode) survives db
-      left)
-
-  pub read_fails : (fault : Fault) → TakesFirst old new sql params (Err fault) → Leaves new kept
-  read_fails fault h = record { crash = λ clean. read_kept clean h.survives }
-
-  module _ (knows : HoldsStage old.now now → Known old.now.schema sql) where
-    same : (row : Option Row) (known : Known old.now.schema sql) → TakesTo old new sql params (Ok row) → IsUnchanged old new
-    same (Some row) known h = first_unchanged sql known.command params old new known.means row h
-    same None known h = unchanged_by sql known.command params old new known.means [] (none_shown sql known.command params old new known.means h)
-
-    pub read_step : (row : Option Row) → TakesFirst old new sql params (Ok row) → Changes new now kept
-    read_step row h = record {
-      sees = record {
-        sees = λ clean.
-            let first = was.sees.sees (omega (arith, clean, h.survives.clean)) in
-            let is = same row (knows first.now_holds) (h.answers clean) in
-            record { mode = is.0.mode ∙ first.mode; is_open = is.0.is_open; now_holds = subst (λ d. HoldsStage d now) (sym is.0.now_is) first.now_holds };
-      };
-      spoiled = record {
-        spoiled = λ clean.
-            let before : HasCleanDisk old = omega (arith, clean, h.survives.clean) in
-            let first = was.sees.sees before in
-            let is = same row (knows first.now_holds) (h.answers clean) in
-            record {
-              ended = λ out. absurd (both_ways _ out (is.0.mode ∙ first.mode));
-              kept_holds = λ _. subst (λ d. HoldsStage d kept) (sym is.0.committed_is) ((was.spoiled.spoiled before).kept_holds first.is_open);
-              crash = read_kept clean h.survives;
-            };
-      };
-    }
+module _ (old new : State) (now next kept : Stage) (was : Changes old now kept) where
+  -- the change goes on, over the same commit
+  pub goes_on : Wears old new → (HasCleanDisk new → IsSeeing HoldsStage new next × (new.committed ≡ old.committed))
+      → (HasCleanDisk new → (db : Trees) → new.may_leave db → HoldIn HoldsStage db kept) → Changes new next kept
+  goes_on wears on crash = record {
+    sees = record { sees = λ clean. (on clean).0 };
+    spoiled = record {
+      spoiled = λ clean.
+          let before : HasCleanDisk old = omega (arith, clean, wears) in
+          let it = on clean in
+          record {
+            ended = λ out. absurd (both_ways _ out it.0.mode);
+            kept_holds = λ _. subst (λ d. HoldsStage d kept) (sym it.1) ((was.spoiled.spoiled before).kept_holds (was.sees.sees before).is_open);
+            crash = crash clean;
+          };
+    };
+  }
 
 -- ---- a statement that is no query
 
@@ -105,23 +93,10 @@ module _ (sql : List ℕ) (params : Row) (old new : State) (now kept : Stage) (w
         (done.0, it.0, it.1)
 
     pub step : Changes new next kept
-    step = record {
-      sees = record {
-        sees = λ clean.
-            let before : HasCleanDisk old = omega (arith, clean, h.survives.clean) in
-            let done = ran clean before in
-            record { mode = done.1.shown.mode ∙ (was.sees.sees before).mode; is_open = done.1.shown.is_open; now_holds = done.2 };
-      };
-      spoiled = record {
-        spoiled = λ clean.
-            let before : HasCleanDisk old = omega (arith, clean, h.survives.clean) in
-            let first = was.sees.sees before in
-            let done = ran clean before in
-            let committed = done.1.shown.committed_is in
-            record {
-              ended = λ out. absurd (both_ways _ out (done.1.shown.mode ∙ first.mode));
-              kept_holds = λ _. subst (λ d. HoldsStage d kept) (sym (rw first.mode at committed)) ((was.spoiled.spoiled before).kept_holds first.is_open);
-              crash = kept_inside clean h.survives;
-            };
-      };
-    }
+    step = goes_on old new now next kept was h.survives.clean (λ clean.
+        let before : HasCleanDisk old = omega (arith, clean, h.survives.clean) in
+        let first = was.sees.sees before in
+        let done = ran clean before in
+        let committed = done.1.shown.committed_is in
+        (record { mode = done.1.shown.mode ∙ first.mode; is_open = done.1.shown.is_open; now_holds = done.2 }, rw first.mode at committed))
+        (λ clean. kept_inside clean h.survives)

@@ -8,7 +8,8 @@ use Rattle.sql_calls.specs.declared.calls.Calls.{Calls}
 use Rattle.rollout_machine.specs.Records.{Records}
 use Rattle.desk_records.specs.Readable.{HoldsAt}
 use Rattle.desk_records.specs.declared.version.Version.{Version}
-use Rattle.desk_opening.specs.Counting.{AreReadable, FailedBefore, HasCall, HasFailed, IsStore}
+use Rattle.desk_store.specs.Blaming.{HasFailed}
+use Rattle.desk_opening.specs.Counting.{AreReadable, FailedBefore, HasCall, IsStore}
 use Rattle.desk_opening.specs.Making.{HoldsStage, Free}
 use Rattle.desk_opening.specs.Opening.{IsKnownOpen}
 use Rattle.desk_opening.specs.declared.opening.OpenFault.{OpenFault}

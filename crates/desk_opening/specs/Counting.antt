@@ -1,5 +1,5 @@
 -- What an opening counts: a failed store is a call that failed.
-use Rattle.std.specs.Prelude.{◌≡◌, ◌≢◌, ◌≤◌, ◌<◌, ◌-◌, ◌^◌, ◌⊎◌, ℕ, length, Some, None, Result, Ok, Err}
+use Rattle.std.specs.Prelude.{◌≡◌, ◌≢◌, ◌≤◌, ◌<◌, ◌^◌, ℕ, length, Some, None, Result, Ok, Err}
 use Rattle.std.specs.List.{AllByRecursion}
 use Rattle.sqlite.specs.Store.{Ghosts}
 use Rattle.sqlite.specs.Held.{state}
@@ -16,12 +16,9 @@ use Rattle.desk_records.specs.declared.version.Version.{Version}
 use Rattle.sql_calls.specs.declared.calls.Calls.{Calls}
 use Rattle.sql_calls.specs.declared.fault.Fault.{Fault}
 use Rattle.sql_calls.specs.declared.fault.Fault.TheVariants as fault
+use Rattle.desk_store.specs.Blaming.{HasFailed}
 use Rattle.desk_opening.specs.declared.opening.OpenFault.{OpenFault}
 use Rattle.desk_opening.specs.declared.opening.OpenFault.TheVariants as refused
-
--- more calls of the store failed than before, or as many as are counted
-abbrev pub HasFailed : ℕ → ℕ → Type 0
-HasFailed before now = (before < now) ⊎ (2 ^ 64 - 1 ≤ now)
 
 -- at least so many calls failed
 pub record FailedBefore {S : Type 0} (calls : Calls S) (failed : ℕ) : Type 0 where

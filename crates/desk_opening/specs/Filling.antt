@@ -1,7 +1,7 @@
 -- A change that fills the tables of the newest version.
-use Rattle.std.specs.Prelude.{◌≡◌, ◌<◌, ◌≤◌, ◌^◌, ℕ, pos, zero, suc, List, [], ◌∷◌, length, map, Option, Some, None, Result, Ok, Err}
-use Rattle.sqlite_value.specs.declared.value.Value.TheVariants.{Int}
-use Rattle.sqlite_value.specs.Order.{Row, column}
+use Rattle.std.specs.Option.{option_map}
+use Rattle.std.specs.Prelude.{◌≡◌, ◌≤◌, ℕ, zero, suc, List, [], ◌∷◌, length, map, Option, Some, None, Result, Ok, Err}
+use Rattle.sqlite_value.specs.Order.{Row}
 use Rattle.sqlite.specs.Tree.{Trees}
 use Rattle.sqlite.specs.State.{State, HasCleanDisk}
 use Rattle.sql_calls.specs.Standing.{Finds, HoldIn, Makes, Wears}
@@ -15,6 +15,7 @@ use Rattle.desk_records.specs.RowFaults.{BreaksRule}
 use Rattle.desk_records.specs.Holds.{HoldsLedger, Ledger, ledger_of}
 use Rattle.desk_records.specs.LedgerSteps.{set_numbered, with_rules}
 use Rattle.desk_records.specs.ReadRows.{broken_stored_rollout_column}
+use Rattle.desk_records.specs.RolloutRow.{stored_rollout}
 use Rattle.desk_records.specs.Versions.{IsTellable}
 use Rattle.desk_records.specs.declared.rollout_row.StoredRollout.{StoredRollout}
 use Rattle.desk_records.specs.declared.version.Version.{Version}
@@ -46,18 +47,9 @@ MakesLedger old new result Change = Makes HoldsLedger (λ (l : Ledger). l) old n
 
 -- ---- what is read, and what is made
 
--- how many groups the rollout of a number has, and the thresholds of all
-pub record IsOfNumber (number : ℕ) (l : Ledger) (found : StoredRollout) : Type 0 where
-  pub rollout : RolloutRecord
-  pub is_there : item_numbered l.records.rollouts number ≡ Some rollout
-  pub groups : found.plan.groups ≡ rollout.plan.groups.count
-  pub success : found.plan.success ≡ rollout.plan.success
-  pub error : found.plan.error ≡ rollout.plan.error
-
--- the first column of the row has no number of 32 bits
-abbrev pub HasNoNumber : Option Row → Type 0
-HasNoNumber None = ⊥
-HasNoNumber (Some row) = (0 < length row) → (n : ℕ) → n < 2 ^ 32 → column row 0 ≡ Int (pos n) → ⊥
+-- the rollout of a number, as it is stored
+abbrev pub IsOfNumber : ℕ → Ledger → StoredRollout → Type 0
+IsOfNumber number l found = Some found ≡ option_map stored_rollout (item_numbered l.records.rollouts number)
 
 -- the row is not there, or one of its columns breaks its rule
 abbrev pub LacksRollout : Option Row → Type 0

@@ -33,7 +33,8 @@ use Rattle.desk_opening.specs.declared.reopening.DeskLeftover.{DeskLeftover}
 use Rattle.desk_opening.specs.declared.reopening.DeskLeftover.TheVariants as desk
 use Rattle.desk_opening.specs.declared.path.PathLeftover.{PathLeftover}
 use Rattle.desk_opening.specs.declared.path.PathLeftover.TheVariants as at_path
-use Rattle.desk_opening.specs.Counting.{AreReadable, HasFailed}
+use Rattle.desk_store.specs.Blaming.{HasFailed}
+use Rattle.desk_opening.specs.Counting.{AreReadable}
 use Rattle.desk_opening.specs.Making.{LeavesNoDesk, LeavesDeskWith, first_records}
 use Rattle.desk_opening.specs.Migrating.{HoldsFrom}
 use Rattle.desk_opening.specs.Opening.{HasDesk, HasNoDesk, HasRow, IsFailure, IsNewerRow, OpensDesk}

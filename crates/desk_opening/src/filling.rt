@@ -1,20 +1,21 @@
 //! What the tables of later versions hold of the records of an older one.
 
-ghost use Rattle.std.specs.Prelude.{◌≡◌, ◌<◌, ◌≤◌, ◌^◌, IfErr, IfOk, MatchOption, None, length};
+ghost use Rattle.std.specs.Prelude.{◌≡◌, ◌<◌, ◌≤◌, ◌^◌, IfErr, IfOk, None, length, Some};
 ghost use Rattle.sqlite.specs.Held.{state};
 ghost use Rattle.desk_records.specs.LedgerSteps.{AddsRule};
-ghost use Rattle.desk_records.specs.Modules.{IsLastRow};
 ghost use Rattle.desk_records.specs.ReadRows.{IsStoredRolloutRow};
 ghost use Rattle.desk_records.specs.RowFaults.{IfRowsBroken};
+ghost use Rattle.desk_store.specs.Rows.{IsReadAs};
 ghost use Rattle.desk_opening.specs.Counting.{Counts, FailsGiven, HasReadable};
-ghost use Rattle.desk_opening.specs.Filling.{FillsLater, FillsRollout, FindsLedger, GivenBare, GivenRules, HasNoNumber, IsOfNumber, LacksRollout, MakesLedger};
-ghost use Rattle.desk_opening.specs.Filling.{Stays, WritesCopies, WritesRules};
+ghost use Rattle.desk_opening.specs.Filling.{FillsLater, FillsRollout, FindsLedger, GivenBare, GivenRules, IsOfNumber, LacksRollout, MakesLedger, Stays};
+ghost use Rattle.desk_opening.specs.Filling.{WritesCopies, WritesRules};
 
 use crate::running::{first, run};
 use desk_records::{
     GET_ROLLOUT, LAST_ROLLOUT, PUT_RULE, StoredRollout, Version, fault_of_row, read_stored_rollout,
 };
-use sql_calls::{Calls, Fault, broken_of};
+use desk_store::last_number;
+use sql_calls::{Calls, Fault};
 use sqlite::{Alter, Row, params};
 use std::alloc::Global;
 
@@ -126,23 +127,9 @@ fn read_rollout<S: Alter>(
     rollout_in(alloc, row)
 }
 
-/// The number in the row of the last number, and 0 where there is none.
-fn last_number(row: Option<Row>) -> Result<u32, Fault>
-    ensures ok { IfOk result (λ n. IsLastRow n row) }
-    ensures err { IfErr result (λ fault. IfRowsBroken fault (HasNoNumber row)) }
-{
-    let Some(row) = row else {
-        return Ok(0);
-    };
-    match row.get(0) {
-        Ok(number) => Ok(number),
-        Err(error) => Err(broken_of(error)),
-    }
-}
-
 /// The rollout in a row, which has to be there.
 fn rollout_in(alloc: Global, row: Option<Row>) -> Result<StoredRollout, Fault>
-    ensures ok { IfOk result (λ rollout. MatchOption row ⊥ (λ row. IsStoredRolloutRow row rollout)) }
+    ensures ok { IfOk result (λ rollout. IsReadAs IsStoredRolloutRow (Some rollout) row) }
     ensures err { IfErr result (λ fault. IfRowsBroken fault (LacksRollout row)) }
 {
     let Some(row) = row else {

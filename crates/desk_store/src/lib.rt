@@ -32,6 +32,7 @@ mod targets;
 
 pub use crate::change::OpenChange;
 pub use crate::groups::GroupAndNext;
+pub use crate::reading::last_number;
 pub use crate::store::DeskStore;
 pub use desk_records::{
     CheckedArtifact, CountedAction, LastNumber, ListedAction, ListedTarget, NewEntry, OwnedOffer,

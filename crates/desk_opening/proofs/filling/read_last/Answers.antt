@@ -1,13 +1,19 @@
+use Rattle.desk_opening.proofs.Common.{refl}
+use Rattle.desk_store.proofs.Known.{known}
+use Rattle.desk_store.proofs.RolloutCalls.{last_read}
+use Rattle.desk_records.proofs.RolloutMeaning.{last_rollout_is}
 use Rattle.desk_opening.proofs.FailLemmas.{last_fails}
-use Rattle.desk_opening.proofs.FillLemmas.{last_found, last_stays, last_unread}
+use Rattle.desk_opening.proofs.FillLemmas.{stays_read, stays_unread}
 use Rattle.desk_opening.proofs.filling.read_last.Goals as goal
 
 pub returns-in_err-row-clause-stays : goal.returns-in_err-row-clause-stays
-returns-in_err-row-clause-stays g c = last_unread _ _ _ c.in_err-row.ensures.takes c.from_residual.result c.from_residual.ensures.0
+returns-in_err-row-clause-stays g c = stays_unread _ _ _ _ c.in_err-row.ensures.takes c.from_residual.result c.from_residual.ensures.0
 
 pub returns : goal.returns
-returns g c = record {
-  stays = last_stays _ _ c.in_ok-row.row c.in_ok-row.ensures.takes c.last_number.result;
-  reads = last_found _ _ c.in_ok-row.row c.in_ok-row.ensures.takes c.last_number.result c.last_number.ensures.ok;
-  fails = last_fails c.in_ok-row.row c.in_ok-row.ensures.takes c.in_ok-row.ensures.counts c.last_number.result c.last_number.ensures.err;
-}
+returns g c =
+    let out = c.last_number.result in
+    record {
+      stays = stays_read _ _ _ _ c.in_ok-row.ensures.takes (known last_rollout_is) _ refl out;
+      reads = last_read _ _ c.in_ok-row.row c.in_ok-row.ensures.takes out c.last_number.ensures.ok;
+      fails = last_fails c.in_ok-row.ensures.counts c.in_ok-row.ensures.takes out c.last_number.ensures.err;
+    }
