@@ -72,9 +72,10 @@ KINDS = {
     "bytes": kept("", "Blob %s", "has_bytes", ""),
 }
 
-Part = collections.namedtuple(
-    "Part", "name kind variant field"
-)  # a column of a reading; its name is the last of the field's
+# a column of a reading; its name is the last of the field's
+Part = collections.namedtuple("Part", "name kind variant field")
+# what is proved of a row where rows.txt asks for it
+LEMMAS = {"same", "whole"}
 
 
 def wrapped(line, width=160):
@@ -144,8 +145,8 @@ class Sources:
 
 
 class Reading:
-    def __init__(self, made, text, table, options):
-        self.made, self.text, self.table = made, text, table
+    def __init__(self, made, text, table, lemmas, options):
+        self.made, self.text, self.table, self.lemmas = made, text, table, lemmas
         self.word = word = options.pop("as", None) or snake(made)
         self.read, self.says, self.broken = f"read_{word}", f"Is{camel(word)}Row", f"broken_{word}_column"
         self.shown, self.told, self.one = f"columns_of_{word}", f"shown_{word}", f"one_{word}"
@@ -202,7 +203,9 @@ class Rows:
                 table.kinds, table.title = {}, rest[0]
             elif first == "read":
                 made, constant, *options = rest
-                reading = Reading(made, constant, table, dict(o.split("=") for o in options))
+                lemmas = LEMMAS.intersection(options)
+                named = dict(o.split("=") for o in options if o not in lemmas)
+                reading = Reading(made, constant, table, lemmas, named)
                 self.readings[reading.word] = reading
             elif first == "breaks":
                 self.breaks[table.name] = line.split(None, 1)[1]
@@ -480,11 +483,12 @@ class Rows:
         for r in self.readings.values():
             fields = ([r.inner] if r.behind else []) + [p.field for p in r.parts]
             value = [*recorded("    λ i. ", self.record(r.made, fields)), ""]
-            lines += [f"-- ---- {r.word}", "", *self.told_of(r), *value, *self.said_of(r), *value, *self.whole_of(r)]
+            lines += [f"-- ---- {r.word}", "", *self.told_of(r), *value]
+            lines += [*self.said_of(r), *value] if "same" in r.lemmas else []
+            lines += self.whole_of(r) if "whole" in r.lemmas else []
         body = "\n".join(it for line in lines for it in wrapped(line))
-        kept = sorted(
-            {w for r in self.readings.values() for p in r.parts for w in (p.kind.same.split()[0], p.kind.one)}
-        )
+        lemmas = {w for r in self.readings.values() for p in r.parts for w in (p.kind.same.split()[0], p.kind.one)}
+        kept = sorted(w for w in lemmas if re.search(rf"\b{w}\b", body))
         given = [
             ("Rattle.std.proofs.Common", "◌≡◌ true [] ◌∷◌ Some None refl ap ◌∙◌ pos"),
             ("Rattle.std.specs.Option", "is_some option_or"),
@@ -499,7 +503,6 @@ class Rows:
                 *self.known(body),
                 used(f"{DESK}.proofs.KeptColumns", kept),
                 *self.types_in(),
-                f"use {DESK}.specs.declared.table_columns.Column.TheVariants as rule",
                 "",
                 body,
             ]

@@ -1,5 +1,6 @@
 -- How a desk conducts itself in a call, whatever its tables hold.
-use Rattle.std.specs.Prelude.{◌≡◌, Bool, true, false, Result, Ok, Err}
+use Rattle.std.specs.Prelude.{◌≡◌, ◌≢◌, Bool, true, false, map, Contains, Result, Ok, Err, Vec, MatchResult}
+use Rattle.std.specs.declared.alloc.Global.{Global}
 use Rattle.sqlite.specs.Store.{Ghosts}
 use Rattle.contents_handler.specs.declared.download.Download.{Download}
 use Rattle.rollout_machine.specs.Replies.{Reply, Refused}
@@ -58,6 +59,14 @@ module _ {S : Type 0} (g : Ghosts S) where
 
   abbrev pub BehavesVerifying : Desk S → Desk S → Result (Unit {0}) Damage → Type 0
   BehavesVerifying old new found = Behaves old new (in_damage found) (HasCause g old.store.calls new.store.calls)
+
+  -- The same of a run that tells of a failed store in a reply, and never refuses by it.
+  pub record BehavesRunning (old new : Desk S) (result : Result (Vec model.Reply Global) Refusal) : Type 0 where
+    pub clean : (desk_state g new).is_clean → (desk_state g old).is_clean
+    pub stops : MatchResult result (λ replies. Contains (map reply_of replies.items) (Refused StoreFailed) → (desk_state g new).is_stopped ≡ true)
+        (λ refusal. refusal ≢ StoreFailed)
+    pub stopped : (desk_state g old).is_stopped ≡ true → (result ≡ Err Stopped) × StaysStopped (desk_state g old) (desk_state g new)
+    pub untouched : (desk_state g old).is_stopped ≡ true → new.store ≡ old.store
 
   -- one request is answered, at whatever list the desk stands for
   abbrev pub Answers : Desk S → Desk S → Request → Reply → Type 0

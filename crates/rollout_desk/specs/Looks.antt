@@ -13,14 +13,14 @@ use Rattle.sql_calls.specs.declared.fault.Fault.TheVariants.{Broken}
 use Rattle.rollout_machine.specs.CommandList.{CommandList}
 use Rattle.rollout_machine.specs.Commands.{Bytes, Credential}
 use Rattle.rollout_machine.specs.Records.{Records, records}
-use Rattle.rollout_machine.specs.Replies.{Refused}
+use Rattle.rollout_machine.specs.Replies.{ContentsShown, Refused}
 use Rattle.rollout_machine.specs.Requests.{Ask, Asks, Download}
 use Rattle.rollout_machine.specs.Standing.{AppliesAt, StandsFor}
 use Rattle.rollout_machine.specs.StoreFailures.{is_store}
 use Rattle.rollout_model.specs.declared.artifact.Artifact.{Artifact}
 use Rattle.rollout_model.specs.declared.refusal.Refusal.{Refusal}
 use Rattle.rollout_model.specs.declared.refusal.Refusal.TheVariants.{NoMemory, StoreFailed}
-use Rattle.desk_records.specs.Holds.{HoldsLedger, Ledger}
+use Rattle.desk_records.specs.Holds.{HoldsLedger, HoldsRecords, Ledger}
 use Rattle.desk_records.specs.Tables.{HoldsTables}
 use Rattle.desk_store.specs.Blaming.{HasFailed}
 use Rattle.desk_store.specs.Changing.{FindsIn, seen_in}
@@ -31,6 +31,8 @@ use Rattle.desk_store.specs.declared.change.OpenChange.{OpenChange}
 use Rattle.desk_records.specs.Artifacts.{piece_numbered}
 use Rattle.desk_views.specs.Downloads.{downloadable}
 use Rattle.desk_views.specs.Sizes.{AgreesIn}
+use Rattle.rollout_desk.specs.Causes.{FailsByCalls}
+use Rattle.rollout_desk.specs.Sizes.{KeepsOffers}
 use Rattle.rollout_desk.specs.Working.{TellsFailures, tells_store}
 use Rattle.rollout_desk.specs.Desks.{desk_state_at}
 
@@ -110,3 +112,11 @@ module _ (Holds : Database → Records → Type 0) where
   pub record FindsDownload (old new : State) (device : Credential) (m : ℕ) (filename : Bytes) (result : Result Artifact Refusal) : Type 0 where
     pub wears : Wears old new
     pub finds : FindsTo old new device m filename result
+
+-- The artifact that a device may download was looked for: its tables keep a deployment of the device where it is found, and why a failed store is told.
+pub record LooksForDownload {S : Type 0} (g : Ghosts S) (old new : Calls S) (device : Credential) (m : ℕ) (filename : Bytes)
+    (result : Result Artifact Refusal) : Type 0 where
+  pub finds : FindsDownload HoldsRecords (state g old.conn) (state g new.conn) device m filename result
+  pub kept : IfOk result (λ _. (contents : Bytes) → KeepsOffers (state g old.conn) (state g new.conn) (Download device m filename) (ContentsShown contents))
+  pub tells : TellsFailures (tells_store result) old new
+  pub fails : result ≡ Err StoreFailed → FailsByCalls g old new

@@ -1,12 +1,20 @@
 -- Runs in which something comes again: feedback on an action that has its outcome, or an import that directly follows an equal one.
-use Rattle.std.specs.Prelude.{◌⊎◌, List, [], ◌∷◌, ◌++◌}
+use Rattle.std.specs.Prelude.{◌⊎◌, List, [], ◌∷◌, ◌++◌, map, IfOk, Result, Vec}
+use Rattle.std.specs.declared.alloc.Global.{Global}
+use Rattle.sqlite.specs.Store.{Ghosts}
+use Rattle.rollout_model.specs.declared.refusal.Refusal.{Refusal}
+use Rattle.rollout_model.specs.declared.request.Reply as model
 use Rattle.rollout_machine.specs.Answers.{MayAnswer}
 use Rattle.rollout_machine.specs.CommandList.{CommandList, followed_by}
 use Rattle.rollout_machine.specs.Repeats.{without_repeats}
 use Rattle.rollout_machine.specs.Replies.{Reply}
 use Rattle.rollout_machine.specs.Requests.{Request, Asks, one}
 use Rattle.rollout_machine.specs.Standing.{DeskState, StandsFor, IsInDoubt}
+use Rattle.rollout_machine.specs.Views.{reply_of}
+use Rattle.rollout_desk.specs.DeskStates.{desk_state}
+use Rattle.rollout_desk.specs.Promises.{IsPromised}
 use Rattle.rollout_desk.specs.Runs.{RequestExchange, RunsThrough, BreaksOff, accepted_of}
+use Rattle.rollout_desk.specs.declared.desk.Desk.{Desk}
 
 -- each request is answered as at the list so far without its repeats
 abbrev pub AnswersOnce : CommandList → List RequestExchange → Type 0
@@ -28,3 +36,8 @@ pub record BreaksOffOnce {File : Type 0} (h : CommandList) (s : DeskState File) 
 -- how a run over requests ends, for a desk that stood for h, where nothing counts twice
 abbrev pub EndsOnce : {File : Type 0} → CommandList → DeskState File → List Request → List Reply → Type 0
 EndsOnce h s requests replies = RunsOnce h s requests replies ⊎ BreaksOffOnce h s requests replies
+
+-- Whatever list the desk stands for: what comes again in a run leaves no trace.
+abbrev pub AnswersAllOnce : {S : Type 0} → Ghosts S → Desk S → Desk S → List Request → Result (Vec model.Reply Global) Refusal → Type 0
+AnswersAllOnce g old new requests result = IsPromised (desk_state g old) (desk_state g new) (λ h. IfOk result
+    (λ replies. EndsOnce h (desk_state g new) requests (map reply_of replies.items)))

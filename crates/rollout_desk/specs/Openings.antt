@@ -11,7 +11,9 @@ use Rattle.sqlite.specs.FileStore.{files as files_in}
 use Rattle.sqlite_store.specs.declared.store.FileStore.{FileStore}
 use Rattle.rollout_machine.specs.CommandList.{CommandList, Make}
 use Rattle.rollout_machine.specs.Standing.{DeskState, StandsFor}
-use Rattle.desk_opening.specs.Reopening.{HoldsNone, IsOpenable}
+use Rattle.desk_opening.specs.Reopening.{HoldsNone, IsOpenable, LeavesUnharmed}
+use Rattle.desk_opening.specs.declared.opening.OpenFault.{OpenFault}
+use Rattle.desk_opening.specs.declared.reopening.DeskLeftover.{DeskLeftover}
 use Rattle.rollout_desk.specs.DeskStates.{desk_state}
 use Rattle.rollout_desk.specs.declared.desk.Desk.{Desk}
 
@@ -22,6 +24,15 @@ pub record ReopensDesk (image : Image) (desk : DeskState Trees) (approval : Bool
   pub finds : desk.is_clean → (db : Trees) × AreFoundIn image db × IsOpenable db
   pub holds : (db : Trees) (h : CommandList) → ∥ HoldsDatabase image db ∥₁ → desk.holds db h → desk.is_clean → StandsFor desk h
   pub makes : HoldsNone HoldsDatabase image → desk.is_clean → StandsFor desk (Make approval)
+
+module _ {D : Type 0} (g : disk.Ghosts D) (files : Files D) (approval : Bool) where
+  -- a desk over these files
+  abbrev pub ReopensFiles : Desk (FileStore D g) → Type 0
+  ReopensFiles desk = ReopensDesk (image_of g files) (desk_state over_files desk) approval
+
+  -- .. or what is left of them
+  abbrev pub LeavesFiles : OpenFault × DeskLeftover D g → Type 0
+  LeavesFiles refused = LeavesUnharmed (outcomes g files.log files.db) (image_of g files) approval refused.0 refused.1
 
 -- ---- given back
 

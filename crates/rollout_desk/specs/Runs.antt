@@ -1,7 +1,11 @@
 -- Runs of a desk over a list of requests.
-use Rattle.std.specs.Prelude.{◌≡◌, ◌≢◌, ◌⊎◌, List, [], ◌∷◌, ◌++◌, map, Option, All}
+use Rattle.std.specs.Prelude.{◌≡◌, ◌≢◌, ◌⊎◌, List, [], ◌∷◌, ◌++◌, map, Option, Result, Vec, All, MatchResult}
+use Rattle.std.specs.declared.alloc.Global.{Global}
 use Rattle.std.specs.List.{flat_map}
-use Rattle.rollout_model.specs.declared.refusal.Refusal.TheVariants.{StoreFailed}
+use Rattle.sqlite.specs.Store.{Ghosts}
+use Rattle.rollout_model.specs.declared.refusal.Refusal.{Refusal}
+use Rattle.rollout_model.specs.declared.refusal.Refusal.TheVariants.{NoMemory, StoreFailed}
+use Rattle.rollout_model.specs.declared.request.Reply as model
 use Rattle.rollout_machine.specs.Answers.{MayAnswer}
 use Rattle.rollout_machine.specs.Commands.{Command}
 use Rattle.rollout_machine.specs.CommandList.{CommandList, followed_by}
@@ -9,6 +13,10 @@ use Rattle.rollout_machine.specs.Replies.{Reply, Refused}
 use Rattle.rollout_machine.specs.Requests.{Request, Asks, one}
 use Rattle.rollout_machine.specs.Standing.{DeskState, StandsFor, IsInDoubt}
 use Rattle.rollout_machine.specs.Validity.{IsValid}
+use Rattle.rollout_machine.specs.Views.{reply_of}
+use Rattle.rollout_desk.specs.DeskStates.{desk_state}
+use Rattle.rollout_desk.specs.Promises.{IsPromised}
+use Rattle.rollout_desk.specs.declared.desk.Desk.{Desk}
 
 -- a request, its reply, and the command that was accepted for it
 pub record RequestExchange : Type 0 where
@@ -59,3 +67,9 @@ pub record BreaksOff {File : Type 0} (h : CommandList) (s : DeskState File) (req
 -- how a run over requests ends, for a desk that stood for h
 abbrev pub EndsRun : {File : Type 0} → CommandList → DeskState File → List Request → List Reply → Type 0
 EndsRun h s requests replies = RunsThrough h s requests replies ⊎ BreaksOff h s requests replies
+
+-- Requests are answered in order, at whatever list the desk stands for; or memory was wanted, and nothing was done.
+abbrev pub AnswersAll : {S : Type 0} → Ghosts S → Desk S → Desk S → List Request → Result (Vec model.Reply Global) Refusal → Type 0
+AnswersAll g old new requests result = IsPromised (desk_state g old) (desk_state g new) (λ h. MatchResult result
+    (λ replies. EndsRun h (desk_state g new) requests (map reply_of replies.items))
+    (λ refusal. (refusal ≡ NoMemory) × StandsFor (desk_state g new) h))

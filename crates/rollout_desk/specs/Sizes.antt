@@ -47,6 +47,11 @@ KeepsSizes old new query reply = (t : Tables) → HasCleanDisk new → Shows Hol
 abbrev pub KeepsOffers : State → State → Query → shown.Reply → Type 0
 KeepsOffers old new query reply = (t : Tables) → HasCleanDisk new → Shows HoldsTables old t → KeepsOffer t query reply
 
+-- both, of an answer
+pub record KeepsToTables (old new : State) (query : Query) (reply : shown.Reply) : Type 0 where
+  pub sized : KeepsSizes old new query reply
+  pub kept : KeepsOffers old new query reply
+
 -- The same of a query that may begin a download: of its contents, and else of the reply.
 abbrev pub BeginsKept : State → State → Query → Result begun.Download Reply → Type 0
 BeginsKept old new query (Ok p) = (contents : Bytes) → KeepsOffers old new query (shown.ContentsShown contents)

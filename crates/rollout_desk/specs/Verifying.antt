@@ -27,6 +27,8 @@ use Rattle.desk_verify.specs.declared.damage.Damage.{Damage}
 use Rattle.desk_verify.specs.declared.damage.Damage.TheVariants.{Refused, Table}
 use Rattle.rollout_desk.specs.DeskStates.{desk_state}
 use Rattle.rollout_desk.specs.Downloads.{IsInterruption}
+use Rattle.rollout_desk.specs.Looks.{Looks}
+use Rattle.rollout_desk.specs.Working.{TellsFailures, tells_store}
 use Rattle.rollout_desk.specs.declared.desk.Desk.{Desk}
 
 -- ---- inside a change
@@ -49,6 +51,13 @@ IsNeverDamaged r found = (h : CommandList) → IsValid h → r ≡ records h →
 abbrev pub HasCause : {S : Type 0} → Ghosts S → Calls S → Calls S → Type 0
 HasCause g old new =
     (t : Tables) → HasCleanDisk (state g new.conn) → Shows HoldsTables (state g old.conn) t → HasFailed old.failures new.failures ⊎ IsStuck t
+
+-- Damage was looked for, and why a failed store is told.
+pub record LooksForDamage {S : Type 0} (g : Ghosts S) (old new : Calls S) (result : Result (Option CheckedTable) Refusal) : Type 0 where
+  pub judges : FindsDamage (state g old.conn) (state g new.conn) result
+  pub looks : Looks HoldsRecords (state g old.conn) (state g new.conn) result IsNeverDamaged
+  pub blames : result ≡ Err StoreFailed → HasCause g old new
+  pub tells : TellsFailures (tells_store result) old new
 
 -- ---- the desk
 

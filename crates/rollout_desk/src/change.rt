@@ -1,20 +1,14 @@
 //! One request as one change of the store.
 
-ghost use Rattle.std.specs.Prelude.{◌≡◌, ◌≤◌, ◌⊎◌, true};
+ghost use Rattle.std.specs.Prelude.{◌≡◌, true};
 ghost use Rattle.sqlite.specs.Held.{state};
-ghost use Rattle.desk_records.specs.Holds.{HoldsRecords};
-ghost use Rattle.rollout_machine.specs.Replies.{Refused};
 ghost use Rattle.rollout_machine.specs.Requests.{Do, Ask};
 ghost use Rattle.rollout_machine.specs.StoreFailures.{is_failed_store};
 ghost use Rattle.rollout_machine.specs.Views.{command_of, query_of, reply_of};
-ghost use Rattle.rollout_model.specs.declared.refusal.Refusal.TheVariants.{StoreFailed};
-ghost use Rattle.rollout_desk.specs.Causes.{FailsByCalls};
-ghost use Rattle.rollout_desk.specs.Sizes.{AnswersIn, KeepsOffers, KeepsSizes, ReadsAnswer};
-ghost use Rattle.rollout_desk.specs.Working.{TellsFailures};
+ghost use Rattle.rollout_desk.specs.Sizes.{AnswersIn, KeepsToTables, ReadsAnswer};
 ghost use Rattle.rollout_machine.specs.Bounds.{is_feedback};
-ghost use Rattle.rollout_desk.specs.Changes.{Handles, EndsByCommit, EndsByRollback};
+ghost use Rattle.rollout_desk.specs.Changes.{EndsChange, EndsByCommit, EndsByRollback, RunsRequest};
 ghost use Rattle.desk_reads.specs.AtLists.{FailsAtListsIn};
-ghost use Rattle.desk_store.specs.Blaming.{HasFailed};
 ghost use Rattle.desk_store.specs.Counting.{Adds};
 ghost use Rattle.desk_store.specs.Changing.{StaysIn};
 
@@ -80,12 +74,7 @@ fn answer<S: Alter>(
 
 /// Commits a change, and then gives the reply that was made.
 fn commit<S: Alter>(change: OpenChange<'_, S>, reply: Reply) -> Reply
-    ensures ends { EndsByCommit (state S.Store change.entry.store.now.calls.conn) (state S.Store change.exit.0.now.calls.conn) (reply_of reply)
-        (reply_of result) }
-    ensures work { change.exit.0.now.calls.work ≡ change.entry.store.now.calls.work }
-    ensures tells { TellsFailures (is_failed_store (reply_of result)) change.entry.store.now.calls change.exit.0.now.calls }
-    ensures counts { change.entry.store.now.calls.failures ≤ change.exit.0.now.calls.failures }
-    ensures fails { (reply_of result ≡ reply_of reply) ⊎ HasFailed change.entry.store.now.calls.failures change.exit.0.now.calls.failures }
+    ensures { EndsChange S.Store EndsByCommit is_failed_store change.entry.store.now.calls change.exit.0.now.calls (reply_of reply) (reply_of result) }
 {
     match change.commit() {
         Ok(()) => reply,
@@ -95,12 +84,7 @@ fn commit<S: Alter>(change: OpenChange<'_, S>, reply: Reply) -> Reply
 
 /// Gives a change up, and then the reply that was made.
 fn give_up<S: Alter>(change: OpenChange<'_, S>, reply: Reply) -> Reply
-    ensures ends { EndsByRollback (state S.Store change.entry.store.now.calls.conn) (state S.Store change.exit.0.now.calls.conn) (reply_of reply)
-        (reply_of result) }
-    ensures work { change.exit.0.now.calls.work ≡ change.entry.store.now.calls.work }
-    ensures tells { TellsFailures (is_failed_store (reply_of result)) change.entry.store.now.calls change.exit.0.now.calls }
-    ensures counts { change.entry.store.now.calls.failures ≤ change.exit.0.now.calls.failures }
-    ensures fails { (reply_of result ≡ reply_of reply) ⊎ HasFailed change.entry.store.now.calls.failures change.exit.0.now.calls.failures }
+    ensures { EndsChange S.Store EndsByRollback is_failed_store change.entry.store.now.calls change.exit.0.now.calls (reply_of reply) (reply_of result) }
 {
     match change.give_up() {
         Ok(()) => reply,
@@ -114,11 +98,8 @@ pub(crate) fn run_command<S: Alter>(
     store: &mut DeskStore<S>,
     command: &Command,
 ) -> Reply
-    ensures handles { Handles HoldsRecords (state S.Store store.old.calls.conn) (state S.Store store.new.calls.conn) (Do (command_of command.now))
-        (reply_of result) }
+    ensures runs { RunsRequest S.Store store.old.calls store.new.calls (Do (command_of command.now)) (reply_of result) }
     ensures work { is_feedback (command_of command.now) ≡ true → Adds 14 24 store.old.calls.work store.new.calls.work }
-    ensures tells { TellsFailures (is_failed_store (reply_of result)) store.old.calls store.new.calls }
-    ensures fails { reply_of result ≡ Refused StoreFailed → FailsByCalls S.Store store.old.calls store.new.calls }
 {
     command_is_well_formed(command);
     let mut change = match store.begin() {
@@ -149,12 +130,8 @@ impl<'a, S: Alter> Question<S, Reply> for Asked<'a> {
 
 /// Answers a query inside a transaction that changes nothing.
 pub(crate) fn run_query<S: Alter>(alloc: Global, store: &mut DeskStore<S>, query: &Query) -> Reply
-    ensures handles { Handles HoldsRecords (state S.Store store.old.calls.conn) (state S.Store store.new.calls.conn) (Ask (query_of query.now))
-        (reply_of result) }
-    ensures sized { KeepsSizes (state S.Store store.old.calls.conn) (state S.Store store.new.calls.conn) (query_of query.now) (reply_of result) }
-    ensures kept { KeepsOffers (state S.Store store.old.calls.conn) (state S.Store store.new.calls.conn) (query_of query.now) (reply_of result) }
-    ensures tells { TellsFailures (is_failed_store (reply_of result)) store.old.calls store.new.calls }
-    ensures fails { reply_of result ≡ Refused StoreFailed → FailsByCalls S.Store store.old.calls store.new.calls }
+    ensures runs { RunsRequest S.Store store.old.calls store.new.calls (Ask (query_of query.now)) (reply_of result) }
+    ensures reads { KeepsToTables (state S.Store store.old.calls.conn) (state S.Store store.new.calls.conn) (query_of query.now) (reply_of result) }
 {
     match look(store, &Asked { alloc, query }) {
         Ok(reply) => reply,

@@ -1,19 +1,16 @@
 //! Looks at the records, in changes that are given up: what is read in one, a piece of an artifact's contents, and the artifact that a device downloads.
 
-ghost use Rattle.std.specs.Prelude.{◌≡◌, ◌≤◌, ◌⊎◌, length, Some, Result, Ok, Err, IfOk, MatchResult};
+ghost use Rattle.std.specs.Prelude.{◌≡◌, ◌⊎◌, length, Some, Result, Ok, Err, MatchResult};
 ghost use Rattle.sqlite.specs.Held.{state};
 ghost use Rattle.desk_records.specs.Artifacts.{piece_numbered};
 ghost use Rattle.desk_records.specs.Holds.{HoldsRecords};
-ghost use Rattle.desk_store.specs.Blaming.{HasFailed};
 ghost use Rattle.rollout_desk.specs.Causes.{FailsByCalls};
+ghost use Rattle.rollout_desk.specs.Changes.{EndsChange};
 ghost use Rattle.desk_store.specs.Changing.{StaysIn, seen_in};
 ghost use Rattle.sql_calls.specs.Standing.{Wears};
 ghost use Rattle.desk_store.specs.declared.change.OpenChange.{OpenChange};
 ghost use Rattle.sql_calls.specs.declared.fault.Fault.{Fault};
-ghost use Rattle.rollout_desk.specs.Looks.{EndsLook, FindsDownload, IsOtherThan, Looked, Looks, ReadsDownload, ReadsPiece, bytes_of};
-ghost use Rattle.rollout_machine.specs.Replies.{ContentsShown};
-ghost use Rattle.rollout_machine.specs.Requests.{Download};
-ghost use Rattle.rollout_desk.specs.Sizes.{KeepsOffers};
+ghost use Rattle.rollout_desk.specs.Looks.{EndsLook, IsOtherThan, Looked, Looks, LooksForDownload, ReadsDownload, ReadsPiece, bytes_of};
 ghost use Rattle.rollout_desk.specs.Working.{TellsFailures, tells_store};
 
 use crate::refusals::refusal_of;
@@ -28,10 +25,7 @@ pub(crate) fn give_up<S: Alter, T: Drop>(
     change: OpenChange<'_, S>,
     found: Result<T, Refusal>,
 ) -> Result<T, Refusal>
-    ensures ends { EndsLook (state S.Store change.entry.store.now.calls.conn) (state S.Store change.exit.0.now.calls.conn) found result }
-    ensures tells { TellsFailures (tells_store result) change.entry.store.now.calls change.exit.0.now.calls }
-    ensures counts { change.entry.store.now.calls.failures ≤ change.exit.0.now.calls.failures }
-    ensures fails { (result ≡ found) ⊎ HasFailed change.entry.store.now.calls.failures change.exit.0.now.calls.failures }
+    ensures { EndsChange S.Store EndsLook tells_store change.entry.store.now.calls change.exit.0.now.calls found result }
 {
     match change.give_up() {
         Ok(()) => found,
@@ -127,12 +121,7 @@ pub(crate) fn look_for_download<S: Alter>(
     module_number: ModuleNo,
     filename: &Filename,
 ) -> Result<Artifact, Refusal>
-    ensures finds { FindsDownload HoldsRecords (state S.Store store.old.calls.conn)
-        (state S.Store store.new.calls.conn) device.now module_number filename.now result }
-    ensures kept { IfOk result (λ _. (contents : _) → KeepsOffers (state S.Store store.old.calls.conn) (state S.Store store.new.calls.conn)
-        (Download device.now module_number filename.now) (ContentsShown contents)) }
-    ensures tells { TellsFailures (tells_store result) store.old.calls store.new.calls }
-    ensures fails { result ≡ Err Refusal.StoreFailed → FailsByCalls S.Store store.old.calls store.new.calls }
+    ensures { LooksForDownload S.Store store.old.calls store.new.calls device.now module_number filename.now result }
 {
     let it = OfferedFile {
         alloc,

@@ -9,9 +9,9 @@ ghost use Rattle.sqlite.specs.WalFiles.{image_at, outcomes};
 ghost use Rattle.rollout_machine.specs.CommandList.{Make};
 ghost use Rattle.rollout_machine.specs.Standing.{StandsFor};
 ghost use Rattle.desk_opening.specs.Opening.{IsFailure};
-ghost use Rattle.desk_opening.specs.Reopening.{BeginsPlain, LeavesPath, LeavesUnharmed};
+ghost use Rattle.desk_opening.specs.Reopening.{BeginsPlain, LeavesPath};
 ghost use Rattle.rollout_desk.specs.DeskStates.{desk_state};
-ghost use Rattle.rollout_desk.specs.Openings.{ReopensDesk, GivesBack, GoesOnAfterCrash, GoesOnOver};
+ghost use Rattle.rollout_desk.specs.Openings.{ReopensDesk, ReopensFiles, LeavesFiles, GivesBack, GoesOnAfterCrash, GoesOnOver};
 
 use crate::desk::Desk;
 use desk_opening::{DeskLeftover, OpenFault, PathLeftover, open_desk, reopen_files, reopen_path};
@@ -31,9 +31,9 @@ impl<D: Disk + Drop> Desk<FileStore<D>> {
     ) -> Result<Desk<FileStore<D>>, (OpenFault, DeskLeftover<D>)>
         requires log { IsTrue (D.Disk.is_usable files.log) }
         requires db { IsTrue (D.Disk.is_usable files.db) }
-        ensures reopened { IfOk result (λ desk. ReopensDesk (image_of D.Disk files) (desk_state over_files desk) approval_if_new) }
+        ensures reopened { IfOk result (ReopensFiles D.Disk files approval_if_new) }
         ensures plain { IfOk result (λ desk. BeginsPlain (image_of D.Disk files) approval_if_new desk.store.calls.conn) }
-        ensures refused { IfErr result (λ e. LeavesUnharmed (outcomes D.Disk files.log files.db) (image_of D.Disk files) approval_if_new e.0 e.1) }
+        ensures refused { IfErr result (LeavesFiles D.Disk files approval_if_new) }
     {
         match reopen_files(alloc, files, options, approval_if_new) {
             Ok(conn) => Ok(Desk::over(alloc, DeskStore::new(alloc, conn))),

@@ -1,14 +1,9 @@
 //! Whether the tables of a desk agree with what each of them is to have.
 
-ghost use Rattle.std.specs.Prelude.{◌≡◌, Err, IfErr};
-ghost use Rattle.sqlite.specs.Held.{state};
-ghost use Rattle.rollout_model.specs.declared.refusal.Refusal.TheVariants.{StoreFailed};
-ghost use Rattle.desk_records.specs.Holds.{HoldsRecords};
+ghost use Rattle.std.specs.Prelude.{◌≡◌, IfErr};
 ghost use Rattle.rollout_desk.specs.Conduct.{BehavesVerifying};
 ghost use Rattle.rollout_desk.specs.DeskStates.{desk_state};
-ghost use Rattle.rollout_desk.specs.Looks.{Looks};
-ghost use Rattle.rollout_desk.specs.Verifying.{FindsDamage, HasCause, IsNeverDamaged, Judges, KeepsDesk, MayTell, ReadsDamage, SparesRecords};
-ghost use Rattle.rollout_desk.specs.Working.{TellsFailures, tells_store};
+ghost use Rattle.rollout_desk.specs.Verifying.{Judges, KeepsDesk, LooksForDamage, MayTell, ReadsDamage, SparesRecords};
 
 use crate::desk::Desk;
 use crate::look::{Question, look};
@@ -32,10 +27,7 @@ impl<S: Alter> Question<S, Option<CheckedTable>> for FirstDamage {
 
 /// Finds the first table that doesn't agree, inside a transaction that changes nothing.
 fn look_for_damage<S: Alter>(store: &mut DeskStore<S>) -> Result<Option<CheckedTable>, Refusal>
-    ensures judges { FindsDamage (state S.Store store.old.calls.conn) (state S.Store store.new.calls.conn) result }
-    ensures looks { Looks HoldsRecords (state S.Store store.old.calls.conn) (state S.Store store.new.calls.conn) result IsNeverDamaged }
-    ensures blames { result ≡ Err StoreFailed → HasCause S.Store store.old.calls store.new.calls }
-    ensures tells { TellsFailures (tells_store result) store.old.calls store.new.calls }
+    ensures { LooksForDamage S.Store store.old.calls store.new.calls result }
 {
     look(store, &FirstDamage)
 }

@@ -1,79 +1,66 @@
-use Rattle.rollout_desk.proofs.Common.{◌≡◌, refl, subst, rules, state, Keeps, HoldsLedger, HoldsRecords, Do, command_of, reply_of, Handles}
+use Rattle.rollout_desk.proofs.Common.{◌≡◌, refl, subst, rules, state, Keeps, HoldsLedger, HoldsRecords, Do, command_of, reply_of}
 use Rattle.rollout_desk.proofs.ApplyLemmas.{fault_fails, unbegun, accepted, refused, broken}
 use Rattle.rollout_machine.specs.Replies.{Refused}
 use Rattle.rollout_model.specs.declared.refusal.Refusal.TheVariants.{StoreFailed}
 use Rattle.desk_commands.specs.Failures.{TakesSteps}
 use Rattle.desk_store.specs.Failing.{ReadableAs}
-use Rattle.rollout_desk.specs.Causes.{FailsByCalls}
+use Rattle.rollout_desk.specs.Changes.{RunsRequest}
 use Rattle.rollout_desk.proofs.CauseLemmas.{told_reply, accepted_never, failed_inside, refused_never, well_inside}
 use Rattle.sql_calls.specs.Calls.{Grows, failures_of}
 use Rattle.rollout_desk.proofs.VerifyLemmas.{failed_call}
 use Rattle.rollout_desk.proofs.change.run_command.Goals as goal
 
-pub returns-in-Err-clause-handles : goal.returns-in-Err-clause-handles
-returns-in-Err-clause-handles g c =
+pub returns-in-Err-clause-runs : goal.returns-in-Err-clause-runs
+returns-in-Err-clause-runs g c =
     let kept : Keeps HoldsLedger (state g.S.Store c.args.store.now.calls.conn) (state g.S.Store c.begin.follows.lender-at-none.calls.conn) = search rules in
-    unbegun _ _ _ _ kept (fault_fails _ _ c.reply_of_fault.ensures)
+    let grows : Grows (failures_of c.in-Err.fault) c.args.store.now.calls c.begin.follows.lender-at-none.calls = search rules in record {
+      handles = unbegun _ _ _ _ kept (fault_fails _ _ c.reply_of_fault.ensures);
+      tells = search rules;
+      fails = λ is h clean counted stands. failed_call c.in-Err.fault c.in-Err.ensures.sound grows (told_reply _ _ c.reply_of_fault.ensures is);
+    }
 
-pub returns-in-Ok-Accepted-clause-handles : goal.returns-in-Ok-Accepted-clause-handles
-returns-in-Ok-Accepted-clause-handles g c =
+pub returns-in-Ok-Accepted-clause-runs : goal.returns-in-Ok-Accepted-clause-runs
+returns-in-Ok-Accepted-clause-runs g c =
     let same : c.commit.new.change.0 ≡ c.store-in-Ok-Accepted-1.given.0 = search rules in
-    subst (λ h. Handles HoldsRecords (state g.S.Store c.args.store.now.calls.conn) (state g.S.Store h.calls.conn) (Do (command_of c.args.command.now))
-    (reply_of c.commit.result)) same
-    (accepted _ _ c.in-Ok.ensures.begun _ _ _ c.command_is_well_formed.ensures c.in-Ok-Accepted.reply c.in-Ok-Accepted.ensures.stays.frame
-    (rw c.in-Ok-Accepted.field-0-is at c.in-Ok-Accepted.ensures.steps) _ c.commit.ensures.ends)
+    subst (λ h. RunsRequest g.S.Store c.args.store.now.calls h.calls (Do (command_of c.args.command.now)) (reply_of c.commit.result)) same (record {
+      handles = accepted _ _ c.in-Ok.ensures.begun _ _ _ c.command_is_well_formed.ensures c.in-Ok-Accepted.reply c.in-Ok-Accepted.ensures.stays.frame
+          (rw c.in-Ok-Accepted.field-0-is at c.in-Ok-Accepted.ensures.steps) _ c.commit.ensures.ends;
+      tells = search rules;
+      fails = well_inside g.S.Store c.args.store.now.calls c.in-Ok.change c.take_step.new.change c.commit.new.change.0.calls c.in-Ok.ensures.begun
+          c.commit.ensures.ends.wears c.in-Ok.ensures.grows.failures c.in-Ok-Accepted.ensures.stays.grows.failures c.commit.ensures.counts
+          (reply_of c.in-Ok-Accepted.reply) (reply_of c.commit.result)
+          (λ h valid seen clean. accepted_never h valid seen clean (command_of c.args.command.now) c.in-Ok-Accepted.reply
+          (rw c.in-Ok-Accepted.field-0-is at c.in-Ok-Accepted.ensures.steps)) c.commit.ensures.fails;
+    })
 
-pub returns-in-Ok-Refused-clause-handles : goal.returns-in-Ok-Refused-clause-handles
-returns-in-Ok-Refused-clause-handles g c =
+pub returns-in-Ok-Refused-clause-runs : goal.returns-in-Ok-Refused-clause-runs
+returns-in-Ok-Refused-clause-runs g c =
     let same : c.give_up.new.change.0 ≡ c.store-in-Ok-Refused-1.given.0 = search rules in
-    subst (λ h. Handles HoldsRecords (state g.S.Store c.args.store.now.calls.conn) (state g.S.Store h.calls.conn) (Do (command_of c.args.command.now))
-    (reply_of c.give_up.result)) same
-    (refused _ _ c.in-Ok.ensures.begun _ _ _ c.in-Ok-Refused.refusal c.in-Ok-Refused.ensures.stays.frame
-    (rw c.in-Ok-Refused.field-0-is at c.in-Ok-Refused.ensures.steps) _ c.give_up.ensures.ends)
+    subst (λ h. RunsRequest g.S.Store c.args.store.now.calls h.calls (Do (command_of c.args.command.now)) (reply_of c.give_up.result)) same (record {
+      handles = refused _ _ c.in-Ok.ensures.begun _ _ _ c.in-Ok-Refused.refusal c.in-Ok-Refused.ensures.stays.frame
+          (rw c.in-Ok-Refused.field-0-is at c.in-Ok-Refused.ensures.steps) _ c.give_up.ensures.ends;
+      tells = search rules;
+      fails = well_inside g.S.Store c.args.store.now.calls c.in-Ok.change c.take_step.new.change c.give_up.new.change.0.calls c.in-Ok.ensures.begun
+          c.give_up.ensures.ends.wears c.in-Ok.ensures.grows.failures c.in-Ok-Refused.ensures.stays.grows.failures c.give_up.ensures.counts
+          (Refused c.in-Ok-Refused.refusal) (reply_of c.give_up.result)
+          (λ h valid seen clean. refused_never h valid seen clean (command_of c.args.command.now) c.in-Ok-Refused.refusal
+          (rw c.in-Ok-Refused.field-0-is at c.in-Ok-Refused.ensures.steps)) c.give_up.ensures.fails;
+    })
 
-pub returns-in-Err-take_step-clause-handles : goal.returns-in-Err-take_step-clause-handles
-returns-in-Err-take_step-clause-handles g c =
+pub returns-in-Err-take_step-clause-runs : goal.returns-in-Err-take_step-clause-runs
+returns-in-Err-take_step-clause-runs g c =
     let same : c.give_up-in-Err-take_step.new.change.0 ≡ c.store-in-Err-take_step-1.given.0 = search rules in
-    subst (λ h. Handles HoldsRecords (state g.S.Store c.args.store.now.calls.conn) (state g.S.Store h.calls.conn) (Do (command_of c.args.command.now))
-    (reply_of c.give_up-in-Err-take_step.result)) same
-    (broken _ _ c.in-Ok.ensures.begun _ _ _ _ c.in-Err-take_step.ensures.stays.frame c.in-Err-take_step.ensures.steps.wears
-    (fault_fails _ _ c.reply_of_fault-in-Err-take_step.ensures) _ c.give_up-in-Err-take_step.ensures.ends)
-
-pub returns-in-Ok-Accepted-clause-fails : goal.returns-in-Ok-Accepted-clause-fails
-returns-in-Ok-Accepted-clause-fails g c =
-    let same : c.commit.new.change.0 ≡ c.store-in-Ok-Accepted-1.given.0 = search rules in
-    subst (λ h. reply_of c.commit.result ≡ Refused StoreFailed → FailsByCalls g.S.Store c.args.store.now.calls h.calls) same
-    (well_inside g.S.Store c.args.store.now.calls c.in-Ok.change c.take_step.new.change c.commit.new.change.0.calls c.in-Ok.ensures.begun
-    c.commit.ensures.ends.wears c.in-Ok.ensures.grows.failures c.in-Ok-Accepted.ensures.stays.grows.failures c.commit.ensures.counts
-    (reply_of c.in-Ok-Accepted.reply) (reply_of c.commit.result)
-    (λ h valid seen clean. accepted_never h valid seen clean (command_of c.args.command.now) c.in-Ok-Accepted.reply
-    (rw c.in-Ok-Accepted.field-0-is at c.in-Ok-Accepted.ensures.steps)) c.commit.ensures.fails)
-
-pub returns-in-Ok-Refused-clause-fails : goal.returns-in-Ok-Refused-clause-fails
-returns-in-Ok-Refused-clause-fails g c =
-    let same : c.give_up.new.change.0 ≡ c.store-in-Ok-Refused-1.given.0 = search rules in
-    subst (λ h. reply_of c.give_up.result ≡ Refused StoreFailed → FailsByCalls g.S.Store c.args.store.now.calls h.calls) same
-    (well_inside g.S.Store c.args.store.now.calls c.in-Ok.change c.take_step.new.change c.give_up.new.change.0.calls c.in-Ok.ensures.begun
-    c.give_up.ensures.ends.wears c.in-Ok.ensures.grows.failures c.in-Ok-Refused.ensures.stays.grows.failures c.give_up.ensures.counts
-    (Refused c.in-Ok-Refused.refusal) (reply_of c.give_up.result)
-    (λ h valid seen clean. refused_never h valid seen clean (command_of c.args.command.now) c.in-Ok-Refused.refusal
-    (rw c.in-Ok-Refused.field-0-is at c.in-Ok-Refused.ensures.steps)) c.give_up.ensures.fails)
-
-pub returns-in-Err-take_step-clause-fails : goal.returns-in-Err-take_step-clause-fails
-returns-in-Err-take_step-clause-fails g c =
-    let same : c.give_up-in-Err-take_step.new.change.0 ≡ c.store-in-Err-take_step-1.given.0 = search rules in
-    subst (λ h. reply_of c.give_up-in-Err-take_step.result ≡ Refused StoreFailed → FailsByCalls g.S.Store c.args.store.now.calls h.calls) same
-    (failed_inside g.S.Store c.args.store.now.calls c.in-Ok.change c.take_step.new.change c.give_up-in-Err-take_step.new.change.0.calls c.in-Ok.ensures.begun
-    c.give_up-in-Err-take_step.ensures.ends.wears c.in-Ok.ensures.grows.failures c.in-Err-take_step.ensures.stays.grows.failures
-    c.give_up-in-Err-take_step.ensures.counts
-    (ReadableAs TakesSteps) c.in-Err-take_step.fault _ (reply_of c.give_up-in-Err-take_step.result) (told_reply _ _ c.reply_of_fault-in-Err-take_step.ensures)
-    c.in-Err-take_step.ensures.stays.grows c.in-Err-take_step.ensures.fails.to
-    (λ h valid readable counted. record {
-      readable = readable;
-      given = record { of_list = record { list = h; valid = valid; is = refl }; counted = counted };
-    }) c.give_up-in-Err-take_step.ensures.fails)
-
-pub returns-in-Err-clause-fails : goal.returns-in-Err-clause-fails
-returns-in-Err-clause-fails g c =
-    let grows : Grows (failures_of c.in-Err.fault) c.args.store.now.calls c.begin.follows.lender-at-none.calls = search rules in
-    λ is h clean counted stands. failed_call c.in-Err.fault c.in-Err.ensures.sound grows (told_reply _ _ c.reply_of_fault.ensures is)
+    subst (λ h. RunsRequest g.S.Store c.args.store.now.calls h.calls (Do (command_of c.args.command.now)) (reply_of c.give_up-in-Err-take_step.result)) same
+    (record {
+      handles = broken _ _ c.in-Ok.ensures.begun _ _ _ _ c.in-Err-take_step.ensures.stays.frame c.in-Err-take_step.ensures.steps.wears
+          (fault_fails _ _ c.reply_of_fault-in-Err-take_step.ensures) _ c.give_up-in-Err-take_step.ensures.ends;
+      tells = search rules;
+      fails = failed_inside g.S.Store c.args.store.now.calls c.in-Ok.change c.take_step.new.change c.give_up-in-Err-take_step.new.change.0.calls
+          c.in-Ok.ensures.begun c.give_up-in-Err-take_step.ensures.ends.wears c.in-Ok.ensures.grows.failures c.in-Err-take_step.ensures.stays.grows.failures
+          c.give_up-in-Err-take_step.ensures.counts (ReadableAs TakesSteps) c.in-Err-take_step.fault _ (reply_of c.give_up-in-Err-take_step.result)
+          (told_reply _ _ c.reply_of_fault-in-Err-take_step.ensures) c.in-Err-take_step.ensures.stays.grows c.in-Err-take_step.ensures.fails.to
+          (λ h valid readable counted. record {
+            readable = readable;
+            given = record { of_list = record { list = h; valid = valid; is = refl }; counted = counted };
+          }) c.give_up-in-Err-take_step.ensures.fails;
+    })

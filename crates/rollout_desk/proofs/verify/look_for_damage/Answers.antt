@@ -4,15 +4,14 @@ use Rattle.rollout_desk.proofs.LookLemmas.{looks_at}
 use Rattle.rollout_desk.proofs.VerifyLemmas.{blamed, judged}
 use Rattle.rollout_desk.proofs.verify.look_for_damage.Goals as goal
 
-pub returns-clause-judges : goal.returns-clause-judges
-returns-clause-judges g c = judged _ _ c.look.ensures
-
 -- records of accepted commands aren't damaged
-pub returns-clause-looks : goal.returns-clause-looks
-returns-clause-looks g c = looks_at _ _ IsNeverDamaged
-    (λ b a found finds r seen clean h valid is.
-    finds.never h valid (subst (λ (x : Records). Sees HoldsLedger (seen_in g.S.Store b) (ledger_of x)) is seen) clean)
-    _ c.look.ensures
-
-pub returns-clause-blames : goal.returns-clause-blames
-returns-clause-blames g c = blamed _ _ c.look.ensures
+pub returns : goal.returns
+returns g c = record {
+  judges = judged _ _ c.look.ensures;
+  looks = looks_at _ _ IsNeverDamaged
+      (λ b a found finds r seen clean h valid is.
+      finds.never h valid (subst (λ (x : Records). Sees HoldsLedger (seen_in g.S.Store b) (ledger_of x)) is seen) clean)
+      _ c.look.ensures;
+  blames = blamed _ _ c.look.ensures;
+  tells = c.look.ensures.tells;
+}

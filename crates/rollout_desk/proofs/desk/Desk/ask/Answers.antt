@@ -9,7 +9,7 @@ returns-clause-promised g c =
     let now = desk_state_at HoldsRecords c.says_store_failed-self.result (state g.S.Store c.run_query-reply.new.store.calls.conn) in
     let applies = answers HoldsRecords (state g.S.Store c.args.self.now.store.calls.conn) (state g.S.Store c.run_query-reply.new.store.calls.conn)
     c.args.self.now.stopped c.says_store_failed-self.result (Ask (query_of c.args.query.now)) (reply_of c.run_query-reply.result) c.if-self.false
-    c.run_query-reply.ensures.handles c.says_store_failed-self.ensures.is in record {
+    c.run_query-reply.ensures.runs.handles c.says_store_failed-self.ensures.is in record {
       offered = offers_kept was now (query_of c.args.query.now) (reply_of c.run_query-reply.result) applies;
       whole = contents_whole was now (query_of c.args.query.now) (reply_of c.run_query-reply.result) applies;
     }

@@ -41,13 +41,15 @@ returns-then-failed g c =
     c.request-item.is
     c.loop-request.replies.items c.push_reserved.new.self.items c.answer-reply.result c.push_reserved.ensures.items so_far.ran
     c.answer-reply.ensures.conduct.clean c.answer-reply.ensures.applies c.if-failed.ensures.is h clean stands) in record {
-      clean = λ clean. so_far.clean (c.answer-reply.ensures.conduct.clean clean);
+      conduct = record {
+        clean = λ clean. so_far.clean (c.answer-reply.ensures.conduct.clean clean);
+        stops = λ _. c.answer-reply.ensures.conduct.stops (c.if-failed.ensures.only.0 refl);
+        stopped = λ stopped. absurd (false≢true (sym c.if-self.false ∙ stopped));
+        untouched = λ stopped. absurd (false≢true (sym c.if-self.false ∙ stopped));
+      };
       ran = ended;
       once = λ h clean stands. ends_once HoldsRecords c.answer-reply.new.self.stopped (state g.S.Store c.answer-reply.new.self.store.calls.conn) h _ _
           (ended h clean stands);
-      stops = λ _. c.answer-reply.ensures.conduct.stops (c.if-failed.ensures.only.0 refl);
-      stopped = λ stopped. absurd (false≢true (sym c.if-self.false ∙ stopped));
-      untouched = λ stopped. absurd (false≢true (sym c.if-self.false ∙ stopped));
     }
 
 pub returns : goal.returns
@@ -58,11 +60,13 @@ returns g c =
     let ended : (h : CommandList) → now.is_clean → StandsFor was h
     → EndsRun h now (map request_of c.args.requests.now) (map reply_of c.loop-request.replies.items)
     = λ h clean stands. inl (all_ran was now c.args.requests.now c.loop-request.request-index _ c.loop-request-test.false so_far.ran h clean stands) in record {
-      clean = so_far.clean;
+      conduct = record {
+        clean = so_far.clean;
+        stops = λ has. absurd (so_far.none has);
+        stopped = λ stopped. absurd (false≢true (sym c.if-self.false ∙ stopped));
+        untouched = λ stopped. absurd (false≢true (sym c.if-self.false ∙ stopped));
+      };
       ran = ended;
       once = λ h clean stands. ends_once HoldsRecords c.loop-request.self.stopped (state g.S.Store c.loop-request.self.store.calls.conn) h _ _
           (ended h clean stands);
-      stops = λ has. absurd (so_far.none has);
-      stopped = λ stopped. absurd (false≢true (sym c.if-self.false ∙ stopped));
-      untouched = λ stopped. absurd (false≢true (sym c.if-self.false ∙ stopped));
     }
