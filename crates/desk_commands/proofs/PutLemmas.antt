@@ -105,7 +105,7 @@ module _ (row : TargetRow) (r : Records) (count after : ℕ) (next : count ≤ 1
         let size = all.0 in
         let few = all.1 in
         let quota : refusal ≡ Quota = cc in
-        (quota, nothing (target_of r row.id) is, omega (arith, beyond, one, size, few))
+        (quota, (nothing (target_of r row.id) is, omega (arith, beyond, one, size, few)))
     go false over why = absurd (cc)
 
 -- ---- the quota

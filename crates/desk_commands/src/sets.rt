@@ -41,10 +41,7 @@ fn lacks_a_module<S: Alter>(
 }
 
 /// What the verdict on a set rests on.
-fn read_view<S: Alter>(
-    change: &mut OpenChange<'_, S>,
-    label: &SetLabel,
-) -> Result<SetView, Fault>
+fn read_view<S: Alter>(change: &mut OpenChange<'_, S>, label: &SetLabel) -> Result<SetView, Fault>
     ensures stays { StaysIn S.Store change.old change.new result }
     ensures reads { FindsIn S.Store change.old change.new result (λ r view. IsSetView view label.now r) }
     ensures fails { FailsAtListsIn S.Store change.old change.new result }

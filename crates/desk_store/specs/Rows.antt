@@ -7,6 +7,7 @@ use Rattle.sqlite_rules.specs.Lists.{Has}
 use Rattle.desk_records.specs.Codes.{flag_in}
 use Rattle.desk_records.specs.Columns.{StoredNumber}
 pub use Rattle.desk_records.specs.RowFaults.{BreaksRule, IfBroken, IfRowsBroken}
+
 -- what a row that can't be read makes of a call
 
 -- no row is nothing

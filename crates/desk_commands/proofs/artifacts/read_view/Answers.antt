@@ -3,6 +3,7 @@ use Rattle.desk_commands.proofs.artifacts.read_view.Goals as goal
 
 pub returns-clause-reads : goal.returns-clause-reads
 returns-clause-reads g c =
+    let digest = rw c.as_slice.ensures.value at c.describe-described.ensures.digest in
     finds_as
     (both_found
     (both_found (both_found (both_found c.in_ok-last_module.ensures.reads c.in_ok-locked.ensures.reads) c.in_ok-same.ensures.reads)
@@ -14,9 +15,9 @@ returns-clause-reads g c =
           is.0.0.0.0;
       locked = is.0.0.0.1;
       same = is.0.0.1;
-      module_count = c.len.ensures ∙ ap length is.0.1 ∙ shown_count c.args.upload.now.module_number 1 r.artifacts;
+      module_count = c.len.ensures ∙ c.in_ok-of_module.of_module.ok.0 ∙ ap length is.0.1 ∙ shown_count c.args.upload.now.module_number 1 r.artifacts;
       count = is.1;
-      wrong_digest = c.names_another.ensures c.describe-described.ensures.digest;
-      size = c.describe-described.ensures.size;
-      digest = c.describe-described.ensures.digest;
+      wrong_digest = c.names_another.ensures digest;
+      size = rw c.as_slice.ensures.value at c.describe-described.ensures.size;
+      digest = digest;
     })

@@ -8,5 +8,5 @@ returns-clause-reads g c =
       misses_target = is.0;
       same = rw c.deref.ensures.value at c.contains.ensures.value ∙ any_word c.args.tag.now c.in_ok-tags.tags.items
           ∙ ap (contains_word c.args.tag.now) is.1;
-      count = c.len.ensures ∙ ap length is.1;
+      count = c.len.ensures ∙ c.in_ok-tags.tags.ok.0 ∙ ap length is.1;
     })

@@ -5,13 +5,13 @@ pub returns-in-Err-clause-steps : goal.returns-in-Err-clause-steps
 returns-in-Err-clause-steps g c =
     refused c.in_ok-view.ensures.reads (λ r is. tag_row r c.args.id.now c.args.tag.now c.in_ok-view.view is ∙ c.in-Err.ensures)
 
-pub returns-then-same-clause-steps : goal.returns-then-same-clause-steps
-returns-then-same-clause-steps g c =
+pub returns-then-view-clause-steps : goal.returns-then-view-clause-steps
+returns-then-view-clause-steps g c =
     let id = c.args.id.now in
     let tag = c.args.tag.now in
     let view = c.in_ok-view.view in
     accepted (found_held (λ db r holds. holds.sorted) c.in_ok-view.ensures.reads)
-    (λ r next. next ≡ r) (λ r is. had_is_step r id tag view is.1 c.in-Ok.ensures c.if-same.true is.0) (makes_nothing {E = Fault} (λ r next same. same))
+    (λ r next. next ≡ r) (λ r is. had_is_step r id tag view is.1 c.in-Ok.ensures c.if-view.true is.0) (makes_nothing {E = Fault} (λ r next same. same))
     _ (λ r is. (tag_row r id tag view is.1 ∙ c.in-Ok.ensures, refl))
 
 pub returns-clause-steps : goal.returns-clause-steps
@@ -20,5 +20,5 @@ returns-clause-steps g c =
     let tag = c.args.tag.now in
     let view = c.in_ok-view.view in
     accepted c.in_ok-view.ensures.reads
-    _ (λ r is. tag_is_step r id tag view is c.in-Ok.ensures c.if-same.false) c.in_ok-write_target_tag.ensures.writes
+    _ (λ r is. tag_is_step r id tag view is c.in-Ok.ensures c.if-view.false) c.in_ok-write_target_tag.ensures.writes
     _ (λ r is. (tag_row r id tag view is ∙ c.in-Ok.ensures, refl))

@@ -1,7 +1,6 @@
-use Rattle.rollout_desk.proofs.Common.{◌≡◌, refl, subst, rules, state, Keeps, HoldsLedger, HoldsRecords, Do, command_of, reply_of}
+use Rattle.rollout_desk.proofs.Common.{◌≡◌, refl, subst, rules, state, Keeps, HoldsLedger, Do, command_of, reply_of}
 use Rattle.rollout_desk.proofs.ApplyLemmas.{fault_fails, unbegun, accepted, refused, broken}
 use Rattle.rollout_machine.specs.Replies.{Refused}
-use Rattle.rollout_model.specs.declared.refusal.Refusal.TheVariants.{StoreFailed}
 use Rattle.desk_commands.specs.Failures.{TakesSteps}
 use Rattle.desk_store.specs.Failing.{ReadableAs}
 use Rattle.rollout_desk.specs.Changes.{RunsRequest}
