@@ -16,7 +16,7 @@ use Rattle.desk_records.specs.declared.rollout_row.ToldPlan.{ToldPlan}
 use Rattle.desk_commands.specs.declared.progress.Going.{Going}
 use Rattle.desk_commands.specs.declared.progress.Going.TheVariants.{Resumed, Triggered}
 use Rattle.desk_commands.proofs.LedgerEnds.{changed_at, groups_stand, rollout_of, sets_alone, starts_last, then_started}
-use Rattle.desk_commands.proofs.StandingLemmas.{Found}
+use Rattle.desk_commands.proofs.StandingLemmas.{Found, is_numbered}
 
 -- ---- groups whose numbers are their places, from one on
 
@@ -169,7 +169,7 @@ gone_is Resumed x = refl
 gone_is Triggered x = ap (λ n. record x { groups = map (start_group (next_if (nat_lt n x.plan.groups.count) n)) x.groups })
     (sym (number_is x (last_started x.groups)))
 
-module _ (going : Going) (h : CommandList) (r : ℕ) (seen : SeenRollout) (number : is_number r ≡ true) (found : Found h r seen)
+module _ (going : Going) (h : CommandList) (r : ℕ) (seen : SeenRollout) (found : Found h r seen)
     (accepted : check (records h) (gone_by going r) ≡ None) where
   abbrev x : RolloutRecord
   x = found.rollout
@@ -200,7 +200,8 @@ module _ (going : Going) (h : CommandList) (r : ℕ) (seen : SeenRollout) (numbe
       (ledger_of (step_records (records h) (gone_by going r)))
   ends None is =
       let so : gone going x ≡ between = gone_so None is ∙ ap (with_groups between) (starts_none x.groups) in
-      sets_alone h (gone_by going r) found.at.valid (gone_formed going r number) accepted r x between found.at.is_there (stepped between so) refl
+      sets_alone h (gone_by going r) found.at.valid (gone_formed going r (is_numbered h r seen found)) accepted r x between found.at.is_there
+      (stepped between so) refl
       (gone_calm going h r) refl
   ends (Some i) is =
       let next : (i ≡ (view_of x (last_started x.groups)).last.number + 1) × ((view_of x (last_started x.groups)).last.number < x.plan.groups.count) =
@@ -218,7 +219,8 @@ module _ (going : Going) (h : CommandList) (r : ℕ) (seen : SeenRollout) (numbe
       let then : gone going x ≡ then_started between it.0 = gone_so (Some i) is ∙ ap (with_groups between) starts in (
         it.0,
         ap (λ gs. item_numbered gs i) found.at.is_seen.groups ∙ its,
-        starts_last h (gone_by going r) found.at.valid (gone_formed going r number) accepted r x (then_started between it.0) found.at.is_there
+        starts_last h (gone_by going r) found.at.valid (gone_formed going r (is_numbered h r seen found)) accepted r x (then_started between it.0)
+            found.at.is_there
             (stepped (then_started between it.0) then) refl (gone_calm going h r) between it.0 own
             (record {
               rollout = x;
@@ -299,10 +301,10 @@ seen_view h r seen x at n groups rule found v last said is view count =
         ∙ ap (group_view x) number
 
 -- what is written is the step
-pub gone_on : (going : Going) (h : CommandList) (r : ℕ) (seen : SeenRollout) (found : Found h r seen) → is_number r ≡ true → (v : RolloutView)
+pub gone_on : (going : Going) (h : CommandList) (r : ℕ) (seen : SeenRollout) (found : Found h r seen) → (v : RolloutView)
     → v ≡ view_of found.rollout (last_started found.rollout.groups) → (paused : Bool) → paused ≡ pause_left going seen.paused
     → (starts : Option ℕ) → starts ≡ starts_by going v → check (records h) (gone_by going r) ≡ None
     → GoesOn r seen paused starts (ledger_of (records h)) (ledger_of (step_records (records h) (gone_by going r)))
-gone_on going h r seen found number v view paused left starts is accepted =
+gone_on going h r seen found v view paused left starts is accepted =
     subst (λ p. GoesOn r seen p starts (ledger_of (records h)) (ledger_of (step_records (records h) (gone_by going r)))) (sym left)
-    (went_on going h r seen number found accepted starts (ap (starts_by going) (sym view) ∙ sym is))
+    (went_on going h r seen found accepted starts (ap (starts_by going) (sym view) ∙ sym is))

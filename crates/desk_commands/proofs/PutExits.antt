@@ -1,7 +1,7 @@
 -- The ledger behind a row of a put, and between its name and its tags, can be read.
 use Rattle.sqlite.specs.State.{State}
 use Rattle.desk_commands.proofs.Common.{◌≡◌, ◌≤◌, ◌<◌, ◌&&◌, ℕ, zero, suc, Bool, true, false, cond, List, [], ◌∷◌, take, get_or, length}
-use Rattle.desk_commands.proofs.Common.{Option, None, Result, Err, refl, sym, ap, ◌∙◌, subst, arith, length-map, list_all, and_parts}
+use Rattle.desk_commands.proofs.Common.{Option, None, Result, Err, sym, ap, ◌∙◌, subst, arith, length-map, list_all, and_parts}
 use Rattle.desk_commands.proofs.Common.{HasCleanDisk, HoldsLedger, ledger_of, Sees, Wears, Fault, Refusal, CommandList, ◌▸◌, IsValid, Records, records}
 use Rattle.desk_commands.proofs.Common.{records_step, step_records, put_targets, change_target, TargetRow, PutTargets, Target, check}
 use Rattle.desk_commands.proofs.Common.{same_bytes, renamed, with_changed, Has, is_digest, is_tag_list, is_text}

@@ -7,6 +7,9 @@ use Rattle.desk_commands.proofs.Common.{SeenRollout, IsSeenAt, WritesSaid, appro
 use Rattle.campaign_core.proofs.ItemLemmas.{IsFound, found}
 use Rattle.desk_commands.specs.declared.standing.Said.{Said}
 use Rattle.desk_commands.specs.declared.standing.Said.TheVariants.{Approved, Denied, Paused}
+use Rattle.desk_commands.proofs.Common.{limits_hold, zero, suc, arith}
+use Rattle.desk_records.proofs.HeldCounts.{place_within}
+use Rattle.desk_records.proofs.NumberColumns.{is_in_range}
 use Rattle.desk_commands.proofs.LedgerEnds.{changed_at, sets_alone}
 
 -- ---- verdicts
@@ -40,6 +43,14 @@ seen_there h valid r seen sees =
     let it : IsFound IsSeenOf seen (item_numbered (records h).rollouts r) = found IsSeenOf (Some seen) seen (item_numbered (records h).rollouts r) refl
     (sees (of_list h valid)) in
     record { rollout = it.item; at = record { valid = valid; is_there = it.there; is_seen = it.is } }
+
+-- so its number is one
+pub is_numbered : (h : CommandList) (r : ℕ) (seen : SeenRollout) → Found h r seen → is_number r ≡ true
+is_numbered h zero seen found = absurd (let none = found.at.is_there in cc)
+is_numbered h (suc d) seen found =
+    let within = place_within (records h).rollouts d found.rollout found.at.is_there in
+    let most = (limits_hold h found.at.valid).rollouts in
+    is_in_range (suc d) (omega arith) (omega (arith, within, most))
 
 pub none_there : (h : CommandList) → IsValid h → (r : ℕ) → Sees (records h) r None → item_numbered (records h).rollouts r ≡ None
 none_there h valid r sees = go (item_numbered (records h).rollouts r) (sees (of_list h valid)) where
@@ -78,9 +89,9 @@ said_calm Denied h r t = refl
 said_calm Paused h r t = refl
 
 -- what is written is the step
-pub said_written : (said : Said) (h : CommandList) (r : ℕ) (seen : SeenRollout) → is_number r ≡ true → Found h r seen → check (records h) (command_said said r)
+pub said_written : (said : Said) (h : CommandList) (r : ℕ) (seen : SeenRollout) → Found h r seen → check (records h) (command_said said r)
     ≡ None → WritesSaid said r seen (ledger_of (records h)) (ledger_of (step_records (records h) (command_said said r)))
-said_written said h r seen number found accepted =
+said_written said h r seen found accepted =
     let x = found.rollout in
     let s = found.at.is_seen in
     let y = turned (approval_after said seen.approval) seen.started (paused_after said seen.paused) x in
@@ -89,7 +100,7 @@ said_written said h r seen number found accepted =
       rollout = x;
       is_there = found.at.is_there;
       next_is =
-          sets_alone h (command_said said r) found.at.valid (said_formed said r number) accepted r x y found.at.is_there
+          sets_alone h (command_said said r) found.at.valid (said_formed said r (is_numbered h r seen found)) accepted r x y found.at.is_there
           (said_step said (records h) r
           ∙ ap (λ xs. record (records h) { rollouts = xs }) (changed_at h found.at.valid r (said_of said) x y found.at.is_there same)) refl
           (said_calm said h r) refl;

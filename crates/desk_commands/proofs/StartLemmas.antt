@@ -4,7 +4,7 @@ use Rattle.desk_commands.proofs.Common.{drop, length, slice_get, Option, Some, N
 use Rattle.desk_commands.proofs.Common.{or-true, zip, unwrap_or, nat_tests, length-append, length-map, map-append, take_all, item_numbered, CommandList, Bytes}
 use Rattle.desk_commands.proofs.Common.{Start, each_from, Approval, Denied, Given, Waiting, Records, group_in, records, rollout_in, begin_rollout}
 use Rattle.desk_commands.proofs.Common.{change_rollout, new_action, new_actions, start_group, step_records, Rollout, is_finished, word_from, IsValid, check}
-use Rattle.desk_commands.proofs.Common.{is_ready, ActionRecord, GroupRecord, RolloutRecord, each_from_more, length_each, is_number, NotFound, WrongState}
+use Rattle.desk_commands.proofs.Common.{is_ready, ActionRecord, GroupRecord, RolloutRecord, each_from_more, length_each, NotFound, WrongState}
 use Rattle.desk_commands.proofs.Common.{records_are_sound, actor_of, tally_of, numbers_of, Ledger, ledger_of, AddsAction, SetsRollout, scheduled, set_numbered}
 use Rattle.desk_commands.proofs.Common.{turned, with_actions, with_groups, with_numbers, with_rollouts, SeenRollout, StartsAndOffers, started, AddsActions}
 use Rattle.desk_commands.proofs.Common.{ReadsMembers, StartsWhole, and_actions, new_for, never_started, members_of}
@@ -12,7 +12,7 @@ use Rattle.std.proofs.lemmas.Option.{slice_get_read}
 use Rattle.rollout_machine.specs.Actions.{places_from}
 use Rattle.desk_commands.proofs.ItemSteps.{set_twice}
 use Rattle.desk_commands.proofs.LedgerEnds.{changed_at, ends_with_group, rollout_of, said_stays, set_is_there}
-use Rattle.desk_commands.proofs.StandingLemmas.{Found}
+use Rattle.desk_commands.proofs.StandingLemmas.{Found, is_numbered}
 
 -- ---- what is read
 
@@ -140,12 +140,12 @@ zipped [] = refl
 zipped (a ∷ as') = ap suc (zipped as')
 
 -- what was read of a rollout that is ready is written as the step
-pub starts_whole : (h : CommandList) → IsValid h → (r : ℕ) (seen : SeenRollout) (g : GroupRecord) (last count : ℕ) (members : List Bytes) → is_number r ≡ true
+pub starts_whole : (h : CommandList) → IsValid h → (r : ℕ) (seen : SeenRollout) (g : GroupRecord) (last count : ℕ) (members : List Bytes)
     → (found : Found h r seen) → check (records h) (Start r) ≡ None
     → slice_get seen.groups.items 0 ≡ Some g → last ≡ length (zip (records h).actions (map tally_of (records h).actions)) → count ≡ length found.rollout.members
     → ReadsMembers r count (ledger_of (records h)) members
     → StartsWhole r seen g last members (ledger_of (records h)) (ledger_of (step_records (records h) (Start r)))
-starts_whole h valid r seen g last count members number found accepted first size many read = record {
+starts_whole h valid r seen g last count members found accepted first size many read = record {
   begun = turned_ledger;
   sets = record { rollout = x; is_there = there; next_is = refl };
   acting = acting_ledger;
@@ -158,7 +158,7 @@ starts_whole h valid r seen g last count members number found accepted first siz
     next_is = refl;
   };
   starts =
-      ends_with_group h (Start r) valid number accepted r g acting_ledger y (set_is_there rs.rollouts r x y there)
+      ends_with_group h (Start r) valid (is_numbered h r seen found) accepted r g acting_ledger y (set_is_there rs.rollouts r x y there)
       (ap (item_numbered x.groups) fg.number ∙ fg.its)
       (record {
         rollout = x;

@@ -1,6 +1,7 @@
 //! Feedback on actions, and the cancels of actions.
 
 ghost use Rattle.std.specs.Prelude.{◌≡◌, ◌+◌, cond, is_some};
+ghost use Rattle.rollout_machine.specs.CommandRules.{IsWellFormed};
 ghost use Rattle.rollout_machine.specs.Reports.{reported};
 ghost use Rattle.rollout_machine.specs.Commands.{Cancel as CancelCommand, CancelFeedback, Feedback};
 ghost use Rattle.desk_commands.specs.ActionSteps.{Acts, FollowsChange, TellsAction, WritesFeedback};
@@ -20,7 +21,7 @@ use crate::step::Step;
 use crate::telling::{Told, entries_with, notes_with, write_told};
 use campaign_core::{ActionChange, cancel, cancel_feedback, feedback, own_action};
 use desk_store::{Fault, OpenChange, tell_entry};
-use rollout_machine::{Outcome, cancel_is_well_formed, feedback_is_well_formed};
+use rollout_machine::Outcome;
 use rollout_model::{Cancel, CancelWord, DeploymentWord, DeviceFeedback, Refusal, Reply, Said};
 use sqlite::Alter;
 use std::alloc::Global;
@@ -163,11 +164,10 @@ pub(crate) fn take_feedback<S: Alter>(
     given: &DeviceFeedback<DeploymentWord>,
 ) -> Result<Step, Fault>
     ensures stays { StaysIn S.Store change.old change.new result }
-    ensures steps { StepsIn S.Store change.old change.new (Feedback given.now) result }
-    ensures fails { FailsStepIn S.Store change.old change.new result }
+    ensures steps { IsWellFormed (Feedback given.now) → StepsIn S.Store change.old change.new (Feedback given.now) result }
+    ensures fails { IsWellFormed (Feedback given.now) → FailsStepIn S.Store change.old change.new result }
     ensures work { AddsIn (12 + if_numbered given.now.number 2) (7 + if_numbered given.now.number 1) change.old change.new }
 {
-    feedback_is_well_formed(given);
     let said = Said::Deployment(given.word);
     let seen = see_feedback(change, given, said)?;
     let report = seen.report;
@@ -190,11 +190,10 @@ pub(crate) fn take_cancel_feedback<S: Alter>(
     given: &DeviceFeedback<CancelWord>,
 ) -> Result<Step, Fault>
     ensures stays { StaysIn S.Store change.old change.new result }
-    ensures steps { StepsIn S.Store change.old change.new (CancelFeedback given.now) result }
-    ensures fails { FailsStepIn S.Store change.old change.new result }
+    ensures steps { IsWellFormed (CancelFeedback given.now) → StepsIn S.Store change.old change.new (CancelFeedback given.now) result }
+    ensures fails { IsWellFormed (CancelFeedback given.now) → FailsStepIn S.Store change.old change.new result }
     ensures work { AddsIn (12 + if_numbered given.now.number 2) (7 + if_numbered given.now.number 1) change.old change.new }
 {
-    feedback_is_well_formed(given);
     let said = Said::Cancel(given.word);
     let seen = see_feedback(change, given, said)?;
     let report = seen.report;
@@ -216,10 +215,10 @@ pub(crate) fn cancel_action<S: Alter>(
     asked: &Cancel,
 ) -> Result<Step, Fault>
     ensures stays { StaysIn S.Store change.old change.new result }
-    ensures steps { StepsIn S.Store change.old change.new (CancelCommand asked.now.target asked.now.action asked.now.force) result }
-    ensures fails { FailsStepIn S.Store change.old change.new result }
+    ensures steps { IsWellFormed (CancelCommand asked.now.target asked.now.action asked.now.force)
+        → StepsIn S.Store change.old change.new (CancelCommand asked.now.target asked.now.action asked.now.force) result }
+    ensures fails { IsWellFormed (CancelCommand asked.now.target asked.now.action asked.now.force) → FailsStepIn S.Store change.old change.new result }
 {
-    cancel_is_well_formed(asked);
     let found = see_target(change, &asked.target, asked.action)?;
     let Some(seen) = found else {
         return Ok(Step::Refused(Refusal::NotFound));

@@ -3,6 +3,7 @@
 ghost use Rattle.std.specs.Prelude.{◌≡◌, true};
 ghost use Rattle.rollout_machine.specs.Views.{command_of};
 ghost use Rattle.rollout_machine.specs.Bounds.{is_feedback};
+ghost use Rattle.rollout_machine.specs.CommandRules.{IsWellFormed};
 ghost use Rattle.desk_store.specs.Counting.{AddsIn};
 ghost use Rattle.desk_store.specs.Changing.{StaysIn};
 ghost use Rattle.desk_commands.specs.Changing.{StepsIn};
@@ -21,6 +22,7 @@ use crate::step::Step;
 use crate::tags::{tag_target, untag_target};
 use crate::targets::put_targets;
 use desk_store::{Fault, OpenChange};
+use rollout_machine::command_is_well_formed;
 use rollout_model::Command;
 use sqlite::Alter;
 use std::alloc::Global;
@@ -35,7 +37,9 @@ pub fn take_step<S: Alter>(
     ensures steps { StepsIn S.Store change.old change.new (command_of command.now) result }
     ensures fails { FailsStepIn S.Store change.old change.new result }
     ensures work { is_feedback (command_of command.now) ≡ true → AddsIn 14 24 change.old change.new }
+    ensures formed { IsWellFormed (command_of command.now) }
 {
+    command_is_well_formed(command);
     match command {
         Command::AddModule(label) => add_module(alloc, change, label),
         Command::AddArtifact(upload) => add_artifact(change, upload),

@@ -22,7 +22,7 @@ use crate::step::Step;
 use campaign_core::{ResumeView, TriggerView, after_resume, after_trigger, resume, trigger};
 use desk_reads::{SeenRollout, read_seen_rollout};
 use desk_store::{Fault, OpenChange, ToldPlan};
-use rollout_machine::{GroupRecord, RolloutView, number_is_well_formed};
+use rollout_machine::{GroupRecord, RolloutView};
 use rollout_model::{GroupRule, Refusal, Reply, RolloutNo};
 use sqlite::Alter;
 
@@ -214,7 +214,6 @@ fn go_on<S: Alter>(
     if let Some(refusal) = refusal_of(going, &seen, rollout) {
         return Ok(Step::Refused(refusal));
     }
-    number_is_well_formed(number);
     let paused = pause_of(going, seen.paused);
     let starts = start_of(going, &rollout);
     write_going(change, number, &seen, paused, starts)?;

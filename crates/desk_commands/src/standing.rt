@@ -12,7 +12,6 @@ use crate::step::Step;
 use campaign_core::{RolloutChange, StandingView, approve, deny, pause};
 use desk_reads::{SeenRollout, read_seen_rollout};
 use desk_store::{Fault, OpenChange};
-use rollout_machine::number_is_well_formed;
 use rollout_model::{Approval, Refusal, Reply, RolloutNo};
 use sqlite::Alter;
 
@@ -86,7 +85,6 @@ fn say<S: Alter>(
     if let Some(refusal) = refusal_of(said, &seen) {
         return Ok(Step::Refused(refusal));
     }
-    number_is_well_formed(number);
     write_said(change, number, &seen, said)?;
     Ok(Step::Accepted(Reply::Done))
 }

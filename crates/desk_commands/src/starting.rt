@@ -18,7 +18,7 @@ use crate::step::Step;
 use campaign_core::{StandingView, start};
 use desk_reads::{SeenRollout, read_seen_rollout};
 use desk_store::{Fault, OpenChange};
-use rollout_machine::{GroupRecord, number_is_well_formed};
+use rollout_machine::GroupRecord;
 use rollout_model::limits::NUMBER_LIMIT;
 use rollout_model::{ActionNo, ControllerId, Page, Refusal, Reply, RolloutNo};
 use sqlite::Alter;
@@ -128,7 +128,6 @@ pub(crate) fn start_rollout<S: Alter>(
     let members = read_all_members(change, number, seen.members())?;
     let first = first_group(&seen)?;
     check_numbers(last, &members)?;
-    number_is_well_formed(number);
     write_start(change, number, &seen, &first, last, &members)?;
     Ok(Step::Accepted(Reply::Done))
 }

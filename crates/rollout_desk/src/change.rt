@@ -22,7 +22,6 @@ use desk_views::{
     show_module, show_modules, show_poll, show_report, show_rollout, show_rollouts, show_set,
     show_sets, show_target, show_target_actions, show_targets,
 };
-use rollout_machine::command_is_well_formed;
 use rollout_model::{Command, Query, Refusal, Reply};
 use sqlite::Alter;
 use std::alloc::Global;
@@ -101,7 +100,6 @@ pub(crate) fn run_command<S: Alter>(
     ensures runs { RunsRequest S.Store store.old.calls store.new.calls (Do (command_of command.now)) (reply_of result) }
     ensures work { is_feedback (command_of command.now) ≡ true → Adds 14 24 store.old.calls.work store.new.calls.work }
 {
-    command_is_well_formed(command);
     let mut change = match store.begin() {
         Ok(change) => change,
         Err(fault) => return reply_of_fault(fault),

@@ -24,7 +24,7 @@ returns-clause-steps g c =
     (λ h valid sees.
     let it = seen_there h valid number seen sees.0 in
     let view = sees.1 (of_list h valid) it.rollout it.at.is_there it.at.is_seen in
-    gone_on going h number seen it c.number_is_well_formed.ensures c.in_ok-rollout.rollout view _ c.pause_of-paused.ensures _ c.start_of-starts.ensures
+    gone_on going h number seen it c.in_ok-rollout.rollout view _ c.pause_of-paused.ensures _ c.start_of-starts.ensures
     (c.refusal_of.ensures h number it.rollout it.at view ∙ c.in_default-refusal_of.is))
     (ledger_made (Ok tt) c.in_ok-write_going.ensures.writes)
     _ (λ h valid sees.
@@ -54,7 +54,7 @@ returns-in_err-write_going-clause-fails g c =
     let it = seen_there h valid number seen sees.0 in
     let view = sees.1 (of_list h valid) it.rollout it.at.is_there it.at.is_seen in
     can_start number seen c.pause_of-paused.result starts _ _
-    (gone_on going h number seen it c.number_is_well_formed.ensures c.in_ok-rollout.rollout view _ c.pause_of-paused.ensures _ c.start_of-starts.ensures
+    (gone_on going h number seen it c.in_ok-rollout.rollout view _ c.pause_of-paused.ensures _ c.start_of-starts.ensures
     (c.refusal_of.ensures h number it.rollout it.at view ∙ c.in_default-refusal_of.is)))
     (counted c.in_err-write_going.ensures.counts)) _ c.from_residual-in_err-write_going.ensures.1
 

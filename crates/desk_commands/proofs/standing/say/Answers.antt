@@ -21,7 +21,7 @@ returns-clause-steps g c =
     let seen = c.in-Some.seen in
     accepted_at (rw c.in-Some.is at c.in_ok-found.ensures.reads)
     (λ r next. WritesSaid said number seen (ledger_of r) (ledger_of next))
-    (λ h valid sees. let it = seen_there h valid number seen sees in said_written said h number seen c.number_is_well_formed.ensures it
+    (λ h valid sees. let it = seen_there h valid number seen sees in said_written said h number seen it
     (c.refusal_of.ensures h number it.rollout it.at ∙ c.in_default-refusal_of.is))
     (ledger_made (Ok tt) c.in_ok-write_said.ensures.writes)
     _ (λ h valid sees. let it = seen_there h valid number seen sees in

@@ -27,7 +27,7 @@ returns-clause-steps g c =
     (λ r next. StartsWhole number seen first last members (ledger_of r) (ledger_of next))
     (λ h valid is.
     let it = seen_there h valid number seen is.0.0 in
-    starts_whole h valid number seen first last c.members.result members c.number_is_well_formed.ensures it (c.start_refusal.ensures h number it.rollout it.at
+    starts_whole h valid number seen first last c.members.result members it (c.start_refusal.ensures h number it.rollout it.at
     ∙ c.in_default-start_refusal.is)
     (ok_or_some _ _ _ c.in_ok-first.ensures) is.0.1 (c.members.ensures it.rollout it.at.is_seen) is.1)
     (ledger_made (Ok tt) (rw c.deref-2.ensures.value at c.in_ok-write_start.ensures.writes)) _

@@ -22,7 +22,7 @@ pub returns-in-Ok-Accepted-clause-runs : goal.returns-in-Ok-Accepted-clause-runs
 returns-in-Ok-Accepted-clause-runs g c =
     let same : c.commit.new.change.0 ≡ c.store-in-Ok-Accepted-1.given.0 = search rules in
     subst (λ h. RunsRequest g.S.Store c.args.store.now.calls h.calls (Do (command_of c.args.command.now)) (reply_of c.commit.result)) same (record {
-      handles = accepted _ _ c.in-Ok.ensures.begun _ _ _ c.command_is_well_formed.ensures c.in-Ok-Accepted.reply c.in-Ok-Accepted.ensures.stays.frame
+      handles = accepted _ _ c.in-Ok.ensures.begun _ _ _ c.in-Ok-Accepted.ensures.formed c.in-Ok-Accepted.reply c.in-Ok-Accepted.ensures.stays.frame
           (rw c.in-Ok-Accepted.field-0-is at c.in-Ok-Accepted.ensures.steps) _ c.commit.ensures.ends;
       tells = search rules;
       fails = well_inside g.S.Store c.args.store.now.calls c.in-Ok.change c.take_step.new.change c.commit.new.change.0.calls c.in-Ok.ensures.begun
