@@ -95,6 +95,17 @@ def test_own_columns_are_told_before_those_of_another_row():
         ) in found.specs().splitlines()
 
 
+def test_lemmas_are_written_where_they_are_asked_for():
+    for words, wanted in (
+        ("", ["one_pump"]),
+        (" same", ["one_pump", "same_pump"]),
+        (" whole", ["one_pump", "whole_pump"]),
+    ):
+        with read(KINDS + PUMP.rstrip("\n") + words + "\n") as found:
+            lemmas = [line.split()[1] for line in found.proofs().splitlines() if line.startswith("pub ")]
+            same(lemmas, wanted)
+
+
 def test_what_has_no_row():
     for text, words in (
         (KINDS.replace("    room    size    PumpPlace\n", ""), "doesn't say the columns of pump"),
