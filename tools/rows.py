@@ -69,6 +69,7 @@ KINDS = {
     "word": kept("word_at", "Text %s", "has_word", "same_text"),
     "filename": kept("filename_at", "Text %s", "has_filename", "same_text"),
     "digest": kept("digest_at", "Blob %s", "has_digest", "same_blob"),
+    # no row is read of such a column: what breaks it is all that is asked
     "bytes": kept("", "Blob %s", "has_bytes", ""),
 }
 
