@@ -1,25 +1,18 @@
 -- What foreign keys set off: their actions change tables that have some, and no others.
-use Rattle.sql_calls.proofs.Common.{◌≡◌, ◌≢◌, ℤ, ◌+◌, nat_lt, Err, MatchBool, inl, inr, ℕ, zero, suc, ◌==◌, ◌&&◌, Bool, true, false, cond, List, [], ◌∷◌, ◌++◌}
-use Rattle.sql_calls.proofs.Common.{Option, Some, None, Ok, refl, sym, ap, subst, ◌∙◌, flat_map, filter_map, AllByRecursion, list_any, Row, Trees, Table}
-use Rattle.sql_calls.proofs.Common.{Schema, Edit, edited, taken_by, Applies, Reference, ParentKey, Deed, Has, Work, pairs, loses, work_by, work_for, works}
+use Rattle.sql_calls.proofs.Common.{◌≡◌, ◌≢◌, ℤ, ◌+◌, nat_lt, Err, MatchBool, inl, inr, ℕ, zero, suc, Bool, true, false, List, [], ◌∷◌, ◌++◌}
+use Rattle.sql_calls.proofs.Common.{Option, Some, None, Ok, refl, sym, ap, subst, filter_map, AllByRecursion, Row, Trees, Table}
+use Rattle.sql_calls.proofs.Common.{Schema, Edit, edited, Applies, Reference, ParentKey, Deed, Has, Work, pairs, work_by, work_for, works}
 use Rattle.sql_calls.proofs.Common.{End, Goes, ActsOn, Acts, Leads, AreChildren, action_edit, refuses, max_depth, all_has, all_from, HasNoForeignKey}
 use Rattle.sqlite_schema.specs.declared.schema.Keys.{Keys}
 use Rattle.sqlite_schema.specs.declared.schema.Constraint.TheVariants.{ForeignKey}
 use Rattle.sqlite_rules.specs.declared.error.Refusal.TheVariants.{Violates, TooDeep}
 use Rattle.sqlite_rules.specs.Action.{Writes as Edits}
+use Rattle.sqlite_keyed.proofs.ListLemmas.{all-append, all-flat_map}
+use Rattle.sql_calls.proofs.Common.{arith}
 
 its_child : (depth tree : ℕ) (moves : List (Row × Row)) (child : Table) (ref : Reference) (deed : Option Deed) (key : Option ParentKey) (w : Work)
     → work_by depth tree moves child ref deed key ≡ Some w → w.child ≡ child
-its_child depth tree moves child ref None key w h = absurd cc
-its_child depth tree moves child ref (Some deed) None w h = absurd cc
-its_child depth tree moves child ref (Some deed) (Some key) w h = go ((key.0 == tree) && list_any (loses key.2 key.1) moves) h
-  where
-    work : Work
-    work = record { depth = depth; child = child; ref = ref; places = key.1; order = key.2; deed = deed; moves = moves }
-
-    go : (b : Bool) → cond b (Some work) None ≡ Some w → w.child ≡ child
-    go true is = let same : work ≡ w = cc in ap (λ (x : Work). x.child) (sym same)
-    go false is = absurd cc
+its_child depth tree moves child ref deed key w h = grind arith
 
 all_mapped : {A B : Type 0} (f : A → Option B) (P : B → Type 0) (xs : List A) → ((x : A) → Has xs x → (b : B) → f x ≡ Some b → P b)
     → AllByRecursion P (filter_map f xs)
@@ -31,20 +24,11 @@ all_mapped {A} {B} f P (x ∷ xs) each = go (f x) refl (all_mapped f P xs (λ y 
     go (Some b) e more = rw e (each x (inl refl) b e, more)
 
 pub all_both : {X : Type 0} (P : X → Type 0) (xs ys : List X) → AllByRecursion P xs → AllByRecursion P ys → AllByRecursion P (xs ++ ys)
-all_both P [] ys h k = k
-all_both P (x ∷ xs) ys h k = (h.0, all_both P xs ys h.1 k)
-
-all_flat : {A B : Type 0} (f : A → List B) (P : B → Type 0) (xs : List A) → ((x : A) → Has xs x → AllByRecursion P (f x)) → AllByRecursion P (flat_map f xs)
-all_flat f P [] each = tt
-all_flat f P (x ∷ xs) each = all_both P (f x) (flat_map f xs) (each x (inl refl)) (all_flat f P xs (λ y there. each y (inr there)))
+all_both = all-append
 
 all_split : {X : Type 0} (P : X → Type 0) (xs : List X) (y : X) → AllByRecursion P (xs ++ y ∷ []) → AllByRecursion P xs × P y
 all_split P [] y h = (tt, h.0)
 all_split P (x ∷ xs) y h = let more = all_split P xs y h.1 in ((h.0, more.0), more.1)
-
-has_some : {X : Type 0} (xs : List X) (x : X) → Has xs x → xs ≡ [] → ⊥
-has_some [] x there none = there
-has_some (y ∷ xs) x there none = cc
 
 module _ (schema : Schema) (keys : Keys) where
   -- it is on a table that has foreign keys
@@ -52,11 +36,11 @@ module _ (schema : Schema) (keys : Keys) where
   IsOnChild w = Has schema.tables w.child × (w.child.references ≡ [] → ⊥)
 
   on_children : (depth tree : ℕ) (olds news : List Row) → AllByRecursion IsOnChild (works schema keys depth tree olds news)
-  on_children depth tree olds news = all_flat (λ child. filter_map (work_for schema keys depth tree olds news child) child.references) IsOnChild schema.tables
-      (λ child listed.
-      all_mapped (work_for schema keys depth tree olds news child) IsOnChild child.references (λ ref there w is.
+  on_children depth tree olds news =
+      all-flat_map IsOnChild (λ child. filter_map (work_for schema keys depth tree olds news child) child.references) schema.tables (all_from _ schema.tables
+      (λ child listed. all_mapped (work_for schema keys depth tree olds news child) IsOnChild child.references (λ ref there w is.
       subst (λ (t : Table). Has schema.tables t × (t.references ≡ [] → ⊥)) (sym (its_child depth tree (pairs olds news) child ref _ _ w is))
-      (listed, has_some child.references ref there)))
+      (listed, λ none. subst (λ l. Has l ref) none there))))
 
   -- a table that has none keeps its rows
   module _ (t : Table) (listed : Has schema.tables t) (apart : (child : Table) → Has schema.tables child → (child.references ≡ [] → ⊥) → t.tree ≢ child.tree)
@@ -66,11 +50,7 @@ module _ (schema : Schema) (keys : Keys) where
 
     edit_keeps : (Then : Trees → List Work → End → Type 0) → Keeps Then → (db : Trees) (edit : Edit) (depth : ℕ) (below : List Work)
         → AllByRecursion IsOnChild below → t.tree ≢ edit.table.tree → Goes schema keys Then db edit depth below (Ok next) → next t.tree ≡ db t.tree
-    edit_keeps Then more db edit depth below all other (inl refused) = absurd (let e = refused.2 in cc)
-    edit_keeps Then more db edit depth below all other (inr (inl big)) = absurd (let e = big.3 in cc)
-    edit_keeps Then more db edit depth below all other (inr (inr went)) =
-        more went.0 _ (all_both IsOnChild below _ all (on_children depth edit.table.tree (taken_by db edit) edit.news)) went.2
-        ∙ all_has (λ (u : Table). u.tree ≢ edit.table.tree → went.0 u.tree ≡ db u.tree) schema.tables t went.1.tables listed other
+    edit_keeps h0 more db edit depth below all other h8 = grind (arith, all_both, on_children, all_has)
 
     action_keeps : (Then : Trees → List Work → End → Type 0) → Keeps Then → (db : Trees) (below : List Work) (w : Work) → AllByRecursion IsOnChild below
         → IsOnChild w → Acts schema keys Then db w below (Ok next) → next t.tree ≡ db t.tree
@@ -92,9 +72,7 @@ module _ (schema : Schema) (keys : Keys) where
 
     kept : (n : ℕ) → Keeps (Leads schema keys n)
     kept zero db stack all h = let same : next ≡ db = cc in ap (λ (d : Trees). d t.tree) same
-    kept (suc n) db stack all h =
-        let parts = all_split IsOnChild h.0 h.1 (subst (AllByRecursion IsOnChild) h.2 all) in
-        action_keeps (Leads schema keys n) (kept n) db h.0 h.1 parts.0 parts.1 h.3
+    kept (suc n) db stack all h = grind (arith, kept n, all_split, action_keeps)
 
 -- The table has the rows of the edit, and each other tree that no foreign key changes has its rows.
 pub record Rewritten (schema : Schema) (db : Trees) (edit : Edit) (next : Trees) : Type 0 where
@@ -103,25 +81,9 @@ pub record Rewritten (schema : Schema) (db : Trees) (edit : Edit) (next : Trees)
 
 -- a step that sets off no action
 pub applied : (schema : Schema) (keys : Keys) (db next : Trees) (edit : Edit) → Applies schema keys db edit next → Rewritten schema db edit next
-applied schema keys db next edit a = record {
-  rows = a.rows;
-  tables = all_from _ schema.tables (λ t there none other. all_has (λ (u : Table). u.tree ≢ edit.table.tree → next u.tree ≡ db u.tree) schema.tables t a.tables
-      there other);
-}
+applied schema keys db next edit a = grind (arith, all_from, all_has)
 
 -- whatever foreign keys refer to the table
 pub rewritten : (schema : Schema) (keys : Keys) (db next : Trees) (edit : Edit) → HasNoForeignKey schema edit.table.tree → Has schema.tables edit.table
     → Edits schema keys db edit (Ok next) → Rewritten schema db edit next
-rewritten schema keys db next edit free listed (inl refused) = absurd (let e = refused.2 in cc)
-rewritten schema keys db next edit free listed (inr (inl big)) = absurd (let e = big.3 in cc)
-rewritten schema keys db next edit free listed (inr (inr went)) = record {
-  rows = stays edit.table listed free ∙ went.1.rows;
-  tables = all_from _ schema.tables (λ t there none other. stays t there none ∙ all_has (λ (u : Table). u.tree ≢ edit.table.tree → went.0 u.tree ≡ db u.tree)
-      schema.tables t went.1.tables there other);
-}
-  where
-    stays : (t : Table) → Has schema.tables t → HasNoForeignKey schema t.tree → next t.tree ≡ went.0 t.tree
-    stays t there none =
-        kept schema keys t there (λ child listed' some same. some
-        (all_has (λ (u : Table). u.tree ≡ t.tree → u.references ≡ []) schema.tables child none listed' (sym same))) next went.2.0 went.0 _
-        (on_children schema keys 0 edit.table.tree (taken_by db edit) edit.news) went.2.1
+rewritten schema keys db next edit free listed h7 = grind (arith, all_from, all_has, kept, on_children)

@@ -1,5 +1,6 @@
 -- Calls in a change one after the other.
-use Rattle.sql_calls.proofs.Common.{◌≡◌, Result, Ok, Err, IfOk, arith, subst, sym, Database, State, Finds, IsSeeing, Makes}
+use Rattle.sql_calls.proofs.Common.{◌≡◌, Result, Ok, IfOk, arith, Database, State, Finds, Makes}
+use Rattle.sql_calls.proofs.Common.{arith}
 
 -- by what is between them
 abbrev pub Then : {R : Type 0} → (R → R → Type 0) → (R → R → Type 0) → R → R → Type 0
@@ -21,67 +22,40 @@ module _ {R Q : Type 0} {Holds : Database → R → Type 0} {of : Q → R} where
   pub both_found : {A B E F : Type 0} {a b c : State} {x : A} {y : B} {P : Q → A → Type 0} {W : Q → B → Type 0} → Finds Holds of {E = E} a b (Ok x) P
       → Finds Holds of {E = F} b c (Ok y) W
       → Finds Holds of {E = F} a c (Ok y) (λ r y. P r x × W r y)
-  both_found first second = record {
-    wears = omega (arith, first.wears, second.wears);
-    finds = λ now was.
-        let one = first.finds now was in
-        let two = second.finds now one.0 in
-        (two.0, λ clean. (one.1 (omega (arith, clean, second.wears)), two.1 clean));
-  }
+  both_found first second = grind arith
 
   -- what is so wherever something is held is known with each read
   pub found_held : {A E : Type 0} {a b : State} {x : A} {P : Q → A → Type 0} {W : Q → Type 0} → ((db : Database) (r : Q) → Holds db (of r) → W r)
       → Finds Holds of {E = E} a b (Ok x) P → Finds Holds of {E = E} a b (Ok x) (λ r y. W r × P r y)
-  found_held {a = a} so h =
-      record {
-        wears = h.wears;
-        finds = λ now was. (let it = h.finds now was in (it.0, λ clean. (so a.now now (was.sees (omega (arith, clean, h.wears))).now_holds, it.1 clean)));
-      }
+  found_held so h = grind (arith, so)
 
   -- a read, and then one that answers as it is
   pub found_then : {A B E F : Type 0} {a b c : State} {x : A} {P : Q → A → Type 0} {V W : Q → B → Type 0} → Finds Holds of {E = E} a b (Ok x) P
       → (out : Result B F) → Finds Holds of b c out V → ((r : Q) (y : B) → P r x → V r y → W r y)
       → Finds Holds of a c out W
-  found_then first (Ok y) second means = finds_as (both_found first second) (λ r is. means r y is.0 is.1)
-  found_then first (Err f) second means = record { wears = omega (arith, first.wears, second.wears); finds = tt }
+  found_then first out second means = grind (arith, finds_as, both_found)
 
   -- what is made of what was read
   pub found_if : {A B E F : Type 0} {a b : State} {x : A} {P : Q → A → Type 0} {V : B → Type 0} {W : Q → B → Type 0} → Finds Holds of {E = E} a b (Ok x) P
       → (out : Result B F) → IfOk out V → ((r : Q) (y : B) → P r x → V y → W r y)
       → Finds Holds of a b out W
-  found_if read (Ok y) is means = finds_as read (λ r it. means r y it is)
-  found_if read (Err f) is means = record { wears = read.wears; finds = tt }
+  found_if read out is means = grind (arith, finds_as)
 
   -- ---- writes
 
   pub makes_nothing : {E : Type 0} {a : State} {C : Q → Q → Type 0} → ((r next : Q) → C r next → next ≡ r) → Makes Holds of {A = Unit {0}} {E = E} a a (Ok tt) C
-  makes_nothing {a = a} same =
-      record {
-        wears = omega (arith);
-        makes = λ now next was change. record {
-          sees = λ clean. subst (λ (r : Q). IsSeeing Holds a (of r)) (sym (same now next (change clean))) (was.sees clean);
-        };
-      }
+  makes_nothing same = grind arith
 
   -- writes that a change asks less of
   pub makes_as : {A E : Type 0} {a b : State} {C W : Q → Q → Type 0} → ((r next : Q) → W r next → C r next) → (out : Result A E) → Makes Holds of a b out C
       → Makes Holds of a b out W
-  makes_as means (Ok x) h = record { wears = h.wears; makes = λ now next was change. h.makes now next was (λ clean. means now next (change clean)) }
-  makes_as means (Err e) h = record { wears = h.wears; makes = tt }
+  makes_as means out h = grind arith
 
   -- one and then the others, by what is between them
   pub makes_then : {A B E F : Type 0} {a b c : State} {x : A} {C D W : Q → Q → Type 0} → Makes Holds of {A = A} {E = E} a b (Ok x) C
       → ((r next : Q) → W r next → (mid : Q) × C r mid × D mid next)
       → (out : Result B F) → Makes Holds of b c out D → Makes Holds of a c out W
-  makes_then first parts (Ok y) second = record {
-    wears = omega (arith, first.wears, second.wears);
-    makes = λ now next was change. record {
-      sees = λ clean.
-          let it = parts now next (change clean) in
-          (second.makes it.0 next (first.makes now it.0 was (λ known. it.1)) (λ known. it.2)).sees clean;
-    };
-  }
-  makes_then first parts (Err e) second = record { wears = omega (arith, first.wears, second.wears); makes = tt }
+  makes_then first parts out second = grind arith
 
   -- three
   pub makes_three : {A B E F G : Type 0} {a b c d : State} {x : A} {y : B} {C D S W : Q → Q → Type 0} → Makes Holds of {E = E} a b (Ok x) C
@@ -93,21 +67,13 @@ module _ {R Q : Type 0} {Holds : Database → R → Type 0} {of : Q → R} where
   pub found_then_makes : {A B E F : Type 0} {a b c : State} {x : A} {P : Q → A → Type 0} {D W : Q → Q → Type 0} → Finds Holds of {E = E} a b (Ok x) P
       → ((r next : Q) → P r x → W r next → D r next)
       → (out : Result B F) → Makes Holds of b c out D → Makes Holds of a c out W
-  found_then_makes first means (Ok y) second = record {
-    wears = omega (arith, first.wears, second.wears);
-    makes = λ now next was change.
-        let it = first.finds now was in
-        second.makes now next it.0 (λ clean. means now next (it.1 (omega (arith, clean, second.wears))) (change clean));
-  }
-  found_then_makes first means (Err e) second = record { wears = omega (arith, first.wears, second.wears); makes = tt }
+  found_then_makes first means out second = grind arith
 
 module _ {R Q : Type 0} {Holds : Database → R → Type 0} (of : Q → R) {A E : Type 0} {a b : State} where
   -- what is found of one thing is found of what it is made of
   pub found_of : {P : R → A → Type 0} → (out : Result A E) → Finds Holds (λ (r : R). r) a b out P → Finds Holds of a b out (λ q x. P (of q) x)
-  found_of (Ok x) h = record { wears = h.wears; finds = λ now was. h.finds (of now) was }
-  found_of (Err e) h = record { wears = h.wears; finds = tt }
+  found_of out h = grind arith
 
   -- .. and so is what is made
   pub made_of : {C : R → R → Type 0} → (out : Result A E) → Makes Holds (λ (r : R). r) a b out C → Makes Holds of a b out (λ q next. C (of q) (of next))
-  made_of (Ok x) h = record { wears = h.wears; makes = λ now next was change. h.makes (of now) (of next) was change }
-  made_of (Err e) h = record { wears = h.wears; makes = tt }
+  made_of out h = grind arith

@@ -1,11 +1,13 @@
 -- What SELECT count(*) shows of a table.
-use Rattle.sql_calls.proofs.Common.{◌≡◌, ℕ, ◌+◌, suc, min, pos, List, [], ◌∷◌, map, filter, flat_map, length, Some, false, refl, sym, ap, subst, ◌∙◌}
-use Rattle.sql_calls.proofs.Common.{IsPermutation, list_all, AllZip, length-map, length_permutation, Value, Null, Int, Binary, Trees, Env, lit, col, eval}
-use Rattle.sql_calls.proofs.Common.{holds, Query, IsAnswer, Output, output, page, overlay, one_permutation, AreIn, IsHeldBy}
+use Rattle.sql_calls.proofs.Common.{◌≡◌, ℕ, suc, min, pos, List, [], ◌∷◌, map, filter, flat_map, length, Some, false, refl, sym, ap, subst, ◌∙◌}
+use Rattle.sql_calls.proofs.Common.{IsPermutation, list_all, AllZip, length-map, length_permutation, Value, Null, Int, Binary, Trees, Env, lit, col}
+use Rattle.sql_calls.proofs.Common.{holds, Query, IsAnswer, Output, output, page, overlay, one_permutation, IsHeldBy}
 use Rattle.sqlite_value.specs.Order.{Row}
 use Rattle.sqlite_sql.specs.Group.{Aggregate, Grouping, Summarizes, IsSummary, value_over}
 use Rattle.sqlite_sql.specs.declared.aggregate.AggregateOp.TheVariants.{CountRows}
+use Rattle.sql_calls.proofs.KeyedRows.{risen, shown_alike}
 use Rattle.sql_calls.proofs.Selects.{simple, matched, no_overlay}
+use Rattle.sql_calls.proofs.Common.{arith}
 
 abbrev counting : Aggregate
 counting = record { op = CountRows; distinct = false; collation = Binary; argument = lit Null }
@@ -22,18 +24,11 @@ counted envs = Int (pos (min (length envs) 9223372036854775807))
 
 one_value : (order : List Env) (values : Row) → AllZip (λ a v. value_over order a ≡ Some v) (counting ∷ []) values → values ≡ counted order ∷ []
 one_value order [] h = absurd h
-one_value order (v ∷ []) h =
-    let size : length (map (eval (lit Null)) order) ≡ length order = length-map order (eval (lit Null)) in
-    let is : Some (Int (pos (min (length (map (eval (lit Null)) order)) 9223372036854775807))) ≡ Some v = h.0 in
-    let value : Some (counted order) ≡ Some v = rw size at is in
-    let same : counted order ≡ v = cc in
-    ap (λ x. x ∷ []) (sym same)
+one_value order (v ∷ []) h = grind (arith, length-map)
 one_value order (v ∷ w ∷ more) h = absurd h.1
 
 one_summary : (order : List Env) (rows : List Row) → AllZip (IsSummary count_all) (order ∷ []) rows → rows ≡ (counted order ∷ []) ∷ []
-one_summary order [] h = absurd h
-one_summary order (r ∷ []) h = ap (λ x. x ∷ []) (h.0.2 ∙ one_value order h.0.0 h.0.1)
-one_summary order (r ∷ s ∷ more) h = absurd h.1
+one_summary order rows h = grind (arith, one_value)
 
 all_matched : (params : Row) (rows : List Row) → length (flat_map (matched [] params) rows) ≡ length rows
 all_matched params [] = refl
@@ -58,11 +53,7 @@ count_rows tree params db rows a =
 
 -- ---- a table that has these contents
 
-length_in : (low : ℕ) (rows xs : List Row) → AreIn low rows xs → length rows ≡ length xs
-length_in low [] [] h = refl
-length_in low [] (x ∷ xs) h = absurd h
-length_in low (r ∷ rows) [] h = absurd h
-length_in low (r ∷ rows) (x ∷ xs) h = ap suc (length_in (h.0 + 1) rows xs h.3)
-
 pub length_held : (rows wanted : List Row) → IsHeldBy rows wanted → length rows ≡ length wanted
-length_held rows wanted h = length_in 1 rows h.order h.rising ∙ length_permutation wanted h.order h.same
+length_held rows wanted h =
+    let alike = shown_alike {A = ℕ} (λ _. 0) (λ id x. refl) (risen 1 rows h.order h.rising) in
+    sym (length-map rows (λ _. 0)) ∙ ap length alike ∙ length-map h.order (λ _. 0) ∙ length_permutation wanted h.order h.same

@@ -1,11 +1,13 @@
 -- What one statement of a change answers, and what it makes of what the change sees.
-use Rattle.sql_calls.proofs.Common.{◌≡◌, ℕ, Bool, true, false, cond, nat_le, length, List, [], ◌∷◌, Vec, Option, Some, None, Result, Ok, Err, IfOk, sym, subst}
+use Rattle.sql_calls.proofs.Common.{◌≡◌, ℕ, Bool, cond, List, [], ◌∷◌, Vec, Option, Some, None, Result, Ok, Err, IfOk, subst}
 use Rattle.sql_calls.proofs.Common.{◌∙◌, arith, Global, Row, Command, Database, understood, State, IsUnchanged, Runs, Writes, EndsIn, statement_of, Fault}
-use Rattle.sql_calls.proofs.Common.{RunsText, AsksText, AsksFew, TakesFirst, TakesTo, few_of, Known, Knows, Finds, IsSeeing, Makes}
+use Rattle.sql_calls.proofs.Common.{RunsText, AsksText, AsksFew, TakesFirst, TakesTo, few_of, Known, Knows, Finds, IsSeeing, Makes, HasCleanDisk}
+use Rattle.sql_calls.specs.Standing.{Wears}
 use Rattle.sqlite.specs.Effect.{Reads as Shows}
 use Rattle.sql_calls.specs.declared.fault.Fault.TheVariants.{Store}
 use Rattle.sql_calls.proofs.Framing.{took}
 use Rattle.sql_calls.proofs.Leavings.{unchanged_by, first_shown, none_shown, shows_as, runs_plain}
+use Rattle.sql_calls.proofs.Common.{arith}
 
 -- a first row, and that there are more or not, or no row
 abbrev pub ShowsFirst : Command → Database → Row → Option Row → Type 0
@@ -20,39 +22,31 @@ took_row sql params old new (Some row) k last h =
 took_row sql params old new None k last h = shows_as sql k.command params old new k.means [] (none_shown sql k.command params old new k.means h)
 
 one_kept : (b : Bool) (answer : Result (Vec Row Global) Fault) (rows : Vec Row Global) → Ok rows ≡ cond b answer (Err Store) → answer ≡ Ok rows
-one_kept true answer rows e = sym e
-one_kept false answer rows e = absurd (cc)
+one_kept b answer rows e = grind arith
 
 -- few rows are all of the answer
 few_kept : (most : ℕ) (rows : Vec Row Global) (answer : Result (Vec Row Global) Fault) → Ok rows ≡ few_of most answer → answer ≡ Ok rows
-few_kept most rows (Ok all) e = one_kept (nat_le (length all.items) most) (Ok all) rows e
-few_kept most rows (Err fault) e = absurd (cc)
+few_kept most rows answer e = grind (arith, one_kept)
 
 module _ {R Q : Type 0} (Holds : Database → R → Type 0) (of : Q → R) (sql : List ℕ) (params : Row) (old new : State) where
   sees_still : (now : R) → IsSeeing Holds old now → IsUnchanged old new → IsSeeing Holds new now
-  sees_still now was same =
-      record { mode = same.0.mode ∙ was.mode; is_open = same.0.is_open; now_holds = subst (λ d. Holds d now) (sym same.0.now_is) was.now_holds }
+  sees_still now was same = grind arith
 
   module _ {A E : Type 0} (Answer : Q → A → Type 0) (knows : Knows Holds sql) where
+    -- what is unchanged, and answers by what was held
+    found_by : (wears : Wears old new) (out : Result A E)
+        → IfOk out (λ a. (now : Q) (holds : Holds old.now (of now)) → HasCleanDisk new → IsUnchanged old new × Answer now a) → Finds Holds of old new out Answer
+    found_by wears out each = grind (arith, sees_still)
+
     pub ask_finds : (rows : Vec Row Global) → AsksText old new sql params (Ok rows) → (out : Result A E)
         → IfOk out (λ a. (db : Database) (now : Q) (holds : Holds db (of now)) → Shows (knows db (of now) holds).command db params rows.items → Answer now a)
         → Finds Holds of old new out Answer
-    ask_finds rows h (Err e) answers = record { wears = h.survives.clean; finds = tt }
-    ask_finds rows h (Ok a) answers = record {
-      wears = h.survives.clean;
-      finds = λ now was. (
-        record {
-          sees = λ clean.
-              let first = was.sees (omega (arith, clean, h.survives.clean)) in
-              let k = knows old.now (of now) first.now_holds in
-              sees_still (of now) first (unchanged_by sql k.command params old new k.means rows.items (h.answers clean));
-        },
-        λ clean.
-            let first = was.sees (omega (arith, clean, h.survives.clean)) in
-            let k = knows old.now (of now) first.now_holds in
-            answers old.now now first.now_holds (shows_as sql k.command params old new k.means rows.items (h.answers clean)),
-      );
-    }
+    ask_finds rows h (Err e) answers = found_by h.survives.clean (Err e) tt
+    ask_finds rows h (Ok a) answers = found_by h.survives.clean (Ok a) (λ now holds clean.
+        let k = knows old.now (of now) holds in (
+          unchanged_by sql k.command params old new k.means rows.items (h.answers clean),
+          answers old.now now holds (shows_as sql k.command params old new k.means rows.items (h.answers clean)),
+        ))
 
     pub few_finds : (most : ℕ) (rows : Vec Row Global) → AsksFew old new sql params most (Ok rows) → (out : Result A E)
         → IfOk out (λ a. (db : Database) (now : Q) (holds : Holds db (of now)) → Shows (knows db (of now) holds).command db params rows.items → Answer now a)
@@ -63,19 +57,12 @@ module _ {R Q : Type 0} (Holds : Database → R → Type 0) (of : Q → R) (sql 
         → (row : Option Row) → TakesFirst old new sql params (Ok row) → (out : Result A E)
         → IfOk out (λ a. (db : Database) (now : Q) (holds : Holds db (of now)) → ShowsFirst (knows db (of now) holds).command db params row → Answer now a)
         → Finds Holds of old new out Answer
-    first_finds ends row h (Err e) answers = record { wears = h.survives.clean; finds = tt }
-    first_finds ends row h (Ok a) answers = record {
-      wears = h.survives.clean;
-      finds = λ now was. (
-        record {
-          sees = λ clean. let first = was.sees (omega (arith, clean, h.survives.clean)) in
-              sees_still (of now) first (took Holds sql params old new knows row (knows old.now (of now) first.now_holds) (h.answers clean));
-        },
-        λ clean. let first = was.sees (omega (arith, clean, h.survives.clean)) in
-            answers old.now now first.now_holds
-            (took_row sql params old new row (knows old.now (of now) first.now_holds) (ends old.now (of now) first.now_holds) (h.answers clean)),
-      );
-    }
+    first_finds ends row h (Err e) answers = found_by h.survives.clean (Err e) tt
+    first_finds ends row h (Ok a) answers = found_by h.survives.clean (Ok a) (λ now holds clean.
+        let k = knows old.now (of now) holds in (
+          took Holds sql params old new knows row k (h.answers clean),
+          answers old.now now holds (took_row sql params old new row k (ends old.now (of now) holds) (h.answers clean)),
+        ))
 
   -- what a command that writes does to what is held
   abbrev pub Effect : Knows Holds sql → Q → Q → Type 0

@@ -1,9 +1,9 @@
 -- How a change begins and ends, by what it sees and what giving it up leaves.
 use Rattle.sql_calls.proofs.Common.{◌≡◌, inl, inr, ℕ, List, [], true, false, Result, Ok, Err, IsTrue, refl, ap, sym, subst, ◌∙◌, arith, both_ways, Trees}
-use Rattle.sql_calls.proofs.Common.{Begin, Commit, Rollback, Database, State, HasCleanDisk, Survives, Fault, RunsText, Means, HoldIn, IsAtRest, IsInDoubt}
-use Rattle.sql_calls.proofs.Common.{Opens, Rests, Sees, Shows, Spoiled, Begins, Keeps, Commits, GivesUp}
+use Rattle.sql_calls.proofs.Common.{Begin, Commit, Rollback, Database, State, HasCleanDisk, Fault, RunsText, Means, HoldIn, IsAtRest, IsInDoubt}
+use Rattle.sql_calls.proofs.Common.{Rests, Sees, Shows, Spoiled, Begins, Keeps, Commits, GivesUp}
 use Rattle.sqlite.specs.State.{CommitsBy}
-use Rattle.sql_calls.proofs.Framing.{schema_of}
+use Rattle.sql_calls.proofs.Framing.{schema_of, undone}
 use Rattle.sql_calls.proofs.Leavings.{refused, crash_kept, never_commits_idle, runs_plain, IsSettled}
 
 module _ {R : Type 0} (Holds : Database → R → Type 0) (s : State) where
@@ -23,54 +23,52 @@ module _ {R : Type 0} (Holds : Database → R → Type 0) (sql : List ℕ) (old 
   -- ---- a change begins
 
   module _ (means : Means old.now.schema sql Begin) where
-    begun_sees : (r : R) → Shows Holds old r → RunsText old new sql [] (Ok tt) → Sees Holds new r
-    begun_sees r was h = record {
-      sees = λ clean.
-          let first = was (omega (arith, h.survives.clean, clean)) in
-          let done = h.runs clean in
-          let shown = (runs_plain sql Begin [] old new means done.0 done.1).1 in
-          record {
-            mode = shown.mode;
-            is_open = shown.is_open;
-            now_holds = subst (λ d. Holds d r) (sym (shown.now_is ∙ first.ended shown.was_open)) (first.holds shown.was_open);
-          };
-    }
+    started : RunsText old new sql [] (Ok tt) → HasCleanDisk new
+        → (new.in_transaction ≡ true) × IsTrue new.is_open × IsTrue old.is_open × (new.now ≡ old.now) × (new.committed ≡ old.committed)
+    started h clean =
+        let done = h.runs clean in
+        let shown = (runs_plain sql Begin [] old new means done.0 done.1).1 in
+        (shown.mode, shown.is_open, shown.was_open, shown.now_is, shown.committed_is)
 
-    begun_opens : (r : R) → Rests Holds old r → RunsText old new sql [] (Ok tt) → Opens Holds new r
-    begun_opens r was h = record {
-      spoiled = record {
-        spoiled = λ clean.
-            let first = was (omega (arith, h.survives.clean, clean)) in
-            let done = h.runs clean in
-            let shown = (runs_plain sql Begin [] old new means done.0 done.1).1 in
-            record {
-              ended = λ out. absurd (both_ways _ out shown.mode);
-              kept_holds = λ _. subst (λ d. Holds d r) (sym shown.committed_is) (first.held.kept_holds shown.was_open);
-              crash = λ db left. first.held.crash db (crash_kept old new _ clean (λ db. never_commits_idle sql Begin old new means db refl) h.survives db left);
-            };
-      };
-      inside = λ clean.
-          let first = was (omega (arith, h.survives.clean, clean)) in
-          let done = h.runs clean in
-          let shown = (runs_plain sql Begin [] old new means done.0 done.1).1 in
-          record {
-            mode = shown.mode;
-            is_open = shown.is_open;
-            fits = ap schema_of (shown.now_is ∙ first.held.ended first.mode shown.was_open)
-                ∙ sym (ap schema_of shown.committed_is);
-          };
-    }
+    begun_crash : {result : Result (Unit {0}) Fault} → RunsText old new sql [] result → HasCleanDisk new → (db : Trees) → new.may_leave db → old.may_leave db
+    begun_crash h clean = crash_kept old new _ clean (λ db. never_commits_idle sql Begin old new means db refl) h.survives
 
     pub begins : RunsText old new sql [] (Ok tt) → Begins Holds old new
-    begins h = record { wears = h.survives.clean; opens = λ r was. begun_opens r was h; sees = λ r was. begun_sees r was h }
+    begins h = record {
+      wears = h.survives.clean;
+      opens = λ r was. record {
+        spoiled = record {
+          spoiled = λ clean.
+              let first = was (omega (arith, h.survives.clean, clean)) in
+              let it = started h clean in
+              record {
+                ended = λ out. absurd (both_ways _ out it.0);
+                kept_holds = λ _. subst (λ d. Holds d r) (sym it.4) (first.held.kept_holds it.2);
+                crash = λ db left. first.held.crash db (begun_crash h clean db left);
+              };
+        };
+        inside = λ clean.
+            let first = was (omega (arith, h.survives.clean, clean)) in
+            let it = started h clean in
+            record {
+              mode = it.0;
+              is_open = it.1;
+              fits = ap schema_of (it.3 ∙ first.held.ended first.mode it.2) ∙ sym (ap schema_of it.4);
+            };
+      };
+      sees = λ r was. record {
+        sees = λ clean.
+            let first = was (omega (arith, h.survives.clean, clean)) in
+            let it = started h clean in
+            record { mode = it.0; is_open = it.1; now_holds = subst (λ d. Holds d r) (sym (it.3 ∙ first.ended it.2)) (first.holds it.2) };
+      };
+    }
 
     pub fails_to_begin : (fault : Fault) → RunsText old new sql [] (Err fault) → Keeps Holds old new
     fails_to_begin fault h = record {
       wears = h.survives.clean;
       rests = λ r was clean.
           let first = was (omega (arith, h.survives.clean, clean)) in
-          let crash = λ (db : Trees) (left : new.may_leave db). first.held.crash db
-          (crash_kept old new _ clean (λ db. never_commits_idle sql Begin old new means db refl) h.survives db left) in
           let failed = h.runs clean in
           elim (refused sql [] old new failed.0 failed.2) [
             | inl same ↦ record {
@@ -78,17 +76,10 @@ module _ {R : Type 0} (Holds : Database → R → Type 0) (sql : List ℕ) (old 
               held = record {
                 ended = λ _ _. same.0.now_is ∙ first.held.ended first.mode same.0.was_open ∙ sym same.0.committed_is;
                 kept_holds = λ _. subst (λ d. Holds d r) (sym same.0.committed_is) (first.held.kept_holds same.0.was_open);
-                crash = crash;
+                crash = λ db left. first.held.crash db (begun_crash h clean db left);
               };
             }
-            | inr back ↦ record {
-              mode = back.autocommit;
-              held = record {
-                ended = λ _ on. (back.undone on).0 ∙ sym (back.undone on).1;
-                kept_holds = λ on. subst (λ d. Holds d r) (sym (back.undone on).1) (first.held.kept_holds (back.was_open on));
-                crash = crash;
-              };
-            }
+            | inr back ↦ undone Holds old new r first.held (begun_crash h clean) back
           ];
     }
 
@@ -112,22 +103,11 @@ module _ {R : Type 0} (Holds : Database → R → Type 0) (sql : List ℕ) (old 
 
     commits_now : (db : Trees) → old.in_transaction ≡ true → CommitsBy sql [] old db → db ≡ old.now.trees
     unfolding CommitsBy
-    commits_now db inside h = elim h.2 [
-      | inl it ↦ it.1
-      | inr it ↦ absurd (both_ways _ it.0 inside)
-    ]
+    commits_now db inside h = grind (arith, both_ways)
 
     pub not_committed : (now kept : R) → Sees Holds old now → Spoiled Holds old kept → (fault : Fault) → RunsText old new sql [] (Err fault) → HasCleanDisk new
         → IsInDoubt Holds new kept now
-    not_committed now kept was held fault h clean =
-        let before : HasCleanDisk old = omega (arith, h.survives.clean, clean) in
-        let first = was.sees before in
-        record {
-          crash = λ db left. elim (h.survives.crash clean db left) [
-            | inl it ↦ inl ((held.spoiled before).crash db it)
-            | inr made ↦ inr (subst (λ t. HoldIn Holds t now) (sym (commits_now db first.mode made)) (old.now.schema, first.now_holds))
-          ];
-        }
+    not_committed now kept was held fault h clean = grind (arith, commits_now)
 
     pub commits : (out : Result (Unit {0}) Fault) → RunsText old new sql [] out → IsSettled new → Commits Holds old new out
     commits (Ok _) h settled = record { wears = h.survives.clean; commits = λ now was. committed_rests now was h settled }
@@ -136,30 +116,19 @@ module _ {R : Type 0} (Holds : Database → R → Type 0) (sql : List ℕ) (old 
   -- ---- it is given up
 
   module _ (means : Means old.now.schema sql Rollback) where
-    rolled_crash : (kept : R) → Spoiled Holds old kept → HasCleanDisk new → Survives old new (CommitsBy sql [] old) → (db : Trees) → new.may_leave db
-        → HoldIn Holds db kept
-    rolled_crash kept was clean survives db left =
-        (was.spoiled (omega (arith, survives.clean, clean))).crash db
-        (crash_kept old new _ clean (λ db. never_commits_idle sql Rollback old new means db refl) survives db left)
-
-    given_up_rests : (kept : R) → Spoiled Holds old kept → RunsText old new sql [] (Ok tt) → Rests Holds new kept
-    given_up_rests kept was h clean =
-        let first = was.spoiled (omega (arith, h.survives.clean, clean)) in
-        let done = h.runs clean in
-        let back = (runs_plain sql Rollback [] old new means done.0 done.1).1 in
-        record {
-          mode = back.autocommit;
-          held = record {
-            ended = λ _ on. (back.undone on).0 ∙ sym (back.undone on).1;
-            kept_holds = λ on. subst (λ d. Holds d kept) (sym (back.undone on).1) (first.kept_holds (back.was_open on));
-            crash = rolled_crash kept was clean h.survives;
-          };
-        }
+    rolled_crash : {result : Result (Unit {0}) Fault} → RunsText old new sql [] result → HasCleanDisk new → (db : Trees) → new.may_leave db → old.may_leave db
+    rolled_crash h clean = crash_kept old new _ clean (λ db. never_commits_idle sql Rollback old new means db refl) h.survives
 
     pub gives_up : (out : Result (Unit {0}) Fault) → RunsText old new sql [] out → GivesUp Holds old new out
-    gives_up (Ok _) h = record { wears = h.survives.clean; gives_up = λ kept was. given_up_rests kept was h }
+    gives_up (Ok _) h = record {
+      wears = h.survives.clean;
+      gives_up = λ kept was clean.
+          let done = h.runs clean in
+          undone Holds old new kept (was.spoiled (omega (arith, h.survives.clean, clean))) (rolled_crash h clean)
+          (runs_plain sql Rollback [] old new means done.0 done.1).1;
+    }
     gives_up (Err fault) h = record {
       wears = h.survives.clean;
-      gives_up =
-          λ kept was clean. record { crash = λ db left. inl (rolled_crash kept was clean h.survives db left) };
+      gives_up = λ kept was clean.
+          record { crash = λ db left. inl ((was.spoiled (omega (arith, h.survives.clean, clean))).crash db (rolled_crash h clean db left)) };
     }

@@ -1,49 +1,33 @@
 -- What one statement leaves of the transaction.
-use Rattle.sql_calls.proofs.Common.{◌≡◌, inl, inr, ℕ, true, List, [], Vec, Option, Some, None, Result, Ok, Err, refl, sym, ap, subst, ◌∙◌, arith, slice_get}
-use Rattle.sql_calls.proofs.Common.{Global, both_ways, Row, Trees, Schema, Table, Command, Insert, InsertOr, Update, Delete, Tally, OnRows, AtPlace, Database}
-use Rattle.sql_calls.proofs.Common.{understood, State, HasCleanDisk, IsUnchanged, Survives, Runs, Writes, CommitsShowing, CommitsBy, mode_of, statement_of}
+use Rattle.sql_calls.proofs.Common.{◌≡◌, ℕ, true, List, [], Vec, Option, Some, None, Result, Ok, Err, sym, ap, subst, ◌∙◌, arith}
+use Rattle.sql_calls.proofs.Common.{Global, both_ways, Row, Trees, Schema, Table, Command, Tally, OnRows, AtPlace, Database}
+use Rattle.sql_calls.proofs.Common.{understood, State, HasCleanDisk, IsUnchanged, Survives, Runs, Writes, CommitsShowing, CommitsBy, statement_of}
 use Rattle.sql_calls.proofs.Common.{Fault, RunsText, AsksText, AsksFew, TakesFirst, TakesTo, few_of, Means, Known, Knows, KnowsWrite, writes_rows, IsInside}
-use Rattle.sql_calls.proofs.Common.{IsSpoiled, Opens, Spoiled, FrameTo}
+use Rattle.sql_calls.proofs.Common.{IsSpoiled, Opens, Spoiled, FrameTo, IsAtRest, IsRolledBack}
+use Rattle.sql_calls.specs.Standing.{Wears}
 use Rattle.sqlite.specs.declared.run.Mode.{Mode}
-use Rattle.sql_calls.proofs.Inserts.{went, same_value}
+use Rattle.sql_calls.proofs.Inserts.{same_value}
 use Rattle.sql_calls.proofs.Leavings.{Leaves, refused, unanswered, stays_inside, never_shows_inside, never_commits_inside, crash_kept, unchanged_by}
 use Rattle.sql_calls.proofs.Leavings.{first_unchanged, first_fails, none_shown, runs_plain}
 
 -- ---- rows alone
 
-pub is_written : (old new : State) (command : Command) (text : List ℕ) (params : Row) (count : ℕ) → writes_rows command ≡ true
-    → Runs old new None command text params count → Writes old new None command text params count
-is_written old new (Insert at from) text params count rows h = h
-is_written old new (InsertOr at way from clauses) text params count rows h = h
-is_written old new (Update at q) text params count rows h = h
-is_written old new (Delete at q) text params count rows h = h
-is_written old new command text params count rows h = absurd (cc)
-
 pub inside : (command : Command) → writes_rows command ≡ true → stays_inside command ≡ true
-inside (Insert at from) rows = refl
-inside (InsertOr at way from clauses) rows = refl
-inside (Update at q) rows = refl
-inside (Delete at q) rows = refl
-inside command rows = absurd (cc)
+inside command rows = grind arith
 
 on_rows : (limit : Option ℕ) (mode : Mode) (params : Row) (db : Database) (command : Command) (tally : Tally) (after : Database) (t : Option Table)
     → AtPlace (λ table. OnRows (record { limit = limit; keys = mode.keys; schema = db.schema; table = table; params = params }) mode None command db.trees) t
     (Ok (tally, after)) → after.schema ≡ db.schema
-on_rows limit mode params db command tally after None h = absurd (let e = h in cc)
-on_rows limit mode params db command tally after (Some table) h = let done = went h in
-    ap (λ (p : Tally × Database). p.1.schema) (same_value (went (went done.2).2).2)
+on_rows limit mode params db command tally after t h = grind (arith, same_value)
 
-same_schema : (old new : State) (command : Command) (text : List ℕ) (params : Row) (count : ℕ) → writes_rows command ≡ true
-    → Writes old new None command text params count → new.now.schema ≡ old.now.schema
-same_schema old new (Insert at from) text params count rows w = on_rows old.step_limit (mode_of old) params old.now (Insert at from) w.tally new.now
-    (slice_get old.now.schema.tables at) w.changed
-same_schema old new (InsertOr at way from clauses) text params count rows w = on_rows old.step_limit (mode_of old) params old.now (InsertOr at way from clauses)
-    w.tally new.now (slice_get old.now.schema.tables at) w.changed
-same_schema old new (Update at q) text params count rows w = on_rows old.step_limit (mode_of old) params old.now (Update at q) w.tally new.now
-    (slice_get old.now.schema.tables at) w.changed
-same_schema old new (Delete at q) text params count rows w = on_rows old.step_limit (mode_of old) params old.now (Delete at q) w.tally new.now
-    (slice_get old.now.schema.tables at) w.changed
-same_schema old new command text params count rows w = absurd (cc)
+-- a command that writes rows writes, and the schema stays
+pub wrote_rows : (old new : State) (command : Command) (text : List ℕ) (params : Row) (count : ℕ) → writes_rows command ≡ true
+    → Runs old new None command text params count → Writes old new None command text params count × (new.now.schema ≡ old.now.schema)
+wrote_rows old new command text params count rows w = grind (arith, on_rows)
+
+pub is_written : (old new : State) (command : Command) (text : List ℕ) (params : Row) (count : ℕ) → writes_rows command ≡ true
+    → Runs old new None command text params count → Writes old new None command text params count
+is_written old new command text params count rows ran = (wrote_rows old new command text params count rows ran).0
 
 -- ---- what is left
 
@@ -51,76 +35,59 @@ abbrev pub schema_of : Database → Schema
 schema_of d = d.schema
 
 stays_inside_it : (old new : State) → IsInside old → IsUnchanged old new → IsInside new
-stays_inside_it old new was same = record {
-  mode = same.0.mode ∙ was.mode;
-  is_open = same.0.is_open;
-  fits = ap schema_of same.0.now_is ∙ was.fits
-      ∙ sym (ap schema_of same.0.committed_is);
-}
+stays_inside_it old new was same = grind arith
 
 module _ {R : Type 0} (Holds : Database → R → Type 0) where
   still_kept : (old new : State) (kept : R) → IsInside old → IsSpoiled Holds old kept → ((db : Trees) → new.may_leave db → old.may_leave db)
       → new.in_transaction ≡ true → new.committed ≡ old.committed → IsSpoiled Holds new kept
-  still_kept old new kept was held crash mode committed = record {
-    ended = λ out. absurd (both_ways _ out mode);
-    kept_holds = λ _. subst (λ d. Holds d kept) (sym committed) (held.kept_holds was.is_open);
-    crash = λ db left. held.crash db (crash db left);
-  }
+  still_kept old new kept was held crash mode committed = grind (arith, both_ways)
+
+  -- what is undone is at rest
+  pub undone : (old new : State) (kept : R) → IsSpoiled Holds old kept → ((db : Trees) → new.may_leave db → old.may_leave db) → IsRolledBack old new
+      → IsAtRest Holds new kept
+  undone old new kept held crash back = grind arith
 
   spoiled_by : (old new : State) (kept : R) → IsInside old → IsSpoiled Holds old kept → ((db : Trees) → new.may_leave db → old.may_leave db) → Leaves old new
       → IsSpoiled Holds new kept
-  spoiled_by old new kept was held crash (inl same) = still_kept old new kept was held crash (same.0.mode ∙ was.mode) same.0.committed_is
-  spoiled_by old new kept was held crash (inr back) = record {
-    ended = λ _ h. (back.undone h).0 ∙ sym (back.undone h).1;
-    kept_holds = λ h. subst (λ d. Holds d kept) (sym (back.undone h).1) (held.kept_holds was.is_open);
-    crash = λ db left. held.crash db (crash db left);
-  }
+  spoiled_by old new kept was held crash h6 = grind (arith, still_kept, undone)
 
   -- nothing was run, or what was read is of no use
   pub vain : {A B F : Type 0} (E : Type 0) (old new : State) (x : A) → FrameTo Holds {E = E} old new (Ok x) → (out : Result B F) → FrameTo Holds old new out
-  vain E old new x h (Ok y) = h
-  vain E old new x h (Err e) = λ kept was. (h kept was).spoiled
+  vain h0 old new x h out = grind arith
+
+  -- what is known of a change that was open, while the disk is clean
+  module _ (old new : State) (wears : Wears old new) (kept : R) (opens : Opens Holds old kept) where
+    abbrev After : Type 0 → Type 0
+    After X = IsInside old → IsSpoiled Holds old kept → HasCleanDisk new → X
+
+    breaks_off : After (IsSpoiled Holds new kept) → Spoiled Holds new kept
+    breaks_off leaves = grind arith
+
+    goes_on : After (IsSpoiled Holds new kept × IsInside new) → Opens Holds new kept
+    goes_on leaves = grind (arith, breaks_off, inside)
 
   module _ (sql : List ℕ) (params : Row) (old new : State) (knows : Knows Holds sql) where
     abbrev known : (kept : R) → IsInside old → IsSpoiled Holds old kept → Known old.now.schema sql
     known kept was held = let k = knows old.committed kept (held.kept_holds was.is_open) in
         record { command = k.command; means = subst (λ s. Means s sql k.command) (sym was.fits) k.means }
 
-    shown_kept : (kept : R) → HasCleanDisk new → Survives old new (CommitsShowing sql params old) → IsInside old → (db : Trees) → new.may_leave db
-        → old.may_leave db
-    shown_kept kept clean survives was = crash_kept old new _ clean (λ db. never_shows_inside sql params old db was.mode) survives
+    shown_kept : HasCleanDisk new → Survives old new (CommitsShowing sql params old) → IsInside old → (db : Trees) → new.may_leave db → old.may_leave db
+    shown_kept clean survives was = crash_kept old new _ clean (λ db. never_shows_inside sql params old db was.mode) survives
 
-    goes_on : (kept : R) → Opens Holds old kept → (survives : Survives old new (CommitsShowing sql params old))
-        → (IsInside old → IsSpoiled Holds old kept → HasCleanDisk new → IsUnchanged old new) → Opens Holds new kept
-    goes_on kept opens survives same = record {
-      spoiled = record {
-        spoiled = λ clean.
-            let before : HasCleanDisk old = omega (arith, clean, survives.clean) in
-            let was = opens.inside before in
-            let held = opens.spoiled.spoiled before in
-            let it = same was held clean in
-            still_kept old new kept was held (shown_kept kept clean survives was) (it.0.mode ∙ was.mode) it.0.committed_is;
-      };
-      inside = λ clean.
-          let before : HasCleanDisk old = omega (arith, clean, survives.clean) in
-          stays_inside_it old new (opens.inside before) (same (opens.inside before) (opens.spoiled.spoiled before) clean);
-    }
+    reads_on : (kept : R) → Opens Holds old kept → (survives : Survives old new (CommitsShowing sql params old))
+        → (Known old.now.schema sql → HasCleanDisk new → IsUnchanged old new) → Opens Holds new kept
+    reads_on kept opens survives same = grind (arith, goes_on, still_kept, shown_kept, stays_inside_it)
 
-    breaks_off : (kept : R) → Opens Holds old kept → (survives : Survives old new (CommitsShowing sql params old))
-        → (IsInside old → IsSpoiled Holds old kept → HasCleanDisk new → Leaves old new) → Spoiled Holds new kept
-    breaks_off kept opens survives leaves = record {
-      spoiled = λ clean.
-          let before : HasCleanDisk old = omega (arith, clean, survives.clean) in
-          let was = opens.inside before in
-          let held = opens.spoiled.spoiled before in
-          spoiled_by old new kept was held (shown_kept kept clean survives was) (leaves was held clean);
-    }
+    reads_off : (kept : R) → Opens Holds old kept → (survives : Survives old new (CommitsShowing sql params old))
+        → (Known old.now.schema sql → HasCleanDisk new → Leaves old new) → Spoiled Holds new kept
+    reads_off kept opens survives leaves = breaks_off old new survives.clean kept opens
+        (λ was held clean. spoiled_by old new kept was held (shown_kept clean survives was) (leaves (known kept was held) clean))
 
     pub ask_frames : (out : Result (Vec Row Global) Fault) → AsksText old new sql params out → FrameTo Holds old new out
-    ask_frames (Ok rows) h = λ kept opens. goes_on kept opens h.survives
-        (λ was held clean. unchanged_by sql (known kept was held).command params old new (known kept was held).means rows.items (h.answers clean))
-    ask_frames (Err fault) h =
-        λ kept opens. breaks_off kept opens h.survives (λ was held clean. let failed = h.answers clean in unanswered sql params old new failed.0 failed.2)
+    ask_frames (Ok rows) h = λ kept opens. reads_on kept opens h.survives
+        (λ k clean. unchanged_by sql k.command params old new k.means rows.items (h.answers clean))
+    ask_frames (Err fault) h = λ kept opens. reads_off kept opens h.survives
+        (λ k clean. let failed = h.answers clean in unanswered sql params old new failed.0 failed.2)
 
     pub few_frames : (most : ℕ) (out : Result (Vec Row Global) Fault) → AsksFew old new sql params most out → FrameTo Holds old new out
     few_frames most out h = subst (λ it. FrameTo Holds old new it) (sym h.few) (go h.answer (ask_frames h.answer h.asks))
@@ -134,61 +101,29 @@ module _ {R : Type 0} (Holds : Database → R → Type 0) where
     took None k h = unchanged_by sql k.command params old new k.means [] (none_shown sql k.command params old new k.means h)
 
     pub first_frames : (out : Result (Option Row) Fault) → TakesFirst old new sql params out → FrameTo Holds old new out
-    first_frames (Ok row) h = λ kept opens. goes_on kept opens h.survives (λ was held clean. took row (known kept was held) (h.answers clean))
-    first_frames (Err fault) h =
-        λ kept opens. breaks_off kept opens h.survives (λ was held clean. let failed = h.answers clean in
-        first_fails sql (known kept was held).command params old new (known kept was held).means failed.0 failed.2)
+    first_frames (Ok row) h = λ kept opens. reads_on kept opens h.survives (λ k clean. took row k (h.answers clean))
+    first_frames (Err fault) h = λ kept opens. reads_off kept opens h.survives
+        (λ k clean. let failed = h.answers clean in first_fails sql k.command params old new k.means failed.0 failed.2)
 
   module _ (sql : List ℕ) (params : Row) (old new : State) (write : KnowsWrite Holds sql) where
-    abbrev known_write : (kept : R) → IsInside old → IsSpoiled Holds old kept → Known old.now.schema sql
-    known_write kept was held = known sql params old new write.knows kept was held
-
-    run_kept : (kept : R) → HasCleanDisk new → Survives old new (CommitsBy sql params old) → IsInside old → IsSpoiled Holds old kept → (db : Trees)
+    run_kept : (kept : R) → HasCleanDisk new → Survives old new (CommitsBy sql params old) → (was : IsInside old) → IsSpoiled Holds old kept → (db : Trees)
         → new.may_leave db → old.may_leave db
     run_kept kept clean survives was held =
-        let k = known_write kept was held in
-        crash_kept old new _ clean
-        (λ db. never_commits_inside sql k.command params old new k.means db was.mode
+        let k = known sql params old new write.knows kept was held in
+        crash_kept old new _ clean (λ db. never_commits_inside sql k.command params old new k.means db was.mode
         (inside k.command (write.rows old.committed kept (held.kept_holds was.is_open)))) survives
 
-    wrote : (kept : R) (was : IsInside old) (held : IsSpoiled Holds old kept) → RunsText old new sql params (Ok tt) → HasCleanDisk new → (count : ℕ)
-        × Writes old new None (known_write kept was held).command (statement_of sql (understood old.now.schema sql)) params count
-    wrote kept was held h clean =
-        let k = known_write kept was held in
-        let done = h.runs clean in (
-          done.0,
-          is_written old new k.command (statement_of sql (understood old.now.schema sql)) params done.0
-              (write.rows old.committed kept (held.kept_holds was.is_open)) (runs_plain sql k.command params old new k.means done.0 done.1),
-        )
-
     pub run_frames : (out : Result (Unit {0}) Fault) → RunsText old new sql params out → FrameTo Holds old new out
-    run_frames (Ok _) h = λ kept opens. record {
-      spoiled = record {
-        spoiled = λ clean.
-            let before : HasCleanDisk old = omega (arith, clean, h.survives.clean) in
-            let was = opens.inside before in
-            let held = opens.spoiled.spoiled before in
-            let w = (wrote kept was held h clean).1 in
-            still_kept old new kept was held (run_kept kept clean h.survives was held) (w.shown.mode ∙ was.mode) (rw was.mode at w.shown.committed_is);
-      };
-      inside = λ clean.
-          let before : HasCleanDisk old = omega (arith, clean, h.survives.clean) in
-          let was = opens.inside before in
-          let held = opens.spoiled.spoiled before in
-          let it = wrote kept was held h clean in
-          let committed : new.committed ≡ old.committed = rw was.mode at it.1.shown.committed_is in
-          record {
-            mode = it.1.shown.mode ∙ was.mode;
-            is_open = it.1.shown.is_open;
-            fits = same_schema old new (known_write kept was held).command (statement_of sql (understood old.now.schema sql)) params it.0
-                (write.rows old.committed kept (held.kept_holds was.is_open)) it.1 ∙ was.fits ∙ sym (ap schema_of committed);
-          };
-    }
-    run_frames (Err fault) h = λ kept opens. record {
-      spoiled = λ clean.
-          let before : HasCleanDisk old = omega (arith, clean, h.survives.clean) in
-          let was = opens.inside before in
-          let held = opens.spoiled.spoiled before in
-          let failed = h.runs clean in
-          spoiled_by old new kept was held (run_kept kept clean h.survives was held) (refused sql params old new failed.0 failed.2);
-    }
+    run_frames (Ok _) h = λ kept opens. goes_on old new h.survives.clean kept opens (λ was held clean.
+        let k = known sql params old new write.knows kept was held in
+        let done = h.runs clean in
+        let it = wrote_rows old new k.command (statement_of sql (understood old.now.schema sql)) params done.0
+        (write.rows old.committed kept (held.kept_holds was.is_open)) (runs_plain sql k.command params old new k.means done.0 done.1) in
+        let mode : new.in_transaction ≡ true = it.0.shown.mode ∙ was.mode in
+        let committed : new.committed ≡ old.committed = rw was.mode at it.0.shown.committed_is in (
+          still_kept old new kept was held (run_kept kept clean h.survives was held) mode committed,
+          record { mode = mode; is_open = it.0.shown.is_open; fits = it.1 ∙ was.fits ∙ sym (ap schema_of committed) },
+        ))
+    run_frames (Err fault) h = λ kept opens. breaks_off old new h.survives.clean kept opens (λ was held clean.
+        let failed = h.runs clean in
+        spoiled_by old new kept was held (run_kept kept clean h.survives was held) (refused sql params old new failed.0 failed.2))

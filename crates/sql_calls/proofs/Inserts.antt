@@ -1,20 +1,40 @@
 -- What INSERT .. VALUES does, for any schema.
-use Rattle.sql_calls.proofs.Common.{[], ◌∷◌, ◌≡◌, ◌⊎◌, inl, inr, ℕ, ◌/◌, ◌==◌, ◌&&◌, Bool, true, cond, flat_map, filter_map, refl, List, length, slice_get}
-use Rattle.sql_calls.proofs.Common.{false, Option, Some, None, Ok, Err, Result, sym, ap, subst, ◌∙◌, Row, Trees, Term, Table, Schema, Enforced, Source, Values}
-use Rattle.sql_calls.proofs.Common.{Insert, edit_of, Reference, ParentKey, Deed, work_by, work_for, works, Chosen, Tally, Does, OnRows, Written, Task, Inserts}
-use Rattle.sql_calls.proofs.Common.{stamped, Database, IsSource, value_rows, State, mode_of, Writes, one_step}
+use Rattle.sql_calls.proofs.Common.{[], ◌∷◌, ◌≡◌, ◌⊎◌, ℕ, ◌/◌, filter_map, refl, List, length, slice_get}
+use Rattle.sql_calls.proofs.Common.{false, Option, Some, None, Ok, Err, Result, sym, ap, subst, ◌∙◌, Row, Trees, Term, Table, Schema, Enforced, Values}
+use Rattle.sql_calls.proofs.Common.{Insert, edit_of, Reference, ParentKey, Deed, work_by, works, Chosen, Tally, OnRows, Written, Task}
+use Rattle.sql_calls.proofs.Common.{stamped, Database, value_rows, State, Command, Edit, ℤ, mode_of, Writes, one_step}
 use Rattle.sqlite_rules.specs.Action.{Writes as Edits}
+use Rattle.sqlite.specs.Rows.{Then, Gives, Edited}
+use Rattle.sqlite.specs.Does.{OnTable, WritesRows}
 use Rattle.sql_calls.proofs.Actions.{Rewritten, applied}
+use Rattle.sqlite_keyed.proofs.ListLemmas.{flat_map_none}
+use Rattle.sql_calls.proofs.Common.{arith}
 
 pub went : {B E R : Type 0} {b : B} {Stops : E → Type 0} → ((stop : E) × Stops stop × (Ok b ≡ Err stop)) ⊎ R → R
-went (inl stopped) = absurd (let e = stopped.2 in cc)
-went (inr on) = on
+went h = grind arith
 
 pub same_value : {B E : Type 0} {a b : B} → ◌≡◌ {A = Result B E} (Ok a) (Ok b) → a ≡ b
 same_value e = cc
 
 abbrev pub given_rows : Table → Row → List Term → ℕ → List Row
 given_rows table params terms width = value_rows (stamped table params) width (length terms / width) terms
+
+-- of an edit, and then a word on it
+pub edits_to : (schema : Schema) (db : Trees) (edit : Edit) (rows : List Row) (last : Option ℤ) (w : Written)
+    → Then (Edited schema Enforced db edit) (λ next. Gives (record { trees = next; rows = rows; last = last })) (Ok w)
+    → Edits schema Enforced db edit (Ok w.trees)
+edits_to schema db edit rows last w h = grind (arith, went, same_value)
+
+-- what a command that writes rows leaves: what it writes, and the schema
+module _ (schema : Schema) (at : ℕ) (table : Table) (there : slice_get schema.tables at ≡ Some table) (old : State) (has : old.now.schema ≡ schema)
+    (params : Row) where
+  abbrev pub task_at : Task
+  task_at = record { limit = old.step_limit; keys = Enforced; schema = schema; table = table; params = params }
+
+  pub writes_at : (command : Command) (tally : Tally) (now : Database)
+      → OnTable old.step_limit (mode_of old) params old.now at (λ task. OnRows task (mode_of old) None command old.now.trees) (Ok (tally, now))
+      → (w : Written) × WritesRows task_at old.now.trees command (Ok w) × (now ≡ record { schema = schema; trees = w.trees })
+  writes_at command tally now h = grind (arith, went, same_value)
 
 -- the schema stays, and the table has the rows as it casts them
 pub record Inserted (schema : Schema) (table : Table) (rows : List Row) (old new : Database) : Type 0 where
@@ -25,45 +45,16 @@ pub record Inserted (schema : Schema) (table : Table) (rows : List Row) (old new
 abbrev pub uncounted : Table → Table
 uncounted table = record table { is_counted = false }
 
-inserted_in : (limit : Option ℕ) (schema : Schema) (table : Table) (params : Row) (from : Source) (db : Trees) (w : Written)
-    → Inserts (record { limit = limit; keys = Enforced; schema = schema; table = uncounted table; params = params }) from db (Ok w)
-    → (rows : List Row) × IsSource (record { schema = schema; trees = db }) (stamped (uncounted table) params) from rows
-    × Edits schema Enforced db (edit_of db (uncounted table) [] Chosen 0 rows) (Ok w.trees)
-inserted_in limit schema table params from db w h =
-    let given = went h in
-    let written = went (went given.2).2 in
-    let counted = went written.2 in
-    let trees : w.trees ≡ written.0 = ap (λ (it : Written). it.trees) (same_value counted.2) ∙ same_value counted.1 in
-    (given.0, given.1, subst (λ next. Edits schema Enforced db (edit_of db (uncounted table) [] Chosen 0 given.0) (Ok next)) (sym trees) written.1)
-
-never_both : {W : Type 0} (b : Bool) (w : W) → cond (b && false) (Some w) None ≡ None
-never_both true w = refl
-never_both false w = refl
-
 -- no foreign key acts where no row is taken away
 no_work : (depth tree : ℕ) (child : Table) (ref : Reference) (deed : Option Deed) (key : Option ParentKey) → work_by depth tree [] child ref deed key ≡ None
-no_work depth tree child ref None key = refl
-no_work depth tree child ref (Some deed) None = refl
-no_work depth tree child ref (Some deed) (Some key) = never_both (key.0 == tree) _
+no_work depth tree child ref deed key = grind arith
 
 none_for : {A B : Type 0} (f : A → Option B) → ((x : A) → f x ≡ None) → (xs : List A) → filter_map f xs ≡ []
 none_for f none [] = refl
 none_for f none (x ∷ xs) = rw (none x) (none_for f none xs)
 
 pub no_works : (schema : Schema) (tree : ℕ) (news : List Row) → works schema Enforced 0 tree [] news ≡ []
-no_works schema tree news = go schema.tables
-  where
-    go : (tables : List Table) → flat_map (λ (child : Table). filter_map (work_for schema Enforced 0 tree [] news child) child.references) tables ≡ []
-    go [] = refl
-    go (child ∷ more) = rw (none_for (work_for schema Enforced 0 tree [] news child) (λ ref. no_work 0 tree child ref _ _) child.references) (go more)
-
-placed : (schema : Schema) (table : Table) (db next : Trees) (rows wanted : List Row) → rows ≡ wanted
-    → Edits schema Enforced db (edit_of db table [] Chosen 0 rows) (Ok next)
-    → Rewritten schema db (edit_of db table [] Chosen 0 wanted) next
-placed schema table db next rows wanted same h =
-    let edit = edit_of db table [] Chosen 0 rows in
-    subst (λ rs. Rewritten schema db (edit_of db table [] Chosen 0 rs) next) same
-    (applied schema Enforced db next edit (one_step schema Enforced db next edit (no_works schema table.tree edit.news) h))
+no_works schema tree news = grind (arith, flat_map_none, filter_map, none_for, no_work)
 
 pub inserts : (schema : Schema) (at : ℕ) (table : Table) (terms : List Term) (width : ℕ) → slice_get schema.tables at ≡ Some (uncounted table)
     → (old new : State) → old.now.schema ≡ schema → (text : List ℕ) (params : Row) (count : ℕ)
@@ -71,16 +62,13 @@ pub inserts : (schema : Schema) (at : ℕ) (table : Table) (terms : List Term) (
     → Inserted schema (uncounted table) (given_rows (uncounted table) params terms width) old.now new.now
 inserts schema at table terms width there old new has text params count w =
     let db = old.now.trees in
-    let on = subst (λ s. Does old.step_limit (mode_of old) params (record old.now { schema = s }) text None (Insert at (Values terms width))
-    (Ok (w.tally, new.now))) has w.changed in
-    let task : Task = record { limit = old.step_limit; keys = Enforced; schema = schema; table = uncounted table; params = params } in
-    let all : OnRows task (mode_of old) None (Insert at (Values terms width)) db (Ok (w.tally, new.now)) = rw there at on in
-    let done = went all in
-    let now : new.now ≡ record { schema = schema; trees = done.0.trees } = ap (λ (p : Tally × Database). p.1) (same_value (went (went done.2).2).2) in
-    let made = inserted_in old.step_limit schema table params (Values terms width) db done.0 done.1 in
-    record {
-      schema_is = ap (λ (d : Database). d.schema) now;
-      applies = placed schema (uncounted table) db new.now.trees made.0 _ made.1.1
-          (subst (λ next. Edits schema Enforced db (edit_of db (uncounted table) [] Chosen 0 made.0) (Ok next)) (sym (ap (λ (d : Database). d.trees) now))
-          made.2);
-    }
+    let it = writes_at schema at (uncounted table) there old has params (Insert at (Values terms width)) w.tally new.now w.changed in
+    let given = went it.1 in
+    let written = went (went given.2).2 in
+    let counted = went written.2 in
+    let edit = edit_of db (uncounted table) [] Chosen 0 given.0 in
+    let trees : it.0.trees ≡ written.0 = ap (λ (it : Written). it.trees) (same_value counted.2) ∙ same_value counted.1 in
+    let step = subst (λ next. Edits schema Enforced db edit (Ok next)) (sym trees) written.1 in
+    let placed = applied schema Enforced db it.0.trees edit (one_step schema Enforced db it.0.trees edit (no_works schema table.tree edit.news) step) in
+    subst (Inserted schema (uncounted table) (given_rows (uncounted table) params terms width) old.now) (sym it.2)
+    (record { schema_is = refl; applies = subst (λ rs. Rewritten schema db (edit_of db (uncounted table) [] Chosen 0 rs) it.0.trees) given.1.1 placed })

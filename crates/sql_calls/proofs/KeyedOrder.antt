@@ -1,7 +1,7 @@
 -- What a SELECT in the order of one column shows of a keyed table.
 use mathlib.Core.Path.{fun_ext}
 use Rattle.sql_calls.proofs.Common.{◌≡◌, ℕ, zero, suc, ◌+◌, Bool, true, false, not, ◌||◌, List, [], ◌∷◌, ◌++◌, map, filter, slice_get, Option, Some, Ordering}
-use Rattle.sql_calls.proofs.Common.{Less, Equal, Greater, true≢false, refl, sym, ap, ◌∙◌, arith, AllByRecursion, is_eq, is_gt, ordering_reverse, Value, column}
+use Rattle.sql_calls.proofs.Common.{refl, ap, ◌∙◌, arith, AllByRecursion, is_eq, is_gt, ordering_reverse, Value, column}
 use Rattle.sql_calls.proofs.Common.{value_cmp, plain, then-Equal, value_cmp_total, Binary, Term, col, Query, IsAnswer, Output, output_cmp, page, overlay}
 use Rattle.sql_calls.proofs.Common.{Table, Trees, Schema, is_null, is_true, from_truth, agree, equal, are_present, agree_back, agree_chain, IsAscending}
 use Rattle.sql_calls.proofs.Common.{sort_by, insert_sorted, sort_by-map, map-map, IsHeldBy, HaveKeysApart, AreWhole, by_column, Rise, and_parts}
@@ -17,35 +17,23 @@ use Rattle.sql_calls.proofs.Selects.{simple, by, passes, shown_of, shown_in}
 -- ---- values that are there
 
 pub is_there : (k n v : Bool) → k ≡ false → n ≡ true → (k || not n || not v) ≡ true → v ≡ false
-is_there true n v a b h = absurd (true≢false a)
-is_there false false v a b h = absurd (true≢false (sym b))
-is_there false true true a b h = absurd (true≢false (sym h))
-is_there false true false a b h = refl
+is_there k n v a b h = grind arith
 
 -- a column that is NOT NULL, and that the rowid doesn't stand for, has a value in each row
 present_from : (key : Option ℕ) (at : ℕ) (columns : List Column) (row : Row) (c : ℕ) (it : Column) → slice_get columns c ≡ Some it → it.not_null ≡ true
     → is_key key (at + c) ≡ false → are_present key at columns row ≡ true → is_null (column row (at + c + 1)) ≡ false
 present_from key at [] row c it there filled unkeyed h = absurd cc
-present_from key at (x ∷ columns) row zero it there filled unkeyed h =
-    let same : x ≡ it = cc in
-    let here : at + 0 ≡ at = omega arith in
-    ap (λ n. is_null (column row (n + 1))) here
-    ∙ is_there (is_key key at) x.not_null (is_null (column row (at + 1))) (ap (is_key key) (sym here) ∙ unkeyed) (ap (λ (y : Column). y.not_null) same ∙ filled)
-    (and_parts _ _ h).0
+present_from key at (x ∷ columns) row zero it there filled unkeyed h = grind (arith, is_there, and_parts)
 present_from key at (x ∷ columns) row (suc c) it there filled unkeyed h =
-    let on : at + suc c ≡ at + 1 + c = omega arith in
-    ap (λ n. is_null (column row (n + 1))) on ∙ present_from key (at + 1) columns row c it there filled (ap (is_key key) (sym on) ∙ unkeyed) (and_parts _ _ h).1
+    grind (arith, present_from key (at + 1) columns row c it there filled, column, is_key, and_parts)
 
 -- ---- values that the order does not tell apart
 
 judged : (b : Bool) → b ≡ true → is_true (from_truth (Some b)) ≡ true
-judged true h = refl
-judged false h = h
+judged b h = grind arith
 
 turned : (x y : Ordering) → x ≡ ordering_reverse y → is_eq y ≡ true → is_eq x ≡ true
-turned x Less h k = absurd (true≢false (sym k))
-turned x Equal h k = ap is_eq h
-turned x Greater h k = absurd (true≢false (sym k))
+turned x y h k = grind arith
 
 tied_equal : (a b : Value) → is_null a ≡ false → is_null b ≡ false → is_eq (value_cmp a b) ≡ true → equal Binary b a ≡ true
 unfolding binary
@@ -56,10 +44,7 @@ agree_more : (ps : List ℕ) (c : ℕ) (s r : Row) → agree plain ps s ps r ≡
     → agree plain (ps ++ c ∷ []) s (ps ++ c ∷ []) r ≡ true
 unfolding first_key
 agree_more [] c s r h same = rw same refl
-agree_more (p ∷ ps) c s r h same =
-    let parts = and_parts (equal Binary (column s p) (column r p)) (agree plain ps s ps r) h in
-    let first : equal Binary (column s p) (column r p) ≡ true = parts.0 in
-    rw first (agree_more ps c s r parts.1 same)
+agree_more (p ∷ ps) c s r h same = grind (arith, and_parts, agree_more ps c s r)
 
 -- ---- a list that rises stays as it is
 
@@ -90,10 +75,7 @@ module _ (schema : Schema) (table : Table) (prefix : List ℕ) (c : ℕ) (it : C
       → passes test params s ≡ true
       → is_eq (output_cmp rising (shown_in rising params r) (shown_in rising params s)) ≡ true → agree plain (prefix ++ suc c ∷ []) s (prefix ++ suc c ∷ []) r
       ≡ true
-  tie r s fine good p q tied =
-      agree_more prefix (suc c) s r (agree_chain plain prefix ks prefix s params r (fixed s q) (agree_back plain prefix ks r params (fixed r p)))
-      (tied_equal (column r (suc c)) (column s (suc c)) (present r fine) (present s good)
-      (sym (ap is_eq (then-Equal (value_cmp (column r (suc c)) (column s (suc c))))) ∙ tied))
+  tie r s fine good p q tied = grind (arith, agree_more, agree_chain, plain, agree_back, tied_equal, column, present, is_eq, then-Equal)
 
   -- SELECT .. WHERE .. ORDER BY column LIMIT ..
   pub reads_rising : (db : Trees) (wanted : List Row) → HaveKeysApart (prefix ++ suc c ∷ []) (db table.tree) → AreWhole table (db table.tree)

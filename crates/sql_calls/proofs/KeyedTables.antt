@@ -1,8 +1,8 @@
 -- What the usual statements do to a table that has a text or composite key, in contents: rows less their rowids, in any order.
-use Rattle.sql_calls.proofs.Common.{get_or, ◌≡◌, ◌⊎◌, inl, inr, ◌≤◌, ℕ, pos, Bool, true, false, not, cond, List, [], ◌∷◌, map, filter, length, slice_get, Some}
+use Rattle.sql_calls.proofs.Common.{get_or, ◌≡◌, ◌⊎◌, inl, inr, ◌≤◌, ℕ, pos, Bool, true, not, List, [], ◌∷◌, map, filter, length, slice_get, Some}
 use Rattle.sql_calls.proofs.Common.{refl, sym, ap, ◌∙◌, subst, arith, IsPermutation, is_eq, length-map, IsPermutation-trans, IsPermutation-map}
-use Rattle.sql_calls.proofs.Common.{length_permutation, Null, Int, Trees, rowid, put_row, without_rowid, Table, Schema, agree, clashes, are_present, Has}
-use Rattle.sql_calls.proofs.Common.{cast_all, next_rowid, ids_of, agree_back, agree_chain, Chosen, Given, Term, col, IsAnswer, output_cmp, page, Output}
+use Rattle.sql_calls.proofs.Common.{length_permutation, Null, Int, Trees, rowid, put_row, without_rowid, Table, Schema, agree, are_present, Has}
+use Rattle.sql_calls.proofs.Common.{cast_all, ids_of, agree_back, agree_chain, Given, Term, col, IsAnswer, output_cmp, page, Output}
 use Rattle.sql_calls.proofs.Common.{overlay, output_cmp_total, Database, one_permutation, sort_by, all-slice_get, map-map, plain, IsSound, all_from, has_got}
 use Rattle.sql_calls.proofs.Common.{IsHeldBy, HaveKeysApart, AreWhole, Key, id_in}
 use Rattle.sqlite_value.specs.Order.{Row}
@@ -10,7 +10,10 @@ use Rattle.sqlite_schema.specs.declared.schema.Constraint.TheVariants.{NotNull}
 use Rattle.sqlite_rules.specs.Edit.{edit_of, edited}
 use Rattle.sqlite_catalog.proofs.AlterLemmas.{keys_are_unique}
 use Rattle.sql_calls.proofs.KeyedRows.{IsBlind, on_content, IsKey, changed, held_added, held_seen, held_dropped, held_unchanged, held_changed, one_at_most}
-use Rattle.sql_calls.proofs.KeyedRows.{no_ties, sorted_of}
+use Rattle.sql_calls.proofs.KeyedRows.{no_ties, sorted_of, are_apart, risen}
+use Rattle.std.proofs.lemmas.Bool.{false_from_ne_true}
+use Rattle.sqlite_keyed.proofs.ListLemmas.{filter_none}
+use Rattle.sqlite_rules.proofs.ListLemmas.{has_kept}
 use Rattle.sql_calls.proofs.NumberedRows.{cast_int, cast_null}
 use Rattle.sql_calls.proofs.Selects.{simple, passes, shown_of, simple_rows, by, shown_in, ordered_rows}
 use Rattle.sql_calls.proofs.Inserts.{Inserted, given_rows}
@@ -23,22 +26,13 @@ short (x ∷ []) ys same low = one_permutation x ys same
 short (x ∷ y ∷ xs) ys same low = absurd (omega (arith, low))
 
 pub none_passes : (p : Row → Bool) (rows : List Row) → ((r : Row) → Has rows r → p r ≡ true → ⊥) → filter p rows ≡ []
-none_passes p [] h = refl
-none_passes p (r ∷ rows) h = go (p r) refl (none_passes p rows (λ s there. h s (inr there)))
-  where
-    go : (b : Bool) → p r ≡ b → filter p rows ≡ [] → cond b (r ∷ filter p rows) (filter p rows) ≡ []
-    go true e more = absurd (h r (inl refl) e)
-    go false e more = more
+none_passes p rows h = filter_none p rows (all_from _ rows (λ r there. false_from_ne_true _ (h r there)))
 
 pub is_among : (p : Row → Bool) (rows : List Row) (r : Row) → Has rows r → p r ≡ true → Has (filter p rows) r
-is_among p [] r there passes_it = absurd there
-is_among p (s ∷ rows) r (inl same) passes_it = let e : p s ≡ true = ap p (sym same) ∙ passes_it in rw e (inl same)
-is_among p (s ∷ rows) r (inr there) passes_it =
-    let more = is_among p rows r there passes_it in elim (p s) as (λ b. Has (cond b (s ∷ filter p rows) (filter p rows)) r) [ true ↦ inr more | false ↦ more ]
+is_among = has_kept
 
 pub only_one : (found r : Row) → Has (found ∷ []) r → r ≡ found
-only_one found r (inl same) = same
-only_one found r (inr none) = absurd none
+only_one found r h2 = grind arith
 
 -- the rows of the answer that an UPDATE or DELETE of one row is given
 module _ (table : Table) (rows : List Row) (f : Row → Row) where
@@ -53,9 +47,7 @@ module _ (table : Table) (rows : List Row) (f : Row → Row) where
 pub keys_apart : (schema : Schema) (db : Trees) (at : ℕ) (table : Table) (k : ℕ) (key : List ℕ) → IsSound schema db → slice_get schema.tables at ≡ Some table
     → slice_get table.uniques k ≡ Some key → get_or table.orders k plain ≡ plain
     → HaveKeysApart key (db table.tree)
-keys_apart schema db at table k key sound there unique in_order = all_from _ (db table.tree) (λ row among.
-    subst (λ o. clashes o key (db table.tree) row ≡ false) in_order
-    (keys_are_unique schema db table k key row sound (has_got schema.tables at table there) unique among))
+keys_apart schema db at table k key sound there unique in_order = grind (arith, all_from, keys_are_unique, has_got)
 
 pub are_whole : (schema : Schema) (db : Trees) (at : ℕ) (table : Table) → IsSound schema db → slice_get schema.tables at ≡ Some table
     → AreWhole table (db table.tree)
@@ -72,11 +64,11 @@ module _ (schema : Schema) (table : Table) (key : List ℕ) where
 
     pub found_once : (db : Trees) (wanted : List Row) → HaveKeysApart key (db table.tree) → IsHeldBy (db table.tree) wanted → (filter p (db table.tree) ≡ [])
         ⊎ ((found : Row) × (filter p (db table.tree) ≡ found ∷ []))
-    found_once db wanted unique held = one_at_most p plain key key_is 1 (db table.tree) held.order held.rising unique
+    found_once db wanted unique held = one_at_most plain key p key_is (db table.tree)
+        (are_apart plain key (risen 1 _ held.order held.rising) unique)
 
     few : (rows : List Row) → (filter p rows ≡ []) ⊎ ((found : Row) × (filter p rows ≡ found ∷ [])) → length (filter p rows) ≤ 1
-    few rows (inl none) = rw none (omega arith)
-    few rows (inr one) = rw one.1 (omega arith)
+    few rows one = grind arith
 
     -- SELECT .. WHERE key: the one row, or none
     pub reads_key : (shows : List Term) → IsBlind (shown_of shows params) → (db : Trees) (wanted : List Row) → HaveKeysApart key (db table.tree)
@@ -156,8 +148,8 @@ module _ (schema : Schema) (table : Table) (key : List ℕ) where
           let f = shown_in q params in
           let it = ordered_rows table.tree test shows order limit offset params db rows answer in
           let first = held_seen p blind f fair (db table.tree) wanted held in
-          let apart = no_ties p plain key f (output_cmp q) (λ r. are_present table.key 0 table.columns r ≡ true) tie 1 (db table.tree) held.order held.rising
-          whole unique in
+          let apart = no_ties plain key p f (output_cmp q) (λ r. are_present table.key 0 table.columns r ≡ true) tie (db table.tree) whole
+          (are_apart plain key (risen 1 _ held.order held.rising) unique) in
           it.is ∙ ap (λ l. page q params (map (λ (o : Output). o.1) l))
           (sorted_of (output_cmp q) (output_cmp_total q) _ _ it.ordered first apart (IsPermutation-trans _ _ _ first it.same) it.sorted)
 
@@ -165,8 +157,4 @@ module _ (schema : Schema) (table : Table) (key : List ℕ) where
   pub adds_row : (params : Row) (terms : List Term) (width : ℕ) (source : Row) → given_rows table params terms width ≡ (Null ∷ source) ∷ []
       → (old new : Database) (wanted : List Row) → IsHeldBy (old.trees table.tree) wanted
       → Inserted schema table (given_rows table params terms width) old new → IsHeldBy (new.trees table.tree) (cast_all table.columns source ∷ wanted)
-  adds_row params terms width source one old new wanted held made =
-      let rows = old.trees table.tree in
-      let put : new.trees table.tree ≡ put_row (Int (next_rowid rows) ∷ cast_all table.columns source) rows =
-      made.applies.rows ∙ ap (λ given. edited old.trees (edit_of old.trees table [] Chosen 0 given)) one ∙ rw cast_null refl in
-      subst (λ l. IsHeldBy l (cast_all table.columns source ∷ wanted)) (sym put) (held_added rows wanted held (cast_all table.columns source))
+  adds_row params terms width source one old new wanted held made = grind (arith, edited, cast_null, held_added)

@@ -10,7 +10,6 @@ pub mod Inserts
 pub mod Actions
 pub mod Updates
 pub mod Upserts
-pub mod Creates
 pub mod KeyedRows
 pub mod NumberedRows
 pub mod KeyedTables

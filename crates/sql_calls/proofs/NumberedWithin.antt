@@ -1,10 +1,10 @@
 -- What a SELECT over a table whose k-th row has number k shows, where WHERE asks whether a second table has a row.
-use Rattle.sql_calls.proofs.Common.{◌≡◌, ◌<◌, ℕ, suc, ◌+◌, min, pos, List, [], ◌∷◌, ◌++◌, length, map, filter, flat_map, Bool, true, false, cond, ◌||◌, refl}
+use Rattle.sql_calls.proofs.Common.{◌≡◌, ◌<◌, ℕ, suc, min, pos, List, [], ◌∷◌, ◌++◌, length, map, filter, flat_map, Bool, true, false, cond, ◌||◌, refl}
 use Rattle.sql_calls.proofs.Common.{sym, ap, ap₂, subst, ◌∙◌, arith, Less, IsPermutation, list_all, list_any, list_any-IsPermutation, Int, rowid, Trees, Term}
 use Rattle.sql_calls.proofs.Common.{Env, eval_all, holds, Query, Output, inner, counted, end, output, output_cmp, page, IsAnswer, overlay, is_true}
-use Rattle.sql_calls.proofs.Common.{output_cmp_total, sorted_unique, map-map, AreIn, IsHeldBy, rows_from}
+use Rattle.sql_calls.proofs.Common.{output_cmp_total, sorted_unique, map-map, IsHeldBy, rows_from}
 use Rattle.sqlite_value.specs.Order.{Row}
-use Rattle.sql_calls.proofs.KeyedRows.{IsBlind, on_content, ids_less}
+use Rattle.sql_calls.proofs.KeyedRows.{IsBlind, Rises, none, one, on_content, ids_less, risen}
 use Rattle.sql_calls.proofs.NumberedTables.{number_query, rises}
 use Rattle.sql_calls.proofs.Selects.{no_overlay}
 
@@ -21,25 +21,20 @@ is_beside inside params r g = list_all (holds (params ∷ r ∷ g ∷ [])) insid
 pub counts_any : (inside : List Term) (params r : Row) (rows : List Row) → is_true (Int (pos (min 1 (length (beside inside params r rows)))))
     ≡ list_any (is_beside inside params r) rows
 counts_any inside params r [] = refl
-counts_any inside params r (g ∷ rows) = go (is_beside inside params r g) (counts_any inside params r rows)
-  where
-    go : (b : Bool) → is_true (Int (pos (min 1 (length (beside inside params r rows))))) ≡ list_any (is_beside inside params r) rows
-        → is_true (Int (pos (min 1 (length (cond b ((params ∷ r ∷ g ∷ []) ∷ []) [] ++ beside inside params r rows)))))
-        ≡ (b || list_any (is_beside inside params r) rows)
-    go true h = let one : min 1 (suc (length (beside inside params r rows))) ≡ 1 = omega arith in ap (λ m. is_true (Int (pos m))) one
-    go false h = h
+counts_any inside params r (g ∷ rows) =
+    let one : min 1 (suc (length (beside inside params r rows))) ≡ 1 = omega arith in
+    elim (is_beside inside params r g) as (λ b. is_true (Int (pos (min 1 (length (cond b ((params ∷ r ∷ g ∷ []) ∷ []) [] ++ beside inside params r rows)))))
+    ≡ (b || list_any (is_beside inside params r) rows)) [ true ↦ ap (λ m. is_true (Int (pos m))) one | false ↦ counts_any inside params r rows ]
 
 -- of a test that doesn't see the rowid
 module _ (p : Row → Bool) (blind : IsBlind p) where
-  any_in : (k : ℕ) (rows xs : List Row) → AreIn k rows xs → list_any p rows ≡ list_any (on_content p) xs
-  any_in k [] [] h = refl
-  any_in k [] (x ∷ xs) h = absurd h
-  any_in k (r ∷ rows) [] h = absurd h
-  any_in k (r ∷ rows) (x ∷ xs) h = ap₂ ◌||◌ (ap p h.2 ∙ blind _ x) (any_in (h.0 + 1) rows xs h.3)
+  any_in : {k : ℕ} {rows xs : List Row} → Rises k rows xs → list_any p rows ≡ list_any (on_content p) xs
+  any_in none = refl
+  any_in (one n x rows xs from h) = ap₂ ◌||◌ (blind _ x) (any_in h)
 
   -- whether a row passes doesn't depend on the order in which the rows are held
   pub held_any : (rows wanted : List Row) → IsHeldBy rows wanted → list_any p rows ≡ list_any (on_content p) wanted
-  held_any rows wanted h = any_in 1 rows h.order h.rising ∙ sym (list_any-IsPermutation (on_content p) wanted h.order h.same)
+  held_any rows wanted h = any_in (risen 1 rows h.order h.rising) ∙ sym (list_any-IsPermutation (on_content p) wanted h.order h.same)
 
 -- ---- the query
 
@@ -65,13 +60,7 @@ module _ {X : Type 0} (f : ℕ → X → Row) (ids : (n : ℕ) (x : X) → rowid
 
     outputs : (xs : List Row) → map (output within_query) (flat_map staged xs) ≡ map show (filter passes_within xs)
     outputs [] = refl
-    outputs (r ∷ xs) = go (passes_within r) (outputs xs)
-      where
-        go : (b : Bool) → map (output within_query) (flat_map staged xs) ≡ map show (filter passes_within xs)
-            → map (output within_query) (cond b (seen r ∷ []) [] ++ flat_map staged xs)
-            ≡ map show (cond b (r ∷ filter passes_within xs) (filter passes_within xs))
-        go true h = ap (λ l. show r ∷ l) h
-        go false h = h
+    outputs (r ∷ xs) = grind (arith, outputs xs)
 
     below : (m n : ℕ) (x y : X) → m < n → output_cmp within_query (show (f m x)) (show (f n y)) ≡ Less
     below m n x y h = rw (ids m x, ids n y, ids_less m n h) refl

@@ -1,6 +1,6 @@
 -- Trees list one schema alone.
-use Rattle.sql_calls.proofs.Common.{◌≡◌, true, false, filter, slice_get, Some, ◌+◌, pos, List, [], ◌∷◌, Ok, refl, sym, ap, subst, ◌∙◌, arith, AllZip, Value}
-use Rattle.sql_calls.proofs.Common.{Null, Int, Real, Text, Blob, column, Trees, Schema, Table, Index, IsAscending, IsSound, IsTableRow, IsIndexRow, IsDefined}
+use Rattle.sql_calls.proofs.Common.{◌≡◌, true, false, filter, slice_get, Some, List, [], ◌∷◌, Ok, sym, ap, subst, ◌∙◌, arith, AllZip, Value}
+use Rattle.sql_calls.proofs.Common.{Null, Int, Real, Text, Blob, Trees, Schema, Table, Index, IsAscending, IsSound, IsTableRow, IsIndexRow, IsDefined}
 use Rattle.sql_calls.proofs.Common.{automatic, is_index_row}
 use Rattle.sqlite_value.specs.Order.{Row}
 use Rattle.sqlite_schema.specs.Names.{same_name}
@@ -10,23 +10,13 @@ use Rattle.sqlite_catalog.proofs.AlterLemmas.{numbers_differ}
 
 zip_same : {A B : Type 0} (R : A → B → Type 0) → ((a : A) (x y : B) → R a x → R a y → x ≡ y) → (rs : List A) (xs ys : List B) → AllZip R rs xs → AllZip R rs ys
     → xs ≡ ys
-zip_same R one [] [] [] h k = refl
-zip_same R one [] [] (y ∷ ys) h k = absurd k
-zip_same R one [] (x ∷ xs) ys h k = absurd h
+zip_same R one [] xs ys h k = grind arith
 zip_same R one (a ∷ rs) [] ys h k = absurd h
 zip_same R one (a ∷ rs) (x ∷ xs) [] h k = absurd k
 zip_same R one (a ∷ rs) (x ∷ xs) (y ∷ ys) h k = let same = one a x y h.0 k.0 in let more = zip_same R one rs xs ys h.1 k.1 in cc
 
 one_table : (row : Row) (s t : Table) → IsTableRow row s → IsTableRow row t → s ≡ t
-one_table row s t h k =
-    let texts : Text h.sql ≡ Text k.sql = sym h.sql_is ∙ k.sql_is in
-    let sql : h.sql ≡ k.sql = cc in
-    let ids : Int (pos (s.tree + 1)) ≡ Int (pos (t.tree + 1)) = sym h.described.id ∙ k.described.id in
-    let up : s.tree + 1 ≡ t.tree + 1 = cc in
-    let tree : s.tree ≡ t.tree = omega arith in
-    let made : Ok h.defined.0 ≡ Ok k.defined.0 = sym h.defined.1 ∙ ap (λ x. Rattle.sqlite_resolve.specs.Compile.table_defined_by x) sql ∙ k.defined.1 in
-    let same : h.defined.0 ≡ k.defined.0 = cc in
-    h.defined.2 ∙ ap (λ (m : Table). record m { tree = s.tree }) same ∙ ap (λ n. let it : Table = record k.defined.0 { tree = n } in it) tree ∙ sym k.defined.2
+one_table row s t h k = grind arith
 
 -- ---- indexes
 
@@ -51,17 +41,7 @@ one_defined t i j (Blob b) names trees h k = absurd h
 
 one_index : (tables : List Table) → IsAscending (λ (a b : Table). same_name a.name b.name ≡ false) tables → (row : Row) (i j : Index) → IsIndexRow tables row i
     → IsIndexRow tables row j → i ≡ j
-one_index tables named row i j h k =
-    let owners : Text k.table.name ≡ Text h.table.name = sym k.described.owner_is ∙ h.described.owner_is in
-    let owner : k.table.name ≡ h.table.name = cc in
-    let table : k.table ≡ h.table = named_once tables k.table h.table named k.listed h.listed
-    (ap (λ x. same_name x h.table.name) owner ∙ same_itself h.table.name) in
-    let texts : Text i.name ≡ Text j.name = sym h.described.name_is ∙ k.described.name_is in
-    let names : i.name ≡ j.name = cc in
-    let ids : Int (pos (i.tree + 1)) ≡ Int (pos (j.tree + 1)) = sym h.described.id ∙ k.described.id in
-    let up : i.tree + 1 ≡ j.tree + 1 = cc in
-    let trees : i.tree ≡ j.tree = omega arith in
-    one_defined h.table i j (column row 4) names trees h.defined (subst (λ t. IsDefined t j (column row 4)) table k.defined)
+one_index tables named row i j h k = grind (arith, named_once, same_itself, one_defined)
 
 -- ---- schemas
 

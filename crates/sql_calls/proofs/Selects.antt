@@ -1,9 +1,10 @@
 -- What a query over one table answers, for any schema.
-use Rattle.sql_calls.proofs.Common.{[], ◌≡◌, ℕ, ◌-◌, ◌^◌, pos, negsuc, List, ◌∷◌, ◌++◌, map, slice_get, flat_map, filter, Bool, true, false, cond, None, refl}
+use Rattle.sql_calls.proofs.Common.{[], ◌≡◌, ℕ, ◌-◌, ◌^◌, pos, negsuc, List, ◌∷◌, map, slice_get, flat_map, filter, Bool, true, false, cond, None, refl}
 use Rattle.sql_calls.proofs.Common.{sym, ap, subst, ◌∙◌, nat_le, unwrap_or, list_all, IsPermutation-map, Row, Trees, Term, Env, lit, eval_all, holds, Query}
-use Rattle.sql_calls.proofs.Common.{inner, end, IsAnswer, output, output_cmp, page, Output, overlay, shown, Key}
+use Rattle.sql_calls.proofs.Common.{inner, end, IsAnswer, output, output_cmp, page, Output, overlay, shown, Key, map-map}
 use Rattle.std.specs.List.Sorted.{IsPermutation, IsSorted}
 use Rattle.sqlite.specs.declared.types.Value.TheVariants.{Int}
+use Rattle.sql_calls.proofs.Common.{arith}
 
 -- SELECT project FROM table WHERE filter
 abbrev pub simple : ℕ → List Term → List Term → Query
@@ -28,37 +29,8 @@ shown_of shown params r = eval_all shown (params ∷ r ∷ [])
 abbrev pub matched : List Term → Row → Row → List Env
 matched test params r = cond (passes test params r) ((params ∷ r ∷ []) ∷ []) []
 
-outputs : (tree : ℕ) (test shown : List Term) (params : Row) (rows : List Row)
-    → map (λ (o : Output). o.1) (map (output (simple tree test shown)) (flat_map (matched test params) rows))
-    ≡ map (shown_of shown params) (filter (passes test params) rows)
-outputs tree test shown params [] = refl
-outputs tree test shown params (r ∷ rows) = go (passes test params r) (outputs tree test shown params rows)
-  where
-    go : (b : Bool) → map (λ (o : Output). o.1) (map (output (simple tree test shown)) (flat_map (matched test params) rows))
-        ≡ map (shown_of shown params) (filter (passes test params) rows)
-        → map (λ (o : Output). o.1) (map (output (simple tree test shown)) (cond b ((params ∷ r ∷ []) ∷ []) [] ++ flat_map (matched test params) rows))
-        ≡ map (shown_of shown params) (cond b (r ∷ filter (passes test params) rows) (filter (passes test params) rows))
-    go true h = ap (λ xs. shown_of shown params r ∷ xs) h
-    go false h = h
-
 pub no_overlay : (db : Trees) (t : ℕ) → overlay db [] t ≡ db t
-no_overlay db t = go (nat_le (2 ^ 31) t)
-  where
-    go : (b : Bool) → unwrap_or (cond b (slice_get [] (t - 2 ^ 31)) None) (db t) ≡ db t
-    go true = refl
-    go false = refl
-
--- the rows of the table that pass, as the query shows them, in some order
-pub simple_rows : (tree : ℕ) (test shown : List Term) (params : Row) (db : Trees) (rows : List Row)
-    → IsAnswer (simple tree test shown) (overlay db []) params rows
-    → IsPermutation (map (shown_of shown params) (filter (passes test params) (db tree))) rows
-simple_rows tree test shown params db rows a =
-    let staged : a.staged ≡ flat_map (matched test params) (db tree) = a.grouped ∙ ap (flat_map (matched test params)) (no_overlay db tree) in
-    let kept : a.kept ≡ map (output (simple tree test shown)) (flat_map (matched test params) (db tree)) = a.distinct
-    ∙ ap (map (output (simple tree test shown))) staged in
-    let same = IsPermutation-map (λ (o : Output). o.1) a.kept a.ordered a.same in
-    subst (λ xs. IsPermutation xs rows) (ap (map (λ (o : Output). o.1)) kept ∙ outputs tree test shown params (db tree))
-    (subst (IsPermutation (map (λ (o : Output). o.1) a.kept)) (sym a.shown) same)
+no_overlay db t = elim (nat_le (2 ^ 31) t) as (λ b. unwrap_or (cond b (slice_get [] (t - 2 ^ 31)) None) (db t) ≡ db t) [ true ↦ refl | false ↦ refl ]
 
 -- ---- in an order
 
@@ -71,13 +43,7 @@ shown_in q params r = output q (params ∷ r ∷ [])
 outputs_in : (q : Query) (test : List Term) (params : Row) (rows : List Row) → map (output q) (flat_map (matched test params) rows)
     ≡ map (shown_in q params) (filter (passes test params) rows)
 outputs_in q test params [] = refl
-outputs_in q test params (r ∷ rows) = go (passes test params r) (outputs_in q test params rows)
-  where
-    go : (b : Bool) → map (output q) (flat_map (matched test params) rows) ≡ map (shown_in q params) (filter (passes test params) rows)
-        → map (output q) (cond b ((params ∷ r ∷ []) ∷ []) [] ++ flat_map (matched test params) rows)
-        ≡ map (shown_in q params) (cond b (r ∷ filter (passes test params) rows) (filter (passes test params) rows))
-    go true h = ap (λ xs. shown_in q params r ∷ xs) h
-    go false h = h
+outputs_in q test params (r ∷ rows) = grind (arith, outputs_in q test params rows)
 
 pub record IsOrdered (q : Query) (params : Row) (found : List Row) (rows : List Row) : Type 0 where
   pub ordered : List Output
@@ -95,3 +61,15 @@ ordered_rows tree test shown order limit offset params db rows a =
     let kept : a.kept ≡ map (shown_in q params) (filter (passes test params) (db tree)) = a.distinct ∙ ap (map (output q)) staged
     ∙ outputs_in q test params (db tree) in
     record { ordered = a.ordered; same = subst (λ xs. IsPermutation xs a.ordered) kept a.same; sorted = a.sorted; is = a.shown }
+
+-- ---- in no order
+
+-- the rows of the table that pass, as the query shows them, in some order
+pub simple_rows : (tree : ℕ) (test shown : List Term) (params : Row) (db : Trees) (rows : List Row)
+    → IsAnswer (simple tree test shown) (overlay db []) params rows
+    → IsPermutation (map (shown_of shown params) (filter (passes test params) (db tree))) rows
+simple_rows tree test shown params db rows a =
+    let it = ordered_rows tree test shown [] (lit (Int (negsuc 0))) (lit (Int (pos 0))) params db rows a in
+    let same = IsPermutation-map (λ (o : Output). o.1) _ it.ordered it.same in
+    subst (λ l. IsPermutation l rows) (map-map (λ (o : Output). o.1) (shown_in (simple tree test shown) params) _)
+    (subst (IsPermutation _) (sym it.is) same)

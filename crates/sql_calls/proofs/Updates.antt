@@ -1,84 +1,61 @@
 -- What UPDATE and DELETE do to a table that has no foreign key, for any schema, whatever foreign keys refer to the table.
-use Rattle.sql_calls.proofs.Common.{[], ◌≡◌, ℕ, List, slice_get, Option, Some, None, Ok, sym, ap, subst, Row, Trees, Table, Schema, Enforced, Program, Update}
-use Rattle.sql_calls.proofs.Common.{Delete, edit_of, ids_of, Given, Tally, Does, OnRows, Written, Task, Updates, Deletes, Database, Answers, State, mode_of}
+use Rattle.sql_calls.proofs.Common.{[], ◌≡◌, ℕ, List, slice_get, Option, Some, None, Ok, sym, subst, Row, Trees, Table, Schema, Enforced, Program, Update}
+use Rattle.sql_calls.proofs.Common.{Delete, edit_of, ids_of, Given, Written, Database, Answers, State}
 use Rattle.sql_calls.proofs.Common.{Writes, has_got, HasNoForeignKey}
 use Rattle.sqlite_rules.specs.Action.{Writes as Edits}
+use Rattle.sqlite.specs.Rows.{Then, Gives, Edited, Queried}
+use Rattle.sql_calls.proofs.Common.{refl, Edit, taken_by}
 use Rattle.sql_calls.proofs.Actions.{Rewritten, rewritten}
-use Rattle.sql_calls.proofs.Inserts.{went, same_value}
+use Rattle.sql_calls.proofs.Inserts.{went, edits_to, writes_at}
 
--- the rows that the query shows, each its old rowid and then the new row, take the place of those
-pub record Updated (schema : Schema) (table : Table) (q : Program) (params : Row) (old new : Database) : Type 0 where
+-- the rows that the query shows go by their rowids, and new ones made of them come
+pub record Answered (schema : Schema) (table : Table) (width : ℕ) (news : List Row → List Row) (q : Program) (params : Row) (old new : Database) : Type 0 where
   pub schema_is : new.schema ≡ schema
   pub rows : List Row
   pub answers : Answers (record { schema = schema; trees = old.trees }) q params rows
-  pub applies : Rewritten schema old.trees (edit_of old.trees table (ids_of rows) Given 1 rows) new.trees
+  pub applies : Rewritten schema old.trees (edit_of old.trees table (ids_of rows) Given width (news rows)) new.trees
 
-pub updated_in : (limit : Option ℕ) (schema : Schema) (table : Table) (params : Row) (q : Program) (db : Trees) (w : Written)
-    → Updates (record { limit = limit; keys = Enforced; schema = schema; table = table; params = params }) q params db (Ok w)
-    → (rows : List Row) × Answers (record { schema = schema; trees = db }) q params rows
-    × Edits schema Enforced db (edit_of db table (ids_of rows) Given 1 rows) (Ok w.trees)
-updated_in limit schema table params q db w h =
-    let given = went h in
-    let written = went given.2 in
-    let trees : w.trees ≡ written.0 = ap (λ (it : Written). it.trees) (same_value written.2) in
-    (given.0, given.1, subst (λ next. Edits schema Enforced db (edit_of db table (ids_of given.0) Given 1 given.0) (Ok next)) (sym trees) written.1)
+-- each row that the query shows is its old rowid and then the new row
+abbrev pub Updated : Schema → Table → Program → Row → Database → Database → Type 0
+Updated schema table = Answered schema table 1 (λ rows. rows)
 
-pub updates : (schema : Schema) (at : ℕ) (table : Table) (q : Program) → slice_get schema.tables at ≡ Some table → HasNoForeignKey schema table.tree
-    → (old new : State) → old.now.schema ≡ schema → (text : List ℕ) (params : Row) (count : ℕ) → Writes old new None (Update at q) text params count
-    → Updated schema table q params old.now new.now
-updates schema at table q there free old new has text params count w =
-    let db = old.now.trees in
-    let on = subst (λ s. Does old.step_limit (mode_of old) params (record old.now { schema = s }) text None (Update at q) (Ok (w.tally, new.now))) has
-    w.changed in
-    let task : Task = record { limit = old.step_limit; keys = Enforced; schema = schema; table = table; params = params } in
-    let all : OnRows task (mode_of old) None (Update at q) db (Ok (w.tally, new.now)) = rw there at on in
-    let done = went all in
-    let now : new.now ≡ record { schema = schema; trees = done.0.trees } = ap (λ (p : Tally × Database). p.1) (same_value (went (went done.2).2).2) in
-    let made = updated_in old.step_limit schema table params q db done.0 done.1 in
-    let edit = edit_of db table (ids_of made.0) Given 1 made.0 in
-    record {
-      schema_is = ap (λ (d : Database). d.schema) now;
-      rows = made.0;
-      answers = made.1;
-      applies = rewritten schema Enforced db new.now.trees edit free (has_got schema.tables at table there)
-          (subst (λ next. Edits schema Enforced db edit (Ok next)) (sym (ap (λ (d : Database). d.trees) now)) made.2);
-    }
+abbrev pub Deleted : Schema → Table → Program → Row → Database → Database → Type 0
+Deleted schema table = Answered schema table 0 (λ rows. [])
 
--- ---- DELETE
+module _ (limit : Option ℕ) (schema : Schema) (table : Table) (params : Row) (q : Program) (db : Trees) (width : ℕ) (news : List Row → List Row) where
+  abbrev edit_by : List Row → Edit
+  edit_by rows = edit_of db table (ids_of rows) Given width (news rows)
 
-pub record Deleted (schema : Schema) (table : Table) (q : Program) (params : Row) (old new : Database) : Type 0 where
-  pub schema_is : new.schema ≡ schema
-  pub rows : List Row
-  pub answers : Answers (record { schema = schema; trees = old.trees }) q params rows
-  pub applies : Rewritten schema old.trees (edit_of old.trees table (ids_of rows) Given 0 []) new.trees
+  abbrev pub EditsBy : (Edit → List Row) → Written → Type 0
+  EditsBy noted w = Then (Queried limit (record { schema = schema; trees = db }) q params) (λ rows. Then (Edited schema Enforced db (edit_by rows))
+      (λ next. Gives (record { trees = next; rows = noted (edit_by rows); last = None }))) (Ok w)
 
-deleted_in : (limit : Option ℕ) (schema : Schema) (table : Table) (params : Row) (q : Program) (db : Trees) (w : Written)
-    → Deletes (record { limit = limit; keys = Enforced; schema = schema; table = table; params = params }) q db (Ok w)
-    → (rows : List Row) × Answers (record { schema = schema; trees = db }) q params rows × Edits schema Enforced db (edit_of db table (ids_of rows) Given 0 [])
-    (Ok w.trees)
-deleted_in limit schema table params q db w h =
-    let given = went h in
-    let written = went given.2 in
-    let trees : w.trees ≡ written.0 = ap (λ (it : Written). it.trees) (same_value written.2) in
-    (given.0, given.1, subst (λ next. Edits schema Enforced db (edit_of db table (ids_of given.0) Given 0 []) (Ok next)) (sym trees) written.1)
+  pub edited_by : (noted : Edit → List Row) (w : Written) → EditsBy noted w → (rows : List Row)
+      × Answers (record { schema = schema; trees = db }) q params rows × Edits schema Enforced db (edit_by rows) (Ok w.trees)
+  edited_by noted w h = let given = went h in (given.0, given.1, edits_to schema db (edit_by given.0) _ _ w given.2)
 
-pub deletes : (schema : Schema) (at : ℕ) (table : Table) (q : Program) → slice_get schema.tables at ≡ Some table → HasNoForeignKey schema table.tree
-    → (old new : State) → old.now.schema ≡ schema → (text : List ℕ) (params : Row) (count : ℕ) → Writes old new None (Delete at q) text params count
-    → Deleted schema table q params old.now new.now
-deletes schema at table q there free old new has text params count w =
-    let db = old.now.trees in
-    let on = subst (λ s. Does old.step_limit (mode_of old) params (record old.now { schema = s }) text None (Delete at q) (Ok (w.tally, new.now))) has
-    w.changed in
-    let task : Task = record { limit = old.step_limit; keys = Enforced; schema = schema; table = table; params = params } in
-    let all : OnRows task (mode_of old) None (Delete at q) db (Ok (w.tally, new.now)) = rw there at on in
-    let done = went all in
-    let now : new.now ≡ record { schema = schema; trees = done.0.trees } = ap (λ (p : Tally × Database). p.1) (same_value (went (went done.2).2).2) in
-    let made = deleted_in old.step_limit schema table params q db done.0 done.1 in
-    let edit = edit_of db table (ids_of made.0) Given 0 [] in
-    record {
-      schema_is = ap (λ (d : Database). d.schema) now;
-      rows = made.0;
-      answers = made.1;
-      applies = rewritten schema Enforced db new.now.trees edit free (has_got schema.tables at table there)
-          (subst (λ next. Edits schema Enforced db edit (Ok next)) (sym (ap (λ (d : Database). d.trees) now)) made.2);
-    }
+module _ (schema : Schema) (at : ℕ) (table : Table) (q : Program) (there : slice_get schema.tables at ≡ Some table) (free : HasNoForeignKey schema table.tree)
+    (old new : State) (has : old.now.schema ≡ schema) (text : List ℕ) (params : Row) (count : ℕ) where
+  answered : (width : ℕ) (news : List Row → List Row) (noted : Edit → List Row) (w : Written)
+      → EditsBy old.step_limit schema table params q old.now.trees width news noted w → new.now ≡ record { schema = schema; trees = w.trees }
+      → Answered schema table width news q params old.now new.now
+  answered width news noted w h now =
+      let db = old.now.trees in
+      let made = edited_by old.step_limit schema table params q db width news noted w h in
+      subst (Answered schema table width news q params old.now) (sym now) (record {
+        schema_is = refl;
+        rows = made.0;
+        answers = made.1;
+        applies = rewritten schema Enforced db w.trees (edit_of db table (ids_of made.0) Given width (news made.0)) free (has_got schema.tables at table there)
+            made.2;
+      })
+
+  pub updates : Writes old new None (Update at q) text params count → Updated schema table q params old.now new.now
+  updates w =
+      let it = writes_at schema at table there old has params (Update at q) w.tally new.now w.changed in
+      answered 1 (λ rows. rows) (λ edit. edit.news) it.0 it.1 it.2
+
+  pub deletes : Writes old new None (Delete at q) text params count → Deleted schema table q params old.now new.now
+  deletes w =
+      let it = writes_at schema at table there old has params (Delete at q) w.tally new.now w.changed in
+      answered 0 (λ rows. []) (taken_by old.now.trees) it.0 it.1 it.2

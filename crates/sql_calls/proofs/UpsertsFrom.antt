@@ -1,12 +1,14 @@
 -- What INSERT of a query's rows with one clause ON CONFLICT does to a table that has no foreign key, for any schema: the rows are put one after the other.
-use Rattle.sql_calls.proofs.Common.{[], ◌≡◌, ◌≢◌, ℕ, ℤ, List, ◌∷◌, slice_get, Option, Some, None, Ok, sym, ap, subst, ◌∙◌, Row, Key, Term, IsAnswer, Trees}
-use Rattle.sql_calls.proofs.Common.{Table, Schema, Enforced, Program, Source, InsertOr, Chosen, Tally, Does, OnRows, Written, Task, shown, stamped, cast_row}
-use Rattle.sql_calls.proofs.Common.{with_rowid, Upsert, Abort, Database, IsSource, State, mode_of, Writes, Has, all_has, has_got, HasNoForeignKey}
+use Rattle.sql_calls.proofs.Common.{[], ◌≡◌, ◌≢◌, ℕ, ℤ, List, ◌∷◌, slice_get, Option, Some, None, Ok, sym, ap, subst, Row, Key, Term, IsAnswer, Trees}
+use Rattle.sql_calls.proofs.Common.{Table, Schema, Enforced, Program, Source, InsertOr, Chosen, Written, Task, shown, stamped, cast_row}
+use Rattle.sql_calls.proofs.Common.{with_rowid, Upsert, Abort, Database, IsSource, State, Writes, Has, all_has, has_got, HasNoForeignKey}
 use Rattle.sqlite_value.specs.declared.keys.Collation.{Collation}
 use Rattle.sql_calls.proofs.Selects.{by, simple}
 use Rattle.sqlite.specs.Rows as rows
-use Rattle.sql_calls.proofs.Inserts.{went, same_value, uncounted}
+use Rattle.sql_calls.proofs.Inserts.{went, same_value, uncounted, writes_at}
+use Rattle.sql_calls.proofs.Common.{refl}
 use Rattle.sql_calls.proofs.Upserts.{Puts, tried, upserted_keeps}
+use Rattle.sql_calls.proofs.Common.{arith}
 
 -- one after the other
 abbrev pub PutsEach : Schema → Table → Row → Option (List ℕ) → Option Program → List Row → Trees → Trees → Type 0
@@ -40,17 +42,7 @@ module _ (limit : Option ℕ) (schema : Schema) (bare : Table) (params : Row) (t
   pub put_from : (from : Source) (db : Trees) (w : Written) → rows.InsertsOr task Abort (clause ∷ []) from db (Ok w)
       → (sources : List Row) × IsSource (record { schema = schema; trees = db }) (stamped table params) from sources
       × PutsEach schema table params target update sources db w.trees
-  put_from from db w h =
-      let given = went h in
-      let counter = went given.2 in
-      let tries = went counter.2 in
-      let counted = went tries.2 in
-      let trees : w.trees ≡ tries.0.0.trees = ap (λ (it : Written). it.trees) (same_value counted.2) ∙ same_value counted.1 in (
-        given.0,
-        given.1,
-        subst (PutsEach schema table params target update given.0 db) (sym trees)
-            (each_tried given.0 (rows.count_of counter.0) (rows.nothing db) tries.0 tries.1),
-      )
+  put_from from db w h = grind (arith, same_value, each_tried)
 
 -- the rows of the source, and what became of them one after the other
 pub record UpsertedFrom (schema : Schema) (table : Table) (params : Row) (target : Option (List ℕ)) (update : Option Program) (from : Source)
@@ -66,20 +58,12 @@ pub upserts_from : (schema : Schema) (at : ℕ) (table : Table) (from : Source) 
     → Writes old new None (InsertOr at Abort from (record { target = target; update = update } ∷ [])) text params count
     → UpsertedFrom schema (uncounted table) params target update from old.now new.now
 upserts_from schema at table from target update there free old new has text params count w =
-    let db = old.now.trees in
-    let command = InsertOr at Abort from (record { target = target; update = update } ∷ []) in
-    let on = subst (λ s. Does old.step_limit (mode_of old) params (record old.now { schema = s }) text None command (Ok (w.tally, new.now))) has w.changed in
-    let its : Task = record { limit = old.step_limit; keys = Enforced; schema = schema; table = uncounted table; params = params } in
-    let all : OnRows its (mode_of old) None command db (Ok (w.tally, new.now)) = rw there at on in
-    let done = went all in
-    let now : new.now ≡ record { schema = schema; trees = done.0.trees } = ap (λ (p : Tally × Database). p.1) (same_value (went (went done.2).2).2) in
-    let made = put_from old.step_limit schema table params target update (has_got schema.tables at (uncounted table) there) free from db done.0 done.1 in
-    record {
-      schema_is = ap (λ (d : Database). d.schema) now;
-      sources = made.0;
-      is_source = made.1;
-      puts = subst (λ (d : Database). PutsEach schema (uncounted table) params target update made.0 db d.trees) (sym now) made.2;
-    }
+    let it = writes_at schema at (uncounted table) there old has params (InsertOr at Abort from (record { target = target; update = update } ∷ []))
+    w.tally new.now w.changed in
+    let made = put_from old.step_limit schema table params target update (has_got schema.tables at (uncounted table) there) free from old.now.trees it.0
+    it.1 in
+    subst (UpsertedFrom schema (uncounted table) params target update from old.now) (sym it.2)
+    (record { schema_is = refl; sources = made.0; is_source = made.1; puts = made.2 })
 
 -- each other tree that no foreign key changes has its rows
 pub each_keeps : (schema : Schema) (table : Table) (params : Row) (target : Option (List ℕ)) (update : Option Program) (sources : List Row) (db next : Trees)
@@ -87,9 +71,7 @@ pub each_keeps : (schema : Schema) (table : Table) (params : Row) (target : Opti
     → (s : Table) → Has schema.tables s → HasNoForeignKey schema s.tree → s.tree ≢ table.tree → next s.tree ≡ db s.tree
 each_keeps schema it_ params target update [] db next each s there free apart = ap (λ (d : Trees). d s.tree) each
 each_keeps schema it_ params target update (source ∷ more) db next each s there free apart =
-    each_keeps schema it_ params target update more each.0 next each.2 s there free apart
-    ∙ all_has (λ (s : Table). HasNoForeignKey schema s.tree → s.tree ≢ it_.tree → each.0 s.tree ≡ db s.tree) schema.tables s
-    (upserted_keeps schema it_ params target update _ db each.0 each.1) there free apart
+    grind (arith, each_keeps schema it_ params target update more each.0 next each.2 s there free apart, upserted_keeps, all_has)
 
 -- ---- the source
 
@@ -98,14 +80,4 @@ pub uncollated : (tree : ℕ) (test shown : List Term) (order : List (Term × Ke
     (rows : List Row)
     → IsAnswer (record (by (simple tree test shown) order limit offset) { collations = collations }) db params rows
     → IsAnswer (by (simple tree test shown) order limit offset) db params rows
-uncollated tree test shown order limit offset collations db params rows a =
-    record {
-      staged = a.staged;
-      grouped = a.grouped;
-      kept = a.kept;
-      distinct = a.distinct;
-      ordered = a.ordered;
-      same = a.same;
-      sorted = a.sorted;
-      shown = a.shown;
-    }
+uncollated tree test shown order limit offset collations db params rows a = grind arith

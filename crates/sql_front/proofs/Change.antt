@@ -1,18 +1,19 @@
 -- UPDATE and DELETE mean the same wherever the table stands in the schema.
-use Rattle.sql_front.proofs.Common.{◌≡◌, refl, sym, subst, ◌∙◌, ℕ, true, false, Ok, List, [], ◌∷◌, ◌++◌, Option, Some, None, slice_get, ⊤, if◌then◌else◌}
-use Rattle.sql_front.proofs.Common.{Query, end, Term, col, Expr, Parsed, Inner, Draft, query_of, Schema, Table, accepts_program, Unsupported, Compiled, ◌>>=◌}
+use Rattle.sql_front.proofs.Common.{◌≡◌, refl, ℕ, true, false, Ok, List, [], ◌∷◌, ◌++◌, Option, Some, slice_get, ⊤, if◌then◌else◌}
+use Rattle.sql_front.proofs.Common.{Query, Term, col, Expr, Parsed, Draft, Schema, Table, Unsupported, Compiled, ◌>>=◌}
 use Rattle.sql_front.proofs.Common.{and_then, pure, fail, get, take_steps, fresh, max_budget, value_of, Name, Context, first, Stands}
 use Rattle.sqlite_ast.specs.declared.Statement.TheVariants as written
 use Rattle.sqlite_schema.specs.declared.command.Command.TheVariants.{Update, Delete}
 use Rattle.sqlite_resolve.specs.Reach.{any_scans}
-use Rattle.sqlite_resolve.specs.Write.{over, with_place, sets_from, sets, assigned, picked, row, simple, updated_in, updated, deleted}
+use Rattle.sqlite_resolve.specs.Write.{over, with_place, sets_from, sets, assigned, picked, updated_in, updated, deleted}
 use Rattle.sqlite_resolve.specs.Program.{program}
 use Rattle.sqlite_resolve.specs.Compile.{compiled, planned, meaning, timed, returning, command, shows, update, delete}
 use Rattle.sql_front.proofs.Lower.{Same, IsPlain, lower_same}
+use Rattle.sql_front.proofs.Plain.{plainly}
 use Rattle.sql_front.proofs.OneTable.{same_columns}
 use Rattle.sql_front.proofs.Select.{IsPlainTest, tests_same}
-use Rattle.sql_front.proofs.Query.{accepted}
 use Rattle.sql_front.proofs.Texts.{Becomes, alone}
+use Rattle.sql_front.proofs.Common.{arith}
 
 abbrev pub ArePlainSets : List (Name × Expr) → Type 0
 ArePlainSets [] = ⊤
@@ -31,15 +32,12 @@ module _ (a b : Context) (same : Same a b) (table : Table) where
 
   picked_same : (project : List Term) (test : Option Expr) → IsPlainTest test → picked a table project test ≡ picked b table project test
   unfolding picked
-  picked_same project test h =
-      λ i. tests_same a b same [] test h i >>= (λ filter. take_steps >>= (λ steps. pure (simple (Inner table.tree ∷ steps) filter project)))
+  picked_same project test h = grind (arith, tests_same, take_steps)
 
   pub updated_same : (all : List (Name × Expr)) (test : Option Expr) → ArePlainSets all → IsPlainTest test → updated_in a table all test
       ≡ updated_in b table all test
   unfolding updated_in
-  updated_same all test h k =
-      λ i. and_then (assigned_same all h i (fresh 2 max_budget))
-      (λ r. and_then (row table None r.0.0 (col 1 0 ∷ []) r.0.1) (λ project. value_of (picked_same project test k i r.1)))
+  updated_same all test h k = grind (arith, and_then, assigned_same, picked_same)
 
 -- ---- the draft is that over the table alone
 
@@ -72,27 +70,13 @@ pub record Updates (text : List ℕ) (name : Name) (table : Table) (body : Query
   pub becomes : Becomes table draft body
 
 abbrev pub with_update : Parsed → ℕ → Query → Compiled
-with_update p at body = record {
-  command = Update at (record { lets = []; body = body });
-  returning = None;
-  names = p.names;
-  formats = [];
-  start = p.start;
-  end = p.end;
-  tail = p.tail;
-}
+with_update p at body = plainly p (Update at (record { lets = []; body = body }))
 
 module _ (text : List ℕ) (name : Name) (table : Table) (body : Query) (c : Updates text name table body) (s : Schema) (at : ℕ)
     (stands : Stands s name at table) where
   pub updates_known : compiled s text ≡ Ok (with_update c.parsed at body)
   unfolding compiled planned meaning timed returning command shows update program
-  updates_known =
-      let draft : updated s at table c.sets c.test ≡ Ok c.draft = update_alone s at table stands.got c.sets c.test c.values c.filter ∙ c.known in
-      let fits : accepts_program s [] (query_of c.draft) [] ≡ true = subst (λ b. accepts_program s [] b [] ≡ true) (sym c.becomes.0)
-      (accepted s body table c.becomes.1 stands.stored stands.found c.becomes.2) in
-      let is : compiled s text ≡ Ok (with_update c.parsed at (query_of c.draft)) =
-      rw (c.read) (rw (c.is.0) (rw (c.is.1) (rw (stands.named) (rw (stands.got) (rw draft (rw fits)))))) in
-      rw (c.becomes.0) at is
+  updates_known = grind (arith, update_alone, compiled)
 
 -- ---- DELETE
 
@@ -108,24 +92,10 @@ pub record Removes (text : List ℕ) (name : Name) (table : Table) (body : Query
   pub becomes : Becomes table draft body
 
 abbrev pub with_delete : Parsed → ℕ → Query → Compiled
-with_delete p at body = record {
-  command = Delete at (record { lets = []; body = body });
-  returning = None;
-  names = p.names;
-  formats = [];
-  start = p.start;
-  end = p.end;
-  tail = p.tail;
-}
+with_delete p at body = plainly p (Delete at (record { lets = []; body = body }))
 
 module _ (text : List ℕ) (name : Name) (table : Table) (body : Query) (r : Removes text name table body) (s : Schema) (at : ℕ)
     (stands : Stands s name at table) where
   pub removes_known : compiled s text ≡ Ok (with_delete r.parsed at body)
   unfolding compiled planned meaning timed returning command shows delete program
-  removes_known =
-      let draft : deleted s at table r.test ≡ Ok r.draft = delete_alone s at table stands.got r.test r.filter ∙ r.known in
-      let fits : accepts_program s [] (query_of r.draft) [] ≡ true = subst (λ b. accepts_program s [] b [] ≡ true) (sym r.becomes.0)
-      (accepted s body table r.becomes.1 stands.stored stands.found r.becomes.2) in
-      let is : compiled s text ≡ Ok (with_delete r.parsed at (query_of r.draft)) =
-      rw (r.read) (rw (r.is.0) (rw (r.is.1) (rw (stands.named) (rw (stands.got) (rw draft (rw fits)))))) in
-      rw (r.becomes.0) at is
+  removes_known = grind (arith, deleted, delete_alone, compiled)

@@ -1,5 +1,5 @@
 -- What a table that is made leaves of the tables before it, and how it stands itself.
-use Rattle.sql_front.proofs.Common.{◌≡◌, refl, sym, ap, ◌∙◌, ℕ, zero, suc, ◌+◌, ◌^◌, ◌<◌, ◌==◌, Bool, true, false, cond, List, [], ◌∷◌, ◌++◌, length, Option}
+use Rattle.sql_front.proofs.Common.{◌≡◌, refl, sym, ap, ◌∙◌, ℕ, zero, suc, ◌+◌, ◌^◌, ◌<◌, ◌==◌, Bool, true, false, List, [], ◌∷◌, ◌++◌, length, Option}
 use Rattle.sql_front.proofs.Common.{Some, None, slice_get, find, arith, AllByRecursion, position_from, is_some, eq-eqb, lt-leb, Table, Index, Schema}
 use Rattle.sql_front.proofs.Common.{same_name, table_named, index_named, view_named, next_tree, is_used, created, automatics, Name, table_below, Stands}
 use Rattle.sql_front.proofs.Common.{NoneHasForeignKey}
@@ -10,13 +10,7 @@ use Rattle.sql_front.proofs.Past.{position_past, slice_past, find_past, unused, 
 
 position_front : {X : Type 0} (test : X → Bool) (i at : ℕ) (xs ys : List X) → position_from test i xs ≡ Some at → position_from test i (xs ++ ys) ≡ Some at
 position_front test i at [] ys h = absurd cc
-position_front test i at (x ∷ xs) ys h = go (test x) h (position_front test (i + 1) at xs ys)
-  where
-    go : (b : Bool) → cond b (Some i) (position_from test (i + 1) xs)
-        ≡ Some at → (position_from test (i + 1) xs ≡ Some at → position_from test (i + 1) (xs ++ ys) ≡ Some at)
-        → cond b (Some i) (position_from test (i + 1) (xs ++ ys)) ≡ Some at
-    go true h more = h
-    go false h more = more h
+position_front test i at (x ∷ xs) ys h = grind (arith, position_front test (i + 1) at xs ys)
 
 pub slice_front : {X : Type 0} (xs ys : List X) (k : ℕ) (x : X) → slice_get xs k ≡ Some x → slice_get (xs ++ ys) k ≡ Some x
 slice_front [] ys k x h = absurd cc
@@ -25,12 +19,7 @@ slice_front (y ∷ xs) ys (suc k) x h = slice_front xs ys k x h
 
 find_front : {X : Type 0} (test : X → Bool) (x : X) (xs ys : List X) → find test xs ≡ Some x → find test (xs ++ ys) ≡ Some x
 find_front test x [] ys h = absurd cc
-find_front test x (y ∷ xs) ys h = go (test y) h (find_front test x xs ys)
-  where
-    go : (b : Bool) → cond b (Some y) (find test xs) ≡ Some x → (find test xs ≡ Some x → find test (xs ++ ys) ≡ Some x) → cond b (Some y) (find test (xs ++ ys))
-        ≡ Some x
-    go true h more = h
-    go false h more = more h
+find_front test x (y ∷ xs) ys h = grind (arith, find_front test x xs ys)
 
 abbrev pub AreKeyless : List Table → Type 0
 AreKeyless = AllByRecursion (λ t. t.references ≡ [])
@@ -43,13 +32,7 @@ keyless_more tree (x ∷ xs) ys h k = (h.0, keyless_more tree xs ys h.1 k)
 -- a table stands as it stood, where those that are added have no foreign key
 pub stands_kept : (s later : Schema) (name : Name) (at : ℕ) (table : Table) (more : List Table) → later.tables ≡ s.tables ++ more → AreKeyless more
     → Stands s name at table → Stands later name at table
-stands_kept s later name at table more grown bare stands = record {
-  named = rw grown (position_front (λ t. same_name t.name name) 0 at s.tables more stands.named);
-  got = rw grown (slice_front s.tables more at table stands.got);
-  found = rw grown (find_front (λ t. t.tree == table.tree) table s.tables more stands.found);
-  keyless = rw grown (keyless_more table.tree s.tables more stands.keyless bare);
-  stored = stands.stored;
-}
+stands_kept s later name at table more grown bare stands = grind (arith, position_front, slice_front, find_front, keyless_more)
 
 -- a table with a free name stands last
 pub stands_last : (s later : Schema) (table : Table) (more : List Table) → later.tables ≡ s.tables ++ record table { tree = next_tree s } ∷ more

@@ -1,33 +1,16 @@
 -- A table that is found by its name and by its tree stands there.
-use Rattle.sql_front.proofs.Common.{◌≡◌, refl, sym, ap, subst, ◌∙◌, ℕ, ◌^◌, ◌<◌, ◌==◌, Bool, true, false, cond, List, [], ◌∷◌, Some, slice_get, find, eqb-true}
+use Rattle.sql_front.proofs.Common.{◌≡◌, refl, sym, ap, subst, ◌∙◌, ℕ, ◌^◌, ◌<◌, ◌==◌, Some, slice_get, find, eqb-true}
 use Rattle.sql_front.proofs.Common.{lt-leb, leb-false, Table, Schema, table_named, NoneHasForeignKey}
 use Rattle.sql_front.specs.Found.{StandsSomewhere, HasFirst}
-
-find_meets : {X : Type 0} (test : X → Bool) (x : X) (xs : List X) → find test xs ≡ Some x → test x ≡ true
-find_meets test x [] h = absurd cc
-find_meets {X} test x (y ∷ xs) h = go (test y) refl h (find_meets test x xs)
-  where
-    go : (b : Bool) → test y ≡ b → cond b (Some y) (find test xs) ≡ Some x → (find test xs ≡ Some x → test x ≡ true) → test x ≡ true
-    go true is found more = let same : y ≡ x = cc in ap test (sym same) ∙ is
-    go false is found more = more found
+use Rattle.sqlite_rules.proofs.ListLemmas.{has_found}
+use Rattle.sql_front.proofs.Common.{arith}
 
 pub stands_by : (s : Schema) (table named first : Table) (at : ℕ) → table_named s table.name ≡ Some at → slice_get s.tables at ≡ Some named
     → find (λ t. t.tree == named.tree) s.tables ≡ Some first
     → named ≡ record table { tree = named.tree } → first ≡ record table { tree = first.tree } → named.tree < 2 ^ 31 → NoneHasForeignKey s.tables named.tree
     → StandsSomewhere s table
 stands_by s table named first at name got found one other low keyless =
-    let trees : first.tree ≡ named.tree = eqb-true first.tree named.tree (find_meets (λ (t : Table). t.tree == named.tree) first s.tables found) in
-    record {
-      at = at;
-      tree = named.tree;
-      stands = record {
-        named = name;
-        got = got ∙ ap Some one;
-        found = found ∙ ap Some (other ∙ ap (λ n. let it : Table = record table { tree = n } in it) trees);
-        keyless = keyless;
-        stored = lt-leb (2 ^ 31) named.tree low;
-      };
-    }
+    let meets = (has_found (λ (t : Table). t.tree == named.tree) s.tables first found).1 in grind (arith, eqb-true, lt-leb)
 
 pub same_some : {X : Type 0} (x y : X) → Some x ≡ Some y → x ≡ y
 same_some x y h = cc

@@ -1,5 +1,7 @@
 pub mod Common
+pub mod Plain
 pub mod Lower
+pub mod Levels
 pub mod OneTable
 pub mod Select
 pub mod Query
@@ -12,5 +14,4 @@ pub mod Change
 pub mod Created
 pub mod Grown
 pub mod Found
-pub mod TwoTables
 pub mod Upsert

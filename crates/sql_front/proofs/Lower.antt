@@ -1,19 +1,17 @@
 -- A plain expression is lowered alike under two contexts that find the same columns.
-use Rattle.sql_front.proofs.Common.{◌≡◌, refl, sym, ◌∙◌, ℕ, zero, suc, false, Option, Some, None, ⊤, Term, lit, col, op1, op2, case, Collation, Expr, out-Expr}
+use Rattle.sql_front.proofs.Common.{◌≡◌, refl, ℕ, zero, suc, false, Option, ⊤, Term, op2, Collation, Expr, out-Expr}
 use Rattle.sql_front.proofs.Common.{Select, Layer, Expr-F, Exists, operator, applied, node_at, is_identity, count_rows, function_named, star_by, counted}
-use Rattle.sql_front.proofs.Common.{again, Name, Context, column, Lowering, ◌>>=◌, ◌>>◌, pure, last, spend, begin, finish, chosen, combine, passes}
+use Rattle.sql_front.proofs.Common.{Name, Context, column, Lowering, ◌>>=◌, ◌>>◌, pure, last, spend, begin, finish, chosen, combine, passes}
 use Rattle.sqlite_sql.specs.declared.ops.BinaryOp.{BinaryOp}
 use Rattle.sqlite_sql.specs.declared.ops.BinaryOp.TheVariants as by
 use Rattle.sqlite_ast.specs.declared.Binary.{Binary}
-use Rattle.sqlite_sql.specs.declared.aggregate.AggregateOp.TheVariants as folding
 use Rattle.sqlite_resolve.specs.declared.function.Function.{Function}
-use Rattle.sqlite_resolve.specs.declared.function.Function.TheVariants as function
 use Rattle.sqlite_resolve.specs.Expr.{both, operation, between, bounded, tests_truth, tests_alias, wanted_truth, star}
 use Rattle.sqlite_sql.specs.declared.ops.CompareOp.{CompareOp}
-use Rattle.sqlite_sql.specs.declared.ops.CompareOp.TheVariants as compare
 use Rattle.sqlite_resolve.specs.declared.state.Carried.{Carried}
 use Rattle.sqlite_resolve.specs.Compare.{compared, affinity_of, of_column, converted}
 use Rattle.sqlite_resolve.specs.Expr.{lower_to, node, opened}
+use Rattle.sql_front.proofs.Common.{arith}
 
 pub record Same (a b : Context) : Type 0 where
   pub columns : (table : Option Name) (name : Name) → column a table name ≡ column b table name
@@ -48,11 +46,7 @@ IsPlain = IsPlainBut (λ n query. ⊥)
 module _ (a b : Context) (same : Same a b) where
   affinity_same : (t : Term) → affinity_of a t ≡ affinity_of b t
   unfolding affinity_of
-  affinity_same (lit v) = refl
-  affinity_same (col slot at) = same.affinities slot at
-  affinity_same (op1 op x) = refl
-  affinity_same (op2 op x y) = refl
-  affinity_same (case t x y) = refl
+  affinity_same t = grind arith
 
   compared_same : (op : BinaryOp) (x y : Term) → compared a op x y ≡ compared b op x y
   unfolding compared
@@ -64,8 +58,7 @@ module _ (a b : Context) (same : Same a b) where
   is_two_sides : (low : Context → Expr → Lowering Term) (cx : Context) (op : Binary) (x y : Expr) → IsSimple op → operation low cx op x y
       ≡ two_sides low cx op x y
   unfolding operation both wanted_truth tests_truth tests_alias
-  is_two_sides low cx op x y simple =
-      rw simple.0 (rw simple.0 (λ i. low cx x >>= (λ t. last >>= (λ p. low cx y >>= (λ u. last >>= (λ q. simple.1 cx (chosen p q) t u i))))))
+  is_two_sides low cx op x y simple = grind arith
 
   bounded_same : (low : Context → Expr → Lowering Term) (op : CompareOp) (x : Term) (p : Carried) (e : Expr) → low a e ≡ low b e → bounded low a op x p e
       ≡ bounded low b op x p e
@@ -73,14 +66,10 @@ module _ (a b : Context) (same : Same a b) where
   bounded_same low op x p e h = λ i. h i >>= (λ t. last >>= (λ q. pure (compared_same (by.Compare op (chosen p q)) x t i)))
 
   applied_same : (o : Option BinaryOp) (x y : Term) → applied a o x y ≡ applied b o x y
-  applied_same None x y = refl
-  applied_same (Some (by.Compare c k)) x y = λ i. pure (compared_same (by.Compare c k) x y i)
-  applied_same (Some (by.Is k)) x y = λ i. pure (compared_same (by.Is k) x y i)
-  applied_same (Some o) x y = refl
+  applied_same o x y = grind (arith, compared_same)
 
   star_same : (f : Function) → star_by a f ≡ star_by b f
-  star_same (function.Aggregate folding.Count) = λ i. count_rows (same.aggregates i)
-  star_same _ = refl
+  star_same f = grind (arith, count_rows)
 
   layer_same : (low : Context → Expr → Lowering Term) (Q : Select → Type 0) (P : Expr → Type 0)
       → ((query : Select) → Q query → counted low a Exists query ≡ counted low b Exists query) → ((e : Expr) → P e → low a e ≡ low b e)
@@ -92,14 +81,8 @@ module _ (a b : Context) (same : Same a b) where
   layer_same low Q P nested below (Expr-F.Parameter k) h = refl
   layer_same low Q P nested below (Expr-F.Column table name) h = same.columns table name
   layer_same low Q P nested below (Expr-F.CallStar name) h = star_same (function_named name)
-  layer_same low Q P nested below (Expr-F.Binary op x y) h =
-      is_two_sides low a op x y h.0
-      ∙ (λ i. below x h.1 i >>= (λ t. last >>= (λ p. below y h.2 i >>= (λ u. last >>= (λ q. applied_same (operator (chosen p q) op) t u i)))))
-      ∙ sym (is_two_sides low b op x y h.0)
-  layer_same low Q P nested below (Expr-F.Between x lo hi) h =
-      λ i. below x h.0 i >>= (λ t. last >>=
-      (λ p. again t >>= (λ t'. bounded_same low compare.Ge t' p lo (below lo h.1) i >>=
-      (λ above. bounded_same low compare.Le t p hi (below hi h.2) i >>= (λ under. pure (op2 by.And above under))))))
+  layer_same low Q P nested below (Expr-F.Binary op x y) h = grind (arith, is_two_sides, applied_same, operator)
+  layer_same low Q P nested below (Expr-F.Between x lo hi) h = grind (arith, bounded_same, op2)
   layer_same low Q P nested below (Expr-F.Exists query) h = nested query h
   layer_same low Q P nested below _ h = absurd h
 

@@ -1,6 +1,6 @@
 -- How a table is found behind others.
-use Rattle.sql_front.proofs.Common.{◌≡◌, inl, inr, refl, ap, ◌∙◌, ℕ, suc, ◌+◌, ◌<◌, ◌≤◌, ◌==◌, Bool, true, false, cond, ◌||◌, List, [], ◌∷◌, ◌++◌, length}
-use Rattle.sql_front.proofs.Common.{Option, Some, None, slice_get, find, arith, position_from, is_some, ne_eqb, Table, Schema, table_named, index_named}
+use Rattle.sql_front.proofs.Common.{◌≡◌, inl, inr, refl, ap, ℕ, ◌+◌, ◌<◌, ◌≤◌, ◌==◌, Bool, false, ◌||◌, List, [], ◌∷◌, ◌++◌, length}
+use Rattle.sql_front.proofs.Common.{Option, None, slice_get, find, arith, position_from, is_some, ne_eqb, Table, Schema, table_named, index_named}
 use Rattle.sql_front.proofs.Common.{view_named, next_tree, is_used, table_below, Has, Name}
 
 -- ---- the first of a longer list
@@ -8,18 +8,11 @@ use Rattle.sql_front.proofs.Common.{view_named, next_tree, is_used, table_below,
 pub position_past : {X : Type 0} (test : X → Bool) (i : ℕ) (front ours : List X) → position_from test i front ≡ None → position_from test i (front ++ ours)
     ≡ position_from test (length front + i) ours
 position_past test i [] ours none = let same : 0 + i ≡ i = omega arith in rw same
-position_past test i (x ∷ front) ours none = go (test x) none (position_past test (i + 1) front ours)
-  where
-    go : (b : Bool) → cond b (Some i) (position_from test (i + 1) front) ≡ None
-        → (position_from test (i + 1) front ≡ None → position_from test (i + 1) (front ++ ours) ≡ position_from test (length front + (i + 1)) ours)
-        → cond b (Some i) (position_from test (i + 1) (front ++ ours)) ≡ position_from test (length (x ∷ front) + i) ours
-    go true h more = absurd cc
-    go false h more = let same : length front + (i + 1) ≡ length (x ∷ front) + i = omega arith in rw same at more h
+position_past test i (x ∷ front) ours none = grind (arith, position_past test (i + 1) front ours)
 
 pub slice_past : {X : Type 0} (front ours : List X) (k : ℕ) → slice_get (front ++ ours) (length front + k) ≡ slice_get ours k
 slice_past [] ours k = let same : 0 + k ≡ k = omega arith in ap (slice_get ours) same
-slice_past (x ∷ front) ours k = let same : length (x ∷ front) + k ≡ suc (length front + k) = omega arith in ap (slice_get (x ∷ (front ++ ours))) same
-    ∙ slice_past front ours k
+slice_past (x ∷ front) ours k = grind (arith, slice_past front ours k)
 
 pub find_past : {X : Type 0} (test : X → Bool) (front ours : List X) → ((x : X) → Has front x → test x ≡ false) → find test (front ++ ours) ≡ find test ours
 find_past test [] ours none = refl
@@ -28,10 +21,7 @@ find_past test (x ∷ front) ours none = rw (none x (inl refl)) (find_past test 
 -- ---- names
 
 none_of : {X Y Z : Type 0} (a : Option X) (b : Option Y) (c : Option Z) → (is_some a || is_some b || is_some c) ≡ false → (a ≡ None) × (b ≡ None) × (c ≡ None)
-none_of None None None h = (refl, refl, refl)
-none_of (Some x) b c h = absurd cc
-none_of None (Some y) c h = absurd cc
-none_of None None (Some z) h = absurd cc
+none_of a b c h = grind arith
 
 -- a name that is free belongs to no table, index or view
 pub unused : (schema : Schema) (name : Name) → is_used schema name ≡ false → (table_named schema name ≡ None) × (index_named schema name ≡ None)

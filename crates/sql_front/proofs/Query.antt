@@ -1,5 +1,5 @@
 -- What a SELECT over one table is compiled to, under any schema that has the table.
-use Rattle.sql_front.proofs.Common.{◌≡◌, ℕ, ◌^◌, nat_le, ◌==◌, true, false, ◌&&◌, Ok, List, [], ◌∷◌, Option, Some, None, find, Query, inner, end, Term, Expr}
+use Rattle.sql_front.proofs.Common.{◌≡◌, ℕ, ◌^◌, nat_le, ◌==◌, true, false, ◌&&◌, Ok, List, [], ◌∷◌, Option, Some, find, Query, inner, end, Term, Expr}
 use Rattle.sql_front.proofs.Common.{Parsed, query_of, Schema, Table, accepts_program, accepts_after, are_tests, integer, is_count, row_classes, Name, named}
 use Rattle.sql_front.proofs.Common.{paging, Shown, first}
 use Rattle.sqlite_sql.specs.Query.{counted}
@@ -8,6 +8,8 @@ use Rattle.sqlite_ast.specs.declared.Statement.TheVariants as written
 use Rattle.sqlite_schema.specs.declared.command.Command.TheVariants.{Select}
 use Rattle.sqlite_resolve.specs.Program.{query, query_to, level, with, whole, alone, single, sources, source, viewing, program}
 use Rattle.sqlite_resolve.specs.Compile.{compiled, planned, meaning, timed, returning, command, read}
+use Rattle.sql_front.proofs.Common.{Compiled}
+use Rattle.sql_front.proofs.Plain.{plainly}
 use Rattle.sql_front.proofs.Select.{IsOneTableBut}
 
 -- a text that is one SELECT, with no WITH and no compound
@@ -16,6 +18,9 @@ pub record Selects (p : Parsed) (s : written_select.Select) : Type 0 where
   pub formats : p.formats ≡ []
   pub with : (written_select.out-Select s).with ≡ []
   pub others : (written_select.out-Select s).others ≡ []
+
+abbrev pub with_query : Parsed → Query → List Name → Compiled
+with_query p body columns = plainly p (Select (record { lets = []; body = body }) columns)
 
 module _ (s : Schema) where
   pub accepted : (q : Query) (table : Table) → q.from ≡ inner table.tree end → nat_le (2 ^ 31) table.tree ≡ false → find (λ t. t.tree == table.tree) s.tables
@@ -44,16 +49,7 @@ module _ (s : Schema) (tested : Option Expr → Type 0) where
       → Selects p q
       → IsOneTableBut tested name (written_select.out-Select q).first (written_select.out-Select q).order → paging s q ≡ Ok page
       → named s (written_select.out-Select q).first (written_select.out-Select q).order page ≡ Ok shown → accepts_program s [] (query_of shown.0) [] ≡ true
-      → compiled s text ≡ Ok (record {
-        command = Select (record { lets = []; body = query_of shown.0 }) shown.1;
-        returning = None;
-        names = p.names;
-        formats =
-            [];
-        start = p.start;
-        end = p.end;
-        tail = p.tail;
-      })
+      → compiled s text ≡ Ok (with_query p (query_of shown.0) shown.1)
   unfolding compiled planned meaning timed returning command read program
   select_known text name p q page shown parsed is one paged known fits =
       rw (parsed) (rw (is.statement) (rw (is.formats) (rw (query_known name q page shown is.with is.others one paged known) (rw fits))))

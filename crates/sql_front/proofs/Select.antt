@@ -1,20 +1,22 @@
 -- A SELECT over one table is the same query wherever the table stands in the schema.
 use Rattle.sql_front.proofs.Common.{◌≡◌, refl, ℕ, ◌+◌, ◌==◌, nat_lt, Bool, true, false, not, Ok, Err, List, [], ◌∷◌, ◌++◌, length, Option, Some, None}
-use Rattle.sql_front.proofs.Common.{slice_get, ⊤, if◌then◌else◌, unwrap_or, is_some, Term, reads_below, TooBig, Unsupported, Expr, Shown-F, out-Shown, Source}
+use Rattle.sql_front.proofs.Common.{slice_get, ⊤, unwrap_or, is_some, Term, TooBig, Expr, Shown-F, out-Shown, Source}
 use Rattle.sql_front.proofs.Common.{out-Source, Core, out-Core, Select, ShownLayer, Inner, Schema, Table, table_named, Bound, Output, State, Checked, Lowering}
-use Rattle.sql_front.proofs.Common.{◌>>=◌, fail, pure, lift, last, fresh, max_budget, Name, Context, shown_again, lower, lower_to, counted, Exists, is_column}
+use Rattle.sql_front.proofs.Common.{◌>>=◌, fail, pure, last, fresh, max_budget, Name, Context, lower, lower_to, counted, Exists, is_column}
 use Rattle.sql_front.proofs.Common.{shown_at, outputs_from}
 use Rattle.sqlite_value.specs.declared.keys.Key.{Key}
 use Rattle.sqlite_ast.specs.declared.Shown.{Shown}
 use Rattle.sqlite_ast.specs.declared.Origin.TheVariants as origin
 use Rattle.sqlite_ast.specs.declared.Sort.{Sort, out-Sort}
 use Rattle.sqlite_resolve.specs.Lowering.{take_slot}
-use Rattle.sqlite_resolve.specs.Terms.{conjuncts}
 use Rattle.sqlite_resolve.specs.Body.{bounds, bound, table_in, shown, outputs, tests, joins, join, inner_join, shared, result, matching, body}
-use Rattle.sqlite_resolve.specs.Order.{keys, key, sort, sorts, sorts_from, peeled, alias_in, aliased_or, is_numeral, place_in, collation_of, placed}
+use Rattle.sqlite_resolve.specs.Order.{keys, key, sort, sorts, sorts_from, peeled, aliased_or, placed}
 use Rattle.sqlite_resolve.specs.Select.{having, parts, assembled, named}
 use Rattle.sql_front.proofs.Lower.{Same, IsPlain, IsPlainBut, lower_same, lower_same_but}
-use Rattle.sql_front.proofs.OneTable.{one_bound, over_one, same_columns, heading_same}
+use Rattle.sql_front.proofs.Common.{and_then}
+use Rattle.sql_front.proofs.OneTable.{over_one, same_columns, heading_same}
+use Rattle.sql_front.proofs.Levels.{one_bound}
+use Rattle.sql_front.proofs.Common.{arith}
 
 -- an expression with or without an alias, and not `*`
 abbrev pub IsPlainShown : ShownLayer → Type 0
@@ -66,15 +68,11 @@ IsOneTable = IsOneTableBut IsPlainTest
 
 is_from : (tested : Option Expr → Type 0) (name : Name) (core : Core) (order : List Sort) → IsOneTableBut tested name core order
     → IsFrom name (out-Core core).from
-is_from tested name core order one = record {
-  source = one.source;
-  is = one.from;
-  table = one.table;
-  alias = one.alias;
-  on = one.on;
-  using = one.using;
-  is_inner = one.is_inner;
-}
+is_from tested name core order one = grind arith
+
+-- steps that are taken one after the other
+pub in_turn : {A B C : Type 0} (x : Checked A) (f : A → Checked B) (g : B → Checked C) → and_then (and_then x f) g ≡ and_then x (λ a. and_then (f a) g)
+in_turn x f g = grind arith
 
 abbrev pub bound_at : Name → ℕ → Bound
 bound_at name = one_bound name 1 []
@@ -85,8 +83,7 @@ module _ (a b : Context) (same : Same a b) where
       → (n : ℕ) (done : List Term) (e : Option Expr) → IsTestBut E n e
       → tests (lower_to n) a done e ≡ tests (lower_to n) b done e
   unfolding tests
-  tests_same_but E nested n done None h = refl
-  tests_same_but E nested n done (Some e) h = λ i. lower_same_but a b same E nested n e h i >>= (λ t. pure (done ++ conjuncts t))
+  tests_same_but E nested n done e h = grind (arith, lower_same_but)
 
   pub tests_same : (done : List Term) (e : Option Expr) → IsPlainTest e → tests lower a done e ≡ tests lower b done e
   tests_same = tests_same_but (λ n query. ⊥) (λ n query h. absurd h) 700
@@ -94,17 +91,12 @@ module _ (a b : Context) (same : Same a b) where
   aliased_same : a.may_aggregate ≡ b.may_aggregate → (outs : List Output) (e : Expr) → IsPlain 700 e → (o : Option ℕ) → aliased_or lower a outs e o
       ≡ aliased_or lower b outs e o
   unfolding key
-  aliased_same agg outs e h None =
-      λ i. lower_same a b same 700 e h i >>=
-      (λ t. if is_numeral e then lift (place_in t) >>= shown_again (agg i) outs else (if reads_below 1 t then fail Unsupported else pure t))
-  aliased_same agg outs e h (Some at) = refl
+  aliased_same agg outs e h o = grind (arith, lower_same, fail)
 
   sort_same : a.may_aggregate ≡ b.may_aggregate → (outs : List Output) (done : List (Term × Key)) (s : Sort) → IsPlain 700 (peeled (out-Sort s).key)
       → sort lower a outs done s ≡ sort lower b outs done s
   unfolding sort
-  sort_same agg outs done s h =
-      λ i. aliased_same agg outs (peeled (out-Sort s).key) h (alias_in outs (peeled (out-Sort s).key)) i >>= (λ t. collation_of (out-Sort s).key >>= (λ how.
-      placed done (record { collation = how; descending = (out-Sort s).descending }) (out-Sort s).nulls_first t))
+  sort_same agg outs done s h = grind (arith, aliased_same, placed)
 
   sorts_same : a.may_aggregate ≡ b.may_aggregate → (outs : List Output) (done : List (Term × Key)) (all : List Sort) → ArePlainSorts all
       → sorts_from lower a outs done all ≡ sorts_from lower b outs done all
@@ -168,22 +160,16 @@ module _ (s z : Schema) (at there : ℕ) (table : Table) (name : Name) (named_at
   abbrev start : State
   start = record (fresh 1 max_budget) { next = 2 }
 
-  abbrev shows_z : Checked (List Output × State)
-  shows_z = outputs_from lower (in_z [] true) (bound_at name there ∷ []) [] (out-Core core).shown start
-
-  abbrev tests_z : List Output → State → Checked (List Term × State)
-  tests_z outs st = tests lower (in_z outs false) [] (out-Core core).filter st
-
-  abbrev sorts_z : List Output → State → Checked (List (Term × Key) × State)
-  sorts_z outs st = sorts_from lower (in_z outs (not (length st.aggregates == 0))) outs [] order st
-
-  shows_at : outputs_from lower (in_s [] true) (bound_at name at ∷ []) [] (out-Core core).shown start ≡ shows_z
+  shows_at : outputs_from lower (in_s [] true) (bound_at name at ∷ []) [] (out-Core core).shown start
+      ≡ outputs_from lower (in_z [] true) (bound_at name there ∷ []) [] (out-Core core).shown start
   shows_at = λ i. outputs_same s z at there table got own name [] (out-Core core).shown one.shown i start
 
-  tests_at : (outs : List Output) (st : State) → tests lower (in_s outs false) [] (out-Core core).filter st ≡ tests_z outs st
+  tests_at : (outs : List Output) (st : State) → tests lower (in_s outs false) [] (out-Core core).filter st
+      ≡ tests lower (in_z outs false) [] (out-Core core).filter st
   tests_at outs st = λ i. alike outs (out-Core core).filter one.filter i st
 
-  sorts_at : (outs : List Output) (st : State) → sorts_from lower (in_s outs (not (length st.aggregates == 0))) outs [] order st ≡ sorts_z outs st
+  sorts_at : (outs : List Output) (st : State) → sorts_from lower (in_s outs (not (length st.aggregates == 0))) outs [] order st
+      ≡ sorts_from lower (in_z outs (not (length st.aggregates == 0))) outs [] order st
   sorts_at outs st = λ i. sorts_same (in_s outs (not (length st.aggregates == 0))) (in_z outs (not (length st.aggregates == 0)))
       (same_over s z at there table got own name outs (not (length st.aggregates == 0))) refl outs [] order one.sorts i st
 
@@ -201,27 +187,9 @@ module _ (s z : Schema) (at there : ℕ) (table : Table) (name : Name) (named_at
       ≡ Ok (record { steps = Inner table.tree ∷ []; filter = [] }, st)
   joins_z outs st = joins_known name z there table (out-Core core).from (is_from tested name core order one) own lower 1 (in_z outs false) st refl
 
-  by_sorts : (r : List Output × State) (q : List Term × State) (x : Checked (List (Term × Key) × State)) → shows_z ≡ Ok r → tests_z r.0 r.1 ≡ Ok q
-      → sorts_z r.0 q.1 ≡ x → named s core order page ≡ named z core order page
-  unfolding named parts body result outputs matching keys having tests sorts assembled
-  by_sorts r q (Err e) shows passes h =
-      rw (bounds_s, bounds_z) (rw (shows_at, shows) (rw (joins_s, joins_z) (rw (tests_at, passes) (rw (one.group, one.having) (rw (sorts_at, h))))))
-  by_sorts r q (Ok by) shows passes h =
-      rw (bounds_s, bounds_z) (rw (shows_at, shows) (rw (joins_s, joins_z) (rw (tests_at, passes) (rw (one.group, one.having) (rw (sorts_at, h))))))
-
-  by_tests : (r : List Output × State) (x : Checked (List Term × State)) → shows_z ≡ Ok r → tests_z r.0 r.1 ≡ x → named s core order page
-      ≡ named z core order page
-  unfolding named parts body result outputs matching
-  by_tests r (Err e) shows h = rw (bounds_s, bounds_z) (rw (shows_at, shows) (rw (joins_s, joins_z) (rw (tests_at, h))))
-  by_tests r (Ok q) shows h = by_sorts r q (sorts_z r.0 q.1) shows h refl
-
-  by_shows : (x : Checked (List Output × State)) → shows_z ≡ x → named s core order page ≡ named z core order page
-  unfolding named parts body result outputs
-  by_shows (Err e) h = rw (bounds_s, bounds_z) (rw (shows_at, h))
-  by_shows (Ok r) h = by_tests r (tests_z r.0 r.1) h refl
-
   pub same_named_but : named s core order page ≡ named z core order page
-  same_named_but = by_shows shows_z refl
+  unfolding named parts body result outputs matching keys having tests sorts assembled
+  same_named_but = rw (bounds_s, bounds_z) (simp (in_turn, shows_at, joins_s, joins_z, tests_at, one.group, one.having, sorts_at))
 
 module _ (s z : Schema) (at there : ℕ) (table : Table) (name : Name) (named_at : table_named s name ≡ Some at) (got : slice_get s.tables at ≡ Some table)
     (named_there : table_named z name ≡ Some there) (own : slice_get z.tables there ≡ Some table) where

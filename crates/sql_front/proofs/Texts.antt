@@ -1,13 +1,13 @@
 -- A text's meaning under any schema that has its table, from its meaning over that table alone.
 use Rattle.sql_front.proofs.Common.{◌≡◌, refl, sym, subst, ◌∙◌, ℕ, true, false, ◌&&◌, Ok, List, [], ◌∷◌, Some, None, Query, inner, end, Term, out-Select}
 use Rattle.sql_front.proofs.Common.{out-Core, Source, out-Source, Parsed, Draft, query_of, Schema, Table, table_named, accepts_program, accepts_after}
-use Rattle.sql_front.proofs.Common.{is_count, row_classes, Name, named, paging, Shown, Compiled, compiled, first, Stands}
+use Rattle.sql_front.proofs.Common.{is_count, row_classes, Name, named, paging, Shown, compiled, first, Stands}
 use Rattle.sqlite_ast.specs.declared.Select as written_select
 use Rattle.sqlite_ast.specs.declared.Origin.TheVariants as origin
 use Rattle.sqlite_ast.specs.declared.Statement.TheVariants as written
-use Rattle.sqlite_schema.specs.declared.command.Command.TheVariants.{Select}
 use Rattle.sql_front.proofs.Select.{ArePlainShown, ArePlainSorts, IsOneTable, IsPlainTest, same_named}
-use Rattle.sql_front.proofs.Query.{Selects, accepted, select_known}
+use Rattle.sql_front.proofs.Query.{Selects, accepted, select_known, with_query}
+use Rattle.sql_front.proofs.Common.{arith}
 
 abbrev pub alone : Table → Schema
 alone table = record { tables = table ∷ []; indexes = []; views = [] }
@@ -37,36 +37,12 @@ pub record Queries (text : List ℕ) (name : Name) (table : Table) (body : Query
   pub named : (table_named (alone table) name ≡ Some 0) × (named (alone table) (out-Select select).first (out-Select select).order page ≡ Ok shown)
   pub becomes : (shown.1 ≡ columns) × Becomes table shown.0 body
 
-abbrev pub with_query : Parsed → Query → List Name → Compiled
-with_query p body columns = record {
-  command = Select (record { lets = []; body = body }) columns;
-  returning = None;
-  names = p.names;
-  formats = [];
-  start = p.start;
-  end = p.end;
-  tail = p.tail;
-}
-
 module _ (text : List ℕ) (name : Name) (table : Table) (body : Query) (columns : List Name) (r : Queries text name table body columns) where
   is_select : Selects r.parsed r.select
   is_select = record { statement = r.is.0; formats = r.is.1; with = r.is.2; others = r.is.3 }
 
   is_one : IsOneTable name (out-Select r.select).first (out-Select r.select).order
-  is_one = record {
-    source = r.source;
-    from = r.core.0;
-    group = r.core.1;
-    having = r.core.2;
-    table = r.from.0;
-    alias = r.from.1;
-    on = r.from.2;
-    using = r.from.3;
-    is_inner = r.from.4;
-    shown = r.shows;
-    filter = r.filter;
-    sorts = r.sorts;
-  }
+  is_one = grind arith
 
   pub queries_known : (s : Schema) (at : ℕ) → Stands s name at table → compiled s text ≡ Ok (with_query r.parsed body columns)
   queries_known s at stands =

@@ -6,8 +6,7 @@ use Rattle.sqlite_sql.specs.Query.{counted}
 use Rattle.sqlite_ast.specs.declared.Select as written_select
 use Rattle.sql_front.proofs.Select.{IsOneTableBut, IsTestBut, same_named_but, over, same_over, tests_same_but}
 use Rattle.sql_front.proofs.Within.{CountsOne, exists_same}
-use Rattle.sql_front.proofs.Query.{Selects, accepted_within, select_known}
-use Rattle.sql_front.proofs.Texts.{with_query}
+use Rattle.sql_front.proofs.Query.{Selects, accepted_within, select_known, with_query}
 
 abbrev pub pair : Table → Table → Schema
 pair table other = record { tables = table ∷ other ∷ []; indexes = []; views = [] }

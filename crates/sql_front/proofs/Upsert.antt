@@ -1,6 +1,6 @@
 -- INSERT .. SELECT .. ON CONFLICT means the same wherever its two tables stand in the schema.
 use Rattle.sql_front.proofs.Common.{◌≡◌, inl, inr, refl, sym, ap, subst, ◌∙◌, ℕ, ◌+◌, ◌==◌, true, false, ◌&&◌, Ok, List, [], ◌∷◌, ◌++◌, length, find, Some}
-use Rattle.sql_front.proofs.Common.{None, slice_get, codes, Bool, cond, ◌||◌, arith, eqb-true, eq-eqb, Collation, Query, inner, end, Term, Parsed, Draft}
+use Rattle.sql_front.proofs.Common.{slice_get, codes, Bool, ◌||◌, arith, eqb-true, eq-eqb, Collation, Query, inner, end, Term, Parsed, Draft}
 use Rattle.sql_front.proofs.Common.{query_of, Schema, Table, Index, Has, table_named, accepts_program, accepts_after, is_count, row_classes, Compiled, Name}
 use Rattle.sql_front.proofs.Common.{Context, named, paging, Shown, first, small, Stands}
 use Rattle.sqlite_ast.specs.declared.Rows.TheVariants as rows
@@ -14,16 +14,20 @@ use Rattle.sqlite_schema.specs.declared.command.Conflict.TheVariants as how
 use Rattle.sqlite_schema.specs.declared.command.Command.TheVariants.{InsertOr}
 use Rattle.sqlite_resolve.specs.Write.{places, as_row, inserted, selected, updated_in}
 use Rattle.sqlite_resolve.specs.Program.{program}
-use Rattle.sqlite_resolve.specs.Given.{given, with_given, at_rowid, key_at, is_key_at, are_among, key_meant, do_update, update, upsert, upserts}
+use Rattle.sqlite_resolve.specs.Given.{nested, given, with_given, at_rowid, key_at, is_key_at, are_among, key_meant, do_update, update, upsert, upserts}
 use Rattle.sqlite_resolve.specs.Compile.{compiled, planned, meaning, timed, returning, command, shows, insert_or_abort, insert_or, new_rows, source_of, queried}
+use Rattle.std.proofs.lemmas.Bool.Decides.{nat_tests}
 use Rattle.sql_front.proofs.Past.{slice_past}
 use Rattle.sql_front.proofs.Created.{slice_front}
 use Rattle.sql_front.proofs.Select.{IsOneTable, IsPlainTest, same_named}
+use Rattle.sql_front.proofs.Plain.{plainly}
 use Rattle.sql_front.proofs.Query.{accepted, query_known}
 use Rattle.sql_front.proofs.Texts.{alone}
 use Rattle.sql_front.proofs.Change.{ArePlainSets, updated_same}
 use Rattle.sql_front.proofs.Write.{unstamped}
-use Rattle.sql_front.proofs.TwoTables.{Holding, seeing, same_two}
+use Rattle.sql_front.proofs.Lower.{Same}
+use Rattle.sql_front.proofs.Levels.{one_level, same_placed}
+use Rattle.std.proofs.lemmas.Bool.{both_ways, cond_both}
 
 abbrev pub excluded : Name
 excluded = codes "excluded"
@@ -31,18 +35,37 @@ excluded = codes "excluded"
 -- ---- the table, and the row that was to be added to it
 
 module _ (table : Table) (base : ℕ) where
-  abbrev pub with_excluded : (s : Schema) (at : ℕ) → slice_get s.tables at ≡ Some table → Holding (with_given s table base) table (given table base)
-  with_excluded s at got = record {
-    at = at;
-    got = slice_front s.tables (given table base ∷ []) at table got;
-    beside = length s.tables;
-    got_beside = let none_more : length s.tables + 0 ≡ length s.tables = omega arith in ap (slice_get (s.tables ++ given table base ∷ [])) (sym none_more)
-        ∙ slice_past s.tables (given table base ∷ []) 0;
-  }
-
   -- what the clause reads
-  abbrev pub on_conflict : (s : Schema) (at : ℕ) → slice_get s.tables at ≡ Some table → Context
-  on_conflict s at got = seeing table (given table base) table.name excluded 1 0 (with_given s table base) (with_excluded s at got)
+  abbrev pub on_conflict : Schema → ℕ → Context
+  on_conflict s at = nested (with_given s table base) (one_level table.name 1 [] [] at) (one_level excluded 0 [] [] (length s.tables))
+
+  excluded_at : (s : Schema) → slice_get (with_given s table base).tables (length s.tables) ≡ Some (given table base)
+  excluded_at s = let none_more : length s.tables + 0 ≡ length s.tables = omega arith in ap (slice_get (s.tables ++ given table base ∷ [])) (sym none_more)
+      ∙ slice_past s.tables (given table base ∷ []) 0
+
+  on_conflict_same : (s z : Schema) (at there : ℕ) → slice_get s.tables at ≡ Some table → slice_get z.tables there ≡ Some table
+      → Same (on_conflict s at) (on_conflict z there)
+  on_conflict_same s z at there got own = same_placed (with_given s table base) (with_given z table base) (record {
+    name = table.name;
+    slot = 1;
+    shared = [];
+    outs = [];
+    table = table;
+    at = at;
+    there = there;
+    got = slice_front s.tables (given table base ∷ []) at table got;
+    own = slice_front z.tables (given table base ∷ []) there table own;
+  } ∷ record {
+    name = excluded;
+    slot = 0;
+    shared = [];
+    outs = [];
+    table = given table base;
+    at = length s.tables;
+    there = length z.tables;
+    got = excluded_at s;
+    own = excluded_at z;
+  } ∷ []) false true
 
 -- what computes of a text that puts what a query over one table shows into another table, over those two alone
 pub record Upserts (text : List ℕ) (name : Name) (table : Table) (from : Name) (read : Table) (body : Query) (key : List ℕ) (setter : Query) : Type 0 where
@@ -78,7 +101,7 @@ pub record Upserts (text : List ℕ) (name : Name) (table : Table) (from : Name)
   pub values : ArePlainSets clause.sets
   pub filter : IsPlainTest clause.filter
   pub draft : Draft
-  pub updated : updated_in (on_conflict (unstamped table) (small parsed.names + small []) (alone (unstamped table)) 0 refl) (unstamped table) clause.sets
+  pub updated : updated_in (on_conflict (unstamped table) (small parsed.names + small []) (alone (unstamped table)) 0) (unstamped table) clause.sets
       clause.filter ≡ Ok draft
   pub is_setter : query_of (at_rowid (small parsed.names + small []) draft) ≡ setter
   pub setter_over : setter.from ≡ inner table.tree end
@@ -88,15 +111,7 @@ abbrev pub upsert_of : List ℕ → Query → Upsert
 upsert_of key setter = record { target = Some key; update = Some (record { lets = []; body = setter }) }
 
 abbrev pub with_upsert : Parsed → ℕ → Query → Upsert → Compiled
-with_upsert p at body clause = record {
-  command = InsertOr at how.Abort (source.Query (record { lets = []; body = body })) (clause ∷ []);
-  returning = None;
-  names = p.names;
-  formats = [];
-  start = p.start;
-  end = p.end;
-  tail = p.tail;
-}
+with_upsert p at body clause = plainly p (InsertOr at how.Abort (source.Query (record { lets = []; body = body })) (clause ∷ []))
 
 module _ (text : List ℕ) (name : Name) (table : Table) (from : Name) (read : Table) (body : Query) (key : List ℕ) (setter : Query)
     (u : Upserts text name table from read body key setter) (s : Schema) (at there : ℕ)
@@ -119,9 +134,7 @@ module _ (text : List ℕ) (name : Name) (table : Table) (from : Name) (read : T
   clause_known : upserts s at (unstamped table) base (u.clause ∷ []) ≡ Ok (upsert_of key setter ∷ [])
   unfolding upserts upsert key_meant update do_update program
   clause_known =
-      let contexts = same_two (unstamped table) (given (unstamped table) base) table.name excluded 1 0 (with_given s (unstamped table) base)
-      (with_given (alone (unstamped table)) (unstamped table) base)
-      (with_excluded (unstamped table) base s at stands.got) (with_excluded (unstamped table) base (alone (unstamped table)) 0 refl) in
+      let contexts = on_conflict_same (unstamped table) base s (alone (unstamped table)) at 0 stands.got refl in
       let draft = updated_same _ _ contexts (unstamped table) u.clause.sets u.clause.filter u.values u.filter ∙ u.updated in
       let set_by = query_of (at_rowid base u.draft) in
       let fits : accepts_program s [] set_by [] ≡ true = subst (λ q. accepts_program s [] q [] ≡ true) (sym u.is_setter)
@@ -137,11 +150,7 @@ module _ (text : List ℕ) (name : Name) (table : Table) (from : Name) (read : T
 -- ---- the key
 
 is_first : (a b : ℕ) → ((a == b || false) && true) ≡ true → a ≡ b
-is_first a b h = eqb-true a b (both (a == b) h)
-  where
-    both : (x : Bool) → ((x || false) && true) ≡ true → x ≡ true
-    both true e = refl
-    both false e = absurd cc
+is_first a b h = grind (arith, nat_tests)
 
 is_one : (c : ℕ) (columns : List ℕ) → (length columns == 1) ≡ true → are_among (c ∷ []) columns ≡ true → columns ≡ c ∷ []
 is_one c [] long h = absurd cc
@@ -149,21 +158,13 @@ is_one c (x ∷ []) long h = ap (λ y. y ∷ []) (sym (is_first c x h))
 is_one c (x ∷ y ∷ more) long h = absurd (let e : length (x ∷ y ∷ more) ≡ 1 = eqb-true _ 1 long in omega arith)
 
 in_all : (a b c d e : Bool) → (a && b && c && d && e) ≡ true → (c ≡ true) × (d ≡ true)
-in_all true true true true e h = (refl, refl)
-in_all true true true false e h = absurd cc
-in_all true true false d e h = absurd cc
-in_all true false c d e h = absurd cc
-in_all false b c d e h = absurd cc
+in_all a b c d e h = grind arith
 
 found_one : {X : Type 0} (test : X → Bool) (xs : List X) (x : X) → Has xs x → test x ≡ true → (y : X) × (find test xs ≡ Some y) × (test y ≡ true)
 found_one test [] x there is = absurd there
-found_one {X} test (y ∷ xs) x there is = go (test y) refl (λ more. found_one test xs x more is) there
-  where
-    go : (b : Bool) → test y ≡ b → (Has xs x → (z : X) × (find test xs ≡ Some z) × (test z ≡ true)) → Has (y ∷ xs) x → (z : X)
-        × (cond b (Some y) (find test xs) ≡ Some z) × (test z ≡ true)
-    go true here further at = (y, refl, here)
-    go false here further (inl same) = absurd (let e : test y ≡ true = ap test (sym same) ∙ is in cc)
-    go false here further (inr more) = further more
+found_one {X} test (y ∷ xs) x there is =
+    cond_both (test y) (Some y) (find test xs) (λ o. (z : X) × (o ≡ Some z) × (test z ≡ true)) (λ here. (y, refl, here))
+    (λ no. found_one test xs x (elim there [ inl same ↦ absurd (both_ways _ no (ap test (sym same) ∙ is)) | inr more ↦ more ]) is)
 
 -- A column that a unique index stands on alone is a key.
 pub key_found : (s : Schema) (table : Table) (c : ℕ) → (c == 0) ≡ false → (index : Index) → Has s.indexes index → index.is_unique ≡ true → index.table

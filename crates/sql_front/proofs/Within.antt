@@ -1,18 +1,17 @@
 -- EXISTS of a query over a second table is the same term wherever the two tables stand in the schema.
-use Rattle.sql_front.proofs.Common.{◌≡◌, inl, inr, refl, ℕ, zero, suc, ◌+◌, ◌==◌, nat_lt, Bool, true, false, Ok, Err, List, [], ◌∷◌, ◌++◌, Option, Some}
-use Rattle.sql_front.proofs.Common.{slice_get, cases_Bool, ⊤, if◌then◌else◌, unwrap_or, is_some, Term, out-Expr, Expr-F, Shown-F, out-Shown, Core, out-Core}
-use Rattle.sql_front.proofs.Common.{Select, out-Select, Layer, ShownLayer, Inner, Schema, Table, table_named, NoSuchColumn, Unsupported, Alias, Output, State}
-use Rattle.sql_front.proofs.Common.{Exists, Name, Context, Checked, ◌>>=◌, and_then, pure, lift, last, lateral, fresh, shown_at, tests, joins, is_column}
-use Rattle.sql_front.proofs.Common.{heading_at, lower_to, is_plain}
+use Rattle.sql_front.proofs.Common.{◌≡◌, inl, inr, refl, ℕ, ◌+◌, nat_lt, Bool, true, false, Ok, List, [], ◌∷◌, ◌++◌, Some}
+use Rattle.sql_front.proofs.Common.{slice_get, cases_Bool, ⊤, unwrap_or, is_some, out-Expr, Expr-F, Shown-F, out-Shown, Core, out-Core}
+use Rattle.sql_front.proofs.Common.{Select, out-Select, Layer, ShownLayer, Inner, Schema, Table, table_named, Output, State}
+use Rattle.sql_front.proofs.Common.{Exists, Name, Context, Checked, ◌>>=◌, and_then, pure, last, fresh, shown_at, tests, joins, is_column}
+use Rattle.sql_front.proofs.Common.{heading_at, lower_to}
 use Rattle.sqlite_ast.specs.declared.Shown.{Shown}
 use Rattle.sqlite_draft.specs.declared.join.Step.{Step}
-use Rattle.sqlite_resolve.specs.Scope.{column, find, term_of}
-use Rattle.sqlite_resolve.specs.Compare.{of_column}
-use Rattle.sqlite_resolve.specs.Body.{body, result, matching, outputs, shown, heading}
+use Rattle.sqlite_resolve.specs.Body.{bounds, body, result, matching, outputs, shown, heading}
 use Rattle.sqlite_resolve.specs.Expr.{counted, counting, wanted}
 use Rattle.sql_front.proofs.Lower.{Same, IsPlain, lower_same}
-use Rattle.sql_front.proofs.OneTable.{one_bound, one_level, seen_in, seen_alike, found_same, key_same}
-use Rattle.sql_front.proofs.Select.{IsFrom, IsTestBut, bounds_known, no_bounds, joins_known, tests_same_but}
+use Rattle.sql_front.proofs.Levels.{one_bound, one_level, same_placed}
+use Rattle.sql_front.proofs.Select.{IsFrom, IsTestBut, bounds_known, no_bounds, joins_known, tests_same_but, in_turn}
+use Rattle.sql_front.proofs.Common.{arith}
 
 abbrev pub IsNumber : Layer → Type 0
 IsNumber (Expr-F.Integer text) = ⊤
@@ -44,59 +43,23 @@ module _ (s z : Schema) (at there : ℕ) (table : Table) (got : slice_get s.tabl
             true;
       }
 
-  module _ (shows : List Output) (may_aggregate : Bool) where
-    abbrev in_s : Context
-    in_s = over_two s at nest shows may_aggregate
-
-    abbrev in_z : Context
-    in_z = over_two z there away shows may_aggregate
-
-    inner_alias : (k : ℕ) → term_of in_s (Alias 0 k) ≡ term_of in_z (Alias 0 k)
-    unfolding term_of
-    inner_alias k = refl
-
-    outer_alias : (k : ℕ) → term_of in_s (Alias 1 k) ≡ term_of in_z (Alias 1 k)
-    unfolding term_of
-    outer_alias k = refl
-
-    columns : (wanted : Option Name) (text : Name) → column in_s wanted text ≡ column in_z wanted text
-    unfolding column find
-    columns wanted text =
-        seen_alike s z nest away other got' own' nested slot' [] shows 0 (λ r. lift r >>= term_of in_s) (λ r. lift r >>= term_of in_z)
-        (seen_in s z at there table got own name slot [] outs 1 s wanted text at (Err NoSuchColumn))
-        (seen_in s z at there table got own name slot [] outs 1 z wanted text there (Err NoSuchColumn))
-        (record {
-          columns = found_same in_s in_z slot' nest away other got' own';
-          rowids = key_same in_s in_z slot' nest away;
-          aliases = inner_alias;
-          outside = seen_alike s z at there table got own name slot [] outs 1 (λ r. lift r >>= term_of in_s) (λ r. lift r >>= term_of in_z) (Err NoSuchColumn)
-              (Err NoSuchColumn)
-              (record {
-                columns = found_same in_s in_z slot at there table got own;
-                rowids = key_same in_s in_z slot at there;
-                aliases = outer_alias;
-                outside =
-                    refl;
-              }) wanted text;
-        }) wanted text
-
-    affinities : (wanted place : ℕ) → of_column in_s wanted place ≡ of_column in_z wanted place
-    unfolding of_column
-    affinities wanted zero = elim (cases_Bool (slot' == wanted)) [
-      | inl it ↦ rw it
-      | inr no_it ↦ elim (cases_Bool (slot == wanted)) [ inl here ↦ rw (no_it, here) | inr elsewhere ↦ rw (no_it, elsewhere) ]
-    ]
-    affinities wanted (suc place) = elim (cases_Bool (slot' == wanted)) [
-      | inl it ↦ rw (it, got', own')
-      | inr no_it ↦ elim (cases_Bool (slot == wanted)) [ inl here ↦ rw (no_it, here, got, own) | inr elsewhere ↦ rw (no_it, elsewhere) ]
-    ]
-
-    pub same_two : Same in_s in_z
-    same_two = record { columns = columns; affinities = affinities; aggregates = refl }
+  pub same_two : (shows : List Output) (may_aggregate : Bool)
+      → Same (over_two s at nest shows may_aggregate) (over_two z there away shows may_aggregate)
+  same_two shows may_aggregate = same_placed s z (
+      record { name = nested; slot = slot'; shared = []; outs = shows; table = other; at = nest; there = away; got = got'; own = own' } ∷ record {
+        name = name;
+        slot = slot;
+        shared = [];
+        outs = outs;
+        table = table;
+        at = at;
+        there = there;
+        got = got;
+        own = own;
+      } ∷ []) may_aggregate true
 
 number_heading : (a b : Context) (text : Name) (l : Layer) → IsNumber l → heading_at a text l ≡ heading_at b text l
-number_heading a b text (Expr-F.Integer digits) h = refl
-number_heading a b text _ h = absurd h
+number_heading a b text l h = grind arith
 
 module _ (s z : Schema) (at there : ℕ) (table : Table) (got : slice_get s.tables at ≡ Some table) (own : slice_get z.tables there ≡ Some table) (name : Name)
     (slot : ℕ) (outs : List Output)
@@ -136,16 +99,12 @@ module _ (s z : Schema) (at there : ℕ) (table : Table) (got : slice_get s.tabl
     number_same done Shown-F.All h = absurd h
     number_same done (Shown-F.AllOf wanted) h = absurd h
 
-    abbrev shows_z : Checked (List Output × State)
-    shows_z = shown_at (lower_to n) (two z there away [] true) (one_bound nested next [] away ∷ []) [] (out-Shown one.show) started
-
-    abbrev tests_z : List Output → State → Checked (List Term × State)
-    tests_z shows st = tests (lower_to n) (two z there away shows false) [] (out-Core core).filter st
-
-    shows_at : shown_at (lower_to n) (two s at nest [] true) (one_bound nested next [] nest ∷ []) [] (out-Shown one.show) started ≡ shows_z
+    shows_at : shown_at (lower_to n) (two s at nest [] true) (one_bound nested next [] nest ∷ []) [] (out-Shown one.show) started
+        ≡ shown_at (lower_to n) (two z there away [] true) (one_bound nested next [] away ∷ []) [] (out-Shown one.show) started
     shows_at = λ i. number_same [] (out-Shown one.show) one.number i started
 
-    tests_at : (shows : List Output) (st : State) → tests (lower_to n) (two s at nest shows false) [] (out-Core core).filter st ≡ tests_z shows st
+    tests_at : (shows : List Output) (st : State) → tests (lower_to n) (two s at nest shows false) [] (out-Core core).filter st
+        ≡ tests (lower_to n) (two z there away shows false) [] (out-Core core).filter st
     tests_at shows st = λ i. tests_same_but (two s at nest shows false) (two z there away shows false) (same_inside shows false) (λ m inner. ⊥)
         (λ m inner h. absurd h) n [] (out-Core core).filter one.filter i st
 
@@ -160,30 +119,16 @@ module _ (s z : Schema) (at there : ℕ) (table : Table) (got : slice_get s.tabl
     abbrev counting_in : Schema → ℕ → Checked (Step × State)
     counting_in schema k = counting (lower_to n) (around schema k) Exists core (fresh next budget)
 
-    by_tests : nat_lt next 250 ≡ true → (r : List Output × State) (x : Checked (List Term × State)) → shows_z ≡ Ok r → tests_z r.0 r.1 ≡ x
-        → counting_in s at ≡ counting_in z there
-    unfolding counting body result matching outputs shown wanted
-    by_tests low r (Err e) showed passed =
-        let here = bounds_known nested s nest other (out-Core core).from one.from named_s (fresh next budget) low in
-        let far = bounds_known nested z away other (out-Core core).from one.from named_z (fresh next budget) low in
-        rw (here, far) (rw (one.shows) (rw (shows_at, showed) (rw (joins_s, joins_z) (rw (tests_at, passed)))))
-    by_tests low r (Ok q) showed passed =
-        let here = bounds_known nested s nest other (out-Core core).from one.from named_s (fresh next budget) low in
-        let far = bounds_known nested z away other (out-Core core).from one.from named_z (fresh next budget) low in
-        rw (here, far) (rw (one.shows) (rw (shows_at, showed) (rw (joins_s, joins_z) (rw (tests_at, passed)))))
+    bounds_s : nat_lt next 250 ≡ true → bounds s (out-Core core).from (fresh next budget) ≡ Ok (one_bound nested next [] nest ∷ [], started)
+    bounds_s low = bounds_known nested s nest other (out-Core core).from one.from named_s (fresh next budget) low
 
-    by_shows : nat_lt next 250 ≡ true → (x : Checked (List Output × State)) → shows_z ≡ x → counting_in s at ≡ counting_in z there
-    unfolding counting body result outputs shown
-    by_shows low (Err e) showed =
-        let here = bounds_known nested s nest other (out-Core core).from one.from named_s (fresh next budget) low in
-        let far = bounds_known nested z away other (out-Core core).from one.from named_z (fresh next budget) low in
-        rw (here, far) (rw (one.shows) (rw (shows_at, showed)))
-    by_shows low (Ok r) showed = by_tests low r (tests_z r.0 r.1) showed refl
+    bounds_z : nat_lt next 250 ≡ true → bounds z (out-Core core).from (fresh next budget) ≡ Ok (one_bound nested next [] away ∷ [], started)
+    bounds_z low = bounds_known nested z away other (out-Core core).from one.from named_z (fresh next budget) low
 
     counting_same : counting_in s at ≡ counting_in z there
-    unfolding counting body
+    unfolding counting body result matching outputs shown wanted
     counting_same = elim (cases_Bool (nat_lt next 250)) [
-      | inl low ↦ by_shows low shows_z refl
+      | inl low ↦ rw (bounds_s low, bounds_z low) (rw (one.shows) (simp (in_turn, shows_at, joins_s, joins_z, tests_at)))
       | inr high ↦
           let here = no_bounds nested s nest other (out-Core core).from one.from (fresh next budget) high in
           let far = no_bounds nested z away other (out-Core core).from one.from (fresh next budget) high in
@@ -192,5 +137,4 @@ module _ (s z : Schema) (at there : ℕ) (table : Table) (got : slice_get s.tabl
 
   pub exists_same : counted (lower_to n) (around s at) Exists query ≡ counted (lower_to n) (around z there) Exists query
   unfolding counted
-  exists_same = λ i st. if is_plain query then and_then (counting_same st.next st.budget i) (λ r. lateral r.0 (record st { budget = r.1.budget })) else Err
-      Unsupported
+  exists_same = grind (arith, and_then, counting_same)

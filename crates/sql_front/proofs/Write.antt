@@ -1,5 +1,5 @@
 -- INSERT and CREATE TABLE under any schema that has the table, or does not use its name.
-use Rattle.sql_front.proofs.Common.{◌≡◌, sym, subst, ℕ, ◌+◌, ◌==◌, true, false, not, ◌&&◌, Ok, List, [], length, None, Parsed, Schema, Table, is_used, Name}
+use Rattle.sql_front.proofs.Common.{◌≡◌, ℕ, ◌+◌, ◌==◌, true, false, not, ◌&&◌, Ok, List, [], length, Parsed, Schema, Table, is_used, Name}
 use Rattle.sql_front.proofs.Common.{Compiled, first, new_rows, small, is_reserved, Stands}
 use Rattle.sqlite_ast.specs.declared.Rows.{Rows}
 use Rattle.sqlite_ast.specs.declared.Conflict.TheVariants as conflict
@@ -11,6 +11,8 @@ use Rattle.sqlite_resolve.specs.Define as define
 use Rattle.sqlite_resolve.specs.Compile.{compiled, planned, meaning, timed, returning, command, shows, insert_or_abort, insert, create_table, creates}
 use Rattle.sqlite_resolve.specs.Compile.{is_attached}
 use Rattle.sql_front.proofs.Past.{unused}
+use Rattle.sql_front.proofs.Plain.{plainly}
+use Rattle.sql_front.proofs.Common.{arith}
 
 -- ---- INSERT .. VALUES
 
@@ -29,7 +31,7 @@ pub record Adds (text : List ℕ) (name : Name) (table : Table) (source : Source
   pub fits : (s : Schema) → new_rows s (unstamped table) (small parsed.names + small []) columns rows ≡ Ok source
 
 abbrev pub with_insert : Parsed → ℕ → Source → Compiled
-with_insert p at source = record { command = Insert at source; returning = None; names = p.names; formats = []; start = p.start; end = p.end; tail = p.tail }
+with_insert p at source = plainly p (Insert at source)
 
 pub adds_known : (text : List ℕ) (name : Name) (table : Table) (source : Source) (a : Adds text name table source) (s : Schema) (at : ℕ)
     → Stands s name at (unstamped table) → compiled s text ≡ Ok (with_insert a.parsed at source)
@@ -50,11 +52,9 @@ pub record Makes (text : List ℕ) (name : Name) (table : Table) : Type 0 where
   pub whole : (length table.computed == length table.stamps.places && not made.resolves) ≡ true
 
 abbrev pub with_create : Parsed → Compiled
-with_create p = record { command = CreateTable; returning = None; names = p.names; formats = []; start = p.start; end = p.end; tail = p.tail }
+with_create p = plainly p CreateTable
 
 pub makes_known : (text : List ℕ) (name : Name) (table : Table) (m : Makes text name table) (s : Schema) → is_used s name ≡ false → compiled s text
     ≡ Ok (with_create m.parsed)
 unfolding compiled planned meaning timed returning command create_table creates is_attached
-makes_known text name table m s free =
-    let none = unused s m.made.name (subst (λ n. is_used s n ≡ false) (sym m.named) free) in
-    rw (m.read) (rw (m.statement) (rw (none.2) (rw (m.unreserved) (rw (none.0, none.1) (rw (m.defined, m.whole))))))
+makes_known text name table m s free = grind (arith, unused)
