@@ -14,9 +14,9 @@ WRITTEN = "Written by tools/meanings from rows.txt of desk_records. What it make
 STORE = "Rattle.desk_store"
 
 # How a column is read (of the row, at a place, and told as this variant of `Column`), what it says of a field, that it
-# keeps its rule, what breaks it, what is written of a field, the lemma that both are one, the lemma that a value says
-# one thing, and whether a read takes memory.
-Kind = collections.namedtuple("Kind", "reads says keeps breaks tells same one memory")
+# keeps its rule, what breaks it, what is written of a field, the lemma that both are one (with the field that is
+# written, where that can't be seen), whether it stands for something, and whether a read takes memory.
+Kind = collections.namedtuple("Kind", "reads says keeps breaks tells same is_coded memory")
 
 
 def coded(reads, meant, same, code="pos %s"):
@@ -27,8 +27,8 @@ def coded(reads, meant, same, code="pos %s"):
         f"is_some ({meant} (%s))",
         f"{meant} (%s) ≡ None",
         f"Int ({code})",
-        same,
-        "one_in",
+        f"{same} %s",
+        True,
         False,
     )
 
@@ -42,8 +42,8 @@ def kept(reads, made, keeps, same, memory=False):
         f"{keeps} (%s)",
         f"{keeps} (%s) ≡ false",
         made,
-        same,
-        same.replace("same", "one"),
+        f"{same} _",
+        False,
         memory,
     )
 
@@ -92,13 +92,17 @@ def wrapped(line, width=160):
 
 def recorded(head, fields, tail="", width=160):
     """A record behind the head, on one line or with a line a field."""
-    line = f"{head}record {{ {'; '.join(fields)} }}{tail}"
-    indent = re.match(" *", head)[0]
-    return (
-        [line]
-        if len(line) <= width
-        else [f"{head}record {{", *(f"{indent}  {f};" for f in fields), f"{indent}}}{tail}"]
-    )
+    def flat(fields):
+        return f"record {{ {'; '.join(f'{n} = {t if isinstance(t, str) else flat(t)}' for n, t in fields)} }}"
+
+    line = f"{head}{flat(fields)}{tail}"
+    if len(line) <= width:
+        return [line]
+    lines, indent = [f"{head}record {{"], re.match(" *", head)[0]
+    for name, term in fields:
+        before = f"{indent}  {name} = "
+        lines += [f"{before}{term};"] if isinstance(term, str) else recorded(before, term, ";", width)
+    return [*lines, f"{indent}}}{tail}"]
 
 
 class BadRows(Exception):
@@ -184,10 +188,10 @@ class Reading:
         """The columns of the table's row that are shown, in their order, with those that another text shows behind."""
         return [*self.columns, *self.also]
 
-    def all_parts(self, before=""):
-        """Each part and its field, those of the reading behind too."""
-        inner = self.behind.all_parts(f"{before}{self.inner}.") if self.behind else []
-        return inner + [(p, before + p.field) for p in self.parts]
+    def all_parts(self, before="", said=""):
+        """Each part, its field and what the row says of it, those of the reading behind too."""
+        inner = self.behind.all_parts(f"{before}{self.inner}.", f"{said}{self.inner}.") if self.behind else []
+        return inner + [(p, before + p.field, said + p.name) for p in self.parts]
 
 
 class Rows:
@@ -237,11 +241,12 @@ class Rows:
                     places[place].append(word)
         return [used(place, words) for place, words in places.items()]
 
-    def known(self, body, without=()):
-        """The definitions of this crate and the one of rules that the text names."""
+    def known(self, body, without=(), also=()):
+        """The definitions of this crate and the one of rules that the text names, and of ReadRows also these."""
         of = collections.defaultdict(list)
+        words = self.sources.words | dict.fromkeys(also, f"{DESK}.specs.ReadRows")
         for word in sorted(set(re.findall(r"(?<![\w.])[A-Za-z]\w*", re.sub(r"(?m)^--.*", "", body)))):
-            place = self.sources.words.get(word)
+            place = words.get(word)
             if place and place.split(".")[-1] not in without:
                 of[place].append(word)
         return [used(place, words) for place, words in sorted(of.items())]
@@ -265,12 +270,18 @@ class Rows:
         )
 
     def specs(self):
-        lines = []
+        says, breaks, tells, shows = [], [], [], []
         for r in self.readings.values():
             fields = [f"  pub {r.inner} : {r.behind.says} row x.{r.inner}"] if r.behind else []
             fields += [
                 f"  pub {p.name} : {p.kind.says % (f'column row {k}', f'x.{p.field}')}"
                 for k, p in enumerate(r.parts, r.first)
+            ]
+            says += [
+                f"-- the row of {', '.join(r.columns)} of {r.table.name}",
+                f"pub record {r.says} (row : Row) (x : {r.made}) : Type 0 where",
+                *fields,
+                "",
             ]
             tests = [f"({p.kind.keeps % f'column row {k}'}, rule.{p.variant})" for k, p in enumerate(r.parts, r.first)]
             opens, shuts = (
@@ -278,31 +289,25 @@ class Rows:
             )
             first, *more = tests
             broken = filled(f"{r.broken} row = {opens}{first}", [f"∷ {t}" for t in [*more, "[]"]], 145)
-            told = [p.kind.tells % f"x.{f}" for p, f in r.all_parts()]
-            lines += [
-                f"-- ---- the row of {', '.join(r.columns)} of {r.table.name}",
-                "",
-                f"pub record {r.says} (row : Row) (x : {r.made}) : Type 0 where",
-                *fields,
-                "",
-                "-- the first column of it that breaks its rule",
-                f"abbrev pub {r.broken} : Row → Option Column",
-                *broken[:-1],
-                broken[-1] + shuts,
-                "",
-                "-- what it tells",
-                f"abbrev pub {r.told} : {r.made} → Row",
-                *cons(f"{r.told} x =", told, 150),
-                "",
-            ]
+            breaks += [f"abbrev pub {r.broken} : Row → Option Column", *broken[:-1], broken[-1] + shuts, ""]
+            told = [p.kind.tells % f"x.{f}" for p, f, _ in r.all_parts()]
+            tells += [f"abbrev pub {r.told} : {r.made} → Row", *cons(f"{r.told} x =", told, 150), ""]
             at = [f"column row {r.table.place(c)}" for c in r.shown_columns()]
-            lines += [
-                "-- .. of the table's row",
-                f"abbrev pub {r.shown} : Row → Row",
-                *cons(f"{r.shown} row =", at, 150),
+            shows += [f"abbrev pub {r.shown} : Row → Row", *cons(f"{r.shown} row =", at, 150), ""]
+        body = "\n".join(
+            [
+                *says,
+                "-- ---- the first column of each that breaks its rule",
                 "",
+                *breaks,
+                "-- ---- what each tells",
+                "",
+                *tells,
+                "-- ---- .. of the table's row",
+                "",
+                *shows,
             ]
-        body = "\n".join(lines)
+        )
         given = [
             ("Rattle.std.specs.Prelude", "◌≡◌ List [] ◌∷◌ Option Some None pos"),
             ("Rattle.std.specs.Option", "is_some option_or"),
@@ -314,8 +319,8 @@ class Rows:
             f"-- {WRITTEN}",
             "-- The rows that are read: what each says, which column breaks its rule, what is written in it.",
             *self.imports(body, given),
-            *self.known(body, ("ReadRows",)),
-            *self.types_in(),
+            *self.known(body, without=("ReadRows",)),
+            *(f"pub {it}" for it in self.types_in()),
             used(f"{DESK}.specs.declared.table_columns.Column", ["Column"]),
             f"use {DESK}.specs.declared.table_columns.Column.TheVariants as rule",
             "",
@@ -417,44 +422,41 @@ class Rows:
             [f"//! {WRITTEN}", "//! How rows are read.", "", *ghosts, "", *imports, "", body.rstrip("\n"), ""]
         )
 
-    def record(self, made, fields):
-        """The fields of the value whose own go along paths of their names."""
+    def record(self, made, terms):
+        """The fields of a record whose own go along paths of their names."""
         own = {}
-        for path in fields:
+        for path, term in terms:
             first, _, rest = path.partition(".")
-            own.setdefault(first, []).append(rest)
+            own.setdefault(first, []).append((rest, term))
         inner = self.sources.type_of(made)[2]
-        return [
-            f"{n} = record {{ {'; '.join(self.record(inner[n], rest))} }}" if rest != [""] else f"{n} = {n} i"
-            for n, rest in own.items()
-        ]
+        return [(name, self.record(inner[name], its) if its[0][0] else its[0][1]) for name, its in own.items()]
+
+    def both(self, head, r, proves):
+        """Two values are one, where each field is."""
+        terms = [(field, f"{proves(p, field, said)} i") for p, field, said in r.all_parts()]
+        return [*recorded(f"{head} = λ i. ", self.record(r.made, terms)), ""]
 
     def told_of(self, r):
         """What is written in a row is what is read of it."""
-        lines = [f"pub {r.one} : (a b : {r.made}) → {r.says} ({r.told} b) a → a ≡ b", f"{r.one} a b h ="]
-        if r.behind:
-            given = [f"{p.name} = h.{r.inner}.{p.name}" for p in r.behind.parts]
-            lines += recorded(f"    let {r.inner} = {r.behind.one} a.{r.inner} b.{r.inner} (", given, ") in")
-        return [*lines, *(f"    let {p.name} = {p.kind.same} b.{p.field} a.{p.field} h.{p.name} in" for p in r.parts)]
+        def proves(p, field, said):
+            return f"{p.kind.same.replace('%s', f'b.{field}')} _ h.{said}"
+
+        return [
+            f"pub {r.one} : (a b : {r.made}) → {r.says} ({r.told} b) a → a ≡ b",
+            *self.both(f"{r.one} a b h", r, proves),
+        ]
 
     def said_of(self, r):
         """A row says one thing."""
+        def proves(p, field, said):
+            if p.kind.is_coded:
+                return f"one_in _ _ _ is.{said} other.{said}"
+            return f"{p.kind.same} _ (sym other.{said} ∙ is.{said})"
+
         name = f"same_{r.word}"
-        lines = [
-            f"pub {name} : (row : Row) (a b : {r.made}) → {r.says} row a → {r.says} row b → a ≡ b",
-            f"{name} row a b is other =",
-        ]
-        if r.behind:
-            lines.append(
-                f"    let {r.inner} = same_{r.behind.word} row a.{r.inner} b.{r.inner} is.{r.inner} other.{r.inner} in"
-            )
-        at = {p.name: "_" if p.kind.one == "one_in" else f"(column row {k})" for k, p in enumerate(r.parts, r.first)}
         return [
-            *lines,
-            *(
-                f"    let {p.name} = {p.kind.one} {at[p.name]} a.{p.field} b.{p.field} is.{p.name} other.{p.name} in"
-                for p in r.parts
-            ),
+            f"pub {name} : (row : Row) (a b : {r.made}) → {r.says} row a → {r.says} row b → a ≡ b",
+            *self.both(f"{name} row a b is other", r, proves),
         ]
 
     def whole_of(self, r):
@@ -469,9 +471,9 @@ class Rows:
                 "",
             ]
         name = f"whole_{r.word}"
-        own = [(k, p) for k, p in enumerate(r.parts) if p.kind.one != "one_in"]
+        own = [(k, p) for k, p in enumerate(r.parts) if not p.kind.is_coded]
         premises = "".join(f" → {p.kind.keeps % f'column row {k}'} ≡ true" for k, p in own)
-        given = [p.name if p.kind.one != "one_in" else f"says.{p.name}" for p in r.parts]
+        given = [f"says.{p.name}" if p.kind.is_coded else p.name for p in r.parts]
         by = f"({', '.join(given)})" if len(given) > 1 else given[0]
         return [
             f"pub {name} : (row : Row) (x : {r.made}) → {r.says} row x{premises} → {r.broken} row ≡ None",
@@ -480,18 +482,21 @@ class Rows:
         ]
 
     def proofs(self):
-        lines = []
-        for r in self.readings.values():
-            fields = ([r.inner] if r.behind else []) + [p.field for p in r.parts]
-            value = [*recorded("    λ i. ", self.record(r.made, fields)), ""]
-            lines += [f"-- ---- {r.word}", "", *self.told_of(r), *value]
-            lines += [*self.said_of(r), *value] if "same" in r.lemmas else []
-            lines += self.whole_of(r) if "whole" in r.lemmas else []
+        all_of = self.readings.values()
+        lines = [
+            *(it for r in all_of for it in self.told_of(r)),
+            "-- ---- a row says one thing",
+            "",
+            *(it for r in all_of if "same" in r.lemmas for it in self.said_of(r)),
+            "-- ---- .. and breaks no column",
+            "",
+            *(it for r in all_of if "whole" in r.lemmas for it in self.whole_of(r)),
+        ]
         body = "\n".join(it for line in lines for it in wrapped(line))
-        lemmas = {w for r in self.readings.values() for p in r.parts for w in (p.kind.same.split()[0], p.kind.one)}
+        lemmas = {"one_in", *(p.kind.same.split()[0] for r in self.readings.values() for p in r.parts)}
         kept = sorted(w for w in lemmas if re.search(rf"\b{w}\b", body))
         given = [
-            ("Rattle.std.proofs.Common", "◌≡◌ true [] ◌∷◌ Some None refl ap ◌∙◌ pos"),
+            ("Rattle.std.proofs.Common", "◌≡◌ true [] ◌∷◌ Some None refl sym ◌∙◌ pos"),
             ("Rattle.std.specs.Option", "is_some option_or"),
             ("Rattle.sqlite_value.specs.declared.value.Value.TheVariants", "Int Text Blob"),
             ("Rattle.sqlite_value.specs.Order", "Row column"),
@@ -501,9 +506,8 @@ class Rows:
                 f"-- {WRITTEN}",
                 "-- What is written in a row is what is read of it, a row says one thing, and it breaks no column.",
                 *self.imports(body, given),
-                *self.known(body),
+                *self.known(body, also=[r.made for r in all_of]),
                 used(f"{DESK}.proofs.KeptColumns", kept),
-                *self.types_in(),
                 "",
                 body,
             ]

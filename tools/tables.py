@@ -110,6 +110,40 @@ def schema(tables):
     ])
 
 
+def table_texts(tables):
+    return "\n".join([
+        f"-- {WRITTEN}",
+        "-- The text that makes each table.",
+        used("Rattle.std.specs.Prelude", ["ℕ", "List"]),
+        used(f"{DESK}.specs.Schema", ["Place", *(t.at for t in tables)]),
+        used(f"{DESK}.specs.declared.table_texts.TheConstants", [t.constant for t in tables]),
+        "",
+        "abbrev pub create_text_of : Place → List ℕ",
+        *(f"create_text_of {t.at} = {t.constant}.now" for t in tables),
+        "",
+    ])
+
+
+def table_meaning(tables):
+    made = ("record { parsed = _; made = _; read = refl; statement = refl; named = refl; unreserved = refl; "
+            "defined = refl; whole = refl }")
+    return "\n".join([
+        f"-- {WRITTEN}",
+        "-- Each text makes its table.",
+        used("Rattle.std.proofs.Common", ["refl"]),
+        used("Rattle.sqlite_tied.specs.Compute", ["everything"]),
+        used("Rattle.sqlite_resolve.specs.Compile", ["first", "is_reserved"]),
+        used("Rattle.sql_front.proofs.Write", ["Makes"]),
+        used(f"{DESK}.specs.Schema", ["Place", *(t.at for t in tables), "name_of", "table_at"]),
+        used(f"{DESK}.specs.TableTexts", ["create_text_of"]),
+        "",
+        "pub creates : (t : Place) → Makes (create_text_of t) (name_of t) (table_at t 0)",
+        "unfolding first is_reserved everything",
+        *(f"creates {t.at} = {made}" for t in tables),
+        "",
+    ])
+
+
 def each_place(tables):
     return "\n".join([
         f"-- {WRITTEN}",
@@ -130,10 +164,11 @@ def each_place(tables):
 def by_place(places):
     """What is said of each place, as arguments in their order."""
     given = [f"({snake(at)} : P {at})" for at in places]
+    said = "".join(f"({snake(at)}, " for at in places)
     return [
         *filled("module _ (P : Place → Type 0)", [*given, "where"], 150),
         "  abbrev pub by_place : (t : Place) → P t",
-        *(f"  by_place {at} = {snake(at)}" for at in places),
+        f"  by_place = each_place P {said}tt{')' * len(places)}",
     ]
 
 
@@ -146,7 +181,8 @@ def desk_table(tables):
         "",
         "ghost use Rattle.std.specs.Prelude.{◌≡◌};",
         f"ghost use {DESK}.specs.Schema.{{name_of}};",
-        f"ghost use {OPENING}.specs.Places.{{place_of, create_text_of}};",
+        f"ghost use {DESK}.specs.TableTexts.{{create_text_of}};",
+        f"ghost use {OPENING}.specs.Places.{{place_of}};",
         "",
         "use desk_records::{",
         *filled(f"    {first}", more, 99),
@@ -189,18 +225,13 @@ def desk_table(tables):
 def opening_places(tables):
     return "\n".join([
         f"-- {WRITTEN}",
-        "-- The tables of a desk as the code names them, and the text that makes each.",
-        used("Rattle.std.specs.Prelude", ["ℕ", "List"]),
+        "-- The tables of a desk as the code names them.",
         used(f"{DESK}.specs.Schema", ["Place", *(t.at for t in tables)]),
-        used(f"{DESK}.specs.declared.table_texts.TheConstants", [t.constant for t in tables]),
         used(f"{OPENING}.specs.declared.desk_table.DeskTable", ["DeskTable"]),
         f"use {OPENING}.specs.declared.desk_table.DeskTable.TheVariants as table",
         "",
         "abbrev pub place_of : DeskTable → Place",
         *(f"place_of table.{t.at} = {t.at}" for t in tables),
-        "",
-        "abbrev pub create_text_of : Place → List ℕ",
-        *(f"create_text_of {t.at} = {t.constant}.now" for t in tables),
         "",
     ])
 
@@ -210,7 +241,7 @@ def each_text(tables):
         return f"(refl, {nulls(count - 1)})" if count else "tt"
 
     def is_place(t):
-        given = (f"makes = {t.constant.lower()}_makes; whole = refl; defined = refl; "
+        given = (f"makes = creates {t.at}; whole = refl; defined = refl; "
                  f"bare = bare_of {nulls(len(t.columns))}")
         return f"is_place {t.at} = record {{ {given}; unindexed = λ rest. refl; unsequenced = refl }}"
 
@@ -222,7 +253,7 @@ def each_text(tables):
         used("Rattle.sqlite_schema.specs.Names", ["same_name"]),
         used("Rattle.sqlite_resolve.specs.Compile", ["table_defined_by", "first", "table_in"]),
         used(f"{DESK}.specs.Schema", ["Place", *(t.at for t in tables)]),
-        used(f"{DESK}.proofs.TableMeaning", [f"{t.constant.lower()}_makes" for t in tables]),
+        used(f"{DESK}.proofs.TableMeaning", ["creates"]),
         used(f"{OPENING}.proofs.IsPlace", ["IsPlace", "bare_of"]),
         "",
         "pub is_place : (t : Place) → IsPlace t",
@@ -237,7 +268,9 @@ def files(crates, tables):
     records, opening = crates / "desk_records", crates / "desk_opening"
     return {
         records / "specs" / "Schema.antt": schema(tables),
+        records / "specs" / "TableTexts.antt": table_texts(tables),
         records / "proofs" / "EachPlace.antt": each_place(tables),
+        records / "proofs" / "TableMeaning.antt": table_meaning(tables),
         opening / "src" / "desk_table.rt": desk_table(tables),
         opening / "specs" / "Places.antt": opening_places(tables),
         opening / "proofs" / "EachText.antt": each_text(tables),

@@ -1,32 +1,16 @@
 -- Written by tools/meanings. What it makes is proved; the tool is not trusted.
 -- What the texts of src/action_texts.rt mean, wherever their tables stand.
-use Rattle.std.proofs.Common.{refl, List, [], ◌∷◌, ℕ, codes, pos, negsuc, true, false}
-use Rattle.sqlite.specs.declared.types.Value.TheVariants.{Null, Int}
-use Rattle.sqlite.specs.Collation.TheVariants.{Binary}
-use Rattle.sqlite.specs.Schema.{Schema}
-use Rattle.sqlite.specs.Command.TheVariants.{Select}
-use Rattle.sqlite.specs.Source.TheVariants.{Values}
-use Rattle.sqlite.specs.Query.{Query, inner, counted, end}
-use Rattle.sqlite.specs.Term.{Term, lit, col}
-use Rattle.sqlite_tied.specs.Compute.{everything}
-use Rattle.sqlite_resolve.specs.Compile.{first, new_rows}
-use Rattle.sqlite_resolve.specs.Expr.{combine}
-use Rattle.sqlite_resolve.specs.Select.{named, paging}
-use Rattle.sqlite_resolve.specs.Write.{updated, deleted}
-use Rattle.sql_front.specs.Stands.{Stands}
+use Rattle.desk_records.proofs.Common.{refl, List, [], ◌∷◌, ℕ, codes, pos, negsuc, true, false, Null, Int, Binary, Schema, Select, Values, Query, inner, counted, end, Term, lit, col, Stands, Means, simple, by}
 use Rattle.sql_front.proofs.TextsWithin.{QueriesWithin, queries_known_within}
-use Rattle.sql_calls.specs.Means.{Means}
-use Rattle.sql_calls.proofs.Selects.{simple, by}
 use Rattle.desk_records.specs.declared.action_texts.TheConstants.{LAST_ACTION, GET_ACTION, LIST_ACTIONS, COUNT_ACTIONS, LIST_TARGET_ACTIONS, LAST_ENDED, PUT_ACTION, SET_ACTION, PUT_FEEDBACK, LIST_ENTRIES, PUT_NUMBER, LAST_NUMBER, LIST_NUMBERS, GET_OFFER, LIST_OFFERS, SET_OFFER, DROP_OFFER, NEXT_OFFER}
 use Rattle.desk_records.specs.Schema.{group_table, action_table, Actions, Feedbacks, Offers, Numbers}
-use Rattle.desk_records.proofs.MeaningWords.{means_of, Asks, Counts, Puts, Changes, Drops, is_equal, is_more, is_least, is_most, at_key}
+use Rattle.desk_records.proofs.MeaningWords.{compiling, means_of, Asks, Counts, Puts, Changes, Drops, is_equal, is_more, is_least, is_most, at_key}
 
 abbrev pub last_action_query : ℕ → Query
 last_action_query tree = by (simple tree [] (col 1 0 ∷ [])) ((col 1 0, record { descending = true; collation = Binary }) ∷ []) (lit (Int (pos 1))) (lit (Int (pos 0)))
 
 pub last_action_is : Asks Actions LAST_ACTION.now last_action_query (codes "number" ∷ [])
-unfolding first combine named paging everything
-last_action_is = record { queries = λ tree. record { parsed = _; select = _; source = _; page = _; shown = _; read = refl; is = (refl, refl, refl, refl); core = (refl, refl, refl); from = (refl, refl, refl, refl, refl); shows = (tt, tt); filter = tt; sorts = (tt, tt); paged = λ s. refl; named = (refl, refl); becomes = (refl, (refl, refl, refl)) }; shape = λ tree. refl }
+last_action_is = unfold compiling in record { queries = λ tree. record { parsed = _; select = _; source = _; page = _; shown = _; read = refl; is = (refl, refl, refl, refl); core = (refl, refl, refl); from = (refl, refl, refl, refl, refl); shows = (tt, tt); filter = tt; sorts = (tt, tt); paged = λ s. refl; named = (refl, refl); becomes = (refl, (refl, refl, refl)) }; shape = λ tree. refl }
 
 abbrev pub action_names : List (List ℕ)
 action_names = codes "rollout" ∷ codes "place" ∷ codes "controller" ∷ codes "canceling" ∷ codes "outcome" ∷ codes "notes" ∷ codes "entries" ∷ []
@@ -35,8 +19,7 @@ abbrev pub action_columns : List Term
 action_columns = col 1 2 ∷ col 1 3 ∷ col 1 4 ∷ col 1 5 ∷ col 1 6 ∷ col 1 7 ∷ col 1 8 ∷ []
 
 pub get_action_is : Asks Actions GET_ACTION.now (λ tree. simple tree (at_key 0 0 ∷ []) action_columns) action_names
-unfolding first combine named paging everything
-get_action_is = record { queries = λ tree. record { parsed = _; select = _; source = _; page = _; shown = _; read = refl; is = (refl, refl, refl, refl); core = (refl, refl, refl); from = (refl, refl, refl, refl, refl); shows = (tt, (tt, (tt, (tt, (tt, (tt, (tt, tt))))))); filter = ((refl, λ cx how x y. refl), tt, tt); sorts = tt; paged = λ s. refl; named = (refl, refl); becomes = (refl, (refl, refl, refl)) }; shape = λ tree. refl }
+get_action_is = unfold compiling in record { queries = λ tree. record { parsed = _; select = _; source = _; page = _; shown = _; read = refl; is = (refl, refl, refl, refl); core = (refl, refl, refl); from = (refl, refl, refl, refl, refl); shows = (tt, (tt, (tt, (tt, (tt, (tt, (tt, tt))))))); filter = ((refl, λ cx how x y. refl), tt, tt); sorts = tt; paged = λ s. refl; named = (refl, refl); becomes = (refl, (refl, refl, refl)) }; shape = λ tree. refl }
 
 abbrev pub listed_names : List (List ℕ)
 listed_names = codes "rollout" ∷ codes "place" ∷ codes "controller" ∷ codes "canceling" ∷ codes "outcome" ∷ codes "notes" ∷ codes "entries" ∷ codes "number" ∷ []
@@ -51,12 +34,10 @@ abbrev pub list_actions_query : ℕ → Query
 list_actions_query tree = by (simple tree of_rollout listed_columns) ((col 1 0, record { descending = false; collation = Binary }) ∷ []) (col 0 1) (col 0 2)
 
 pub list_actions_is : Asks Actions LIST_ACTIONS.now list_actions_query listed_names
-unfolding first combine named paging everything
-list_actions_is = record { queries = λ tree. record { parsed = _; select = _; source = _; page = _; shown = _; read = refl; is = (refl, refl, refl, refl); core = (refl, refl, refl); from = (refl, refl, refl, refl, refl); shows = (tt, (tt, (tt, (tt, (tt, (tt, (tt, (tt, tt)))))))); filter = ((refl, λ cx how x y. refl), tt, tt); sorts = (tt, tt); paged = λ s. refl; named = (refl, refl); becomes = (refl, (refl, refl, refl)) }; shape = λ tree. refl }
+list_actions_is = unfold compiling in record { queries = λ tree. record { parsed = _; select = _; source = _; page = _; shown = _; read = refl; is = (refl, refl, refl, refl); core = (refl, refl, refl); from = (refl, refl, refl, refl, refl); shows = (tt, (tt, (tt, (tt, (tt, (tt, (tt, (tt, tt)))))))); filter = ((refl, λ cx how x y. refl), tt, tt); sorts = (tt, tt); paged = λ s. refl; named = (refl, refl); becomes = (refl, (refl, refl, refl)) }; shape = λ tree. refl }
 
 pub count_actions_is : Counts Actions COUNT_ACTIONS.now
-unfolding first combine named paging everything
-count_actions_is = record { queries = λ tree. record { parsed = _; select = _; source = _; page = _; shown = _; read = refl; is = (refl, refl, refl, refl); core = (refl, refl, refl); from = (refl, refl, refl, refl, refl); shows = (tt, tt); filter = tt; sorts = tt; paged = λ s. refl; named = (refl, refl); becomes = (refl, (refl, refl, refl)) } }
+count_actions_is = unfold compiling in record { queries = λ tree. record { parsed = _; select = _; source = _; page = _; shown = _; read = refl; is = (refl, refl, refl, refl); core = (refl, refl, refl); from = (refl, refl, refl, refl, refl); shows = (tt, tt); filter = tt; sorts = tt; paged = λ s. refl; named = (refl, refl); becomes = (refl, (refl, refl, refl)) } }
 
 abbrev pub of_actor : List Term
 of_actor = at_key 4 0 ∷ []
@@ -65,8 +46,7 @@ abbrev pub list_target_actions_query : ℕ → Query
 list_target_actions_query tree = by (simple tree of_actor listed_columns) ((col 1 0, record { descending = false; collation = Binary }) ∷ []) (col 0 1) (col 0 2)
 
 pub list_target_actions_is : Asks Actions LIST_TARGET_ACTIONS.now list_target_actions_query listed_names
-unfolding first combine named paging everything
-list_target_actions_is = record { queries = λ tree. record { parsed = _; select = _; source = _; page = _; shown = _; read = refl; is = (refl, refl, refl, refl); core = (refl, refl, refl); from = (refl, refl, refl, refl, refl); shows = (tt, (tt, (tt, (tt, (tt, (tt, (tt, (tt, tt)))))))); filter = ((refl, λ cx how x y. refl), tt, tt); sorts = (tt, tt); paged = λ s. refl; named = (refl, refl); becomes = (refl, (refl, refl, refl)) }; shape = λ tree. refl }
+list_target_actions_is = unfold compiling in record { queries = λ tree. record { parsed = _; select = _; source = _; page = _; shown = _; read = refl; is = (refl, refl, refl, refl); core = (refl, refl, refl); from = (refl, refl, refl, refl, refl); shows = (tt, (tt, (tt, (tt, (tt, (tt, (tt, (tt, tt)))))))); filter = ((refl, λ cx how x y. refl), tt, tt); sorts = (tt, tt); paged = λ s. refl; named = (refl, refl); becomes = (refl, (refl, refl, refl)) }; shape = λ tree. refl }
 
 abbrev pub ended_of : List Term
 ended_of = at_key 4 0 ∷ is_more (col 1 6) (lit (Int (pos 0))) ∷ []
@@ -75,15 +55,13 @@ abbrev pub last_ended_query : ℕ → Query
 last_ended_query tree = by (simple tree ended_of listed_columns) ((col 1 0, record { descending = true; collation = Binary }) ∷ []) (lit (Int (pos 1))) (lit (Int (pos 0)))
 
 pub last_ended_is : Asks Actions LAST_ENDED.now last_ended_query listed_names
-unfolding first combine named paging everything
-last_ended_is = record { queries = λ tree. record { parsed = _; select = _; source = _; page = _; shown = _; read = refl; is = (refl, refl, refl, refl); core = (refl, refl, refl); from = (refl, refl, refl, refl, refl); shows = (tt, (tt, (tt, (tt, (tt, (tt, (tt, (tt, tt)))))))); filter = ((refl, λ cx how x y. refl), ((refl, λ cx how x y. refl), tt, tt), ((refl, λ cx how x y. refl), tt, tt)); sorts = (tt, tt); paged = λ s. refl; named = (refl, refl); becomes = (refl, (refl, refl, refl)) }; shape = λ tree. refl }
+last_ended_is = unfold compiling in record { queries = λ tree. record { parsed = _; select = _; source = _; page = _; shown = _; read = refl; is = (refl, refl, refl, refl); core = (refl, refl, refl); from = (refl, refl, refl, refl, refl); shows = (tt, (tt, (tt, (tt, (tt, (tt, (tt, (tt, tt)))))))); filter = ((refl, λ cx how x y. refl), ((refl, λ cx how x y. refl), tt, tt), ((refl, λ cx how x y. refl), tt, tt)); sorts = (tt, tt); paged = λ s. refl; named = (refl, refl); becomes = (refl, (refl, refl, refl)) }; shape = λ tree. refl }
 
 abbrev pub action_terms : List Term
 action_terms = col 0 0 ∷ lit Null ∷ col 0 1 ∷ col 0 2 ∷ col 0 3 ∷ lit (Int (pos 0)) ∷ lit (Int (pos 0)) ∷ lit (Int (pos 0)) ∷ lit (Int (pos 0)) ∷ []
 
 pub put_action_is : Puts Actions PUT_ACTION.now (Values action_terms 9)
-unfolding first new_rows everything
-put_action_is = record { adds = λ tree. record { parsed = _; columns = _; rows = _; read = refl; statement = refl; formats = refl; fits = λ s. refl }; plain = λ tree. refl }
+put_action_is = unfold compiling in record { adds = λ tree. record { parsed = _; columns = _; rows = _; read = refl; statement = refl; formats = refl; fits = λ s. refl }; plain = λ tree. refl }
 
 abbrev pub action_values : List Term
 action_values = lit Null ∷ col 1 2 ∷ col 1 3 ∷ col 1 4 ∷ col 0 1 ∷ col 0 2 ∷ col 0 3 ∷ col 0 4 ∷ []
@@ -92,15 +70,13 @@ abbrev pub set_action_query : ℕ → Query
 set_action_query tree = simple tree (at_key 0 0 ∷ []) (col 1 0 ∷ col 1 0 ∷ action_values)
 
 pub set_action_is : Changes Actions SET_ACTION.now set_action_query
-unfolding first combine updated everything
-set_action_is = record { updates = λ tree. record { parsed = _; sets = _; test = _; draft = _; read = refl; is = (refl, refl); values = (tt, (tt, (tt, (tt, tt)))); filter = ((refl, λ cx how x y. refl), tt, tt); known = refl; becomes = (refl, refl, refl) } }
+set_action_is = unfold compiling in record { updates = λ tree. record { parsed = _; sets = _; test = _; draft = _; read = refl; is = (refl, refl); values = (tt, (tt, (tt, (tt, tt)))); filter = ((refl, λ cx how x y. refl), tt, tt); known = refl; becomes = (refl, refl, refl) } }
 
 abbrev pub feedback_terms : List Term
 feedback_terms = lit Null ∷ col 0 0 ∷ col 0 1 ∷ col 0 2 ∷ col 0 3 ∷ col 0 4 ∷ []
 
 pub put_feedback_is : Puts Feedbacks PUT_FEEDBACK.now (Values feedback_terms 6)
-unfolding first new_rows everything
-put_feedback_is = record { adds = λ tree. record { parsed = _; columns = _; rows = _; read = refl; statement = refl; formats = refl; fits = λ s. refl }; plain = λ tree. refl }
+put_feedback_is = unfold compiling in record { adds = λ tree. record { parsed = _; columns = _; rows = _; read = refl; statement = refl; formats = refl; fits = λ s. refl }; plain = λ tree. refl }
 
 abbrev pub entry_names : List (List ℕ)
 entry_names = codes "kind" ∷ codes "word" ∷ codes "details" ∷ codes "sequence" ∷ []
@@ -115,15 +91,13 @@ abbrev pub list_entries_query : ℕ → Query
 list_entries_query tree = by (simple tree of_action entry_columns) ((col 1 2, record { descending = false; collation = Binary }) ∷ []) (col 0 1) (col 0 2)
 
 pub list_entries_is : Asks Feedbacks LIST_ENTRIES.now list_entries_query entry_names
-unfolding first combine named paging everything
-list_entries_is = record { queries = λ tree. record { parsed = _; select = _; source = _; page = _; shown = _; read = refl; is = (refl, refl, refl, refl); core = (refl, refl, refl); from = (refl, refl, refl, refl, refl); shows = (tt, (tt, (tt, (tt, tt)))); filter = ((refl, λ cx how x y. refl), tt, tt); sorts = (tt, tt); paged = λ s. refl; named = (refl, refl); becomes = (refl, (refl, refl, refl)) }; shape = λ tree. refl }
+list_entries_is = unfold compiling in record { queries = λ tree. record { parsed = _; select = _; source = _; page = _; shown = _; read = refl; is = (refl, refl, refl, refl); core = (refl, refl, refl); from = (refl, refl, refl, refl, refl); shows = (tt, (tt, (tt, (tt, tt)))); filter = ((refl, λ cx how x y. refl), tt, tt); sorts = (tt, tt); paged = λ s. refl; named = (refl, refl); becomes = (refl, (refl, refl, refl)) }; shape = λ tree. refl }
 
 abbrev pub number_terms : List Term
 number_terms = lit Null ∷ col 0 0 ∷ col 0 1 ∷ col 0 2 ∷ col 0 3 ∷ []
 
 pub put_number_is : Puts Numbers PUT_NUMBER.now (Values number_terms 5)
-unfolding first new_rows everything
-put_number_is = record { adds = λ tree. record { parsed = _; columns = _; rows = _; read = refl; statement = refl; formats = refl; fits = λ s. refl }; plain = λ tree. refl }
+put_number_is = unfold compiling in record { adds = λ tree. record { parsed = _; columns = _; rows = _; read = refl; statement = refl; formats = refl; fits = λ s. refl }; plain = λ tree. refl }
 
 abbrev pub last_number_names : List (List ℕ)
 last_number_names = codes "sequence" ∷ codes "number" ∷ codes "place" ∷ []
@@ -135,8 +109,7 @@ abbrev pub last_number_query : ℕ → Query
 last_number_query tree = by (simple tree of_action last_number_columns) ((col 1 2, record { descending = true; collation = Binary }) ∷ []) (lit (Int (pos 1))) (lit (Int (pos 0)))
 
 pub last_number_is : Asks Numbers LAST_NUMBER.now last_number_query last_number_names
-unfolding first combine named paging everything
-last_number_is = record { queries = λ tree. record { parsed = _; select = _; source = _; page = _; shown = _; read = refl; is = (refl, refl, refl, refl); core = (refl, refl, refl); from = (refl, refl, refl, refl, refl); shows = (tt, (tt, (tt, tt))); filter = ((refl, λ cx how x y. refl), tt, tt); sorts = (tt, tt); paged = λ s. refl; named = (refl, refl); becomes = (refl, (refl, refl, refl)) }; shape = λ tree. refl }
+last_number_is = unfold compiling in record { queries = λ tree. record { parsed = _; select = _; source = _; page = _; shown = _; read = refl; is = (refl, refl, refl, refl); core = (refl, refl, refl); from = (refl, refl, refl, refl, refl); shows = (tt, (tt, (tt, tt))); filter = ((refl, λ cx how x y. refl), tt, tt); sorts = (tt, tt); paged = λ s. refl; named = (refl, refl); becomes = (refl, (refl, refl, refl)) }; shape = λ tree. refl }
 
 abbrev pub number_names : List (List ℕ)
 number_names = codes "sequence" ∷ codes "number" ∷ []
@@ -148,8 +121,7 @@ abbrev pub list_numbers_query : ℕ → Query
 list_numbers_query tree = by (simple tree of_action number_columns) ((col 1 2, record { descending = false; collation = Binary }) ∷ []) (lit (Int (negsuc 0))) (lit (Int (pos 0)))
 
 pub list_numbers_is : Asks Numbers LIST_NUMBERS.now list_numbers_query number_names
-unfolding first combine named paging everything
-list_numbers_is = record { queries = λ tree. record { parsed = _; select = _; source = _; page = _; shown = _; read = refl; is = (refl, refl, refl, refl); core = (refl, refl, refl); from = (refl, refl, refl, refl, refl); shows = (tt, (tt, tt)); filter = ((refl, λ cx how x y. refl), tt, tt); sorts = (tt, tt); paged = λ s. refl; named = (refl, refl); becomes = (refl, (refl, refl, refl)) }; shape = λ tree. refl }
+list_numbers_is = unfold compiling in record { queries = λ tree. record { parsed = _; select = _; source = _; page = _; shown = _; read = refl; is = (refl, refl, refl, refl); core = (refl, refl, refl); from = (refl, refl, refl, refl, refl); shows = (tt, (tt, tt)); filter = ((refl, λ cx how x y. refl), tt, tt); sorts = (tt, tt); paged = λ s. refl; named = (refl, refl); becomes = (refl, (refl, refl, refl)) }; shape = λ tree. refl }
 
 abbrev pub of_controller : List Term
 of_controller = at_key 1 0 ∷ []
@@ -158,21 +130,13 @@ abbrev pub offer_columns : List Term
 offer_columns = col 1 2 ∷ col 1 3 ∷ []
 
 pub get_offer_is : Asks Offers GET_OFFER.now (λ tree. simple tree of_controller offer_columns) (codes "action" ∷ codes "kind" ∷ [])
-unfolding first combine named paging everything
-get_offer_is = record { queries = λ tree. record { parsed = _; select = _; source = _; page = _; shown = _; read = refl; is = (refl, refl, refl, refl); core = (refl, refl, refl); from = (refl, refl, refl, refl, refl); shows = (tt, (tt, tt)); filter = ((refl, λ cx how x y. refl), tt, tt); sorts = tt; paged = λ s. refl; named = (refl, refl); becomes = (refl, (refl, refl, refl)) }; shape = λ tree. refl }
-
-abbrev pub owned_names : List (List ℕ)
-owned_names = codes "action" ∷ codes "kind" ∷ codes "controller" ∷ []
+get_offer_is = unfold compiling in record { queries = λ tree. record { parsed = _; select = _; source = _; page = _; shown = _; read = refl; is = (refl, refl, refl, refl); core = (refl, refl, refl); from = (refl, refl, refl, refl, refl); shows = (tt, (tt, tt)); filter = ((refl, λ cx how x y. refl), tt, tt); sorts = tt; paged = λ s. refl; named = (refl, refl); becomes = (refl, (refl, refl, refl)) }; shape = λ tree. refl }
 
 abbrev pub owned_columns : List Term
 owned_columns = col 1 2 ∷ col 1 3 ∷ col 1 1 ∷ []
 
-abbrev pub offers_query : ℕ → Query
-offers_query tree = simple tree [] owned_columns
-
-pub list_offers_is : Asks Offers LIST_OFFERS.now offers_query owned_names
-unfolding first combine named paging everything
-list_offers_is = record { queries = λ tree. record { parsed = _; select = _; source = _; page = _; shown = _; read = refl; is = (refl, refl, refl, refl); core = (refl, refl, refl); from = (refl, refl, refl, refl, refl); shows = (tt, (tt, (tt, tt))); filter = tt; sorts = tt; paged = λ s. refl; named = (refl, refl); becomes = (refl, (refl, refl, refl)) }; shape = λ tree. refl }
+pub list_offers_is : Asks Offers LIST_OFFERS.now (λ tree. simple tree [] owned_columns) (codes "action" ∷ codes "kind" ∷ codes "controller" ∷ [])
+list_offers_is = unfold compiling in record { queries = λ tree. record { parsed = _; select = _; source = _; page = _; shown = _; read = refl; is = (refl, refl, refl, refl); core = (refl, refl, refl); from = (refl, refl, refl, refl, refl); shows = (tt, (tt, (tt, tt))); filter = tt; sorts = tt; paged = λ s. refl; named = (refl, refl); becomes = (refl, (refl, refl, refl)) }; shape = λ tree. refl }
 
 abbrev pub offer_values : List Term
 offer_values = col 1 1 ∷ col 0 1 ∷ col 0 2 ∷ []
@@ -181,15 +145,13 @@ abbrev pub set_offer_query : ℕ → Query
 set_offer_query tree = simple tree of_controller (col 1 0 ∷ col 1 0 ∷ offer_values)
 
 pub set_offer_is : Changes Offers SET_OFFER.now set_offer_query
-unfolding first combine updated everything
-set_offer_is = record { updates = λ tree. record { parsed = _; sets = _; test = _; draft = _; read = refl; is = (refl, refl); values = (tt, (tt, tt)); filter = ((refl, λ cx how x y. refl), tt, tt); known = refl; becomes = (refl, refl, refl) } }
+set_offer_is = unfold compiling in record { updates = λ tree. record { parsed = _; sets = _; test = _; draft = _; read = refl; is = (refl, refl); values = (tt, (tt, tt)); filter = ((refl, λ cx how x y. refl), tt, tt); known = refl; becomes = (refl, refl, refl) } }
 
 abbrev pub drop_offer_query : ℕ → Query
 drop_offer_query tree = simple tree of_controller (col 1 0 ∷ [])
 
 pub drop_offer_is : Drops Offers DROP_OFFER.now drop_offer_query
-unfolding first combine deleted everything
-drop_offer_is = record { removes = λ tree. record { parsed = _; test = _; draft = _; read = refl; is = (refl, refl); filter = ((refl, λ cx how x y. refl), tt, tt); known = refl; becomes = (refl, refl, refl) } }
+drop_offer_is = unfold compiling in record { removes = λ tree. record { parsed = _; test = _; draft = _; read = refl; is = (refl, refl); filter = ((refl, λ cx how x y. refl), tt, tt); known = refl; becomes = (refl, refl, refl) } }
 
 abbrev pub next_group : List Term
 next_group = is_equal (col 2 1) (col 1 2) ∷ is_most (col 2 3) (col 1 3) ∷ is_least (col 2 4) (col 1 3) ∷ is_equal (col 2 5) (lit (Int (pos 1))) ∷ []
@@ -204,8 +166,7 @@ abbrev pub next_offer_query : ℕ → ℕ → Query
 next_offer_query tree other = record (by (simple tree next_action next_columns) ((col 1 0, record { descending = false; collation = Binary }) ∷ []) (lit (Int (pos 1))) (lit (Int (pos 0)))) { from = inner tree (counted 1 (inner other end) next_group end) }
 
 next_offer_queries : (tree other : ℕ) → QueriesWithin NEXT_OFFER.now (codes "action") (action_table tree) (codes "rollout_group") (group_table other) (next_offer_query tree other) (codes "number" ∷ codes "canceling" ∷ [])
-unfolding first combine named paging everything
-next_offer_queries tree other = record { parsed = _; select = _; page = _; shown = _; read = refl; selects = record { statement = refl; formats = refl; with = refl; others = refl }; one = record { source = _; from = refl; table = refl; alias = refl; on = refl; using = refl; is_inner = refl; group = refl; having = refl; shown = (tt, (tt, tt)); filter = ((refl, λ cx how x y. refl), ((refl, λ cx how x y. refl), ((refl, λ cx how x y. refl), tt, tt), ((refl, λ cx how x y. refl), tt, tt)), record { from = record { source = _; is = refl; table = refl; alias = refl; on = refl; using = refl; is_inner = refl }; show = _; shows = refl; number = (tt, tt); filter = ((refl, λ cx how x y. refl), ((refl, λ cx how x y. refl), ((refl, λ cx how x y. refl), ((refl, λ cx how x y. refl), tt, tt), ((refl, λ cx how x y. refl), tt, tt)), ((refl, λ cx how x y. refl), tt, tt)), ((refl, λ cx how x y. refl), tt, tt)) }); sorts = (tt, tt) }; paged = λ s. refl; named_first = refl; named_second = refl; known = refl; is_body = refl; are_columns = refl; cap = _; test = _; over = refl; tests_fit = refl; fits = refl }
+next_offer_queries tree other = unfold compiling in record { parsed = _; select = _; page = _; shown = _; read = refl; selects = record { statement = refl; formats = refl; with = refl; others = refl }; one = record { source = _; from = refl; table = refl; alias = refl; on = refl; using = refl; is_inner = refl; group = refl; having = refl; shown = (tt, (tt, tt)); filter = ((refl, λ cx how x y. refl), ((refl, λ cx how x y. refl), ((refl, λ cx how x y. refl), tt, tt), ((refl, λ cx how x y. refl), tt, tt)), record { from = record { source = _; is = refl; table = refl; alias = refl; on = refl; using = refl; is_inner = refl }; show = _; shows = refl; number = (tt, tt); filter = ((refl, λ cx how x y. refl), ((refl, λ cx how x y. refl), ((refl, λ cx how x y. refl), ((refl, λ cx how x y. refl), tt, tt), ((refl, λ cx how x y. refl), tt, tt)), ((refl, λ cx how x y. refl), tt, tt)), ((refl, λ cx how x y. refl), tt, tt)) }); sorts = (tt, tt) }; paged = λ s. refl; named_first = refl; named_second = refl; known = refl; is_body = refl; are_columns = refl; cap = _; test = _; over = refl; tests_fit = refl; fits = refl }
 
 pub next_offer_is : (s : Schema) (at tree nest other : ℕ) → Stands s (codes "action") at (action_table tree) → Stands s (codes "rollout_group") nest (group_table other)
     → Means s NEXT_OFFER.now (Select (record { lets = []; body = next_offer_query tree other }) (codes "number" ∷ codes "canceling" ∷ []))

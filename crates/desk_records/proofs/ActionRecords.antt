@@ -1,12 +1,11 @@
 -- What is read of actions and offers, where a ledger is held.
 use Rattle.std.proofs.lemmas.Option.{slice_get-map}
-use Rattle.desk_records.proofs.Common.{◌≡◌, ◌≤◌, ℕ, ◌+◌, pos, List, [], ◌∷◌, map, filter, take, drop, length, slice_get, Bool, true, false, cond, Option}
-use Rattle.desk_records.proofs.Common.{Some, None, option_map, refl, ap, ◌∙◌, nat_eq, zip, take-map, drop-map, Value, Null, Int, Text, Row, Binary, Term, col}
-use Rattle.desk_records.proofs.Common.{Select, Database, plain, agree, rows_from, ShowsFirst, on_content, keys_apart, reads_key, numbered_in_order, simple}
-use Rattle.desk_records.proofs.Common.{by, passes, shown_of, item_numbered, same_bytes, Bytes, TargetOffer, offer_to, ActionRecord, Offer, Tally, action_row}
-use Rattle.desk_records.proofs.Common.{actor_of, HoldsLedger, Ledger, IsLastRow, is_to, offer_row, actions_of, actions_for, listed_where, stored_action}
-use Rattle.desk_records.proofs.Common.{Actions, Offers, offer_table, and-true, Outcome, ended_for, first_taken, is_some, last_or, lit, nat_lt, reverse, sym}
-use Rattle.desk_records.proofs.Common.{◌&&◌, outcome_code}
+use Rattle.desk_records.proofs.Common.{arith, ◌≡◌, ◌≤◌, ℕ, ◌+◌, pos, List, [], ◌∷◌, map, filter, take, drop, length, slice_get, Bool, true, false, Option, Some}
+use Rattle.desk_records.proofs.Common.{None, option_map, refl, ap, ◌∙◌, nat_eq, zip, take-map, drop-map, Value, Null, Int, Text, Row, Binary, Term, col, Select}
+use Rattle.desk_records.proofs.Common.{Database, plain, agree, rows_from, ShowsFirst, on_content, keys_apart, reads_key, numbered_in_order, simple, by, passes}
+use Rattle.desk_records.proofs.Common.{shown_of, item_numbered, same_bytes, Bytes, TargetOffer, offer_to, ActionRecord, Offer, Tally, action_row, actor_of}
+use Rattle.desk_records.proofs.Common.{HoldsLedger, Ledger, IsLastRow, is_to, offer_row, actions_of, actions_for, listed_where, stored_action, Actions, Offers}
+use Rattle.desk_records.proofs.Common.{offer_table, and-true, Outcome, ended_for, first_taken, is_some, last_or, lit, nat_lt, reverse, sym, ◌&&◌, outcome_code}
 use Rattle.sqlite.specs.Effect.{Reads as Shows}
 use Rattle.sqlite_value.specs.Keys.{first_key}
 use Rattle.rollout_machine.specs.declared.outcome.Outcome.TheVariants.{Bad, Gone, Good}
@@ -47,17 +46,7 @@ module _ (db : Database) (l : Ledger) (holds : HoldsLedger db l) (names : List (
         → map (shown_of listed_columns params) (filter (passes test params) (rows_from row n ys))
         ≡ map shown_listed_action (listed_where wanted l.records.rollouts n ys)
     its_actions is n [] = refl
-    its_actions is n (y ∷ ys) = rw (is n y) (go (wanted y) (its_actions is (n + 1) ys))
-      where
-        go : (b : Bool) → map (shown_of listed_columns params) (filter (passes test params) (rows_from row (n + 1) ys))
-            ≡ map shown_listed_action (listed_where wanted l.records.rollouts (n + 1) ys)
-            → map (shown_of listed_columns params)
-            (cond b (row n y ∷ filter (passes test params) (rows_from row (n + 1) ys)) (filter (passes test params) (rows_from row (n + 1) ys)))
-            ≡ map shown_listed_action
-            (cond b (record { number = n; action = stored_action l.records.rollouts y } ∷ listed_where wanted l.records.rollouts (n + 1) ys)
-            (listed_where wanted l.records.rollouts (n + 1) ys))
-        go true rest = ap (λ more. shown_listed_action (record { number = n; action = stored_action l.records.rollouts y }) ∷ more) rest
-        go false rest = rest
+    its_actions is n (y ∷ ys) = grind (arith, its_actions is (n + 1) ys, is n y)
 
   -- a page of them in the order of their numbers
   module _ (given : Value) (test : List Term) (wanted : ActionRecord × Tally → Bool) (limit offset : ℕ) where
@@ -130,13 +119,7 @@ names_offer id more o = and-true _ ∙ words_equal o.target id
 pub its_offers : (p : Row → Bool) (id : Bytes) → ((o : TargetOffer) → p (offer_row o) ≡ is_to id o) → (listed : List TargetOffer)
     → filter p (map offer_row listed) ≡ map offer_row (filter (is_to id) listed)
 its_offers p id is [] = refl
-its_offers p id is (o ∷ listed) = rw (is o) (go (is_to id o) (its_offers p id is listed))
-  where
-    go : (b : Bool) → filter p (map offer_row listed) ≡ map offer_row (filter (is_to id) listed)
-        → cond b (offer_row o ∷ filter p (map offer_row listed)) (filter p (map offer_row listed))
-        ≡ map offer_row (cond b (o ∷ filter (is_to id) listed) (filter (is_to id) listed))
-    go true rest = ap (λ l. offer_row o ∷ l) rest
-    go false rest = rest
+its_offers p id is (o ∷ listed) = grind (arith, its_offers p id is listed, is o)
 
 module _ (db : Database) (l : Ledger) (holds : HoldsLedger db l) (names : List (List ℕ)) (id : Bytes) where
   abbrev query_params : Row
@@ -144,8 +127,7 @@ module _ (db : Database) (l : Ledger) (holds : HoldsLedger db l) (names : List (
 
   first_offer_row : (o : Option Offer) → slice_get (map (on_content (shown_of offer_columns query_params)) (map offer_row (offer_to id o))) 0
       ≡ option_map shown_offer o
-  first_offer_row None = refl
-  first_offer_row (Some o) = refl
+  first_offer_row o = grind arith
 
   -- the offer of a target
   pub gets_offer : (found : Option Row) → ShowsFirst (Select (record { lets = []; body = simple (holds.spot Offers).tree of_controller offer_columns }) names)

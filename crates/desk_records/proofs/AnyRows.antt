@@ -1,10 +1,10 @@
 -- What a statement on one table shows, whatever rows the table has: those that pass, in its order.
-use Rattle.desk_records.proofs.Common.{◌≡◌, inl, ◌≤◌, ◌<◌, ℕ, ◌+◌, ◌&&◌, pos, Bool, true, false, List, [], ◌∷◌, map, filter, length, get_or, true≢false, refl}
-use Rattle.desk_records.proofs.Common.{sym, ap, subst, ◌∙◌, arith, IsPermutation, AllZip, list_all, is_lt, nat_tests, ints, length-map, Contains-get_or}
-use Rattle.desk_records.proofs.Common.{length_permutation, IsPermutation-sym, IsNonDecreasingBy-from_all_adjacent, Int, Row, column, value_cmp, value_cmp-Int}
+use Rattle.desk_records.proofs.Common.{◌≡◌, inl, ◌≤◌, ◌<◌, ℕ, ◌+◌, ◌&&◌, pos, Bool, true, false, List, [], ◌∷◌, map, filter, length, get_or, refl}
+use Rattle.desk_records.proofs.Common.{sym, ap, subst, ◌∙◌, arith, IsPermutation, AllZip, list_all, is_lt, nat_tests, length-map, Contains-get_or}
+use Rattle.desk_records.proofs.Common.{length_permutation, IsPermutation-sym, IsNonDecreasingBy-from_all_adjacent, Int, Row, column, value_cmp-Int}
 use Rattle.desk_records.proofs.Common.{then-Equal, Binary, Query, IsAnswer, Output, output_cmp, page, Term, col, Trees, overlay, Has, has_contained}
 use Rattle.desk_records.proofs.Common.{has_filtered, has_kept, fails_has, simple, by, passes, shown_of, shown_in, ordered_rows, IsOrdered, AreBroken, AreSaid}
-use Rattle.desk_records.proofs.Common.{IsAmong, IsOnly, IsSaid}
+use Rattle.desk_records.proofs.Common.{IsOnly}
 use Rattle.std.specs.List.Sorted.{IsNonDecreasingBy}
 use Rattle.sqlite_value.specs.declared.keys.Key.{Key}
 use Rattle.desk_records.proofs.Membership.{has_alone, has_mapped, has_permuted, map_has, mapped_at, mapped_pass, both_pass, permuted_pass, same_kept, zip_at}
@@ -46,13 +46,11 @@ module _ (tree : ℕ) (test columns : List Term) (order : List (Term × Key)) (l
       let kept_one = has_filtered p rows source.0 source.1 in
       record { row = source.0; among = kept_one.0; passes_it = kept_one.1; shows = source.2 }
 
-  from_output : (x : Row) → Has shown x → (o : Output) × IsFrom o × (x ≡ o.1)
-  from_output x among =
-      let source = has_mapped (λ (o : Output). o.1) it.ordered x (subst (λ l. Has l x) shown_is among) in
-      (source.0, from_ordered source.0 source.1, source.2)
-
   pub from_shown : (x : Row) → Has shown x → (row : Row) × Has rows row × (p row ≡ true) × (x ≡ shown_of columns params row)
-  from_shown x among = let o = from_output x among in (o.1.row, o.1.among, o.1.passes_it, o.2 ∙ ap (λ (y : Output). y.1) o.1.shows)
+  from_shown x among =
+      let source = has_mapped (λ (o : Output). o.1) it.ordered x (subst (λ l. Has l x) shown_is among) in
+      let o = from_ordered source.0 source.1 in
+      (o.row, o.among, o.passes_it, source.2 ∙ ap (λ (y : Output). y.1) o.shows)
 
   pub is_shown : (row : Row) → Has rows row → p row ≡ true → Has shown (shown_of columns params row)
   is_shown row among passes_it =
@@ -75,9 +73,7 @@ module _ (tree : ℕ) (test columns : List Term) (order : List (Term × Key)) (l
       → is (shown_of columns params row) a → says row a)
       (x : Row) (alone : shown ≡ x ∷ []) (a : A) (reads : is x a) where
     each_says : (row : Row) → Has rows row → p row ≡ true → says row a
-    each_says row among passes_it =
-        means row among passes_it a
-        (subst (λ y. is y a) (sym (has_alone x _ (subst (λ l. Has l (shown_of columns params row)) alone (is_shown row among passes_it)))) reads)
+    each_says row among passes_it = grind (arith, has_alone, is_shown)
 
     pub is_only : IsOnly rows p says a
     is_only =
@@ -93,19 +89,17 @@ module _ (tree : ℕ) (test columns : List Term) (order : List (Term × Key)) (l
   module _ {A : Type 0} (is : Row → A → Type 0) (says : Row → A → Type 0) (means : (row : Row) → Has rows row → p row ≡ true → (a : A)
       → is (shown_of columns params row) a → says row a)
       (found : List A) (reads : AllZip is shown found) where
-    sound : (a : A) → Has found a → IsSaid rows p says a
-    sound a among =
-        let x = zip_right is shown found a reads among in
-        let from = from_shown x.0 x.1 in
-        record { row = from.0; among = from.1; passes = from.2; is = means from.0 from.1 from.2 a (subst (λ y. is y a) from.3 x.2) }
-
-    complete : (row : Row) → Has rows row → p row ≡ true → IsAmong rows p says found row
-    complete row among passes_it =
-        let a = zip_left is shown found _ reads (is_shown row among passes_it) in
-        record { one = a.0; among = a.1; is = means row among passes_it a.0 a.2 }
-
     pub are_said : AreSaid rows p says found
-    are_said = record { sound = sound; complete = complete; count = zip_length is shown found reads ∙ count_shown }
+    are_said = record {
+      sound = λ a among.
+          let x = zip_right is shown found a reads among in
+          let from = from_shown x.0 x.1 in
+          record { row = from.0; among = from.1; passes = from.2; is = means from.0 from.1 from.2 a (subst (λ y. is y a) from.3 x.2) };
+      complete = λ row among passes_it.
+          let a = zip_left is shown found _ reads (is_shown row among passes_it) in
+          record { one = a.0; among = a.1; is = means row among passes_it a.0 a.2 };
+      count = zip_length is shown found reads ∙ count_shown;
+    }
 
     -- in the order of a number
     module _ (key : A → ℕ) (in_order : (low high : Row) (a b : A) → says low a → says high b
@@ -142,26 +136,11 @@ module _ (tree : ℕ) (test columns : List Term) (order : List (Term × Key)) (l
   -- one that breaks a rule
   pub broken : {A : Type 0} (says : Row → A → Type 0) (keeps : Row → Bool)
       → ((row : Row) → Has rows row → (a : A) → says row a → keeps (shown_of columns params row) ≡ true) → list_all keeps shown ≡ false → AreBroken rows p says
-  broken says keeps kept_by fails =
-      let x = fails_has keeps shown fails in
-      let from = from_shown x.0 x.1 in
-      record {
-        row = from.0;
-        among = from.1;
-        passes = from.2;
-        breaks =
-            λ a said. absurd (true≢false (sym (kept_by from.0 from.1 a said) ∙ ap keeps (sym from.3) ∙ x.2));
-      }
+  broken says keeps kept_by fails = grind (arith, fails_has, from_shown)
 
 -- the order of a column with numbers
 pub number_order : (tree : ℕ) (test columns : List Term) (limit offset : Term) (params : Row) (place : ℕ) (low high : Row) (m n : ℕ) → column low place
     ≡ Int (pos m) → column high place ≡ Int (pos n)
     → (let q = by (simple tree test columns) ((col 1 place, record { descending = false; collation = Binary }) ∷ []) limit offset in
     is_lt (output_cmp q (shown_in q params high) (shown_in q params low)) ≡ false) → m ≤ n
-number_order tree test columns limit offset params place low high m n is_m is_n up =
-    let told : is_lt (value_cmp (column high place) (column low place)) ≡ false = ap is_lt (sym (then-Equal (value_cmp (column high place) (column low place))))
-    ∙ up in
-    below (rw (is_m, is_n) at told)
-  where
-    below : is_lt (value_cmp (Int (pos n)) (Int (pos m))) ≡ false → m ≤ n
-    below h = let h' = ap is_lt (sym (value_cmp-Int (pos n) (pos m))) ∙ h in grind (arith, ints, nat_tests, h')
+number_order tree test columns limit offset params place low high m n is_m is_n up = grind (arith, is_lt, column, then-Equal, value_cmp-Int, nat_tests)

@@ -1,50 +1,34 @@
 -- The statements on attributes of targets, in records.
-use Rattle.desk_records.proofs.Common.{◌≡◌, ◌∷◌, ◌&&◌, ℕ, pos, negsuc, List, [], Bool, true, false, cond, map, filter, flat_map, Option, Some, None, refl, sym}
-use Rattle.desk_records.proofs.Common.{ap, subst, ◌∙◌, codes, and_parts, Null, Int, Text, Row, plain, agree, cast_all, lit, col, Select, Insert, Update}
-use Rattle.desk_records.proofs.Common.{Values, Database, State, Writes, IsHeldBy, Rise, strict, inserts, on_content, keys_apart, are_whole, changes_key}
-use Rattle.desk_records.proofs.Common.{adds_row, reads_risen, passes, shown_of, updates, same_bytes, Bytes, Attribute, Records, Target, target_of, Targets}
-use Rattle.desk_records.proofs.Common.{TargetTags, TargetAttributes, target_attribute_table, target_row, tag_rows, attribute_rows, in_byte_order, ids_of}
-use Rattle.desk_records.proofs.Common.{keys_of, is_sorted, attributes_of, attributed, with_changed, AddsAttribute, SetsAttribute, HoldsRecords, ledger_of}
-use Rattle.desk_records.proofs.Common.{Unordered, and-true}
+use Rattle.desk_records.proofs.Common.{map-map, arith, ◌≡◌, ◌∷◌, ◌&&◌, ℕ, pos, negsuc, List, [], true, map, filter, flat_map, Option, Some, None, refl, sym, ap}
+use Rattle.desk_records.proofs.Common.{subst, ◌∙◌, codes, Null, Int, Text, Row, plain, agree, cast_all, lit, col, Select, Insert, Update, Values, Database}
+use Rattle.desk_records.proofs.Common.{State, Writes, IsHeldBy, Rise, strict, on_content, keys_apart, are_whole, changes_key, reads_risen, passes, shown_of}
+use Rattle.desk_records.proofs.Common.{updates, same_bytes, Bytes, Attribute, Records, Target, target_of, TargetAttributes}
+use Rattle.desk_records.proofs.Common.{target_attribute_table, attribute_rows, in_byte_order, ids_of, keys_of, is_sorted, attributes_of}
+use Rattle.desk_records.proofs.Common.{attributed, with_changed, AddsAttribute, SetsAttribute, HoldsRecords, ledger_of, and-true}
 use Rattle.sqlite_value.specs.Keys.{first_key}
 use Rattle.sqlite.specs.Kind.TheVariants as kind
 use Rattle.sqlite.specs.Effect.{Reads as Shows}
-use Rattle.desk_records.proofs.HoldsAfter.{ChangesOnly, holds_after, records_differ}
+use Rattle.desk_records.proofs.HoldsAfter.{ChangesOnly, holds_after, puts, records_differ}
 use Rattle.desk_records.proofs.TargetMeaning.{of_target, attributes_query, attribute_terms, of_attribute, new_value, set_attribute_query}
 use Rattle.desk_records.proofs.Comparisons.{words_equal}
 use Rattle.desk_records.proofs.ByteOrder.{sorted_from}
-use Rattle.desk_records.proofs.Targets.{changed_map, changed_rows, changed_sorted, rows_of, its_rows}
-use Rattle.desk_records.proofs.Attributes.{in_order_with_attribute, attribute_row, attributes_rise, attributes_sorted, attribute_is_more, attribute_is_set}
-use Rattle.desk_records.proofs.TargetRecords.{first_fixed, is_of, names_it, ids_sorted, each_sorted, held_as}
+use Rattle.desk_records.proofs.Targets.{keys_rise, changed_map, changed_rows, changed_sorted, rows_of, its_rows}
+use Rattle.desk_records.proofs.Attributes.{in_order_with_attribute, attribute_row, attributes_sorted, attribute_is_more, attribute_is_set}
+use Rattle.desk_records.proofs.TargetRecords.{its_own, first_fixed, is_of, names_it, ids_sorted, each_sorted}
 
 -- ---- what is read
 
 abbrev pub shown_attributes : List Attribute → List Row
 shown_attributes attributes = map (λ (a : Attribute). Text a.key ∷ Text a.value ∷ []) attributes
 
--- the rows of attributes of one target
 module _ (id : Bytes) where
-  its_attributes : (i : Bytes) (b : Bool) → same_bytes i id ≡ b → (attributes : List Attribute) → filter (is_of id) (map (attribute_row i) attributes)
-      ≡ cond b (map (attribute_row i) attributes) []
-  its_attributes i true e [] = refl
-  its_attributes i false e [] = refl
-  its_attributes i true e (a ∷ attributes) = rw (names_it id i (Text a.key ∷ Text a.value ∷ []) [], e)
-      (ap (λ l. attribute_row i a ∷ l) (its_attributes i true e attributes))
-  its_attributes i false e (a ∷ attributes) = rw (names_it id i (Text a.key ∷ Text a.value ∷ []) [], e) (its_attributes i false e attributes)
-
   attributes_shown : (found : Option Target) → map (on_content (shown_of (col 1 2 ∷ col 1 3 ∷ []) (Text id ∷ []))) (rows_of attribute_rows found)
       ≡ shown_attributes (attributes_of found)
-  attributes_shown None = refl
-  attributes_shown (Some t) = each t.attributes
-    where
-      each : (attributes : List Attribute) → map (on_content (shown_of (col 1 2 ∷ col 1 3 ∷ []) (Text id ∷ []))) (map (attribute_row t.id) attributes)
-          ≡ shown_attributes attributes
-      each [] = refl
-      each (a ∷ attributes) = ap (λ l. (Text a.key ∷ Text a.value ∷ []) ∷ l) (each attributes)
+  attributes_shown found = grind (arith, map-map)
 
   found_rise : (found : Option Target) → in_byte_order (keys_of (attributes_of found)) ≡ true → Rise 1 (rows_of attribute_rows found)
   found_rise None ordered = tt
-  found_rise (Some t) ordered = attributes_rise t.id t.attributes ordered
+  found_rise (Some t) ordered = keys_rise (λ (a : Attribute). a.key) (attribute_row t.id) 1 (λ a b. refl) t.attributes ordered
 
 module _ (db : Database) (now : Records) (holds : HoldsRecords db now) (names : List (List ℕ)) where
   -- the attributes of a target, by their keys in byte order
@@ -58,7 +42,8 @@ module _ (db : Database) (now : Records) (holds : HoldsRecords db now) (names : 
       let wanted = flat_map attribute_rows now.targets in
       let found = target_of now id in
       let its : filter (is_of id) wanted ≡ rows_of attribute_rows found =
-      its_rows attribute_rows (is_of id) id (λ t. its_attributes id t.id (same_bytes t.id id) refl t.attributes) now.targets
+      its_rows attribute_rows (is_of id) id (λ t. its_own attribute_row id (λ i a. names_it id i (Text a.key ∷ Text a.value ∷ []) []) t.id (same_bytes t.id id)
+      refl t.attributes) now.targets
       (sorted_from (ids_of now.targets) (ids_sorted db now holds)) in
       let rise = subst (Rise 1) (sym its) (found_rise id found (attributes_sorted id now.targets (each_sorted db now holds))) in
       reads_risen db.schema table (1 ∷ []) 1 (strict (codes "key") kind.Text true) refl refl refl of_target params (λ i x. refl) (0 ∷ []) (first_fixed params)
@@ -72,33 +57,21 @@ module _ (db : Database) (now : Records) (holds : HoldsRecords db now) (names : 
 
 -- a change of attributes alone leaves the other tables
 only_attributes : (now : Records) (id : Bytes) (a : Attribute) → ChangesOnly TargetAttributes (ledger_of now) (ledger_of (with_changed now id (attributed a)))
-only_attributes now id a = records_differ TargetAttributes now (with_changed now id (attributed a)) refl refl (Targets ∷ TargetTags ∷ TargetAttributes ∷ [])
-    refl (
-      (λ apart. ap Unordered (changed_map id (attributed a) target_row (λ t. refl) now.targets)),
-      ((λ apart. ap Unordered (changed_rows id (attributed a) tag_rows (λ t. refl) now.targets)), ((λ apart. absurd (apart refl)), tt)),
-    )
+only_attributes now id a = grind (arith, records_differ, changed_map, changed_rows)
 
 keeps_sorted : (a : Attribute) (t : Target) → is_sorted t ≡ true → is_sorted (attributed a t) ≡ true
-keeps_sorted a t sorted = let parts = and_parts (in_byte_order t.tags) (in_byte_order (keys_of t.attributes)) sorted in
-    rw (parts.0) (in_order_with_attribute a t.attributes parts.1)
+keeps_sorted a t sorted = grind (arith, in_order_with_attribute a t.attributes)
 
 pub adds_attribute : (id : Bytes) (a : Attribute) (old new : State) (text : List ℕ) (count : ℕ) (now next : Records) (holds : HoldsRecords old.now now)
     → AddsAttribute id a now next
     → (done : Writes old new None (Insert (holds.spot TargetAttributes).at (Values attribute_terms 4)) text (attribute_row id a) count)
     → HoldsRecords new.now next
 adds_attribute id a old new text count now next holds change done =
-    let spot = holds.spot TargetAttributes in
-    let table = target_attribute_table spot.tree in
-    let made = inserts old.now.schema spot.at table attribute_terms 4 (holds.stands TargetAttributes).got old new refl text (attribute_row id a) count done in
-    let more = adds_row old.now.schema table (1 ∷ 2 ∷ []) (attribute_row id a) attribute_terms 4 (attribute_row id a) refl old.now new.now
-    (flat_map attribute_rows now.targets) (holds.rows TargetAttributes) made in
-    let rows = held_as _ _ _ more (attribute_is_more id a now.targets (sorted_from (ids_of now.targets) (ids_sorted old.now now holds)) change.is_there
-    change.is_new) in
     subst (HoldsRecords new.now) (sym change.next_is)
-    (holds_after TargetAttributes now (with_changed now id (attributed a)) old.now new.now holds
-    (record { schema = made.schema_is; sound = done.sound; others = made.applies.tables }) rows (only_attributes now id a)
-    (changed_sorted id (attributed a) (λ t. refl) (keeps_sorted a) now.targets holds.sorted)
-    )
+    (puts TargetAttributes (ledger_of now) (ledger_of (with_changed now id (attributed a))) (only_attributes now id a)
+    (changed_sorted id (attributed a) (λ t. refl) (keeps_sorted a) now.targets holds.sorted) attribute_terms 4 holds done (λ tree. refl) (attribute_row id a)
+    (attribute_row id a) (λ tree. refl) (λ tree. refl) refl refl
+    (attribute_is_more id a now.targets (sorted_from (ids_of now.targets) (ids_sorted old.now now holds)) change.is_there change.is_new))
 
 both_fixed : (params r : Row) → passes of_attribute params r ≡ true → agree plain (1 ∷ 2 ∷ []) r (0 ∷ 1 ∷ []) params ≡ true
 unfolding first_key

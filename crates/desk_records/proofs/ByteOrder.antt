@@ -1,8 +1,8 @@
 -- Lists of words in byte order.
-use Rattle.desk_records.proofs.Common.{◌≡◌, ℕ, Bool, true, false, cond, ◌||◌, ◌&&◌, List, [], ◌∷◌, refl, sym, ap, ◌∙◌, subst, nat_eq, nat_lt, nat_cmp}
-use Rattle.desk_records.proofs.Common.{IsPermutation, Ordering, list_all, is_gt, ordering_then, and_parts, or_parts, false≢true, IsPermutation-refl}
-use Rattle.desk_records.proofs.Common.{IsPermutation-trans, IsPermutation-cons, IsPermutation-middle, Text, value_cmp, value_cmp-Text, same_bytes, bytes_below}
-use Rattle.desk_records.proofs.Common.{contains_word, with_word, without_word, Bytes, AllAbove, IsSorted, sorted_with, in_byte_order}
+use Rattle.desk_records.proofs.Common.{arith, ◌++◌, IsPermutation-append_right, ◌≡◌, true, false, List, [], ◌∷◌, refl, ap, ◌∙◌, nat_cmp, IsPermutation}
+use Rattle.desk_records.proofs.Common.{list_all, is_gt, and_parts, or_parts, false≢true, IsPermutation-refl, IsPermutation-trans, IsPermutation-middle, Text}
+use Rattle.desk_records.proofs.Common.{value_cmp, value_cmp-Text, same_bytes, bytes_below, contains_word, with_word, without_word, Bytes, AllAbove, IsSorted}
+use Rattle.desk_records.proofs.Common.{sorted_with, in_byte_order}
 use Rattle.std.specs.Cmp.Lexicographic.{slice_cmp}
 use Rattle.rollout_machine.proofs.Orders.{sorted_without}
 
@@ -15,22 +15,13 @@ below_rises a b below = ap is_gt (value_cmp-Text a b) ∙ go a b below
     go : (a b : Bytes) → bytes_below a b ≡ true → is_gt (slice_cmp nat_cmp a b) ≡ false
     go a [] below = absurd (false≢true below)
     go [] (y ∷ ys) below = refl
-    go (x ∷ xs) (y ∷ ys) below = step x y (slice_cmp nat_cmp xs ys) below (go xs ys)
-      where
-        step : (x y : ℕ) (rest : Ordering) → (nat_lt x y || (nat_eq x y && bytes_below xs ys)) ≡ true → (bytes_below xs ys ≡ true → is_gt rest ≡ false)
-            → is_gt (ordering_then (nat_cmp x y) rest) ≡ false
-        step x y rest below more = by (nat_lt x y) (nat_eq x y) refl refl below
-          where
-            by : (l s : Bool) → nat_lt x y ≡ l → nat_eq x y ≡ s → (l || (s && bytes_below xs ys)) ≡ true → is_gt (ordering_then (nat_cmp x y) rest) ≡ false
-            by true s low same is = rw low refl
-            by false true low same is = rw (low, same) (more is)
-            by false false low same is = absurd (false≢true is)
+    go (x ∷ xs) (y ∷ ys) below = grind (arith, go xs ys)
 
 -- ---- lists
 
 all_above : (w : Bytes) (ws : List Bytes) → list_all (bytes_below w) ws ≡ true → AllAbove w ws
 all_above w [] all = tt
-all_above w (v ∷ ws) all = let parts = and_parts (bytes_below w v) (list_all (bytes_below w) ws) all in (parts.0, all_above w ws parts.1)
+all_above w (v ∷ ws) all = grind (arith, all_above w ws)
 
 above_all : (w : Bytes) (ws : List Bytes) → AllAbove w ws → list_all (bytes_below w) ws ≡ true
 above_all w [] above = refl
@@ -38,8 +29,7 @@ above_all w (v ∷ ws) above = rw (above.0) (above_all w ws above.1)
 
 pub sorted_from : (ws : List Bytes) → in_byte_order ws ≡ true → IsSorted ws
 sorted_from [] ordered = tt
-sorted_from (w ∷ ws) ordered = let parts = and_parts (list_all (bytes_below w) ws) (in_byte_order ws) ordered in
-    (all_above w ws parts.0, sorted_from ws parts.1)
+sorted_from (w ∷ ws) ordered = grind (arith, sorted_from ws, and_parts, all_above)
 
 pub in_order_from : (ws : List Bytes) → IsSorted ws → in_byte_order ws ≡ true
 in_order_from [] sorted = refl
@@ -51,14 +41,13 @@ in_order_with w ws ordered = in_order_from (with_word w ws) (sorted_with w ws (s
 pub in_order_without : (w : Bytes) (ws : List Bytes) → in_byte_order ws ≡ true → in_byte_order (without_word w ws) ≡ true
 in_order_without w ws ordered = in_order_from (without_word w ws) (sorted_without w ws (sorted_from ws ordered))
 
+-- one more behind some is one more of all
+pub between : {X : Type 0} (x : X) (xs ys zs : List X) → IsPermutation zs (x ∷ ys) → IsPermutation (xs ++ zs) (x ∷ (xs ++ ys))
+between x xs ys zs same = IsPermutation-trans _ _ _ (IsPermutation-append_right xs _ _ same) (IsPermutation-middle xs x ys)
+
 -- a word that isn't there comes in somewhere
 pub with_is_more : (w : Bytes) (ws : List Bytes) → contains_word w ws ≡ false → IsPermutation (with_word w ws) (w ∷ ws)
 with_is_more w [] new = IsPermutation-refl (w ∷ [])
 with_is_more w (v ∷ ws) new =
-    let parts = or_parts (same_bytes w v) (contains_word w ws) new in
-    subst (λ s. IsPermutation (cond s (v ∷ ws) (cond (bytes_below w v) (w ∷ v ∷ ws) (v ∷ with_word w ws))) (w ∷ v ∷ ws)) (sym parts.0)
-    (go (bytes_below w v) (with_is_more w ws parts.1))
-  where
-    go : (l : Bool) → IsPermutation (with_word w ws) (w ∷ ws) → IsPermutation (cond l (w ∷ v ∷ ws) (v ∷ with_word w ws)) (w ∷ v ∷ ws)
-    go true rest = IsPermutation-refl (w ∷ v ∷ ws)
-    go false rest = IsPermutation-trans _ _ _ (IsPermutation-cons v _ _ rest) (IsPermutation-middle (v ∷ []) w ws)
+    let rest = with_is_more w ws (or_parts (same_bytes w v) (contains_word w ws) new).1 in
+    grind (arith, IsPermutation-refl (w ∷ v ∷ ws), between w (v ∷ []) ws (with_word w ws) rest)

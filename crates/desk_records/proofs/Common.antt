@@ -27,7 +27,7 @@ pub use Rattle.sqlite.specs.Command.TheVariants.{Delete, Insert, InsertOr, Selec
 pub use Rattle.sqlite.specs.Effect.{Database, IsDatabase}
 pub use Rattle.sqlite.specs.Kind.TheVariants.{Integer}
 pub use Rattle.sqlite.specs.Program.{overlay}
-pub use Rattle.sqlite.specs.Query.{IsAnswer, Output, Query, output_cmp, page}
+pub use Rattle.sqlite.specs.Query.{IsAnswer, Output, Query, counted, end, inner, output_cmp, page}
 pub use Rattle.sqlite.specs.Schema.{Schema}
 pub use Rattle.sqlite.specs.Source.TheVariants.{Values}
 pub use Rattle.sqlite.specs.State.{State, Writes}

@@ -1,5 +1,5 @@
 -- Texts of details: each line ended by a line feed.
-use Rattle.desk_records.proofs.Common.{◌≡◌, ◌≢◌, ◌≤◌, ◌<◌, ℕ, suc, Bool, true, false, not, nat_eq, nat_le, List, [], ◌∷◌, ◌++◌, length, get_or, Option, Some}
+use Rattle.desk_records.proofs.Common.{◌≡◌, ◌≢◌, ◌≤◌, ◌<◌, ℕ, suc, Bool, true, false, not, nat_eq, List, [], ◌∷◌, ◌++◌, length, get_or, Option, Some}
 use Rattle.desk_records.proofs.Common.{None, IfNone, refl, sym, ap, ap₂, subst, ◌∙◌, arith, append-nil, append_assoc, length-append, if◌then◌else◌, list_all}
 use Rattle.desk_records.proofs.Common.{IsUtf8, is_utf8, and_parts, nat_tests, list_all-append, IsUtf8-append, IsUtf8-from_ascii, IsUtf8-from_is_utf8}
 use Rattle.desk_records.proofs.Common.{IsUtf8-nil, Value, Text, Bytes, are_details, detail_of, details_of, is_detail, is_text_letter, lines_of}
@@ -19,18 +19,10 @@ line_more text rest line more lines is next = is ∙ ap (λ r. lines_of lines ++
         ∙ sym (append_assoc (l ++ 10 ∷ []) (lines_of (ls ++ line ∷ [])) more)
 
 pub detail_is : (line d : Bytes) → detail_of line ≡ Some d → (d ≡ line) × (is_detail d ≡ true)
-detail_is line d is = go (is_detail line) refl is
-  where
-    go : (b : Bool) → is_detail line ≡ b → (if b then Some line else None) ≡ Some d → (d ≡ line) × (is_detail d ≡ true)
-    go true good e = let same : d ≡ line = cc in (same, ap is_detail same ∙ good)
-    go false bad e = absurd cc
+detail_is line d is = (grind arith, grind arith)
 
 pub no_detail : (line : Bytes) → detail_of line ≡ None → is_detail line ≡ false
-no_detail line is = go (is_detail line) is
-  where
-    go : (b : Bool) → (if b then Some line else None) ≡ None → b ≡ false
-    go true e = absurd cc
-    go false e = refl
+no_detail line is = grind arith
 
 pub one_more : (lines : List Bytes) (d : Bytes) → list_all is_detail lines ≡ true → is_detail d ≡ true → list_all is_detail (lines ++ d ∷ []) ≡ true
 one_more lines d good fine = rw (list_all-append is_detail lines (d ∷ [])) (rw good (rw fine refl))
@@ -40,28 +32,15 @@ no_feed line = list_all (λ b. not (nat_eq b 10)) line
 
 letters_no_feed : (line : Bytes) → list_all is_text_letter line ≡ true → no_feed line ≡ true
 letters_no_feed [] h = refl
-letters_no_feed (b ∷ line) h =
-    let parts = and_parts (is_text_letter b) (list_all is_text_letter line) h in
-    let low = (and_parts (nat_le 32 b) _ parts.0).0 in
-    let other : nat_eq b 10 ≡ false = grind (arith, nat_tests, low) in
-    rw other (letters_no_feed line parts.1)
+letters_no_feed (b ∷ line) h = grind (arith, nat_tests, letters_no_feed line)
 
 -- no letter of a line ends it
 one_line : (l m xs ys : Bytes) → no_feed l ≡ true → no_feed m ≡ true → l ++ 10 ∷ xs ≡ m ++ 10 ∷ ys → (l ≡ m) × (xs ≡ ys)
 one_line [] [] xs ys one two is = (refl, cc)
-one_line [] (b ∷ m) xs ys one two is =
-    let same : 10 ≡ b = cc in
-    let parts = and_parts (not (nat_eq b 10)) (no_feed m) two in
-    absurd (let it : not (nat_eq 10 10) ≡ true = ap (λ n. not (nat_eq n 10)) same ∙ parts.0 in cc)
-one_line (a ∷ l) [] xs ys one two is =
-    let same : a ≡ 10 = cc in
-    let parts = and_parts (not (nat_eq a 10)) (no_feed l) one in
-    absurd (let it : not (nat_eq 10 10) ≡ true = ap (λ n. not (nat_eq n 10)) (sym same) ∙ parts.0 in cc)
+one_line [] (b ∷ m) xs ys one two is = absurd (grind (arith, nat_tests))
+one_line (a ∷ l) [] xs ys one two is = absurd (grind (arith, nat_tests))
 one_line (a ∷ l) (b ∷ m) xs ys one two is =
-    let same : a ≡ b = cc in
-    let rest : l ++ 10 ∷ xs ≡ m ++ 10 ∷ ys = cc in
-    let it = one_line l m xs ys (and_parts (not (nat_eq a 10)) (no_feed l) one).1 (and_parts (not (nat_eq b 10)) (no_feed m) two).1 rest in
-    (ap₂ ◌∷◌ same it.0, it.1)
+    grind (arith, one_line l m xs ys (and_parts (not (nat_eq a 10)) (no_feed l) one).1 (and_parts (not (nat_eq b 10)) (no_feed m) two).1 cc, and_parts)
 
 first_empty : (line rest : Bytes) → line ++ 10 ∷ rest ≡ [] → ⊥
 first_empty [] rest is = absurd cc
@@ -102,40 +81,24 @@ same_details d e good fine is = same_lines d e (and_parts _ (list_all is_detail 
 -- the lines so far are details, and none are followed by the rest
 pub holds_none : (text rest : Bytes) (lines : List Bytes) → text ≡ lines_of lines ++ rest → list_all is_detail lines ≡ true
     → ((more : List Bytes) → list_all is_detail more ≡ true → length (lines ++ more) ≤ 8 → rest ≢ lines_of more) → HasNoDetails (Text text)
-holds_none text rest lines is good ends details fine same =
-    let parts = and_parts _ (list_all is_detail details) fine in
-    let it = begins lines details rest good parts.1 (sym is ∙ text_of same) in
-    ends it.0 it.2 (subst (λ ls. length ls ≤ 8) it.1 (grind (arith, nat_tests, parts.0))) it.3
-  where
-    text_of : Text text ≡ Text (lines_of details) → text ≡ lines_of details
-    text_of e = cc
+holds_none text rest lines is good ends details fine same = grind (arith, and_parts, begins, nat_tests)
 
 no_feed_in : (bs : Bytes) → ((i : ℕ) → i < length bs → get_or bs i 0 ≢ 10) → no_feed bs ≡ true
 no_feed_in [] none = refl
-no_feed_in (b ∷ bs) none =
-    let other : nat_eq b 10 ≡ false = grind (arith, nat_tests, none 0 (omega arith)) in
-    rw other (no_feed_in bs (λ i low. none (suc i) (omega (arith, low))))
+no_feed_in (b ∷ bs) none = grind (arith, nat_tests, none 0 (omega arith), no_feed_in bs (λ i low. none (suc i) (omega (arith, low))))
 
 feed_within : (m rest : Bytes) → no_feed (m ++ 10 ∷ rest) ≡ true → ⊥
 feed_within [] rest h = absurd cc
-feed_within (b ∷ m) rest h = feed_within m rest (and_parts (not (nat_eq b 10)) (no_feed (m ++ 10 ∷ rest)) h).1
+feed_within (b ∷ m) rest h = grind (arith, feed_within m rest)
 
 -- the lines are all that there is, or they don't say the text
 pub all_or_none : (text rest : Bytes) (lines : List Bytes) (found : Option (List Bytes)) → found ≡ (if nat_eq (length rest) 0 then details_of lines else None)
     → text ≡ lines_of lines ++ rest → list_all is_detail lines ≡ true → length lines ≤ 8
     → (rest ≢ [] → (more : List Bytes) → list_all is_detail more ≡ true → length (lines ++ more) ≤ 8 → rest ≢ lines_of more)
     → IfNone found (HasNoDetails (Text text))
-all_or_none text [] lines found is said good few ends =
-    let few_told : nat_le (length lines) 8 ≡ true = grind (arith, nat_tests, few) in
-    let fine : are_details lines ≡ true = rw few_told good in
-    rw (is ∙ go (are_details lines) fine) tt
-  where
-    go : (b : Bool) → b ≡ true → (if b then Some lines else None) ≡ Some lines
-    go true e = refl
-    go false e = absurd cc
+all_or_none text [] lines found is said good few ends = grind (arith, nat_tests)
 all_or_none text (b ∷ rest) lines found is said good few ends =
-    let some : nat_eq (length (b ∷ rest)) 0 ≡ false = grind (arith, nat_tests) in
-    let none : found ≡ None = is ∙ rw some refl in
+    let none : found ≡ None = grind (arith, nat_tests, is) in
     rw none (holds_none text (b ∷ rest) lines said good (ends (λ e. absurd cc)))
 
 -- no line ends in the rest
@@ -169,6 +132,4 @@ lines_are_utf8 (l ∷ ls) good =
 
 -- what is no UTF-8
 pub unread_details : (v : Value) (text : Bytes) → v ≡ Text text → (IsUtf8 text → ⊥) → HasNoDetails v
-unread_details v text is bad details fine same =
-    let text_is : text ≡ lines_of details = cc in
-    bad (subst IsUtf8 (sym text_is) (lines_are_utf8 details (and_parts _ (list_all is_detail details) fine).1))
+unread_details v text is bad details fine same = grind (arith, lines_are_utf8, and_parts)

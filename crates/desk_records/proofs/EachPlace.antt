@@ -30,20 +30,4 @@ module _ (P : Place → Type 0) (desk : P Desk) (modules : P Modules) (sets : P 
     (members : P Members) (groups : P Groups) (actions : P Actions) (feedbacks : P Feedbacks) (offers : P Offers) (rules : P Rules)
     (numbers : P Numbers) where
   abbrev pub by_place : (t : Place) → P t
-  by_place Desk = desk
-  by_place Modules = modules
-  by_place Sets = sets
-  by_place SetModules = set_modules
-  by_place Artifacts = artifacts
-  by_place Pieces = pieces
-  by_place Targets = targets
-  by_place TargetTags = target_tags
-  by_place TargetAttributes = target_attributes
-  by_place Rollouts = rollouts
-  by_place Members = members
-  by_place Groups = groups
-  by_place Actions = actions
-  by_place Feedbacks = feedbacks
-  by_place Offers = offers
-  by_place Rules = rules
-  by_place Numbers = numbers
+  by_place = each_place P (desk, (modules, (sets, (set_modules, (artifacts, (pieces, (targets, (target_tags, (target_attributes, (rollouts, (members, (groups, (actions, (feedbacks, (offers, (rules, (numbers, tt)))))))))))))))))

@@ -1,6 +1,6 @@
 -- The statement that offers the actions of a group, in ledgers.
-use Rattle.desk_records.proofs.Common.{◌≡◌, ℕ, suc, ◌+◌, pos, Bool, true, false, cond, ◌&&◌, nat_le, nat_eq, List, [], ◌∷◌, map, filter, length, None, Some}
-use Rattle.desk_records.proofs.Common.{refl, sym, ap, subst, ◌∙◌, arith, Ok, zip, Null, Int, Row, lit, Database, State, Writes, all_from, key_at, rows_from}
+use Rattle.desk_records.proofs.Common.{◌≡◌, ℕ, ◌+◌, pos, false, ◌&&◌, nat_eq, List, [], ◌∷◌, map, filter, length, None, Some}
+use Rattle.desk_records.proofs.Common.{refl, sym, subst, ◌∙◌, arith, Ok, zip, Null, Int, Row, lit, Database, State, Writes, all_from, key_at, rows_from}
 use Rattle.desk_records.proofs.Common.{numbered_in_order, passes, shown_of, PutsEach, each_keeps, uncollated, upserts_from, holds_position, TargetOffer}
 use Rattle.desk_records.proofs.Common.{Records, Bounds, ActionRecord, group_offers, member_of, offers_from, put_offers, Tally, action_row, HoldsLedger, Ledger}
 use Rattle.desk_records.proofs.Common.{OffersGroup, Actions, Offers, offer_table}
@@ -42,29 +42,13 @@ module _ (rs : Records) (number : ℕ) (bounds : Bounds) where
 
   selected : (n : ℕ) (it : ActionRecord × Tally) → passes in_group (group_params number bounds) (row n it)
       ≡ (nat_eq it.0.rollout number && holds_position it.0.position bounds)
-  selected n it = rw (numbers_equal it.0.rollout number, numbers_at_least it.0.position bounds.first, numbers_at_most it.0.position bounds.last)
-      (grouped (nat_eq it.0.rollout number) (nat_le bounds.first it.0.position) (nat_le it.0.position bounds.last))
-    where
-      grouped : (x y z : Bool) → (x && (y && (z && true))) ≡ (x && (y && z))
-      grouped true true true = refl
-      grouped true true false = refl
-      grouped true false z = refl
-      grouped false y z = refl
+  selected n it = grind (arith, numbers_equal it.0.rollout number, numbers_at_least it.0.position bounds.first, numbers_at_most it.0.position bounds.last)
 
   shows_offers : (n : ℕ) (actions : List ActionRecord) (tallies : List Tally) → length tallies ≡ length actions
       → shown (chosen (rows_from row n (zip actions tallies))) ≡ map source_of (offers_from rs number bounds n actions)
   shows_offers n [] tallies long = refl
   shows_offers n (a ∷ actions) [] long = absurd (omega (arith, long))
-  shows_offers n (a ∷ actions) (t ∷ tallies) long =
-      let next : n + 1 ≡ suc n = omega arith in
-      rw (selected n (a, t)) (go (nat_eq a.rollout number && holds_position a.position bounds)
-      (ap (λ m. shown (chosen (rows_from row m (zip actions tallies)))) next ∙ shows_offers (suc n) actions tallies (omega (arith, long))))
-    where
-      go : (x : Bool) → shown (chosen (rows_from row (n + 1) (zip actions tallies))) ≡ map source_of (offers_from rs number bounds (suc n) actions)
-          → shown (cond x (row n (a, t) ∷ chosen (rows_from row (n + 1) (zip actions tallies))) (chosen (rows_from row (n + 1) (zip actions tallies))))
-          ≡ map source_of (cond x (offered n a ∷ offers_from rs number bounds (suc n) actions) (offers_from rs number bounds (suc n) actions))
-      go true h = ap (λ more. source_of (offered n a) ∷ more) h
-      go false h = h
+  shows_offers n (a ∷ actions) (t ∷ tallies) long = grind (arith, selected n (a, t), shows_offers (n + 1) actions tallies)
 
 -- ---- the statement
 

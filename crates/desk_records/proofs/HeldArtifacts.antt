@@ -2,7 +2,7 @@
 use Rattle.desk_records.proofs.Common.{◌≤◌, ℕ, ◌∷◌, Option, Some, None, option_map, refl, sym, subst, AllZip, option_to_list, Null, Row, Database, Has, Bytes}
 use Rattle.desk_records.proofs.Common.{ArePieces, lies_at, artifact_row, piece_numbered, piece_row, piece_rows_from, HoldsLedger, Ledger, Artifacts, Pieces}
 use Rattle.desk_records.proofs.Common.{IsPiece, HoldsTables, Tables}
-use Rattle.desk_records.proofs.Artifacts.{its_piece}
+use Rattle.desk_records.proofs.ArtifactRecords.{its_piece}
 use Rattle.desk_records.proofs.HeldTables.{IsNumbered, held_rows, held_said, numbered}
 
 module _ (db : Database) (l : Ledger) (held : HoldsLedger db l) (t : Tables) (holds : HoldsTables db t) where

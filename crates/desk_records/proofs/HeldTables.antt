@@ -1,9 +1,10 @@
 -- What tables have where a ledger is held, whatever rowids nobody knows.
-use Rattle.desk_records.proofs.Common.{◌≡◌, ◌⊎◌, inl, inr, ◌≤◌, ◌<◌, ℕ, suc, ◌+◌, pos, Bool, true, false, List, [], ◌∷◌, filter, length, slice_get, nat_lt}
-use Rattle.desk_records.proofs.Common.{Some, refl, sym, ap, subst, ◌∙◌, arith, AllZip, nat_tests, length-map, IsPermutation-sym, length_permutation, Value}
-use Rattle.desk_records.proofs.Common.{Int, Null, Row, Database, Table, Has, has_either, has_filtered, has_kept, has_left, has_right, AreIn, IsHeldBy}
-use Rattle.desk_records.proofs.Common.{rows_from, IsBlind, held_seen, on_content, HoldsLedger, IsHeld, Ledger, AreSaid, parts_from, Place, table_at}
+use Rattle.desk_records.proofs.Common.{◌≡◌, inl, inr, ◌≤◌, ◌<◌, ℕ, suc, ◌+◌, pos, Bool, List, [], ◌∷◌, filter, length, slice_get}
+use Rattle.desk_records.proofs.Common.{Some, refl, sym, ap, subst, ◌∙◌, arith, AllZip, IsPermutation-sym, Value}
+use Rattle.desk_records.proofs.Common.{Int, Null, Row, Database, Has, has_either, has_filtered, has_kept, AreIn, IsHeldBy}
+use Rattle.desk_records.proofs.Common.{rows_from, IsBlind, on_content, HoldsLedger, IsHeld, Ledger, AreSaid, parts_from, Place}
 use Rattle.desk_records.proofs.Common.{HoldsTables, Tables, same_some}
+use Rattle.desk_records.proofs.HeldCounts.{has_got, held_passing, part_among, place_within}
 use Rattle.desk_records.proofs.Membership.{has_permuted, zip_left, zip_length, zip_right}
 
 -- ---- the tables of a ledger
@@ -17,16 +18,7 @@ are_tables db l h = record { sound = h.sound; spot = h.spot; stands = h.stands; 
 
 -- and they have the ledger's rows, since a table stands in one place
 pub held_rows : (db : Database) (l : Ledger) → HoldsLedger db l → (t : Tables) → HoldsTables db t → (p : Place) → IsHeld l p (t p)
-held_rows db l held t holds p = subst (IsHeld l p) (sym same) (held.rows p)
-  where
-    place : (holds.spot p).at ≡ (held.spot p).at
-    place = same_some _ _ (sym (holds.stands p).named ∙ (held.stands p).named)
-
-    table : table_at p (holds.spot p).tree ≡ table_at p (held.spot p).tree
-    table = same_some _ _ (sym (holds.stands p).got ∙ ap (slice_get db.schema.tables) place ∙ (held.stands p).got)
-
-    same : t p ≡ db.trees (held.spot p).tree
-    same = holds.rows p ∙ ap (λ (x : Table). db.trees x.tree) table
+held_rows db l held t holds p = grind (arith, same_some)
 
 -- ---- rows of numbered things
 
@@ -41,57 +33,29 @@ pub record IsNumbered {Y : Type 0} (f : ℕ → Y → Row) (k : ℕ) (ys : List 
   pub at_is : at ≡ k + index
   pub got : slice_get ys index ≡ Some one
 
-pub numbered : {Y : Type 0} (f : ℕ → Y → Row) (k : ℕ) (ys : List Y) (row : Row) → Has (rows_from f k ys) row → IsNumbered f k ys row
-numbered f k [] row among = absurd among
-numbered f k (y ∷ ys) row (inl same) = record {
-  at = k;
-  one = y;
-  low = omega arith;
-  high = omega arith;
-  among = inl refl;
-  is = same;
-  index = 0;
-  at_is = omega arith;
-  got = refl;
-}
-numbered f k (y ∷ ys) row (inr among) =
-    let it = numbered f (k + 1) ys row among in
-    record {
-      at = it.at;
-      one = it.one;
-      low = omega (arith, it.low);
-      high = omega (arith, it.high);
-      among = inr it.among;
-      is = it.is;
-      index = suc it.index;
-      at_is = omega (arith, it.at_is);
-      got = it.got;
-    }
+numbered_at : {Y : Type 0} (f : ℕ → Y → Row) (k : ℕ) (ys : List Y) (row : Row) → Has (rows_from f k ys) row
+    → (d : ℕ) × (y : Y) × (slice_get ys d ≡ Some y) × (row ≡ f (k + d) y)
+numbered_at f k [] row among = absurd among
+numbered_at f k (y ∷ ys) row (inl same) = let at : k ≡ k + 0 = omega arith in (0, y, refl, same ∙ ap (λ n. f n y) at)
+numbered_at f k (y ∷ ys) row (inr among) =
+    let it = numbered_at f (k + 1) ys row among in
+    let at : k + 1 + it.0 ≡ k + suc it.0 = omega arith in
+    (suc it.0, it.1, it.2, it.3 ∙ ap (λ n. f n it.1) at)
 
-pub row_numbered : {Y : Type 0} (f : ℕ → Y → Row) (k : ℕ) (ys : List Y) (at : ℕ) → k ≤ at → at < k + length ys → (y : Y) × Has ys y
-    × Has (rows_from f k ys) (f at y)
-row_numbered f k [] at low high = absurd (omega (arith, low, high))
-row_numbered f k (y ∷ ys) at low high = go (nat_lt k at) refl (λ more. row_numbered f (k + 1) ys at (omega (arith, more)) (omega (arith, high)))
-  where
-    go : (b : Bool) → nat_lt k at ≡ b → (k < at → (z : _) × Has ys z × Has (rows_from f (k + 1) ys) (f at z)) → (z : _) × Has (y ∷ ys) z
-        × Has (f k y ∷ rows_from f (k + 1) ys) (f at z)
-    go true is later = let it = later (grind (arith, nat_tests, is)) in (it.0, inr it.1, inr it.2)
-    go false is later = let same : at ≡ k = (let not_above : at ≤ k = grind (arith, nat_tests, is) in omega (arith, not_above, low)) in
-        (y, inl refl, inl (ap (λ n. f n y) same))
+pub numbered : {Y : Type 0} (f : ℕ → Y → Row) (k : ℕ) (ys : List Y) (row : Row) → Has (rows_from f k ys) row → IsNumbered f k ys row
+numbered f k ys row among = grind (arith, numbered_at, place_within, has_got)
 
 -- ---- rows whose numbers nobody knows
 
 content_in : (low : ℕ) (rows xs : List Row) (row : Row) → AreIn low rows xs → Has rows row → (n : ℕ) × (x : Row) × Has xs x × (row ≡ Int (pos n) ∷ x)
-content_in low [] [] row are among = absurd among
-content_in low [] (x ∷ xs) row are among = absurd among
+content_in low [] xs row are among = absurd among
 content_in low (r ∷ rows) [] row are among = absurd are
 content_in low (r ∷ rows) (x ∷ xs) row are (inl same) = (are.0, x, inl refl, same ∙ are.2)
 content_in low (r ∷ rows) (x ∷ xs) row are (inr among) = let it = content_in (are.0 + 1) rows xs row are.3 among in (it.0, it.1, inr it.2, it.3)
 
 row_in : (low : ℕ) (rows xs : List Row) (x : Row) → AreIn low rows xs → Has xs x → (n : ℕ) × Has rows (Int (pos n) ∷ x)
-row_in low [] [] x are among = absurd among
+row_in low rows [] x are among = absurd among
 row_in low [] (y ∷ xs) x are among = absurd are
-row_in low (r ∷ rows) [] x are among = absurd among
 row_in low (r ∷ rows) (y ∷ xs) x are (inl same) = (are.0, inl (ap (λ z. Int (pos are.0) ∷ z) same ∙ sym are.2))
 row_in low (r ∷ rows) (y ∷ xs) x are (inr among) = let it = row_in (are.0 + 1) rows xs x are.3 among in (it.0, inr it.1)
 
@@ -119,8 +83,7 @@ module _ {A : Type 0} (p : Row → Bool) (blind : IsBlind p) (says : Row → A �
         let a = zip_left _ (filter (on_content p) wanted) found x.1 reads
         (has_kept (on_content p) wanted x.1 x.2 (sym (blind _ x.1) ∙ ap p (sym x.3) ∙ passes)) in
         record { one = a.0; among = a.1; is = subst (λ r. says r a.0) (sym x.3) (whatever _ x.1 a.0 a.2) };
-    count = zip_length _ (filter (on_content p) wanted) found reads ∙ sym (length-map (filter (on_content p) wanted) (on_content p))
-        ∙ sym (length_permutation _ _ (held_seen p blind p blind rows wanted held)) ∙ length-map (filter p rows) p;
+    count = zip_length _ (filter (on_content p) wanted) found reads ∙ sym (held_passing p blind rows wanted held);
   }
 
 -- ---- the parts of numbered records
@@ -139,36 +102,16 @@ module _ {X Y : Type 0} (f : ℕ → ℕ → Y → Row) (items : X → List Y) w
     pub number_is : number ≡ n + index
     pub got : slice_get xs index ≡ Some whole
 
+  abbrev Lies : ℕ → List X → Row → Type 0
+  Lies n xs row = (d : ℕ) × (x : X) × (slice_get xs d ≡ Some x) × Has (rows_from (f (n + d)) 1 (items x)) row
+
+  part_in : (n : ℕ) (xs : List X) (row : Row) → Has (parts_from f items n xs) row → Lies n xs row
+  part_in n [] row among = absurd among
+  part_in n (x ∷ xs) row among = elim (has_either (rows_from (f n) 1 (items x)) (parts_from f items (n + 1) xs) row among) [
+    | inl here ↦ (0, x, refl, subst (λ m. Has (rows_from (f m) 1 (items x)) row) {y = n + 0} (omega arith) here)
+    | inr behind ↦ (let it = part_in (n + 1) xs row behind in
+        (suc it.0, it.1, it.2, subst (λ m. Has (rows_from (f m) 1 (items it.1)) row) {y = n + suc it.0} (omega arith) it.3))
+  ]
+
   pub of_part : (n : ℕ) (xs : List X) (row : Row) → Has (parts_from f items n xs) row → IsPart n xs row
-  of_part n [] row among = absurd among
-  of_part n (x ∷ xs) row among = go (has_either (rows_from (f n) 1 (items x)) (parts_from f items (n + 1) xs) row among) (of_part (n + 1) xs row)
-    where
-      go : Has (rows_from (f n) 1 (items x)) row ⊎ Has (parts_from f items (n + 1) xs) row → (Has (parts_from f items (n + 1) xs) row → IsPart (n + 1) xs row)
-          → IsPart n (x ∷ xs) row
-      go (inl here) later = record {
-        number = n;
-        whole = x;
-        low = omega arith;
-        high = omega arith;
-        has = inl refl;
-        among = here;
-        others =
-            λ other its. has_left _ _ other its;
-        index = 0;
-        number_is = omega arith;
-        got = refl;
-      }
-      go (inr behind) later =
-          let it = later behind in
-          record {
-            number = it.number;
-            whole = it.whole;
-            low = omega (arith, it.low);
-            high = omega (arith, it.high);
-            has = inr it.has;
-            among = it.among;
-            others = λ other its. has_right _ _ other (it.others other its);
-            index = suc it.index;
-            number_is = omega (arith, it.number_is);
-            got = it.got;
-          }
+  of_part n xs row among = grind (arith, part_in, place_within, has_got, part_among)

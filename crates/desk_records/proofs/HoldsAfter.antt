@@ -2,9 +2,14 @@
 use Rattle.desk_records.proofs.Common.{◌≡◌, ◌≢◌, inl, inr, ℕ, suc, true, List, [], ◌∷◌, Some, refl, sym, ap, subst, ◌∙◌, find, ◌==◌, map, cond, AllByRecursion}
 use Rattle.desk_records.proofs.Common.{cases_eq, Table, Database, IsDatabase, all-slice_get, Bytes, Records, ActionRecord, Stands, Place, Offers, places}
 use Rattle.desk_records.proofs.Common.{offer_table, table_at, name_of, are_sorted, AreRowsOf, HoldsLedger, HoldsRecords, IsHeld, Ledger, Offered, content_of}
-use Rattle.desk_records.proofs.Common.{ledger_of}
+use Rattle.desk_records.proofs.Common.{ledger_of, Row, Term, Insert, Values, None, Null, State, Writes, IsPermutation, IsPermutation-trans, IsHeldBy, Inserted}
+use Rattle.desk_records.proofs.Common.{given_rows, inserts, adds_row, cast_all, slice_get, Unordered, ◌+◌, ◌++◌, ap₂, arith, length, pos, rowid, rows_from}
+use Rattle.desk_records.proofs.Common.{put_row, put_next, edit_of, Trees, Int, Ordered}
 use Rattle.rollout_machine.specs.Offers.{first_offer, offer}
 use Rattle.sql_calls.specs.Apart.{HasNoForeignKey}
+use Rattle.sqlite.specs.Rowids.TheVariants.{Chosen}
+use Rattle.sqlite_rules.specs.Edit.{edited}
+use Rattle.sql_calls.proofs.Inserts.{uncounted}
 use Rattle.sql_calls.specs.KeyIndexes.{ComparesBytes}
 use Rattle.desk_records.proofs.Places.{place_named, is_named, is_among, same_elsewhere}
 
@@ -49,6 +54,55 @@ module _ (k : Place) (now next : Ledger) (old new : Database) (was : HoldsLedger
         | inr apart ↦ subst (IsHeld next t) (sym (kept t apart))
             (subst (λ c. AreRowsOf c (old.trees (was.spot t).tree)) (sym (same t (λ e. apart (ap (λ x. (was.spot x).tree) e)))) (was.rows t))
       ]
+
+-- A new row of one place, whose rows come in any order.
+module _ (k : Place) (l next : Ledger) (only : ChangesOnly k l next) (sorted : are_sorted next.records.targets ≡ true) where
+  inserted : {old new : State} {text : List ℕ} {params : Row} {count : ℕ} (terms : List Term) (width : ℕ) (holds : HoldsLedger old.now l)
+      → Writes old new None (Insert (holds.spot k).at (Values terms width)) text params count
+      → ((tree : ℕ) → table_at k tree ≡ uncounted (table_at k tree))
+      → Inserted old.now.schema (table_at k (holds.spot k).tree) (given_rows (table_at k (holds.spot k).tree) params terms width) old.now new.now
+  inserted {old} {new} {text} {params} {count} terms width holds w plain =
+      let spot = holds.spot k in
+      let got = subst (λ (t : Table). slice_get old.now.schema.tables spot.at ≡ Some t) (plain spot.tree) (holds.stands k).got in
+      subst (λ (t : Table). Inserted old.now.schema t (given_rows t params terms width) old.now new.now) (sym (plain spot.tree))
+      (inserts old.now.schema spot.at (table_at k spot.tree) terms width got old new refl text params count w)
+
+  pub puts : {old new : State} {text : List ℕ} {params : Row} {count : ℕ} {had gets : List Row} (terms : List Term) (width : ℕ) (holds : HoldsLedger old.now l)
+      → Writes old new None (Insert (holds.spot k).at (Values terms width)) text params count
+      → ((tree : ℕ) → table_at k tree ≡ uncounted (table_at k tree)) → (source row : Row)
+      → ((tree : ℕ) → given_rows (table_at k tree) params terms width ≡ (Null ∷ source) ∷ [])
+      → ((tree : ℕ) → cast_all (table_at k tree).columns source ≡ row)
+      → content_of l k ≡ Unordered had → content_of next k ≡ Unordered gets → IsPermutation gets (row ∷ had) → HoldsLedger new.now next
+  puts {old} {new} {text} {params} {count} {had} {gets} terms width holds w plain source row given cast before after more =
+      let spot = holds.spot k in
+      let table = table_at k spot.tree in
+      let made = inserted terms width holds w plain in
+      let were : IsHeldBy (old.now.trees spot.tree) had = subst (λ c. AreRowsOf c (old.now.trees spot.tree)) before (holds.rows k) in
+      let it = subst (λ (r : Row). IsHeldBy (new.now.trees spot.tree) (r ∷ had)) (cast spot.tree)
+      (adds_row old.now.schema table [] params terms width source (given spot.tree) old.now new.now had were made) in
+      let held : IsHeldBy (new.now.trees spot.tree) gets =
+      record { order = it.order; rising = it.rising; same = IsPermutation-trans _ _ _ more it.same } in
+      ledger_after k l next old.now new.now holds (record { schema = made.schema_is; sound = w.sound; others = made.applies.tables })
+      (subst (λ c. AreRowsOf c (new.now.trees spot.tree)) (sym after) held) only sorted
+
+  -- .. whose rows come in the order of their numbers
+  pub puts_next : {old new : State} {text : List ℕ} {params : Row} {count : ℕ} {X : Type 0} (f : ℕ → X → Row) → ((n : ℕ) (x : X) → rowid (f n x) ≡ Int (pos n))
+      → (xs : List X) (x : X) (number : ℕ) → number ≡ length xs + 1 → (terms : List Term) (width : ℕ) (holds : HoldsLedger old.now l)
+      → Writes old new None (Insert (holds.spot k).at (Values terms width)) text params count
+      → ((tree : ℕ) → table_at k tree ≡ uncounted (table_at k tree))
+      → ((db : Trees) (tree : ℕ) → edited db (edit_of db (table_at k tree) [] Chosen 0 (given_rows (table_at k tree) params terms width))
+      ≡ put_row (f number x) (db tree))
+      → content_of l k ≡ Ordered (rows_from f 1 xs) → content_of next k ≡ Ordered (rows_from f 1 (xs ++ x ∷ [])) → HoldsLedger new.now next
+  puts_next {old} {new} {text} {params} {count} f ids xs x number at terms width holds w plain row before after =
+      let spot = holds.spot k in
+      let table = table_at k spot.tree in
+      let made = inserted terms width holds w plain in
+      let were : old.now.trees spot.tree ≡ rows_from f 1 xs = subst (λ c. AreRowsOf c (old.now.trees spot.tree)) before (holds.rows k) in
+      let here : number ≡ 1 + length xs = omega (arith, at) in
+      let held : new.now.trees spot.tree ≡ rows_from f 1 (xs ++ x ∷ []) =
+      made.applies.rows ∙ row old.now.trees spot.tree ∙ ap₂ (λ n rows. put_row (f n x) rows) here were ∙ put_next f ids 1 xs x in
+      ledger_after k l next old.now new.now holds (record { schema = made.schema_is; sound = w.sound; others = made.applies.tables })
+      (subst (λ c. AreRowsOf c (new.now.trees spot.tree)) (sym after) held) only sorted
 
 -- The contents of all places but some compute to the same, and those of these are proved to be the same, but for one.
 pub contents_differ : (k : Place) (now next : Ledger) (touched : List Place) → map (content_of next) places

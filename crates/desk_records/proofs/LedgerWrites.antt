@@ -1,18 +1,16 @@
 -- The statements on rollouts, actions and offers that write, in ledgers.
 use Rattle.desk_records.proofs.Common.{◌≡◌, ◌≢◌, ◌∷◌, ◌++◌, ℕ, zero, suc, ◌+◌, pos, List, [], Bool, set, length, slice_get, Option, Some, None, refl, sym, ap}
 use Rattle.desk_records.proofs.Common.{subst, ◌∙◌, arith, zip, Int, Text, Row, Term, col, Insert, Update, Values, Database, State, Writes, Table, cast_all}
-use Rattle.desk_records.proofs.Common.{put_row, rowid, rows_from, inserts, put_next, cast_int, cast_null, has_number, sets_at, simple, shown_of, updates}
-use Rattle.desk_records.proofs.Common.{Updated, Bytes, RolloutPlan, Outcome, ActionRecord, RolloutRecord, GroupRule, Tally, action_row, entries_of, entry_row}
-use Rattle.desk_records.proofs.Common.{outcome_code, number_row, number_rows, HoldsLedger, Ledger, Ordered, Unordered, AddsRollout, AddsAction, SetsRollout}
-use Rattle.desk_records.proofs.Common.{SetsAction, action_turned, bare_rollout, no_tally, scheduled, turned, with_actions, with_numbers, with_rollouts}
-use Rattle.desk_records.proofs.Common.{with_rules}
-use Rattle.desk_records.proofs.Common.{listed_parts, parts_from, approval_code, flag, group_row, groups_from, member_row, members_from, rollout_row, rule_row}
-use Rattle.desk_records.proofs.Common.{rules_from, Place, Rollouts, Members, Groups, Actions, Feedbacks, Rules, Numbers, action_table, rollout_table}
-use Rattle.desk_records.proofs.Common.{PlacedNumber}
+use Rattle.desk_records.proofs.Common.{rowid, rows_from, cast_int, cast_null, has_number, sets_at, simple, shown_of, updates, Updated, Bytes, RolloutPlan}
+use Rattle.desk_records.proofs.Common.{Outcome, ActionRecord, RolloutRecord, GroupRule, Tally, action_row, entries_of, entry_row, outcome_code, number_row}
+use Rattle.desk_records.proofs.Common.{number_rows, HoldsLedger, Ledger, Ordered, Unordered, AddsRollout, AddsAction, SetsRollout, SetsAction, action_turned}
+use Rattle.desk_records.proofs.Common.{bare_rollout, no_tally, scheduled, turned, with_actions, with_numbers, with_rollouts, with_rules, listed_parts}
+use Rattle.desk_records.proofs.Common.{parts_from, approval_code, flag, group_row, groups_from, member_row, members_from, rollout_row, rule_row, rules_from}
+use Rattle.desk_records.proofs.Common.{Place, Rollouts, Members, Groups, Actions, Feedbacks, Rules, Numbers, action_table, rollout_table, PlacedNumber}
 use Rattle.std.proofs.lemmas.Option.{slice_get_within}
 use Rattle.rollout_model.specs.declared.approval.Approval.{Approval}
 use Rattle.desk_records.proofs.ActionMeaning.{action_terms, action_values, set_action_query}
-use Rattle.desk_records.proofs.HoldsAfter.{ChangesOnly, contents_differ, ledger_after}
+use Rattle.desk_records.proofs.HoldsAfter.{ChangesOnly, contents_differ, ledger_after, puts_next}
 use Rattle.desk_records.proofs.LedgerLists.{actions_stay, actors_of_more, actors_stay, first_of, length_zip, parts_stay, zip_more, zip_set}
 use Rattle.desk_records.proofs.MeaningWords.{at_key}
 use Rattle.desk_records.proofs.NumberedReads.{passes_number}
@@ -28,10 +26,7 @@ pub rollouts_differ : (l : Ledger) (ys : List RolloutRecord) (k : Place)
     → (Groups ≢ k → groups_from 1 ys ≡ groups_from 1 l.records.rollouts) → rows_from (action_row ys) 1 (zip l.records.actions l.tallies)
     ≡ rows_from (action_row l.records.rollouts) 1 (zip l.records.actions l.tallies)
     → ChangesOnly k l (with_rollouts l ys)
-rollouts_differ l ys k rollouts members groups actors = contents_differ k l (with_rollouts l ys) (Rollouts ∷ Members ∷ Groups ∷ Actions ∷ []) refl (
-  (λ apart. ap Ordered (rollouts apart)),
-  ((λ apart. ap Unordered (members apart)), ((λ apart. ap Unordered (groups apart)), ((λ apart. ap Ordered actors), tt))),
-)
+rollouts_differ l ys k rollouts members groups actors = grind (arith, contents_differ)
 
 -- what is said of groups, and the numbers of actions
 pub rules_differ : (l : Ledger) (rules : List (List GroupRule)) (k : Place) → (Rules ≢ k → rules_from rules ≡ rules_from l.rules)
@@ -53,8 +48,7 @@ histories_from n as' = parts_from entry_row entries_of n as'
 pub actions_differ : (l : Ledger) (as' : List ActionRecord) (ts : List Tally) (k : Place)
     → (Actions ≢ k → rows_from (action_row l.records.rollouts) 1 (zip as' ts) ≡ rows_from (action_row l.records.rollouts) 1 (zip l.records.actions l.tallies))
     → (Feedbacks ≢ k → histories_from 1 as' ≡ histories_from 1 l.records.actions) → ChangesOnly k l (with_actions l as' ts)
-actions_differ l as' ts k actions histories = contents_differ k l (with_actions l as' ts) (Actions ∷ Feedbacks ∷ []) refl
-    ((λ apart. ap Ordered (actions apart)), ((λ apart. ap Unordered (histories apart)), tt))
+actions_differ l as' ts k actions histories = grind (arith, contents_differ)
 
 -- ---- UPDATE .. WHERE number = ?1, of a row that is there
 
@@ -79,15 +73,16 @@ pub adds_rollout : (number : ℕ) (plan : RolloutPlan) (approval : Approval) (ol
     → (w : Writes old new None (Insert (holds.spot Rollouts).at (Values rollout_terms 11)) text (created_params number plan approval) count)
     → HoldsLedger new.now next
 adds_rollout number plan approval old new text count l next holds change w =
-    let spot = holds.spot Rollouts in
     let xs = l.records.rollouts in
     let x = bare_rollout number plan approval in
     let after = with_rollouts l (xs ++ x ∷ []) in
-    let made = inserts old.now.schema spot.at (rollout_table spot.tree) rollout_terms 11 (holds.stands Rollouts).got old new refl text
-    (created_params number plan approval) count w in
-    let at : number ≡ 1 + length xs = omega (arith, change.number_is) in
-    let table : new.now.trees spot.tree ≡ rows_from rollout_row 1 (xs ++ x ∷ []) =
-    made.applies.rows ∙ rw (
+    subst (HoldsLedger new.now) (sym change.next_is)
+    (puts_next Rollouts l (with_rules after (l.rules ++ [] ∷ []))
+    (λ t apart. rules_differ after (l.rules ++ [] ∷ []) Rollouts (λ other. none_listed rule_row l.rules) t apart
+    ∙ rollouts_differ l (xs ++ x ∷ []) Rollouts (λ apart. absurd (apart refl)) (λ apart. no_parts member_row (λ (y : RolloutRecord). y.members) x refl 1 xs)
+    (λ apart. no_parts group_row (λ (y : RolloutRecord). y.groups) x refl 1 xs) (actions_stay xs (xs ++ x ∷ []) (actors_of_more x refl xs) 1 _) t apart)
+    holds.sorted rollout_row (λ n x. refl) xs x number change.number_is rollout_terms 11 holds w (λ tree. refl)
+    (λ db tree. rw (
       cast_int number,
       cast_null,
       cast_int plan.set_number,
@@ -96,16 +91,7 @@ adds_rollout number plan approval old new text count l next holds change w =
       cast_int plan.error,
       cast_int (approval_code approval),
       cast_int 0,
-      holds.rows Rollouts,
-    )
-    (ap (λ m. put_row (rollout_row m x) (rows_from rollout_row 1 xs)) at ∙ put_next rollout_row (λ n x. refl) 1 xs x) in
-    subst (HoldsLedger new.now) (sym change.next_is)
-    (ledger_after Rollouts l (with_rules after (l.rules ++ [] ∷ [])) old.now new.now holds
-    (record { schema = made.schema_is; sound = w.sound; others = made.applies.tables }) table
-    (λ t apart. rules_differ after (l.rules ++ [] ∷ []) Rollouts (λ other. none_listed rule_row l.rules) t apart
-    ∙ rollouts_differ l (xs ++ x ∷ []) Rollouts (λ apart. absurd (apart refl)) (λ apart. no_parts member_row (λ (y : RolloutRecord). y.members) x refl 1 xs)
-    (λ apart. no_parts group_row (λ (y : RolloutRecord). y.groups) x refl 1 xs) (actions_stay xs (xs ++ x ∷ []) (actors_of_more x refl xs) 1 _) t apart)
-    holds.sorted)
+    ) refl) refl refl)
 
 -- ---- a rollout's approval, started and paused
 
@@ -156,23 +142,18 @@ pub adds_action : (number rollout place : ℕ) (id : Bytes) (old new : State) (t
     → (w : Writes old new None (Insert (holds.spot Actions).at (Values action_terms 9)) text (scheduled_params number rollout place id) count)
     → HoldsLedger new.now next
 adds_action number rollout place id old new text count l next holds change w =
-    let spot = holds.spot Actions in
-    let row = action_row l.records.rollouts in
-    let zs = zip l.records.actions l.tallies in
     let a = scheduled rollout place in
     let after = with_actions l (l.records.actions ++ a ∷ []) (l.tallies ++ no_tally ∷ []) in
-    let made = inserts old.now.schema spot.at (action_table spot.tree) action_terms 9 (holds.stands Actions).got old new refl text
-    (scheduled_params number rollout place id) count w in
-    let at : number ≡ 1 + length zs = omega (arith, change.number_is, length_zip l.records.actions l.tallies change.tallied) in
-    let table : new.now.trees spot.tree ≡ rows_from row 1 (zip (l.records.actions ++ a ∷ []) (l.tallies ++ no_tally ∷ [])) =
-    made.applies.rows ∙ rw (cast_int number, cast_null, cast_int rollout, cast_int place, cast_int 0, holds.rows Actions, change.id_is)
-    (ap (λ m. put_row (row m (a, no_tally)) (rows_from row 1 zs)) at ∙ put_next row (λ n x. refl) 1 zs (a, no_tally))
-    ∙ ap (rows_from row 1) (sym (zip_more l.records.actions l.tallies a no_tally change.tallied)) in
-    subst (HoldsLedger new.now) (sym change.next_is) (ledger_after Actions l (with_numbers after (l.numbers ++ [] ∷ [])) old.now new.now holds
-    (record { schema = made.schema_is; sound = w.sound; others = made.applies.tables }) table
+    let at : number ≡ length (zip l.records.actions l.tallies) + 1 =
+    omega (arith, change.number_is, length_zip l.records.actions l.tallies change.tallied) in
+    subst (HoldsLedger new.now) (sym change.next_is)
+    (puts_next Actions l (with_numbers after (l.numbers ++ [] ∷ []))
     (λ t apart. numbers_differ after (l.numbers ++ [] ∷ []) Actions (λ other. none_listed number_row l.numbers) t apart
     ∙ actions_differ l (l.records.actions ++ a ∷ []) (l.tallies ++ no_tally ∷ []) Actions (λ apart. absurd (apart refl))
-    (λ apart. no_parts entry_row entries_of a refl 1 l.records.actions) t apart) holds.sorted)
+    (λ apart. no_parts entry_row entries_of a refl 1 l.records.actions) t apart) holds.sorted (action_row l.records.rollouts) (λ n x. refl)
+    (zip l.records.actions l.tallies) (a, no_tally) number at action_terms 9 holds w (λ tree. refl)
+    (λ db tree. rw (cast_int number, cast_null, cast_int rollout, cast_int place, cast_int 0, change.id_is) refl) refl
+    (ap (λ zs. Ordered (rows_from (action_row l.records.rollouts) 1 zs)) (zip_more l.records.actions l.tallies a no_tally change.tallied)))
 
 -- ---- an action's cancel, outcome and numbers
 

@@ -16,7 +16,6 @@ mod Parts
 pub mod PieceLists
 mod PartReads
 mod PlacedParts
-pub mod Sets
 pub mod EachPlace
 pub mod Places
 pub mod Readable
@@ -24,7 +23,6 @@ pub mod HoldsAfter
 mod RowLemmas
 pub mod Modules
 pub mod SetRecords
-pub mod Artifacts
 pub mod WholeArtifacts
 pub mod ArtifactRecords
 pub mod TargetRecords

@@ -1,27 +1,15 @@
 -- Written by tools/meanings. What it makes is proved; the tool is not trusted.
 -- What the texts of src/texts.rt mean, wherever their tables stand.
-use Rattle.std.proofs.Common.{refl, List, [], ◌∷◌, ℕ, codes, pos, true}
-use Rattle.sqlite.specs.declared.types.Value.TheVariants.{Null, Int, Text}
-use Rattle.sqlite.specs.Collation.TheVariants.{Binary}
-use Rattle.sqlite.specs.Source.TheVariants.{Values}
-use Rattle.sqlite.specs.Query.{Query}
-use Rattle.sqlite.specs.Term.{Term, lit, col}
-use Rattle.sqlite_tied.specs.Compute.{everything}
-use Rattle.sqlite_resolve.specs.Compile.{first, new_rows}
-use Rattle.sqlite_resolve.specs.Expr.{combine}
-use Rattle.sqlite_resolve.specs.Select.{named, paging}
-use Rattle.sqlite_resolve.specs.Write.{updated}
-use Rattle.sql_calls.proofs.Selects.{simple, by}
+use Rattle.desk_records.proofs.Common.{refl, List, [], ◌∷◌, ℕ, codes, pos, true, Null, Int, Text, Binary, Values, Query, Term, lit, col, simple, by}
 use Rattle.desk_records.specs.declared.texts.TheConstants.{PUT_DESK, SET_VERSION, GET_DESK, FIND_MODULE, LAST_MODULE, GET_MODULE, PUT_MODULE}
 use Rattle.desk_records.specs.Schema.{Desk, Modules}
-use Rattle.desk_records.proofs.MeaningWords.{Asks, Puts, Changes, is_equal, at_key}
+use Rattle.desk_records.proofs.MeaningWords.{compiling, Asks, Puts, Changes, is_equal, at_key}
 
 abbrev pub desk_terms : List Term
 desk_terms = lit (Int (pos 1)) ∷ lit Null ∷ lit (Text (codes "fwdesk")) ∷ lit (Int (pos 3)) ∷ col 0 0 ∷ []
 
 pub put_desk_is : Puts Desk PUT_DESK.now (Values desk_terms 5)
-unfolding first new_rows everything
-put_desk_is = record { adds = λ tree. record { parsed = _; columns = _; rows = _; read = refl; statement = refl; formats = refl; fits = λ s. refl }; plain = λ tree. refl }
+put_desk_is = unfold compiling in record { adds = λ tree. record { parsed = _; columns = _; rows = _; read = refl; statement = refl; formats = refl; fits = λ s. refl }; plain = λ tree. refl }
 
 abbrev pub version_values : List Term
 version_values = lit Null ∷ col 1 2 ∷ lit (Int (pos 3)) ∷ col 1 4 ∷ []
@@ -30,40 +18,34 @@ abbrev pub set_version_query : ℕ → Query
 set_version_query tree = simple tree (is_equal (col 1 0) (lit (Int (pos 1))) ∷ []) (col 1 0 ∷ col 1 0 ∷ version_values)
 
 pub set_version_is : Changes Desk SET_VERSION.now set_version_query
-unfolding first combine updated everything
-set_version_is = record { updates = λ tree. record { parsed = _; sets = _; test = _; draft = _; read = refl; is = (refl, refl); values = (tt, tt); filter = ((refl, λ cx how x y. refl), tt, tt); known = refl; becomes = (refl, refl, refl) } }
+set_version_is = unfold compiling in record { updates = λ tree. record { parsed = _; sets = _; test = _; draft = _; read = refl; is = (refl, refl); values = (tt, tt); filter = ((refl, λ cx how x y. refl), tt, tt); known = refl; becomes = (refl, refl, refl) } }
 
 abbrev pub desk_query : ℕ → Query
 desk_query tree = simple tree (is_equal (col 1 0) (lit (Int (pos 1))) ∷ []) (col 1 2 ∷ col 1 3 ∷ col 1 4 ∷ [])
 
 pub get_desk_is : Asks Desk GET_DESK.now desk_query (codes "format" ∷ codes "version" ∷ codes "approval" ∷ [])
-unfolding first combine named paging everything
-get_desk_is = record { queries = λ tree. record { parsed = _; select = _; source = _; page = _; shown = _; read = refl; is = (refl, refl, refl, refl); core = (refl, refl, refl); from = (refl, refl, refl, refl, refl); shows = (tt, (tt, (tt, tt))); filter = ((refl, λ cx how x y. refl), tt, tt); sorts = tt; paged = λ s. refl; named = (refl, refl); becomes = (refl, (refl, refl, refl)) }; shape = λ tree. refl }
+get_desk_is = unfold compiling in record { queries = λ tree. record { parsed = _; select = _; source = _; page = _; shown = _; read = refl; is = (refl, refl, refl, refl); core = (refl, refl, refl); from = (refl, refl, refl, refl, refl); shows = (tt, (tt, (tt, tt))); filter = ((refl, λ cx how x y. refl), tt, tt); sorts = tt; paged = λ s. refl; named = (refl, refl); becomes = (refl, (refl, refl, refl)) }; shape = λ tree. refl }
 
 abbrev pub same_label : List Term
 same_label = at_key 2 0 ∷ at_key 3 1 ∷ at_key 4 2 ∷ []
 
 pub find_module_is : Asks Modules FIND_MODULE.now (λ tree. simple tree same_label (col 1 0 ∷ [])) (codes "number" ∷ [])
-unfolding first combine named paging everything
-find_module_is = record { queries = λ tree. record { parsed = _; select = _; source = _; page = _; shown = _; read = refl; is = (refl, refl, refl, refl); core = (refl, refl, refl); from = (refl, refl, refl, refl, refl); shows = (tt, tt); filter = ((refl, λ cx how x y. refl), ((refl, λ cx how x y. refl), ((refl, λ cx how x y. refl), tt, tt), ((refl, λ cx how x y. refl), tt, tt)), ((refl, λ cx how x y. refl), tt, tt)); sorts = tt; paged = λ s. refl; named = (refl, refl); becomes = (refl, (refl, refl, refl)) }; shape = λ tree. refl }
+find_module_is = unfold compiling in record { queries = λ tree. record { parsed = _; select = _; source = _; page = _; shown = _; read = refl; is = (refl, refl, refl, refl); core = (refl, refl, refl); from = (refl, refl, refl, refl, refl); shows = (tt, tt); filter = ((refl, λ cx how x y. refl), ((refl, λ cx how x y. refl), ((refl, λ cx how x y. refl), tt, tt), ((refl, λ cx how x y. refl), tt, tt)), ((refl, λ cx how x y. refl), tt, tt)); sorts = tt; paged = λ s. refl; named = (refl, refl); becomes = (refl, (refl, refl, refl)) }; shape = λ tree. refl }
 
 abbrev pub last_module_query : ℕ → Query
 last_module_query tree = by (simple tree [] (col 1 0 ∷ [])) ((col 1 0, record { descending = true; collation = Binary }) ∷ []) (lit (Int (pos 1))) (lit (Int (pos 0)))
 
 pub last_module_is : Asks Modules LAST_MODULE.now last_module_query (codes "number" ∷ [])
-unfolding first combine named paging everything
-last_module_is = record { queries = λ tree. record { parsed = _; select = _; source = _; page = _; shown = _; read = refl; is = (refl, refl, refl, refl); core = (refl, refl, refl); from = (refl, refl, refl, refl, refl); shows = (tt, tt); filter = tt; sorts = (tt, tt); paged = λ s. refl; named = (refl, refl); becomes = (refl, (refl, refl, refl)) }; shape = λ tree. refl }
+last_module_is = unfold compiling in record { queries = λ tree. record { parsed = _; select = _; source = _; page = _; shown = _; read = refl; is = (refl, refl, refl, refl); core = (refl, refl, refl); from = (refl, refl, refl, refl, refl); shows = (tt, tt); filter = tt; sorts = (tt, tt); paged = λ s. refl; named = (refl, refl); becomes = (refl, (refl, refl, refl)) }; shape = λ tree. refl }
 
 abbrev pub label_columns : List Term
 label_columns = col 1 2 ∷ col 1 3 ∷ col 1 4 ∷ []
 
 pub get_module_is : Asks Modules GET_MODULE.now (λ tree. simple tree (at_key 0 0 ∷ []) label_columns) (codes "name" ∷ codes "type" ∷ codes "version" ∷ [])
-unfolding first combine named paging everything
-get_module_is = record { queries = λ tree. record { parsed = _; select = _; source = _; page = _; shown = _; read = refl; is = (refl, refl, refl, refl); core = (refl, refl, refl); from = (refl, refl, refl, refl, refl); shows = (tt, (tt, (tt, tt))); filter = ((refl, λ cx how x y. refl), tt, tt); sorts = tt; paged = λ s. refl; named = (refl, refl); becomes = (refl, (refl, refl, refl)) }; shape = λ tree. refl }
+get_module_is = unfold compiling in record { queries = λ tree. record { parsed = _; select = _; source = _; page = _; shown = _; read = refl; is = (refl, refl, refl, refl); core = (refl, refl, refl); from = (refl, refl, refl, refl, refl); shows = (tt, (tt, (tt, tt))); filter = ((refl, λ cx how x y. refl), tt, tt); sorts = tt; paged = λ s. refl; named = (refl, refl); becomes = (refl, (refl, refl, refl)) }; shape = λ tree. refl }
 
 abbrev pub module_terms : List Term
 module_terms = col 0 0 ∷ lit Null ∷ col 0 1 ∷ col 0 2 ∷ col 0 3 ∷ []
 
 pub put_module_is : Puts Modules PUT_MODULE.now (Values module_terms 5)
-unfolding first new_rows everything
-put_module_is = record { adds = λ tree. record { parsed = _; columns = _; rows = _; read = refl; statement = refl; formats = refl; fits = λ s. refl }; plain = λ tree. refl }
+put_module_is = unfold compiling in record { adds = λ tree. record { parsed = _; columns = _; rows = _; read = refl; statement = refl; formats = refl; fits = λ s. refl }; plain = λ tree. refl }

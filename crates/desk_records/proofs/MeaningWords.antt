@@ -3,13 +3,22 @@ use Rattle.desk_records.proofs.Common.{◌≡◌, refl, List, [], ◌∷◌, ℕ
 use Rattle.desk_records.proofs.Common.{Compare, Eq, Le, Ge, Gt, Query, Stands, Means, simple, by, count_query}
 use Rattle.sqlite.specs.Listing.{understood}
 use Rattle.sqlite_resolve.specs.declared.compiled.Compiled.{Compiled}
-use Rattle.sqlite_resolve.specs.Compile.{compiled}
+use Rattle.sqlite_resolve.specs.Compile.{compiled, first, new_rows}
+use Rattle.sqlite_resolve.specs.Expr.{combine}
+use Rattle.sqlite_resolve.specs.Select.{named, paging}
+use Rattle.sqlite_resolve.specs.Write.{updated, deleted}
+use Rattle.sqlite_tied.specs.Compute.{everything}
 use Rattle.sqlite_resolve.specs.Scope.{Name}
 use Rattle.sqlite.specs.Source.{Source}
 use Rattle.sql_front.proofs.Texts.{Queries, queries_known}
 use Rattle.sql_front.proofs.Write.{Adds, adds_known, unstamped}
 use Rattle.desk_records.specs.Schema.{Place, name_of, table_at}
 use Rattle.sql_front.proofs.Change.{Updates, Removes, updates_known, removes_known}
+
+-- what the compiler of statements computes with
+unfoldable pub compiling : Unit {0}
+unfolding first new_rows combine named paging updated deleted everything
+compiling = tt
 
 pub means_of : (s : Schema) (sql : List ℕ) (c : Compiled) → compiled s sql ≡ Ok c → c.returning ≡ None → c.formats ≡ [] → Means s sql c.command
 unfolding understood

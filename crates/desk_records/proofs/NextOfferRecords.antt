@@ -1,12 +1,11 @@
 -- What is read of the next offer, where a ledger is held.
-use Rattle.desk_records.proofs.Common.{◌≡◌, ◌<◌, ℕ, zero, suc, ◌+◌, pos, List, [], ◌∷◌, map, filter, take, length, slice_get, Bool, true, false, cond, ◌&&◌}
-use Rattle.desk_records.proofs.Common.{◌||◌, Option, Some, None, option_map, refl, ap, ap₂, ◌∙◌, arith, nat_eq, nat_le, list_any, zip, is_none, nat_tests}
-use Rattle.desk_records.proofs.Common.{list_any-append, Null, Int, Text, Row, lit, eval_all, Select, Database, rows_from, ShowsFirst, on_content}
-use Rattle.desk_records.proofs.Common.{item_numbered, Bytes, Outcome, ActionRecord, GroupRecord, RolloutRecord, Tally, action_row, actor_of, outcome_code}
-use Rattle.desk_records.proofs.Common.{HoldsLedger, Ledger, parts_from, parts_of, flag, group_row, groups_from, Actions, Groups, and-true, and_assoc, sym}
+use Rattle.desk_records.proofs.Common.{first_taken, ◌≡◌, ◌<◌, ℕ, zero, suc, ◌+◌, pos, List, [], ◌∷◌, map, filter, length, slice_get, Bool, true, false, ◌&&◌}
+use Rattle.desk_records.proofs.Common.{Option, option_map, refl, ap, ◌∙◌, arith, nat_eq, list_any, zip, is_none, nat_tests, list_any-append, Null}
+use Rattle.desk_records.proofs.Common.{Int, Text, Row, lit, eval_all, Select, Database, rows_from, ShowsFirst, on_content, item_numbered, Bytes, Outcome}
+use Rattle.desk_records.proofs.Common.{ActionRecord, GroupRecord, RolloutRecord, Tally, action_row, outcome_code, HoldsLedger, Ledger, parts_from}
+use Rattle.desk_records.proofs.Common.{parts_of, flag, group_row, groups_from, Actions, Groups, and-true, and_assoc}
 use Rattle.std.proofs.Math.Bool.{or-false}
 use Rattle.sql_calls.proofs.NumberedWithin.{counts_any, held_any, is_beside, passes_within, seen, within_in_order}
-use Rattle.rollout_machine.specs.declared.outcome.Outcome.TheVariants.{Good, Bad, Gone}
 use Rattle.desk_records.specs.NextOffers.{any_starts, is_next, next_offer, next_offer_from, starts_at}
 use Rattle.desk_records.specs.ReadRows.{shown_offer}
 use Rattle.desk_records.proofs.Comparisons.{numbers_equal, numbers_at_least, numbers_at_most, words_equal}
@@ -18,28 +17,17 @@ use Rattle.desk_records.proofs.TargetRecords.{first_row}
 module _ {X Y : Type 0} (f : ℕ → ℕ → Y → Row) (parts : X → List Y) (p : Row → Bool) (number : ℕ) (q : Y → Bool)
     (is : (n place : ℕ) (y : Y) → p (f n place y) ≡ (nat_eq n number && q y)) where
   any_here : (n place : ℕ) (ys : List Y) (b : Bool) → nat_eq n number ≡ b → list_any p (rows_from (f n) place ys) ≡ (b && list_any q ys)
-  any_here n place [] true at = refl
-  any_here n place [] false at = refl
-  any_here n place (y ∷ ys) true at = ap₂ ◌||◌ (is n place y ∙ ap (λ b. b && q y) at) (any_here n (place + 1) ys true at)
-  any_here n place (y ∷ ys) false at = ap₂ ◌||◌ (is n place y ∙ ap (λ b. b && q y) at) (any_here n (place + 1) ys false at)
+  any_here n place [] b at = grind arith
+  any_here n place (y ∷ ys) b at = grind (arith, any_here n (place + 1) ys b, is n place y)
 
   none_past : (n : ℕ) (xs : List X) → number < n → list_any p (parts_from f parts n xs) ≡ false
   none_past n [] h = refl
-  none_past n (x ∷ xs) h =
-      let apart : nat_eq n number ≡ false = grind (arith, nat_tests, h) in
-      list_any-append p (rows_from (f n) 1 (parts x)) (parts_from f parts (n + 1) xs)
-      ∙ ap₂ ◌||◌ (any_here n 1 (parts x) false apart) (none_past (n + 1) xs (omega (arith, h)))
+  none_past n (x ∷ xs) h = grind (arith, nat_tests, list_any-append, any_here n 1 (parts x) false, none_past (n + 1) xs)
 
   any_at : (n k : ℕ) (xs : List X) → n + k ≡ number → list_any p (parts_from f parts n xs) ≡ list_any q (parts_of parts (slice_get xs k))
   any_at n k [] h = refl
-  any_at n zero (x ∷ xs) h =
-      let at : nat_eq n number ≡ true = grind (arith, nat_tests, h) in
-      list_any-append p (rows_from (f n) 1 (parts x)) (parts_from f parts (n + 1) xs)
-      ∙ ap₂ ◌||◌ (any_here n 1 (parts x) true at) (none_past (n + 1) xs (omega (arith, h))) ∙ or-false _
-  any_at n (suc k) (x ∷ xs) h =
-      let apart : nat_eq n number ≡ false = grind (arith, nat_tests, h) in
-      list_any-append p (rows_from (f n) 1 (parts x)) (parts_from f parts (n + 1) xs)
-      ∙ ap₂ ◌||◌ (any_here n 1 (parts x) false apart) (any_at (n + 1) k xs (omega (arith, h)))
+  any_at n zero (x ∷ xs) h = grind (arith, nat_tests, list_any-append, any_here n 1 (parts x) true, none_past (n + 1) xs, or-false)
+  any_at n (suc k) (x ∷ xs) h = grind (arith, nat_tests, list_any-append, any_here n 1 (parts x) false, any_at (n + 1) k xs)
 
 any_numbered : {X Y : Type 0} (f : ℕ → ℕ → Y → Row) (parts : X → List Y) (p : Row → Bool) (number : ℕ) (q : Y → Bool)
     → ((n place : ℕ) (y : Y) → p (f n place y) ≡ (nat_eq n number && q y)) → (xs : List X)
@@ -50,14 +38,10 @@ any_numbered f parts p (suc k) q is xs = any_at f parts p (suc k) q is 1 k xs (o
 -- ---- the query
 
 is_open : (o : Option Outcome) → nat_eq (outcome_code o) 0 ≡ is_none o
-is_open None = refl
-is_open (Some Good) = refl
-is_open (Some Bad) = refl
-is_open (Some Gone) = refl
+is_open o = grind arith
 
 is_started : (b : Bool) → nat_eq (flag b) 1 ≡ b
-is_started true = refl
-is_started false = refl
+is_started b = grind arith
 
 module _ (db : Database) (l : Ledger) (holds : HoldsLedger db l) (names : List (List ℕ)) (id : Bytes) where
   abbrev tree : ℕ
@@ -77,16 +61,7 @@ module _ (db : Database) (l : Ledger) (holds : HoldsLedger db l) (names : List (
 
   beside_it : (n : ℕ) (it : ActionRecord × Tally) (m place : ℕ) (g : GroupRecord) → on_content (is_beside next_group params (row n it)) (group_row m place g)
       ≡ (nat_eq m it.0.rollout && starts_at it.0.position g)
-  beside_it n it m place g =
-      rw (
-        numbers_equal m it.0.rollout,
-        numbers_at_most g.bounds.first it.0.position,
-        numbers_at_least g.bounds.last it.0.position,
-        numbers_equal (flag g.started) 1,
-        is_started g.started,
-        and-true g.started,
-      )
-      (ap (λ b. nat_eq m it.0.rollout && b) (sym (and_assoc (nat_le g.bounds.first it.0.position) (nat_le it.0.position g.bounds.last) g.started)))
+  beside_it n it m place g = grind (arith, numbers_equal, numbers_at_most, numbers_at_least, is_started, and-true, and_assoc)
 
   any_beside : (n : ℕ) (it : ActionRecord × Tally) → list_any (is_beside next_group params (row n it)) (db.trees other) ≡ any_starts rollouts it.0
   any_beside n it =
@@ -102,35 +77,13 @@ module _ (db : Database) (l : Ledger) (holds : HoldsLedger db l) (names : List (
       (db.trees other) r)
 
   passes_is : (n : ℕ) (it : ActionRecord × Tally) → passes (row n it) ≡ is_next rollouts id it.0
-  passes_is n it =
-      rw (
-        words_equal (actor_of rollouts it.0) id,
-        numbers_equal (outcome_code it.0.outcome) 0,
-        is_open it.0.outcome,
-        counts_any next_group params (row n it) (db.trees other),
-        any_beside n it,
-        and-true (any_starts rollouts it.0),
-      ) refl
+  passes_is n it = grind (arith, words_equal, numbers_equal, is_open, counts_any, any_beside, and-true)
 
   first_next : (n : ℕ) (as' : List ActionRecord) (ts : List Tally) → length ts ≡ length as'
       → slice_get (map show (filter passes (rows_from row n (zip as' ts)))) 0 ≡ option_map shown_offer (next_offer_from rollouts id n as')
   first_next n [] ts same = refl
   first_next n (a ∷ as') [] same = absurd (omega (arith, same))
-  first_next n (a ∷ as') (t ∷ ts) same =
-      rw (passes_is n (a, t)) (go (is_next rollouts id a) (first_next (n + 1) as' ts (omega (arith, same))
-      ∙ ap (λ k. option_map shown_offer (next_offer_from rollouts id k as')) (let next : n + 1 ≡ suc n = omega arith in next)))
-    where
-      go : (b : Bool) → slice_get (map show (filter passes (rows_from row (n + 1) (zip as' ts)))) 0
-          ≡ option_map shown_offer (next_offer_from rollouts id (suc n) as')
-          → slice_get (map show (cond b (row n (a, t) ∷ filter passes (rows_from row (n + 1) (zip as' ts)))
-          (filter passes (rows_from row (n + 1) (zip as' ts))))) 0
-          ≡ option_map shown_offer (cond b (Some (record { action = n; canceling = a.canceling })) (next_offer_from rollouts id (suc n) as'))
-      go true rest = refl
-      go false rest = rest
-
-  first_of : (rows : List Row) → slice_get (take 1 rows) 0 ≡ slice_get rows 0
-  first_of [] = refl
-  first_of (r ∷ rows) = refl
+  first_next n (a ∷ as') (t ∷ ts) same = grind (arith, passes_is n (a, t), first_next (n + 1) as' ts)
 
   -- what a target is offered next
   pub gets_next_offer : length l.tallies ≡ length l.records.actions → (found : Option Row)
@@ -140,4 +93,5 @@ module _ (db : Database) (l : Ledger) (holds : HoldsLedger db l) (names : List (
       first_row (Select (record { lets = []; body = next_offer_query tree other }) names) db params _ (λ rows shows. ap (λ (r : List Row). slice_get r 0)
       (within_in_order row (λ n x. refl) tree other next_group next_action next_columns (lit (Int (pos 1))) (lit (Int (pos 0))) params db.trees
       (zip l.records.actions l.tallies) (holds.rows Actions) rows (shows.answer Null))
-      ∙ first_of (map show (filter passes (rows_from row 1 (zip l.records.actions l.tallies)))) ∙ first_next 1 l.records.actions l.tallies tallied) found shown
+      ∙ first_taken (map show (filter passes (rows_from row 1 (zip l.records.actions l.tallies)))) ∙ first_next 1 l.records.actions l.tallies tallied) found
+      shown

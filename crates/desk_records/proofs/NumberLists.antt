@@ -1,17 +1,13 @@
 -- The numbers of a history, one more, and the last of them.
-use Rattle.desk_records.proofs.Common.{◌≡◌, ◌++◌, ℕ, suc, ◌+◌, List, [], ◌∷◌, length, slice_get, Option, Some, None, refl, sym, ap, subst, ◌∙◌, arith}
+use Rattle.desk_records.proofs.Common.{◌≡◌, ◌++◌, ℕ, suc, ◌+◌, List, [], ◌∷◌, length, slice_get, Option, Some, None, refl, sym, subst, ◌∙◌, arith}
 use Rattle.desk_records.proofs.Common.{append_assoc, append-nil, last_or, option_or, Reported, bearing, borne_at, numbers_from, PlacedNumber}
 use Rattle.desk_records.proofs.NumberRecords.{last_joined}
 
 -- one more entry
 pub numbers_more : (sequence : ℕ) (history : List Reported) (r : Reported) → numbers_from sequence (history ++ r ∷ [])
     ≡ numbers_from sequence history ++ borne_at (sequence + length history) r.number
-numbers_more sequence [] r = let at : sequence ≡ sequence + 0 = omega arith in append-nil (borne_at sequence r.number) ∙ ap (λ n. borne_at n r.number) at
-numbers_more sequence (x ∷ history) r =
-    let at : (sequence + 1) + length history ≡ sequence + suc (length history) = omega arith in
-    let rest = numbers_from (sequence + 1) history in
-    ap (λ l. borne_at sequence x.number ++ l) (numbers_more (sequence + 1) history r ∙ ap (λ n. rest ++ borne_at n r.number) at)
-    ∙ sym (append_assoc (borne_at sequence x.number) rest (borne_at (sequence + suc (length history)) r.number))
+numbers_more sequence [] r = grind (arith, append-nil (borne_at sequence r.number))
+numbers_more sequence (x ∷ history) r = grind (arith, numbers_more (sequence + 1) history r, append_assoc)
 
 -- ---- the last that bears one
 

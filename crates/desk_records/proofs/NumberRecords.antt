@@ -1,6 +1,6 @@
 -- What is read of the numbers of an action, where a ledger is held.
-use Rattle.desk_records.proofs.Common.{◌≡◌, ◌≤◌, ℕ, suc, ◌+◌, pos, negsuc, true, false, List, [], ◌∷◌, ◌++◌, map, take, length, reverse, slice_get, Option}
-use Rattle.desk_records.proofs.Common.{Some, None, option_map, refl, sym, ap, ◌∙◌, arith, last_or, option_or, reverse_onto, Null, Int, Row, Select, Database}
+use Rattle.desk_records.proofs.Common.{◌≡◌, ◌≤◌, ℕ, ◌+◌, pos, negsuc, true, false, List, [], ◌∷◌, ◌++◌, map, take, length, reverse, slice_get, Option}
+use Rattle.desk_records.proofs.Common.{Some, None, option_map, refl, ap, ◌∙◌, arith, last_or, option_or, reverse_onto, Null, Int, Row, Select, Database}
 use Rattle.desk_records.proofs.Common.{lit, first_taken, rows_from, ShowsFirst, numbers_numbered, told_number, HoldsLedger, Ledger, Numbers, PlacedNumber}
 use Rattle.sqlite.specs.Effect.{Reads as Shows}
 use Rattle.desk_records.specs.FeedbackNumbers.{last_number}
@@ -11,13 +11,9 @@ use Rattle.desk_records.proofs.TargetRecords.{first_row}
 
 -- ---- the last of a list
 
-after_all : {X : Type 0} (l o : Option X) (x : X) → option_or l (Some x) ≡ option_or (option_or l (Some x)) o
-after_all None o x = refl
-after_all (Some y) o x = refl
-
 pub last_joined : {X : Type 0} (o : Option X) (xs : List X) → last_or o xs ≡ option_or (last_or None xs) o
 last_joined o [] = refl
-last_joined o (x ∷ xs) = last_joined (Some x) xs ∙ after_all (last_or None xs) o x ∙ ap (λ l. option_or l o) (sym (last_joined (Some x) xs))
+last_joined o (x ∷ xs) = grind (arith, last_joined (Some x) xs)
 
 first_or_last : {X : Type 0} (xs : List X) (x : X) → slice_get (xs ++ x ∷ []) 0 ≡ option_or (slice_get xs 0) (Some x)
 first_or_last [] x = refl
@@ -25,14 +21,12 @@ first_or_last (y ∷ xs) x = refl
 
 pub first_turned : {X : Type 0} (xs : List X) → slice_get (reverse xs) 0 ≡ last_or None xs
 first_turned [] = refl
-first_turned (x ∷ xs) = ap (λ l. slice_get l 0) (reverse_onto xs x []) ∙ first_or_last (reverse xs) x ∙ ap (λ o. option_or o (Some x)) (first_turned xs)
-    ∙ sym (last_joined (Some x) xs)
+first_turned (x ∷ xs) = grind (arith, first_turned xs, reverse_onto, first_or_last, reverse, last_joined)
 
 last_row : {Y : Type 0} (f : ℕ → Y → Row) (n : ℕ) (y : Y) (ys : List Y) → last_or (Some (f n y)) (rows_from f (n + 1) ys)
     ≡ option_map (f (n + length ys)) (last_or (Some y) ys)
-last_row f n y [] = let at : n ≡ n + 0 = omega arith in ap (λ m. Some (f m y)) at
-last_row f n y (z ∷ ys) = let at : (n + 1) + length ys ≡ n + suc (length ys) = omega arith in last_row f (n + 1) z ys
-    ∙ ap (λ m. option_map (f m) (last_or (Some z) ys)) at
+last_row f n y [] = grind arith
+last_row f n y (z ∷ ys) = grind (arith, last_row f (n + 1) z ys)
 
 -- ---- what is shown
 
@@ -42,14 +36,9 @@ told_at place it = shown_last_number (record { place = place; it = it })
 last_told : (its : List PlacedNumber) → slice_get (take 1 (reverse (rows_from told_at 1 its))) 0 ≡ option_map shown_last_number (last_number its)
 last_told its = first_taken _ ∙ first_turned (rows_from told_at 1 its) ∙ go its
   where
-    told : (n : ℕ) (o : Option PlacedNumber) → option_map (told_at n) o ≡ option_map shown_last_number (option_map (λ it. record { place = n; it = it }) o)
-    told n None = refl
-    told n (Some it) = refl
-
     go : (l : List PlacedNumber) → last_or None (rows_from told_at 1 l) ≡ option_map shown_last_number (last_number l)
     go [] = refl
-    go (it ∷ more) = let at : 1 + length more ≡ suc (length more) = omega arith in last_row told_at 1 it more
-        ∙ ap (λ n. option_map (told_at n) (last_or (Some it) more)) at ∙ told (suc (length more)) (last_or (Some it) more)
+    go (it ∷ more) = grind (arith, last_row told_at 1 it more)
 
 module _ (db : Database) (l : Ledger) (holds : HoldsLedger db l) (names : List (List ℕ)) where
   abbrev tree : ℕ

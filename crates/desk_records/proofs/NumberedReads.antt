@@ -1,10 +1,10 @@
 -- What the usual reads of a table show whose k-th row has number k: one that passes a test, the last number, one by its number.
-use Rattle.desk_records.proofs.Common.{◌≡◌, ◌≤◌, ◌==◌, ◌||◌, ◌&&◌, ℕ, zero, suc, ◌+◌, pos, List, [], ◌∷◌, map, filter, take, drop, length, slice_get, Bool}
+use Rattle.desk_records.proofs.Common.{◌≡◌, ◌≤◌, ◌==◌, ◌||◌, ℕ, zero, suc, ◌+◌, pos, List, [], ◌∷◌, map, filter, take, drop, length, slice_get, Bool}
 use Rattle.desk_records.proofs.Common.{true, not, Option, Some, None, option_map, refl, sym, ap, ap₂, subst, ◌∙◌, arith, IsPermutation, list_any, is_some}
-use Rattle.desk_records.proofs.Common.{option_to_list, nat_tests, length-map, take-map, drop-map, length_permutation, Null, Int, Row, column, value_cmp, rowid}
+use Rattle.desk_records.proofs.Common.{option_to_list, nat_tests, length-map, take-map, drop-map, length_permutation, Null, Int, Row, column, rowid}
 use Rattle.desk_records.proofs.Common.{Term, col, Trees, IsAnswer, overlay, Command, Select, Database, one_permutation, all_of, filter_all, none_counted}
 use Rattle.desk_records.proofs.Common.{rows_from, ShowsFirst, simple, passes, shown_of, simple_rows, number_query, numbered_in_order, has_number}
-use Rattle.desk_records.proofs.Common.{filter_numbered, at_number, row_of, last_query, last_number, last_of, item_numbered, is_eq, Binary, Compare, Eq}
+use Rattle.desk_records.proofs.Common.{filter_numbered, at_number, row_of, last_query, last_number, last_of, item_numbered, is_eq, Binary}
 use Rattle.desk_records.proofs.Common.{is_true, IsLastRow, and-true, not-not, ◌<◌, Less, Ordering, Query, Output, reverse, by, shown_in, ordered_rows, page}
 use Rattle.desk_records.proofs.Common.{output_cmp, output_cmp_total, sorted_unique, map-map}
 use Rattle.sqlite.specs.Effect.{Reads as Shows}
@@ -28,8 +28,7 @@ some_row row tail = grind (arith, nat_tests)
 
 module _ {X : Type 0} (g : Row → Row) (f : X → Row) where
   none_found : (found : Option X) → IsPermutation (map g (option_to_list (option_map f found))) [] → None ≡ option_map (λ x. g (f x)) found
-  none_found None alike = refl
-  none_found (Some x) alike = absurd (omega (arith, length_permutation _ _ alike))
+  none_found found alike = grind (arith, length_permutation _ _ alike)
 
   one_found : (found : Option X) (row : Row) (tail : List Row) → IsPermutation (map g (option_to_list (option_map f found))) (row ∷ tail) → Some row
       ≡ option_map (λ x. g (f x)) found
@@ -39,8 +38,7 @@ module _ {X : Type 0} (g : Row → Row) (f : X → Row) where
   pub first_found : (command : Command) (db : Database) (params : Row) (found : Option X)
       → ((rows : List Row) → Shows command db params rows → IsPermutation (map g (option_to_list (option_map f found))) rows)
       → (row : Option Row) → ShowsFirst command db params row → row ≡ option_map (λ x. g (f x)) found
-  first_found command db params found alike None shown = none_found found (alike [] shown)
-  first_found command db params found alike (Some row) shown = one_found found row shown.0 (alike (row ∷ shown.0) shown.1)
+  first_found command db params found alike row shown = grind (arith, none_found, one_found)
 
 -- ---- tables whose k-th row has number k
 
@@ -73,15 +71,10 @@ module _ {X : Type 0} (f : ℕ → X → Row) where
       last_rows rows shown = last_number f ids tree [] db.trees xs has rows (shown.answer Null)
 
       no_last : (n : ℕ) → [] ≡ last_of f ids tree n → n ≡ 0
-      no_last zero h = refl
-      no_last (suc k) h = absurd cc
+      no_last n h = grind arith
 
       some_last : (n : ℕ) (row : Row) (tail : List Row) → row ∷ tail ≡ last_of f ids tree n → column row 0 ≡ Int (pos n)
-      some_last zero row tail h = absurd cc
-      some_last (suc k) row tail h =
-          let is : row ≡ Int (pos (1 + k)) ∷ [] = cc in
-          let next : 1 + k ≡ suc k = omega arith in
-          ap (λ r. column r 0) is ∙ ap (λ n. Int (pos n)) next
+      some_last n row tail h = grind (arith, column)
 
       pub lasts : (row : Option Row) → ShowsFirst (Select (record { lets = []; body = last_query f ids tree }) names) db [] row → IsLastRow (length xs) row
       lasts None shown = no_last (length xs) (last_rows [] shown)
@@ -144,9 +137,7 @@ module _ {X : Type 0} (f : ℕ → X → Row) (ids : (n : ℕ) (x : X) → rowid
 pub passes_number : {X : Type 0} (f : ℕ → X → Row) (ids : (n : ℕ) (x : X) → rowid (f n x) ≡ Int (pos n)) (number n : ℕ) (x : X)
     → passes (at_key 0 0 ∷ []) (Int (pos number) ∷ []) (f n x) ≡ has_number f ids number (f n x)
 unfolding binary
-passes_number f ids number n x =
-    ap (λ v. is_true (binary (Compare Eq Binary) v (Int (pos number))) && true) (ids n x) ∙ and-true _ ∙ judged _
-    ∙ sym (ap (λ v. is_eq (value_cmp v (Int (pos number)))) (ids n x))
+passes_number f ids number n x = grind (arith, is_true, binary, and-true, judged, is_eq)
 
 -- the rows of a page, in the order of their numbers
 pub pages : {X : Type 0} (f : ℕ → X → Row) (ids : (n : ℕ) (x : X) → rowid (f n x) ≡ Int (pos n)) (told : X → Row) (shows : List Term) (limit offset : ℕ)

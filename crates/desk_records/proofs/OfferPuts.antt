@@ -28,22 +28,11 @@ map_none f (r ∷ rows) e = cc
 
 map_one : (f : Row → Row) (rows : List Row) (x : Row) → map f rows ≡ x ∷ [] → (r : Row) × (rows ≡ r ∷ []) × (f r ≡ x)
 map_one f [] x e = absurd cc
-map_one f (r ∷ rows) x e =
-    let rest : map f rows ≡ [] = ap (drop 1) e in
-    let first : f r ≡ x = cc in
-    (r, ap (λ l. r ∷ l) (map_none f rows rest), first)
+map_one f (r ∷ rows) x e = (r, grind (arith, map_none f rows), cc)
 
 filter_both : (a b : Row → Bool) (rows : List Row) → filter (λ r. a r && (b r && true)) rows ≡ filter a (filter b rows)
 filter_both a b [] = refl
-filter_both a b (r ∷ rows) = go (a r) (b r) refl (filter_both a b rows)
-  where
-    go : (x y : Bool) → a r ≡ x → filter (λ s. a s && (b s && true)) rows ≡ filter a (filter b rows)
-        → cond (x && (y && true)) (r ∷ filter (λ s. a s && (b s && true)) rows) (filter (λ s. a s && (b s && true)) rows)
-        ≡ filter a (cond y (r ∷ filter b rows) (filter b rows))
-    go true true e ih = rw e (ap (λ l. r ∷ l) ih)
-    go true false e ih = ih
-    go false true e ih = rw e ih
-    go false false e ih = ih
+filter_both a b (r ∷ rows) = grind (arith, filter_both a b rows)
 
 -- ---- the rows of an id
 
@@ -89,22 +78,12 @@ module _ (id : Bytes) where
 -- it goes in
 put_is : (new : TargetOffer) (offers : OffersById) (o : Option Offer) → offers new.target ≡ o → lesser o (Some new.offer) ≡ Some new.offer → (t : Bytes)
     → cond (same_bytes new.target t) (Some new.offer) (offers t) ≡ put_offer offers new t
-put_is new offers o there less t = go (same_bytes new.target t) refl
-  where
-    go : (b : Bool) → same_bytes new.target t ≡ b → cond b (Some new.offer) (offers t) ≡ cond b (lesser (offers t) (Some new.offer)) (offers t)
-    go false e = refl
-    go true e = sym (ap (λ x. lesser x (Some new.offer)) (ap offers (sym (same_true new.target t e)) ∙ there) ∙ less)
+put_is new offers o there less t = grind (arith, same_true new.target t)
 
 -- it doesn't
 kept_is : (new : TargetOffer) (offers : OffersById) (y : Offer) → offers new.target ≡ Some y → nat_lt new.offer.action y.action ≡ false → (t : Bytes)
     → put_offer offers new t ≡ offers t
-kept_is new offers y there greater t = go (same_bytes new.target t) refl
-  where
-    go : (b : Bool) → same_bytes new.target t ≡ b → cond b (lesser (offers t) (Some new.offer)) (offers t) ≡ offers t
-    go false e = refl
-    go true e =
-        let its : offers t ≡ Some y = ap offers (sym (same_true new.target t e)) ∙ there in
-        ap (λ o. lesser o (Some new.offer)) its ∙ ap (λ b. Some (cond b new.offer y)) greater ∙ sym its
+kept_is new offers y there greater t = grind (arith, same_true new.target t)
 
 -- ---- one row
 
@@ -251,4 +230,8 @@ pub puts_all : (schema : Schema) (tree : ℕ) → IsKeyOnly schema (offer_table 
     → HoldsOffers (next tree) (put_offers offers os)
 puts_all schema tree key a b c [] offers db next h each = subst (λ (d : Trees). HoldsOffers (d tree) offers) (sym each) h
 puts_all schema tree key a b c (o ∷ os) offers db next h each =
-    puts_all schema tree key a b c os (put_offer offers o) each.0 next (puts_one schema tree key a b c o offers db h each.0 each.1) each.2
+    grind (
+      arith,
+      puts_all schema tree key a b c os (put_offer offers o) each.0 next (puts_one schema tree key a b c o offers db h each.0 each.1) each.2,
+      puts_one,
+    )

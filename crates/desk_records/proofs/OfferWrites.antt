@@ -1,9 +1,8 @@
 -- The statements on offers that write, in ledgers.
-use Rattle.desk_records.proofs.Common.{◌≡◌, ℕ, pos, List, [], ◌∷◌, Bool, true, false, not, cond, map, filter, Option, Some, None, refl, sym, ap, ap₂, subst}
-use Rattle.desk_records.proofs.Common.{◌∙◌, Null, Int, Text, Row, Update, Delete, Database, State, Writes, cast_all, IsHeldBy, on_content, changed}
-use Rattle.desk_records.proofs.Common.{changes_key, drops, keys_apart, cast_int, passes, shown_of, deletes, updates, same_bytes, Bytes, TargetOffer, offer_to}
-use Rattle.desk_records.proofs.Common.{same_sym, same_true, Offer, HoldsLedger, Ledger, SetsOffer, with_offer, HoldsOffers, is_to, offer_row, flag, Offers}
-use Rattle.desk_records.proofs.Common.{offer_table}
+use Rattle.desk_records.proofs.Common.{arith, ◌≡◌, ℕ, pos, List, [], ◌∷◌, Bool, not, cond, map, filter, Option, Some, None, refl, sym, ap, subst, ◌∙◌, Null}
+use Rattle.desk_records.proofs.Common.{Int, Text, Row, Update, Delete, Database, State, Writes, cast_all, IsHeldBy, on_content, changed, changes_key, drops}
+use Rattle.desk_records.proofs.Common.{keys_apart, cast_int, passes, shown_of, deletes, updates, same_bytes, Bytes, TargetOffer, offer_to, same_sym, same_true}
+use Rattle.desk_records.proofs.Common.{Offer, HoldsLedger, Ledger, SetsOffer, with_offer, HoldsOffers, is_to, offer_row, flag, Offers, offer_table}
 use Rattle.desk_records.proofs.ActionMeaning.{drop_offer_query, of_controller, offer_values, set_offer_query}
 use Rattle.desk_records.proofs.ActionRecords.{names_offer, offer_keyed}
 use Rattle.desk_records.proofs.HoldsAfter.{Leaves, contents_differ, ledger_after}
@@ -15,14 +14,7 @@ new_offer id o = record { target = id; offer = o }
 
 pub its_more : (id t : Bytes) (o : Offer) (offers : Bytes → Option Offer) (listed : List TargetOffer) → offers id ≡ None → filter (is_to t) listed
     ≡ offer_to t (offers t) → filter (is_to t) (new_offer id o ∷ listed) ≡ offer_to t (cond (same_bytes id t) (Some o) (offers t))
-its_more id t o offers listed none its = go (same_bytes id t) refl
-  where
-    go : (b : Bool) → same_bytes id t ≡ b → cond b (new_offer id o ∷ filter (is_to t) listed) (filter (is_to t) listed)
-        ≡ offer_to t (cond b (Some o) (offers t))
-    go true e =
-        let is : id ≡ t = same_true id t e in
-        ap₂ (λ i l. new_offer i o ∷ l) is (its ∙ ap (λ i. offer_to t (offers i)) (sym is) ∙ ap (offer_to t) none)
-    go false e = its
+its_more id t o offers listed none its = grind (arith, same_true id t)
 
 abbrev pub other_offer : Bytes → Offer → TargetOffer → TargetOffer
 other_offer id o it = cond (is_to id it) (record it { offer = o }) it
@@ -30,81 +22,31 @@ other_offer id o it = cond (is_to id it) (record it { offer = o }) it
 pub its_set : (id t : Bytes) (o : Offer) (listed : List TargetOffer) → filter (is_to t) (map (other_offer id o) listed)
     ≡ map (other_offer id o) (filter (is_to t) listed)
 its_set id t o [] = refl
-its_set id t o (it ∷ listed) = rw (target (same_bytes it.target id)) (go (same_bytes it.target t) (its_set id t o listed))
-  where
-    target : (b : Bool) → (cond b (record it { offer = o }) it).target ≡ it.target
-    target true = refl
-    target false = refl
-
-    go : (b : Bool) → filter (is_to t) (map (other_offer id o) listed) ≡ map (other_offer id o) (filter (is_to t) listed)
-        → cond b (other_offer id o it ∷ filter (is_to t) (map (other_offer id o) listed)) (filter (is_to t) (map (other_offer id o) listed))
-        ≡ map (other_offer id o) (cond b (it ∷ filter (is_to t) listed) (filter (is_to t) listed))
-    go true rest = ap (λ l. other_offer id o it ∷ l) rest
-    go false rest = rest
+its_set id t o (it ∷ listed) = grind (arith, its_set id t o listed)
 
 pub offers_set : (id t : Bytes) (o was : Offer) (offers : Bytes → Option Offer) → offers id ≡ Some was → map (other_offer id o) (offer_to t (offers t))
     ≡ offer_to t (cond (same_bytes id t) (Some o) (offers t))
-offers_set id t o was offers there = go (same_bytes id t) refl
-  where
-    each : (b : Bool) → same_bytes t id ≡ b → (found : Option Offer) → map (other_offer id o) (offer_to t found)
-        ≡ cond b (map (λ (it : TargetOffer). record it { offer = o }) (offer_to t found)) (offer_to t found)
-    each true e None = refl
-    each false e None = refl
-    each true e (Some w) = rw e refl
-    each false e (Some w) = rw e refl
-
-    go : (b : Bool) → same_bytes id t ≡ b → map (other_offer id o) (offer_to t (offers t)) ≡ offer_to t (cond b (Some o) (offers t))
-    go true e =
-        let is : id ≡ t = same_true id t e in
-        each true (same_sym t id ∙ e) (offers t) ∙ ap (λ i. map (λ (it : TargetOffer). record it { offer = o }) (offer_to t (offers i))) (sym is)
-        ∙ ap (λ found. map (λ (it : TargetOffer). record it { offer = o }) (offer_to t found)) there
-    go false e = each false (same_sym t id ∙ e) (offers t)
+offers_set id t o was offers there = grind (arith, same_true id t, same_sym t id)
 
 abbrev not_to : Bytes → TargetOffer → Bool
 not_to id it = not (is_to id it)
 
 its_left : (id t : Bytes) (listed : List TargetOffer) → filter (is_to t) (filter (not_to id) listed) ≡ cond (same_bytes id t) [] (filter (is_to t) listed)
-its_left id t listed = go (same_bytes id t) refl listed
-  where
-    one : (b : Bool) → same_bytes id t ≡ b → (o : TargetOffer) (rest left : List TargetOffer) → filter (is_to t) left ≡ cond b [] (filter (is_to t) rest)
-        → (s : Bool) → same_bytes o.target id ≡ s
-        → filter (is_to t) (cond (not s) (o ∷ left) left) ≡ cond b [] (filter (is_to t) (o ∷ rest))
-    one true e o rest left ih true d = ih
-    one false e o rest left ih true d =
-        let apart : same_bytes o.target t ≡ false = ap (λ (i : Bytes). same_bytes i t) (same_true o.target id d) ∙ e in ih
-        ∙ sym (ap (λ b. cond b (o ∷ filter (is_to t) rest) (filter (is_to t) rest)) apart)
-    one true e o rest left ih false d =
-        let apart : same_bytes o.target t ≡ false = ap (same_bytes o.target) (sym (same_true id t e)) ∙ d in
-        ap (λ b. cond b (o ∷ filter (is_to t) left) (filter (is_to t) left)) apart ∙ ih
-    one false e o rest left ih false d = ap (λ l. cond (same_bytes o.target t) (o ∷ l) l) ih
-
-    go : (b : Bool) → same_bytes id t ≡ b → (xs : List TargetOffer) → filter (is_to t) (filter (not_to id) xs) ≡ cond b [] (filter (is_to t) xs)
-    go true e [] = refl
-    go false e [] = refl
-    go b e (o ∷ xs) = one b e o xs (filter (not_to id) xs) (go b e xs) (same_bytes o.target id) refl
+its_left id t [] = grind arith
+its_left id t (o ∷ xs) = grind (arith, its_left id t xs, same_true id t, same_true o.target id, same_sym id t)
 
 -- ---- their rows
 
 rows_left : (id : Bytes) (p : Row → Bool) → ((o : TargetOffer) → p (offer_row o) ≡ is_to id o) → (listed : List TargetOffer)
     → filter (λ x. not (p x)) (map offer_row listed) ≡ map offer_row (filter (not_to id) listed)
 rows_left id p is [] = refl
-rows_left id p is (o ∷ listed) = rw (is o) (go (same_bytes o.target id) (rows_left id p is listed))
-  where
-    go : (b : Bool) → filter (λ x. not (p x)) (map offer_row listed) ≡ map offer_row (filter (not_to id) listed)
-        → cond (not b) (offer_row o ∷ filter (λ x. not (p x)) (map offer_row listed)) (filter (λ x. not (p x)) (map offer_row listed))
-        ≡ map offer_row (cond (not b) (o ∷ filter (not_to id) listed) (filter (not_to id) listed))
-    go true ih = ih
-    go false ih = ap (λ l. offer_row o ∷ l) ih
+rows_left id p is (o ∷ listed) = grind (arith, rows_left id p is listed, is o)
 
 pub rows_set : (id : Bytes) (o : Offer) (p : Row → Bool) (g : Row → Row) → ((it : TargetOffer) → p (offer_row it) ≡ is_to id it)
     → ((it : TargetOffer) → g (offer_row it) ≡ offer_row (record it { offer = o })) → (listed : List TargetOffer)
     → changed p g (map offer_row listed) ≡ map offer_row (map (other_offer id o) listed)
 rows_set id o p g is becomes [] = refl
-rows_set id o p g is becomes (it ∷ listed) = ap₂ ◌∷◌ (rw (is it) (go (same_bytes it.target id))) (rows_set id o p g is becomes listed)
-  where
-    go : (b : Bool) → cond b (g (offer_row it)) (offer_row it) ≡ offer_row (cond b (record it { offer = o }) it)
-    go true = becomes it
-    go false = refl
+rows_set id o p g is becomes (it ∷ listed) = grind (arith, rows_set id o p g is becomes listed, is it, becomes it)
 
 -- ---- the statements
 
@@ -158,10 +100,5 @@ drops_offer id old new text count l holds w =
       listed = filter (not_to id) had.listed;
       held = subst (IsHeldBy (new.now.trees spot.tree)) (rows_left id (λ x. passes of_controller (Text id ∷ []) (Null ∷ x)) (names_offer id []) had.listed)
           left;
-      its = λ t. its_left id t had.listed ∙ ends t (same_bytes id t) (had.its t);
+      its = λ t. grind (arith, its_left id t had.listed, had.its t);
     })
-  where
-    ends : (t : Bytes) (b : Bool) → filter (is_to t) (holds.rows Offers).listed ≡ offer_to t (l.offers t)
-        → cond b [] (filter (is_to t) (holds.rows Offers).listed) ≡ offer_to t (cond b None (l.offers t))
-    ends t true e = refl
-    ends t false e = e

@@ -1,5 +1,5 @@
 -- What is read of the parts of one numbered record, in the order of their places.
-use Rattle.desk_records.proofs.Common.{◌≡◌, ◌<◌, ◌≤◌, ℕ, zero, suc, ◌+◌, ◌-◌, pos, List, [], ◌∷◌, ◌++◌, map, filter, drop, slice_get, Bool, true, false, cond}
+use Rattle.desk_records.proofs.Common.{◌≡◌, ◌<◌, ◌≤◌, ℕ, zero, suc, ◌+◌, ◌-◌, pos, List, [], ◌∷◌, map, filter, drop, slice_get, Bool, true, false, cond}
 use Rattle.desk_records.proofs.Common.{reverse, refl, sym, ap, subst, ◌∙◌, arith, Less, IsPermutation, nat_eq, nat_lt, AllByRecursion, ints, nat_tests}
 use Rattle.desk_records.proofs.Common.{reverse_onto, map-append, IsPermutation-reverse, IsPermutation-sym, IsPermutation-trans, Int, Row, value_cmp}
 use Rattle.desk_records.proofs.Common.{value_cmp-Int, IsAscending, Binary, Term, col, Trees, Query, Output, output_cmp, page, IsAnswer, overlay}
@@ -19,12 +19,10 @@ turned falling xs = cond falling (reverse xs) xs
 
 pub map_reverse : {A B : Type 0} (f : A → B) (xs : List A) → map f (reverse xs) ≡ reverse (map f xs)
 map_reverse f [] = refl
-map_reverse f (x ∷ xs) = ap (map f) (reverse_onto xs x []) ∙ map-append f (reverse xs) (x ∷ []) ∙ ap (λ l. l ++ f x ∷ []) (map_reverse f xs)
-    ∙ sym (reverse_onto (map f xs) (f x) [])
+map_reverse f (x ∷ xs) = grind (arith, map_reverse f xs, reverse_onto, map-append, reverse)
 
 map_turned : {A B : Type 0} (f : A → B) (falling : Bool) (xs : List A) → map f (turned falling xs) ≡ turned falling (map f xs)
-map_turned f false xs = refl
-map_turned f true xs = map_reverse f xs
+map_turned f falling xs = grind (arith, map_reverse)
 
 pub turned_same : {A : Type 0} (falling : Bool) (xs ys : List A) → IsPermutation xs ys → IsPermutation (turned falling xs) ys
 turned_same false xs ys same = same
@@ -67,18 +65,12 @@ module _ {X Y : Type 0} (rest : Y → Row) (parts : X → List Y) (tree : ℕ) (
         → AllByRecursion (ahead falling (shown falling (row low y))) (map (shown falling) (filter passing (rows_from row high ys)))
     all_earlier falling low high y [] h = tt
     all_earlier falling low high y (z ∷ ys) h =
-        let later = all_earlier falling low (high + 1) y ys (omega (arith, h)) in
-        elim (passing (row high z)) as (λ b. AllByRecursion (ahead falling (shown falling (row low y)))
-        (map (shown falling) (cond b (row high z ∷ filter passing (rows_from row (high + 1) ys)) (filter passing (rows_from row (high + 1) ys)))))
-        [ true ↦ (earlier falling low high y z h, later) | false ↦ later ]
+        grind (arith, earlier falling low high y z h, all_earlier falling low (high + 1) y ys (omega (arith, h)))
 
     in_order : (falling : Bool) (place : ℕ) (ys : List Y) → IsAscending (ahead falling) (map (shown falling) (filter passing (rows_from row place ys)))
     in_order falling place [] = tt
     in_order falling place (y ∷ ys) =
-        let later = in_order falling (place + 1) ys in
-        elim (passing (row place y)) as (λ b. IsAscending (ahead falling)
-        (map (shown falling) (cond b (row place y ∷ filter passing (rows_from row (place + 1) ys)) (filter passing (rows_from row (place + 1) ys)))))
-        [ true ↦ (all_earlier falling place (place + 1) y ys (omega arith), later) | false ↦ later ]
+        grind (arith, all_earlier falling place (place + 1) y ys (omega arith), in_order falling (place + 1) ys)
 
   -- of a test that only the parts of the record of this number pass
   pub reads_parts : (falling : Bool) (number : ℕ) → 1 ≤ number → IsBlind (passes test params) → IsBlind (shown_in (place_query falling) params)
@@ -110,8 +102,7 @@ pub all_placed : {Y : Type 0} (rest : Y → Row) (told : ℕ → Y → Row) (num
     → ((place : ℕ) (y : Y) → on_content (shown_of shows params) (part_row rest number place y) ≡ told place y) → (place : ℕ) (ys : List Y)
     → map (on_content (shown_of shows params)) (filter (on_content (passes test params)) (rows_from (part_row rest number) place ys)) ≡ rows_from told place ys
 all_placed rest told number test shows params all is place [] = refl
-all_placed rest told number test shows params all is place (y ∷ ys) =
-    rw (all place y, is place y) (ap (λ more. told place y ∷ more) (all_placed rest told number test shows params all is (place + 1) ys))
+all_placed rest told number test shows params all is place (y ∷ ys) = grind (arith, all_placed rest told number test shows params all is (place + 1) ys)
 
 -- .. where what is shown doesn't tell the place
 pub unplaced : {Y : Type 0} (told : Y → Row) (place : ℕ) (ys : List Y) → rows_from (λ n. told) place ys ≡ map told ys
@@ -133,12 +124,9 @@ pub later_shown : {Y : Type 0} (rest told : Y → Row) (number : ℕ) (test show
     ≡ map told (drop left ys)
 later_shown rest told number test shows params offset past is before left so_many [] = sym (ap (map told) (drop-nil left))
 later_shown rest told number test shows params offset past is before zero none (y ∷ ys) =
-    let kept : nat_lt offset (before + 1) ≡ true = grind (arith, nat_tests, none) in
-    rw (past (before + 1) y, kept, is (before + 1) y)
-    (ap (λ more. told y ∷ more) (later_shown rest told number test shows params offset past is (before + 1) zero (omega (arith, none)) ys))
+    grind (arith, later_shown rest told number test shows params offset past is (before + 1) zero (omega (arith, none)) ys, nat_tests)
 later_shown rest told number test shows params offset past is before (suc left) so_many (y ∷ ys) =
-    let skipped : nat_lt offset (before + 1) ≡ false = grind (arith, nat_tests, so_many) in
-    rw (past (before + 1) y, skipped) (later_shown rest told number test shows params offset past is (before + 1) left (omega (arith, so_many)) ys)
+    grind (arith, later_shown rest told number test shows params offset past is (before + 1) left (omega (arith, so_many)) ys, nat_tests)
 
 -- ---- of a record that is kept as the list of its parts, by its number
 

@@ -1,22 +1,20 @@
 -- The statements on members, groups and histories that write, in ledgers.
 use Rattle.desk_records.proofs.Common.{◌≡◌, ◌∷◌, ◌++◌, ◌&&◌, ℕ, zero, suc, ◌+◌, pos, List, [], Bool, true, length, set, slice_get, string_bytes, Option, Some}
 use Rattle.desk_records.proofs.Common.{None, refl, sym, ap, subst, ◌∙◌, arith, nat_eq, length-map, map-append, Int, Text, plain, Row, agree, Insert, Update}
-use Rattle.desk_records.proofs.Common.{Values, Database, State, Writes, Integer, cast, cast_all, IsHeldBy, inserts, on_content, adds_row, changes_key}
-use Rattle.desk_records.proofs.Common.{keys_apart, cast_int, cast_null, passes, shown_of, updates, GroupRule, Bytes, Reported, entries_in, Bounds, GroupRecord}
-use Rattle.desk_records.proofs.Common.{RolloutRecord, entries_of, entry_row, PlacedNumber, number_row, number_rows, told_number, AreRowsOf, HoldsLedger}
-use Rattle.desk_records.proofs.Common.{Ledger, Unordered, content_of, AddsMember, AddsGroup, AddsRule, AddsNumber, SetsGroup, AddsEntry, and_member, and_group}
-use Rattle.desk_records.proofs.Common.{and_entry, group_counted, cut_group, with_actions, with_groups, with_numbers, with_rollouts, with_rules, listed_parts}
-use Rattle.desk_records.proofs.Common.{part_row, flag, group_row, groups_from, member_row, members_from, rollout_row, rule_row, rules_from, told_group}
-use Rattle.desk_records.proofs.Common.{told_rule, Place, Members, Groups, Feedbacks, Rules, Numbers, feedback_table, group_table, member_table, number_table}
-use Rattle.desk_records.proofs.Common.{rule_table, are_sorted, and-true}
+use Rattle.desk_records.proofs.Common.{Values, State, Writes, Integer, cast, cast_all, IsHeldBy, on_content, changes_key, keys_apart, cast_int, cast_null}
+use Rattle.desk_records.proofs.Common.{passes, shown_of, updates, GroupRule, Bytes, Reported, entries_in, Bounds, GroupRecord, RolloutRecord, entries_of}
+use Rattle.desk_records.proofs.Common.{entry_row, PlacedNumber, number_row, HoldsLedger, Ledger, AddsMember, AddsGroup, AddsRule, AddsNumber, SetsGroup}
+use Rattle.desk_records.proofs.Common.{AddsEntry, and_member, and_group, and_entry, group_counted, cut_group, with_actions, with_groups, with_numbers}
+use Rattle.desk_records.proofs.Common.{with_rollouts, with_rules, flag, group_row, groups_from, member_row, rollout_row, rule_row, told_group, Members, Groups}
+use Rattle.desk_records.proofs.Common.{Feedbacks, Rules, Numbers, group_table, and-true}
 use Rattle.sqlite_value.specs.Keys.{first_key}
 use Rattle.sqlite.specs.Values.{or_null}
 use Rattle.desk_records.specs.declared.new_entry.NewEntry.{NewEntry}
 use Rattle.desk_records.proofs.ActionMeaning.{feedback_terms, number_terms}
 use Rattle.desk_records.proofs.Comparisons.{numbers_equal}
-use Rattle.desk_records.proofs.HoldsAfter.{ChangesOnly, Leaves, ledger_after}
-use Rattle.desk_records.proofs.LedgerLists.{acts_stay, actions_of_others, actions_stay, actors_stay, part_held, part_set, parts_stay, rows_stay}
-use Rattle.desk_records.proofs.LedgerWrites.{actions_differ, histories_from, numbers_differ, rollouts_differ, rules_differ}
+use Rattle.desk_records.proofs.HoldsAfter.{ChangesOnly, ledger_after, puts}
+use Rattle.desk_records.proofs.LedgerLists.{acts_stay, actions_of_others, actions_stay, actors_stay, part_is_more, part_set, parts_stay, rows_stay}
+use Rattle.desk_records.proofs.LedgerWrites.{actions_differ, numbers_differ, rollouts_differ, rules_differ}
 use Rattle.desk_records.proofs.RolloutMeaning.{group_terms, group_values, member_terms, of_group, rule_terms, set_group_query}
 
 -- ---- a new member
@@ -26,38 +24,24 @@ pub adds_member : (number place : ℕ) (id : Bytes) (old new : State) (text : Li
     → (w : Writes old new None (Insert (holds.spot Members).at (Values member_terms 4)) text (member_row number place id) count) → HoldsLedger new.now next
 adds_member zero place id old new text count l next holds change w = absurd (let none = change.is_there in cc)
 adds_member (suc k) place id old new text count l next holds change w =
-    let spot = holds.spot Members in
-    let table = member_table spot.tree in
     let xs = l.records.rollouts in
     let x = change.rollout in
     let y = and_member x id in
-    let given = member_row (suc k) place id in
-    let made = inserts old.now.schema spot.at table member_terms 4 (holds.stands Members).got old new refl text given count w in
-    let more = adds_row old.now.schema table (1 ∷ 2 ∷ []) given member_terms 4 given refl old.now new.now (members_from 1 xs) (holds.rows Members) made in
-    let cast : cast_all table.columns given ≡ given = rw (cast_int (suc k), cast_int place) refl in
-    let held = part_held member_row (λ (z : RolloutRecord). z.members) x y id refl k place xs (new.now.trees spot.tree) change.is_there change.place_is
-    (subst (λ r. IsHeldBy (new.now.trees spot.tree) (r ∷ members_from 1 xs)) cast more) in
+    let row = member_row (suc k) place id in
     subst (HoldsLedger new.now) (sym change.next_is)
-    (ledger_after Members l (with_rollouts l (set xs k y)) old.now new.now holds
-    (record { schema = made.schema_is; sound = w.sound; others = made.applies.tables }) held
+    (puts Members l (with_rollouts l (set xs k y))
     (rollouts_differ l (set xs k y) Members (λ apart. rows_stay x y rollout_row (λ n. refl) 1 k xs change.is_there) (λ apart. absurd (apart refl))
     (λ apart. parts_stay x y group_row (λ (z : RolloutRecord). z.groups) refl 1 k xs change.is_there)
-    (actions_of_others xs k y 1 l.records.actions l.tallies change.unacted)) holds.sorted)
+    (actions_of_others xs k y 1 l.records.actions l.tallies change.unacted)) holds.sorted member_terms 4 holds w (λ tree. refl) row row (λ tree. refl)
+    (λ tree. rw (cast_int (suc k), cast_int place) refl) refl refl
+    (part_is_more member_row (λ (z : RolloutRecord). z.members) x y id refl k place xs change.is_there change.place_is))
 
 -- ---- groups
 
--- of a change of groups alone
-groups_change : (k : ℕ) (gs : List GroupRecord) (old new : Database) (l : Ledger) (holds : HoldsLedger old l) (x : RolloutRecord)
-    → slice_get l.records.rollouts k ≡ Some x → Leaves old new (holds.spot Groups).tree
-    → IsHeldBy (new.trees (holds.spot Groups).tree) (groups_from 1 (set l.records.rollouts k (with_groups x gs)))
-    → HoldsLedger new (with_rollouts l (set l.records.rollouts k (with_groups x gs)))
-groups_change k gs old new l holds x there left held =
-    let xs = l.records.rollouts in
-    let y = with_groups x gs in
-    ledger_after Groups l (with_rollouts l (set xs k y)) old new holds left held
-    (rollouts_differ l (set xs k y) Groups (λ apart. rows_stay x y rollout_row (λ n. refl) 1 k xs there)
-    (λ apart. parts_stay x y member_row (λ (z : RolloutRecord). z.members) refl 1 k xs there)
-    (λ apart. absurd (apart refl)) (actions_stay xs (set xs k y) (actors_stay x y refl k xs there) 1 _)) holds.sorted
+-- a change of groups alone
+groups_differ : (k : ℕ) (gs : List GroupRecord) (l : Ledger) (x : RolloutRecord) → slice_get l.records.rollouts k ≡ Some x
+    → ChangesOnly Groups l (with_rollouts l (set l.records.rollouts k (with_groups x gs)))
+groups_differ k gs l x there = grind (arith, rollouts_differ, rows_stay, parts_stay, actions_stay, actors_stay)
 
 abbrev pub cut_params : ℕ → ℕ → Bounds → Row
 cut_params number group bounds = Int (pos number) ∷ Int (pos group) ∷ Int (pos bounds.first) ∷ Int (pos bounds.last) ∷ []
@@ -67,21 +51,15 @@ pub adds_group : (number group : ℕ) (bounds : Bounds) (old new : State) (text 
     → (w : Writes old new None (Insert (holds.spot Groups).at (Values group_terms 9)) text (cut_params number group bounds) count) → HoldsLedger new.now next
 adds_group zero group bounds old new text count l next holds change w = absurd (let none = change.is_there in cc)
 adds_group (suc k) group bounds old new text count l next holds change w =
-    let spot = holds.spot Groups in
-    let table = group_table spot.tree in
     let xs = l.records.rollouts in
     let x = change.rollout in
     let g = cut_group group bounds in
     let row = group_row (suc k) group g in
-    let made = inserts old.now.schema spot.at table group_terms 9 (holds.stands Groups).got old new refl text (cut_params (suc k) group bounds) count w in
-    let more = adds_row old.now.schema table (1 ∷ 2 ∷ []) (cut_params (suc k) group bounds) group_terms 9 row refl old.now new.now (groups_from 1 xs)
-    (holds.rows Groups) made in
-    let cast : cast_all table.columns row ≡ row = rw (cast_int (suc k), cast_int group, cast_int bounds.first, cast_int bounds.last, cast_int 0) refl in
-    let held = part_held group_row (λ (z : RolloutRecord). z.groups) x (and_group x g) g refl k group xs (new.now.trees spot.tree) change.is_there
-    change.group_is (subst (λ r. IsHeldBy (new.now.trees spot.tree) (r ∷ groups_from 1 xs)) cast more) in
     subst (HoldsLedger new.now) (sym change.next_is)
-    (groups_change k (x.groups ++ g ∷ []) old.now new.now l holds x change.is_there
-    (record { schema = made.schema_is; sound = w.sound; others = made.applies.tables }) held)
+    (puts Groups l (with_rollouts l (set xs k (and_group x g))) (groups_differ k (x.groups ++ g ∷ []) l x change.is_there) holds.sorted group_terms 9 holds w
+    (λ tree. refl) row row (λ tree. refl)
+    (λ tree. rw (cast_int (suc k), cast_int group, cast_int bounds.first, cast_int bounds.last, cast_int 0) refl) refl refl
+    (part_is_more group_row (λ (z : RolloutRecord). z.groups) x (and_group x g) g refl k group xs change.is_there change.group_is))
 
 abbrev pub counted_params : ℕ → ℕ → Bool → ℕ → ℕ → ℕ → Row
 counted_params number group started ok bad gone = Int (pos number) ∷ Int (pos group) ∷ Int (pos (flag started)) ∷ Int (pos ok) ∷ Int (pos bad) ∷ Int (pos gone)
@@ -117,9 +95,9 @@ sets_group (suc k) (suc j) started ok bad gone old new text count l next holds c
     (λ n m. rw (cast_int n, cast_int m, cast_int g.bounds.first, cast_int g.bounds.last, cast_int (flag started), cast_int ok, cast_int bad, cast_int gone)
     refl) 1 k j xs (omega arith) (omega arith) change.is_there change.is_its refl in
     subst (HoldsLedger new.now) (sym change.next_is)
-    (groups_change k (set x.groups j after) old.now new.now l holds x change.is_there
-    (record { schema = made.schema_is; sound = w.sound; others = made.applies.tables })
-    (subst (IsHeldBy (new.now.trees spot.tree)) is changed_rows))
+    (ledger_after Groups l (with_rollouts l (set xs k (with_groups x (set x.groups j after)))) old.now new.now holds
+    (record { schema = made.schema_is; sound = w.sound; others = made.applies.tables }) (subst (IsHeldBy (new.now.trees spot.tree)) is changed_rows)
+    (groups_differ k (set x.groups j after) l x change.is_there) holds.sorted)
   where
     named : (n m : ℕ) (z : GroupRecord) → on_content (passes of_group (counted_params (suc k) (suc j) started ok bad gone)) (group_row n m z)
         ≡ (nat_eq n (suc k) && nat_eq m (suc j))
@@ -128,42 +106,19 @@ sets_group (suc k) (suc j) started ok bad gone old new text count l next holds c
 -- ---- what is said of groups
 
 cast_or_null : (o : Option ℕ) → cast Integer (or_null (λ n. Int (pos n)) o) ≡ or_null (λ n. Int (pos n)) o
-cast_or_null None = cast_null
-cast_or_null (Some n) = cast_int n
-
--- one more part of a record that is kept as the list of its parts
-module _ {Y : Type 0} (rest : Y → Row) (t : Place) (lists : Ledger → List (List Y))
-    (kept : (l : Ledger) → content_of l t ≡ Unordered (listed_parts (part_row rest) (lists l))) where
-  listed_more : (k place : ℕ) (its : List Y) (it : Y) (l next : Ledger) (old new : Database) (holds : HoldsLedger old l) → slice_get (lists l) k ≡ Some its
-      → place ≡ length its + 1 → lists next ≡ set (lists l) k (its ++ it ∷ [])
-      → Leaves old new (holds.spot t).tree → IsHeldBy (new.trees (holds.spot t).tree) (part_row rest (suc k) place it ∷ listed_parts (part_row rest) (lists l))
-      → ChangesOnly t l next → next.records.targets ≡ l.records.targets → HoldsLedger new next
-  listed_more k place its it l next old new holds there at made left more only targets =
-      let held = part_held (part_row rest) (λ (own : List Y). own) its (its ++ it ∷ []) it refl k place (lists l) (new.trees (holds.spot t).tree)
-      there at more in
-      let all : listed_parts (part_row rest) (set (lists l) k (its ++ it ∷ [])) ≡ listed_parts (part_row rest) (lists next) =
-      ap (listed_parts (part_row rest)) (sym made) in
-      ledger_after t l next old new holds left
-      (subst (λ c. AreRowsOf c (new.trees (holds.spot t).tree)) (sym (kept next)) (subst (IsHeldBy (new.trees (holds.spot t).tree)) all held)) only
-      (ap are_sorted targets ∙ holds.sorted)
+cast_or_null o = grind (arith, cast_null, cast_int)
 
 pub adds_rule : (number group : ℕ) (rule : GroupRule) (old new : State) (text : List ℕ) (count : ℕ) (l next : Ledger) (holds : HoldsLedger old.now l)
     → AddsRule number group rule l next
     → (w : Writes old new None (Insert (holds.spot Rules).at (Values rule_terms 6)) text (rule_row number group rule) count) → HoldsLedger new.now next
 adds_rule zero group rule old new text count l next holds change w = absurd (let none = change.is_there in cc)
 adds_rule (suc k) group rule old new text count l next holds change w =
-    let table = rule_table (holds.spot Rules).tree in
-    let given = rule_row (suc k) group rule in
-    let made = inserts old.now.schema (holds.spot Rules).at table rule_terms 6 (holds.stands Rules).got old new refl text given count w in
-    let more = adds_row old.now.schema table (1 ∷ 2 ∷ []) given rule_terms 6 given refl old.now new.now (rules_from l.rules) (holds.rows Rules) made in
-    let cast : cast_all table.columns given ≡ given =
-    rw (cast_int (suc k), cast_int group, cast_or_null rule.percentage, cast_int rule.success, cast_int rule.error) refl in
     let after = set l.rules k (change.its ++ rule ∷ []) in
+    let row = rule_row (suc k) group rule in
     subst (HoldsLedger new.now) (sym change.next_is)
-    (listed_more told_rule Rules (λ (m : Ledger). m.rules) (λ m. refl) k group change.its rule l (with_rules l after) old.now new.now holds change.is_there
-    change.group_is refl
-    (record { schema = made.schema_is; sound = w.sound; others = made.applies.tables })
-    (subst (λ r. IsHeldBy (new.now.trees table.tree) (r ∷ rules_from l.rules)) cast more) (rules_differ l after Rules (λ apart. absurd (apart refl))) refl)
+    (puts Rules l (with_rules l after) (rules_differ l after Rules (λ apart. absurd (apart refl))) holds.sorted rule_terms 6 holds w (λ tree. refl) row row
+    (λ tree. refl) (λ tree. rw (cast_int (suc k), cast_int group, cast_or_null rule.percentage, cast_int rule.success, cast_int rule.error) refl) refl refl
+    (part_is_more rule_row (λ (its : List GroupRule). its) change.its (change.its ++ rule ∷ []) rule refl k group l.rules change.is_there change.group_is))
 
 -- ---- the numbers of actions
 
@@ -172,18 +127,12 @@ pub adds_number : (number place : ℕ) (it : PlacedNumber) (old new : State) (te
     → (w : Writes old new None (Insert (holds.spot Numbers).at (Values number_terms 5)) text (number_row number place it) count) → HoldsLedger new.now next
 adds_number zero place it old new text count l next holds change w = absurd (let none = change.is_there in cc)
 adds_number (suc k) place it old new text count l next holds change w =
-    let table = number_table (holds.spot Numbers).tree in
-    let given = number_row (suc k) place it in
-    let made = inserts old.now.schema (holds.spot Numbers).at table number_terms 5 (holds.stands Numbers).got old new refl text given count w in
-    let more = adds_row old.now.schema table (1 ∷ 2 ∷ []) given number_terms 5 given refl old.now new.now (number_rows l.numbers) (holds.rows Numbers) made in
-    let cast : cast_all table.columns given ≡ given = rw (cast_int (suc k), cast_int place, cast_int it.sequence, cast_int it.number) refl in
     let after = set l.numbers k (change.its ++ it ∷ []) in
+    let row = number_row (suc k) place it in
     subst (HoldsLedger new.now) (sym change.next_is)
-    (listed_more told_number Numbers (λ (m : Ledger). m.numbers) (λ m. refl) k place change.its it l (with_numbers l after) old.now new.now holds
-    change.is_there change.place_is refl
-    (record { schema = made.schema_is; sound = w.sound; others = made.applies.tables })
-    (subst (λ r. IsHeldBy (new.now.trees table.tree) (r ∷ number_rows l.numbers)) cast more) (numbers_differ l after Numbers (λ apart. absurd (apart refl)))
-    refl)
+    (puts Numbers l (with_numbers l after) (numbers_differ l after Numbers (λ apart. absurd (apart refl))) holds.sorted number_terms 5 holds w (λ tree. refl)
+    row row (λ tree. refl) (λ tree. rw (cast_int (suc k), cast_int place, cast_int it.sequence, cast_int it.number) refl) refl refl
+    (part_is_more number_row (λ (its : List PlacedNumber). its) change.its (change.its ++ it ∷ []) it refl k place l.numbers change.is_there change.place_is))
 
 -- ---- histories
 
@@ -197,8 +146,6 @@ pub adds_entry : (number sequence : ℕ) (entry : NewEntry) (old new : State) (t
     → HoldsLedger new.now next
 adds_entry zero sequence entry old new text count l next holds change w = absurd (let none = change.is_there in cc)
 adds_entry (suc k) sequence entry old new text count l next holds change w =
-    let spot = holds.spot Feedbacks in
-    let table = feedback_table spot.tree in
     let as' = l.records.actions in
     let a = change.action in
     let after = and_entry a change.reported in
@@ -206,16 +153,11 @@ adds_entry (suc k) sequence entry old new text count l next holds change w =
     map-append (λ (it : Reported). it.entry) a.history (change.reported ∷ []) in
     let at : sequence ≡ length (entries_in a.history) + 1 = change.sequence_is ∙ ap (λ n. n + 1) (sym (length-map a.history (λ (it : Reported). it.entry))) in
     let given = entry_params (suc k) sequence entry in
-    let made = inserts old.now.schema spot.at table feedback_terms 6 (holds.stands Feedbacks).got old new refl text given count w in
-    let more = adds_row old.now.schema table (1 ∷ 2 ∷ []) given feedback_terms 6 given refl old.now new.now (histories_from 1 as') (holds.rows Feedbacks)
-    made in
-    let cast : cast_all table.columns given ≡ given = rw (cast_int (suc k), cast_int sequence, cast_int entry.kind, cast_int entry.word) refl in
-    let row : cast_all table.columns given ≡ entry_row (suc k) sequence change.reported.entry = cast
-    ∙ ap (λ told. Int (pos (suc k)) ∷ Int (pos sequence) ∷ told) (sym change.told.row) in
-    let held = part_held entry_row entries_of a after change.reported.entry entries k sequence as' (new.now.trees spot.tree)
-    change.is_there at (subst (λ r. IsHeldBy (new.now.trees spot.tree) (r ∷ histories_from 1 as')) row more) in
     subst (HoldsLedger new.now) (sym change.next_is)
-    (ledger_after Feedbacks l (with_actions l (set as' k after) l.tallies) old.now new.now holds
-    (record { schema = made.schema_is; sound = w.sound; others = made.applies.tables }) held
+    (puts Feedbacks l (with_actions l (set as' k after) l.tallies)
     (actions_differ l (set as' k after) l.tallies Feedbacks (λ apart. acts_stay l.records.rollouts a after (λ n t. refl) 1 k as' l.tallies change.is_there)
-    (λ apart. absurd (apart refl))) holds.sorted)
+    (λ apart. absurd (apart refl))) holds.sorted feedback_terms 6 holds w (λ tree. refl) given (entry_row (suc k) sequence change.reported.entry)
+    (λ tree. refl)
+    (λ tree. rw (cast_int (suc k), cast_int sequence, cast_int entry.kind, cast_int entry.word)
+    (ap (λ told. Int (pos (suc k)) ∷ Int (pos sequence) ∷ told) (sym change.told.row))) refl refl
+    (part_is_more entry_row entries_of a after change.reported.entry entries k sequence as' change.is_there at))

@@ -24,30 +24,19 @@ module _ {Y : Type 0} (f : ℕ → Y → Row) (p : Row → Bool) where
   pub none_after : (wanted : ℕ) → ((place : ℕ) (y : Y) → p (f place y) ≡ nat_eq place wanted) → (place : ℕ) (ys : List Y) → wanted < place
       → filter p (rows_from f place ys) ≡ []
   none_after wanted is place [] later = refl
-  none_after wanted is place (y ∷ ys) later =
-      let apart : p (f place y) ≡ false = is place y ∙ grind (arith, nat_tests) in
-      rw apart (none_after wanted is (place + 1) ys (omega (arith, later)))
+  none_after wanted is place (y ∷ ys) later = grind (arith, nat_tests, is place y, none_after wanted is (place + 1) ys (omega (arith, later)))
 
   -- the one at a place
   pub at_place : (first k : ℕ) → ((place : ℕ) (y : Y) → p (f place y) ≡ nat_eq place (first + k)) → (ys : List Y) → filter p (rows_from f first ys)
       ≡ option_to_list (option_map (f (first + k)) (slice_get ys k))
   at_place first k is [] = refl
-  at_place first zero is (y ∷ ys) =
-      let at : first ≡ first + zero = omega arith in
-      let here : p (f first y) ≡ true = is first y ∙ grind (arith, nat_tests) in
-      rw here (ap₂ ◌∷◌ (ap (λ n. f n y) at) (none_after (first + zero) is (first + 1) ys (omega arith)))
-  at_place first (suc k) is (y ∷ ys) =
-      let at : (first + 1) + k ≡ first + suc k = omega arith in
-      let apart : p (f first y) ≡ false = is first y ∙ grind (arith, nat_tests) in
-      rw apart (at_place (first + 1) k (λ place z. is place z ∙ ap (nat_eq place) (sym at)) ys
-      ∙ ap (λ n. option_to_list (option_map (f n) (slice_get ys k))) at)
+  at_place first zero is (y ∷ ys) = grind (arith, nat_tests, is first y, none_after (first + zero) is (first + 1) ys (omega arith))
+  at_place first (suc k) is (y ∷ ys) = grind (arith, at_place (first + 1) k, nat_tests)
 
 pub next_place : {Y : Type 0} (f : ℕ → Y → Row) (place : ℕ) (ys : List Y) (y : Y) → rows_from f place (ys ++ y ∷ [])
     ≡ rows_from f place ys ++ f (place + length ys) y ∷ []
-next_place f place [] y = let at : place ≡ place + 0 = omega arith in ap (λ n. f n y ∷ []) at
-next_place f place (z ∷ ys) y =
-    let at : (place + 1) + length ys ≡ place + length (z ∷ ys) = omega arith in
-    ap (λ l. f place z ∷ l) (next_place f (place + 1) ys y ∙ ap (λ n. rows_from f (place + 1) ys ++ f n y ∷ []) at)
+next_place f place [] y = grind arith
+next_place f place (z ∷ ys) y = grind (arith, next_place f (place + 1) ys y)
 
 -- ---- the parts of all records
 
@@ -62,38 +51,21 @@ module _ {X Y : Type 0} (f : ℕ → ℕ → Y → Row) (parts : X → List Y) w
   module _ (p : Row → Bool) (number : ℕ) (others : (n place : ℕ) (y : Y) → nat_eq n number ≡ false → p (f n place y) ≡ false) where
     none_later : (n : ℕ) (xs : List X) → number < n → filter p (parts_from f parts n xs) ≡ []
     none_later n [] low = refl
-    none_later n (x ∷ xs) low =
-        let apart : nat_eq n number ≡ false = grind (arith, nat_tests) in
-        filter-append p (rows_from (f n) 1 (parts x)) (parts_from f parts (n + 1) xs)
-        ∙ ap₂ ◌++◌ (none_pass (f n) p (λ place y. others n place y apart) 1 (parts x)) (none_later (n + 1) xs (omega (arith, low)))
+    none_later n (x ∷ xs) low = grind (arith, none_later (n + 1) xs (omega (arith, low)), nat_tests, filter-append, none_pass)
 
     module _ (all : Option X → List Y) (none : all None ≡ []) (some : (x : X) → all (Some x) ≡ parts x) where
       pub its_parts : (n k : ℕ) → number ≡ n + k → (xs : List X) → filter p (parts_from f parts n xs) ≡ filter p (rows_from (f number) 1 (all (slice_get xs k)))
       its_parts n k at [] = ap (λ ys. filter p (rows_from (f number) 1 ys)) (sym none)
-      its_parts n zero at (x ∷ xs) =
-          let here : n ≡ number = omega (arith, at) in
-          filter-append p (rows_from (f n) 1 (parts x)) (parts_from f parts (n + 1) xs)
-          ∙ ap₂ ◌++◌ (ap₂ (λ m ys. filter p (rows_from (f m) 1 ys)) here (sym (some x))) (none_later (n + 1) xs (omega (arith, at))) ∙ append-nil _
-      its_parts n (suc k) at (x ∷ xs) =
-          let next : number ≡ (n + 1) + k = omega (arith, at) in
-          let apart : nat_eq n number ≡ false = grind (arith, nat_tests) in
-          filter-append p (rows_from (f n) 1 (parts x)) (parts_from f parts (n + 1) xs)
-          ∙ ap₂ ◌++◌ (none_pass (f n) p (λ place y. others n place y apart) 1 (parts x)) (its_parts (n + 1) k next xs)
+      its_parts n zero at (x ∷ xs) = grind (arith, filter-append, none_later, append-nil)
+      its_parts n (suc k) at (x ∷ xs) = grind (arith, its_parts (n + 1) k, nat_tests, filter-append, none_pass)
 
   -- ---- a further part of the last record
 
   module _ (x changed : X) (y : Y) (more : parts changed ≡ parts x ++ y ∷ []) where
     last_part : (n : ℕ) (before : List X) → parts_from f parts n (before ++ changed ∷ []) ≡ parts_from f parts n (before ++ x ∷ []) ++ f (n + length before)
         (1 + length (parts x)) y ∷ []
-    last_part n [] =
-        let at : n ≡ n + 0 = omega arith in
-        append-nil (rows_from (f n) 1 (parts changed)) ∙ ap (rows_from (f n) 1) more ∙ next_place (f n) 1 (parts x) y
-        ∙ ap₂ (λ l number. l ++ f number (1 + length (parts x)) y ∷ []) (sym (append-nil (rows_from (f n) 1 (parts x)))) at
-    last_part n (first ∷ before) =
-        let at : (n + 1) + length before ≡ n + length (first ∷ before) = omega arith in
-        ap (λ l. rows_from (f n) 1 (parts first) ++ l)
-        (last_part (n + 1) before ∙ ap (λ number. parts_from f parts (n + 1) (before ++ x ∷ []) ++ f number (1 + length (parts x)) y ∷ []) at)
-        ∙ sym (append_assoc (rows_from (f n) 1 (parts first)) (parts_from f parts (n + 1) (before ++ x ∷ [])) _)
+    last_part n [] = grind (arith, append-nil, next_place)
+    last_part n (first ∷ before) = grind (arith, last_part (n + 1) before, append_assoc)
 
     pub part_added : (number place : ℕ) (before : List X) (rows : List Row) → IsHeldBy rows (parts_from f parts 1 (before ++ x ∷ [])) → number
         ≡ length before + 1 → place ≡ length (parts x) + 1

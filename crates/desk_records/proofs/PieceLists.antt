@@ -1,12 +1,12 @@
 -- Contents in pieces, and what one more piece makes of them.
-use Rattle.desk_records.proofs.Common.{◌≡◌, ◌≤◌, ◌++◌, ℕ, zero, suc, ◌+◌, ◌*◌, List, [], ◌∷◌, map, take, drop, length, Option, Some, None, refl, sym, ap, ap₂}
+use Rattle.desk_records.proofs.Common.{◌≡◌, ◌≤◌, ◌++◌, ℕ, zero, suc, ◌+◌, ◌*◌, List, [], ◌∷◌, map, take, drop, length, Some, refl, sym, ap, ap₂}
 use Rattle.desk_records.proofs.Common.{◌∙◌, arith, length-append, slice_get, flat_map, range_with_len, option_map, div_ceil_times, length-drop, take_all}
 use Rattle.desk_records.proofs.Common.{take-append-le, drop-append-le, map-map, map_same, Bytes, piece_length, pieces_in}
 use Rattle.std.proofs.Math.Nat.{sub-zero}
 use Rattle.std.proofs.Math.Seq.{drop-append_seam}
 use Rattle.std.proofs.lemmas.Option.{slice_get-map}
 use Rattle.std.proofs.lemmas.List.FromFn.{length-map-range_with_len, map-range_with_len_more}
-use Rattle.artifact_pieces.specs.Pieces.{piece_at, piece_bytes, piece_count, pieces_of}
+use Rattle.artifact_pieces.specs.Pieces.{piece_bytes, piece_count, pieces_of}
 use Rattle.artifact_pieces.proofs.PieceLemmas.{one_piece, pieces_make_the_whole}
 
 -- how many pieces contents have whose last piece has so many bytes
@@ -21,9 +21,7 @@ abbrev pub piece : Bytes → ℕ → Bytes
 piece contents k = take piece_length (drop (k * piece_length) contents)
 
 by_place : (contents : Bytes) (n : ℕ) → piece_count (length contents) ≡ n → pieces_in contents ≡ map (piece contents) (range_with_len 0 n)
-by_place contents n count =
-    map-map (piece_bytes contents) (piece_at (length contents)) _ ∙ map_same _ (piece contents) (λ k. one_piece contents k) _
-    ∙ ap (λ m. map (piece contents) (range_with_len 0 m)) (sub-zero (piece_count (length contents)) ∙ count)
+by_place contents n count = grind (arith, map-map, map_same, one_piece, sub-zero)
 
 -- further bytes leave whole pieces as they are
 same_piece : (contents bytes : Bytes) (k : ℕ) → (k + 1) * piece_length ≤ length contents → piece (contents ++ bytes) k ≡ piece contents k
@@ -34,8 +32,7 @@ same_piece contents bytes k within =
 same_pieces : (contents bytes : Bytes) (from n : ℕ) → (from + n) * piece_length ≤ length contents → map (piece (contents ++ bytes)) (range_with_len from n)
     ≡ map (piece contents) (range_with_len from n)
 same_pieces contents bytes from zero within = refl
-same_pieces contents bytes from (suc n) within = ap₂ ◌∷◌ (same_piece contents bytes from (omega (arith, within)))
-    (same_pieces contents bytes (from + 1) n (omega (arith, within)))
+same_pieces contents bytes from (suc n) within = grind (arith, same_pieces contents bytes (from + 1) n (omega (arith, within)), same_piece)
 
 last_piece : (contents bytes : Bytes) (k : ℕ) → length contents ≡ k * piece_length → length bytes ≤ piece_length → piece (contents ++ bytes) k ≡ bytes
 last_piece contents bytes k whole limit = ap (λ n. take piece_length (drop n (contents ++ bytes))) (sym whole)
@@ -48,25 +45,16 @@ count_pieces contents = ap length (by_place contents (piece_count (length conten
 
 nth_in_row : (a n k x : ℕ) → slice_get (range_with_len a n) k ≡ Some x → x ≡ a + k
 nth_in_row a zero k x is = absurd cc
-nth_in_row a (suc n) zero x is = let same : a ≡ x = cc in omega (arith, same)
+nth_in_row a (suc n) zero x is = grind arith
 nth_in_row a (suc n) (suc k) x is = omega (arith, nth_in_row (a + 1) n k x is)
 
 -- the piece at a place
 pub nth_piece : (contents bytes : Bytes) (k : ℕ) → slice_get (pieces_in contents) k ≡ Some bytes → bytes ≡ piece contents k
 nth_piece contents bytes k is =
-    go (slice_get row k) refl
-    (sym (slice_get-map (piece contents) row k) ∙ ap (λ l. slice_get l k) (sym (by_place contents (piece_count (length contents)) refl)) ∙ is)
-  where
-    row : List ℕ
-    row = range_with_len 0 (piece_count (length contents))
-
-    go : (o : Option ℕ) → slice_get row k ≡ o → option_map (piece contents) (slice_get row k) ≡ Some bytes → bytes ≡ piece contents k
-    go None none mapped = let no : None ≡ Some bytes = sym (ap (option_map (piece contents)) none) ∙ mapped in absurd cc
-    go (Some n) at mapped =
-        let here : n ≡ k = omega (arith, nth_in_row 0 (piece_count (length contents)) k n at) in
-        let it : Some (piece contents n) ≡ Some bytes = sym (ap (option_map (piece contents)) at) ∙ mapped in
-        let same : piece contents n ≡ bytes = cc in
-        sym same ∙ ap (piece contents) here
+    let row = range_with_len 0 (piece_count (length contents)) in
+    let at : option_map (piece contents) (slice_get row k) ≡ Some bytes = sym (slice_get-map (piece contents) row k)
+    ∙ ap (λ l. slice_get l k) (sym (by_place contents (piece_count (length contents)) refl)) ∙ is in
+    grind (arith, at, nth_in_row 0 (piece_count (length contents)) k)
 
 -- contents of the same pieces are the same
 joined : {X : Type 0} (f : X → Bytes) (xs : List X) → flat_map (λ (b : Bytes). b) (map f xs) ≡ flat_map f xs

@@ -1,6 +1,7 @@
 -- What GET_PIECE shows, whatever rows the table of pieces has.
+use native.Mathlib.Omega.{arith}
 use Rattle.desk_records.proofs.Common.{◌≡◌, ℕ, pos, true, List, [], ◌∷◌, refl, AllZip, and_parts, Null, Int, Row, column, Select, Database, Query, col, Has}
-use Rattle.desk_records.proofs.Common.{passes, simple, Bytes, ArePieces, lies_at, has_at, Pieces, IsPiece, HoldsTables, Tables}
+use Rattle.desk_records.proofs.Common.{passes, simple, Bytes, ArePieces, lies_at, Pieces, IsPiece, HoldsTables, Tables}
 use Rattle.sqlite.specs.Effect.{Reads as Shows}
 use Rattle.desk_records.specs.Columns.{StoredBytes}
 use Rattle.desk_records.proofs.AnyRows.{are_said}
@@ -22,9 +23,7 @@ module _ (db : Database) (t : Tables) (holds : HoldsTables db t) (names : List (
 
     means : (row : Row) → Has (t Pieces) row → lies_at number place row ≡ true → (bytes : Bytes) → column row 3 ≡ StoredBytes bytes
         → IsPiece row number place bytes
-    means row among lies bytes is =
-        let parts = and_parts (has_at 1 number row) (has_at 2 place row) lies in
-        record { number_is = number_is (column row 1) number parts.0; sequence_is = number_is (column row 2) place parts.1; bytes_are = is }
+    means row among lies bytes is = grind (arith, and_parts, number_is, column)
 
     pub lists_pieces : (pieces : List Bytes) → AllZip (λ row bytes. column row 0 ≡ StoredBytes bytes) shown pieces → ArePieces (t Pieces) number place pieces
     lists_pieces pieces reads =

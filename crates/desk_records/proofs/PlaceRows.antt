@@ -1,4 +1,5 @@
 -- What LIST_PLACES shows, whatever rows the table of members has.
+use native.Mathlib.Omega.{arith}
 use Rattle.desk_records.proofs.Common.{◌≡◌, ◌≤◌, ℕ, pos, true, false, List, [], ◌∷◌, length, filter, Option, Some, None, refl, Null, Int, Row, column, Select}
 use Rattle.desk_records.proofs.Common.{Database, Query, output_cmp, is_lt, Has, passes, shown_in, shown_of, is_number, AreRead, Members, HoldsTables, Tables}
 use Rattle.sqlite.specs.Effect.{Reads as Shows}
@@ -23,12 +24,7 @@ module _ (db : Database) (t : Tables) (holds : HoldsTables db t) (names : List (
       r []
 
   means : (row : Row) → Has (t Members) row → is_of r row ≡ true → (m : PlacedMember) → IsPlacedRow (shown_of placed_columns params row) m → SaysMember r row m
-  means row among of m reads = record {
-    rollout_is = rw (number_is (column row 1) r of) (is_number_in r good);
-    place_is = reads.place;
-    id_is = reads.id;
-    word = reads.word;
-  }
+  means row among of m reads = grind (arith, number_is, column, is_number_in)
 
   kept_by : (row : Row) → Has (t Members) row → (m : PlacedMember) → SaysMember r row m → keeps_member_rules (shown_of placed_columns params row) ≡ true
   kept_by row among m says = rw (says.word, says.place_is) refl

@@ -1,5 +1,5 @@
 -- A part by the number of its record and by its place.
-use Rattle.desk_records.proofs.Common.{◌≡◌, ◌≤◌, ◌&&◌, ℕ, zero, suc, ◌+◌, pos, List, [], ◌∷◌, map, filter, slice_get, Bool, true, false, Option, Some, None}
+use Rattle.desk_records.proofs.Common.{◌≡◌, ◌≤◌, ◌&&◌, ℕ, zero, suc, ◌+◌, pos, List, [], ◌∷◌, map, filter, slice_get, Bool, true, Option, Some, None}
 use Rattle.desk_records.proofs.Common.{option_map, refl, sym, ap, subst, ◌∙◌, arith, IsPermutation, nat_eq, option_to_list, nat_tests, IsPermutation-trans}
 use Rattle.desk_records.proofs.Common.{Null, Int, Row, Term, Select, Database, rows_from, IsHeldBy, ShowsFirst, IsBlind, on_content, held_seen, simple, passes}
 use Rattle.desk_records.proofs.Common.{shown_of, simple_rows, item_numbered, part_row, parts_from, and-true}
@@ -21,9 +21,6 @@ module _ {X Y : Type 0} (rest : Y → Row) (parts : X → List Y) (all : Option 
   of_record : (number place : ℕ) (p : Row → Bool) → Names number place p → (k : ℕ) (y : Y) → p (part_row rest number k y) ≡ nat_eq k place
   of_record number place p names k y = let same : nat_eq number number ≡ true = grind (arith, nat_tests) in names number k y ∙ rw same refl
 
-  others : (number place : ℕ) (p : Row → Bool) → Names number place p → (n k : ℕ) (y : Y) → nat_eq n number ≡ false → p (part_row rest n k y) ≡ false
-  others number place p names n k y apart = names n k y ∙ rw apart refl
-
   found_in : (number place : ℕ) (p : Row → Bool) → Names number place p → (ys : List Y) → filter p (rows_from (part_row rest number) 1 ys)
       ≡ option_to_list (option_map (part_row rest number place) (item_numbered ys place))
   found_in number zero p names ys = none_after (part_row rest number) p zero (of_record number zero p names) 1 ys (omega arith)
@@ -37,7 +34,7 @@ module _ {X Y : Type 0} (rest : Y → Row) (parts : X → List Y) (all : Option 
       ≡ option_to_list (option_map (part_row rest number place) (item_numbered (all (item_numbered xs number)) place))
   its_part xs zero place p names least = absurd (omega (arith, least))
   its_part xs (suc k) place p names least =
-      its_parts (part_row rest) parts p (suc k) (others (suc k) place p names) all none some 1 k (omega arith) xs
+      its_parts (part_row rest) parts p (suc k) (λ n j y apart. names n j y ∙ rw apart refl) all none some 1 k (omega arith) xs
       ∙ found_in (suc k) place p names (all (slice_get xs k))
 
   module _ (tree : ℕ) (db : Database) (xs : List X) (held : IsHeldBy (db.trees tree) (parts_from (part_row rest) parts 1 xs)) (names : List (List ℕ))

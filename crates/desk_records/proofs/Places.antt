@@ -1,5 +1,6 @@
 -- What is known of every place at once.
-use Rattle.desk_records.proofs.Common.{◌≡◌, ◌≢◌, ◌⊎◌, inl, inr, ℕ, Bool, true, false, cond, List, [], ◌∷◌, map, Option, Some, find, bytes_eq, refl, sym, ap}
+use native.Mathlib.Omega.{arith}
+use Rattle.desk_records.proofs.Common.{◌≡◌, ◌≢◌, ◌⊎◌, inl, inr, ℕ, Bool, true, false, cond, List, [], ◌∷◌, map, Option, Some, find, bytes_eq, refl, sym}
 use Rattle.desk_records.proofs.Common.{subst, ◌∙◌, AllByRecursion, list_any, or_cases, cases_Bool, true≢false, Place, places, name_of}
 use Rattle.std.proofs.lemmas.Slice.Eq.{bytes_eq-Decides}
 use Rattle.desk_records.proofs.EachPlace.{each_place}
@@ -22,15 +23,10 @@ unfolding place_named
 is_named = same_places (λ t. place_named (name_of t)) Some refl
 
 one_named : (t k : Place) → bytes_eq (name_of t) (name_of k) ≡ true → t ≡ k
-one_named t k same =
-    let named : Some t ≡ Some k = sym (is_named t) ∙ ap place_named ((bytes_eq-Decides (name_of t) (name_of k)).0 same) ∙ is_named k in
-    cc
+one_named t k same = grind (arith, is_named, place_named, bytes_eq-Decides)
 
 pub place_or_other : (t k : Place) → (t ≡ k) ⊎ (t ≢ k)
-place_or_other t k = elim (cases_Bool (bytes_eq (name_of t) (name_of k))) [
-  | inl same ↦ inl (one_named t k same)
-  | inr other ↦ inr (λ is. true≢false (sym ((bytes_eq-Decides (name_of t) (name_of k)).1 (ap name_of is)) ∙ other))
-]
+place_or_other t k = grind (arith, cases_Bool, one_named, bytes_eq-Decides)
 
 -- ---- what is the same at all places but some
 

@@ -1,6 +1,6 @@
 -- The tables of the newest version hold records as the program keeps them.
-use Rattle.desk_records.proofs.Common.{◌≡◌, ◌≤◌, ℕ, List, [], ◌∷◌, Option, Some, if◌then◌else◌, nat_eq, refl, sym, ap, ◌∙◌, arith, AllByRecursion, Database}
-use Rattle.desk_records.proofs.Common.{Records, Place, Desk, places, HoldsRecords, newest, version_number, places_at}
+use Rattle.desk_records.proofs.Common.{◌≡◌, ◌≤◌, ℕ, List, [], ◌∷◌, Option, Some, if◌then◌else◌, nat_eq, sym, ap, ◌∙◌, arith, AllByRecursion, Database}
+use Rattle.desk_records.proofs.Common.{Records, Place, Desk, HoldsRecords, newest, version_number, places_at}
 use Rattle.desk_records.specs.Readable.{HoldsAt, HoldsPlace, HoldsReadable}
 use Rattle.desk_records.specs.declared.version.Version.{Version}
 use Rattle.desk_records.specs.declared.version.Version.TheVariants.{One, Two, Three}
@@ -13,15 +13,7 @@ of_all P each (t ∷ ts) = (each t, of_all P each ts)
 
 module _ (db : Database) (r : Records) where
   pub at_newest : HoldsRecords db r → HoldsAt newest db r
-  at_newest h = record {
-    sound = h.sound;
-    spot = h.spot;
-    tables = of_all (λ t. HoldsPlace newest db r (h.spot t) t) (λ t. (h.stands t, h.rows t)) places;
-    free = tt;
-    tellable = tt;
-    sorted = h.sorted;
-    keyed = h.keyed;
-  }
+  at_newest h = grind (arith, of_all)
 
   pub from_newest : HoldsAt newest db r → HoldsRecords db r
   from_newest h =
@@ -35,23 +27,17 @@ module _ (db : Database) (r : Records) where
 
 -- the table `desk` is the first
 pub has_desk : (v : Version) (P : Place → Type 0) → AllByRecursion P (places_at v) → P Desk
-has_desk One P all = all.0
-has_desk Two P all = all.0
-has_desk Three P all = all.0
+has_desk v h1 all = grind arith
 
 pub is_known : (v : Version) → version_number v ≤ version_number newest
-is_known One = omega arith
-is_known Two = omega arith
-is_known Three = omega arith
+is_known v = grind arith
 
 -- the one of a number
 abbrev numbered : ℕ → Option Version
 numbered n = if nat_eq n 1 then Some One else (if nat_eq n 2 then Some Two else Some Three)
 
 is_numbered : (v : Version) → numbered (version_number v) ≡ Some v
-is_numbered One = refl
-is_numbered Two = refl
-is_numbered Three = refl
+is_numbered v = grind arith
 
 pub one_numbered : (v w : Version) → version_number v ≡ version_number w → v ≡ w
 one_numbered v w same = let both : Some v ≡ Some w = sym (is_numbered v) ∙ ap numbered same ∙ is_numbered w in cc

@@ -1,10 +1,11 @@
 -- What is read of rollouts and groups, where a ledger is held.
-use Rattle.desk_records.proofs.Common.{◌≡◌, ◌≤◌, ◌&&◌, ℕ, ◌+◌, pos, negsuc, List, [], ◌∷◌, map, filter, take, drop, find, length, slice_get, Bool, true}
-use Rattle.desk_records.proofs.Common.{false, cond, Option, Some, option_map, refl, ap, ◌∙◌, arith, nat_eq, nat_le, nat_lt, list_any, is_some, take-map}
-use Rattle.desk_records.proofs.Common.{nat_tests, Null, Int, Text, Row, Term, lit, col, Select, Database, rows_from, ShowsFirst, on_content, simple, passes}
-use Rattle.desk_records.proofs.Common.{shown_of, GroupRule, item_numbered, Bytes, holds_position, GroupRecord, RolloutRecord, IsLastRow, Rollouts, Groups}
-use Rattle.desk_records.proofs.Common.{Members, Rules, parts_of, is_called, rollout_row, told_rollout, group_row, told_group, numbered_from, groups_of}
-use Rattle.desk_records.proofs.Common.{member_row, members_of, rule_numbered, rules_numbered, that_reach, told_rule, HoldsLedger, Ledger, and-true}
+use Rattle.desk_records.proofs.Common.{all_of, filter_all, sym, IsAnswer, IsBlind, overlay, page, ◌≡◌, ◌≤◌, ◌&&◌, ℕ, ◌+◌, pos, negsuc, List, [], ◌∷◌, map}
+use Rattle.desk_records.proofs.Common.{filter, take, drop, find, length, slice_get, Bool, true, false, Option, option_map, refl, ap, ◌∙◌, arith, nat_eq, nat_le}
+use Rattle.desk_records.proofs.Common.{nat_lt, list_any, is_some, take-map, nat_tests, Null, Int, Text, Row, Term, lit, col, Select, Database, rows_from}
+use Rattle.desk_records.proofs.Common.{ShowsFirst, on_content, simple, passes, shown_of, GroupRule, item_numbered, Bytes, holds_position, GroupRecord}
+use Rattle.desk_records.proofs.Common.{RolloutRecord, IsLastRow, Rollouts, Groups, Members, Rules, parts_of, is_called, rollout_row, told_rollout, group_row}
+use Rattle.desk_records.proofs.Common.{told_group, numbered_from, groups_of, member_row, members_of, rule_numbered, rules_numbered, that_reach, told_rule}
+use Rattle.desk_records.proofs.Common.{HoldsLedger, Ledger, and-true}
 use Rattle.sqlite.specs.Effect.{Reads as Shows}
 use Rattle.rollout_machine.specs.StateWords.{group_numbered, group_holding}
 use Rattle.desk_records.proofs.Comparisons.{numbers_above, numbers_equal, numbers_at_least, numbers_at_most, words_equal}
@@ -13,7 +14,7 @@ use Rattle.desk_records.proofs.RolloutMeaning.{same_name, last_rollout_query, ro
 use Rattle.desk_records.proofs.RolloutMeaning.{get_group_query, holding, holding_group_query, reaching, group_and_next_query, after_place, list_members_query}
 use Rattle.desk_records.proofs.RolloutMeaning.{list_rules_query, member_columns, rule_columns}
 use Rattle.desk_records.proofs.NumberedReads.{finds, gets, lasts, passes_number}
-use Rattle.desk_records.proofs.PartReads.{later_shown, reads_listed, reads_parts, unplaced}
+use Rattle.desk_records.proofs.PartReads.{later_shown, place_query, reads_listed, reads_parts, unplaced}
 use Rattle.desk_records.proofs.PlacedParts.{gets_part}
 use Rattle.desk_records.proofs.TargetRecords.{first_row}
 use Rattle.desk_records.specs.ReadRows.{shown_group}
@@ -54,30 +55,11 @@ shown_groups : (rollout : ℕ) (test : List Term) (params : Row) (wanted : Group
     → map (on_content (shown_of group_columns params)) (filter (on_content (passes test params)) (rows_from (group_row rollout) n gs))
     ≡ map shown_group (filter wanted (numbered_from n gs))
 shown_groups rollout test params wanted is n [] = refl
-shown_groups rollout test params wanted is n (g ∷ gs) =
-    rw (is n g) (go (wanted (record g { number = n })) (shown_groups rollout test params wanted is (n + 1) gs))
-  where
-    go : (b : Bool) → map (on_content (shown_of group_columns params)) (filter (on_content (passes test params)) (rows_from (group_row rollout) (n + 1) gs))
-        ≡ map shown_group (filter wanted (numbered_from (n + 1) gs))
-        → map (on_content (shown_of group_columns params))
-        (cond b (group_row rollout n g ∷ filter (on_content (passes test params)) (rows_from (group_row rollout) (n + 1) gs))
-        (filter (on_content (passes test params)) (rows_from (group_row rollout) (n + 1) gs)))
-        ≡ map shown_group (cond b (record g { number = n } ∷ filter wanted (numbered_from (n + 1) gs)) (filter wanted (numbered_from (n + 1) gs)))
-    go true rest = ap (λ l. shown_group (record g { number = n }) ∷ l) rest
-    go false rest = rest
-
-all_kept : (gs : List GroupRecord) → filter (λ g. true) gs ≡ gs
-all_kept [] = refl
-all_kept (g ∷ gs) = ap (λ l. g ∷ l) (all_kept gs)
+shown_groups rollout test params wanted is n (g ∷ gs) = grind (arith, shown_groups rollout test params wanted is (n + 1) gs, is n g)
 
 first_kept : (wanted : GroupRecord → Bool) (gs : List GroupRecord) → slice_get (map shown_group (filter wanted gs)) 0 ≡ option_map shown_group (find wanted gs)
 first_kept wanted [] = refl
-first_kept wanted (g ∷ gs) = go (wanted g) (first_kept wanted gs)
-  where
-    go : (b : Bool) → slice_get (map shown_group (filter wanted gs)) 0 ≡ option_map shown_group (find wanted gs)
-        → slice_get (map shown_group (cond b (g ∷ filter wanted gs) (filter wanted gs))) 0 ≡ option_map shown_group (cond b (Some g) (find wanted gs))
-    go true rest = refl
-    go false rest = rest
+first_kept wanted (g ∷ gs) = grind (arith, first_kept wanted gs)
 
 module _ (db : Database) (l : Ledger) (holds : HoldsLedger db l) (names : List (List ℕ)) where
   abbrev at : ℕ
@@ -86,17 +68,27 @@ module _ (db : Database) (l : Ledger) (holds : HoldsLedger db l) (names : List (
   abbrev found : ℕ → List GroupRecord
   found number = groups_of (item_numbered l.records.rollouts number)
 
-  -- in the order of their numbers
+  -- those that pass, in the order of their numbers
+  groups_where : (test : List Term) (limit offset : Term) (params : Row) (number : ℕ) → 1 ≤ number → IsBlind (passes test params)
+      → (wanted : GroupRecord → Bool)
+      → ((n k : ℕ) (g : GroupRecord) → on_content (passes test params) (group_row n k g) ≡ (nat_eq n number && wanted (record g { number = k })))
+      → (rows : List Row)
+      → IsAnswer (place_query told_group (λ (x : RolloutRecord). x.groups) at test group_columns limit offset params false) (overlay db.trees []) params rows
+      → rows ≡ page (place_query told_group (λ (x : RolloutRecord). x.groups) at test group_columns limit offset params false) params
+      (map shown_group (filter wanted (found number)))
+  groups_where test limit offset params number least blind wanted is rows answer =
+      reads_parts told_group (λ (x : RolloutRecord). x.groups) at test group_columns limit offset params false number least blind (λ id x. refl)
+      (λ n k g apart. is n k g ∙ ap (λ b. b && wanted (record g { number = k })) apart) db.trees l.records.rollouts (holds.rows Groups) rows answer
+      ∙ ap (page (place_query told_group (λ (x : RolloutRecord). x.groups) at test group_columns limit offset params false) params)
+      (shown_groups number test params wanted (λ k g. is number k g ∙ ap (λ b. b && wanted (record g { number = k })) (same number)) 1
+      (parts_of (λ (x : RolloutRecord). x.groups) (item_numbered l.records.rollouts number)))
+
   pub lists_groups : (number : ℕ) → 1 ≤ number → (rows : List Row) → Shows (Select (record { lets = []; body = list_groups_query at }) names) db
       (Int (pos number) ∷ []) rows → rows ≡ map shown_group (found number)
   lists_groups number least rows shows =
-      let params = Int (pos number) ∷ [] in
-      reads_parts told_group (λ (x : RolloutRecord). x.groups) at of_rollout group_columns (lit (Int (negsuc 0))) (lit (Int (pos 0))) params false number least
-      (λ id x. refl) (λ id x. refl) (λ n place g apart. and-true _ ∙ numbers_equal n number ∙ apart)
-      db.trees l.records.rollouts (holds.rows Groups) rows (shows.answer Null)
-      ∙ shown_groups number of_rollout params (λ g. true) (λ place g. and-true _ ∙ numbers_equal number number ∙ same number) 1
-      (parts_of (λ (x : RolloutRecord). x.groups) (item_numbered l.records.rollouts number))
-      ∙ ap (map shown_group) (all_kept _)
+      groups_where of_rollout (lit (Int (negsuc 0))) (lit (Int (pos 0))) (Int (pos number) ∷ []) number least (λ id x. refl) (λ g. true)
+      (λ n k g. and-true _ ∙ numbers_equal n number ∙ sym (and-true _)) rows (shows.answer Null)
+      ∙ ap (map shown_group) (filter_all _ _ (all_of _ (λ g. refl) (found number)))
 
   -- the group of a number
   pub gets_group : (number place : ℕ) → 1 ≤ number → (row : Option Row) → ShowsFirst (Select (record { lets = []; body = get_group_query at }) names) db
@@ -105,16 +97,9 @@ module _ (db : Database) (l : Ledger) (holds : HoldsLedger db l) (names : List (
   gets_group number place least row shown =
       let params = Int (pos number) ∷ Int (pos place) ∷ [] in
       first_row (Select (record { lets = []; body = get_group_query at }) names) db params _ (λ rows shows. ap (λ (l : List Row). slice_get l 0)
-      (reads_parts told_group (λ (x : RolloutRecord). x.groups) at of_group group_columns (lit (Int (negsuc 0))) (lit (Int (pos 0))) params false number least
-      (λ id x. refl) (λ id x. refl) (λ n k g apart. is_group n k g ∙ ap (λ b. b && nat_eq k place) apart)
-      db.trees l.records.rollouts (holds.rows Groups) rows (shows.answer Null)
-      ∙ shown_groups number of_group params (λ g. nat_eq g.number place) (λ k g. is_group number k g ∙ ap (λ b. b && nat_eq k place) (same number)) 1
-      (parts_of (λ (x : RolloutRecord). x.groups) (item_numbered l.records.rollouts number)))
+      (groups_where of_group (lit (Int (negsuc 0))) (lit (Int (pos 0))) params number least (λ id x. refl) (λ g. nat_eq g.number place)
+      (λ n k g. rw (numbers_equal n number, numbers_equal k place, and-true (nat_eq k place)) refl) rows (shows.answer Null))
       ∙ first_kept (λ g. nat_eq g.number place) (found number)) row shown
-    where
-      is_group : (n k : ℕ) (g : GroupRecord) → on_content (passes of_group (Int (pos number) ∷ Int (pos place) ∷ [])) (group_row n k g)
-          ≡ (nat_eq n number && nat_eq k place)
-      is_group n k g = rw (numbers_equal n number, numbers_equal k place, and-true (nat_eq k place)) refl
 
   -- the group that has a place
   pub holds_group : (number place : ℕ) → 1 ≤ number → (row : Option Row) → ShowsFirst (Select (record { lets = []; body = holding_group_query at }) names) db
@@ -123,40 +108,24 @@ module _ (db : Database) (l : Ledger) (holds : HoldsLedger db l) (names : List (
   holds_group number place least row shown =
       let params = Int (pos number) ∷ Int (pos place) ∷ [] in
       first_row (Select (record { lets = []; body = holding_group_query at }) names) db params _ (λ rows shows. ap (λ (l : List Row). slice_get l 0)
-      (reads_parts told_group (λ (x : RolloutRecord). x.groups) at holding group_columns (lit (Int (negsuc 0))) (lit (Int (pos 0))) params false number least
-      (λ id x. refl) (λ id x. refl) (λ n k g apart. is_holding n k g ∙ ap (λ b. b && holds_position place g.bounds) apart)
-      db.trees l.records.rollouts (holds.rows Groups) rows (shows.answer Null)
-      ∙ shown_groups number holding params (λ g. holds_position place g.bounds)
-      (λ k g. is_holding number k g ∙ ap (λ b. b && holds_position place g.bounds) (same number)) 1
-      (parts_of (λ (x : RolloutRecord). x.groups) (item_numbered l.records.rollouts number)))
-      ∙ first_kept (λ g. holds_position place g.bounds) (found number)) row shown
-    where
-      is_holding : (n k : ℕ) (g : GroupRecord) → on_content (passes holding (Int (pos number) ∷ Int (pos place) ∷ [])) (group_row n k g)
-          ≡ (nat_eq n number && holds_position place g.bounds)
-      is_holding n k g = rw (
+      (groups_where holding (lit (Int (negsuc 0))) (lit (Int (pos 0))) params number least (λ id x. refl) (λ g. holds_position place g.bounds)
+      (λ n k g. rw (
         numbers_equal n number,
         numbers_at_most g.bounds.first place,
         numbers_at_least g.bounds.last place,
         and-true (nat_le place g.bounds.last),
-      ) refl
+      ) refl) rows (shows.answer Null))
+      ∙ first_kept (λ g. holds_position place g.bounds) (found number)) row shown
 
   -- the first two groups that reach a place
   pub gets_group_and_next : (number place : ℕ) → 1 ≤ number → (rows : List Row) → Shows (Select (record { lets = []; body = group_and_next_query at }) names) db
       (Int (pos number) ∷ Int (pos place) ∷ []) rows
       → rows ≡ map shown_group (take 2 (that_reach place (found number)))
   gets_group_and_next number place least rows shows =
-      let params = Int (pos number) ∷ Int (pos place) ∷ [] in
-      reads_parts told_group (λ (x : RolloutRecord). x.groups) at reaching group_columns (lit (Int (pos 2))) (lit (Int (pos 0))) params false number least
-      (λ id x. refl) (λ id x. refl) (λ n k g apart. is_reaching n k g ∙ ap (λ b. b && nat_le place g.bounds.last) apart)
-      db.trees l.records.rollouts (holds.rows Groups) rows (shows.answer Null)
-      ∙ ap (take 2) (shown_groups number reaching params (λ g. nat_le place g.bounds.last)
-      (λ k g. is_reaching number k g ∙ ap (λ b. b && nat_le place g.bounds.last) (same number)) 1
-      (parts_of (λ (x : RolloutRecord). x.groups) (item_numbered l.records.rollouts number)))
+      groups_where reaching (lit (Int (pos 2))) (lit (Int (pos 0))) (Int (pos number) ∷ Int (pos place) ∷ []) number least (λ id x. refl)
+      (λ g. nat_le place g.bounds.last)
+      (λ n k g. rw (numbers_equal n number, numbers_at_least g.bounds.last place, and-true (nat_le place g.bounds.last)) refl) rows (shows.answer Null)
       ∙ take-map shown_group 2 (that_reach place (found number))
-    where
-      is_reaching : (n k : ℕ) (g : GroupRecord) → on_content (passes reaching (Int (pos number) ∷ Int (pos place) ∷ [])) (group_row n k g)
-          ≡ (nat_eq n number && nat_le place g.bounds.last)
-      is_reaching n k g = rw (numbers_equal n number, numbers_at_least g.bounds.last place, and-true (nat_le place g.bounds.last)) refl
 
 -- ---- members
 

@@ -1,9 +1,9 @@
 -- What LAST_ROLLOUT shows, whatever rows the table of rollouts has.
-use Rattle.desk_records.proofs.Common.{◌≡◌, ◌≤◌, inl, inr, ℕ, pos, true, false, List, [], ◌∷◌, map, filter, get_or, take, Option, Some, None, true≢false, refl}
-use Rattle.desk_records.proofs.Common.{sym, ap, subst, ◌∙◌, arith, Ordering, Less, Equal, Greater, int_cmp, is_eq, IsPermutation, is_lt, ordering_reverse}
-use Rattle.desk_records.proofs.Common.{ints, nat_tests, IsPermutation-sym, ranks_by, sorted_far, Value, Null, Int, Row, column, value_cmp, value_cmp-Int}
-use Rattle.desk_records.proofs.Common.{value_cmp_total, then-Equal, rowid, Select, Database, Query, Output, output_cmp, col, output_cmp_total, Has}
-use Rattle.desk_records.proofs.Common.{contains_had, ShowsFirst, IsOrdered, ordered_rows, passes, shown_in, IsLastNumber, IsLastRow, Rollouts, HoldsTables}
+use Rattle.desk_records.proofs.Common.{all_of, filter_all, ◌≡◌, ◌≤◌, inl, inr, ℕ, pos, true, false, List, [], ◌∷◌, map, filter, get_or, take, Option, Some}
+use Rattle.desk_records.proofs.Common.{None, refl, sym, ap, subst, ◌∙◌, arith, Ordering, Equal, int_cmp, is_eq, IsPermutation, is_lt}
+use Rattle.desk_records.proofs.Common.{ordering_reverse, ints, nat_tests, IsPermutation-sym, ranks_by, sorted_far, Value, Null, Int, Row, column, value_cmp}
+use Rattle.desk_records.proofs.Common.{value_cmp-Int, value_cmp_total, then-Equal, rowid, Select, Database, Query, Output, output_cmp, col, output_cmp_total}
+use Rattle.desk_records.proofs.Common.{Has, contains_had, ShowsFirst, IsOrdered, ordered_rows, passes, shown_in, IsLastNumber, IsLastRow, Rollouts, HoldsTables}
 use Rattle.desk_records.proofs.Common.{Tables}
 use Rattle.sqlite.specs.Effect.{Reads as Shows}
 use Rattle.desk_records.proofs.Membership.{has_mapped, has_permuted, map_has}
@@ -13,9 +13,7 @@ use Rattle.desk_records.proofs.RolloutMeaning.{last_rollout_query}
 -- ---- the greatest number
 
 equal : (o : Ordering) → is_eq o ≡ true → o ≡ Equal
-equal Less h = absurd (true≢false (sym h))
-equal Equal h = refl
-equal Greater h = absurd (true≢false (sym h))
+equal o h = grind arith
 
 -- a value that is below no row's number is at least the number
 at_least : (v : Value) (n last : ℕ) → is_eq (value_cmp v (Int (pos n))) ≡ true → is_lt (value_cmp (Int (pos last)) v) ≡ false → n ≤ last
@@ -37,12 +35,9 @@ module _ (db : Database) (t : Tables) (holds : HoldsTables db t) (names : List (
     it : IsOrdered q [] (filter (passes [] []) (db.trees tree)) shown
     it = ordered_rows tree [] (col 1 0 ∷ []) q.order q.limit q.offset [] db.trees shown (shows.answer Null)
 
-    all_pass : (rows : List Row) → filter (passes [] []) rows ≡ rows
-    all_pass [] = refl
-    all_pass (row ∷ rows) = ap (λ l. row ∷ l) (all_pass rows)
-
     same : IsPermutation (map (shown_in q []) (t Rollouts)) it.ordered
-    same = subst (λ l. IsPermutation (map (shown_in q []) l) it.ordered) (all_pass (db.trees tree) ∙ sym (holds.rows Rollouts)) it.same
+    same = subst (λ l. IsPermutation (map (shown_in q []) l) it.ordered) (filter_all _ _ (all_of _ (λ x. refl) (db.trees tree)) ∙ sym (holds.rows Rollouts))
+        it.same
 
     is_ordered : (row : Row) → Has (t Rollouts) row → Has it.ordered (shown_in q [] row)
     is_ordered row among = has_permuted _ _ _ same (map_has (shown_in q []) (t Rollouts) row among)

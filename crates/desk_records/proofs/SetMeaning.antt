@@ -1,65 +1,48 @@
 -- Written by tools/meanings. What it makes is proved; the tool is not trusted.
 -- What the texts of src/set_texts.rt mean, wherever their tables stand.
-use Rattle.std.proofs.Common.{refl, List, [], ◌∷◌, ℕ, codes, pos, negsuc, true, false}
-use Rattle.sqlite.specs.declared.types.Value.TheVariants.{Null, Int}
-use Rattle.sqlite.specs.Collation.TheVariants.{Binary}
-use Rattle.sqlite.specs.Source.TheVariants.{Values}
-use Rattle.sqlite.specs.Query.{Query}
-use Rattle.sqlite.specs.Term.{Term, lit, col}
-use Rattle.sqlite_tied.specs.Compute.{everything}
-use Rattle.sqlite_resolve.specs.Compile.{first, new_rows}
-use Rattle.sqlite_resolve.specs.Expr.{combine}
-use Rattle.sqlite_resolve.specs.Select.{named, paging}
-use Rattle.sql_calls.proofs.Selects.{simple, by}
+use Rattle.desk_records.proofs.Common.{refl, List, [], ◌∷◌, ℕ, codes, pos, negsuc, true, false, Null, Int, Binary, Values, Query, Term, lit, col, simple, by}
 use Rattle.desk_records.specs.declared.set_texts.TheConstants.{FIND_SET, LAST_SET, GET_SET, LIST_SET_MODULES, MODULE_LOCKED, PUT_SET, PUT_SET_MODULE}
 use Rattle.desk_records.specs.Schema.{Sets, SetModules}
-use Rattle.desk_records.proofs.MeaningWords.{Asks, Puts, at_key}
+use Rattle.desk_records.proofs.MeaningWords.{compiling, Asks, Puts, at_key}
 
 abbrev pub same_names : List Term
 same_names = at_key 2 0 ∷ at_key 3 1 ∷ []
 
 pub find_set_is : Asks Sets FIND_SET.now (λ tree. simple tree same_names (col 1 0 ∷ [])) (codes "number" ∷ [])
-unfolding first combine named paging everything
-find_set_is = record { queries = λ tree. record { parsed = _; select = _; source = _; page = _; shown = _; read = refl; is = (refl, refl, refl, refl); core = (refl, refl, refl); from = (refl, refl, refl, refl, refl); shows = (tt, tt); filter = ((refl, λ cx how x y. refl), ((refl, λ cx how x y. refl), tt, tt), ((refl, λ cx how x y. refl), tt, tt)); sorts = tt; paged = λ s. refl; named = (refl, refl); becomes = (refl, (refl, refl, refl)) }; shape = λ tree. refl }
+find_set_is = unfold compiling in record { queries = λ tree. record { parsed = _; select = _; source = _; page = _; shown = _; read = refl; is = (refl, refl, refl, refl); core = (refl, refl, refl); from = (refl, refl, refl, refl, refl); shows = (tt, tt); filter = ((refl, λ cx how x y. refl), ((refl, λ cx how x y. refl), tt, tt), ((refl, λ cx how x y. refl), tt, tt)); sorts = tt; paged = λ s. refl; named = (refl, refl); becomes = (refl, (refl, refl, refl)) }; shape = λ tree. refl }
 
 abbrev pub last_set_query : ℕ → Query
 last_set_query tree = by (simple tree [] (col 1 0 ∷ [])) ((col 1 0, record { descending = true; collation = Binary }) ∷ []) (lit (Int (pos 1))) (lit (Int (pos 0)))
 
 pub last_set_is : Asks Sets LAST_SET.now last_set_query (codes "number" ∷ [])
-unfolding first combine named paging everything
-last_set_is = record { queries = λ tree. record { parsed = _; select = _; source = _; page = _; shown = _; read = refl; is = (refl, refl, refl, refl); core = (refl, refl, refl); from = (refl, refl, refl, refl, refl); shows = (tt, tt); filter = tt; sorts = (tt, tt); paged = λ s. refl; named = (refl, refl); becomes = (refl, (refl, refl, refl)) }; shape = λ tree. refl }
+last_set_is = unfold compiling in record { queries = λ tree. record { parsed = _; select = _; source = _; page = _; shown = _; read = refl; is = (refl, refl, refl, refl); core = (refl, refl, refl); from = (refl, refl, refl, refl, refl); shows = (tt, tt); filter = tt; sorts = (tt, tt); paged = λ s. refl; named = (refl, refl); becomes = (refl, (refl, refl, refl)) }; shape = λ tree. refl }
 
 abbrev pub name_columns : List Term
 name_columns = col 1 2 ∷ col 1 3 ∷ []
 
 pub get_set_is : Asks Sets GET_SET.now (λ tree. simple tree (at_key 0 0 ∷ []) name_columns) (codes "name" ∷ codes "version" ∷ [])
-unfolding first combine named paging everything
-get_set_is = record { queries = λ tree. record { parsed = _; select = _; source = _; page = _; shown = _; read = refl; is = (refl, refl, refl, refl); core = (refl, refl, refl); from = (refl, refl, refl, refl, refl); shows = (tt, (tt, tt)); filter = ((refl, λ cx how x y. refl), tt, tt); sorts = tt; paged = λ s. refl; named = (refl, refl); becomes = (refl, (refl, refl, refl)) }; shape = λ tree. refl }
+get_set_is = unfold compiling in record { queries = λ tree. record { parsed = _; select = _; source = _; page = _; shown = _; read = refl; is = (refl, refl, refl, refl); core = (refl, refl, refl); from = (refl, refl, refl, refl, refl); shows = (tt, (tt, tt)); filter = ((refl, λ cx how x y. refl), tt, tt); sorts = tt; paged = λ s. refl; named = (refl, refl); becomes = (refl, (refl, refl, refl)) }; shape = λ tree. refl }
 
 abbrev pub set_modules_query : ℕ → Query
 set_modules_query tree = by (simple tree (at_key 1 0 ∷ []) (col 1 3 ∷ [])) ((col 1 2, record { descending = false; collation = Binary }) ∷ []) (lit (Int (negsuc 0))) (lit (Int (pos 0)))
 
 pub list_set_modules_is : Asks SetModules LIST_SET_MODULES.now set_modules_query (codes "module" ∷ [])
-unfolding first combine named paging everything
-list_set_modules_is = record { queries = λ tree. record { parsed = _; select = _; source = _; page = _; shown = _; read = refl; is = (refl, refl, refl, refl); core = (refl, refl, refl); from = (refl, refl, refl, refl, refl); shows = (tt, tt); filter = ((refl, λ cx how x y. refl), tt, tt); sorts = (tt, tt); paged = λ s. refl; named = (refl, refl); becomes = (refl, (refl, refl, refl)) }; shape = λ tree. refl }
+list_set_modules_is = unfold compiling in record { queries = λ tree. record { parsed = _; select = _; source = _; page = _; shown = _; read = refl; is = (refl, refl, refl, refl); core = (refl, refl, refl); from = (refl, refl, refl, refl, refl); shows = (tt, tt); filter = ((refl, λ cx how x y. refl), tt, tt); sorts = (tt, tt); paged = λ s. refl; named = (refl, refl); becomes = (refl, (refl, refl, refl)) }; shape = λ tree. refl }
 
 abbrev pub locked_query : ℕ → Query
 locked_query tree = by (simple tree (at_key 3 0 ∷ []) (col 1 1 ∷ [])) [] (lit (Int (pos 1))) (lit (Int (pos 0)))
 
 pub module_locked_is : Asks SetModules MODULE_LOCKED.now locked_query (codes "dset" ∷ [])
-unfolding first combine named paging everything
-module_locked_is = record { queries = λ tree. record { parsed = _; select = _; source = _; page = _; shown = _; read = refl; is = (refl, refl, refl, refl); core = (refl, refl, refl); from = (refl, refl, refl, refl, refl); shows = (tt, tt); filter = ((refl, λ cx how x y. refl), tt, tt); sorts = tt; paged = λ s. refl; named = (refl, refl); becomes = (refl, (refl, refl, refl)) }; shape = λ tree. refl }
+module_locked_is = unfold compiling in record { queries = λ tree. record { parsed = _; select = _; source = _; page = _; shown = _; read = refl; is = (refl, refl, refl, refl); core = (refl, refl, refl); from = (refl, refl, refl, refl, refl); shows = (tt, tt); filter = ((refl, λ cx how x y. refl), tt, tt); sorts = tt; paged = λ s. refl; named = (refl, refl); becomes = (refl, (refl, refl, refl)) }; shape = λ tree. refl }
 
 abbrev pub set_terms : List Term
 set_terms = col 0 0 ∷ lit Null ∷ col 0 1 ∷ col 0 2 ∷ []
 
 pub put_set_is : Puts Sets PUT_SET.now (Values set_terms 4)
-unfolding first new_rows everything
-put_set_is = record { adds = λ tree. record { parsed = _; columns = _; rows = _; read = refl; statement = refl; formats = refl; fits = λ s. refl }; plain = λ tree. refl }
+put_set_is = unfold compiling in record { adds = λ tree. record { parsed = _; columns = _; rows = _; read = refl; statement = refl; formats = refl; fits = λ s. refl }; plain = λ tree. refl }
 
 abbrev pub set_module_terms : List Term
 set_module_terms = lit Null ∷ col 0 0 ∷ col 0 1 ∷ col 0 2 ∷ []
 
 pub put_set_module_is : Puts SetModules PUT_SET_MODULE.now (Values set_module_terms 4)
-unfolding first new_rows everything
-put_set_module_is = record { adds = λ tree. record { parsed = _; columns = _; rows = _; read = refl; statement = refl; formats = refl; fits = λ s. refl }; plain = λ tree. refl }
+put_set_module_is = unfold compiling in record { adds = λ tree. record { parsed = _; columns = _; rows = _; read = refl; statement = refl; formats = refl; fits = λ s. refl }; plain = λ tree. refl }

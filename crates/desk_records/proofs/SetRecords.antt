@@ -1,80 +1,130 @@
 -- The statements on distribution sets, in records.
-use Rattle.desk_records.proofs.Common.{◌≡◌, ◌≤◌, ◌++◌, ℕ, ◌+◌, pos, List, [], ◌∷◌, length, Option, None, option_map, refl, sym, ap, subst, ◌∙◌, list_any}
-use Rattle.desk_records.proofs.Common.{is_some, Int, Row, col, Select, Insert, Values, Database, State, Writes, rows_from, IsHeldBy, ShowsFirst, simple}
-use Rattle.desk_records.proofs.Common.{inserts, Bytes, SetLabel, item_numbered, modules_of_set, Records, is_named_by_set, IsLastRow, Sets, SetModules}
-use Rattle.desk_records.proofs.Common.{set_table, set_module_table, set_row, place_row, place_rows_from, is_same_set, names_of, module_rows, with_set}
-use Rattle.desk_records.proofs.Common.{and_module}
-use Rattle.desk_records.proofs.Common.{AddsSetModule, HoldsRecords, ledger_of, Ordered, Unordered}
+use Rattle.desk_records.proofs.Common.{◌≡◌, ◌≤◌, ◌==◌, ◌||◌, ◌++◌, ℕ, ◌+◌, pos, negsuc, List, [], ◌∷◌, map, filter, take, length, Bool, not, true, false}
+use Rattle.desk_records.proofs.Common.{Option, Some, None, option_map, refl, sym, ap, ap₂, subst, ◌∙◌, arith, nat_eq, list_any, is_some, nat_tests, length-map}
+use Rattle.desk_records.proofs.Common.{list_any-append, IsPermutation, IsPermutation-trans, length_permutation, Null, Int, Row, lit, col, Output, Select}
+use Rattle.desk_records.proofs.Common.{Insert, Values, Database, State, Writes, rows_from, ShowsFirst, simple, passes, shown_in, ordered_rows, cast_int}
+use Rattle.desk_records.proofs.Common.{cast_null, on_content, held_seen, Bytes, SetLabel, same_bytes, item_numbered, modules_of_set, Records, is_named_by_set}
+use Rattle.desk_records.proofs.Common.{IsLastRow, parts_of, Sets, SetModules, set_row, place_row, place_rows_from, is_same_set, names_of, module_rows}
+use Rattle.desk_records.proofs.Common.{set_named, with_set, and_module, AddsSetModule, HoldsRecords, ledger_of, Ordered, Unordered, and-true}
 use Rattle.sqlite.specs.Effect.{Reads as Shows}
-use Rattle.desk_records.proofs.HoldsAfter.{ChangesOnly, holds_after, records_differ}
+use Rattle.desk_records.proofs.Comparisons.{words_equal, numbers_equal}
+use Rattle.desk_records.proofs.HoldsAfter.{ChangesOnly, puts, puts_next, records_differ}
+use Rattle.desk_records.proofs.LedgerLists.{last_is_more}
 use Rattle.desk_records.proofs.MeaningWords.{at_key}
+use Rattle.desk_records.proofs.NumberedReads.{finds, lasts, gets, passes_number, some_pass, some_row}
+use Rattle.desk_records.proofs.PartReads.{all_shown, reads_parts}
+use Rattle.desk_records.proofs.Parts.{same_rows, no_parts}
 use Rattle.desk_records.proofs.SetMeaning.{same_names, last_set_query, name_columns, set_terms, set_modules_query, locked_query, set_module_terms}
-use Rattle.desk_records.proofs.Sets as lists
+
+abbrev modules : SetLabel → List ℕ
+modules set = set.modules
+
+abbrev told_place : ℕ → Row
+told_place m = Int (pos m) ∷ []
+
+its_modules : (found : Option SetLabel) → parts_of modules found ≡ modules_of_set found
+its_modules found = grind arith
 
 module _ (db : Database) (now : Records) (holds : HoldsRecords db now) (names : List (List ℕ)) where
   -- whether a set is there
   pub finds_set : (name version : Bytes) (row : Option Row)
       → ShowsFirst (Select (record { lets = []; body = simple (holds.spot Sets).tree same_names (col 1 0 ∷ []) }) names) db (names_of name version) row
       → is_some row ≡ list_any (is_same_set name version) now.sets
-  finds_set = lists.finds_set (holds.spot Sets).tree db now.sets (holds.rows Sets) names
+  finds_set name version = finds set_row (holds.spot Sets).tree db now.sets (holds.rows Sets) names same_names (col 1 0 ∷ []) (names_of name version)
+      (is_same_set name version) (λ n set. rw (words_equal set.name name, words_equal set.version version, and-true (same_bytes set.version version)) refl)
 
   -- the last number
   pub lasts_set : (row : Option Row) → ShowsFirst (Select (record { lets = []; body = last_set_query (holds.spot Sets).tree }) names) db [] row
       → IsLastRow (length now.sets) row
-  lasts_set = lists.lasts_set (holds.spot Sets).tree db now.sets (holds.rows Sets) names
+  lasts_set = lasts set_row (holds.spot Sets).tree db now.sets (holds.rows Sets) names (λ n x. refl)
 
   -- a set's names by its number
   pub gets_set : (number : ℕ) → 1 ≤ number → (row : Option Row)
       → ShowsFirst (Select (record { lets = []; body = simple (holds.spot Sets).tree (at_key 0 0 ∷ []) name_columns }) names) db (Int (pos number) ∷ []) row
       → row ≡ option_map (λ (set : SetLabel). names_of set.name set.version) (item_numbered now.sets number)
-  gets_set = lists.gets_set (holds.spot Sets).tree db now.sets (holds.rows Sets) names
+  gets_set = gets set_row (holds.spot Sets).tree db now.sets (holds.rows Sets) names (λ n x. refl) (at_key 0 0 ∷ []) name_columns
+      (passes_number set_row (λ n x. refl))
 
   -- its modules
   pub lists_set_modules : (number : ℕ) → 1 ≤ number → (rows : List Row)
       → Shows (Select (record { lets = []; body = set_modules_query (holds.spot SetModules).tree }) names) db (Int (pos number) ∷ []) rows
       → rows ≡ module_rows (modules_of_set (item_numbered now.sets number))
-  lists_set_modules = lists.lists_set_modules (holds.spot SetModules).tree db now.sets (holds.rows SetModules) names
+  lists_set_modules number least rows shows =
+      let test = at_key 1 0 ∷ [] in
+      let params = Int (pos number) ∷ [] in
+      let same : nat_eq number number ≡ true = grind (arith, nat_tests) in
+      reads_parts told_place modules (holds.spot SetModules).tree test (col 1 3 ∷ []) (lit (Int (negsuc 0))) (lit (Int (pos 0))) params false number least
+      (λ id x. refl) (λ id x. refl) (λ n place m apart. and-true _ ∙ numbers_equal n number ∙ apart) db.trees now.sets (holds.rows SetModules) rows
+      (shows.answer Null)
+      ∙ all_shown told_place told_place number test (col 1 3 ∷ []) params (λ place m. and-true _ ∙ numbers_equal number number ∙ same) (λ place m. refl) 1
+      (parts_of modules (item_numbered now.sets number))
+      ∙ ap module_rows (its_modules (item_numbered now.sets number))
+
+  -- ---- whether a set names a module
+
+  abbrev tree : ℕ
+  tree = (holds.spot SetModules).tree
+
+  abbrev is_at : ℕ → Row → Bool
+  is_at m = on_content (passes (at_key 3 0 ∷ []) (Int (pos m) ∷ []))
+
+  any_place : (m n place : ℕ) (ms : List ℕ) → list_any (is_at m) (rows_from (place_row n) place ms) ≡ list_any (λ k. nat_eq k m) ms
+  any_place m n place [] = refl
+  any_place m n place (k ∷ ms) = ap₂ ◌||◌ (and-true _ ∙ numbers_equal k m) (any_place m n (place + 1) ms)
+
+  any_set : (m n : ℕ) (sets : List SetLabel) → list_any (is_at m) (place_rows_from n sets) ≡ is_named_by_set sets m
+  any_set m n [] = refl
+  any_set m n (set ∷ sets) = grind (arith, any_set m (n + 1) sets, list_any-append, any_place)
+
+  first_left : {X : Type 0} (xs : List X) → not (length (take 1 xs) == 0) ≡ not (length xs == 0)
+  first_left xs = grind (arith, nat_tests)
+
+  searched : (m : ℕ) (rows : List Row) → Shows (Select (record { lets = []; body = locked_query tree }) names) db (Int (pos m) ∷ []) rows
+      → not (length rows == 0) ≡ is_named_by_set now.sets m
+  searched m rows shows =
+      let params = Int (pos m) ∷ [] in
+      let query = locked_query tree in
+      let test = at_key 3 0 ∷ [] in
+      let f = shown_in query params in
+      let it = ordered_rows tree test (col 1 1 ∷ []) query.order query.limit query.offset params db.trees rows (shows.answer Null) in
+      let seen = held_seen (passes test params) (λ id x. refl) f (λ id x. refl) (db.trees tree) (place_rows_from 1 now.sets) (holds.rows SetModules) in
+      let found = filter (is_at m) (place_rows_from 1 now.sets) in
+      let count : length (map (λ (o : Output). o.1) it.ordered) ≡ length found =
+      length-map it.ordered (λ (o : Output). o.1) ∙ length_permutation _ _ (IsPermutation-trans _ _ _ seen it.same) ∙ length-map found (on_content f) in
+      ap (λ (l : List Row). not (length l == 0)) it.is ∙ first_left (map (λ (o : Output). o.1) it.ordered) ∙ ap (λ n. not (n == 0)) count
+      ∙ some_pass (is_at m) (place_rows_from 1 now.sets) ∙ any_set m 1 now.sets
 
   -- whether a set names a module
-  pub finds_lock : (m : ℕ) (row : Option Row) → ShowsFirst (Select (record { lets = []; body = locked_query (holds.spot SetModules).tree }) names) db
-      (Int (pos m) ∷ []) row → is_some row ≡ is_named_by_set now.sets m
-  finds_lock = lists.finds_lock (holds.spot SetModules).tree db now.sets (holds.rows SetModules) names
+  pub finds_lock : (m : ℕ) (row : Option Row) → ShowsFirst (Select (record { lets = []; body = locked_query tree }) names) db (Int (pos m) ∷ []) row
+      → is_some row ≡ is_named_by_set now.sets m
+  finds_lock m None shows = searched m [] shows
+  finds_lock m (Some row) shows = sym (some_row row shows.0) ∙ searched m (row ∷ shows.0) shows.1
 
 pub adds_set : (name version : Bytes) (number : ℕ) (old new : State) (text : List ℕ) (count : ℕ) (now : Records) (holds : HoldsRecords old.now now) → number
     ≡ length now.sets + 1
     → (w : Writes old new None (Insert (holds.spot Sets).at (Values set_terms 4)) text (Int (pos number) ∷ names_of name version) count)
     → HoldsRecords new.now (with_set now name version)
 adds_set name version number old new text count now holds next w =
-    let spot = holds.spot Sets in
-    let made = inserts old.now.schema spot.at (set_table spot.tree) set_terms 4 (holds.stands Sets).got old new refl text
-    (Int (pos number) ∷ names_of name version) count w in
-    let table = lists.set_added name version number spot.tree old.now.schema old.now new.now now.sets (holds.rows Sets) next made in
-    holds_after Sets now (with_set now name version) old.now new.now holds (record { schema = made.schema_is; sound = w.sound; others = made.applies.tables })
-    table only holds.sorted
-  where
-    only : ChangesOnly Sets (ledger_of now) (ledger_of (with_set now name version))
-    only = records_differ Sets now (with_set now name version) refl refl (Sets ∷ SetModules ∷ []) refl
-        ((λ apart. absurd (apart refl)), ((λ apart. ap Unordered (lists.no_places name version 1 now.sets)), tt))
+    puts_next Sets (ledger_of now) (ledger_of (with_set now name version))
+    (records_differ Sets now (with_set now name version) refl refl (Sets ∷ SetModules ∷ []) refl
+    ((λ apart. absurd (apart refl)), ((λ apart. ap Unordered (no_parts place_row modules (set_named name version) refl 1 now.sets)), tt))) holds.sorted set_row
+    (λ n x. refl) now.sets (set_named name version) number next set_terms 4 holds w (λ tree. refl) (λ db tree. rw (cast_int number, cast_null) refl) refl refl
 
 pub adds_set_module : (number place m : ℕ) (old new : State) (text : List ℕ) (count : ℕ) (now next : Records) (holds : HoldsRecords old.now now)
     → AddsSetModule number place m now next
     → (w : Writes old new None (Insert (holds.spot SetModules).at (Values set_module_terms 4)) text (place_row number place m) count)
     → HoldsRecords new.now next
 adds_set_module number place m old new text count now next holds change w =
-    let spot = holds.spot SetModules in
     let after = record now { sets = change.before ++ and_module change.set m ∷ [] } in
-    let made = inserts old.now.schema spot.at (set_module_table spot.tree) set_module_terms 4 (holds.stands SetModules).got old new refl text
-    (place_row number place m) count w in
-    let were : IsHeldBy (old.now.trees spot.tree) (place_rows_from 1 (change.before ++ change.set ∷ [])) =
-    subst (λ sets. IsHeldBy (old.now.trees spot.tree) (place_rows_from 1 sets)) change.last (holds.rows SetModules) in
-    let table = lists.set_module_added number place m spot.tree old.now.schema old.now new.now change.before change.set were change.number_is change.place_is
-    made in
+    let row = place_row number place m in
     subst (HoldsRecords new.now) (sym change.next_is)
-    (holds_after SetModules now after old.now new.now holds (record { schema = made.schema_is; sound = w.sound; others = made.applies.tables }) table only
-    holds.sorted)
+    (puts SetModules (ledger_of now) (ledger_of after) only holds.sorted set_module_terms 4 holds w (λ tree. refl) row row (λ tree. refl)
+    (λ tree. rw (cast_int number, cast_int place, cast_int m) refl) refl refl
+    (subst (λ sets. IsPermutation (place_rows_from 1 after.sets) (row ∷ place_rows_from 1 sets)) (sym change.last)
+    (last_is_more place_row modules change.set (and_module change.set m) m refl number place change.before change.number_is change.place_is)))
   where
     only : ChangesOnly SetModules (ledger_of now) (ledger_of (record now { sets = change.before ++ and_module change.set m ∷ [] }))
     only = records_differ SetModules now (record now { sets = change.before ++ and_module change.set m ∷ [] }) refl refl (Sets ∷ SetModules ∷ []) refl (
-      (λ apart. ap Ordered (lists.same_sets 1 change.before change.set m ∙ ap (rows_from set_row 1) (sym change.last))),
+      (λ apart. ap Ordered (same_rows set_row change.set (and_module change.set m) (λ n. refl) 1 change.before ∙ ap (rows_from set_row 1) (sym change.last))),
       ((λ apart. absurd (apart refl)), tt),
     )

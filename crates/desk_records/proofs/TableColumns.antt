@@ -1,8 +1,8 @@
 -- The columns of the tables of a desk are of their kinds, in each sound database.
-use Rattle.desk_records.proofs.Common.{◌≡◌, ℕ, zero, suc, ◌+◌, ℤ, true, false, pos, List, [], ◌∷◌, drop, slice_get, Option, Some, true≢false, refl, sym, ap}
-use Rattle.desk_records.proofs.Common.{subst, ◌∙◌, arith, if◌then◌else◌, and_parts, Value, Null, Int, Real, Text, Blob, Row, column, is_null, is_of, suits}
+use Rattle.desk_records.proofs.Common.{◌≡◌, ℕ, zero, suc, ◌+◌, ℤ, true, false, pos, List, [], ◌∷◌, drop, slice_get, Option, Some, refl, sym, ap}
+use Rattle.desk_records.proofs.Common.{subst, ◌∙◌, arith, and_parts, Value, Int, Row, column, is_null, is_of}
 use Rattle.desk_records.proofs.Common.{are_typed, are_present, Has, all_has, all-slice_get, Database, passes, lies_at, has_at, Place, table_at, table_by}
-use Rattle.desk_records.proofs.Common.{HoldsTables, Tables, is_there}
+use Rattle.desk_records.proofs.Common.{HoldsTables, Tables}
 use Rattle.sqlite_schema.specs.declared.schema.Kind.TheVariants as kind
 use Rattle.sqlite_schema.specs.declared.schema.Column.{Column}
 use Rattle.sqlite_schema.specs.declared.schema.Constraint.TheVariants.{Datatype, NotNull}
@@ -18,41 +18,24 @@ typed_from : (key : Option ℕ) (at : ℕ) (columns : List Column) (vs : Row) (k
 typed_from key at [] vs k c there strict apart typed = absurd cc
 typed_from key at (x ∷ columns) [] zero c there strict apart typed = refl
 typed_from key at (x ∷ columns) [] (suc k) c there strict apart typed =
-    typed_from key (at + 1) columns [] k c there strict (subst (λ n. is_key key n ≡ false) {y = at + 1 + k} (omega arith) apart) (and_parts _ _ typed).1
-typed_from key at (x ∷ columns) (v ∷ vs) zero c there strict apart typed =
-    let same : x ≡ c = cc in
-    let here : is_key key at ≡ false = subst (λ n. is_key key n ≡ false) {y = at} (omega arith) apart in
-    let its : (if is_key key at then is_null v else suits x v) ≡ true = (and_parts _ _ typed).0 in
-    let suits_it : suits x v ≡ true = rw here at its in
-    let suits_c : suits c v ≡ true = ap (λ (y : Column). suits y v) (sym same) ∙ suits_it in
-    rw strict at suits_c
+    grind (arith, typed_from key (at + 1) columns [] k c there strict, is_key, and_parts, typed)
+typed_from key at (x ∷ columns) (v ∷ vs) zero c there strict apart typed = grind (arith, there, strict, apart, typed)
 typed_from key at (x ∷ columns) (v ∷ vs) (suc k) c there strict apart typed =
-    typed_from key (at + 1) columns vs k c there strict (subst (λ n. is_key key n ≡ false) {y = at + 1 + k} (omega arith) apart) (and_parts _ _ typed).1
+    grind (arith, typed_from key (at + 1) columns vs k c there strict, is_key, and_parts, typed)
 
 present_from : (key : Option ℕ) (at : ℕ) (columns : List Column) (row : Row) (k : ℕ) (c : Column) → slice_get columns k ≡ Some c → c.not_null ≡ true
     → is_key key (at + k) ≡ false
     → are_present key at columns row ≡ true → is_null (column row (at + k + 1)) ≡ false
 present_from key at [] row k c there filled apart h = absurd cc
-present_from key at (x ∷ columns) row zero c there filled apart h =
-    let same : x ≡ c = cc in
-    let here : at + 0 ≡ at = omega arith in
-    ap (λ n. is_null (column row (n + 1))) here
-    ∙ is_there (is_key key at) x.not_null _ (ap (is_key key) (sym here) ∙ apart) (ap (λ (y : Column). y.not_null) same ∙ filled) (and_parts _ _ h).0
+present_from key at (x ∷ columns) row zero c there filled apart h = grind (arith, there, filled, apart, h)
 present_from key at (x ∷ columns) row (suc k) c there filled apart h =
-    let on : at + suc k ≡ at + 1 + k = omega arith in
-    ap (λ n. is_null (column row (n + 1))) on ∙ present_from key (at + 1) columns row k c there filled (ap (is_key key) (sym on) ∙ apart) (and_parts _ _ h).1
+    grind (arith, present_from key (at + 1) columns row k c there filled, column, is_key, and_parts)
 
 number_there : (v : Value) → is_null v ≡ false → is_of kind.Integer v ≡ true → (n : ℤ) × (v ≡ Int n)
-number_there Null a b = absurd (true≢false a)
-number_there (Int n) a b = (n, refl)
-number_there (Real x) a b = absurd (true≢false (sym b))
-number_there (Text t) a b = absurd (true≢false (sym b))
-number_there (Blob t) a b = absurd (true≢false (sym b))
+number_there v a b = grind arith
 
 behind : (row : Row) (k : ℕ) → column (drop 1 row) k ≡ column row (suc k)
-behind [] zero = refl
-behind [] (suc k) = refl
-behind (v ∷ row) k = refl
+behind row k = grind arith
 
 -- a column of whole numbers, which is given and isn't the rowid
 pub record IsInteger (p : Place) (k : ℕ) : Type 0 where

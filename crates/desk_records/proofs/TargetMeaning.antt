@@ -1,20 +1,9 @@
 -- Written by tools/meanings. What it makes is proved; the tool is not trusted.
 -- What the texts of src/target_texts.rt mean, wherever their tables stand.
-use Rattle.std.proofs.Common.{refl, List, [], ◌∷◌, ℕ, codes, pos, negsuc, false}
-use Rattle.sqlite.specs.declared.types.Value.TheVariants.{Null, Int}
-use Rattle.sqlite.specs.Collation.TheVariants.{Binary}
-use Rattle.sqlite.specs.Source.TheVariants.{Values}
-use Rattle.sqlite.specs.Query.{Query}
-use Rattle.sqlite.specs.Term.{Term, lit, col}
-use Rattle.sqlite_tied.specs.Compute.{everything}
-use Rattle.sqlite_resolve.specs.Compile.{first, new_rows}
-use Rattle.sqlite_resolve.specs.Expr.{combine}
-use Rattle.sqlite_resolve.specs.Select.{named, paging}
-use Rattle.sqlite_resolve.specs.Write.{updated, deleted}
-use Rattle.sql_calls.proofs.Selects.{simple, by}
+use Rattle.desk_records.proofs.Common.{refl, List, [], ◌∷◌, ℕ, codes, pos, negsuc, false, Null, Int, Binary, Values, Query, Term, lit, col, simple, by}
 use Rattle.desk_records.specs.declared.target_texts.TheConstants.{GET_TARGET, COUNT_TARGETS, LIST_TARGETS, LIST_TARGET_TAGS, PUT_TARGET, SET_TARGET, PUT_TARGET_TAG, DROP_TARGET_TAG, LIST_TARGET_ATTRIBUTES, PUT_TARGET_ATTRIBUTE, SET_TARGET_ATTRIBUTE}
 use Rattle.desk_records.specs.Schema.{Targets, TargetTags, TargetAttributes}
-use Rattle.desk_records.proofs.MeaningWords.{Asks, Counts, Puts, Changes, Drops, at_key}
+use Rattle.desk_records.proofs.MeaningWords.{compiling, Asks, Counts, Puts, Changes, Drops, at_key}
 
 abbrev pub of_target : List Term
 of_target = at_key 1 0 ∷ []
@@ -23,33 +12,28 @@ abbrev pub target_columns : List Term
 target_columns = col 1 2 ∷ col 1 3 ∷ []
 
 pub get_target_is : Asks Targets GET_TARGET.now (λ tree. simple tree of_target target_columns) (codes "name" ∷ codes "digest" ∷ [])
-unfolding first combine named paging everything
-get_target_is = record { queries = λ tree. record { parsed = _; select = _; source = _; page = _; shown = _; read = refl; is = (refl, refl, refl, refl); core = (refl, refl, refl); from = (refl, refl, refl, refl, refl); shows = (tt, (tt, tt)); filter = ((refl, λ cx how x y. refl), tt, tt); sorts = tt; paged = λ s. refl; named = (refl, refl); becomes = (refl, (refl, refl, refl)) }; shape = λ tree. refl }
+get_target_is = unfold compiling in record { queries = λ tree. record { parsed = _; select = _; source = _; page = _; shown = _; read = refl; is = (refl, refl, refl, refl); core = (refl, refl, refl); from = (refl, refl, refl, refl, refl); shows = (tt, (tt, tt)); filter = ((refl, λ cx how x y. refl), tt, tt); sorts = tt; paged = λ s. refl; named = (refl, refl); becomes = (refl, (refl, refl, refl)) }; shape = λ tree. refl }
 
 pub count_targets_is : Counts Targets COUNT_TARGETS.now
-unfolding first combine named paging everything
-count_targets_is = record { queries = λ tree. record { parsed = _; select = _; source = _; page = _; shown = _; read = refl; is = (refl, refl, refl, refl); core = (refl, refl, refl); from = (refl, refl, refl, refl, refl); shows = (tt, tt); filter = tt; sorts = tt; paged = λ s. refl; named = (refl, refl); becomes = (refl, (refl, refl, refl)) } }
+count_targets_is = unfold compiling in record { queries = λ tree. record { parsed = _; select = _; source = _; page = _; shown = _; read = refl; is = (refl, refl, refl, refl); core = (refl, refl, refl); from = (refl, refl, refl, refl, refl); shows = (tt, tt); filter = tt; sorts = tt; paged = λ s. refl; named = (refl, refl); becomes = (refl, (refl, refl, refl)) } }
 
 abbrev pub targets_query : ℕ → Query
 targets_query tree = by (simple tree [] (col 1 1 ∷ col 1 2 ∷ [])) ((col 1 1, record { descending = false; collation = Binary }) ∷ []) (col 0 0) (col 0 1)
 
 pub list_targets_is : Asks Targets LIST_TARGETS.now targets_query (codes "controller" ∷ codes "name" ∷ [])
-unfolding first combine named paging everything
-list_targets_is = record { queries = λ tree. record { parsed = _; select = _; source = _; page = _; shown = _; read = refl; is = (refl, refl, refl, refl); core = (refl, refl, refl); from = (refl, refl, refl, refl, refl); shows = (tt, (tt, tt)); filter = tt; sorts = (tt, tt); paged = λ s. refl; named = (refl, refl); becomes = (refl, (refl, refl, refl)) }; shape = λ tree. refl }
+list_targets_is = unfold compiling in record { queries = λ tree. record { parsed = _; select = _; source = _; page = _; shown = _; read = refl; is = (refl, refl, refl, refl); core = (refl, refl, refl); from = (refl, refl, refl, refl, refl); shows = (tt, (tt, tt)); filter = tt; sorts = (tt, tt); paged = λ s. refl; named = (refl, refl); becomes = (refl, (refl, refl, refl)) }; shape = λ tree. refl }
 
 abbrev pub tags_query : ℕ → Query
 tags_query tree = by (simple tree of_target (col 1 2 ∷ [])) ((col 1 2, record { descending = false; collation = Binary }) ∷ []) (lit (Int (negsuc 0))) (lit (Int (pos 0)))
 
 pub list_target_tags_is : Asks TargetTags LIST_TARGET_TAGS.now tags_query (codes "tag" ∷ [])
-unfolding first combine named paging everything
-list_target_tags_is = record { queries = λ tree. record { parsed = _; select = _; source = _; page = _; shown = _; read = refl; is = (refl, refl, refl, refl); core = (refl, refl, refl); from = (refl, refl, refl, refl, refl); shows = (tt, tt); filter = ((refl, λ cx how x y. refl), tt, tt); sorts = (tt, tt); paged = λ s. refl; named = (refl, refl); becomes = (refl, (refl, refl, refl)) }; shape = λ tree. refl }
+list_target_tags_is = unfold compiling in record { queries = λ tree. record { parsed = _; select = _; source = _; page = _; shown = _; read = refl; is = (refl, refl, refl, refl); core = (refl, refl, refl); from = (refl, refl, refl, refl, refl); shows = (tt, tt); filter = ((refl, λ cx how x y. refl), tt, tt); sorts = (tt, tt); paged = λ s. refl; named = (refl, refl); becomes = (refl, (refl, refl, refl)) }; shape = λ tree. refl }
 
 abbrev pub target_terms : List Term
 target_terms = lit Null ∷ col 0 0 ∷ col 0 1 ∷ col 0 2 ∷ []
 
 pub put_target_is : Puts Targets PUT_TARGET.now (Values target_terms 4)
-unfolding first new_rows everything
-put_target_is = record { adds = λ tree. record { parsed = _; columns = _; rows = _; read = refl; statement = refl; formats = refl; fits = λ s. refl }; plain = λ tree. refl }
+put_target_is = unfold compiling in record { adds = λ tree. record { parsed = _; columns = _; rows = _; read = refl; statement = refl; formats = refl; fits = λ s. refl }; plain = λ tree. refl }
 
 abbrev pub new_values : List Term
 new_values = col 1 1 ∷ col 0 1 ∷ col 0 2 ∷ []
@@ -58,15 +42,13 @@ abbrev pub set_target_query : ℕ → Query
 set_target_query tree = simple tree of_target (col 1 0 ∷ col 1 0 ∷ new_values)
 
 pub set_target_is : Changes Targets SET_TARGET.now set_target_query
-unfolding first combine updated everything
-set_target_is = record { updates = λ tree. record { parsed = _; sets = _; test = _; draft = _; read = refl; is = (refl, refl); values = (tt, (tt, tt)); filter = ((refl, λ cx how x y. refl), tt, tt); known = refl; becomes = (refl, refl, refl) } }
+set_target_is = unfold compiling in record { updates = λ tree. record { parsed = _; sets = _; test = _; draft = _; read = refl; is = (refl, refl); values = (tt, (tt, tt)); filter = ((refl, λ cx how x y. refl), tt, tt); known = refl; becomes = (refl, refl, refl) } }
 
 abbrev pub tag_terms : List Term
 tag_terms = lit Null ∷ col 0 0 ∷ col 0 1 ∷ []
 
 pub put_target_tag_is : Puts TargetTags PUT_TARGET_TAG.now (Values tag_terms 3)
-unfolding first new_rows everything
-put_target_tag_is = record { adds = λ tree. record { parsed = _; columns = _; rows = _; read = refl; statement = refl; formats = refl; fits = λ s. refl }; plain = λ tree. refl }
+put_target_tag_is = unfold compiling in record { adds = λ tree. record { parsed = _; columns = _; rows = _; read = refl; statement = refl; formats = refl; fits = λ s. refl }; plain = λ tree. refl }
 
 abbrev pub of_tag : List Term
 of_tag = at_key 1 0 ∷ at_key 2 1 ∷ []
@@ -75,22 +57,19 @@ abbrev pub drop_tag_query : ℕ → Query
 drop_tag_query tree = simple tree of_tag (col 1 0 ∷ [])
 
 pub drop_target_tag_is : Drops TargetTags DROP_TARGET_TAG.now drop_tag_query
-unfolding first combine deleted everything
-drop_target_tag_is = record { removes = λ tree. record { parsed = _; test = _; draft = _; read = refl; is = (refl, refl); filter = ((refl, λ cx how x y. refl), ((refl, λ cx how x y. refl), tt, tt), ((refl, λ cx how x y. refl), tt, tt)); known = refl; becomes = (refl, refl, refl) } }
+drop_target_tag_is = unfold compiling in record { removes = λ tree. record { parsed = _; test = _; draft = _; read = refl; is = (refl, refl); filter = ((refl, λ cx how x y. refl), ((refl, λ cx how x y. refl), tt, tt), ((refl, λ cx how x y. refl), tt, tt)); known = refl; becomes = (refl, refl, refl) } }
 
 abbrev pub attributes_query : ℕ → Query
 attributes_query tree = by (simple tree of_target (col 1 2 ∷ col 1 3 ∷ [])) ((col 1 2, record { descending = false; collation = Binary }) ∷ []) (lit (Int (negsuc 0))) (lit (Int (pos 0)))
 
 pub list_target_attributes_is : Asks TargetAttributes LIST_TARGET_ATTRIBUTES.now attributes_query (codes "key" ∷ codes "value" ∷ [])
-unfolding first combine named paging everything
-list_target_attributes_is = record { queries = λ tree. record { parsed = _; select = _; source = _; page = _; shown = _; read = refl; is = (refl, refl, refl, refl); core = (refl, refl, refl); from = (refl, refl, refl, refl, refl); shows = (tt, (tt, tt)); filter = ((refl, λ cx how x y. refl), tt, tt); sorts = (tt, tt); paged = λ s. refl; named = (refl, refl); becomes = (refl, (refl, refl, refl)) }; shape = λ tree. refl }
+list_target_attributes_is = unfold compiling in record { queries = λ tree. record { parsed = _; select = _; source = _; page = _; shown = _; read = refl; is = (refl, refl, refl, refl); core = (refl, refl, refl); from = (refl, refl, refl, refl, refl); shows = (tt, (tt, tt)); filter = ((refl, λ cx how x y. refl), tt, tt); sorts = (tt, tt); paged = λ s. refl; named = (refl, refl); becomes = (refl, (refl, refl, refl)) }; shape = λ tree. refl }
 
 abbrev pub attribute_terms : List Term
 attribute_terms = lit Null ∷ col 0 0 ∷ col 0 1 ∷ col 0 2 ∷ []
 
 pub put_target_attribute_is : Puts TargetAttributes PUT_TARGET_ATTRIBUTE.now (Values attribute_terms 4)
-unfolding first new_rows everything
-put_target_attribute_is = record { adds = λ tree. record { parsed = _; columns = _; rows = _; read = refl; statement = refl; formats = refl; fits = λ s. refl }; plain = λ tree. refl }
+put_target_attribute_is = unfold compiling in record { adds = λ tree. record { parsed = _; columns = _; rows = _; read = refl; statement = refl; formats = refl; fits = λ s. refl }; plain = λ tree. refl }
 
 abbrev pub of_attribute : List Term
 of_attribute = at_key 1 0 ∷ at_key 2 1 ∷ []
@@ -102,5 +81,4 @@ abbrev pub set_attribute_query : ℕ → Query
 set_attribute_query tree = simple tree of_attribute (col 1 0 ∷ col 1 0 ∷ new_value)
 
 pub set_target_attribute_is : Changes TargetAttributes SET_TARGET_ATTRIBUTE.now set_attribute_query
-unfolding first combine updated everything
-set_target_attribute_is = record { updates = λ tree. record { parsed = _; sets = _; test = _; draft = _; read = refl; is = (refl, refl); values = (tt, tt); filter = ((refl, λ cx how x y. refl), ((refl, λ cx how x y. refl), tt, tt), ((refl, λ cx how x y. refl), tt, tt)); known = refl; becomes = (refl, refl, refl) } }
+set_target_attribute_is = unfold compiling in record { updates = λ tree. record { parsed = _; sets = _; test = _; draft = _; read = refl; is = (refl, refl); values = (tt, tt); filter = ((refl, λ cx how x y. refl), ((refl, λ cx how x y. refl), tt, tt), ((refl, λ cx how x y. refl), tt, tt)); known = refl; becomes = (refl, refl, refl) } }

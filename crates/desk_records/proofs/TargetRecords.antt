@@ -1,24 +1,25 @@
 -- The statements on targets and their tags, in records.
-use Rattle.desk_records.proofs.Common.{◌≡◌, ◌∷◌, ◌&&◌, ℕ, min, pos, negsuc, List, [], Bool, true, false, cond, not, map, filter, take, drop, flat_map, length}
-use Rattle.desk_records.proofs.Common.{slice_get, Option, Some, None, option_map, refl, sym, ap, ap₂, subst, ◌∙◌, codes, IsPermutation, list_all, and_parts}
-use Rattle.desk_records.proofs.Common.{length-map, take-map, drop-map, IsPermutation-map, IsPermutation-trans, Null, Int, Text, Blob, Row, plain, agree}
-use Rattle.desk_records.proofs.Common.{filter_all, all_of, map-map, cast_all, lit, col, Command, Select, Insert, Update, Delete, Values, Database, State}
-use Rattle.desk_records.proofs.Common.{Writes, IsHeldBy, Rise, strict, ShowsFirst, inserts, on_content, changed, keys_apart, are_whole, reads_key, changes_key}
-use Rattle.desk_records.proofs.Common.{drops, adds_row, reads_risen, simple, passes, shown_of, updates, deletes, same_bytes, with_word, without_word, Bytes}
-use Rattle.desk_records.proofs.Common.{TargetRow, change_target, Records, Target, tags_of, target_of, Targets, TargetTags, TargetAttributes, target_table}
-use Rattle.desk_records.proofs.Common.{target_tag_table, target_row, tag_rows, attribute_rows, in_byte_order, ids_of, keys_of, is_sorted, renamed, tagged}
-use Rattle.desk_records.proofs.Common.{untagged, with_target, with_changed, AddsTarget, AddsTag, HoldsRecords, IsHeld, ledger_of, Unordered, and-true}
+use Rattle.desk_records.proofs.Common.{arith, ◌≡◌, ◌∷◌, ◌&&◌, ℕ, min, pos, negsuc, List, [], Bool, true, cond, not, map, filter, take, drop, flat_map, length}
+use Rattle.desk_records.proofs.Common.{slice_get, Option, Some, None, option_map, refl, sym, ap, subst, ◌∙◌, codes, list_all, and_parts, length-map, take-map}
+use Rattle.desk_records.proofs.Common.{drop-map, IsPermutation-map, Null, Int, Text, Blob, Row, plain, agree, filter_all, all_of, map-map, cast_all, lit, col}
+use Rattle.desk_records.proofs.Common.{Command, Select, Insert, Update, Delete, Values, Database, State, Writes, IsHeldBy, Rise, strict, ShowsFirst, on_content}
+use Rattle.desk_records.proofs.Common.{changed, keys_apart, are_whole, reads_key, changes_key, drops, reads_risen, simple, passes, shown_of, updates, deletes}
+use Rattle.desk_records.proofs.Common.{same_bytes, with_word, without_word, Bytes, TargetRow, change_target, Records, Target, tags_of, target_of, Targets}
+use Rattle.desk_records.proofs.Common.{TargetTags, TargetAttributes, target_table, target_tag_table, target_row, tag_rows, attribute_rows, in_byte_order}
+use Rattle.desk_records.proofs.Common.{ids_of, is_sorted, renamed, tagged, untagged, with_target, with_changed, AddsTarget, AddsTag, HoldsRecords, ledger_of}
+use Rattle.desk_records.proofs.Common.{Unordered, and-true}
 use Rattle.sqlite_value.specs.Keys.{first_key}
 use Rattle.sqlite.specs.Kind.TheVariants as kind
 use Rattle.sqlite.specs.Effect.{Reads as Shows}
 use Rattle.sql_calls.proofs.Counts.{count_query, count_rows, length_held}
-use Rattle.desk_records.proofs.HoldsAfter.{ChangesOnly, holds_after, records_differ}
+use Rattle.desk_records.proofs.HoldsAfter.{ChangesOnly, holds_after, puts, records_differ}
 use Rattle.desk_records.proofs.TargetMeaning.{of_target, target_columns, target_terms, new_values, set_target_query, targets_query, tags_query, tag_terms}
 use Rattle.desk_records.proofs.TargetMeaning.{of_tag, drop_tag_query}
 use Rattle.desk_records.proofs.Comparisons.{words_equal}
 use Rattle.desk_records.proofs.ByteOrder.{sorted_from, in_order_with, in_order_without}
 use Rattle.desk_records.proofs.Targets.{has_id, first_found, changed_map, changed_rows, changed_sorted, rows_of, its_rows, put_is_more, put_rows, put_sorted}
-use Rattle.desk_records.proofs.Targets.{targets_rise, tag_row, tags_rise, tags_sorted, tag_is_more, tag_is_less}
+use Rattle.std.proofs.lemmas.List.{map-id}
+use Rattle.desk_records.proofs.Targets.{keys_rise, tag_row, tags_sorted, tag_is_more, tag_is_less}
 
 -- ---- which rows a statement names
 
@@ -40,10 +41,6 @@ ids_sorted db now holds = (and_parts (in_byte_order (ids_of now.targets)) (list_
 pub each_sorted : (db : Database) (now : Records) → HoldsRecords db now → list_all is_sorted now.targets ≡ true
 each_sorted db now holds = (and_parts (in_byte_order (ids_of now.targets)) (list_all is_sorted now.targets) holds.sorted).1
 
--- contents that are others only in their order
-pub held_as : (rows wanted other : List Row) → IsHeldBy rows wanted → IsPermutation other wanted → IsHeldBy rows other
-held_as rows wanted other h same = record { order = h.order; rising = h.rising; same = IsPermutation-trans _ _ _ same h.same }
-
 -- ---- what is read
 
 -- what is told of a target: name and digest
@@ -59,28 +56,21 @@ shown_tags ws = map (λ (w : Bytes). Text w ∷ []) ws
 
 pub first_row : (command : Command) (db : Database) (params : Row) (is : Option Row)
     → ((rows : List Row) → Shows command db params rows → slice_get rows 0 ≡ is) → (row : Option Row) → ShowsFirst command db params row → row ≡ is
-first_row command db params is all None shown = all [] shown
-first_row command db params is all (Some row) shown = all (row ∷ shown.0) shown.1
+first_row command db params is all row shown = grind arith
 
--- the rows of tags of one target
+-- the rows of what one target has
+pub its_own : {A : Type 0} (row : Bytes → A → Row) (id : Bytes) → ((i : Bytes) (a : A) → is_of id (row i a) ≡ same_bytes i id) → (i : Bytes) (b : Bool)
+    → same_bytes i id ≡ b → (all : List A) → filter (is_of id) (map (row i) all) ≡ cond b (map (row i) all) []
+its_own row id first i b e [] = grind arith
+its_own row id first i b e (a ∷ more) = grind (arith, its_own row id first i b e more, first i a)
+
 module _ (id : Bytes) where
-  its_tags : (i : Bytes) (b : Bool) → same_bytes i id ≡ b → (ws : List Bytes) → filter (is_of id) (map (tag_row i) ws) ≡ cond b (map (tag_row i) ws) []
-  its_tags i true e [] = refl
-  its_tags i false e [] = refl
-  its_tags i true e (w ∷ ws) = rw (names_it id i (Text w ∷ []) [], e) (ap (λ l. tag_row i w ∷ l) (its_tags i true e ws))
-  its_tags i false e (w ∷ ws) = rw (names_it id i (Text w ∷ []) [], e) (its_tags i false e ws)
-
   tags_shown : (found : Option Target) → map (on_content (shown_of (col 1 2 ∷ []) (Text id ∷ []))) (rows_of tag_rows found) ≡ shown_tags (tags_of found)
-  tags_shown None = refl
-  tags_shown (Some t) = each t.tags
-    where
-      each : (ws : List Bytes) → map (on_content (shown_of (col 1 2 ∷ []) (Text id ∷ []))) (map (tag_row t.id) ws) ≡ shown_tags ws
-      each [] = refl
-      each (w ∷ ws) = ap (λ l. (Text w ∷ []) ∷ l) (each ws)
+  tags_shown found = grind (arith, map-map)
 
   found_rise : (found : Option Target) → in_byte_order (tags_of found) ≡ true → Rise 1 (rows_of tag_rows found)
   found_rise None ordered = tt
-  found_rise (Some t) ordered = tags_rise t.id t.tags ordered
+  found_rise (Some t) ordered = keys_rise (λ (w : Bytes). w) (tag_row t.id) 1 (λ a b. refl) t.tags (ap in_byte_order (map-id t.tags) ∙ ordered)
 
 module _ (db : Database) (now : Records) (holds : HoldsRecords db now) (names : List (List ℕ)) where
   -- a target by its id
@@ -119,7 +109,7 @@ module _ (db : Database) (now : Records) (holds : HoldsRecords db now) (names : 
       let table = target_table spot.tree in
       let ts = now.targets in
       let all : filter (on_content (passes [] params)) (map target_row ts) ≡ map target_row ts = filter_all _ _ (all_of _ (λ x. refl) _) in
-      let rise = subst (Rise 0) (sym all) (targets_rise ts (ids_sorted db now holds)) in
+      let rise = subst (Rise 0) (sym all) (keys_rise (λ (t : Target). t.id) target_row 0 (λ a b. refl) ts (ids_sorted db now holds)) in
       reads_risen db.schema table [] 0 (strict (codes "controller") kind.Text true) refl refl refl [] params (λ i x. refl) [] (λ r h. refl)
       (col 1 1 ∷ col 1 2 ∷ []) (λ i x. refl) (col 0 0) (col 0 1)
       db.trees (map target_row ts) (keys_apart db.schema db.trees spot.at table 0 (1 ∷ []) holds.sound (holds.stands Targets).got refl refl)
@@ -139,7 +129,7 @@ module _ (db : Database) (now : Records) (holds : HoldsRecords db now) (names : 
       let wanted = flat_map tag_rows now.targets in
       let found = target_of now id in
       let its : filter (is_of id) wanted ≡ rows_of tag_rows found =
-      its_rows tag_rows (is_of id) id (λ t. its_tags id t.id (same_bytes t.id id) refl t.tags) now.targets
+      its_rows tag_rows (is_of id) id (λ t. its_own tag_row id (λ i w. names_it id i (Text w ∷ []) []) t.id (same_bytes t.id id) refl t.tags) now.targets
       (sorted_from (ids_of now.targets) (ids_sorted db now holds)) in
       let rise = subst (Rise 1) (sym its) (found_rise id found (tags_sorted id now.targets (each_sorted db now holds))) in
       reads_risen db.schema table (1 ∷ []) 1 (strict (codes "tag") kind.Text true) refl refl refl of_target params (λ i x. refl) (0 ∷ []) (first_fixed params)
@@ -156,18 +146,10 @@ pub adds_target : (id name digest : Bytes) (old new : State) (text : List ℕ) (
     → (w : Writes old new None (Insert (holds.spot Targets).at (Values target_terms 4)) text (Text id ∷ Text name ∷ Blob digest ∷ []) count)
     → HoldsRecords new.now next
 adds_target id name digest old new text count now next holds change w =
-    let spot = holds.spot Targets in
-    let params = Text id ∷ Text name ∷ Blob digest ∷ [] in
-    let made = inserts old.now.schema spot.at (target_table spot.tree) target_terms 4 (holds.stands Targets).got old new refl text params count w in
-    let more = adds_row old.now.schema (target_table spot.tree) (1 ∷ []) params target_terms 4 params refl old.now new.now (map target_row now.targets)
-    (holds.rows Targets) made in
-    let table : IsHeld (ledger_of (with_target now id name digest)) Targets (new.now.trees spot.tree) =
-    held_as _ _ _ more (IsPermutation-map target_row _ _ (put_is_more row now.targets change.is_new)) in
+    let given = Text id ∷ Text name ∷ Blob digest ∷ [] in
     subst (HoldsRecords new.now) (sym change.next_is)
-    (holds_after Targets now (with_target now id name digest) old.now new.now holds
-    (record { schema = made.schema_is; sound = w.sound; others = made.applies.tables }) table only
-    (put_sorted row refl now.targets change.is_new holds.sorted)
-    )
+    (puts Targets (ledger_of now) (ledger_of (with_target now id name digest)) only (put_sorted row refl now.targets change.is_new holds.sorted) target_terms 4
+    holds w (λ tree. refl) given given (λ tree. refl) (λ tree. refl) refl refl (IsPermutation-map target_row _ _ (put_is_more row now.targets change.is_new)))
   where
     row : TargetRow
     row = record { id = id; name = name; digest = digest; tags = [] }
@@ -187,10 +169,7 @@ changed_targets : (p : Row → Bool) (g : Row → Row) (id : Bytes) (f : Target 
     → ((t : Target) → g (target_row t) ≡ target_row (f t))
     → (ts : List Target) → changed p g (map target_row ts) ≡ map target_row (change_target id f ts)
 changed_targets p g id f same becomes [] = refl
-changed_targets p g id f same becomes (t ∷ ts) =
-    ap₂ ◌∷◌ (ap (λ b. cond b (g (target_row t)) (target_row t)) (same t)
-    ∙ elim (same_bytes t.id id) as (λ b. cond b (g (target_row t)) (target_row t) ≡ target_row (cond b (f t) t)) [ true ↦ becomes t | false ↦ refl ])
-    (changed_targets p g id f same becomes ts)
+changed_targets p g id f same becomes (t ∷ ts) = grind (arith, changed_targets p g id f same becomes ts, same t, becomes t)
 
 pub sets_target : (id name digest : Bytes) (old new : State) (text : List ℕ) (count : ℕ) (now : Records) (holds : HoldsRecords old.now now)
     → (w : Writes old new None (Update (holds.spot Targets).at (record { lets = []; body = set_target_query (holds.spot Targets).tree })) text
@@ -225,33 +204,20 @@ sets_target id name digest old new text count now holds w =
 -- a change of tags alone leaves the other tables
 only_tags : (now : Records) (id : Bytes) (tags : List Bytes → List Bytes)
     → ChangesOnly TargetTags (ledger_of now) (ledger_of (with_changed now id (λ (it : Target). record it { tags = tags it.tags })))
-only_tags now id tags = records_differ TargetTags now (with_changed now id (λ (it : Target). record it { tags = tags it.tags })) refl refl
-    (Targets ∷ TargetTags ∷ TargetAttributes ∷ []) refl (
-      (λ apart. ap Unordered (changed_map id (λ (it : Target). record it { tags = tags it.tags }) target_row (λ t. refl) now.targets)),
-      (
-        (λ apart. absurd (apart refl)),
-        ((λ apart. ap Unordered (changed_rows id (λ (it : Target). record it { tags = tags it.tags }) attribute_rows (λ t. refl) now.targets)), tt),
-      ),
-    )
+only_tags now id tags = grind (arith, records_differ, changed_map, changed_rows)
 
 tags_keep : (tags : List Bytes → List Bytes) → ((ws : List Bytes) → in_byte_order ws ≡ true → in_byte_order (tags ws) ≡ true) → (t : Target) → is_sorted t
     ≡ true → is_sorted (record t { tags = tags t.tags }) ≡ true
-tags_keep tags keeps t sorted = let parts = and_parts (in_byte_order t.tags) (in_byte_order (keys_of t.attributes)) sorted in rw (keeps t.tags parts.0) parts.1
+tags_keep tags keeps t sorted = grind (arith, keeps t.tags)
 
 pub adds_tag : (id w : Bytes) (old new : State) (text : List ℕ) (count : ℕ) (now next : Records) (holds : HoldsRecords old.now now) → AddsTag id w now next
     → (done : Writes old new None (Insert (holds.spot TargetTags).at (Values tag_terms 3)) text (tag_row id w) count) → HoldsRecords new.now next
 adds_tag id w old new text count now next holds change done =
-    let spot = holds.spot TargetTags in
-    let made = inserts old.now.schema spot.at (target_tag_table spot.tree) tag_terms 3 (holds.stands TargetTags).got old new refl text (tag_row id w) count
-    done in
-    let more = adds_row old.now.schema (target_tag_table spot.tree) (1 ∷ 2 ∷ []) (tag_row id w) tag_terms 3 (tag_row id w) refl old.now new.now
-    (flat_map tag_rows now.targets) (holds.rows TargetTags) made in
-    let table : IsHeld (ledger_of (with_changed now id (tagged w))) TargetTags (new.now.trees spot.tree) =
-    held_as _ _ _ more (tag_is_more id w now.targets (sorted_from (ids_of now.targets) (ids_sorted old.now now holds)) change.is_there change.is_new) in
     subst (HoldsRecords new.now) (sym change.next_is)
-    (holds_after TargetTags now (with_changed now id (tagged w)) old.now new.now holds
-    (record { schema = made.schema_is; sound = done.sound; others = made.applies.tables }) table (only_tags now id (with_word w))
-    (changed_sorted id (tagged w) (λ t. refl) (tags_keep (with_word w) (in_order_with w)) now.targets holds.sorted))
+    (puts TargetTags (ledger_of now) (ledger_of (with_changed now id (tagged w))) (only_tags now id (with_word w))
+    (changed_sorted id (tagged w) (λ t. refl) (tags_keep (with_word w) (in_order_with w)) now.targets holds.sorted) tag_terms 3 holds done (λ tree. refl)
+    (tag_row id w) (tag_row id w) (λ tree. refl) (λ tree. refl) refl refl
+    (tag_is_more id w now.targets (sorted_from (ids_of now.targets) (ids_sorted old.now now holds)) change.is_there change.is_new))
 
 names_tag : (id w i v : Bytes) → not (passes of_tag (tag_row id w) (Null ∷ tag_row i v)) ≡ not (same_bytes i id && same_bytes v w)
 names_tag id w i v = ap not (rw (words_equal i id, words_equal v w) (ap (λ b. same_bytes i id && b) (and-true (same_bytes v w))))

@@ -1,11 +1,11 @@
 -- What the artifacts of a list of accepted commands have: the size and the digest of their contents, and columns that keep their rules.
-use Rattle.desk_records.proofs.Common.{◌≡◌, ◌≤◌, ◌++◌, ◌&&◌, ℕ, zero, suc, ◌*◌, ◌/◌, ◌%◌, ◌^◌, true, List, [], ◌∷◌, length, All, refl, ap, arith, nat_le}
-use Rattle.desk_records.proofs.Common.{length-append, slice_index, list_all, and_parts, le-leb, nat_tests, All-append, All-cons, All-nil, artifact_size_limit}
-use Rattle.desk_records.proofs.Common.{is_byte, is_digest, is_filename, is_number, AddArtifact, ArtifactRecord, added_artifacts, artifacts}
+use Rattle.desk_records.proofs.Common.{◌≡◌, ◌≤◌, ◌++◌, ℕ, zero, suc, ◌*◌, ◌/◌, ◌%◌, ◌^◌, true, List, [], ◌∷◌, length, All, refl, ap, arith}
+use Rattle.desk_records.proofs.Common.{length-append, slice_index, list_all, le-leb, nat_tests, All-append, All-nil, artifact_size_limit}
+use Rattle.desk_records.proofs.Common.{is_byte, is_digest, is_filename, is_number, ArtifactRecord, added_artifacts, artifacts}
 use Rattle.std.specs.Int.{bytes_high_first}
 use Rattle.sha2.specs.Sha256.{digest_bytes, sha256}
 use Rattle.rollout_machine.specs.CommandList.{CommandList, Make, ◌▸◌}
-use Rattle.rollout_machine.specs.CommandRules.{IsWellFormed, is_digest_or_none}
+use Rattle.rollout_machine.specs.CommandRules.{IsWellFormed}
 use Rattle.rollout_machine.specs.Commands.{Command}
 use Rattle.rollout_machine.specs.Digests.{digest_of}
 use Rattle.rollout_machine.specs.Records.{records}
@@ -17,8 +17,7 @@ abbrev pub IsWhole : ArtifactRecord → Type 0
 IsWhole a = (a.size ≡ length a.contents) × (a.digest ≡ digest_of a.contents)
 
 added_are_whole : (c : Command) → All IsWhole (added_artifacts c)
-added_are_whole (AddArtifact upload) = All-cons IsWhole _ [] (refl, refl) (All-nil IsWhole)
-added_are_whole _ = All-nil IsWhole
+added_are_whole c = grind arith
 
 are_whole : (h : CommandList) → All IsWhole (artifacts h)
 are_whole (Make approval) = All-nil IsWhole
@@ -36,18 +35,7 @@ pub record KeepsRules (a : ArtifactRecord) : Type 0 where
   pub few : length a.contents ≤ artifact_size_limit
 
 added_keep : (c : Command) → IsWellFormed c → All KeepsRules (added_artifacts c)
-added_keep (AddArtifact upload) good =
-    let first = and_parts (is_number upload.module_number)
-    (is_filename upload.filename
-    && (is_digest_or_none upload.expected && (nat_le (length upload.contents) artifact_size_limit && list_all is_byte upload.contents))) good in
-    let second = and_parts (is_filename upload.filename)
-    (is_digest_or_none upload.expected && (nat_le (length upload.contents) artifact_size_limit && list_all is_byte upload.contents)) first.1 in
-    let third = and_parts (is_digest_or_none upload.expected) (nat_le (length upload.contents) artifact_size_limit && list_all is_byte upload.contents)
-    second.1 in
-    let low : nat_le (length upload.contents) artifact_size_limit ≡ true =
-    (and_parts (nat_le (length upload.contents) artifact_size_limit) (list_all is_byte upload.contents) third.1).0 in
-    All-cons KeepsRules _ [] (record { module_number = first.0; filename = second.0; few = grind (arith, nat_tests, low) }) (All-nil KeepsRules)
-added_keep _ good = All-nil KeepsRules
+added_keep c good = grind (arith, nat_tests)
 
 keep : (h : CommandList) → IsValid h → All KeepsRules (artifacts h)
 keep (Make approval) valid = All-nil KeepsRules
@@ -73,7 +61,7 @@ so_many (suc k) n = ap suc (so_many k n)
 
 all_bytes : (xs ys : List ℕ) → list_all is_byte xs ≡ true → list_all is_byte ys ≡ true → list_all is_byte (xs ++ ys) ≡ true
 all_bytes [] ys first second = second
-all_bytes (x ∷ xs) ys first second = let parts = and_parts (is_byte x) (list_all is_byte xs) first in rw (parts.0, all_bytes xs ys parts.1 second) refl
+all_bytes (x ∷ xs) ys first second = grind (arith, all_bytes xs ys)
 
 are_bytes : (h : List ℕ) (n : ℕ) → list_all is_byte (digest_bytes h n) ≡ true
 unfolding digest_bytes
@@ -83,8 +71,7 @@ are_bytes h (suc n) = all_bytes (digest_bytes h n) _ (are_bytes h n) (low_bytes 
 are_long : (h : List ℕ) (n : ℕ) → length (digest_bytes h n) ≡ n * 4
 unfolding digest_bytes
 are_long h zero = refl
-are_long h (suc n) = let more = length-append (digest_bytes h n) (bytes_high_first 4 (slice_index h n)) in
-    omega (arith, more, are_long h n, so_many 4 (slice_index h n))
+are_long h (suc n) = grind (arith, are_long h n, length-append, so_many)
 
 pub digest_is_one : (contents : List ℕ) → is_digest (digest_of contents) ≡ true
 unfolding sha256

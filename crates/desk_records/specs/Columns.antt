@@ -37,29 +37,29 @@ has_number _ = false
 
 -- ---- texts
 
--- the value is a text that keeps the rule of names, kinds and versions
+-- the value is a text that keeps a rule
+abbrev pub has_text_of : (List ℕ → Bool) → Value → Bool
+has_text_of rule (Text t) = rule t
+has_text_of rule _ = false
+
+-- .. that of names, kinds and versions
 abbrev pub has_text : Value → Bool
-has_text (Text t) = is_text t
-has_text _ = false
+has_text = has_text_of is_text
 
--- the value is a text that keeps the rule of words
+-- .. of words
 abbrev pub has_word : Value → Bool
-has_word (Text t) = is_word t
-has_word _ = false
+has_word = has_text_of is_word
 
--- the value is a text that keeps the rule of values
+-- .. of values
 abbrev pub has_value : Value → Bool
-has_value (Text t) = is_value t
-has_value _ = false
+has_value = has_text_of is_value
 
 -- any text in UTF-8
 abbrev pub has_filter : Value → Bool
-has_filter (Text t) = is_utf8 t
-has_filter _ = false
+has_filter = has_text_of is_utf8
 
 abbrev pub has_filename : Value → Bool
-has_filename (Text t) = is_filename t
-has_filename _ = false
+has_filename = has_text_of is_filename
 
 -- ---- bytes
 

@@ -28,6 +28,7 @@ pub mod MemberRow
 pub mod Tables
 pub mod Listings
 pub mod TableRows
+pub mod TableTexts
 pub mod PlaceLists
 pub mod FoundPieces
 pub mod CheckedRows

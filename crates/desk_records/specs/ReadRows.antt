@@ -8,162 +8,65 @@ use Rattle.sqlite.specs.Values.{or_null}
 use Rattle.desk_records.specs.Codes.{approval_code, approval_in, feedback_number_in, first_broken, flag, flag_in, group_count_in, number_in}
 use Rattle.desk_records.specs.Codes.{outcome_code, outcome_in, percentage_in, percentage_or_none_in, place_in}
 use Rattle.desk_records.specs.Columns.{has_digest, has_filename, has_filter, has_number, has_size, has_text, has_value, has_word}
-use Rattle.rollout_model.specs.declared.module.ModuleLabel.{ModuleLabel}
-use Rattle.desk_records.specs.declared.set_row.SetName.{SetName}
-use Rattle.desk_records.specs.declared.artifact_row.StoredArtifact.{StoredArtifact}
-use Rattle.rollout_model.specs.declared.artifact.Artifact.{Artifact}
-use Rattle.desk_records.specs.declared.target_row.StoredTarget.{StoredTarget}
-use Rattle.desk_records.specs.declared.target_row.ListedTarget.{ListedTarget}
-use Rattle.rollout_model.specs.declared.target.Attribute.{Attribute}
-use Rattle.desk_records.specs.declared.rollout_row.StoredRollout.{StoredRollout}
-use Rattle.rollout_machine.specs.declared.records.GroupRecord.{GroupRecord}
-use Rattle.desk_records.specs.declared.rollout_row.StoredAction.{StoredAction}
-use Rattle.desk_records.specs.declared.rollout_row.ListedAction.{ListedAction}
-use Rattle.rollout_model.specs.declared.rollout.Offer.{Offer}
-use Rattle.rollout_model.specs.declared.group_rule.GroupRule.{GroupRule}
-use Rattle.desk_records.specs.declared.number_row.PlacedNumber.{PlacedNumber}
-use Rattle.desk_records.specs.declared.number_row.LastNumber.{LastNumber}
+pub use Rattle.rollout_model.specs.declared.module.ModuleLabel.{ModuleLabel}
+pub use Rattle.desk_records.specs.declared.set_row.SetName.{SetName}
+pub use Rattle.desk_records.specs.declared.artifact_row.StoredArtifact.{StoredArtifact}
+pub use Rattle.rollout_model.specs.declared.artifact.Artifact.{Artifact}
+pub use Rattle.desk_records.specs.declared.target_row.StoredTarget.{StoredTarget}
+pub use Rattle.desk_records.specs.declared.target_row.ListedTarget.{ListedTarget}
+pub use Rattle.rollout_model.specs.declared.target.Attribute.{Attribute}
+pub use Rattle.desk_records.specs.declared.rollout_row.StoredRollout.{StoredRollout}
+pub use Rattle.rollout_machine.specs.declared.records.GroupRecord.{GroupRecord}
+pub use Rattle.desk_records.specs.declared.rollout_row.StoredAction.{StoredAction}
+pub use Rattle.desk_records.specs.declared.rollout_row.ListedAction.{ListedAction}
+pub use Rattle.rollout_model.specs.declared.rollout.Offer.{Offer}
+pub use Rattle.rollout_model.specs.declared.group_rule.GroupRule.{GroupRule}
+pub use Rattle.desk_records.specs.declared.number_row.PlacedNumber.{PlacedNumber}
+pub use Rattle.desk_records.specs.declared.number_row.LastNumber.{LastNumber}
 use Rattle.desk_records.specs.declared.table_columns.Column.{Column}
 use Rattle.desk_records.specs.declared.table_columns.Column.TheVariants as rule
 
--- ---- the row of name, type, version of module
-
+-- the row of name, type, version of module
 pub record IsModuleLabelRow (row : Row) (x : ModuleLabel) : Type 0 where
   pub name : column row 0 ≡ Text x.name
   pub kind : column row 1 ≡ Text x.kind
   pub version : column row 2 ≡ Text x.version
 
--- the first column of it that breaks its rule
-abbrev pub broken_module_label_column : Row → Option Column
-broken_module_label_column row = first_broken ((has_text (column row 0), rule.ModuleName) ∷ (has_text (column row 1), rule.ModuleType)
-    ∷ (has_text (column row 2), rule.ModuleVersion) ∷ [])
-
--- what it tells
-abbrev pub shown_module_label : ModuleLabel → Row
-shown_module_label x = Text x.name ∷ Text x.kind ∷ Text x.version ∷ []
-
--- .. of the table's row
-abbrev pub columns_of_module_label : Row → Row
-columns_of_module_label row = column row 2 ∷ column row 3 ∷ column row 4 ∷ []
-
--- ---- the row of name, version of dset
-
+-- the row of name, version of dset
 pub record IsSetNameRow (row : Row) (x : SetName) : Type 0 where
   pub name : column row 0 ≡ Text x.name
   pub version : column row 1 ≡ Text x.version
 
--- the first column of it that breaks its rule
-abbrev pub broken_set_name_column : Row → Option Column
-broken_set_name_column row = first_broken ((has_text (column row 0), rule.SetName) ∷ (has_text (column row 1), rule.SetVersion) ∷ [])
-
--- what it tells
-abbrev pub shown_set_name : SetName → Row
-shown_set_name x = Text x.name ∷ Text x.version ∷ []
-
--- .. of the table's row
-abbrev pub columns_of_set_name : Row → Row
-columns_of_set_name row = column row 2 ∷ column row 3 ∷ []
-
--- ---- the row of module, filename, size, sha256 of artifact
-
+-- the row of module, filename, size, sha256 of artifact
 pub record IsStoredArtifactRow (row : Row) (x : StoredArtifact) : Type 0 where
   pub module_number : column row 0 ≡ Int (pos x.module_number)
   pub filename : column row 1 ≡ Text x.filename
   pub size : column row 2 ≡ Int (pos x.size)
   pub digest : column row 3 ≡ Blob x.digest
 
--- the first column of it that breaks its rule
-abbrev pub broken_stored_artifact_column : Row → Option Column
-broken_stored_artifact_column row = first_broken ((has_number (column row 0), rule.ArtifactModule)
-    ∷ (has_filename (column row 1), rule.ArtifactFilename) ∷ (has_size (column row 2), rule.ArtifactSize)
-    ∷ (has_digest (column row 3), rule.ArtifactDigest) ∷ [])
-
--- what it tells
-abbrev pub shown_stored_artifact : StoredArtifact → Row
-shown_stored_artifact x = Int (pos x.module_number) ∷ Text x.filename ∷ Int (pos x.size) ∷ Blob x.digest ∷ []
-
--- .. of the table's row
-abbrev pub columns_of_stored_artifact : Row → Row
-columns_of_stored_artifact row = column row 2 ∷ column row 3 ∷ column row 4 ∷ column row 5 ∷ column row 0 ∷ []
-
--- ---- the row of number, filename, size, sha256 of artifact
-
+-- the row of number, filename, size, sha256 of artifact
 pub record IsArtifactRow (row : Row) (x : Artifact) : Type 0 where
   pub number : column row 0 ≡ Int (pos x.number)
   pub filename : column row 1 ≡ Text x.filename
   pub size : column row 2 ≡ Int (pos x.size)
   pub digest : column row 3 ≡ Blob x.digest
 
--- the first column of it that breaks its rule
-abbrev pub broken_artifact_column : Row → Option Column
-broken_artifact_column row = first_broken ((has_number (column row 0), rule.ArtifactNumber)
-    ∷ (has_filename (column row 1), rule.ArtifactFilename) ∷ (has_size (column row 2), rule.ArtifactSize)
-    ∷ (has_digest (column row 3), rule.ArtifactDigest) ∷ [])
-
--- what it tells
-abbrev pub shown_artifact : Artifact → Row
-shown_artifact x = Int (pos x.number) ∷ Text x.filename ∷ Int (pos x.size) ∷ Blob x.digest ∷ []
-
--- .. of the table's row
-abbrev pub columns_of_artifact : Row → Row
-columns_of_artifact row = column row 0 ∷ column row 3 ∷ column row 4 ∷ column row 5 ∷ []
-
--- ---- the row of name, digest of target
-
+-- the row of name, digest of target
 pub record IsStoredTargetRow (row : Row) (x : StoredTarget) : Type 0 where
   pub name : column row 0 ≡ Text x.name
   pub digest : column row 1 ≡ Blob x.digest
 
--- the first column of it that breaks its rule
-abbrev pub broken_stored_target_column : Row → Option Column
-broken_stored_target_column row = first_broken ((has_text (column row 0), rule.TargetName) ∷ (has_digest (column row 1), rule.TargetDigest) ∷ [])
-
--- what it tells
-abbrev pub shown_stored_target : StoredTarget → Row
-shown_stored_target x = Text x.name ∷ Blob x.digest ∷ []
-
--- .. of the table's row
-abbrev pub columns_of_stored_target : Row → Row
-columns_of_stored_target row = column row 2 ∷ column row 3 ∷ []
-
--- ---- the row of controller, name of target
-
+-- the row of controller, name of target
 pub record IsListedTargetRow (row : Row) (x : ListedTarget) : Type 0 where
   pub id : column row 0 ≡ Text x.id
   pub name : column row 1 ≡ Text x.name
 
--- the first column of it that breaks its rule
-abbrev pub broken_listed_target_column : Row → Option Column
-broken_listed_target_column row = first_broken ((has_word (column row 0), rule.TargetId) ∷ (has_text (column row 1), rule.TargetName) ∷ [])
-
--- what it tells
-abbrev pub shown_listed_target : ListedTarget → Row
-shown_listed_target x = Text x.id ∷ Text x.name ∷ []
-
--- .. of the table's row
-abbrev pub columns_of_listed_target : Row → Row
-columns_of_listed_target row = column row 1 ∷ column row 2 ∷ []
-
--- ---- the row of key, value of target_attribute
-
+-- the row of key, value of target_attribute
 pub record IsAttributeRow (row : Row) (x : Attribute) : Type 0 where
   pub key : column row 0 ≡ Text x.key
   pub value : column row 1 ≡ Text x.value
 
--- the first column of it that breaks its rule
-abbrev pub broken_attribute_column : Row → Option Column
-broken_attribute_column row = first_broken ((has_word (column row 0), rule.AttributeKey) ∷ (has_value (column row 1), rule.AttributeValue) ∷ [])
-
--- what it tells
-abbrev pub shown_attribute : Attribute → Row
-shown_attribute x = Text x.key ∷ Text x.value ∷ []
-
--- .. of the table's row
-abbrev pub columns_of_attribute : Row → Row
-columns_of_attribute row = column row 2 ∷ column row 3 ∷ []
-
--- ---- the row of name, dset, filter_text, groups, success, error, approval, started, paused of rollout
-
+-- the row of name, dset, filter_text, groups, success, error, approval, started, paused of rollout
 pub record IsStoredRolloutRow (row : Row) (x : StoredRollout) : Type 0 where
   pub name : column row 0 ≡ Text x.plan.name
   pub set_number : number_in (column row 1) ≡ Some x.plan.set_number
@@ -175,26 +78,7 @@ pub record IsStoredRolloutRow (row : Row) (x : StoredRollout) : Type 0 where
   pub started : flag_in (column row 7) ≡ Some x.started
   pub paused : flag_in (column row 8) ≡ Some x.paused
 
--- the first column of it that breaks its rule
-abbrev pub broken_stored_rollout_column : Row → Option Column
-broken_stored_rollout_column row = first_broken ((has_text (column row 0), rule.RolloutName)
-    ∷ (is_some (number_in (column row 1)), rule.RolloutSet) ∷ (has_filter (column row 2), rule.RolloutFilter)
-    ∷ (is_some (group_count_in (column row 3)), rule.RolloutGroups) ∷ (is_some (percentage_in (column row 4)), rule.RolloutSuccess)
-    ∷ (is_some (percentage_in (column row 5)), rule.RolloutError) ∷ (is_some (approval_in (column row 6)), rule.RolloutApproval)
-    ∷ (is_some (flag_in (column row 7)), rule.RolloutStarted) ∷ (is_some (flag_in (column row 8)), rule.RolloutPaused) ∷ [])
-
--- what it tells
-abbrev pub shown_stored_rollout : StoredRollout → Row
-shown_stored_rollout x = Text x.plan.name ∷ Int (pos x.plan.set_number) ∷ Text x.plan.filter_text ∷ Int (pos x.plan.groups) ∷ Int (pos x.plan.success)
-    ∷ Int (pos x.plan.error) ∷ Int (pos (approval_code x.approval)) ∷ Int (pos (flag x.started)) ∷ Int (pos (flag x.paused)) ∷ []
-
--- .. of the table's row
-abbrev pub columns_of_stored_rollout : Row → Row
-columns_of_stored_rollout row = column row 2 ∷ column row 3 ∷ column row 4 ∷ column row 5 ∷ column row 6 ∷ column row 7 ∷ column row 8 ∷ column row 9
-    ∷ column row 10 ∷ []
-
--- ---- the row of number, first_place, last_place, started, ok, bad, gone of rollout_group
-
+-- the row of number, first_place, last_place, started, ok, bad, gone of rollout_group
 pub record IsGroupRow (row : Row) (x : GroupRecord) : Type 0 where
   pub number : column row 0 ≡ Int (pos x.number)
   pub first : column row 1 ≡ Int (pos x.bounds.first)
@@ -204,23 +88,7 @@ pub record IsGroupRow (row : Row) (x : GroupRecord) : Type 0 where
   pub bad : column row 5 ≡ Int (pos x.bad)
   pub gone : column row 6 ≡ Int (pos x.gone)
 
--- the first column of it that breaks its rule
-abbrev pub broken_group_column : Row → Option Column
-broken_group_column row = first_broken ((has_size (column row 0), rule.GroupNumber) ∷ (has_size (column row 1), rule.GroupFirst)
-    ∷ (has_size (column row 2), rule.GroupLast) ∷ (is_some (flag_in (column row 3)), rule.GroupStarted) ∷ (has_size (column row 4), rule.GroupOk)
-    ∷ (has_size (column row 5), rule.GroupBad) ∷ (has_size (column row 6), rule.GroupGone) ∷ [])
-
--- what it tells
-abbrev pub shown_group : GroupRecord → Row
-shown_group x = Int (pos x.number) ∷ Int (pos x.bounds.first) ∷ Int (pos x.bounds.last) ∷ Int (pos (flag x.started)) ∷ Int (pos x.ok)
-    ∷ Int (pos x.bad) ∷ Int (pos x.gone) ∷ []
-
--- .. of the table's row
-abbrev pub columns_of_group : Row → Row
-columns_of_group row = column row 2 ∷ column row 3 ∷ column row 4 ∷ column row 5 ∷ column row 6 ∷ column row 7 ∷ column row 8 ∷ []
-
--- ---- the row of rollout, place, controller, canceling, outcome, notes, entries of action
-
+-- the row of rollout, place, controller, canceling, outcome, notes, entries of action
 pub record IsStoredActionRow (row : Row) (x : StoredAction) : Type 0 where
   pub rollout : number_in (column row 0) ≡ Some x.rollout
   pub position : column row 1 ≡ Int (pos x.position)
@@ -230,115 +98,193 @@ pub record IsStoredActionRow (row : Row) (x : StoredAction) : Type 0 where
   pub notes : column row 5 ≡ Int (pos x.notes)
   pub entries : column row 6 ≡ Int (pos x.entries)
 
--- the first column of it that breaks its rule
+-- the row of rollout, place, controller, canceling, outcome, notes, entries, number of action
+pub record IsListedActionRow (row : Row) (x : ListedAction) : Type 0 where
+  pub action : IsStoredActionRow row x.action
+  pub number : number_in (column row 7) ≡ Some x.number
+
+-- the row of action, kind of offer
+pub record IsOfferRow (row : Row) (x : Offer) : Type 0 where
+  pub action : number_in (column row 0) ≡ Some x.action
+  pub canceling : flag_in (column row 1) ≡ Some x.canceling
+
+-- the row of percentage, success, error of group_rule
+pub record IsRuleRow (row : Row) (x : GroupRule) : Type 0 where
+  pub percentage : percentage_or_none_in (column row 0) ≡ Some x.percentage
+  pub success : percentage_in (column row 1) ≡ Some x.success
+  pub error : percentage_in (column row 2) ≡ Some x.error
+
+-- the row of sequence, number of feedback_number
+pub record IsNumberRow (row : Row) (x : PlacedNumber) : Type 0 where
+  pub sequence : place_in (column row 0) ≡ Some x.sequence
+  pub number : feedback_number_in (column row 1) ≡ Some x.number
+
+-- the row of sequence, number, place of feedback_number
+pub record IsLastNumberRow (row : Row) (x : LastNumber) : Type 0 where
+  pub it : IsNumberRow row x.it
+  pub place : place_in (column row 2) ≡ Some x.place
+
+-- ---- the first column of each that breaks its rule
+
+abbrev pub broken_module_label_column : Row → Option Column
+broken_module_label_column row = first_broken ((has_text (column row 0), rule.ModuleName) ∷ (has_text (column row 1), rule.ModuleType)
+    ∷ (has_text (column row 2), rule.ModuleVersion) ∷ [])
+
+abbrev pub broken_set_name_column : Row → Option Column
+broken_set_name_column row = first_broken ((has_text (column row 0), rule.SetName) ∷ (has_text (column row 1), rule.SetVersion) ∷ [])
+
+abbrev pub broken_stored_artifact_column : Row → Option Column
+broken_stored_artifact_column row = first_broken ((has_number (column row 0), rule.ArtifactModule)
+    ∷ (has_filename (column row 1), rule.ArtifactFilename) ∷ (has_size (column row 2), rule.ArtifactSize)
+    ∷ (has_digest (column row 3), rule.ArtifactDigest) ∷ [])
+
+abbrev pub broken_artifact_column : Row → Option Column
+broken_artifact_column row = first_broken ((has_number (column row 0), rule.ArtifactNumber)
+    ∷ (has_filename (column row 1), rule.ArtifactFilename) ∷ (has_size (column row 2), rule.ArtifactSize)
+    ∷ (has_digest (column row 3), rule.ArtifactDigest) ∷ [])
+
+abbrev pub broken_stored_target_column : Row → Option Column
+broken_stored_target_column row = first_broken ((has_text (column row 0), rule.TargetName) ∷ (has_digest (column row 1), rule.TargetDigest) ∷ [])
+
+abbrev pub broken_listed_target_column : Row → Option Column
+broken_listed_target_column row = first_broken ((has_word (column row 0), rule.TargetId) ∷ (has_text (column row 1), rule.TargetName) ∷ [])
+
+abbrev pub broken_attribute_column : Row → Option Column
+broken_attribute_column row = first_broken ((has_word (column row 0), rule.AttributeKey) ∷ (has_value (column row 1), rule.AttributeValue) ∷ [])
+
+abbrev pub broken_stored_rollout_column : Row → Option Column
+broken_stored_rollout_column row = first_broken ((has_text (column row 0), rule.RolloutName)
+    ∷ (is_some (number_in (column row 1)), rule.RolloutSet) ∷ (has_filter (column row 2), rule.RolloutFilter)
+    ∷ (is_some (group_count_in (column row 3)), rule.RolloutGroups) ∷ (is_some (percentage_in (column row 4)), rule.RolloutSuccess)
+    ∷ (is_some (percentage_in (column row 5)), rule.RolloutError) ∷ (is_some (approval_in (column row 6)), rule.RolloutApproval)
+    ∷ (is_some (flag_in (column row 7)), rule.RolloutStarted) ∷ (is_some (flag_in (column row 8)), rule.RolloutPaused) ∷ [])
+
+abbrev pub broken_group_column : Row → Option Column
+broken_group_column row = first_broken ((has_size (column row 0), rule.GroupNumber) ∷ (has_size (column row 1), rule.GroupFirst)
+    ∷ (has_size (column row 2), rule.GroupLast) ∷ (is_some (flag_in (column row 3)), rule.GroupStarted) ∷ (has_size (column row 4), rule.GroupOk)
+    ∷ (has_size (column row 5), rule.GroupBad) ∷ (has_size (column row 6), rule.GroupGone) ∷ [])
+
 abbrev pub broken_stored_action_column : Row → Option Column
 broken_stored_action_column row = first_broken ((is_some (number_in (column row 0)), rule.ActionRollout)
     ∷ (has_size (column row 1), rule.ActionPlace) ∷ (has_word (column row 2), rule.TargetId)
     ∷ (is_some (flag_in (column row 3)), rule.ActionCanceling) ∷ (is_some (outcome_in (column row 4)), rule.ActionOutcome)
     ∷ (has_size (column row 5), rule.ActionNotes) ∷ (has_size (column row 6), rule.ActionEntries) ∷ [])
 
--- what it tells
-abbrev pub shown_stored_action : StoredAction → Row
-shown_stored_action x = Int (pos x.rollout) ∷ Int (pos x.position) ∷ Text x.target ∷ Int (pos (flag x.canceling)) ∷ Int (pos (outcome_code x.outcome))
-    ∷ Int (pos x.notes) ∷ Int (pos x.entries) ∷ []
-
--- .. of the table's row
-abbrev pub columns_of_stored_action : Row → Row
-columns_of_stored_action row = column row 2 ∷ column row 3 ∷ column row 4 ∷ column row 5 ∷ column row 6 ∷ column row 7 ∷ column row 8 ∷ column row 0
-    ∷ []
-
--- ---- the row of rollout, place, controller, canceling, outcome, notes, entries, number of action
-
-pub record IsListedActionRow (row : Row) (x : ListedAction) : Type 0 where
-  pub action : IsStoredActionRow row x.action
-  pub number : number_in (column row 7) ≡ Some x.number
-
--- the first column of it that breaks its rule
 abbrev pub broken_listed_action_column : Row → Option Column
 broken_listed_action_column row = option_or (first_broken ((is_some (number_in (column row 7)), rule.ActionNumber) ∷ [])) (broken_stored_action_column row)
 
--- what it tells
-abbrev pub shown_listed_action : ListedAction → Row
-shown_listed_action x = Int (pos x.action.rollout) ∷ Int (pos x.action.position) ∷ Text x.action.target ∷ Int (pos (flag x.action.canceling))
-    ∷ Int (pos (outcome_code x.action.outcome)) ∷ Int (pos x.action.notes) ∷ Int (pos x.action.entries) ∷ Int (pos x.number) ∷ []
-
--- .. of the table's row
-abbrev pub columns_of_listed_action : Row → Row
-columns_of_listed_action row = column row 2 ∷ column row 3 ∷ column row 4 ∷ column row 5 ∷ column row 6 ∷ column row 7 ∷ column row 8 ∷ column row 0
-    ∷ []
-
--- ---- the row of action, kind of offer
-
-pub record IsOfferRow (row : Row) (x : Offer) : Type 0 where
-  pub action : number_in (column row 0) ≡ Some x.action
-  pub canceling : flag_in (column row 1) ≡ Some x.canceling
-
--- the first column of it that breaks its rule
 abbrev pub broken_offer_column : Row → Option Column
 broken_offer_column row = first_broken ((is_some (number_in (column row 0)), rule.OfferAction)
     ∷ (is_some (flag_in (column row 1)), rule.OfferKind) ∷ [])
 
--- what it tells
-abbrev pub shown_offer : Offer → Row
-shown_offer x = Int (pos x.action) ∷ Int (pos (flag x.canceling)) ∷ []
-
--- .. of the table's row
-abbrev pub columns_of_offer : Row → Row
-columns_of_offer row = column row 2 ∷ column row 3 ∷ column row 1 ∷ []
-
--- ---- the row of percentage, success, error of group_rule
-
-pub record IsRuleRow (row : Row) (x : GroupRule) : Type 0 where
-  pub percentage : percentage_or_none_in (column row 0) ≡ Some x.percentage
-  pub success : percentage_in (column row 1) ≡ Some x.success
-  pub error : percentage_in (column row 2) ≡ Some x.error
-
--- the first column of it that breaks its rule
 abbrev pub broken_rule_column : Row → Option Column
 broken_rule_column row = first_broken ((is_some (percentage_or_none_in (column row 0)), rule.RulePercentage)
     ∷ (is_some (percentage_in (column row 1)), rule.RuleSuccess) ∷ (is_some (percentage_in (column row 2)), rule.RuleError) ∷ [])
 
--- what it tells
-abbrev pub shown_rule : GroupRule → Row
-shown_rule x = or_null (λ n. Int (pos n)) x.percentage ∷ Int (pos x.success) ∷ Int (pos x.error) ∷ []
-
--- .. of the table's row
-abbrev pub columns_of_rule : Row → Row
-columns_of_rule row = column row 3 ∷ column row 4 ∷ column row 5 ∷ []
-
--- ---- the row of sequence, number of feedback_number
-
-pub record IsNumberRow (row : Row) (x : PlacedNumber) : Type 0 where
-  pub sequence : place_in (column row 0) ≡ Some x.sequence
-  pub number : feedback_number_in (column row 1) ≡ Some x.number
-
--- the first column of it that breaks its rule
 abbrev pub broken_number_column : Row → Option Column
 broken_number_column row = first_broken ((is_some (place_in (column row 0)), rule.NumberSequence)
     ∷ (is_some (feedback_number_in (column row 1)), rule.NumberValue) ∷ [])
 
--- what it tells
-abbrev pub shown_number : PlacedNumber → Row
-shown_number x = Int (pos x.sequence) ∷ Int (pos x.number) ∷ []
-
--- .. of the table's row
-abbrev pub columns_of_number : Row → Row
-columns_of_number row = column row 3 ∷ column row 4 ∷ []
-
--- ---- the row of sequence, number, place of feedback_number
-
-pub record IsLastNumberRow (row : Row) (x : LastNumber) : Type 0 where
-  pub it : IsNumberRow row x.it
-  pub place : place_in (column row 2) ≡ Some x.place
-
--- the first column of it that breaks its rule
 abbrev pub broken_last_number_column : Row → Option Column
 broken_last_number_column row = option_or (first_broken ((is_some (place_in (column row 2)), rule.NumberPlace) ∷ [])) (broken_number_column row)
 
--- what it tells
+-- ---- what each tells
+
+abbrev pub shown_module_label : ModuleLabel → Row
+shown_module_label x = Text x.name ∷ Text x.kind ∷ Text x.version ∷ []
+
+abbrev pub shown_set_name : SetName → Row
+shown_set_name x = Text x.name ∷ Text x.version ∷ []
+
+abbrev pub shown_stored_artifact : StoredArtifact → Row
+shown_stored_artifact x = Int (pos x.module_number) ∷ Text x.filename ∷ Int (pos x.size) ∷ Blob x.digest ∷ []
+
+abbrev pub shown_artifact : Artifact → Row
+shown_artifact x = Int (pos x.number) ∷ Text x.filename ∷ Int (pos x.size) ∷ Blob x.digest ∷ []
+
+abbrev pub shown_stored_target : StoredTarget → Row
+shown_stored_target x = Text x.name ∷ Blob x.digest ∷ []
+
+abbrev pub shown_listed_target : ListedTarget → Row
+shown_listed_target x = Text x.id ∷ Text x.name ∷ []
+
+abbrev pub shown_attribute : Attribute → Row
+shown_attribute x = Text x.key ∷ Text x.value ∷ []
+
+abbrev pub shown_stored_rollout : StoredRollout → Row
+shown_stored_rollout x = Text x.plan.name ∷ Int (pos x.plan.set_number) ∷ Text x.plan.filter_text ∷ Int (pos x.plan.groups) ∷ Int (pos x.plan.success)
+    ∷ Int (pos x.plan.error) ∷ Int (pos (approval_code x.approval)) ∷ Int (pos (flag x.started)) ∷ Int (pos (flag x.paused)) ∷ []
+
+abbrev pub shown_group : GroupRecord → Row
+shown_group x = Int (pos x.number) ∷ Int (pos x.bounds.first) ∷ Int (pos x.bounds.last) ∷ Int (pos (flag x.started)) ∷ Int (pos x.ok)
+    ∷ Int (pos x.bad) ∷ Int (pos x.gone) ∷ []
+
+abbrev pub shown_stored_action : StoredAction → Row
+shown_stored_action x = Int (pos x.rollout) ∷ Int (pos x.position) ∷ Text x.target ∷ Int (pos (flag x.canceling)) ∷ Int (pos (outcome_code x.outcome))
+    ∷ Int (pos x.notes) ∷ Int (pos x.entries) ∷ []
+
+abbrev pub shown_listed_action : ListedAction → Row
+shown_listed_action x = Int (pos x.action.rollout) ∷ Int (pos x.action.position) ∷ Text x.action.target ∷ Int (pos (flag x.action.canceling))
+    ∷ Int (pos (outcome_code x.action.outcome)) ∷ Int (pos x.action.notes) ∷ Int (pos x.action.entries) ∷ Int (pos x.number) ∷ []
+
+abbrev pub shown_offer : Offer → Row
+shown_offer x = Int (pos x.action) ∷ Int (pos (flag x.canceling)) ∷ []
+
+abbrev pub shown_rule : GroupRule → Row
+shown_rule x = or_null (λ n. Int (pos n)) x.percentage ∷ Int (pos x.success) ∷ Int (pos x.error) ∷ []
+
+abbrev pub shown_number : PlacedNumber → Row
+shown_number x = Int (pos x.sequence) ∷ Int (pos x.number) ∷ []
+
 abbrev pub shown_last_number : LastNumber → Row
 shown_last_number x = Int (pos x.it.sequence) ∷ Int (pos x.it.number) ∷ Int (pos x.place) ∷ []
 
--- .. of the table's row
+-- ---- .. of the table's row
+
+abbrev pub columns_of_module_label : Row → Row
+columns_of_module_label row = column row 2 ∷ column row 3 ∷ column row 4 ∷ []
+
+abbrev pub columns_of_set_name : Row → Row
+columns_of_set_name row = column row 2 ∷ column row 3 ∷ []
+
+abbrev pub columns_of_stored_artifact : Row → Row
+columns_of_stored_artifact row = column row 2 ∷ column row 3 ∷ column row 4 ∷ column row 5 ∷ column row 0 ∷ []
+
+abbrev pub columns_of_artifact : Row → Row
+columns_of_artifact row = column row 0 ∷ column row 3 ∷ column row 4 ∷ column row 5 ∷ []
+
+abbrev pub columns_of_stored_target : Row → Row
+columns_of_stored_target row = column row 2 ∷ column row 3 ∷ []
+
+abbrev pub columns_of_listed_target : Row → Row
+columns_of_listed_target row = column row 1 ∷ column row 2 ∷ []
+
+abbrev pub columns_of_attribute : Row → Row
+columns_of_attribute row = column row 2 ∷ column row 3 ∷ []
+
+abbrev pub columns_of_stored_rollout : Row → Row
+columns_of_stored_rollout row = column row 2 ∷ column row 3 ∷ column row 4 ∷ column row 5 ∷ column row 6 ∷ column row 7 ∷ column row 8 ∷ column row 9
+    ∷ column row 10 ∷ []
+
+abbrev pub columns_of_group : Row → Row
+columns_of_group row = column row 2 ∷ column row 3 ∷ column row 4 ∷ column row 5 ∷ column row 6 ∷ column row 7 ∷ column row 8 ∷ []
+
+abbrev pub columns_of_stored_action : Row → Row
+columns_of_stored_action row = column row 2 ∷ column row 3 ∷ column row 4 ∷ column row 5 ∷ column row 6 ∷ column row 7 ∷ column row 8 ∷ column row 0
+    ∷ []
+
+abbrev pub columns_of_listed_action : Row → Row
+columns_of_listed_action row = column row 2 ∷ column row 3 ∷ column row 4 ∷ column row 5 ∷ column row 6 ∷ column row 7 ∷ column row 8 ∷ column row 0
+    ∷ []
+
+abbrev pub columns_of_offer : Row → Row
+columns_of_offer row = column row 2 ∷ column row 3 ∷ column row 1 ∷ []
+
+abbrev pub columns_of_rule : Row → Row
+columns_of_rule row = column row 3 ∷ column row 4 ∷ column row 5 ∷ []
+
+abbrev pub columns_of_number : Row → Row
+columns_of_number row = column row 3 ∷ column row 4 ∷ []
+
 abbrev pub columns_of_last_number : Row → Row
 columns_of_last_number row = column row 3 ∷ column row 4 ∷ column row 2 ∷ []
