@@ -1,4 +1,5 @@
 -- What broken rows are blamed on, by what was read before.
+use native.Mathlib.Omega.{arith}
 use Rattle.desk_store.proofs.Common.{◌≡◌, Result, IfErr, Ok, Ghosts, Fault, Tables, BlamesGiven, FindsTables, HoldsTables, IfRowsBroken, IsUnreadable}
 use Rattle.desk_store.proofs.Common.{HasUnreadable, OpenChange, Reading, ReadsOf, seen_in}
 use Rattle.sqlite.specs.State.{State}
@@ -23,10 +24,7 @@ module _ {s : State} (reading : Reading) where
 
 pub found_reading : {A : Type 0} {a b : State} {x : A} {P : Tables → A → Type 0} → Finds HoldsTables (λ (t : Tables). t) {E = Fault} a b (Ok x) P
     → Finds HoldsReading (λ (r : Reading). r) {E = Fault} a b (Ok x) (λ reading y. P reading.tables y)
-found_reading read = record {
-  wears = read.wears;
-  finds = λ reading seen. (let it = read.finds reading.tables (to_tables reading seen) in (of_tables reading it.0, it.1));
-}
+found_reading read = grind (arith, to_tables, of_tables)
 
 -- ---- what is blamed
 

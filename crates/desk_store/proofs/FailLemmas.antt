@@ -1,7 +1,8 @@
 -- Why a call over a ledger that can be read is no failed store by itself.
-use Rattle.desk_store.proofs.Common.{Place, ◌≡◌, ℕ, zero, suc, inl, inr, List, [], ◌∷◌, take, drop, filter, map, Option, Some, None, Ok, Err, Result, IfErr}
-use Rattle.desk_store.proofs.Common.{Vec, refl, sym, ap, subst, ◌∙◌, Global, Row, Query, Output, page, Database, Ghosts, Has, has_filtered, Fault, Memory}
-use Rattle.desk_store.proofs.Common.{Store, AsksFew, AsksText, TakesFirst, ShowsFirst, first_finds, ask_finds, few_finds, IsOrdered, by, ordered_rows, passes}
+use native.Mathlib.Omega.{arith}
+use Rattle.desk_store.proofs.Common.{Place, ◌≡◌, ℕ, zero, suc, inl, inr, List, [], ◌∷◌, take, drop, filter, map, Option, Some, None, Ok, Result, IfErr}
+use Rattle.desk_store.proofs.Common.{Vec, refl, sym, ap, subst, ◌∙◌, Global, Row, Query, Output, page, Database, Ghosts, Has, has_filtered, Fault}
+use Rattle.desk_store.proofs.Common.{AsksFew, AsksText, TakesFirst, ShowsFirst, first_finds, ask_finds, few_finds, IsOrdered, by, ordered_rows, passes}
 use Rattle.desk_store.proofs.Common.{shown_in, shown_of, simple, HoldsLedger, Ledger, HoldsTables, Tables, IfRowsBroken, HasBroken, seen_in, OpenChange}
 use Rattle.std.specs.Prelude.{◌≢◌}
 use Rattle.sqlite.specs.Effect.{Reads as Shows}
@@ -9,9 +10,8 @@ use Rattle.sql_calls.specs.Standing.{Finds, Sees}
 use Rattle.sql_calls.specs.declared.fault.Fault.TheVariants.{Broken}
 use Rattle.desk_store.specs.Breaking.{BreaksOnly, NeverBreaks}
 use Rattle.std.proofs.lemmas.List.Sorted.{IsPermutation-sym}
-use Rattle.sqlite.specs.Query.{as_count, limited}
+use Rattle.sqlite.specs.Query.{limited}
 use Rattle.sqlite.specs.Term.{eval}
-use Rattle.std.specs.Option.{unwrap_or}
 use Rattle.desk_records.proofs.HeldTables.{rows_of}
 use Rattle.desk_records.proofs.Membership.{has_mapped, has_permuted}
 use Rattle.desk_store.specs.Changing.{FindsLedger}
@@ -26,16 +26,14 @@ use Rattle.desk_records.proofs.MeaningWords.{Asks}
 
 -- a call of the database tells no broken rows
 pub never_breaks : {S A : Type 0} {g : Ghosts S} {new : OpenChange S} (out : Result A Fault) → IfErr out (λ fault. fault ≢ Broken) → NeverBreaks g new out
-never_breaks (Ok x) sound = record { to = tt }
-never_breaks (Err fault) sound = record { to = record { reason = λ is clean. sound is } }
+never_breaks out sound = grind arith
 
 module _ {S : Type 0} {g : Ghosts S} {old new : OpenChange S} where
   module _ {R : Type 0} {Holds : Database → R → Type 0} {Given Why : R → Type 0} where
     -- a query that leaves what is seen as it is
     pub call_breaks : {A : Type 0} (out : Result A Fault) → NeverBreaks g new out
         → ((x : A) → out ≡ Ok x → (r : R) → Sees Holds (seen_in g old) r → Sees Holds (seen_in g new) r) → BreaksOnly g Holds Given Why old new out
-    call_breaks (Ok x) sound keeps = record { to = keeps x refl }
-    call_breaks (Err fault) sound keeps = record { to = λ r seen given. record { reason = λ is clean. absurd (sound.to.reason is clean) } }
+    call_breaks out sound keeps = grind arith
 
 -- ---- by what was found
 
@@ -43,18 +41,18 @@ module _ {S A B R : Type 0} {g : Ghosts S} {Holds : Database → R → Type 0} {
   -- what was found leaves no broken row but for this
   pub breaks_by : Finds Holds (λ (r : R). r) {E = Fault} (seen_in g old) (seen_in g new) (Ok x) P → (out : Result B Fault)
       → IfErr out (λ fault. IfRowsBroken fault ((r : R) → P r x → Given r → Why r)) → BreaksOnly g Holds Given Why old new out
-  breaks_by read (Ok y) why = record { to = λ r seen. (read.finds r seen).0 }
-  breaks_by read (Err Memory) why = record { to = λ r seen given. record { reason = λ is clean. absurd cc } }
-  breaks_by read (Err Store) why = absurd why
-  breaks_by read (Err Broken) why = record { to = λ r seen given. record { reason = λ is clean. why r ((read.finds r seen).1 clean) given } }
+  breaks_by read out why = grind arith
 
--- the same at a ledger that can be read
-pub told_never : {B : Type 0} (Why : Type 0) (out : Result B Fault) → IfErr out (λ fault. IfRowsBroken fault Why)
-    → IfErr out (λ fault. IfRowsBroken fault ((l : Ledger) → (IsReadable l → Why → ⊥) → IsReadable l → ⊥))
-told_never Why (Ok y) is = tt
-told_never Why (Err Memory) is = tt
-told_never Why (Err Store) is = is
-told_never Why (Err Broken) is = λ l said readable. said readable is
+-- the same, where it was told for something that bears it out
+pub broken_so : {B : Type 0} {Spoiled Why : Type 0} → (Spoiled → Why) → (out : Result B Fault) → IfErr out (λ fault. IfRowsBroken fault Spoiled)
+    → IfErr out (λ fault. IfRowsBroken fault Why)
+broken_so so out is = grind arith
+
+-- .. at a ledger that can be read
+pub never_by : {S A B : Type 0} {g : Ghosts S} {old new : OpenChange S} {x : A} {Spoiled : Type 0}
+    → FindsLedger g {E = Fault} old new (Ok x) (λ l u. IsReadable l → Spoiled → ⊥) → (out : Result B Fault)
+    → IfErr out (λ fault. IfRowsBroken fault Spoiled) → FailsIn g old new out
+never_by read out broken = breaks_by read out (broken_so (λ is l never readable. never readable is) out broken)
 
 -- ---- by the rows of one table
 
@@ -73,13 +71,10 @@ has_taken (suc n) (y ∷ xs) x (inl same) = inl same
 has_taken (suc n) (y ∷ xs) x (inr among) = inr (has_taken n xs x among)
 
 has_limited : {X : Type 0} (limit : Option ℕ) (xs : List X) (x : X) → Has (limited limit xs) x → Has xs x
-has_limited None xs x among = among
-has_limited (Some n) xs x among = has_taken n xs x among
+has_limited limit xs x among = grind (arith, has_taken)
 
 has_page : {X : Type 0} (q : Query) (params : Row) (xs : List X) (x : X) → Has (page q params xs) x → Has xs x
-has_page q params xs x among =
-    let before = unwrap_or (as_count (eval q.offset (params ∷ []))) 0 in
-    has_dropped before xs x (has_limited (as_count (eval q.limit (params ∷ []))) (drop before xs) x among)
+has_page q params xs x among = grind (arith, eval, has_dropped, has_limited)
 
 module _ {p : Place} {sql : List ℕ} {query : ℕ → Query} {names : List (List ℕ)} (text : Asks p sql query names) where
   -- each row that is shown is one of the table
@@ -107,37 +102,36 @@ module _ {p : Place} {sql : List ℕ} {query : ℕ → Query} {names : List (Lis
           (answer_of text holds shows)
 
   -- .. which can be read
-  module _ (is_broken : Row → Type 0) (rule : (params row : Row) → (BreaksColumn p row → ⊥) → is_broken (shown_of (query 0).project params row) → ⊥)
-      (params : Row) where
+  module _ (is_broken : Row → Type 0) {params : Row} (rule : (row : Row) → is_broken (shown_of (query 0).project params row) → BreaksColumn p row) where
     kept : (db : Database) (l : Ledger) (holds : HoldsLedger db l) (shown : List Row) → Shows (in_ledgers (known text) db l holds).command db params shown
         → IsReadable l → (x : Row) → Has shown x → is_broken x → ⊥
     kept db l holds shown shows readable x among broken =
         let its = from_table params db (rows_of db l holds) (tables_of db l holds) shown shows x among in
-        rule params its.0 (readable.keep p (db.trees (holds.spot p).tree) (holds.rows p) its.0 its.1) (subst is_broken its.2 broken)
+        readable.keep p (db.trees (holds.spot p).tree) (holds.rows p) its.0 its.1 (rule its.0 (subst is_broken its.2 broken))
 
     module _ {S B : Type 0} {g : Ghosts S} {old new : OpenChange S} where
       -- the first row
-      pub first_fails : (row : Option Row) → TakesFirst (seen_in g old) (seen_in g new) sql params (Ok row) → (out : Result B Fault)
+      pub first_fails : {row : Option Row} → TakesFirst (seen_in g old) (seen_in g new) sql params (Ok row) → (out : Result B Fault)
           → IfErr out (λ fault. IfRowsBroken fault (IsBroken is_broken row)) → FailsIn g old new out
-      first_fails row h out broken =
-          breaks_by (first_finds HoldsLedger (λ (l : Ledger). l) sql params (seen_in g old) (seen_in g new) (λ l u. IsReadable l → IsBroken is_broken row → ⊥)
-          (in_ledgers (known text)) (λ db l holds at given. tt) row h (Ok (tt {0})) (λ db l holds shown. go db l holds row shown)) out
-          (told_never _ out broken)
+      first_fails {row} h = never_by {Spoiled = IsBroken is_broken row}
+          (first_finds HoldsLedger (λ (l : Ledger). l) sql params (seen_in g old) (seen_in g new) _ (in_ledgers (known text))
+          (λ db l holds at given. tt) row h (Ok (tt {0})) (λ db l holds shown. go db l holds row shown))
         where
           go : (db : Database) (l : Ledger) (holds : HoldsLedger db l) (row : Option Row) → ShowsFirst (in_ledgers (known text) db l holds).command db params
               row → IsReadable l → IsBroken is_broken row → ⊥
           go db l holds None shown readable b = b
           go db l holds (Some x) shown readable b = kept db l holds (x ∷ shown.0) shown.1 readable x (inl refl) b
 
-      module _ (rows : Vec Row Global) (out : Result B Fault) (broken : IfErr out (λ fault. IfRowsBroken fault (HasBroken is_broken rows.items))) where
-        found : FindsLedger g {E = Fault} old new (Ok (tt {0})) (λ l u. IsReadable l → HasBroken is_broken rows.items → ⊥) → FailsIn g old new out
-        found read = breaks_by read out (told_never _ out broken)
+      -- each row
+      pub all_fails : {rows : Vec Row Global} → AsksText (seen_in g old) (seen_in g new) sql params (Ok rows) → (out : Result B Fault)
+          → IfErr out (λ fault. IfRowsBroken fault (HasBroken is_broken rows.items)) → FailsIn g old new out
+      all_fails {rows} h = never_by {Spoiled = HasBroken is_broken rows.items}
+          (ask_finds HoldsLedger (λ (l : Ledger). l) sql params (seen_in g old) (seen_in g new) _ (in_ledgers (known text)) rows h
+          (Ok (tt {0})) (λ db l holds shown readable b. kept db l holds rows.items shown readable b.row b.among b.broken))
 
-        -- each row
-        pub all_fails : AsksText (seen_in g old) (seen_in g new) sql params (Ok rows) → FailsIn g old new out
-        all_fails h = found (ask_finds HoldsLedger (λ (l : Ledger). l) sql params (seen_in g old) (seen_in g new) _ (in_ledgers (known text)) rows h
-            (Ok (tt {0})) (λ db l holds shown readable b. kept db l holds rows.items shown readable b.row b.among b.broken))
-
-        pub few_fails : (most : ℕ) → AsksFew (seen_in g old) (seen_in g new) sql params most (Ok rows) → FailsIn g old new out
-        few_fails most h = found (few_finds HoldsLedger (λ (l : Ledger). l) sql params (seen_in g old) (seen_in g new) _ (in_ledgers (known text)) most rows h
-            (Ok (tt {0})) (λ db l holds shown readable b. kept db l holds rows.items shown readable b.row b.among b.broken))
+      pub few_fails : {rows : Vec Row Global} {most : ℕ} → AsksFew (seen_in g old) (seen_in g new) sql params most (Ok rows) → (out : Result B Fault)
+          → IfErr out (λ fault. IfRowsBroken fault (HasBroken is_broken rows.items)) → FailsIn g old new out
+      few_fails {rows} {most} h =
+          never_by {Spoiled = HasBroken is_broken rows.items}
+          (few_finds HoldsLedger (λ (l : Ledger). l) sql params (seen_in g old) (seen_in g new) _ (in_ledgers (known text))
+          most rows h (Ok (tt {0})) (λ db l holds shown readable b. kept db l holds rows.items shown readable b.row b.among b.broken))

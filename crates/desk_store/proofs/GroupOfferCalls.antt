@@ -1,6 +1,5 @@
 -- The write of a group's offers.
-use Rattle.desk_store.proofs.Common.{refl, KnowsWrite, PUT_GROUP_OFFERS, HoldsLedger}
-use Rattle.desk_store.proofs.Common.{Actions, Offers, offers_keyed}
+use Rattle.desk_store.proofs.Common.{refl, KnowsWrite, PUT_GROUP_OFFERS, HoldsLedger, Actions, Offers, offers_keyed}
 use Rattle.desk_records.proofs.GroupOffersMeaning.{put_group_offers_command, put_group_offers_is}
 
 abbrev pub knows_put_group_offers : KnowsWrite HoldsLedger PUT_GROUP_OFFERS.now

@@ -1,5 +1,6 @@
 -- The groups of a rollout that reach a member's place: the one that holds it, and all behind it.
-use Rattle.desk_store.proofs.Common.{◌≡◌, ◌<◌, ◌≤◌, ℕ, zero, suc, ◌+◌, ◌-◌, List, [], ◌∷◌, drop, slice_get, refl, sym, ap, subst, ◌∙◌, arith, le-leb, lt-leb}
+use Rattle.std.proofs.lemmas.Bool.Decides.{nat_tests}
+use Rattle.desk_store.proofs.Common.{◌≡◌, ◌≤◌, ℕ, zero, suc, ◌+◌, ◌-◌, List, [], ◌∷◌, drop, slice_get, refl, sym, ap, ◌∙◌, arith, le-leb, lt-leb}
 use Rattle.desk_store.proofs.Common.{item_numbered, group_in, rollout_in, group_holding, number_of_group, GroupRecord, that_reach, group_and_next}
 use Rattle.desk_store.proofs.Common.{GroupAndNext}
 use Rattle.rollout_machine.proofs.Cuts.{group_of, in_its_group}
@@ -19,12 +20,7 @@ abbrev pair : List GroupRecord → ℕ → GroupAndNext
 pair gs i = record { group = item_numbered gs i; next = item_numbered gs (i + 1) }
 
 pair_of_rest : (gs : List GroupRecord) (j d : ℕ) → that_reach j gs ≡ drop d gs → group_and_next j gs ≡ pair gs (suc d)
-pair_of_rest gs j d reach =
-    ap (λ (rest : List GroupRecord). record { group = slice_get rest 0; next = slice_get rest 1 }) reach
-    ∙ (λ i. record { group = at_drop d 0 gs d (omega arith) i; next = (at_drop d 1 gs (d + 1) refl ∙ ap (item_numbered gs) behind) i })
-  where
-    behind : suc (d + 1) ≡ suc d + 1
-    behind = omega arith
+pair_of_rest gs j d reach = grind (arith, at_drop)
 
 module _ (x : Rollout) (r : ℕ) (h : CommandList) (sound : HasSoundPlan x) where
   abbrev groups_from : ℕ → ℕ → List GroupRecord
@@ -32,16 +28,12 @@ module _ (x : Rollout) (r : ℕ) (h : CommandList) (sound : HasSoundPlan x) wher
 
   all_reach : (a n j : ℕ) → j ≤ last_of x a → that_reach j (groups_from a n) ≡ groups_from a n
   all_reach a zero j within = refl
-  all_reach a (suc n) j within =
-      rw (le-leb _ _ within) (ap (λ gs. group_in x r h a ∷ gs) (all_reach (suc a) n j (omega (arith, within, sound.cut.rises a (suc a) (omega arith)))))
+  all_reach a (suc n) j within = grind (arith, all_reach (suc a) n j (omega (arith, within, sound.cut.rises a (suc a) (omega arith))), le-leb)
 
   rest_reach : (d a n g j : ℕ) → d ≤ n → a + d ≡ g → IsInGroup x g j → that_reach j (groups_from a n) ≡ drop d (groups_from a n)
-  rest_reach zero a n g j within at it = let same : g ≡ a = omega (arith, at) in
-      all_reach a n j (subst (λ i. j ≤ last_of x i) same (omega (arith, it.low, it.high)))
+  rest_reach zero a n g j within at it = grind (arith, nat_tests, all_reach)
   rest_reach (suc d) a zero g j within at it = absurd (omega (arith, within))
-  rest_reach (suc d) a (suc n) g j within at it =
-      let past : last_of x a < j = omega (arith, it.low, sound.cut.rises a (g - 1) (omega (arith, at))) in
-      rw (lt-leb _ _ past) (rest_reach d (suc a) n g j (omega (arith, within)) (omega (arith, at)) it)
+  rest_reach (suc d) a (suc n) g j within at it = grind (arith, nat_tests, rest_reach d (suc a) n g j (omega (arith, within)) (omega (arith, at)) it, lt-leb)
 
   -- the two that are read are the group that holds the place, and the group of the next number
   pub group_and_next_at : (j : ℕ) → 1 ≤ j → j ≤ size_of x

@@ -1,4 +1,5 @@
 -- Calls on ledgers, said of records: the tables hold the ledger of the records before a command and after it.
+use native.Mathlib.Omega.{arith}
 use Rattle.desk_store.proofs.Common.{◌≡◌, Result, State, Finds, Makes, Bytes, HoldsLedger, Ledger, ledger_of}
 use Rattle.sql_calls.proofs.Composing.{found_of, made_of}
 
@@ -14,5 +15,4 @@ module _ {A E : Type 0} {old new : State} where
 -- ledgers that offer the same, id by id, are the same
 pub same_ledger : (l m : Ledger) → l.records ≡ m.records → l.tallies ≡ m.tallies → ((id : Bytes) → l.offers id ≡ m.offers id) → l.rules ≡ m.rules → l.numbers
     ≡ m.numbers → l ≡ m
-same_ledger l m records tallies offers rules numbers =
-    λ i. record { records = records i; tallies = tallies i; offers = λ id. offers id i; rules = rules i; numbers = numbers i }
+same_ledger l m records tallies offers rules numbers = grind arith

@@ -1,26 +1,23 @@
 -- Rows that are read, whatever they are read as.
-use Rattle.sql_calls.specs.declared.fault.Fault.TheVariants.{Broken}
 use Rattle.desk_store.proofs.Common.{◌≡◌, ◌<◌, ◌++◌, ◌+◌, ℕ, get_or, take, List, [], ◌∷◌, length, map, Option, Some, None, option_map, Ok, Err, Result, IfErr}
-use Rattle.desk_store.proofs.Common.{IfOk, Vec, refl, sym, ap₂, subst, filter_map, ap, ◌∙◌, pos, arith, cons_option, Global, Int, Row, IsLastRow, Database}
+use Rattle.desk_store.proofs.Common.{IfOk, Vec, refl, sym, ap₂, subst, filter_map, ap, ◌∙◌, arith, cons_option, Global, Row, IsLastRow, Database}
 use Rattle.desk_store.proofs.Common.{HasCleanDisk, IsUnchanged, State, Fault, AsksFew, AsksText, TakesFirst, Finds, Sees, Wears, Known, Knows, ShowsFirst}
-use Rattle.desk_store.proofs.Common.{ask_finds, few_finds, first_finds, HoldsLedger, Ledger, HoldsTables, Has, Memory, Store, KeepsSeenTables, AreReadAs}
-use Rattle.desk_store.proofs.Common.{HasBroken}
-use Rattle.desk_store.proofs.Common.{IfRowsBroken, IsReadAs}
+use Rattle.desk_store.proofs.Common.{ask_finds, few_finds, first_finds, HoldsLedger, Ledger, HoldsTables, Has, KeepsSeenTables, AreReadAs}
+use Rattle.desk_store.proofs.Common.{HasBroken, Bool, is_some, Place, Query, IfRowsBroken, IsReadAs}
 use Rattle.std.proofs.lemmas.List.{take_more}
 use Rattle.std.proofs.lemmas.Slice.Zip.{all_zipped_more}
 use Rattle.sqlite.specs.Effect.{Reads as Shows}
 use Rattle.sqlite.proofs.Callers.{EndsIn}
 use Rattle.sql_calls.proofs.Framing.{took}
 use Rattle.sql_calls.proofs.Leavings.{unchanged_by}
-use Rattle.desk_store.proofs.Known.{in_ledgers}
+use Rattle.desk_records.proofs.MeaningWords.{Asks}
+use Rattle.desk_store.proofs.Known.{in_ledgers, known}
 
 -- a further row, and what it is read as
 pub read_more : {A : Type 0} (is : Row → A → Type 0) (rows : List Row) (found : List A) (at : ℕ) (row : Row) (one : A) → at < length rows
     → row ≡ get_or rows at row → AreReadAs is (take at rows) found → is row one
     → AreReadAs is (take (at + 1) rows) (found ++ one ∷ [])
-read_more is rows found at row one within same so_far has =
-    subst (λ l. AreReadAs is l (found ++ one ∷ [])) (sym (take_more rows at row within))
-    (all_zipped_more is (take at rows) found (get_or rows at row) one so_far (subst (λ r. is r one) same has))
+read_more is rows found at row one within same so_far has = grind (arith, take_more, all_zipped_more, get_or)
 
 -- what is read of the rows, by a part of it
 pub read_mapped : {A B : Type 0} (f : A → B) (is : Row → B → Type 0) (rows : List Row) (found : List A) → AreReadAs (λ row a. is row (f a)) rows found
@@ -42,12 +39,7 @@ read_parts part is (row ∷ rows) (a ∷ found) h = (h.0, read_parts part is row
 module _ {X A : Type 0} (pick : X → Option A) where
   picked_push : (rows : List X) (row : X) → filter_map pick (rows ++ row ∷ []) ≡ filter_map pick rows ++ cons_option (pick row) []
   picked_push [] row = refl
-  picked_push (r ∷ rows) row = go (pick r) (picked_push rows row)
-    where
-      go : (o : Option A) → filter_map pick (rows ++ row ∷ []) ≡ filter_map pick rows ++ cons_option (pick row) []
-          → cons_option o (filter_map pick (rows ++ row ∷ [])) ≡ cons_option o (filter_map pick rows) ++ cons_option (pick row) []
-      go None more = more
-      go (Some a) more = ap (λ l. a ∷ l) more
+  picked_push (r ∷ rows) row = grind (arith, picked_push rows row, filter_map)
 
   pub pick_more : (rows : List X) (found : List A) (at : ℕ) (row : X) (one : Option A) → at < length rows → row ≡ get_or rows at row
       → found ≡ filter_map pick (take at rows) → one ≡ pick row
@@ -60,101 +52,94 @@ module _ {A B : Type 0} (is : Row → A → Type 0) (row_of : B → Row) where
   -- what is read of one row tells of what the row was made of, and so does what is read of none
   pub one_read : (Tells : Option A → Option B → Type 0) → Tells None None → ((a : A) (b : B) → is (row_of b) a → Tells (Some a) (Some b))
       → (found : Option A) (wanted : Option B) (row : Option Row) → IsReadAs is found row → row ≡ option_map row_of wanted → Tells found wanted
-  one_read Tells none some found None None h same = subst (λ f. Tells f None) (sym h) none
-  one_read Tells none some found (Some b) None h same = absurd cc
-  one_read Tells none some found None (Some row) h same = absurd cc
-  one_read Tells none some found (Some b) (Some row) h same =
-      let it : row ≡ row_of b = cc in
-      subst (λ f. Tells f (Some b)) (sym h.1) (some h.0 b (subst (λ r. is r h.0) it h.2))
-
-module _ {Q : Type 0} (of : Q → Ledger) {A B : Type 0} (is : Row → A → Type 0) (row_of : B → Row) where
-  -- a query whose first row, if there is one, was made of one thing
-  pub takes_one : (sql : List ℕ) (params : Row) (old new : State) (knows : Knows HoldsTables sql) (wanted : Q → Option B) (Tells : Option A → Option B → Type 0)
-      → Tells None None → ((a : A) (b : B) → is (row_of b) a → Tells (Some a) (Some b))
-      → ((db : Database) (l : Ledger) (holds : HoldsLedger db l) (at : Database) (given : Row) → EndsIn (in_ledgers knows db l holds).command at given)
-      → (row : Option Row) → ((db : Database) (now : Q) (holds : HoldsLedger db (of now)) → ShowsFirst (in_ledgers knows db (of now) holds).command db params
-      row → row ≡ option_map row_of (wanted now))
-      → TakesFirst old new sql params (Ok row) → (out : Result (Option A) Fault) → IfOk out (λ found. IsReadAs is found row)
-      → Finds HoldsLedger of old new out (λ r found. Tells found (wanted r))
-  takes_one sql params old new knows wanted Tells none some ends row shows h out is_read =
-      first_finds HoldsLedger of sql params old new (λ r found. Tells found (wanted r)) (in_ledgers knows) ends row h out (answers out is_read)
-    where
-      answers : (out : Result (Option A) Fault) → IfOk out (λ found. IsReadAs is found row)
-          → IfOk out (λ found. (db : Database) (now : Q) (holds : HoldsLedger db (of now)) → ShowsFirst (in_ledgers knows db (of now) holds).command db params
-          row → Tells found (wanted now))
-      answers (Ok found) is_read = λ db now holds shown. one_read is row_of Tells none some found (wanted now) row is_read (shows db now holds shown)
-      answers (Err e) is_read = tt
+  one_read h0 none some found wanted row h same = grind arith
 
 module _ {A : Type 0} (is : Row → A → Type 0) (row_of : A → Row) (one : (a b : A) → is (row_of b) a → a ≡ b) where
-  all_read : (found wanted : List A) → AreReadAs is (map row_of wanted) found → found ≡ wanted
+  pub all_read : (found wanted : List A) → AreReadAs is (map row_of wanted) found → found ≡ wanted
   all_read [] [] h = refl
   all_read [] (b ∷ bs) h = absurd h
   all_read (a ∷ as_are) [] h = absurd h
   all_read (a ∷ as_are) (b ∷ bs) h = ap₂ ◌∷◌ (one a b h.0) (all_read as_are bs h.1)
 
-module _ {Q : Type 0} (of : Q → Ledger) {A V : Type 0} (items : V → List A) (is : Row → A → Type 0) (row_of : A → Row)
-    (one : (a b : A) → is (row_of b) a → a ≡ b) where
-  -- a query whose rows were made of a list
-  pub asks_all : (sql : List ℕ) (params : Row) (old new : State) (knows : Knows HoldsTables sql) (wanted : Q → List A) (rows : Vec Row Global)
-      → ((db : Database) (now : Q) (holds : HoldsLedger db (of now)) → Shows (in_ledgers knows db (of now) holds).command db params rows.items → rows.items
-      ≡ map row_of (wanted now))
-      → AsksText old new sql params (Ok rows) → (out : Result V Fault) → IfOk out (λ found. AreReadAs is rows.items (items found))
-      → Finds HoldsLedger of old new out (λ r found. items found ≡ wanted r)
-  asks_all sql params old new knows wanted rows shows h out are_read = ask_finds HoldsLedger of sql params old new (λ r found. items found ≡ wanted r)
-      (in_ledgers knows) rows h out (answers out are_read)
-    where
-      answers : (out : Result V Fault) → IfOk out (λ found. AreReadAs is rows.items (items found))
-          → IfOk out (λ found. (db : Database) (now : Q) (holds : HoldsLedger db (of now))
-          → Shows (in_ledgers knows db (of now) holds).command db params rows.items → items found ≡ wanted now)
-      answers (Ok found) are_read = λ db now holds shown. all_read is row_of one (items found) (wanted now)
-          (subst (λ l. AreReadAs is l (items found)) (shows db now holds shown) are_read)
-      answers (Err e) are_read = tt
+-- ---- what is found by the rows that a text shows
+
+module _ {R Q : Type 0} {Holds : Database → R → Type 0} {of : Q → R} {sql : List ℕ} {params : Row} {old new : State} (knows : Knows Holds sql)
+    {A : Type 0} {Answer : Q → A → Type 0} {Read : A → Type 0} where
+  pub all_tell : {rows : Vec Row Global} → ((db : Database) (now : Q) (holds : Holds db (of now))
+      → Shows (knows db (of now) holds).command db params rows.items → (found : A) → Read found → Answer now found)
+      → AsksText old new sql params (Ok rows) → (out : Result A Fault) → IfOk out Read → Finds Holds of old new out Answer
+  all_tell {rows} means h (Ok found) read =
+      ask_finds Holds of sql params old new Answer knows rows h (Ok found) (λ db now holds shown. means db now holds shown found read)
+  all_tell {rows} means h (Err e) read = ask_finds Holds of sql params old new Answer knows rows h (Err e) tt
+
+  pub few_tell : {rows : Vec Row Global} {most : ℕ} → ((db : Database) (now : Q) (holds : Holds db (of now))
+      → Shows (knows db (of now) holds).command db params rows.items → (found : A) → Read found → Answer now found)
+      → AsksFew old new sql params most (Ok rows) → (out : Result A Fault) → IfOk out Read → Finds Holds of old new out Answer
+  few_tell {rows} {most} means h (Ok found) read =
+      few_finds Holds of sql params old new Answer knows most rows h (Ok found) (λ db now holds shown. means db now holds shown found read)
+  few_tell {rows} {most} means h (Err e) read = few_finds Holds of sql params old new Answer knows most rows h (Err e) tt
+
+  pub first_tells : ((db : Database) (r : R) (holds : Holds db r) (at : Database) (given : Row) → EndsIn (knows db r holds).command at given)
+      → {row : Option Row} → ((db : Database) (now : Q) (holds : Holds db (of now)) → ShowsFirst (knows db (of now) holds).command db params row
+      → (found : A) → Read found → Answer now found)
+      → TakesFirst old new sql params (Ok row) → (out : Result A Fault) → IfOk out Read → Finds Holds of old new out Answer
+  first_tells ends {row} means h (Ok found) read =
+      first_finds Holds of sql params old new Answer knows ends row h (Ok found) (λ db now holds shown. means db now holds shown found read)
+  first_tells ends {row} means h (Err e) read = first_finds Holds of sql params old new Answer knows ends row h (Err e) tt
+
+-- ---- reads of one table of a ledger
+
+one_last : (row : Option Row) (m n : ℕ) → IsLastRow m row → IsLastRow n row → m ≡ n
+one_last row m n h k = grind arith
+
+module _ {p : Place} {sql : List ℕ} {query : ℕ → Query} {names : List (List ℕ)} (text : Asks p sql query names)
+    {Q : Type 0} {of : Q → Ledger} {params : Row} {old new : State} where
+  -- the first row, if there is one, was made of one thing
+  pub reads_one : {A : Type 0} (is : Row → A → Type 0) {row_of : A → Row} {wanted : Q → Option A} {row : Option Row}
+      → ((db : Database) (now : Q) (holds : HoldsLedger db (of now)) (row : Option Row)
+      → ShowsFirst (in_ledgers (known text) db (of now) holds).command db params row → row ≡ option_map row_of (wanted now))
+      → TakesFirst old new sql params (Ok row) → (out : Result (Option A) Fault) → IfOk out (λ found. IsReadAs is found row)
+      → ((a b : A) → is (row_of b) a → a ≡ b) → Finds HoldsLedger of old new out (λ q found. found ≡ wanted q)
+  reads_one is {row_of = row_of} {wanted = wanted} {row = row} shows h out read one = first_tells (in_ledgers (known text)) (λ db l holds at given. tt)
+      (λ db now holds shown found is_read. one_read is row_of ◌≡◌ refl (λ a b same. ap Some (one a b same)) found (wanted now) row is_read
+      (shows db now holds row shown)) h out read
+
+  -- the rows were made of a list
+  pub reads_all : {A : Type 0} (is : Row → A → Type 0) {row_of : A → Row} {wanted : Q → List A} {rows : Vec Row Global}
+      → ((db : Database) (now : Q) (holds : HoldsLedger db (of now)) (rows : List Row)
+      → Shows (in_ledgers (known text) db (of now) holds).command db params rows → rows ≡ map row_of (wanted now))
+      → AsksText old new sql params (Ok rows) → (out : Result (Vec A Global) Fault) → IfOk out (λ found. AreReadAs is rows.items found.items)
+      → ((a b : A) → is (row_of b) a → a ≡ b) → Finds HoldsLedger of old new out (λ q found. found.items ≡ wanted q)
+  reads_all is {row_of = row_of} {wanted = wanted} {rows = rows} shows h out read one = all_tell (in_ledgers (known text))
+      (λ db now holds shown found are. all_read is row_of one found.items (wanted now)
+      (subst (λ l. AreReadAs is l found.items) (shows db now holds rows.items shown) are)) h out read
+
+  -- the first row has the last number
+  pub reads_last : {count : Q → ℕ} {row : Option Row} → ((db : Database) (now : Q) (holds : HoldsLedger db (of now)) (row : Option Row)
+      → ShowsFirst (in_ledgers (known text) db (of now) holds).command db params row → IsLastRow (count now) row)
+      → TakesFirst old new sql params (Ok row) → (out : Result ℕ Fault) → IfOk out (λ n. IsLastRow n row)
+      → Finds HoldsLedger of old new out (λ q last. last ≡ count q)
+  reads_last {count = count} {row = row} shows = first_tells (in_ledgers (known text)) (λ db l holds at given. tt)
+      (λ db now holds shown n is. one_last row n (count now) is (shows db now holds row shown))
+
+  -- there is a row where there is such a thing
+  pub reads_whether : {there : Q → Bool} {row : Option Row} → ((db : Database) (now : Q) (holds : HoldsLedger db (of now)) (row : Option Row)
+      → ShowsFirst (in_ledgers (known text) db (of now) holds).command db params row → is_some row ≡ there now)
+      → TakesFirst old new sql params (Ok row) → Finds HoldsLedger of {E = Fault} old new (Ok (is_some row)) (λ q found. found ≡ there q)
+  reads_whether {row = row} shows h = first_finds HoldsLedger of sql params old new _ (in_ledgers (known text)) (λ db l holds at given. tt) row h
+      (Ok (is_some row)) (λ db now holds. shows db now holds row)
 
 -- one that is broken among all
 pub told_broken : {A : Type 0} (broken : Row → Type 0) (rows : List Row) (row : Row) → Has rows row → (fault : Fault) → IfRowsBroken fault (broken row)
     → (out : Result A Fault) → out ≡ Err fault
     → IfErr out (λ fault. IfRowsBroken fault (HasBroken broken rows))
-told_broken {A = A} broken rows row among fault told out is = subst (λ (o : Result A Fault). IfErr o (λ fault. IfRowsBroken fault (HasBroken broken rows)))
-    (sym is)
-    (go fault told)
-  where
-    go : (fault : Fault) → IfRowsBroken fault (broken row) → IfRowsBroken fault (HasBroken broken rows)
-    go Memory _ = tt
-    go Store is = is
-    go Broken is = record { row = row; among = among; broken = is }
-
--- ---- the last number
-
-one_last : (row : Option Row) (m n : ℕ) → IsLastRow m row → IsLastRow n row → m ≡ n
-one_last None m n h k = h ∙ sym k
-one_last (Some row) m n h k = let both : Int (pos m) ≡ Int (pos n) = sym h ∙ k in cc
-
--- a query whose first row has the last number
-pub takes_last : {Q : Type 0} (of : Q → Ledger) (sql : List ℕ) (old new : State) (knows : Knows HoldsTables sql) (count : Q → ℕ)
-    → ((db : Database) (l : Ledger) (holds : HoldsLedger db l) (at : Database) (given : Row) → EndsIn (in_ledgers knows db l holds).command at given)
-    → (row : Option Row) → ((db : Database) (now : Q) (holds : HoldsLedger db (of now)) → ShowsFirst (in_ledgers knows db (of now) holds).command db [] row
-    → IsLastRow (count now) row)
-    → TakesFirst old new sql [] (Ok row) → (out : Result ℕ Fault) → IfOk out (λ n. IsLastRow n row)
-    → Finds HoldsLedger of old new out (λ q last. last ≡ count q)
-takes_last of sql old new knows count ends row shows h out is = first_finds HoldsLedger of sql [] old new (λ q last. last ≡ count q) (in_ledgers knows) ends row
-    h out (answers out is)
-  where
-    answers : (out : Result ℕ Fault) → IfOk out (λ n. IsLastRow n row)
-        → IfOk out (λ n. (db : Database) (now : _) (holds : HoldsLedger db (of now)) → ShowsFirst (in_ledgers knows db (of now) holds).command db [] row
-        → n ≡ count now)
-    answers (Ok n) is = λ db now holds shown. one_last row n (count now) is (shows db now holds shown)
-    answers (Err e) is = tt
+told_broken broken rows row among fault told out is = grind arith
 
 -- ---- what a read leaves
 
 module _ {R : Type 0} (Holds : Database → R → Type 0) {sql : List ℕ} (params : Row) (old new : State) (knows : Knows Holds sql) where
   still_seen : Wears old new → ((k : Known old.now.schema sql) → HasCleanDisk new → IsUnchanged old new) → (r : R) → Sees Holds old r → Sees Holds new r
-  still_seen wears same r was = record {
-    sees = λ clean.
-        let first = was.sees (omega (arith, clean, wears)) in
-        let it = same (knows old.now r first.now_holds) clean in
-        record { mode = it.0.mode ∙ first.mode; is_open = it.0.is_open; now_holds = subst (λ db. Holds db r) (sym it.0.now_is) first.now_holds };
-  }
+  still_seen wears same r was = grind arith
 
   pub first_sees : (row : Option Row) → TakesFirst old new sql params (Ok row) → (r : R) → Sees Holds old r → Sees Holds new r
   first_sees row h = still_seen h.survives.clean (λ k clean. took Holds sql params old new knows row k (h.answers clean))
@@ -169,9 +154,7 @@ module _ {R : Type 0} (Holds : Database → R → Type 0) {sql : List ℕ} (para
 
 module _ {sql : List ℕ} (params : Row) (old new : State) (knows : Knows HoldsTables sql) where
   pub first_keeps : (out : Result (Option Row) Fault) → TakesFirst old new sql params out → KeepsSeenTables old new out
-  first_keeps (Ok row) h = first_sees HoldsTables params old new knows row h
-  first_keeps (Err fault) h = tt
+  first_keeps out h = grind (arith, first_sees)
 
   pub ask_keeps : (out : Result (Vec Row Global) Fault) → AsksText old new sql params out → KeepsSeenTables old new out
-  ask_keeps (Ok rows) h = ask_sees HoldsTables params old new knows rows h
-  ask_keeps (Err fault) h = tt
+  ask_keeps out h = grind (arith, ask_sees)

@@ -21,8 +21,8 @@ use Rattle.desk_records.specs.ReadRows.{broken_stored_action_column, columns_of_
 use Rattle.desk_records.specs.RowFaults.{BreaksRule}
 use Rattle.desk_records.specs.Schema.{Actions}
 use Rattle.desk_records.specs.declared.table_columns.Column.{Column}
-use Rattle.desk_records.specs.declared.table_columns.Column.TheVariants.{ActionCanceling, ActionEntries, ActionNotes, ActionOutcome, ActionPlace, ActionRollout}
-use Rattle.desk_records.specs.declared.table_columns.Column.TheVariants.{TargetId}
+use Rattle.desk_records.specs.declared.table_columns.Column.TheVariants.{ActionCanceling, ActionEntries, ActionNotes, ActionOutcome, ActionPlace}
+use Rattle.desk_records.specs.declared.table_columns.Column.TheVariants.{ActionRollout, TargetId}
 use Rattle.desk_store.specs.Readable.{IsReadable}
 
 tallied_at : (as' : List ActionRecord) (i : ℕ) (a : ActionRecord) → slice_get as' i ≡ Some a → slice_get (zip as' (map tally_of as')) i ≡ Some (a, tally_of a)

@@ -1,5 +1,5 @@
 -- A ledger can be read with other targets too, where these keep their rules.
-use Rattle.std.proofs.Common.{◌≡◌, ◌<◌, ◌^◌, ℕ, pos, true, Option, None, Some, List, [], ◌∷◌, length, refl, sym, ap, subst, ◌∙◌, arith, true≢false, inl, inr}
+use Rattle.std.proofs.Common.{◌≡◌, ◌<◌, ◌^◌, ℕ, pos, true, Option, None, Some, List, [], ◌∷◌, length, sym, ap, subst, ◌∙◌, arith, true≢false}
 use Rattle.std.specs.List.{list_all}
 use Rattle.std.proofs.lemmas.Bool.{and_parts}
 use Rattle.std.proofs.lemmas.List.{length-map}
@@ -9,7 +9,7 @@ use Rattle.sqlite_rules.proofs.ListLemmas.{test_has}
 use Rattle.sqlite_rules.specs.Lists.{Has}
 use Rattle.sql_calls.proofs.Counts.{length_held}
 use Rattle.rollout_model.specs.Pairs.{is_attribute}
-use Rattle.rollout_model.specs.Rules.{is_digest, is_text, is_value, is_word}
+use Rattle.rollout_model.specs.Rules.{is_digest, is_text, is_word}
 use Rattle.rollout_machine.specs.Commands.{Attribute, Bytes}
 use Rattle.rollout_machine.specs.Records.{Records}
 use Rattle.rollout_machine.specs.Targets.{Target}
@@ -17,8 +17,6 @@ use Rattle.desk_records.specs.Holds.{IsHeld, ledger_of}
 use Rattle.desk_records.specs.RowFaults.{BreaksRule}
 use Rattle.desk_records.specs.Schema.{Actions, Artifacts, Desk, Feedbacks, Groups, Members, Modules, Numbers, Offers, Pieces, Place, Rollouts, Rules}
 use Rattle.desk_records.specs.Schema.{SetModules, Sets, TargetAttributes, TargetTags, Targets}
-use Rattle.desk_records.specs.ReadRows.{broken_attribute_column, broken_listed_target_column, broken_stored_target_column}
-use Rattle.desk_records.specs.ReadRows.{columns_of_attribute, columns_of_listed_target, columns_of_stored_target}
 use Rattle.desk_records.specs.Targets.{attribute_rows, tag_rows, target_row}
 use Rattle.desk_records.specs.declared.table_columns.Column.{Column}
 use Rattle.desk_records.proofs.EachPlace.{by_place}
@@ -40,22 +38,14 @@ unbroken column none broken = let told : None ≡ Some broken.first = sym none �
 
 module _ (r : Records) (w : IsReadable (ledger_of r)) (ts : List Target) (keep : (x : Target) → Has ts x → KeepsTarget x) (few : length ts < 2 ^ 32) where
   of_target : (n : ℕ) (x : Target) → KeepsTarget x → BreaksColumn Targets (Int (pos n) ∷ target_row x) → ⊥
-  of_target n x keeps (inl broken) =
-      unbroken _ (let is : broken_stored_target_column (columns_of_stored_target (Int (pos n) ∷ target_row x)) ≡ None = rw (keeps.name, keeps.digest) refl in
-      is) broken
-  of_target n x keeps (inr broken) =
-      unbroken _ (let is : broken_listed_target_column (columns_of_listed_target (Int (pos n) ∷ target_row x)) ≡ None = rw (keeps.id, keeps.name) refl in is)
-      broken
+  of_target n x keeps h3 = grind (arith, unbroken)
 
   of_tag : (n : ℕ) (x : Target) (tag : Bytes) → KeepsTarget x → Has x.tags tag → BreaksColumn TargetTags (Int (pos n) ∷ Text x.id ∷ Text tag ∷ []) → ⊥
   of_tag n x tag keeps its broken = true≢false (sym (test_has is_word x.tags tag keeps.tags its) ∙ broken)
 
   of_attribute : (n : ℕ) (x : Target) (a : Attribute) → KeepsTarget x → Has x.attributes a
       → BreaksColumn TargetAttributes (Int (pos n) ∷ Text x.id ∷ Text a.key ∷ Text a.value ∷ []) → ⊥
-  of_attribute n x a keeps its broken =
-      let parts = and_parts (is_word a.key) (is_value a.value) (test_has is_attribute x.attributes a keeps.attributes its) in
-      unbroken _ (let is : broken_attribute_column (columns_of_attribute (Int (pos n) ∷ Text x.id ∷ Text a.key ∷ Text a.value ∷ [])) ≡ None =
-      rw (parts.0, parts.1) refl in is) broken
+  of_attribute n x a keeps its broken = grind (arith, and_parts, test_has, unbroken)
 
   abbrev Keeps : Place → Type 0
   Keeps p = (rows : List Row) → IsHeld (ledger_of (record r { targets = ts })) p rows → (row : Row) → Has rows row → BreaksColumn p row → ⊥

@@ -6,7 +6,8 @@ use Rattle.sqlite.specs.Source.{Source}
 use Rattle.sqlite.specs.State.{Runs}
 use Rattle.sql_calls.proofs.Framing.{is_written}
 use Rattle.desk_records.proofs.MeaningWords.{Changes, Drops, Puts, changed_at, dropped_at, put_at}
-use Rattle.desk_store.proofs.Common.{ℕ, List, Row, Result, refl, State, Fault, RunsText, Makes, KnowsWrite, run_makes, HoldsLedger, Ledger, Place, Query}
+use Rattle.desk_store.proofs.Common.{ℕ, List, Row, Result, refl, subst, ◌≡◌, State, Fault, RunsText, Makes, KnowsWrite, run_makes, HoldsLedger, Ledger, Place}
+use Rattle.desk_store.proofs.Common.{Query}
 use Rattle.desk_store.proofs.Known.{ledger_writes}
 
 -- ---- a text that adds rows, one that changes some, and one that drops some
@@ -29,3 +30,10 @@ module _ {Q : Type 0} {of : Q → Ledger} {sql : List ℕ} {params : Row} {old n
       → HoldsLedger new.now (of next)) → (out : Result (Unit {0}) Fault) → RunsText old new sql params out → Makes HoldsLedger of old new out Step
   written step out h = run_makes HoldsLedger of sql params old new Step text.knows out h (λ now next change holds count runs.
       (is_written old new _ _ params count (text.rows old.now (of now) holds) runs, step count now next holds change runs))
+
+  -- .. where what was given comes to these parameters
+  pub writes : ((count : ℕ) (now next : Q) (holds : HoldsLedger old.now (of now)) → Step now next
+      → Runs old new None (text.knows old.now (of now) holds).command (statement_of sql (understood old.now.schema sql)) params count
+      → HoldsLedger new.now (of next)) → {out : Result (Unit {0}) Fault} {given : Row} → RunsText old new sql given out → given ≡ params
+      → Makes HoldsLedger of old new out Step
+  writes step {out} h same = written step out (subst (λ its. RunsText old new sql its out) same h)

@@ -11,6 +11,7 @@ ghost use Rattle.desk_store.specs.Blaming.{Blames, BlamesGiven, ReadsOf};
 ghost use Rattle.desk_store.specs.Changing.{FindsTables, StaysIn};
 ghost use Rattle.desk_store.specs.Counting.{AddsIn};
 ghost use Rattle.desk_store.specs.RawLists.{AreActions, IsFoundInOrder, ListsRows, SaysAction, SaysEntry, SaysNumbered};
+ghost use Rattle.desk_store.specs.Rows.{HasBroken, IfRowsBroken};
 
 use crate::change::OpenChange;
 use crate::checked_row::read_checked;
@@ -30,7 +31,7 @@ const ALL: i64 = -1;
 /// The actions in rows that keep the rules of place and outcome.
 fn read_counted(alloc: Global, rows: &[Row]) -> Result<Vec<CountedAction>, Fault>
     ensures ok { IfOk result (λ found. found.items ≡ filter_map counted_of rows.now) }
-    ensures err { IfErr result (λ fault. fault ≡ Fault.Memory) }
+    ensures err { IfErr result (λ fault. IfRowsBroken fault (HasBroken (λ row. ⊥) rows.now)) }
 {
     let mut found = Vec::new(alloc);
     for row in rows {

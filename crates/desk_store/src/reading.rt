@@ -93,9 +93,8 @@ fn read_one<T: FromRow>(alloc: Global, row: &Row) -> Result<T, Fault>
 
 /// The number in the row of a count.
 pub(crate) fn counted_in(row: Option<Row>) -> Result<u32, Fault>
-    ensures count { IfOk result (λ n. IsCount n row) }
+    ensures ok { IfOk result (λ n. IsCount n row × (n < 2 ^ 32)) }
     ensures err { IfErr result (λ fault. IfRowsBroken fault ((row ≡ None) ⊎ HasNoNumber row)) }
-    ensures small { IfOk result (λ n. n < 2 ^ 32) }
 {
     let Some(row) = row else {
         return Err(Fault::Broken);

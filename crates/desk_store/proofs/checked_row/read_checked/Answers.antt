@@ -1,4 +1,4 @@
-use Rattle.desk_store.proofs.Answering.{Err, ap, ◌∙◌, err_from_is_err_and, has_at, read_more, told_broken}
+use Rattle.desk_store.proofs.Answering.{Err, ap, err_from_is_err_and, has_at, read_more, told_broken, ◌∙◌}
 use Rattle.desk_store.proofs.checked_row.read_checked.Goals as goal
 
 pub loop-row-preserved : goal.loop-row-preserved

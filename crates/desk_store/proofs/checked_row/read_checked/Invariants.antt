@@ -1,4 +1,4 @@
-use Rattle.desk_store.proofs.Answering.{take, AreReadAs}
+use Rattle.desk_store.proofs.Answering.{AreReadAs, take}
 use Rattle.desk_store.proofs.checked_row.read_checked.Given as goal
 
 -- what the rows so far are read as

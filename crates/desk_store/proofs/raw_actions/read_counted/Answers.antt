@@ -1,4 +1,4 @@
-use Rattle.desk_store.proofs.Answering.{Some, None, sym, ◌∙◌, append-nil, counted_of, pick_more}
+use Rattle.desk_store.proofs.Answering.{None, Some, append-nil, counted_of, pick_more, sym, ◌∙◌}
 use Rattle.desk_store.proofs.raw_actions.read_counted.Goals as goal
 
 pub loop-row-preserved-in_default : goal.loop-row-preserved-in_default

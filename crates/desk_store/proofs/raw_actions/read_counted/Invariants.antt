@@ -1,4 +1,4 @@
-use Rattle.desk_store.proofs.Answering.{◌≡◌, filter_map, take, counted_of}
+use Rattle.desk_store.proofs.Answering.{counted_of, filter_map, take, ◌≡◌}
 use Rattle.desk_store.proofs.raw_actions.read_counted.Given as goal
 
 -- those of the rows so far

@@ -1,4 +1,4 @@
-use Rattle.desk_store.proofs.Answering.{Err, ap, refl, ◌∙◌, slice_get_read, err_from_is_err_and, has_at, told_broken}
+use Rattle.desk_store.proofs.Answering.{Err, ap, err_from_is_err_and, has_at, refl, slice_get_read, told_broken, ◌∙◌}
 use Rattle.desk_store.proofs.reading.read_at.Goals as goal
 
 pub returns-in_err-found-clause-err : goal.returns-in_err-found-clause-err

@@ -1,4 +1,4 @@
-use Rattle.desk_store.proofs.Answering.{Err, ap, ◌∙◌, err_from_is_err_and, has_at, IsAttributeRow, broken_attribute_column, BreaksRule, read_more, told_broken}
+use Rattle.desk_store.proofs.Answering.{BreaksRule, Err, IsAttributeRow, ap, broken_attribute_column, err_from_is_err_and, has_at, read_more, told_broken, ◌∙◌}
 use Rattle.desk_store.proofs.reading.read_attributes.Goals as goal
 
 pub loop-row-preserved : goal.loop-row-preserved

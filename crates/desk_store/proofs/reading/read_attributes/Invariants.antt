@@ -1,4 +1,4 @@
-use Rattle.desk_store.proofs.Answering.{take, IsAttributeRow, AreReadAs}
+use Rattle.desk_store.proofs.Answering.{AreReadAs, IsAttributeRow, take}
 use Rattle.desk_store.proofs.reading.read_attributes.Given as goal
 
 -- the attributes of the rows so far

@@ -1,5 +1,5 @@
-use Rattle.desk_store.proofs.Answering.{rules, subst, AsksText, HoldsLedger, ask_frames, in_ledgers, ask_keeps, ask_sees, HoldsTables, call_breaks}
-use Rattle.desk_store.proofs.Answering.{call_blames, never_breaks}
+use Rattle.desk_store.proofs.Answering.{AsksText, HoldsLedger, HoldsTables, ask_frames, ask_keeps, ask_sees, call_blames, call_breaks, in_ledgers}
+use Rattle.desk_store.proofs.Answering.{never_breaks, rules, subst}
 use Rattle.desk_store.proofs.change.OpenChange.ask.Goals as goal
 
 pub returns-clause-stays : goal.returns-clause-stays

@@ -1,16 +1,8 @@
-use Rattle.desk_store.proofs.Answering.{set_target_attribute_is, changes, sets_attribute, written}
+use Rattle.desk_store.proofs.Answering.{arith, changes, set_target_attribute_is, sets_attribute, writes}
 use Rattle.desk_store.proofs.change.OpenChange.change_target_attribute.Goals as goal
 
 pub returns-clause-writes : goal.returns-clause-writes
-returns-clause-writes g c = written (changes set_target_attribute_is) (sets_attribute c.args.id.now c.args.attribute.now _ _ _) c.run.result
-    (rw (
-      c.params-to_sql.ensures,
-      c.params-to_sql-2.ensures,
-      c.params-to_sql-3.ensures,
-      c.as_str.ensures.value,
-      c.as_str-2.ensures.value,
-      c.as_str-3.ensures.value,
-    ) at c.run.ensures.runs)
+returns-clause-writes g c = writes (changes set_target_attribute_is) (sets_attribute c.args.id.now c.args.attribute.now _ _ _) c.run.ensures.runs (grind arith)
 
 pub run-requires : goal.run-requires
 run-requires g c = changes set_target_attribute_is

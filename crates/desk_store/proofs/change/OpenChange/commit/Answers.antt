@@ -1,4 +1,4 @@
-use Rattle.desk_store.proofs.Answering.{commit_is, commits, codes, HoldsLedger, commits_as_store}
+use Rattle.desk_store.proofs.Answering.{HoldsLedger, codes, commit_is, commits, commits_as_store}
 use Rattle.desk_store.proofs.change.OpenChange.commit.Goals as goal
 
 pub returns-clause-commits : goal.returns-clause-commits

@@ -1,5 +1,5 @@
-use Rattle.desk_store.proofs.Answering.{rules, subst, AsksFew, HoldsLedger, few_frames, in_ledgers, HoldsTables, call_blames, call_breaks, few_sees}
-use Rattle.desk_store.proofs.Answering.{never_breaks}
+use Rattle.desk_store.proofs.Answering.{AsksFew, HoldsLedger, HoldsTables, call_blames, call_breaks, few_frames, few_sees, in_ledgers, never_breaks, rules}
+use Rattle.desk_store.proofs.Answering.{subst}
 use Rattle.desk_store.proofs.change.OpenChange.few.Goals as goal
 
 pub returns-clause-stays : goal.returns-clause-stays

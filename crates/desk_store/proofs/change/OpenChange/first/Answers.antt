@@ -1,5 +1,5 @@
-use Rattle.desk_store.proofs.Answering.{rules, subst, TakesFirst, HoldsLedger, first_frames, in_ledgers, first_keeps, first_sees, HoldsTables, call_breaks}
-use Rattle.desk_store.proofs.Answering.{call_blames, never_breaks}
+use Rattle.desk_store.proofs.Answering.{HoldsLedger, HoldsTables, TakesFirst, call_blames, call_breaks, first_frames, first_keeps, first_sees, in_ledgers}
+use Rattle.desk_store.proofs.Answering.{never_breaks, rules, subst}
 use Rattle.desk_store.proofs.change.OpenChange.first.Goals as goal
 
 pub returns-clause-stays : goal.returns-clause-stays

@@ -1,4 +1,4 @@
-use Rattle.desk_store.proofs.Answering.{rollback_is, gives_up, codes, HoldsLedger, errors_as_store, gives_up_as_store}
+use Rattle.desk_store.proofs.Answering.{HoldsLedger, codes, errors_as_store, gives_up, gives_up_as_store, rollback_is}
 use Rattle.desk_store.proofs.change.OpenChange.give_up.Goals as goal
 
 pub returns-clause-gives_up : goal.returns-clause-gives_up

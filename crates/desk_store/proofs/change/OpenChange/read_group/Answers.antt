@@ -1,14 +1,12 @@
-use Rattle.desk_store.proofs.Answering.{subst, ◌≤◌, get_group_is, group_read, known, first_fails}
+use Rattle.desk_store.proofs.Answering.{[], arith, first_fails, get_group_is, gets_group, known, one_group, reads_one}
 use Rattle.desk_store.proofs.change.OpenChange.read_group.Goals as goal
 
 pub returns-clause-reads : goal.returns-clause-reads
-returns-clause-reads g c = group_read c.args.number c.args.group (subst (λ n. 1 ≤ n) c.get.ensures.value c.get.ensures.least) _ _ c.in_ok-row.row
-    (rw (c.params-to_sql.ensures, c.params-to_sql-2.ensures, c.get.ensures.value) at c.in_ok-row.ensures.takes) c.read_optional.result
-    c.read_optional.ensures.ok
+returns-clause-reads g c = reads_one get_group_is _ (λ db l holds. gets_group db l holds [] c.args.number c.args.group (omega arith))
+    (rw (c.params-to_sql.ensures, c.params-to_sql-2.ensures, c.get.ensures.value) at c.in_ok-row.ensures.takes) _ c.read_optional.ensures.ok one_group
 
 pub returns-clause-fails : goal.returns-clause-fails
-returns-clause-fails g c = first_fails get_group_is _ (λ params row kept is. kept is) _ c.in_ok-row.row
-    c.in_ok-row.ensures.takes c.read_optional.result c.read_optional.ensures.err
+returns-clause-fails g c = first_fails get_group_is _ (λ row is. is) c.in_ok-row.ensures.takes _ c.read_optional.ensures.err
 
 pub first-requires : goal.first-requires
 first-requires g c = known get_group_is

@@ -1,14 +1,14 @@
-use Rattle.desk_store.proofs.Answering.{subst, ◌≤◌, list_members_is, members_read, known, all_fails}
+use Rattle.desk_store.proofs.Answering.{[], all_fails, arith, known, list_members_is, lists_members, reads_all, same_text}
 use Rattle.desk_store.proofs.change.OpenChange.read_members.Goals as goal
 
 pub returns-clause-reads : goal.returns-clause-reads
-returns-clause-reads g c = members_read c.args.number c.args.page.offset c.args.page.limit (subst (λ n. 1 ≤ n) c.get.ensures.value c.get.ensures.least) _ _
-    c.in_ok-rows.rows (rw (c.params-to_sql.ensures, c.params-to_sql-2.ensures, c.params-to_sql-3.ensures, c.get.ensures.value) at c.in_ok-rows.ensures.asks)
-    c.read_all.result (rw c.deref.ensures.value at c.read_all.ensures.ok)
+returns-clause-reads g c =
+    reads_all list_members_is _ (λ db l holds. lists_members db l holds [] c.args.number c.args.page.offset c.args.page.limit (omega arith))
+    (rw (c.params-to_sql.ensures, c.params-to_sql-2.ensures, c.params-to_sql-3.ensures, c.get.ensures.value) at c.in_ok-rows.ensures.asks) _
+    (rw c.deref.ensures.value at c.read_all.ensures.ok) (λ a b h. same_text b a h)
 
 pub returns-clause-fails : goal.returns-clause-fails
-returns-clause-fails g c = all_fails list_members_is _ (λ params row kept is. kept is) _ c.in_ok-rows.rows
-    c.read_all.result (rw c.deref.ensures.value at c.read_all.ensures.err) c.in_ok-rows.ensures.asks
+returns-clause-fails g c = all_fails list_members_is _ (λ row is. is) c.in_ok-rows.ensures.asks _ (rw c.deref.ensures.value at c.read_all.ensures.err)
 
 pub ask-requires : goal.ask-requires
 ask-requires g c = known list_members_is

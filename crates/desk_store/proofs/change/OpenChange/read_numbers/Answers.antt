@@ -1,22 +1,21 @@
-use Rattle.desk_store.proofs.Answering.{inl, subst, ◌≤◌, list_numbers_is, known, all_fails, numbers_blamed, numbers_read as numbers_told}
-use Rattle.desk_store.proofs.NumberCalls.{numbers_read}
+use Rattle.desk_store.proofs.Answering.{SaysNumber, [], all_blamed, all_fails, arith, broken_number, each_read, inl, judges_number, known, list_numbers_is}
+use Rattle.desk_store.proofs.Answering.{lists_numbers, one_number, reads_all, refl, unread}
 use Rattle.desk_store.proofs.change.OpenChange.read_numbers.Goals as goal
 
 pub returns-clause-reads : goal.returns-clause-reads
-returns-clause-reads g c = numbers_read c.args.action (subst (λ n. 1 ≤ n) c.get.ensures.value c.get.ensures.least) _ _ c.in_ok-rows.rows
-    (rw (c.params-to_sql.ensures, c.get.ensures.value) at c.in_ok-rows.ensures.asks) c.read_all.result (rw c.deref.ensures.value at c.read_all.ensures.ok)
+returns-clause-reads g c = reads_all list_numbers_is _ (λ db l holds. lists_numbers db l holds [] c.args.action (omega arith))
+    (rw (c.params-to_sql.ensures, c.get.ensures.value) at c.in_ok-rows.ensures.asks) _ (rw c.deref.ensures.value at c.read_all.ensures.ok) one_number
 
 pub returns-clause-fails : goal.returns-clause-fails
-returns-clause-fails g c = all_fails list_numbers_is _ (λ params row kept is. kept (inl is)) _ c.in_ok-rows.rows
-    c.read_all.result (rw c.deref.ensures.value at c.read_all.ensures.err) c.in_ok-rows.ensures.asks
+returns-clause-fails g c = all_fails list_numbers_is _ (λ row is. inl is) c.in_ok-rows.ensures.asks _ (rw c.deref.ensures.value at c.read_all.ensures.err)
 
 pub returns-clause-tells : goal.returns-clause-tells
-returns-clause-tells g c = numbers_told c.args.action _ _ c.in_ok-rows.rows (rw (c.params-to_sql.ensures, c.get.ensures.value) at c.in_ok-rows.ensures.asks)
-    c.read_all.result (rw c.deref.ensures.value at c.read_all.ensures.ok)
+returns-clause-tells g c = each_read list_numbers_is (λ tree xs. refl) (judges_number c.args.action) _ {says = SaysNumber} (λ row of it is. is)
+    (rw (c.params-to_sql.ensures, c.get.ensures.value) at c.in_ok-rows.ensures.asks) _ (rw c.deref.ensures.value at c.read_all.ensures.ok)
 
 pub returns-clause-blames : goal.returns-clause-blames
-returns-clause-blames g c = numbers_blamed g.S.Store _ _ c.in_ok-rows.rows c.read_all.result c.args.action
-    (rw c.deref.ensures.value at c.read_all.ensures.err) (rw (c.params-to_sql.ensures, c.get.ensures.value) at c.in_ok-rows.ensures.asks)
+returns-clause-blames g c = all_blamed list_numbers_is _ (rw (c.params-to_sql.ensures, c.get.ensures.value) at c.in_ok-rows.ensures.asks) _
+    (rw c.deref.ensures.value at c.read_all.ensures.err) (λ reading row among is given. unread reading (broken_number row among is) given)
 
 pub ask-requires : goal.ask-requires
 ask-requires g c = known list_numbers_is

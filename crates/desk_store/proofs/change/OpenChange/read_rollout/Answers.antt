@@ -1,14 +1,14 @@
-use Rattle.desk_store.proofs.Answering.{inr, subst, ◌≤◌, get_rollout_is, known, first_fails}
-use Rattle.desk_store.proofs.RolloutCalls.{rollout_read}
+use Rattle.desk_store.proofs.Answering.{[], arith, both_mapped, first_fails, get_rollout_is, gets_rollout, inr, known, one_stored_rollout, reads_one}
+use Rattle.desk_store.proofs.Answering.{shown_stored_rollout, stored_rollout, ◌∙◌}
 use Rattle.desk_store.proofs.change.OpenChange.read_rollout.Goals as goal
 
 pub returns-clause-reads : goal.returns-clause-reads
-returns-clause-reads g c = rollout_read c.args.number (subst (λ n. 1 ≤ n) c.get.ensures.value c.get.ensures.least) _ _ c.in_ok-row.row
-    (rw (c.params-to_sql.ensures, c.get.ensures.value) at c.in_ok-row.ensures.takes) c.read_optional.result c.read_optional.ensures.ok
+returns-clause-reads g c = reads_one get_rollout_is _ (λ db l holds row shown. gets_rollout db l holds [] c.args.number (omega arith) row shown
+    ∙ both_mapped shown_stored_rollout stored_rollout _) (rw (c.params-to_sql.ensures, c.get.ensures.value) at c.in_ok-row.ensures.takes) _
+    c.read_optional.ensures.ok one_stored_rollout
 
 pub returns-clause-fails : goal.returns-clause-fails
-returns-clause-fails g c = first_fails get_rollout_is _ (λ params row kept is. kept (inr is)) _ c.in_ok-row.row
-    c.in_ok-row.ensures.takes c.read_optional.result c.read_optional.ensures.err
+returns-clause-fails g c = first_fails get_rollout_is _ (λ row is. inr is) c.in_ok-row.ensures.takes _ c.read_optional.ensures.err
 
 pub first-requires : goal.first-requires
 first-requires g c = known get_rollout_is

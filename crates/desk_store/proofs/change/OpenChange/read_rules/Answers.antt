@@ -1,13 +1,12 @@
-use Rattle.desk_store.proofs.Answering.{subst, ◌≤◌, list_rules_is, rules_read, known, all_fails}
+use Rattle.desk_store.proofs.Answering.{[], all_fails, arith, known, list_rules_is, lists_rules, one_rule, reads_all}
 use Rattle.desk_store.proofs.change.OpenChange.read_rules.Goals as goal
 
 pub returns-clause-reads : goal.returns-clause-reads
-returns-clause-reads g c = rules_read c.args.number (subst (λ n. 1 ≤ n) c.get.ensures.value c.get.ensures.least) _ _ c.in_ok-rows.rows
-    (rw (c.params-to_sql.ensures, c.get.ensures.value) at c.in_ok-rows.ensures.asks) c.read_all.result (rw c.deref.ensures.value at c.read_all.ensures.ok)
+returns-clause-reads g c = reads_all list_rules_is _ (λ db l holds. lists_rules db l holds [] c.args.number (omega arith))
+    (rw (c.params-to_sql.ensures, c.get.ensures.value) at c.in_ok-rows.ensures.asks) _ (rw c.deref.ensures.value at c.read_all.ensures.ok) one_rule
 
 pub returns-clause-fails : goal.returns-clause-fails
-returns-clause-fails g c = all_fails list_rules_is _ (λ params row kept is. kept is) _ c.in_ok-rows.rows
-    c.read_all.result (rw c.deref.ensures.value at c.read_all.ensures.err) c.in_ok-rows.ensures.asks
+returns-clause-fails g c = all_fails list_rules_is _ (λ row is. is) c.in_ok-rows.ensures.asks _ (rw c.deref.ensures.value at c.read_all.ensures.err)
 
 pub ask-requires : goal.ask-requires
 ask-requires g c = known list_rules_is

@@ -1,10 +1,9 @@
-use Rattle.desk_store.proofs.Answering.{find_module_is, known}
-use Rattle.desk_store.proofs.ModuleCalls.{found}
+use Rattle.desk_store.proofs.Answering.{[], find_module_is, finds_module, known, reads_whether}
 use Rattle.desk_store.proofs.change.OpenChange.read_same_module.Goals as goal
 
 pub returns-clause-reads : goal.returns-clause-reads
 returns-clause-reads g c =
-    rw c.is_some.ensures (found c.args.label.now _ _ c.in_ok-row.row
+    rw c.is_some.ensures (reads_whether find_module_is (λ db r holds. finds_module c.args.label.now db r holds [])
     (rw (
       c.params-to_sql.ensures,
       c.params-to_sql-2.ensures,

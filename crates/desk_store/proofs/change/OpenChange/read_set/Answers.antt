@@ -1,13 +1,14 @@
-use Rattle.desk_store.proofs.Answering.{inr, subst, ◌≤◌, get_set_is, set_read, known, first_fails}
+use Rattle.desk_store.proofs.Answering.{[], arith, both_mapped, called, first_fails, get_set_is, gets_set, inr, known, one_set_name, reads_one, shown_set_name}
+use Rattle.desk_store.proofs.Answering.{◌∙◌}
 use Rattle.desk_store.proofs.change.OpenChange.read_set.Goals as goal
 
 pub returns-clause-reads : goal.returns-clause-reads
-returns-clause-reads g c = set_read c.args.number (subst (λ n. 1 ≤ n) c.get.ensures.value c.get.ensures.least) _ _ c.in_ok-row.row
-    (rw (c.params-to_sql.ensures, c.get.ensures.value) at c.in_ok-row.ensures.takes) c.read_optional.result c.read_optional.ensures.ok
+returns-clause-reads g c = reads_one get_set_is _ (λ db r holds row shown. gets_set db r holds [] c.args.number (omega arith) row shown
+    ∙ both_mapped shown_set_name called _) (rw (c.params-to_sql.ensures, c.get.ensures.value) at c.in_ok-row.ensures.takes) _ c.read_optional.ensures.ok
+    one_set_name
 
 pub returns-clause-fails : goal.returns-clause-fails
-returns-clause-fails g c = first_fails get_set_is _ (λ params row kept is. kept (inr is)) _ c.in_ok-row.row
-    c.in_ok-row.ensures.takes c.read_optional.result c.read_optional.ensures.err
+returns-clause-fails g c = first_fails get_set_is _ (λ row is. inr is) c.in_ok-row.ensures.takes _ c.read_optional.ensures.err
 
 pub first-requires : goal.first-requires
 first-requires g c = known get_set_is

@@ -1,13 +1,12 @@
-use Rattle.desk_store.proofs.Answering.{count_targets_is, tables_know, count_fails, counted_at}
+use Rattle.desk_store.proofs.Answering.{count_fails, count_targets_is, counted_at, tables_know}
 use Rattle.desk_store.proofs.TargetCalls.{count_read}
 use Rattle.desk_store.proofs.change.OpenChange.read_target_count.Goals as goal
 
 pub returns-clause-reads : goal.returns-clause-reads
-returns-clause-reads g c = count_read _ _ c.in_ok-row.row c.in_ok-row.ensures.takes c.counted_in.result c.counted_in.ensures.count c.counted_in.ensures.small
+returns-clause-reads g c = count_read c.in_ok-row.ensures.takes _ c.counted_in.ensures.ok
 
 pub returns-clause-fails : goal.returns-clause-fails
-returns-clause-fails g c = count_fails c.in_ok-row.row c.in_ok-row.ensures.takes c.counted_in.result
-    c.counted_in.ensures.err
+returns-clause-fails g c = count_fails c.in_ok-row.ensures.takes _ c.counted_in.ensures.err
 
 pub first-requires : goal.first-requires
 first-requires g c = tables_know (counted_at count_targets_is)

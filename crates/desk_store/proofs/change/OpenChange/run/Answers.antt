@@ -1,4 +1,4 @@
-use Rattle.desk_store.proofs.Answering.{rules, HoldsLedger, run_frames, never_breaks}
+use Rattle.desk_store.proofs.Answering.{HoldsLedger, never_breaks, rules, run_frames}
 use Rattle.desk_store.proofs.change.OpenChange.run.Goals as goal
 
 pub returns-clause-stays : goal.returns-clause-stays

@@ -1,17 +1,9 @@
-use Rattle.desk_store.proofs.Answering.{put_action_is, adds_action, puts, written}
+use Rattle.desk_store.proofs.Answering.{adds_action, arith, put_action_is, puts, writes}
 use Rattle.desk_store.proofs.change.OpenChange.write_action.Goals as goal
 
 pub returns-clause-writes : goal.returns-clause-writes
-returns-clause-writes g c = written (puts put_action_is) (adds_action c.args.number c.args.rollout c.args.place c.args.id.now _ _ _) c.run.result
-    (rw (
-      c.params-to_sql.ensures,
-      c.params-to_sql-2.ensures,
-      c.params-to_sql-3.ensures,
-      c.params-to_sql-4.ensures,
-      c.get.ensures.value,
-      c.get-2.ensures.value,
-      c.as_str.ensures.value,
-    ) at c.run.ensures.runs)
+returns-clause-writes g c = writes (puts put_action_is) (adds_action c.args.number c.args.rollout c.args.place c.args.id.now _ _ _) c.run.ensures.runs
+    (grind arith)
 
 pub run-requires : goal.run-requires
 run-requires g c = puts put_action_is

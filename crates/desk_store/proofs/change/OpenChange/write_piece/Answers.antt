@@ -1,9 +1,8 @@
-use Rattle.desk_store.proofs.Answering.{put_piece_is, adds_piece, puts, written}
+use Rattle.desk_store.proofs.Answering.{adds_piece, arith, put_piece_is, puts, writes}
 use Rattle.desk_store.proofs.change.OpenChange.write_piece.Goals as goal
 
 pub returns-clause-writes : goal.returns-clause-writes
-returns-clause-writes g c = written (puts put_piece_is) (adds_piece c.args.number c.args.sequence c.args.bytes.now _ _ _) c.run.result
-    (rw (c.params-to_sql.ensures, c.params-to_sql-2.ensures, c.params-to_sql-3.ensures, c.get.ensures.value) at c.run.ensures.runs)
+returns-clause-writes g c = writes (puts put_piece_is) (adds_piece c.args.number c.args.sequence c.args.bytes.now _ _ _) c.run.ensures.runs (grind arith)
 
 pub run-requires : goal.run-requires
 run-requires g c = puts put_piece_is

@@ -1,19 +1,10 @@
-use Rattle.desk_store.proofs.Answering.{put_set_is, HoldsRecords, adds_set, puts, subst, sym, written}
+use Rattle.desk_store.proofs.Answering.{HoldsRecords, adds_set, arith, put_set_is, puts, subst, sym, writes}
 use Rattle.desk_store.proofs.change.OpenChange.write_set.Goals as goal
 
 pub returns-clause-writes : goal.returns-clause-writes
 returns-clause-writes g c =
-    written (puts put_set_is)
-    (λ count now next holds change w. subst (HoldsRecords _) (sym change.1)
-    (adds_set c.args.name.now c.args.version.now c.args.number _ _ _ count now holds change.0 w)) c.run.result
-    (rw (
-      c.params-to_sql.ensures,
-      c.params-to_sql-2.ensures,
-      c.params-to_sql-3.ensures,
-      c.get.ensures.value,
-      c.as_str.ensures.value,
-      c.as_str-2.ensures.value,
-    ) at c.run.ensures.runs)
+    writes (puts put_set_is) (λ count now next holds change w. subst (HoldsRecords _) (sym change.1)
+    (adds_set c.args.name.now c.args.version.now c.args.number _ _ _ count now holds change.0 w)) c.run.ensures.runs (grind arith)
 
 pub run-requires : goal.run-requires
 run-requires g c = puts put_set_is

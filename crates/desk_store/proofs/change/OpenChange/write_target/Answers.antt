@@ -1,17 +1,8 @@
-use Rattle.desk_store.proofs.Answering.{put_target_is, adds_target, puts, written}
+use Rattle.desk_store.proofs.Answering.{adds_target, arith, put_target_is, puts, writes}
 use Rattle.desk_store.proofs.change.OpenChange.write_target.Goals as goal
 
 pub returns-clause-writes : goal.returns-clause-writes
-returns-clause-writes g c = written (puts put_target_is) (adds_target c.args.id.now c.args.name.now c.args.digest.now _ _ _) c.run.result
-    (rw (
-      c.params-to_sql.ensures,
-      c.params-to_sql-2.ensures,
-      c.params-to_sql-3.ensures,
-      c.as_str.ensures.value,
-      c.as_str-2.ensures.value,
-      c.as_slice.ensures,
-      c.as_bytes.ensures.value,
-    ) at c.run.ensures.runs)
+returns-clause-writes g c = writes (puts put_target_is) (adds_target c.args.id.now c.args.name.now c.args.digest.now _ _ _) c.run.ensures.runs (grind arith)
 
 pub run-requires : goal.run-requires
 run-requires g c = puts put_target_is

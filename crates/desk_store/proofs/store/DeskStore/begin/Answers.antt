@@ -1,4 +1,4 @@
-use Rattle.desk_store.proofs.Answering.{refl, state, Begins, Keeps, HoldsLedger, HoldsTables, begin_is, begins, fails_to_begin}
+use Rattle.desk_store.proofs.Answering.{Begins, HoldsLedger, HoldsTables, Keeps, begin_is, begins, fails_to_begin, refl, state}
 use Rattle.desk_store.specs.Texts.{begin_text}
 use Rattle.desk_store.proofs.store.DeskStore.begin.Goals as goal
 
