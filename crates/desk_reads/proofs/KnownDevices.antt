@@ -1,4 +1,5 @@
 -- Whether a device is known, by the target of its id.
+use native.Mathlib.Omega.{arith}
 use Rattle.desk_reads.proofs.Common.{◌≡◌, Bool, true, false, cond, ◌&&◌, ◌||◌, nat_eq, List, [], ◌∷◌, find, Some, None, refl, sym, ap, ◌∙◌, or_parts}
 use Rattle.desk_reads.proofs.Common.{and_parts, option_map, sorted_from, has_id, are_sorted, ids_of, in_byte_order, IsSorted, not_above, contains_word}
 use Rattle.desk_reads.proofs.Common.{same_bytes, Records, Target, is_known, target_of, pointwise, list_any, same_pointwise, same_sym, same_true, Credential}
@@ -15,11 +16,7 @@ is_of device x = same_bytes x.id device.id && same_bytes x.digest device.digest
 module _ (device : Credential) where
   none_known : (ts : List Target) → contains_word device.id (ids_of ts) ≡ false → list_any (is_of device) ts ≡ false
   none_known [] none = refl
-  none_known (t ∷ ts) none =
-      let parts = or_parts (same_bytes device.id t.id) (contains_word device.id (ids_of ts)) none in
-      let other = same_sym t.id device.id ∙ parts.0 in
-      let others = none_known ts parts.1 in
-      λ i. (other i && same_bytes t.digest device.digest) || others i
+  none_known (t ∷ ts) none = grind (arith, none_known ts, or_parts, same_sym)
 
   pub known_by : (stored : StoredTarget) (r : Records) → are_sorted r.targets ≡ true → Some stored ≡ option_map stored_target (target_of r device.id)
       → pointwise nat_eq stored.digest device.digest ≡ is_known r device

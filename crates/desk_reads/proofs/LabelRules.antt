@@ -1,7 +1,7 @@
 -- The modules and sets of accepted commands keep their rules, and are no more than their limits.
-use Rattle.desk_reads.proofs.Common.{◌≡◌, inl, inr, ◌+◌, ◌≤◌, ◌<◌, Bool, true, ◌&&◌, length, None, ap, arith, ◌∙◌, CommandList, Make, ◌▸◌, IsValid, leb-false}
-use Rattle.desk_reads.proofs.Common.{has_either, Has, NoneHolds, none_holds, IsWellFormed, is_set_label, AddModule, AddSet, Command, ModuleLabel, SetLabel}
-use Rattle.desk_reads.proofs.Common.{added_modules, added_sets, modules, sets, verdict, verdict_row, is_text}
+use Rattle.desk_reads.proofs.Common.{◌≡◌, inl, inr, ◌≤◌, Bool, true, ◌&&◌, length, arith, CommandList, Make, ◌▸◌, IsValid, leb-false}
+use Rattle.desk_reads.proofs.Common.{has_either, Has, none_holds, IsWellFormed, is_set_label, Command, ModuleLabel, SetLabel}
+use Rattle.desk_reads.proofs.Common.{added_modules, added_sets, modules, sets, is_text}
 use Rattle.std.proofs.lemmas.List.{length-append}
 use Rattle.rollout_machine.specs.Records.{records}
 use Rattle.rollout_model.specs.Limits.{module_limit, set_limit}
@@ -12,9 +12,7 @@ abbrev pub is_label : ModuleLabel → Bool
 is_label m = is_text m.name && (is_text m.kind && is_text m.version)
 
 new_labels : (c : Command) → IsWellFormed c → (m : ModuleLabel) → Has (added_modules c) m → is_label m ≡ true
-new_labels (AddModule label) good m (inl same) = ap is_label same ∙ good
-new_labels (AddModule label) good m (inr none) = absurd none
-new_labels c good m among = absurd among
+new_labels c good m among = grind arith
 
 labels : (h : CommandList) → IsValid h → (m : ModuleLabel) → Has (modules h) m → is_label m ≡ true
 labels (Make approval) valid m among = absurd among
@@ -30,21 +28,12 @@ labels_keep h valid m among = labels h valid m among
 pub few_modules : (h : CommandList) → IsValid h → length (records h).modules ≤ module_limit
 unfolding records
 few_modules (Make approval) valid = omega arith
-few_modules (h ▸ c) valid = rw (length-append (modules h) (added_modules c)) (go c valid.2 (few_modules h valid.0))
-  where
-    go : (c : Command) → verdict h c ≡ None → length (modules h) ≤ 1000 → length (modules h) + length (added_modules c) ≤ 1000
-    go (AddModule label) e ih =
-        let row : NoneHolds (verdict_row (records h) (AddModule label)) = none_holds (verdict_row (records h) (AddModule label)) e in
-        let less : length (modules h) < 1000 = leb-false 1000 (length (modules h)) row.1.0 in
-        omega (arith, less)
-    go _ e ih = omega (arith, ih)
+few_modules (h ▸ c) valid = grind (arith, few_modules h valid.0, length-append, none_holds, leb-false)
 
 -- ---- sets
 
 new_sets : (c : Command) → IsWellFormed c → (s : SetLabel) → Has (added_sets c) s → is_set_label s ≡ true
-new_sets (AddSet label) good s (inl same) = ap is_set_label same ∙ good
-new_sets (AddSet label) good s (inr none) = absurd none
-new_sets c good s among = absurd among
+new_sets c good s among = grind arith
 
 set_labels : (h : CommandList) → IsValid h → (s : SetLabel) → Has (sets h) s → is_set_label s ≡ true
 set_labels (Make approval) valid s among = absurd among
@@ -60,11 +49,4 @@ sets_keep h valid s among = set_labels h valid s among
 pub few_sets : (h : CommandList) → IsValid h → length (records h).sets ≤ set_limit
 unfolding records
 few_sets (Make approval) valid = omega arith
-few_sets (h ▸ c) valid = rw (length-append (sets h) (added_sets c)) (go c valid.2 (few_sets h valid.0))
-  where
-    go : (c : Command) → verdict h c ≡ None → length (sets h) ≤ 1000 → length (sets h) + length (added_sets c) ≤ 1000
-    go (AddSet label) e ih =
-        let row : NoneHolds (verdict_row (records h) (AddSet label)) = none_holds (verdict_row (records h) (AddSet label)) e in
-        let less : length (sets h) < 1000 = leb-false 1000 (length (sets h)) row.1.1.0 in
-        omega (arith, less)
-    go _ e ih = omega (arith, ih)
+few_sets (h ▸ c) valid = grind (arith, few_sets h valid.0, length-append, none_holds, leb-false)

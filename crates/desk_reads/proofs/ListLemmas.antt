@@ -1,8 +1,8 @@
 -- What the records of a list of accepted commands have.
-use Rattle.desk_reads.proofs.Common.{◌≡◌, ◌≤◌, ◌<◌, ◌-◌, ℕ, zero, suc, ◌+◌, nat_eq, Bool, true, false, cond, ◌∷◌, length, Option, Some, None, Result, Ok, Err}
-use Rattle.desk_reads.proofs.Common.{refl, sym, ap, subst, ◌∙◌, arith, add-one, slice_get, finds_as, item_numbered, CommandList, Records, group_in, rollout_in}
+use Rattle.desk_reads.proofs.Common.{◌≡◌, ◌≤◌, ◌<◌, ◌-◌, ℕ, zero, suc, ◌+◌, length, Option, Some, None, Result}
+use Rattle.desk_reads.proofs.Common.{refl, sym, ap, subst, ◌∙◌, arith, add-one, finds_as, item_numbered, CommandList, Records, group_in, rollout_in}
 use Rattle.desk_reads.proofs.Common.{rollouts_in, IsValid, RolloutRecord, each_there, length_each, HoldsLedger, ledger_of, parts_of, groups_of, numbered_from}
-use Rattle.desk_reads.proofs.Common.{AreOfList, last_in, last_place, Rollout, first_of, rollout_at, rollouts, size_in, size_of}
+use Rattle.desk_reads.proofs.Common.{AreOfList, last_place, Rollout, first_of, rollout_at, rollouts, size_in, size_of}
 use Rattle.sqlite.specs.State.{State}
 use Rattle.sql_calls.specs.Standing.{Finds}
 use Rattle.rollout_machine.specs.Records.{records}
@@ -16,8 +16,7 @@ use Rattle.rollout_machine.proofs.Whole.{rollout_numbered}
 -- what answers for all records answers at lists
 pub at_lists : {A E : Type 0} {a b : State} {P : Records → A → Type 0} → (out : Result A E) → Finds HoldsLedger ledger_of a b out P
     → Finds HoldsLedger ledger_of a b out (λ r it. AreOfList r → P r it)
-at_lists (Ok x) read = finds_as read (λ r is of. is)
-at_lists (Err e) read = record { wears = read.wears; finds = tt }
+at_lists out read = grind (arith, finds_as)
 
 -- ---- a rollout of such a list
 
@@ -47,8 +46,7 @@ numbered_so rs of r x e = ap (λ (q : RolloutRecord). q.number) (made rs of r x 
 
 same_numbers : (y : Rollout) (r : ℕ) (h : CommandList) (a n : ℕ) → numbered_from a (each_from (group_in y r h) a n) ≡ each_from (group_in y r h) a n
 same_numbers y r h a zero = refl
-same_numbers y r h a (suc n) = ap (λ gs. group_in y r h a ∷ gs) (ap (λ k. numbered_from k (each_from (group_in y r h) (suc a) n)) (add-one a)
-    ∙ same_numbers y r h (suc a) n)
+same_numbers y r h a (suc n) = grind (arith, same_numbers y r h (suc a) n, add-one)
 
 -- their numbers are their places
 pub groups_are : (rs : Records) → AreOfList rs → (r : ℕ) → groups_of (item_numbered rs.rollouts r)
@@ -61,12 +59,7 @@ groups_are rs of r = go (item_numbered rs.rollouts r) refl where
 -- a group that is found is one of them
 found_each : (f : ℕ → GroupRecord) (i a n : ℕ) (g : GroupRecord) → Some g ≡ group_numbered i (each_from f a n) → (k : ℕ) × (a ≤ k) × (k < a + n) × (g ≡ f k)
 found_each f i a zero g is = absurd cc
-found_each f i a (suc n) g is = go (nat_eq (f a).number i) is (found_each f i (suc a) n g) where
-  go : (b : Bool) → Some g ≡ cond b (Some (f a)) (group_numbered i (each_from f (suc a) n))
-      → (Some g ≡ group_numbered i (each_from f (suc a) n) → (k : ℕ) × (suc a ≤ k) × (k < suc a + n) × (g ≡ f k))
-      → (k : ℕ) × (a ≤ k) × (k < a + suc n) × (g ≡ f k)
-  go true one rest = let same : g ≡ f a = cc in (a, omega arith, omega arith, same)
-  go false other rest = let it = rest other in (it.0, omega (arith, it.1), omega (arith, it.2), it.3)
+found_each f i a (suc n) g is = grind (arith, found_each f i (suc a) n g)
 
 within : (y : Rollout) (k : ℕ) → HasSoundPlan y → 1 ≤ k → k < 1 + y.plan.groups.count → (first_of y k - 1) + size_in y k ≤ size_of y
 within y k sound least most =
@@ -84,11 +77,7 @@ group_within rs of r x e i g is =
 -- ---- its members
 
 last_in_each : (y : Rollout) (r : ℕ) (h : CommandList) → HasSoundPlan y → last_place (each_from (group_in y r h) 1 y.plan.groups.count) ≡ size_of y
-last_in_each y r h sound =
-    let n = y.plan.groups.count in
-    ap (λ k. last_in (slice_get (each_from (group_in y r h) 1 n) (k - 1))) (length_each (group_in y r h) 1 n)
-    ∙ ap last_in (each_there (group_in y r h) 1 n (n - 1) n (omega (arith, sound.some_groups)) (omega (arith, sound.some_groups)))
-    ∙ sound.cut.whole
+last_in_each y r h sound = grind (arith, length_each, each_there)
 
 -- they are as many as the last place
 pub last_is_count : (rs : Records) → AreOfList rs → (r : ℕ) (x : RolloutRecord) → item_numbered rs.rollouts r ≡ Some x → last_place x.groups ≡ length x.members

@@ -1,41 +1,26 @@
 -- The members of the rollouts of a list of accepted commands are ids.
-use Rattle.desk_reads.proofs.Common.{◌≡◌, ◌⊎◌, inl, inr, ℕ, suc, Bool, true, false, cond, List, [], ◌∷◌, map, filter, Option, Some, None, refl, sym, ap, subst}
-use Rattle.desk_reads.proofs.Common.{◌∙◌, and_parts, same_bytes, bytes_below, with_word, with_words, CommandList, Make, ◌▸◌, rollouts_in, IsValid}
-use Rattle.desk_reads.proofs.Common.{RolloutRecord, Target, import_rows_of, target_ids, target_in, targets, has_either, has_filtered, test_has, Has}
-use Rattle.desk_reads.proofs.Common.{is_target_row, is_word, IsWellFormed, Bytes, Command, CreateRollout, PutTargets, TargetRow, Rollout, chosen, created}
+use native.Mathlib.Omega.{arith}
+use Rattle.desk_reads.proofs.Common.{◌≡◌, ◌⊎◌, inl, inr, ℕ, suc, true, List, [], ◌∷◌, map, Option, refl, sym, subst}
+use Rattle.desk_reads.proofs.Common.{and_parts, with_word, with_words, CommandList, Make, ◌▸◌, rollouts_in, IsValid}
+use Rattle.desk_reads.proofs.Common.{RolloutRecord, import_rows_of, target_ids, targets, has_either, has_filtered, test_has, Has}
+use Rattle.desk_reads.proofs.Common.{is_word, IsWellFormed, Bytes, Command, TargetRow, Rollout, chosen, created}
 use Rattle.desk_reads.proofs.Common.{rollouts, has_mapped}
 use Rattle.rollout_machine.specs.Records.{records}
-use Rattle.rollout_machine.specs.Filters.{matches}
 use Rattle.target_filter.specs.Grammar.{Tree}
-use Rattle.target_filter.specs.Profile.{filter_of}
 
 -- ---- targets
 
 with_word_has : (w : Bytes) (vs : List Bytes) (x : Bytes) → Has (with_word w vs) x → (x ≡ w) ⊎ Has vs x
 with_word_has w [] x (inl same) = inl same
 with_word_has w [] x (inr none) = absurd none
-with_word_has w (v ∷ vs) x among = go (same_bytes w v) (bytes_below w v) (with_word_has w vs x) among
-  where
-    go : (same below : Bool) → (Has (with_word w vs) x → (x ≡ w) ⊎ Has vs x) → Has (cond same (v ∷ vs) (cond below (w ∷ v ∷ vs) (v ∷ with_word w vs))) x
-        → (x ≡ w) ⊎ Has (v ∷ vs) x
-    go true below later it = inr it
-    go false true later (inl is) = inl is
-    go false true later (inr it) = inr it
-    go false false later (inl is) = inr (inl is)
-    go false false later (inr it) = elim (later it) [ inl is ↦ inl is | inr behind ↦ inr (inr behind) ]
+with_word_has w (v ∷ vs) x among = grind (arith, with_word_has w vs x)
 
 with_words_has : (ws vs : List Bytes) (x : Bytes) → Has (with_words ws vs) x → Has ws x ⊎ Has vs x
 with_words_has [] vs x among = inr among
-with_words_has (w ∷ ws) vs x among = elim (with_words_has ws (with_word w vs) x among) [
-  | inl it ↦ inl (inr it)
-  | inr it ↦ elim (with_word_has w vs x it) [ inl is ↦ inl (inl is) | inr behind ↦ inr behind ]
-]
+with_words_has (w ∷ ws) vs x among = grind (arith, with_words_has ws (with_word w vs) x among, with_word_has)
 
 new_words : (c : Command) → IsWellFormed c → (id : Bytes) → Has (map (λ (row : TargetRow). row.id) (import_rows_of c)) id → is_word id ≡ true
-new_words (PutTargets rows) good id among =
-    let row = has_mapped (λ (row : TargetRow). row.id) rows id among in
-    ap is_word row.2 ∙ (and_parts _ _ (test_has is_target_row rows row.0 good row.1)).0
-new_words c good id among = absurd among
+new_words c good id among = grind (arith, has_mapped, and_parts, test_has)
 
 pub target_words : (h : CommandList) → IsValid h → (id : Bytes) → Has (target_ids h) id → is_word id ≡ true
 target_words (Make approval) valid id among = absurd among
@@ -51,16 +36,10 @@ abbrev pub AreIds : List Bytes → Type 0
 AreIds members = (id : Bytes) → Has members id → is_word id ≡ true
 
 are_chosen : (h : CommandList) → IsValid h → (filter_tree : Option Tree) → AreIds (chosen filter_tree (targets h))
-are_chosen h valid None id among = absurd among
-are_chosen h valid (Some f) id among =
-    let target = has_mapped (λ (t : Target). t.id) (filter (matches f) (targets h)) id among in
-    let source = has_mapped (target_in h) (target_ids h) target.0 (has_filtered (matches f) (targets h) target.0 target.1).0 in
-    ap is_word (target.2 ∙ ap (λ (t : Target). t.id) source.2) ∙ target_words h valid source.0 source.1
+are_chosen h valid filter_tree id among = grind (arith, has_mapped, has_filtered, target_words)
 
 new_ids : (h : CommandList) (c : Command) → IsValid h → (x : Rollout) → Has (created h c) x → AreIds x.members
-new_ids h (CreateRollout plan) valid x (inl same) = subst (λ (y : Rollout). AreIds y.members) (sym same) (are_chosen h valid (filter_of plan.filter_text))
-new_ids h (CreateRollout plan) valid x (inr none) = absurd none
-new_ids h c valid x among = absurd among
+new_ids h c valid x among = grind (arith, are_chosen)
 
 rollout_ids : (h : CommandList) → IsValid h → (x : Rollout) → Has (rollouts h) x → AreIds x.members
 rollout_ids (Make approval) valid x among = absurd among

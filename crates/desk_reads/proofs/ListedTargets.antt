@@ -1,6 +1,7 @@
 -- Targets as they are listed, and then read by their ids.
+use native.Mathlib.Omega.{arith}
 use Rattle.desk_reads.proofs.Common.{◌≡◌, ℕ, true, false, List, [], ◌∷◌, map, find, take, drop, Option, Some, None, refl, sym, ap, ◌∙◌, and_parts, or_parts}
-use Rattle.desk_reads.proofs.Common.{contains_word, same_bytes, Records, Target, IsSorted, not_above, are_sorted, ids_of, in_byte_order, attributes_of}
+use Rattle.desk_reads.proofs.Common.{contains_word, Records, Target, IsSorted, not_above, are_sorted, ids_of, in_byte_order, attributes_of}
 use Rattle.desk_reads.proofs.Common.{sorted_from, has_id, tags_of, target_of, Bytes, Attribute, same_refl}
 use Rattle.std.proofs.IntoIterSteps.{All-taken}
 use Rattle.std.proofs.lemmas.List.{drop-map, take-map}
@@ -27,18 +28,11 @@ found all t = find (has_id t.id) all
 
 passes_by : (x : Target) (xs ys : List Target) → contains_word x.id (ids_of ys) ≡ false → map (found (x ∷ xs)) ys ≡ map (found xs) ys
 passes_by x xs [] none = refl
-passes_by x xs (y ∷ ys) none =
-    let parts = or_parts (same_bytes x.id y.id) (contains_word x.id (ids_of ys)) none in
-    let one : found (x ∷ xs) y ≡ found xs y = rw (parts.0) refl in
-    let others = passes_by x xs ys parts.1 in
-    λ i. one i ∷ others i
+passes_by x xs (y ∷ ys) none = grind (arith, passes_by x xs ys, or_parts)
 
 finds_all : (all : List Target) → IsSorted (ids_of all) → map (found all) all ≡ map Some all
 finds_all [] sorted = refl
-finds_all (x ∷ xs) sorted =
-    let one : found (x ∷ xs) x ≡ Some x = rw (same_refl x.id) refl in
-    let others = passes_by x xs xs (not_above x.id (ids_of xs) sorted.0) ∙ finds_all xs sorted.1 in
-    λ i. one i ∷ others i
+finds_all (x ∷ xs) sorted = grind (arith, finds_all xs sorted.1, same_refl, passes_by, not_above)
 
 module _ (r : Records) where
   one_seen : (t : Target) → found r.targets t ≡ Some t → target_listed r (listed_target t) ≡ seen t
@@ -46,12 +40,7 @@ module _ (r : Records) where
 
   all_seen : (ts : List Target) → map (found r.targets) ts ≡ map Some ts → map (target_listed r) (map listed_target ts) ≡ map seen ts
   all_seen [] is = refl
-  all_seen (t ∷ ts) is =
-      let one : found r.targets t ≡ Some t = cc in
-      let others : map (found r.targets) ts ≡ map Some ts = cc in
-      let here = one_seen t one in
-      let rest = all_seen ts others in
-      λ i. here i ∷ rest i
+  all_seen (t ∷ ts) is = grind (arith, all_seen ts, one_seen)
 
   -- a part of the targets, listed and then read by their ids
   pub part_seen : are_sorted r.targets ≡ true → (n m : ℕ) → map (target_listed r) (map listed_target (take n (drop m r.targets)))

@@ -1,14 +1,13 @@
 -- What is said of the groups of a rollout, as it is read.
-use Rattle.desk_reads.proofs.Common.{◌≡◌, ◌≤◌, ℕ, zero, suc, Some, refl, sym, ap, ◌∙◌, arith, item_numbered, Records, RolloutRecord, each_there, numbered_each}
-use Rattle.desk_reads.proofs.Common.{ledger_of, rule_numbered, rules_numbered, RolloutPlan, number_of, is_number, Bool, true, false, None}
+use Rattle.desk_reads.proofs.Common.{◌≡◌, ◌≤◌, ℕ, Some, sym, ap, ◌∙◌, arith, item_numbered, Records, RolloutRecord, each_there, numbered_each}
+use Rattle.desk_reads.proofs.Common.{ledger_of, rule_numbered, rules_numbered, RolloutPlan, number_of}
 use Rattle.std.proofs.lemmas.Option.{slice_get-map}
 use Rattle.rollout_machine.specs.GroupRules.{GroupRule, rule_at, rules_of}
 
 -- those of a rollout that is there are its plan's
 pub rules_there : (r : Records) (number : ℕ) (x : RolloutRecord) → item_numbered r.rollouts number ≡ Some x → rules_numbered (ledger_of r).rules number
     ≡ rules_of x.plan
-rules_there r zero x there = absurd cc
-rules_there r (suc k) x there = rw (slice_get-map (λ (y : RolloutRecord). rules_of y.plan) r.rollouts k, there) refl
+rules_there r number x there = grind (arith, slice_get-map)
 
 -- .. of which each is that of its number
 pub rule_is : (plan : RolloutPlan) (i : ℕ) (rule : GroupRule) → item_numbered (rules_of plan) i ≡ Some rule → rule ≡ rule_at plan i
@@ -16,8 +15,7 @@ rule_is plan i rule there = (numbered_each (rule_at plan) plan.groups.count i ru
 
 -- .. and one is there for each group
 pub rule_there : (plan : RolloutPlan) (i : ℕ) → 1 ≤ i → i ≤ plan.groups.count → item_numbered (rules_of plan) i ≡ Some (rule_at plan i)
-rule_there plan zero least most = absurd (omega (arith, least))
-rule_there plan (suc k) least most = each_there (rule_at plan) 1 plan.groups.count k (suc k) (omega (arith, most)) (omega arith)
+rule_there plan i least most = grind (arith, each_there)
 
 -- what is said of a group of a rollout that is there
 pub said_of : (r : Records) (number i : ℕ) (x : RolloutRecord) (rule : GroupRule) → item_numbered r.rollouts number ≡ Some x → Some rule
@@ -26,7 +24,4 @@ said_of r number i x rule there found = rule_is x.plan i rule (ap (λ its. item_
 
 -- a number in its range is itself
 pub same_number : (n k : ℕ) → number_of n ≡ Some k → k ≡ n
-same_number n k is = go (is_number n) refl where
-  go : (b : Bool) → is_number n ≡ b → k ≡ n
-  go true good = let same : Some n ≡ Some k = (rw good at is) in sym (cc)
-  go false bad = let none : None ≡ Some k = (rw bad at is) in absurd (cc)
+same_number n k is = grind arith

@@ -1,16 +1,16 @@
 -- The targets of accepted commands keep their rules: of their tags, that they are few words and none stands twice.
-use Rattle.desk_reads.proofs.Common.{◌≡◌, ◌⊎◌, inl, inr, ◌≤◌, ◌<◌, suc, Bool, true, false, cond, ◌&&◌, ◌||◌, not, nat_eq, nat_le, List, [], ◌∷◌, length, map}
+use Rattle.desk_reads.proofs.Common.{◌≡◌, ◌⊎◌, inl, inr, ◌≤◌, ◌<◌, suc, Bool, true, false, cond, ◌&&◌, not, nat_eq, nat_le, List, [], ◌∷◌, length, map}
 use Rattle.desk_reads.proofs.Common.{find, is_none, Option, Some, None, refl, sym, ap, subst, ◌∙◌, arith, true≢false, and_parts, and_from, le-leb, leb-false}
-use Rattle.desk_reads.proofs.Common.{leb-true, contains_word, same_bytes, bytes_below, sorted_words, with_word, without_word, CommandList, Make, ◌▸◌, Target}
+use Rattle.desk_reads.proofs.Common.{leb-true, contains_word, same_bytes, sorted_words, with_word, without_word, CommandList, Make, ◌▸◌, Target}
 use Rattle.desk_reads.proofs.Common.{attributes_in, import_rows_of, last_row_for, last_row_of, tags_by_row, tags_in, target_ids, target_in, with_attribute}
 use Rattle.desk_reads.proofs.Common.{with_attributes, IsSorted, AllAbove, below_apart, sorted_with, with_there, IsValid, tags_of, target_of, verdict}
-use Rattle.desk_reads.proofs.Common.{verdict_row, pointwise, list_all, list_any, is_some, option_or, unwrap_or, Has, same_by, same_pointwise, same_sym}
-use Rattle.desk_reads.proofs.Common.{same_true, NoneHolds, none_holds, IsWellFormed, is_credential, Attribute, Bytes, Command, PutAttributes, PutTargets, Tag}
+use Rattle.desk_reads.proofs.Common.{verdict_row, pointwise, list_all, list_any, is_some, unwrap_or, Has, same_by, same_pointwise, same_sym}
+use Rattle.desk_reads.proofs.Common.{same_true, NoneHolds, none_holds, IsWellFormed, Attribute, Bytes, Command, PutAttributes, PutTargets, Tag}
 use Rattle.desk_reads.proofs.Common.{TargetRow, Untag, is_target_row, are_distinct_words, is_digest, is_tag_list, is_text, is_word, has_mapped}
 use Rattle.rollout_machine.proofs.Orders.{sorted_all, sorted_without}
 use Rattle.rollout_machine.proofs.TargetMeanings.{targets_are_named}
 use Rattle.rollout_machine.specs.Records.{records}
-use Rattle.rollout_model.specs.Limits.{attribute_limit, tag_limit}
+use Rattle.rollout_model.specs.Limits.{tag_limit}
 use Rattle.rollout_model.specs.Pairs.{is_attribute}
 use Rattle.desk_store.proofs.ReadableTargets.{KeepsTarget}
 use Rattle.desk_reads.proofs.ListMembers.{target_words}
@@ -27,23 +27,11 @@ distinct (w ∷ ws) sorted = rw (none_again w ws sorted.0) (distinct ws sorted.1
 
 words_with : (w : Bytes) (vs : List Bytes) → is_word w ≡ true → list_all is_word vs ≡ true → list_all is_word (with_word w vs) ≡ true
 words_with w [] one all = and_from (is_word w) true one refl
-words_with w (v ∷ vs) one all = let parts = and_parts (is_word v) (list_all is_word vs) all in
-    go (same_bytes w v) (bytes_below w v) parts.0 parts.1 (words_with w vs one parts.1)
-  where
-    go : (same below : Bool) → is_word v ≡ true → list_all is_word vs ≡ true → list_all is_word (with_word w vs) ≡ true
-        → list_all is_word (cond same (v ∷ vs) (cond below (w ∷ v ∷ vs) (v ∷ with_word w vs))) ≡ true
-    go true below first rest later = and_from (is_word v) (list_all is_word vs) first rest
-    go false true first rest later = and_from (is_word w) _ one (and_from (is_word v) (list_all is_word vs) first rest)
-    go false false first rest later = and_from (is_word v) (list_all is_word (with_word w vs)) first later
+words_with w (v ∷ vs) one all = grind (arith, words_with w vs one, and_parts, and_from)
 
 words_without : (w : Bytes) (vs : List Bytes) → list_all is_word vs ≡ true → list_all is_word (without_word w vs) ≡ true
 words_without w [] all = refl
-words_without w (v ∷ vs) all = let parts = and_parts (is_word v) (list_all is_word vs) all in go (same_bytes w v) parts.0 (words_without w vs parts.1)
-  where
-    go : (same : Bool) → is_word v ≡ true → list_all is_word (without_word w vs) ≡ true
-        → list_all is_word (cond same (without_word w vs) (v ∷ without_word w vs)) ≡ true
-    go true first later = later
-    go false first later = and_from (is_word v) (list_all is_word (without_word w vs)) first later
+words_without w (v ∷ vs) all = grind (arith, words_without w vs, and_parts, and_from)
 
 words_sorted : (ws : List Bytes) → list_all is_word ws ≡ true → list_all is_word (sorted_words ws) ≡ true
 words_sorted [] all = refl
@@ -51,21 +39,11 @@ words_sorted (w ∷ ws) all = let parts = and_parts (is_word w) (list_all is_wor
 
 length_with : (w : Bytes) (vs : List Bytes) → length (with_word w vs) ≤ suc (length vs)
 length_with w [] = omega arith
-length_with w (v ∷ vs) = go (same_bytes w v) (bytes_below w v) (length_with w vs)
-  where
-    go : (same below : Bool) → length (with_word w vs) ≤ suc (length vs) → length (cond same (v ∷ vs) (cond below (w ∷ v ∷ vs) (v ∷ with_word w vs)))
-        ≤ suc (suc (length vs))
-    go true below more = omega arith
-    go false true more = omega arith
-    go false false more = omega (arith, more)
+length_with w (v ∷ vs) = grind (arith, length_with w vs)
 
 length_without : (w : Bytes) (vs : List Bytes) → length (without_word w vs) ≤ length vs
 length_without w [] = omega arith
-length_without w (v ∷ vs) = go (same_bytes w v) (length_without w vs)
-  where
-    go : (same : Bool) → length (without_word w vs) ≤ length vs → length (cond same (without_word w vs) (v ∷ without_word w vs)) ≤ suc (length vs)
-    go true more = omega (arith, more)
-    go false more = omega (arith, more)
+length_without w (v ∷ vs) = grind (arith, length_without w vs)
 
 length_sorted : (ws : List Bytes) → length (sorted_words ws) ≤ length ws
 length_sorted [] = omega arith
@@ -79,40 +57,20 @@ pub record KeepsTags (ws : List Bytes) : Type 0 where
   pub sorted : IsSorted ws
 
 pub tags_are_list : (ws : List Bytes) → KeepsTags ws → is_tag_list ws ≡ true
-tags_are_list ws keeps = and_from _ _ (le-leb (length ws) tag_limit keeps.few)
-    (and_from (list_all is_word ws) (are_distinct_words ws) keeps.words (distinct ws keeps.sorted))
+tags_are_list ws keeps = grind (arith, and_from, le-leb, distinct)
 
 -- the tags of a row that keeps its rule
 row_tags : (row : TargetRow) → is_target_row row ≡ true → KeepsTags (sorted_words row.tags)
-row_tags row good =
-    let tags = (and_parts (is_digest row.digest) _ (and_parts (is_text row.name) _ (and_parts (is_word row.id) _ good).1).1).1 in
-    let parts = and_parts (nat_le (length row.tags) tag_limit) _ tags in
-    let few : length row.tags ≤ tag_limit = leb-true _ _ parts.0 in
-    let fewer = length_sorted row.tags in
-    record { few = omega (arith, few, fewer); words = words_sorted row.tags (and_parts (list_all is_word row.tags) _ parts.1).0; sorted = sorted_all row.tags }
+row_tags row good = grind (arith, and_parts, leb-true, length_sorted, words_sorted, sorted_all)
 
 -- the last row that names a target is one of them
 pub row_for : (t : Bytes) (rows : List TargetRow) → list_all is_target_row rows ≡ true → (row : TargetRow) → last_row_for t rows ≡ Some row → is_target_row row
     ≡ true
 row_for t [] good row is = absurd cc
-row_for t (r ∷ rows) good row is = let parts = and_parts (is_target_row r) (list_all is_target_row rows) good in
-    go (last_row_for t rows) (same_bytes r.id t) parts.0 is (row_for t rows parts.1 row)
-  where
-    go : (later : Option TargetRow) (same : Bool) → is_target_row r ≡ true → option_or later (cond same (Some r) None) ≡ Some row
-        → (later ≡ Some row → is_target_row row ≡ true) → is_target_row row ≡ true
-    go (Some x) same own is rest = rest is
-    go None true own is rest = let here : r ≡ row = cc in ap is_target_row (sym here) ∙ own
-    go None false own is rest = absurd cc
+row_for t (r ∷ rows) good row is = grind (arith, row_for t rows, and_parts)
 
 with_tag : (x : Bytes) (ws : List Bytes) → KeepsTags ws → is_word x ≡ true → (contains_word x ws ≡ false → length ws < tag_limit) → KeepsTags (with_word x ws)
-with_tag x ws keeps word room = go (contains_word x ws) refl
-  where
-    go : (there : Bool) → contains_word x ws ≡ there → KeepsTags (with_word x ws)
-    go true is = subst KeepsTags (sym (with_there x ws keeps.sorted is)) keeps
-    go false is =
-        let less = room is in
-        let more = length_with x ws in
-        record { few = omega (arith, less, more); words = words_with x ws word keeps.words; sorted = sorted_with x ws keeps.sorted }
+with_tag x ws keeps word room = grind (arith, with_there, room, length_with, words_with, sorted_with)
 
 -- ---- what is found of a target
 
@@ -183,64 +141,34 @@ tags_keep h valid t = elim (found_target h t (target_ids h)) [
 -- ---- the row and the attributes of a target
 
 row_in : (c : Command) → IsWellFormed c → (t : Bytes) (row : TargetRow) → last_row_for t (import_rows_of c) ≡ Some row → is_target_row row ≡ true
-row_in (PutTargets rows) good t row is = row_for t rows good row is
-row_in c good t row is = absurd cc
+row_in c good t row is = grind (arith, row_for)
 
 last_keeps : (h : CommandList) → IsValid h → (t : Bytes) (row : TargetRow) → last_row_of t h ≡ Some row → is_target_row row ≡ true
 last_keeps (Make approval) valid t row is = absurd cc
-last_keeps (h ▸ c) valid t row is = go (last_row_for t (import_rows_of c)) is (row_in c valid.1 t row) (last_keeps h valid.0 t row)
-  where
-    go : (now : Option TargetRow) → option_or now (last_row_of t h) ≡ Some row → (now ≡ Some row → is_target_row row ≡ true)
-        → (last_row_of t h ≡ Some row → is_target_row row ≡ true) → is_target_row row ≡ true
-    go None is new old = old is
-    go (Some x) is new old = new is
+last_keeps (h ▸ c) valid t row is = grind (arith, last_keeps h valid.0 t row, row_in)
 
 contains_it : (t : Bytes) (ws : List Bytes) → Has ws t → contains_word t ws ≡ true
 contains_it t [] among = absurd among
 contains_it t (w ∷ ws) (inl same) = rw (same_by t w same) refl
-contains_it t (w ∷ ws) (inr among) = go (same_bytes t w) (contains_it t ws among)
-  where
-    go : (same : Bool) → contains_word t ws ≡ true → (same || contains_word t ws) ≡ true
-    go true it = refl
-    go false it = it
+contains_it t (w ∷ ws) (inr among) = grind (arith, contains_it t ws among)
 
 -- a target that is there has one
 has_last : (h : CommandList) (t : Bytes) → Has (target_ids h) t → (row : TargetRow) × (last_row_of t h ≡ Some row)
-has_last h t among = go (last_row_of t h) refl (sym (targets_are_named t h) ∙ contains_it t (target_ids h) among)
-  where
-    go : (found : Option TargetRow) → last_row_of t h ≡ found → is_some found ≡ true → (row : TargetRow) × (last_row_of t h ≡ Some row)
-    go None is there = absurd (true≢false (sym there))
-    go (Some row) is there = (row, is)
+has_last h t among = grind (arith, targets_are_named, contains_it, is_some)
 
 attributes_with : (a : Attribute) (bs : List Attribute) → is_attribute a ≡ true → list_all is_attribute bs ≡ true → list_all is_attribute (with_attribute a bs)
     ≡ true
 attributes_with a [] one all = and_from (is_attribute a) true one refl
-attributes_with a (b ∷ bs) one all = let parts = and_parts (is_attribute b) (list_all is_attribute bs) all in
-    go (same_bytes a.key b.key) (bytes_below a.key b.key) parts.0 parts.1 (attributes_with a bs one parts.1)
-  where
-    go : (same below : Bool) → is_attribute b ≡ true → list_all is_attribute bs ≡ true → list_all is_attribute (with_attribute a bs) ≡ true
-        → list_all is_attribute (cond same (a ∷ bs) (cond below (a ∷ b ∷ bs) (b ∷ with_attribute a bs))) ≡ true
-    go true below first rest later = and_from (is_attribute a) (list_all is_attribute bs) one rest
-    go false true first rest later = and_from (is_attribute a) _ one (and_from (is_attribute b) (list_all is_attribute bs) first rest)
-    go false false first rest later = and_from (is_attribute b) (list_all is_attribute (with_attribute a bs)) first later
+attributes_with a (b ∷ bs) one all = grind (arith, attributes_with a bs one, and_parts, and_from)
 
 all_attributes_with : (new bs : List Attribute) → list_all is_attribute new ≡ true → list_all is_attribute bs ≡ true
     → list_all is_attribute (with_attributes new bs) ≡ true
 all_attributes_with [] bs good all = all
-all_attributes_with (a ∷ more) bs good all = let parts = and_parts (is_attribute a) (list_all is_attribute more) good in
-    all_attributes_with more (with_attribute a bs) parts.1 (attributes_with a bs parts.0 all)
+all_attributes_with (a ∷ more) bs good all = grind (arith, all_attributes_with more (with_attribute a bs), and_parts, attributes_with)
 
 attributes_keep : (h : CommandList) → IsValid h → (t : Bytes) → list_all is_attribute (attributes_in t h) ≡ true
 attributes_keep (Make approval) valid t = refl
-attributes_keep (h ▸ PutAttributes device new) valid t = go (same_bytes t device.id) (attributes_keep h valid.0 t)
-  where
-    good : list_all is_attribute new ≡ true
-    good = (and_parts (nat_le (length new) attribute_limit) (list_all is_attribute new) (and_parts (is_credential device) _ valid.1).1).1
-
-    go : (same : Bool) → list_all is_attribute (attributes_in t h) ≡ true
-        → list_all is_attribute (cond same (with_attributes new (attributes_in t h)) (attributes_in t h)) ≡ true
-    go true all = all_attributes_with new (attributes_in t h) good all
-    go false all = all
+attributes_keep (h ▸ PutAttributes device new) valid t = grind (arith, attributes_keep h valid.0 t, and_parts, all_attributes_with)
 attributes_keep (h ▸ _) valid t = attributes_keep h valid.0 t
 
 target_keeps : (h : CommandList) → IsValid h → (t : Bytes) → Has (target_ids h) t → KeepsTarget (target_in h t)
@@ -260,5 +188,4 @@ target_keeps h valid t among =
 
 pub targets_keep : (h : CommandList) → IsValid h → (x : Target) → Has (records h).targets x → KeepsTarget x
 unfolding records
-targets_keep h valid x among = let source = has_mapped (target_in h) (target_ids h) x among in
-    subst KeepsTarget (sym source.2) (target_keeps h valid source.0 source.1)
+targets_keep h valid x among = grind (arith, has_mapped, target_keeps)
