@@ -2,13 +2,11 @@
 use Rattle.desk_views.proofs.Common.{◌≡◌, ◌<◌, ℕ, zero, suc, ◌+◌, nat_eq, Bool, true, false, not, cond, List, [], ◌∷◌, ◌++◌, map, get_or, length, take, drop}
 use Rattle.desk_views.proofs.Common.{Option, Some, None, inl, inr, refl, sym, ap, ◌∙◌, add-one, arith, slice_get, cases_lt, nat_tests, length-map}
 use Rattle.desk_views.proofs.Common.{length-take-le, map-append, take_all, take_more, zip, is_some, option_map, action_if, if_found, item_numbered, same_bytes}
-use Rattle.desk_views.proofs.Common.{Bytes, action_shown, actions_of_rollout, actions_of_target, actions_where, group_of_action, page_of, Records, ActionShown}
-use Rattle.desk_views.proofs.Common.{Refused, ShownAction, Page, group_holding, group_is_started, is_for, is_started_in, member_at, number_of_group}
-use Rattle.desk_views.proofs.Common.{ActionRecord, GroupRecord, RolloutRecord, NotFound, Tally, tally_of, parts_of, actions_for, actions_of, listed_where}
-use Rattle.desk_views.proofs.Common.{stored_action, ListedAction, StoredAction, listed_shown, shown_among, stored_in}
+use Rattle.desk_views.proofs.Common.{Bytes, action_shown, actions_of_rollout, actions_of_target, actions_where, page_of, Records, ActionShown, Refused}
+use Rattle.desk_views.proofs.Common.{ShownAction, Page, is_for, ActionRecord, GroupRecord, RolloutRecord, NotFound, Tally, tally_of, parts_of, actions_for}
+use Rattle.desk_views.proofs.Common.{actions_of, listed_where, stored_action, ListedAction, StoredAction, listed_shown, shown_among, stored_in}
 use Rattle.rollout_machine.specs.Replies.{Reply}
 use Rattle.campaign_core.specs.StatusWords.{action_word_from}
-use Rattle.desk_views.proofs.ArtifactViews.{turned}
 use Rattle.desk_views.proofs.GroupViews.{part_mapped}
 
 -- an action with what is kept beside it
@@ -21,26 +19,9 @@ tallied (a ∷ as') = ap (λ l. with_tally a ∷ l) (tallied as')
 
 -- ---- an action
 
--- of this member, in this group, which is started or not
-abbrev shown_with : ℕ → ActionRecord → Bytes → ℕ → Bool → ShownAction
-shown_with k a target group started =
-    record {
-      number = k;
-      rollout = a.rollout;
-      group = group;
-      target = target;
-      word = action_word_from (record { outcome = a.outcome; started = started; canceling = a.canceling });
-    }
-
 -- a stored action is shown as the record is
 pub listed_is : (r : Records) (k : ℕ) (a : ActionRecord) → listed_shown r (record { number = k; action = stored_in r a }) ≡ action_shown r k a
-listed_is r k a = go (item_numbered r.rollouts a.rollout) where
-  go : (o : Option RolloutRecord)
-      → shown_with k a (member_at o a.position) (number_of_group (group_holding a.position (parts_of (λ (x : RolloutRecord). x.groups) o)))
-      (group_is_started (group_holding a.position (parts_of (λ (x : RolloutRecord). x.groups) o)))
-      ≡ shown_with k a (member_at o a.position) (group_of_action o a) (is_started_in o a)
-  go None = refl
-  go (Some x) = refl
+listed_is r k a = grind arith
 
 -- of the actions that pass
 where_is : (r : Records) (f : ListedAction → ShownAction) (p : ActionRecord → Bool)
@@ -83,35 +64,24 @@ get_stored r (a ∷ as') (suc i) = get_stored r as' i
 
 pub stored_at : (r : Records) (k : ℕ) → option_map (stored_action r.rollouts) (item_numbered (zip r.actions (map tally_of r.actions)) k)
     ≡ option_map (stored_in r) (item_numbered r.actions k)
-stored_at r zero = refl
-stored_at r (suc i) = ap (λ l. option_map (stored_action r.rollouts) (slice_get l i)) (tallied r.actions) ∙ get_stored r r.actions i
+stored_at r k = grind (arith, option_map, tallied, get_stored)
 
 abbrev target_in : Option StoredAction → Bytes
 target_in None = []
 target_in (Some found) = found.target
 
 pub no_action : (r : Records) (id : Bytes) (o : Option ActionRecord) → None ≡ option_map (stored_in r) o → None ≡ option_map (stored_in r) (action_if r id o)
-no_action r id None is = refl
-no_action r id (Some a) is = absurd cc
+no_action r id o is = grind arith
 
 -- whether it is the target's
 pub one_action : (r : Records) (id : Bytes) (o : Option ActionRecord) (found : StoredAction) (differs : Bool) → Some found ≡ option_map (stored_in r) o
     → not (same_bytes found.target id) ≡ differs → cond differs None (Some found) ≡ option_map (stored_in r) (action_if r id o)
-one_action r id None found differs is test = absurd cc
-one_action r id (Some a) found differs is test =
-    go (is_for r id a) (ap (λ t. same_bytes t id) (sym (ap target_in is)) ∙ turned (same_bytes found.target id) differs test) where
-      go : (b : Bool) → b ≡ not differs → cond differs None (Some found) ≡ option_map (stored_in r) (cond b (Some a) None)
-      go b e = rw e (by differs) where
-        by : (d : Bool) → cond d None (Some found) ≡ option_map (stored_in r) (cond (not d) (Some a) None)
-        by true = refl
-        by false = is
+one_action r id o found differs is test = grind (arith, option_map)
 
 pub action_replied : (r : Records) (k : ℕ) (o : Option ActionRecord) (found : StoredAction) (shown : ShownAction) → Some found ≡ option_map (stored_in r) o
     → shown ≡ listed_shown r (record { number = k; action = found })
     → ActionShown shown ≡ if_found (λ (a : ActionRecord). ActionShown (action_shown r k a)) o
-action_replied r k None found shown is read = absurd cc
-action_replied r k (Some a) found shown is read = let same : found ≡ stored_in r a = cc in
-    ap ActionShown (read ∙ ap (λ (s : StoredAction). listed_shown r (record { number = k; action = s })) same ∙ listed_is r k a)
+action_replied r k o found shown is read = grind (arith, listed_is)
 
 -- ---- all that were listed
 
@@ -136,17 +106,14 @@ page_is r page all found part content total are is shown count =
 -- ---- whether something is there
 
 pub none_there : {X Y : Type 0} (f : X → Y) (o : Option X) (reply : X → Reply) → is_some (option_map f o) ≡ false → Refused NotFound ≡ if_found reply o
-none_there f None reply is = refl
-none_there f (Some x) reply is = absurd cc
+none_there f o reply is = grind arith
 
 pub not_found : {X Y : Type 0} (f : X → Y) (o : Option X) (reply : X → Reply) → None ≡ option_map f o → Refused NotFound ≡ if_found reply o
-not_found f None reply is = refl
-not_found f (Some x) reply is = absurd cc
+not_found f o reply is = grind arith
 
 pub one_there : {X Y : Type 0} (f : X → Y) (o : Option X) (reply : X → Reply) (made : Reply) → is_some (option_map f o) ≡ true
     → ((x : X) → o ≡ Some x → made ≡ reply x) → made ≡ if_found reply o
-one_there f None reply made is so = absurd cc
-one_there f (Some x) reply made is so = so x refl
+one_there f o reply made is so = grind arith
 
 -- one more is shown
 pub more_shown : {X Y : Type 0} (f : X → Y) (xs : List X) (i : ℕ) (x : X) (y : Y) (before after : List Y) → i < length xs → x ≡ get_or xs i x → before

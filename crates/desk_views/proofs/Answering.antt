@@ -16,9 +16,8 @@ pub use Rattle.desk_views.proofs.ActionViews.{action_replied, all_listed, more_s
 pub use Rattle.desk_views.proofs.ActionViews.{one_action, one_there, page_is, stored_at}
 pub use Rattle.desk_views.proofs.ArtifactViews.{artifact_replied, contents_replied, no_artifact, no_contents, no_module, of_another, of_this, page_shown}
 pub use Rattle.desk_views.proofs.ArtifactViews.{pieces_end, pieces_grow, same_module, together}
-pub use Rattle.desk_views.proofs.DeviceViews.{action_modules, answered, answered_by, chunks_grow, downloaded, is_named, named_said, no_action_modules}
-pub use Rattle.desk_views.proofs.DeviceViews.{no_chunk, no_rollout_modules, not_among, not_known, not_offered, offered, one_chunk, rollout_modules}
-pub use Rattle.desk_views.proofs.DeviceViews.{turned_away}
+pub use Rattle.desk_views.proofs.DeviceViews.{action_modules, answered, answered_by, chunks_grow, downloaded, is_named, named_said, no_action_modules, no_chunk}
+pub use Rattle.desk_views.proofs.DeviceViews.{no_rollout_modules, not_among, not_known, not_offered, offered, one_chunk, rollout_modules, turned_away}
 pub use Rattle.desk_views.proofs.FailingActions.{listed_few, places_few}
 pub use Rattle.desk_views.proofs.FailingGroups.{group_ruled, group_small, group_there, groups_showable, page_showable}
 pub use Rattle.desk_views.proofs.FailingReads.{artifacts_counted, chunk_few, contents_read, none_behind, passed}

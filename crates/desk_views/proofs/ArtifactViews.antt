@@ -1,10 +1,9 @@
 -- From typed reads of artifacts to what is shown.
-use Rattle.desk_views.proofs.Common.{◌≡◌, ℕ, zero, suc, ◌+◌, nat_eq, Bool, true, false, not, cond, List, [], ◌∷◌, ◌++◌, map, length, take, drop, Option, Some}
-use Rattle.desk_views.proofs.Common.{None, refl, sym, ap, ◌∙◌, append-nil, arith, add-one, slice_get, take-nil, nat_tests, flat_map, is_some, option_map}
-use Rattle.desk_views.proofs.Common.{pieces_of_artifact, artifact_if, artifact_of_module, if_found, query_reply, item_numbered, Bytes, ModuleLabel}
-use Rattle.desk_views.proofs.Common.{artifact_shown, page_of, ArtifactRecord, Records, Artifact, Refused, ArtifactsShown, ArtifactShown, ContentsShown, Page}
-use Rattle.desk_views.proofs.Common.{ShowArtifact, listed, reply_of, NotFound, Reply, contents_found, flat_map-append, piece_bytes, pieces_of, stored}
-use Rattle.desk_views.proofs.Common.{StoredArtifact}
+use Rattle.desk_views.proofs.Common.{◌≡◌, ℕ, zero, suc, ◌+◌, nat_eq, Bool, true, false, not, List, [], ◌∷◌, ◌++◌, map, length, take, drop, Option, Some, None}
+use Rattle.desk_views.proofs.Common.{refl, sym, ap, ◌∙◌, append-nil, arith, add-one, slice_get, take-nil, nat_tests, flat_map, is_some, option_map}
+use Rattle.desk_views.proofs.Common.{pieces_of_artifact, artifact_if, artifact_of_module, if_found, query_reply, item_numbered, Bytes, ModuleLabel, page_of}
+use Rattle.desk_views.proofs.Common.{ArtifactRecord, Records, Artifact, Refused, ArtifactsShown, ContentsShown, Page, ShowArtifact, listed, reply_of, NotFound}
+use Rattle.desk_views.proofs.Common.{Reply, contents_found, flat_map-append, stored, StoredArtifact}
 use Rattle.artifact_pieces.proofs.PieceLemmas.{pieces_make_the_whole}
 use Rattle.rollout_machine.specs.Replies as shown
 use Rattle.rollout_model.specs.declared.page.PageOf.{PageOf}
@@ -18,12 +17,10 @@ module_in None = 0
 module_in (Some found) = found.module_number
 
 pub no_artifact : (m : ℕ) (x : Option ArtifactRecord) → None ≡ option_map stored x → None ≡ option_map stored (artifact_if m x)
-no_artifact m None is = refl
-no_artifact m (Some a) is = absurd cc
+no_artifact m x is = grind arith
 
 pub turned : (b wanted : Bool) → not b ≡ wanted → b ≡ not wanted
-turned true wanted is = rw (sym is) refl
-turned false wanted is = rw (sym is) refl
+turned b wanted is = grind arith
 
 pub same_module : (m n : ℕ) → not (nat_eq m n) ≡ false → m ≡ n
 same_module m n own = grind (arith, nat_tests, own)
@@ -38,13 +35,11 @@ module _ (m : ℕ) (a : ArtifactRecord) (found : StoredArtifact) (is : Some foun
 
 pub of_another : (m : ℕ) (x : Option ArtifactRecord) (found : StoredArtifact) → Some found ≡ option_map stored x → not (nat_eq found.module_number m) ≡ true
     → None ≡ option_map stored (artifact_if m x)
-of_another m None found is other = absurd cc
-of_another m (Some a) found is other = rw (owned m a found is true other) refl
+of_another m x found is other = grind (arith, owned)
 
 pub of_this : (m : ℕ) (x : Option ArtifactRecord) (found : StoredArtifact) → Some found ≡ option_map stored x → not (nat_eq found.module_number m) ≡ false
     → Some found ≡ option_map stored (artifact_if m x)
-of_this m None found is own = absurd cc
-of_this m (Some a) found is own = rw (owned m a found is false own) is
+of_this m x found is own = grind (arith, owned)
 
 -- ---- pieces
 
@@ -57,8 +52,7 @@ together_map f [] = refl
 together_map f (x ∷ xs) = ap (λ bs. f x ++ bs) (together_map f xs)
 
 together_is : (found : Option ArtifactRecord) → together (pieces_of_artifact found) ≡ contents_found found
-together_is None = refl
-together_is (Some a) = together_map (piece_bytes a.contents) (pieces_of (length a.contents)) ∙ pieces_make_the_whole a.contents
+together_is found = grind (arith, together_map, pieces_make_the_whole)
 
 -- the next piece is read
 pub pieces_grow : (pieces : List Bytes) (bytes more : Bytes) (place number : ℕ) (piece : Bytes) → bytes ≡ together (take place pieces) → Some piece
@@ -79,10 +73,7 @@ all_taken (p ∷ ps) (suc place) is = ap (λ l. p ∷ l) (all_taken ps place is)
 -- there is none left
 pub pieces_end : (found : Option ArtifactRecord) (bytes : Bytes) (place number : ℕ) → bytes ≡ together (take place (pieces_of_artifact found))
     → None ≡ item_numbered (pieces_of_artifact found) number → number ≡ place + 1 → bytes ≡ contents_found found
-pieces_end found bytes place zero is none at = absurd (omega (arith, at))
-pieces_end found bytes place (suc k) is none at =
-    let here : k ≡ place = omega (arith, at) in
-    is ∙ ap together (all_taken (pieces_of_artifact found) place (ap (slice_get (pieces_of_artifact found)) (sym here) ∙ sym none)) ∙ together_is found
+pieces_end found bytes place number is none at = grind (arith, all_taken, together_is)
 
 -- ---- the replies
 
@@ -95,32 +86,20 @@ reply_for number (Some found) = reply.Artifact (shown_stored number found)
 
 pub artifact_replied : (r : Records) (m number : ℕ) (found : Option StoredArtifact) → found ≡ option_map stored (artifact_of_module r m number)
     → reply_of (reply_for number found) ≡ query_reply r (ShowArtifact m number)
-artifact_replied r m number found is = rw is (go (artifact_of_module r m number)) where
-  go : (x : Option ArtifactRecord) → reply_of (reply_for number (option_map stored x))
-      ≡ if_found (λ (a : ArtifactRecord). ArtifactShown (artifact_shown number a)) x
-  go None = refl
-  go (Some a) = refl
+artifact_replied r m number found is = grind (arith, option_map)
 
 pub no_contents : (x : Option ArtifactRecord) → None ≡ option_map stored x → Refused NotFound ≡ if_found (λ (a : ArtifactRecord). ContentsShown a.contents) x
-no_contents None is = refl
-no_contents (Some a) is = absurd cc
+no_contents x is = grind arith
 
 pub contents_replied : (m : ℕ) (x : Option ArtifactRecord) (found : StoredArtifact) (contents : Bytes) → Some found ≡ option_map stored (artifact_if m x)
     → contents ≡ contents_found x
     → ContentsShown contents ≡ if_found (λ (a : ArtifactRecord). ContentsShown a.contents) (artifact_if m x)
-contents_replied m None found contents is read = absurd cc
-contents_replied m (Some a) found contents is read = go (nat_eq a.module_number m) is where
-  go : (b : Bool) → Some found ≡ option_map stored (cond b (Some a) None) → ContentsShown contents ≡ if_found (λ (a : ArtifactRecord). ContentsShown a.contents)
-      (cond b (Some a) None)
-  go true own = ap ContentsShown read
-  go false other = absurd cc
+contents_replied m x found contents is read = grind (arith, option_map)
 
 pub no_module : (found : Option ModuleLabel) (page : shown.Reply) → is_some found ≡ false → Refused NotFound ≡ if_found (λ _. page) found
-no_module None page is = refl
-no_module (Some label) page is = absurd cc
+no_module found page is = grind arith
 
 pub page_shown : (found : Option ModuleLabel) (page : Page) (all : List Artifact) (part : PageOf Artifact) (is_there : is_some found ≡ true)
     → part.content.items ≡ take page.limit (drop page.offset all) → part.total ≡ length all
     → ArtifactsShown (listed part) ≡ if_found (λ (label : ModuleLabel). ArtifactsShown (page_of page all)) found
-page_shown None page all part is_there content total = absurd cc
-page_shown (Some label) page all part is_there content total = λ i. ArtifactsShown (record { content = content i; total = total i })
+page_shown found page all part is_there content total = grind arith

@@ -1,5 +1,5 @@
 -- From typed reads to what a device is shown.
-use Rattle.desk_views.proofs.Common.{◌≡◌, inl, inr, IfOk, ℕ, zero, suc, ◌+◌, Bool, true, false, cond, ◌&&◌, nat_eq, List, [], ◌∷◌, ◌++◌, map, find, Option}
+use Rattle.desk_views.proofs.Common.{◌≡◌, IfOk, ℕ, zero, suc, ◌+◌, Bool, true, false, cond, ◌&&◌, nat_eq, List, [], ◌∷◌, ◌++◌, map, find, Option}
 use Rattle.desk_views.proofs.Common.{Some, None, Result, Ok, Err, refl, sym, ap, subst, ◌∙◌, arith, append_assoc, append-nil, slice_get, map-append, list_any}
 use Rattle.desk_views.proofs.Common.{zip, option_map, tally_of, stored_action, stored_rollout, StoredAction, artifact_named, for_device, if_found, is_offer_of}
 use Rattle.desk_views.proofs.Common.{modules_offered, query_reply, item_numbered, same_bytes, Bytes, Credential, artifact_shown, artifacts_shown, chunks_of}
@@ -29,8 +29,7 @@ module _ (device : Credential) where
           (reply : shown.Reply) where
         by_offer : (b : Bool) → same ≡ b → cond b reply (Refused NotFound)
             ≡ for_device r device (cond (is_offer_of k canceling (offer r device.id)) reply (Refused NotFound))
-        by_offer b this = ap (λ c. cond c reply (Refused NotFound)) (sym this ∙ asked ∙ ap (is_offer_of k canceling) read)
-            ∙ answered (cond (is_offer_of k canceling (offer r device.id)) reply (Refused NotFound))
+        by_offer b this = grind (arith, answered)
 
         pub offered : same ≡ true → reply ≡ for_device r device (cond (is_offer_of k canceling (offer r device.id)) reply (Refused NotFound))
         offered = by_offer true
@@ -43,14 +42,11 @@ module _ (device : Credential) where
 module _ (r : Records) where
   chunks_join : (ms ns : List ℕ) → chunks_of r (ms ++ ns) ≡ chunks_of r ms ++ chunks_of r ns
   chunks_join [] ns = refl
-  chunks_join (m ∷ ms) ns = ap (λ l. chunks_of_module r m (item_numbered r.modules m) ++ l) (chunks_join ms ns)
-      ∙ sym (append_assoc (chunks_of_module r m (item_numbered r.modules m)) (chunks_of r ms) (chunks_of r ns))
+  chunks_join (m ∷ ms) ns = grind (arith, chunks_join ms ns, append_assoc)
 
   pub chunks_grow : (old new : List SeenChunk) (ms : List ℕ) (m : ℕ) → map chunk old ≡ chunks_of r ms → map chunk new
       ≡ map chunk old ++ chunks_of_module r m (item_numbered r.modules m) → map chunk new ≡ chunks_of r (ms ++ m ∷ [])
-  chunks_grow old new ms m is one =
-      one ∙ ap (λ l. l ++ chunks_of_module r m (item_numbered r.modules m)) is
-      ∙ ap (λ l. chunks_of r ms ++ l) (sym (append-nil (chunks_of_module r m (item_numbered r.modules m)))) ∙ sym (chunks_join ms (m ∷ []))
+  chunks_grow old new ms m is one = grind (arith, append-nil, chunks_join)
 
   module _ (m : ℕ) (old : List SeenChunk) where
     pub no_chunk : None ≡ item_numbered r.modules m → map chunk old ≡ map chunk old ++ chunks_of_module r m (item_numbered r.modules m)
@@ -59,10 +55,7 @@ module _ (r : Records) where
     pub one_chunk : (new : List SeenChunk) (c : SeenChunk) → Some c.label ≡ item_numbered r.modules m → c.module_number ≡ m → c.artifacts.items
         ≡ artifacts_shown m 1 r.artifacts → new ≡ old ++ c ∷ []
         → map chunk new ≡ map chunk old ++ chunks_of_module r m (item_numbered r.modules m)
-    one_chunk new c labelled number artifacts one =
-        ap (map chunk) one ∙ map-append chunk old (c ∷ [])
-        ∙ (λ i. map chunk old ++ (record { module_number = number i; label = c.label; artifacts = artifacts i }) ∷ [])
-        ∙ ap (λ x. map chunk old ++ chunks_of_module r m x) labelled
+    one_chunk new c labelled number artifacts one = grind (arith, map-append)
 
 -- ---- modules of an action
 
@@ -70,26 +63,15 @@ module _ (r : Records) where
   -- the set of a rollout as it is kept
   set_named : (k : ℕ) (found : Option StoredRollout) → found ≡ option_map stored_rollout (item_numbered r.rollouts k)
       → option_map (λ (x : StoredRollout). x.plan.set_number) found ≡ option_map (λ (x : RolloutRecord). x.plan.set_number) (item_numbered r.rollouts k)
-  set_named k found is = ap (option_map (λ (x : StoredRollout). x.plan.set_number)) is ∙ go (item_numbered r.rollouts k) where
-    go : (x : Option RolloutRecord) → option_map (λ (s : StoredRollout). s.plan.set_number) (option_map stored_rollout x)
-        ≡ option_map (λ (y : RolloutRecord). y.plan.set_number) x
-    go None = refl
-    go (Some x) = refl
+  set_named k found is = grind (arith, option_map)
 
   module _ (k : ℕ) (found : Option StoredRollout) (is : found ≡ option_map stored_rollout (item_numbered r.rollouts k)) where
     pub no_rollout_modules : None ≡ option_map (λ (x : StoredRollout). x.plan.set_number) found → [] ≡ modules_of_rollout r (item_numbered r.rollouts k)
-    no_rollout_modules none = go (item_numbered r.rollouts k) (none ∙ set_named k found is) where
-      go : (x : Option RolloutRecord) → None ≡ option_map (λ (y : RolloutRecord). y.plan.set_number) x → [] ≡ modules_of_rollout r x
-      go None is = refl
-      go (Some x) is = absurd cc
+    no_rollout_modules none = grind (arith, set_named, option_map)
 
     pub rollout_modules : (n : ℕ) (ms : List ℕ) → Some n ≡ option_map (λ (x : StoredRollout). x.plan.set_number) found
         → ms ≡ modules_of_set (item_numbered r.sets n) → ms ≡ modules_of_rollout r (item_numbered r.rollouts k)
-    rollout_modules n ms some read = read ∙ go (item_numbered r.rollouts k) (some ∙ set_named k found is) where
-      go : (x : Option RolloutRecord) → Some n ≡ option_map (λ (y : RolloutRecord). y.plan.set_number) x → modules_of_set (item_numbered r.sets n)
-          ≡ modules_of_rollout r x
-      go None is = absurd cc
-      go (Some x) is = let same : n ≡ x.plan.set_number = cc in ap (λ k. modules_of_set (item_numbered r.sets k)) same
+    rollout_modules n ms some read = grind (arith, set_named, option_map)
 
   -- an action as it is kept, beside its counts
   kept_at : (actions : List ActionRecord) (k : ℕ) → slice_get (zip actions (map tally_of actions)) k ≡ option_map (λ a. (a, tally_of a)) (slice_get actions k)
@@ -98,26 +80,17 @@ module _ (r : Records) where
   kept_at (a ∷ more) (suc k) = kept_at more k
 
   kept_numbered : (k : ℕ) → item_numbered (zip r.actions (map tally_of r.actions)) k ≡ option_map (λ a. (a, tally_of a)) (item_numbered r.actions k)
-  kept_numbered zero = refl
-  kept_numbered (suc k) = kept_at r.actions k
+  kept_numbered k = grind (arith, kept_at)
 
   abbrev pub found_action : ℕ → Option StoredAction
   found_action k = option_map (stored_action r.rollouts) (item_numbered (zip r.actions (map tally_of r.actions)) k)
 
   pub no_action_modules : (k : ℕ) → None ≡ found_action k → [] ≡ modules_of_action r (item_numbered r.actions k)
-  no_action_modules k is = go (item_numbered r.actions k) (is ∙ ap (option_map (stored_action r.rollouts)) (kept_numbered k)) where
-    go : (x : Option ActionRecord) → None ≡ option_map (stored_action r.rollouts) (option_map (λ a. (a, tally_of a)) x) → [] ≡ modules_of_action r x
-    go None is = refl
-    go (Some x) is = absurd cc
+  no_action_modules k is = grind (arith, option_map, kept_numbered)
 
   pub action_modules : (k : ℕ) (found : StoredAction) (ms : List ℕ) → Some found ≡ found_action k
       → ms ≡ modules_of_rollout r (item_numbered r.rollouts found.rollout) → ms ≡ modules_of_action r (item_numbered r.actions k)
-  action_modules k found ms is read = read ∙ go (item_numbered r.actions k) (is ∙ ap (option_map (stored_action r.rollouts)) (kept_numbered k)) where
-    go : (x : Option ActionRecord) → Some found ≡ option_map (stored_action r.rollouts) (option_map (λ a. (a, tally_of a)) x)
-        → modules_of_rollout r (item_numbered r.rollouts found.rollout) ≡ modules_of_action r x
-    go None is = absurd cc
-    go (Some a) is = let same : found ≡ stored_action r.rollouts (a, tally_of a) = cc in
-        ap (λ (s : StoredAction). modules_of_rollout r (item_numbered r.rollouts s.rollout)) same
+  action_modules k found ms is read = grind (arith, option_map, kept_numbered)
 
 -- ---- downloads
 
@@ -129,11 +102,7 @@ module _ (m : ℕ) (filename : Bytes) where
   pub named_said : (t : Tables) (artifacts : List Artifact) → ((a : Artifact) → Has artifacts a → HasListed t m a)
       → IfOk (named filename artifacts) (IsOfName t m filename)
   named_said t [] said = tt
-  named_said t (a ∷ more) said = go (has_name a) refl (named_said t more (λ b among. said b (inr among))) where
-    go : (b : Bool) → has_name a ≡ b → IfOk (named filename more) (IsOfName t m filename)
-        → IfOk (or_not_found (cond b (Some a) (find has_name more))) (IsOfName t m filename)
-    go true same rest = record { row = said a (inl refl); name_is = same_true a.filename filename same }
-    go false other rest = rest
+  named_said t (a ∷ more) said = grind (arith, named_said t more, same_true)
 
   -- the first of these artifacts that has the name is shown by its number among all
   abbrev IsShown : List ArtifactRecord → Option Artifact → Option ArtifactRecord → Type 0
@@ -161,17 +130,13 @@ module _ (m : ℕ) (filename : Bytes) where
 
   module _ (r : Records) (device : Credential) where
     pub not_known : false ≡ is_known r device → Err Unauthorized ≡ downloadable r device m filename
-    not_known is = ap (λ b. cond b (cond (list_any (λ n. nat_eq n m) (modules_offered r (offer r device.id))) (named filename (artifacts_shown m 1 r.artifacts))
-        (Err NotFound)) (Err Unauthorized)) is
+    not_known is = grind arith
 
     -- by whether the module is among those that are offered
     module _ (is : true ≡ is_known r device) (modules : List ℕ) (offers : modules ≡ modules_offered r (offer r device.id)) (among : Bool)
         (asked : among ≡ list_any (λ n. nat_eq n m) modules) where
       by_module : (b : Bool) → among ≡ b → cond b (named filename (artifacts_shown m 1 r.artifacts)) (Err NotFound) ≡ downloadable r device m filename
-      by_module b this =
-          ap (λ c. cond c (named filename (artifacts_shown m 1 r.artifacts)) (Err NotFound)) (sym this ∙ asked ∙ ap (list_any (λ n. nat_eq n m)) offers)
-          ∙ ap (λ c. cond c (cond (list_any (λ n. nat_eq n m) (modules_offered r (offer r device.id))) (named filename (artifacts_shown m 1 r.artifacts))
-          (Err NotFound)) (Err Unauthorized)) is
+      by_module b this = grind arith
 
       pub is_named : among ≡ true → named filename (artifacts_shown m 1 r.artifacts) ≡ downloadable r device m filename
       is_named = by_module true
@@ -181,8 +146,7 @@ module _ (m : ℕ) (filename : Bytes) where
 
     by_name : (x : Option Artifact) (y : Option ArtifactRecord) → IsShown r.artifacts x y
         → IsAnswered r (or_not_found x) (if_found (λ (a : ArtifactRecord). ContentsShown a.contents) y)
-    by_name None y is = ap (if_found (λ (a : ArtifactRecord). ContentsShown a.contents)) is
-    by_name (Some s) y is = (is.0, ap (if_found (λ (a : ArtifactRecord). ContentsShown a.contents)) is.1, is.2, is.3)
+    by_name x y is = grind arith
 
     pub answered_by : (found : Result Artifact Refusal) → found ≡ downloadable r device m filename
         → IsAnswered r found (query_reply r (Download device m filename))

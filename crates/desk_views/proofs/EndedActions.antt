@@ -1,5 +1,6 @@
 -- At lists an action that ended was started.
-use Rattle.desk_views.proofs.Common.{◌≡◌, ℕ, suc, ◌+◌, Bool, true, false, cond, ◌&&◌, List, [], ◌∷◌, Option, Some, None, refl, sym, ap, subst, ◌∙◌}
+use native.Mathlib.Omega.{arith}
+use Rattle.desk_views.proofs.Common.{◌≡◌, ℕ, suc, ◌+◌, Bool, true, false, cond, ◌&&◌, List, [], ◌∷◌, Option, Some, refl, sym, ap, ◌∙◌}
 use Rattle.desk_views.proofs.Common.{slice_get, false≢true, is_some, tally_of, stored_action, ListedAction, Bytes, Records, records, ActionRecord}
 use Rattle.desk_views.proofs.Common.{AreOfList, CommandList, IsValid, has_started, is_for, is_begun, last_ended, has_begun}
 use Rattle.std.specs.List.{last_or}
@@ -41,10 +42,7 @@ module _ (r : Records) (t : Bytes) where
       go true true ended later = later (Some it) (begun_is r a ∙ all 0 a refl ended)
 
   all_begun : AreOfList r → has_begun r (last_ended r t) ≡ true
-  all_begun of =
-      last_begun 1 r.actions
-      (λ i a at ended. subst (λ (q : Records). has_started q a ≡ true) (sym of.are)
-      (ended_started of.list of.valid i a (subst (λ (q : Records). slice_get q.actions i ≡ Some a) of.are at) ended)) None refl
+  all_begun of = grind (arith, last_begun, ended_started)
 
   -- so the last one is no failed store
   pub not_waiting : AreOfList r → (it : ListedAction) → Some it ≡ last_ended r t → false ≡ is_begun r it.action → ⊥

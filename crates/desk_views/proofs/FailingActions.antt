@@ -1,10 +1,6 @@
 -- Why the actions of a list and their histories can be counted.
-use Rattle.desk_records.specs.ReadRows.{columns_of_stored_action}
-use Rattle.desk_records.specs.declared.table_columns.Column.{Column}
-use Rattle.desk_records.specs.declared.table_columns.Column.TheVariants.{ActionCanceling, ActionEntries, ActionNotes, ActionOutcome, ActionPlace}
-use Rattle.desk_records.specs.declared.table_columns.Column.TheVariants.{ActionRollout, TargetId}
-use Rattle.desk_views.proofs.Common.{◌≡◌, ◌≤◌, ◌^◌, ◌+◌, ℕ, suc, Bool, true, false, cond, List, [], ◌∷◌, length, map, take, drop, sym, ap, subst, arith, zip}
-use Rattle.desk_views.proofs.Common.{length-drop, length-take, HistoryEntry, limits_hold, Tally, history_of, tally_of, ledger_of, listed_where, stored_action}
+use Rattle.desk_views.proofs.Common.{◌≡◌, ◌≤◌, ◌^◌, ◌+◌, ℕ, Bool, List, [], ◌∷◌, length, map, take, drop, sym, subst, arith, zip}
+use Rattle.desk_views.proofs.Common.{length-drop, length-take, HistoryEntry, limits_hold, Tally, history_of, tally_of, ledger_of, listed_where}
 use Rattle.desk_views.proofs.Common.{ListedAction, IsReadable, item_numbered, Records, ActionRecord, RolloutRecord, AreOfList}
 use Rattle.desk_store.proofs.ReadableHistories.{history_few}
 
@@ -13,12 +9,7 @@ use Rattle.desk_store.proofs.ReadableHistories.{history_few}
 few_listed : (test : ActionRecord × Tally → Bool) (rollouts : List RolloutRecord) (n : ℕ) (its : List (ActionRecord × Tally))
     → length (listed_where test rollouts n its) ≤ length its
 few_listed test rollouts n [] = omega arith
-few_listed test rollouts n (it ∷ more) = go (record { number = n; action = stored_action rollouts it }) (listed_where test rollouts (n + 1) more) (test it)
-    (few_listed test rollouts (n + 1) more)
-  where
-    go : (one : ListedAction) (rest : List ListedAction) (b : Bool) → length rest ≤ length more → length (cond b (one ∷ rest) rest) ≤ suc (length more)
-    go one rest true few = omega (arith, few)
-    go one rest false few = omega (arith, few)
+few_listed test rollouts n (it ∷ more) = grind (arith, few_listed test rollouts (n + 1) more)
 
 zip_few : {X Y : Type 0} (xs : List X) (ys : List Y) → length (zip xs ys) ≤ length xs
 zip_few [] ys = omega arith
@@ -31,18 +22,11 @@ few_actions r of = subst (λ (q : Records). length q.actions ≤ 10000000) (sym 
 -- fewer than a statement lists
 pub listed_few : (r : Records) → AreOfList r → (test : ActionRecord × Tally → Bool) (limit offset : ℕ) (found : List ListedAction)
     → found ≡ take limit (drop offset (listed_where test r.rollouts 1 (zip r.actions (map tally_of r.actions)))) → 4294967295 ≤ length found → ⊥
-listed_few r of test limit offset found is many =
-    let its = zip r.actions (map tally_of r.actions) in
-    let all = listed_where test r.rollouts 1 its in
-    let taken = length-take limit (drop offset all) in
-    let dropped = length-drop offset all in
-    omega (arith, many, ap length is, taken, dropped, few_listed test r.rollouts 1 its, zip_few r.actions (map tally_of r.actions), few_actions r of)
+listed_few r of test limit offset found is many = grind (arith, length-take, length-drop, few_listed, zip_few, few_actions)
 
 -- ---- histories
 
 -- so the places of a page of it are counted
 pub places_few : (r : Records) → IsReadable (ledger_of r) → (k limit offset : ℕ) (entries : List HistoryEntry) → entries
     ≡ take limit (drop offset (history_of (item_numbered r.actions k))) → 1 ≤ length entries → 2 ^ 32 ≤ offset + length entries → ⊥
-places_few r readable k limit offset entries is some many =
-    let all = history_of (item_numbered r.actions k) in
-    history_few r readable k (omega (arith, some, many, ap length is, length-take limit (drop offset all), length-drop offset all))
+places_few r readable k limit offset entries is some many = grind (arith, history_few, length-take, length-drop)

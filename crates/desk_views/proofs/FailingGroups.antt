@@ -1,9 +1,8 @@
 -- Why the groups of a rollout of a list can be shown.
-use Rattle.desk_views.proofs.Common.{◌≡◌, ◌≤◌, ◌<◌, ◌^◌, ◌⊎◌, ◌+◌, ℕ, zero, suc, nat_eq, Bool, true, false, cond, List, [], ◌∷◌, length, take, drop, Option}
-use Rattle.desk_views.proofs.Common.{Some, None, inl, inr, refl, sym, ap, subst, ◌∙◌, arith, Has, group_in, Records, Rollout, size_in, size_of, limits_hold}
-use Rattle.desk_views.proofs.Common.{ledger_of, groups_of, rule_numbered, rules_numbered, rule_there, rules_there, BothOrNone, item_numbered, GroupRule}
-use Rattle.desk_views.proofs.Common.{rules_of, group_numbered, size_of_group, GroupRecord, RolloutRecord, parts_of, groups_are, made, AreOfList, IsSeenOf}
-use Rattle.desk_views.proofs.Common.{SeenRollout, HasUnshown, IsGroupOf, has_dropped, has_taken}
+use Rattle.desk_views.proofs.Common.{◌≡◌, ◌≤◌, ◌<◌, ◌^◌, ◌⊎◌, ◌+◌, ℕ, zero, suc, List, [], ◌∷◌, length, take, drop, Some, None, inl, inr, sym, ap, subst, ◌∙◌}
+use Rattle.desk_views.proofs.Common.{arith, Has, group_in, Records, Rollout, size_in, size_of, limits_hold, ledger_of, groups_of, rule_numbered, rules_numbered}
+use Rattle.desk_views.proofs.Common.{rule_there, rules_there, BothOrNone, item_numbered, GroupRule, rules_of, group_numbered, size_of_group, GroupRecord}
+use Rattle.desk_views.proofs.Common.{RolloutRecord, groups_are, made, AreOfList, IsSeenOf, SeenRollout, HasUnshown, IsGroupOf, has_dropped, has_taken}
 use Rattle.rollout_machine.specs.Effects.{HasSoundPlan}
 use Rattle.rollout_machine.specs.Ranges.{each_from}
 use Rattle.rollout_machine.specs.WithinLimits.{IsWithinLimits}
@@ -18,11 +17,7 @@ has_each f a (suc n) g (inr among) = let it = has_each f (suc a) n g among in (i
 
 numbered_has : (i : ℕ) (gs : List GroupRecord) (g : GroupRecord) → Some g ≡ group_numbered i gs → Has gs g
 numbered_has i [] g is = absurd cc
-numbered_has i (y ∷ gs) g is = go (nat_eq y.number i) is (numbered_has i gs g)
-  where
-    go : (b : Bool) → Some g ≡ cond b (Some y) (group_numbered i gs) → (Some g ≡ group_numbered i gs → Has gs g) → (g ≡ y) ⊎ Has gs g
-    go true is rest = inl (cc)
-    go false is rest = inr (rest is)
+numbered_has i (y ∷ gs) g is = grind (arith, numbered_has i gs g)
 
 -- ---- the groups of a rollout
 
@@ -62,9 +57,7 @@ module _ (r : Records) (of : AreOfList r) (number : ℕ) (x : RolloutRecord) (th
 
   all_showable : (rules : List GroupRule) (groups : List GroupRecord) → rules ≡ rules_numbered (ledger_of r).rules number
       → ((group : GroupRecord) → Has groups group → Has x.groups group) → HasUnshown rules groups → ⊥
-  all_showable rules groups are within bad =
-      each_showable bad.group (within bad.group bad.among)
-      (subst (λ rules. (item_numbered rules bad.group.number ≡ None) ⊎ (2 ^ 32 ≤ size_of_group bad.group)) (are ∙ rules_there r number x there) bad.unshown)
+  all_showable rules groups are within bad = grind (arith, each_showable, rules_there)
 
   part_showable : (rules : List GroupRule) (groups : List GroupRecord) (limit offset : ℕ) → groups ≡ x.groups
       → rules ≡ rules_numbered (ledger_of r).rules number → (2 ^ 32 ≤ length groups) ⊎ HasUnshown rules (take limit (drop offset groups)) → ⊥
@@ -77,11 +70,7 @@ module _ (r : Records) (of : AreOfList r) (number : ℕ) (x : RolloutRecord) (th
 module _ (r : Records) (of : AreOfList r) (number : ℕ) (seen : SeenRollout) (rules : List GroupRule) (are : rules ≡ rules_numbered (ledger_of r).rules number)
     (it : BothOrNone IsSeenOf (Some seen) (item_numbered r.rollouts number)) where
   seen_there : (Bad : Type 0) → ((x : RolloutRecord) → item_numbered r.rollouts number ≡ Some x → seen.groups.items ≡ x.groups → Bad → ⊥) → Bad → ⊥
-  seen_there Bad never bad = go (item_numbered r.rollouts number) refl it
-    where
-      go : (o : Option RolloutRecord) → item_numbered r.rollouts number ≡ o → BothOrNone IsSeenOf (Some seen) o → ⊥
-      go None there it = it
-      go (Some x) there it = never x there it.groups bad
+  seen_there h0 never bad = grind arith
 
   -- its groups, all of them and those of a page
   pub groups_showable : HasUnshown rules seen.groups.items → ⊥
@@ -96,12 +85,7 @@ module _ (r : Records) (of : AreOfList r) (number : ℕ) (seen : SeenRollout) (r
 -- a group that was read is one of the rollout
 pub group_there : (r : Records) → AreOfList r → (number i : ℕ) (group : GroupRecord) → Some group
     ≡ group_numbered i (groups_of (item_numbered r.rollouts number)) → IsGroupOf number group r
-group_there r of number i group is = go (item_numbered r.rollouts number) refl (is ∙ ap (group_numbered i) (groups_are r of number))
-  where
-    go : (o : Option RolloutRecord) → item_numbered r.rollouts number ≡ o → Some group ≡ group_numbered i (parts_of (λ (x : RolloutRecord). x.groups) o)
-        → IsGroupOf number group r
-    go None there is = absurd cc
-    go (Some x) there is = record { rollout = x; there = there; among = numbered_has i x.groups group is }
+group_there r of number i group is = grind (arith, groups_are, numbered_has)
 
 module _ (r : Records) (of : AreOfList r) (number : ℕ) (group : GroupRecord) (it : IsGroupOf number group r) where
   -- .. of which something is said

@@ -1,7 +1,7 @@
 -- Why reads of sets, artifacts and targets of a list of accepted commands are no failed stores by themselves.
-use Rattle.desk_views.proofs.Common.{◌≡◌, ◌≤◌, ◌<◌, ◌+◌, ◌*◌, ◌^◌, ◌≢◌, ◌⊎◌, inl, inr, ℕ, suc, nat_eq, Bool, true, false, cond, List, [], ◌∷◌, map, length}
+use Rattle.desk_views.proofs.Common.{◌≡◌, ◌≤◌, ◌<◌, ◌+◌, ◌*◌, ◌^◌, ◌≢◌, ◌⊎◌, ℕ, suc, nat_eq, Bool, true, false, cond, List, [], ◌∷◌, map, length}
 use Rattle.desk_views.proofs.Common.{take, drop, Option, Some, None, Result, Err, refl, sym, ap, ◌∙◌, arith, false≢true, length-map, length-take, option_map}
-use Rattle.desk_views.proofs.Common.{IsSome, listed_target, Target, artifact_if, artifact_of_module, artifact_shown, artifacts_shown, modules_of_set}
+use Rattle.desk_views.proofs.Common.{IsSome, listed_target, Target, artifact_if, artifact_of_module, artifacts_shown, modules_of_set}
 use Rattle.desk_views.proofs.Common.{item_numbered, ArtifactRecord, Records, Artifact, SetLabel, AreOfList, Fault, contents_found, IsErrAnd, div_ceil_times}
 use Rattle.desk_views.proofs.Common.{err_from_is_err_and, artifact_size_limit, piece_length, is_contents, is_module_list, stored, piece_numbered}
 use Rattle.desk_views.proofs.Common.{called, StoredArtifact, ListedTarget, SetName}
@@ -30,12 +30,7 @@ set_listed r of k name ms there is broken = go (item_numbered r.sets k) refl the
 
 shown_few : (m n : ℕ) (xs : List ArtifactRecord) → length (artifacts_shown m n xs) ≤ length xs
 shown_few m n [] = omega arith
-shown_few m n (a ∷ xs) = go (nat_eq a.module_number m) (shown_few m (suc n) xs)
-  where
-    go : (b : Bool) → length (artifacts_shown m (suc n) xs) ≤ length xs
-        → length (cond b (artifact_shown n a ∷ artifacts_shown m (suc n) xs) (artifacts_shown m (suc n) xs)) ≤ suc (length xs)
-    go true rest = omega (arith, rest)
-    go false rest = omega (arith, rest)
+shown_few m n (a ∷ xs) = grind (arith, shown_few m (suc n) xs)
 
 -- a module's artifacts are counted
 pub artifacts_counted : (r : Records) → AreOfList r → (m : ℕ) (all : List Artifact) → all ≡ artifacts_shown m 1 r.artifacts → 2 ^ 32 ≤ length all → ⊥
@@ -44,14 +39,12 @@ artifacts_counted r of m all is large = omega (arith, ap length is, large, shown
 -- no piece is found behind as many as contents may have
 pub none_behind : {V : Type 0} (bytes : V → List ℕ) (r : Records) → AreOfList r → (k before : ℕ) (found : Option V) → option_map bytes found
     ≡ piece_numbered r.artifacts k (before + 1) → IsSome found → artifact_size_limit ≤ before * piece_length → ⊥
-none_behind bytes r of k before None is some full = absurd cc
-none_behind bytes r of k before (Some v) is some full = no_piece r of k before (bytes v) is full
+none_behind bytes r of k before found is some full = grind (arith, no_piece)
 
 -- the bytes that are found are contents
 pub contents_read : (r : Records) → AreOfList r → (k size : ℕ) (bytes : List ℕ) → bytes ≡ contents_found (item_numbered r.artifacts k)
     → size ≡ length (contents_found (item_numbered r.artifacts k)) → (length bytes ≢ size) ⊎ (is_contents bytes ≡ false) → ⊥
-contents_read r of k size bytes is sized (inl other) = other (ap length is ∙ sym sized)
-contents_read r of k size bytes is sized (inr broken) = false≢true (sym broken ∙ ap is_contents is ∙ keeps_contents r of k)
+contents_read r of k size bytes is sized h7 = grind (arith, keeps_contents)
 
 -- an artifact's size is that of its contents
 pub size_of_found : (r : Records) → AreOfList r → (m k : ℕ) (found : StoredArtifact) → Some found ≡ option_map stored (artifact_of_module r m k) → found.size
@@ -77,8 +70,7 @@ size_of_numbered r of k size a there sized = sized ∙ keeps_size r of k a there
 pub some_left : {X A : Type 0} (s t u : IntoIter X A) (xs all : List X) (x : X) → into_iter_items s ≡ all → Yields into_iter_steps s xs t
     → into_iter_steps t (Some x) u → length xs < length all
 some_left s t u [] all x is given next = omega (arith, ap length (sym is ∙ ap into_iter_items given ∙ next.0))
-some_left s t u (y ∷ ys) all x is given next =
-    omega (arith, ap length (sym is ∙ given.1.0), some_left given.0 t u ys (into_iter_items given.0) x refl given.2 next)
+some_left s t u (y ∷ ys) all x is given next = grind (arith, some_left given.0 t u ys (into_iter_items given.0) x)
 
 -- a chunk has no more
 pub chunk_few : (offset : ℕ) (ts : List Target) (items : List ListedTarget) → items ≡ map listed_target (take 10000 (drop offset ts)) → length items ≤ 10000
@@ -86,6 +78,4 @@ chunk_few offset ts items is = omega (arith, ap length is, length-map (take 1000
 
 -- few targets are one chunk
 pub one_chunk : (r : Records) → AreOfList r → (count chunk end : ℕ) → count ≡ length r.targets → end ≡ div_ceil count 10000 → chunk < end → chunk ≡ 0
-one_chunk r of count chunk end counted ended before =
-    let bounds = div_ceil_times count 10000 (omega arith) in
-    omega (arith, bounds.1, counted, ended, before, few_targets r of)
+one_chunk r of count chunk end counted ended before = grind (arith, div_ceil_times, few_targets)

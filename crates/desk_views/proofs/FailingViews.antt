@@ -1,9 +1,9 @@
 -- Why a view of a list of accepted commands is no failed store by itself.
-use Rattle.desk_views.proofs.Common.{◌≡◌, ◌≤◌, ◌<◌, ℕ, zero, suc, true, List, [], ◌∷◌, length, slice_get, Some, None, Result, Ok, Err, IfErr, refl, sym, ap}
-use Rattle.desk_views.proofs.Common.{subst, arith, Broken, Memory, Store, is_number, number_of, records, Records, HoldsLedger, Ledger, ledger_of}
+use Rattle.desk_views.proofs.Common.{◌≡◌, ◌≤◌, ◌<◌, ℕ, zero, suc, List, [], ◌∷◌, length, slice_get, None, Result, Ok, Err, IfErr, ap}
+use Rattle.desk_views.proofs.Common.{arith, Broken, number_of, Records, HoldsLedger, Ledger, ledger_of}
 use Rattle.desk_views.proofs.Common.{seen_in, FindsIn, IsReadable, IfRowsBroken, IsOfList, AreOfList, item_numbered, Fault, IsOfListWith}
 use Rattle.sqlite.specs.Store.{Ghosts}
-use Rattle.sql_calls.specs.Standing.{Sees, Wears}
+use Rattle.sql_calls.specs.Standing.{Wears}
 use Rattle.desk_records.proofs.NumberColumns.{is_in_range}
 use Rattle.desk_store.specs.Breaking.{BreaksOnly}
 use Rattle.desk_store.specs.Failing.{FailsGiven, nothing}
@@ -15,9 +15,7 @@ listed of = record { list = of.list; valid = of.valid; is = ap ledger_of of.are 
 
 -- where broken rows are always told so
 pub told : {Why : Type 0} → (fault : Fault) → (fault ≡ Broken) × Why → IfRowsBroken fault Why
-told Memory why = tt
-told Store why = absurd (let same = why.0 in cc)
-told Broken why = why.1
+told fault why = grind arith
 
 -- ---- where the ledger is as given, which is that of a list
 
@@ -27,39 +25,14 @@ module _ {S A : Type 0} {g : Ghosts S} {Given : Ledger → Type 0} (at : (l : Le
   pub never_given : {B : Type 0} {Why : Type 0} {new : OpenChange S} → FindsIn g {E = Fault} old new (Ok x) P → (fault : Fault) → IfRowsBroken fault Why
       → ((r : Records) → P r x → AreOfList r → Given (ledger_of r) → IsReadable (ledger_of r) → Why → ⊥)
       → (out : Result B Fault) → out ≡ Err fault → FailsGiven g Given old new out
-  never_given {B} {Why} {new} read fault why reason out is = subst (λ (o : Result B Fault). FailsGiven g Given old new o) (sym is) (go fault why)
-    where
-      go : (fault : Fault) → IfRowsBroken fault Why → FailsGiven g Given {A = B} old new (Err fault)
-      go Memory why = record { to = λ l sees given. record { reason = λ is clean. absurd cc } }
-      go Store why = absurd why
-      go Broken why = record {
-        to = λ l sees all. record {
-          reason = λ is clean.
-              let it = at l all.given in
-              let seen = read.finds (records it.list) (subst (λ l. Sees HoldsLedger (seen_in g old) l) it.is sees) in
-              absurd (reason (records it.list) (seen.1 clean) (record { list = it.list; valid = it.valid; are = refl }) (subst Given it.is all.given)
-              (subst IsReadable it.is all.readable) why);
-        };
-      }
+  never_given read fault why reason out is = grind arith
 
   -- what is given to a call is known by what was read before it
   pub when_given : {B C : Type 0} {G : Ledger → Type 0} {mid new : OpenChange S} → FindsIn g {E = Fault} old mid (Ok x) P
       → Wears (seen_in g mid) (seen_in g new)
       → (fault : Fault) → FailsGiven g G {A = C} mid new (Err fault) → ((r : Records) → P r x → AreOfList r → Given (ledger_of r) → G (ledger_of r))
       → (out : Result B Fault) → out ≡ Err fault → FailsGiven g Given old new out
-  when_given {B} {G = G} {mid = mid} {new = new} read wears fault fails means out is = subst (λ (o : Result B Fault). FailsGiven g Given old new o)
-      (sym is)
-      (record {
-        to = λ l sees all. record {
-          reason = λ broken clean.
-              let it = at l all.given in
-              let seen = read.finds (records it.list) (subst (λ l. Sees HoldsLedger (seen_in g old) l) it.is sees) in
-              let known = means (records it.list) (seen.1 (omega (arith, clean, wears))) (record { list = it.list; valid = it.valid; are = refl })
-              (subst Given it.is all.given) in
-              (fails.to l (subst (λ l. Sees HoldsLedger (seen_in g mid) l) (sym it.is) seen.0)
-              (record { readable = all.readable; given = subst G (sym it.is) known })).reason broken clean;
-        };
-      })
+  when_given read wears fault fails means out is = grind arith
 
 -- ---- at lists
 
@@ -87,8 +60,7 @@ module _ {S A : Type 0} {g : Ghosts S} {Want : Records → Type 0} {old : OpenCh
       → Wears (seen_in g mid) (seen_in g new)
       → (fault : Fault) → FailsGiven g G {A = C} mid new (Err fault) → ((r : Records) → P r x → AreOfList r → Want r → G (ledger_of r)) → (out : Result B Fault)
       → out ≡ Err fault → FailsGiven g (IsOfListWith Want) old new out
-  with_when read wears fault fails means = when_given (λ l given. given.of_list) read wears fault fails
-      (λ r is of given. means r is of given.wanted)
+  with_when read wears fault fails means = grind (arith, when_given)
 
 -- ---- where the answer is a call's
 
@@ -97,17 +69,13 @@ pub never_answers : {S B C : Type 0} {g : Ghosts S} {Given G : Ledger → Type 0
     → BreaksOnly g HoldsLedger G nothing old new (Ok y) → (out : Result B Fault) → IfErr out Why
     → ((fault : Fault) → Why fault → out ≡ Err fault → FailsGiven g Given old new out)
     → FailsGiven g Given old new out
-never_answers kept (Ok z) why failed = record { to = kept.to }
-never_answers kept (Err fault) why failed = failed fault why refl
+never_answers kept out why failed = grind arith
 
 -- ---- entries of lists
 
 -- a number of an entry is one
 pub numbered_so : (n most : ℕ) → None ≡ number_of n → 1 ≤ n → n ≤ most → most ≤ 1000 → ⊥
-numbered_so n most none low high few =
-    let good : is_number n ≡ true = is_in_range n low (omega (arith, high, few)) in
-    let some : None ≡ Some n = rw good at none in
-    absurd (cc)
+numbered_so n most none low high few = grind (arith, is_in_range)
 
 -- .. of which there is one
 pub entry_there : {X : Type 0} (xs : List X) (n : ℕ) → 1 ≤ n → n ≤ length xs → item_numbered xs n ≡ None → ⊥

@@ -57,11 +57,9 @@ unshown_at {A = A} rules groups at d within why fault broken out is =
 module _ (reply : RolloutRecord → GroupRecord → Reply) where
   pub no_group : (o : Option RolloutRecord) (i : ℕ) → None ≡ group_numbered i (parts_of (λ (x : RolloutRecord). x.groups) o) → Refused NotFound
       ≡ if_found (λ x. group_reply x i (reply x)) o
-  no_group None i is = refl
-  no_group (Some x) i is = ap (if_found (reply x)) is
+  no_group o i is = grind arith
 
   pub one_group : (o : Option RolloutRecord) (i : ℕ) (g : GroupRecord) (made : Reply) → Some g ≡ group_numbered i (parts_of (λ (x : RolloutRecord). x.groups) o)
       → ((x : RolloutRecord) → o ≡ Some x → Some g ≡ group_numbered i x.groups → made ≡ reply x g)
       → made ≡ if_found (λ x. group_reply x i (reply x)) o
-  one_group None i g made is so = absurd cc
-  one_group (Some x) i g made is so = so x refl is ∙ ap (if_found (reply x)) is
+  one_group o i g made is so = grind arith

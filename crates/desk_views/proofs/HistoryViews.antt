@@ -1,9 +1,9 @@
 -- From entries of histories that were read to what is shown of them.
-use Rattle.desk_views.proofs.Common.{◌≡◌, ◌<◌, ℕ, zero, suc, ◌+◌, nat_eq, Bool, true, false, cond, List, [], ◌∷◌, ◌++◌, length, slice_get, take, drop, Option}
+use Rattle.desk_views.proofs.Common.{◌≡◌, ◌<◌, ℕ, zero, suc, ◌+◌, nat_eq, false, List, [], ◌∷◌, ◌++◌, length, slice_get, take, drop, Option}
 use Rattle.desk_views.proofs.Common.{Some, None, refl, sym, ap, ◌∙◌, arith, option_map, nat_tests, action_if, if_found, item_numbered, Bytes, entry_shown}
-use Rattle.desk_views.proofs.Common.{numbered, page_of, Records, HistoryShown, ShownEntry, Page, is_for, ActionRecord, history_of, parts_of, StoredAction}
+use Rattle.desk_views.proofs.Common.{numbered, page_of, Records, HistoryShown, ShownEntry, Page, ActionRecord, history_of, StoredAction}
 use Rattle.desk_views.proofs.Common.{entry_by, number_at, reports_of, stored_in, HistoryEntry, Reported, entries_in, ledger_of, nil_from_length}
-use Rattle.desk_records.specs.FeedbackNumbers.{borne_at, numbers_from, numbers_numbered, numbers_of}
+use Rattle.desk_records.specs.FeedbackNumbers.{borne_at, numbers_from, numbers_numbered}
 use Rattle.desk_records.specs.declared.number_row.PlacedNumber.{PlacedNumber}
 use Rattle.rollout_machine.proofs.Actions.{numbered_map}
 use Rattle.desk_views.proofs.PageLemmas.{numbered_length}
@@ -29,16 +29,14 @@ numbered_more f k number (y ∷ ys) x at = ap (λ l. f k y ∷ l) (numbered_more
 -- one further on bears no number of a place before it
 passed : (place sequence : ℕ) (n : Option ℕ) (rest : List PlacedNumber) → place < sequence → number_at place (borne_at sequence n ++ rest)
     ≡ number_at place rest
-passed place sequence None rest less = refl
-passed place sequence (Some n) rest less = let other : nat_eq sequence place ≡ false = grind (arith, nat_tests, less) in rw other refl
+passed place sequence n rest less = grind (arith, nat_tests)
 
 none_before : (place sequence : ℕ) (history : List Reported) → place < sequence → number_at place (numbers_from sequence history) ≡ None
 none_before place sequence [] less = refl
 none_before place sequence (r ∷ history) less = passed place sequence r.number _ less ∙ none_before place (sequence + 1) history (omega (arith, less))
 
 own_number : (place : ℕ) (n : Option ℕ) (rest : List PlacedNumber) → number_at place rest ≡ None → number_at place (borne_at place n ++ rest) ≡ n
-own_number place None rest none = none
-own_number place (Some n) rest none = let own : nat_eq place place ≡ true = grind (arith, nat_tests) in rw own refl
+own_number place n rest none = grind (arith, nat_tests)
 
 -- the entry at a place bears the number that is found there
 number_there : (sequence index place : ℕ) (history : List Reported) (r : Reported) → slice_get history index ≡ Some r → place ≡ sequence + index
@@ -76,58 +74,35 @@ all_shown history = each_shown (numbers_from 1 history) 1 history (λ i r got. n
 -- of these entries, of any function of place and entry
 part_numbered : {X Y : Type 0} (f : ℕ → X → Y) (page : Page) (xs entries : List X) → entries ≡ take page.limit (drop page.offset xs)
     → numbered f (page.offset + 1) entries ≡ take page.limit (drop page.offset (numbered f 1 xs))
-part_numbered f page xs entries read =
-    ap (numbered f (page.offset + 1)) read ∙ sym (numbered_taken f (page.offset + 1) page.limit (drop page.offset xs))
-    ∙ ap (take page.limit) (sym (numbered_dropped f 1 page.offset (page.offset + 1) xs refl))
+part_numbered f page xs entries read = grind (arith, numbered_taken, numbered_dropped)
 
 -- the numbers of an action are those of its history
 numbers_read : (r : Records) (k : ℕ) → numbers_numbered (ledger_of r).numbers k ≡ numbers_from 1 (reports_of (item_numbered r.actions k))
-numbers_read r k = ap (parts_of (λ (its : List PlacedNumber). its)) (numbered_map numbers_of r.actions k) ∙ go (item_numbered r.actions k)
-  where
-    go : (o : Option ActionRecord) → parts_of (λ (its : List PlacedNumber). its) (option_map numbers_of o) ≡ numbers_from 1 (reports_of o)
-    go None = refl
-    go (Some a) = refl
+numbers_read r k = grind (arith, numbered_map, option_map)
 
 entries_read : (o : Option ActionRecord) → history_of o ≡ entries_in (reports_of o)
-entries_read None = refl
-entries_read (Some a) = refl
+entries_read o = grind arith
 
 -- a page with the numbers that were read
 pub page_numbered : (r : Records) (k : ℕ) (page : Page) (entries : List HistoryEntry) (numbers : List PlacedNumber) (content : List ShownEntry) → entries
     ≡ take page.limit (drop page.offset (history_of (item_numbered r.actions k)))
     → numbers ≡ numbers_numbered (ledger_of r).numbers k → content ≡ numbered (entry_by numbers) (page.offset + 1) entries → content
     ≡ take page.limit (drop page.offset (numbered entry_shown 1 (reports_of (item_numbered r.actions k))))
-page_numbered r k page entries numbers content read borne shown =
-    let history = reports_of (item_numbered r.actions k) in
-    shown ∙ ap (λ ns. numbered (entry_by ns) (page.offset + 1) entries) (borne ∙ numbers_read r k)
-    ∙ part_numbered (entry_by (numbers_from 1 history)) page (entries_in history) entries
-    (read ∙ ap (λ es. take page.limit (drop page.offset es)) (entries_read (item_numbered r.actions k)))
-    ∙ ap (λ es. take page.limit (drop page.offset es)) (all_shown history)
+page_numbered r k page entries numbers content read borne shown = grind (arith, numbers_read, part_numbered, entries_read, all_shown)
 
 pub none_numbered : (r : Records) (k : ℕ) (page : Page) (entries : List HistoryEntry) → entries
     ≡ take page.limit (drop page.offset (history_of (item_numbered r.actions k))) → length entries ≡ 0
     → [] ≡ take page.limit (drop page.offset (numbered entry_shown 1 (reports_of (item_numbered r.actions k))))
-none_numbered r k page entries read none =
-    let numbers = numbers_numbered (ledger_of r).numbers k in
-    page_numbered r k page entries numbers [] read refl (sym (ap (numbered (entry_by numbers) (page.offset + 1)) (nil_from_length entries none)))
+none_numbered r k page entries read none = grind (arith, page_numbered, nil_from_length)
 
 history_page : (page : Page) (history : List Reported) (content : List ShownEntry) (total : ℕ) → content
     ≡ take page.limit (drop page.offset (numbered entry_shown 1 history)) → total ≡ length history
     → record { content = content; total = total } ≡ page_of page (numbered entry_shown 1 history)
-history_page page history content total shown count =
-    let many : total ≡ length (numbered entry_shown 1 history) = count ∙ sym (numbered_length entry_shown 1 history) in
-    λ i. record { content = shown i; total = many i }
+history_page page history content total shown count = grind (arith, numbered_length)
 
 pub history_replied : (r : Records) (id : Bytes) (page : Page) (o : Option ActionRecord) (action : StoredAction) (content : List ShownEntry) → Some action
     ≡ option_map (stored_in r) (action_if r id o)
     → content ≡ take page.limit (drop page.offset (numbered entry_shown 1 (reports_of o)))
     → HistoryShown (record { content = content; total = action.entries })
     ≡ if_found (λ (a : ActionRecord). HistoryShown (page_of page (numbered entry_shown 1 a.history))) (action_if r id o)
-history_replied r id page None action content is shown = absurd cc
-history_replied r id page (Some a) action content is shown = go (is_for r id a) is where
-  go : (b : Bool) → Some action ≡ option_map (stored_in r) (cond b (Some a) None)
-      → HistoryShown (record { content = content; total = action.entries })
-      ≡ if_found (λ (a : ActionRecord). HistoryShown (page_of page (numbered entry_shown 1 a.history))) (cond b (Some a) None)
-  go false other = absurd cc
-  go true own = let same : action ≡ stored_in r a = cc in
-      ap HistoryShown (history_page page a.history content action.entries shown (ap (λ (s : StoredAction). s.entries) same))
+history_replied r id page o action content is shown = grind (arith, option_map, history_page)

@@ -1,6 +1,6 @@
 -- Offers that are told, by what is kept of them.
-use Rattle.desk_views.proofs.Common.{◌≡◌, ℕ, Bool, true, false, cond, not, nat_eq, List, [], ◌∷◌, Option, Some, None, Result, Ok, Err, IfOk, refl, sym}
-use Rattle.desk_views.proofs.Common.{subst, ◌∙◌, arith, list_any, nat_tests, and_parts, false≢true, is_offer_of, Bytes, Offer}
+use Rattle.desk_views.proofs.Common.{◌≡◌, ℕ, Bool, true, false, cond, not, nat_eq, List, [], ◌∷◌, Option, Some, Result, IfOk, refl, sym}
+use Rattle.desk_views.proofs.Common.{subst, arith, list_any, nat_tests, and_parts, is_offer_of, Bytes, Offer}
 use Rattle.desk_records.specs.Tables.{Tables}
 use Rattle.desk_store.specs.KeptOffers.{IsKept, IsKeptAs}
 use Rattle.desk_views.specs.Kept.{AreKept}
@@ -10,16 +10,11 @@ kept_as : (k : ℕ) (canceling : Bool) (o : Offer) → o.action ≡ k → o.canc
 kept_as k canceling o action so = λ i. Some (record { action = action i; canceling = so i })
 
 same_flag : (a b : Bool) → cond a b (not b) ≡ true → b ≡ a
-same_flag true b is = is
-same_flag false true is = absurd (false≢true is)
-same_flag false false is = refl
+same_flag a b is = grind arith
 
 pub offered_as : (k : ℕ) (canceling : Bool) (found : Option Offer) (same : Bool) → same ≡ is_offer_of k canceling found → same ≡ true
     → found ≡ Some (record { action = k; canceling = canceling })
-offered_as k canceling None same asked is = absurd (false≢true (sym asked ∙ is))
-offered_as k canceling (Some o) same asked is =
-    let parts = and_parts (nat_eq o.action k) (cond canceling o.canceling (not o.canceling)) (sym asked ∙ is) in
-    kept_as k canceling o (grind (arith, nat_tests, parts.0)) (same_flag canceling o.canceling parts.1)
+offered_as k canceling found same asked is = grind (arith, and_parts, kept_as, nat_tests, same_flag)
 
 -- where it is this action that is offered, a row keeps it so
 pub kept_offer : (t : Tables) (id : Bytes) (k : ℕ) (canceling : Bool) (found : Option Offer) (same : Bool) → same ≡ is_offer_of k canceling found → same ≡ true
@@ -40,16 +35,13 @@ kept_modules t id o modules none kept = go o.canceling refl modules none
 pub kept_among : (t : Tables) (id : Bytes) (m : ℕ) (modules : List ℕ) (among : Bool) → among ≡ list_any (λ n. nat_eq n m) modules → among ≡ true
     → AreKept t id modules
     → (action : ℕ) × IsKeptAs t id action
-kept_among t id m [] among asked is kept = absurd (false≢true (sym asked ∙ is))
-kept_among t id m (x ∷ xs) among asked is kept = kept
+kept_among t id m modules among asked is kept = grind arith
 
 -- .. whatever the call for them comes to
 pub kept_installed : {V E : Type 0} (items : V → List ℕ) (id : Bytes) (o : Offer) (Was : Tables → Type 0) (Clean : Type 0) (r : Result V E)
     → IfOk r (λ v. o.canceling ≡ true → items v ≡ []) → ((t : Tables) → Was t → Clean → IsKept t id (Some o))
     → IfOk r (λ v. (t : Tables) → Was t → Clean → AreKept t id (items v))
-kept_installed items id o Was Clean (Ok v) empty kept = λ t was clean. kept_modules t id o (items v) empty (kept t was clean)
-kept_installed items id o Was Clean (Err e) empty kept = tt
+kept_installed items id o h3 h4 r empty kept = grind (arith, kept_modules)
 
 pub where_ok : {A E : Type 0} (P : Type 0) (r : Result A E) → P → IfOk r (λ _. P)
-where_ok P (Ok a) p = p
-where_ok P (Err e) p = tt
+where_ok h0 r p = grind arith

@@ -1,15 +1,15 @@
 -- What accepted commands keep: few modules and sets, the rule of the modules of each set, and that of the contents of each artifact.
-use Rattle.desk_views.proofs.Common.{◌≡◌, ◌≤◌, ◌<◌, ◌+◌, ◌-◌, ◌*◌, ℕ, zero, suc, true, List, [], length, All, Option, Some, None, refl, sym, subst, ap, ◌∙◌}
+use Rattle.desk_views.proofs.Common.{◌≡◌, ◌≤◌, ◌<◌, ◌+◌, ◌-◌, ◌*◌, ℕ, zero, suc, true, List, length, All, Option, Some, None, refl, sym, subst, ◌∙◌}
 use Rattle.desk_views.proofs.Common.{arith, nat_le, and_parts, leb-true, list_all, length-map, pieces_of_artifact, item_numbered, ArtifactRecord, Records}
-use Rattle.desk_views.proofs.Common.{added_artifacts, artifacts, Command, SetLabel, AddArtifact, AreOfList, contents_found, div_ceil_times}
-use Rattle.desk_views.proofs.Common.{piece_at, piece_bytes, piece_count, pieces_of, artifact_size_limit, piece_length, is_byte, is_contents, is_filename}
-use Rattle.desk_views.proofs.Common.{is_module_list, is_number, is_text, CommandList, Make, ◌▸◌, IsValid, limits_hold}
+use Rattle.desk_views.proofs.Common.{added_artifacts, artifacts, Command, SetLabel, AreOfList, contents_found, div_ceil_times}
+use Rattle.desk_views.proofs.Common.{piece_at, piece_bytes, piece_count, pieces_of, artifact_size_limit, piece_length, is_byte, is_contents}
+use Rattle.desk_views.proofs.Common.{is_module_list, is_text, CommandList, Make, ◌▸◌, IsValid, limits_hold}
 use Rattle.rollout_machine.specs.Records.{records}
-use Rattle.std.proofs.lemmas.List.Elements.{All-append, All-cons, All-get_or, All-nil}
+use Rattle.std.proofs.lemmas.List.Elements.{All-append, All-get_or, All-nil}
 use Rattle.std.proofs.lemmas.List.FromFn.{length-map-range_with_len}
 use Rattle.std.proofs.lemmas.Option.{slice_get-get_or, slice_get_within}
 use Rattle.std.proofs.Math.ListN.{get_or}
-use Rattle.rollout_machine.specs.CommandRules.{IsWellFormed, is_digest_or_none}
+use Rattle.rollout_machine.specs.CommandRules.{IsWellFormed}
 use Rattle.sqlite_rules.proofs.ListLemmas.{has_got}
 use Rattle.desk_records.proofs.WholeArtifacts.{IsWhole, all_whole}
 use Rattle.desk_reads.proofs.LabelRules.{sets_keep}
@@ -51,10 +51,7 @@ abbrev KeepsContents : ArtifactRecord → Type 0
 KeepsContents a = is_contents a.contents ≡ true
 
 added_contents : (c : Command) → IsWellFormed c → All KeepsContents (added_artifacts c)
-added_contents (AddArtifact upload) good =
-    let rest = (and_parts (is_filename upload.filename) _ (and_parts (is_number upload.module_number) _ good).1).1 in
-    All-cons KeepsContents _ [] (and_parts (is_digest_or_none upload.expected) (is_contents upload.contents) rest).1 (All-nil KeepsContents)
-added_contents _ good = All-nil KeepsContents
+added_contents c good = grind (arith, and_parts)
 
 contents_keep : (h : CommandList) → IsValid h → All KeepsContents (artifacts h)
 contents_keep (Make approval) valid = All-nil KeepsContents
@@ -88,8 +85,4 @@ pieces_few (Some a) kept =
 
 pub no_piece : (r : Records) → AreOfList r → (k before : ℕ) (piece : List ℕ) → Some piece ≡ item_numbered (pieces_of_artifact (item_numbered r.artifacts k))
     (before + 1) → artifact_size_limit ≤ before * piece_length → ⊥
-no_piece r of k before piece found full =
-    let pieces = pieces_of_artifact (item_numbered r.artifacts k) in
-    let next : suc before ≡ before + 1 = omega arith in
-    let within : before < length pieces = slice_get_within pieces before piece (ap (item_numbered pieces) next ∙ sym found) in
-    omega (arith, within, full, pieces_few (item_numbered r.artifacts k) (keeps_contents r of k))
+no_piece r of k before piece found full = grind (arith, slice_get_within, pieces_few, keeps_contents)

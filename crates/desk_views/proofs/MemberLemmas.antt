@@ -1,8 +1,9 @@
 -- The members of a rollout of a list of accepted commands are targets.
-use Rattle.desk_views.proofs.Common.{◌≡◌, ℕ, zero, suc, Bool, true, false, ◌||◌, cond, List, [], ◌∷◌, ◌++◌, map, filter, find, take, drop, Option, Some, None}
+use native.Mathlib.Omega.{arith}
+use Rattle.desk_views.proofs.Common.{◌≡◌, ℕ, zero, suc, Bool, true, List, [], ◌∷◌, ◌++◌, map, filter, find, take, drop, Option, Some, None}
 use Rattle.desk_views.proofs.Common.{refl, sym, ap, ◌∙◌, slice_get, list_all, is_some, unwrap_or, and_parts, false≢true, filter_of, Tree, target_if}
-use Rattle.desk_views.proofs.Common.{targets_of, contains_word, item_numbered, same_bytes, with_words, Bytes, Command, CreateRollout, TargetRow, matches}
-use Rattle.desk_views.proofs.Common.{target_shown, targets_shown, Records, Target, import_rows_of, target_ids, target_in, target_of, RolloutRecord, same_refl}
+use Rattle.desk_views.proofs.Common.{targets_of, contains_word, item_numbered, same_bytes, with_words, Bytes, Command, CreateRollout, matches}
+use Rattle.desk_views.proofs.Common.{target_shown, targets_shown, Records, Target, target_ids, target_in, target_of, RolloutRecord, same_refl}
 use Rattle.desk_views.proofs.Common.{same_sym, AreOfList, made, CommandList, Make, ◌▸◌, Rollout, chosen, created, rollouts, kept_to, kept_from, or-true}
 use Rattle.rollout_machine.specs.Records.{records}
 use Rattle.std.proofs.lemmas.List.Folds.{list_all-append}
@@ -26,10 +27,7 @@ abbrev AllIn : List Bytes → List Bytes → Type 0
 AllIn ids ms = list_all (λ m. contains_word m ids) ms ≡ true
 
 stays_in : (m : Bytes) (ids news : List Bytes) → contains_word m ids ≡ true → contains_word m (with_words news ids) ≡ true
-stays_in m ids news is = go (contains_word m (with_words news ids)) refl where
-  go : (b : Bool) → contains_word m (with_words news ids) ≡ b → contains_word m (with_words news ids) ≡ true
-  go true e = e
-  go false e = absurd (false≢true (sym (never_with m news ids e) ∙ is))
+stays_in m ids news is = grind (arith, never_with)
 
 later_in : (u m : Bytes) (ids : List Bytes) → contains_word m ids ≡ true → contains_word m (u ∷ ids) ≡ true
 later_in u m ids is = rw is (or-true (same_bytes m u))
@@ -41,11 +39,7 @@ all_are_in (u ∷ ids) = rw (same_refl u) (all_so (λ m. contains_word m ids) (�
 chosen_in : (h : CommandList) (ids : List Bytes) (f : Tree) (us : List Bytes) → AllIn ids us
     → AllIn ids (map (λ (t : Target). t.id) (filter (matches f) (map (target_in h) us)))
 chosen_in h ids f [] all = refl
-chosen_in h ids f (u ∷ us) all = let parts = and_parts _ _ all in go (matches f (target_in h u)) parts.0 (chosen_in h ids f us parts.1) where
-  go : (b : Bool) → contains_word u ids ≡ true → AllIn ids (map (λ (t : Target). t.id) (filter (matches f) (map (target_in h) us)))
-      → AllIn ids (map (λ (t : Target). t.id) (cond b (target_in h u ∷ filter (matches f) (map (target_in h) us)) (filter (matches f) (map (target_in h) us))))
-  go true here rest = rw (here, rest) refl
-  go false here rest = rest
+chosen_in h ids f (u ∷ us) all = grind (arith, chosen_in h ids f us, and_parts)
 
 abbrev members_in_list : List Bytes → Rollout → Bool
 members_in_list ids y = list_all (λ m. contains_word m ids) y.members
@@ -59,22 +53,13 @@ created_in h _ = refl
 
 rollouts_in_list : (h : CommandList) → list_all (members_in_list (target_ids h)) (rollouts h) ≡ true
 rollouts_in_list (Make approval) = refl
-rollouts_in_list (h ▸ c) =
-    let before : list_all (members_in_list (target_ids (h ▸ c))) (rollouts h) ≡ true =
-    all_so (members_in_list (target_ids h)) (members_in_list (target_ids (h ▸ c)))
-    (λ y. all_so (λ m. contains_word m (target_ids h)) (λ m. contains_word m (target_ids (h ▸ c)))
-    (λ m. stays_in m (target_ids h) (map (λ (row : TargetRow). row.id) (import_rows_of c))) y.members) (rollouts h) (rollouts_in_list h) in
-    list_all-append (members_in_list (target_ids (h ▸ c))) (rollouts h) (created h c) ∙ rw (before, created_in h c) refl
+rollouts_in_list (h ▸ c) = grind (arith, rollouts_in_list h, all_so, stays_in, list_all-append, created_in)
 
 -- ---- who is there
 
 found_in : (h : CommandList) (t : Bytes) (ids : List Bytes) → is_some (find (λ (x : Target). same_bytes x.id t) (map (target_in h) ids)) ≡ contains_word t ids
 found_in h t [] = refl
-found_in h t (u ∷ ids) = rw (same_sym u t) (go (same_bytes t u) (found_in h t ids)) where
-  go : (b : Bool) → is_some (find (λ (x : Target). same_bytes x.id t) (map (target_in h) ids)) ≡ contains_word t ids
-      → is_some (cond b (Some (target_in h u)) (find (λ (x : Target). same_bytes x.id t) (map (target_in h) ids))) ≡ (b || contains_word t ids)
-  go true rest = refl
-  go false rest = rest
+found_in h t (u ∷ ids) = grind (arith, found_in h t ids, same_sym, is_some)
 
 abbrev pub is_there : Records → Bytes → Bool
 is_there rs m = is_some (target_of rs m)

@@ -16,32 +16,21 @@ module _ (rs : Records) where
   one_more : (ids : List Bytes) (id : Bytes) → targets_shown rs (targets_of rs (ids ++ id ∷ [])) ≡ targets_shown rs (targets_of rs ids) ++ targets_shown rs
       (target_if (target_of rs id))
   one_more [] id = ap (targets_shown rs) (append-nil (target_if (target_of rs id)))
-  one_more (u ∷ ids) id = go (target_of rs u) (one_more ids id) where
-    go : (o : Option Target) → targets_shown rs (targets_of rs (ids ++ id ∷ [])) ≡ targets_shown rs (targets_of rs ids) ++ targets_shown rs
-        (target_if (target_of rs id))
-        → targets_shown rs (target_if o ++ targets_of rs (ids ++ id ∷ [])) ≡ targets_shown rs (target_if o ++ targets_of rs ids) ++ targets_shown rs
-        (target_if (target_of rs id))
-    go None rest = rest
-    go (Some t) rest = ap (λ (l : List ShownTarget). target_shown rs t ∷ l) rest
+  one_more (u ∷ ids) id = grind (arith, one_more ids id)
 
   pub targets_grow : (ids : List Bytes) (id : Bytes) (before after : List RustTarget) → map shown_target before ≡ targets_shown rs (targets_of rs ids)
       → map shown_target after ≡ map shown_target before ++ targets_shown rs (target_if (target_of rs id))
       → map shown_target after ≡ targets_shown rs (targets_of rs (ids ++ id ∷ []))
-  targets_grow ids id before after so_far more = more ∙ ap (λ (l : List ShownTarget). l ++ targets_shown rs (target_if (target_of rs id))) so_far
-      ∙ sym (one_more ids id)
+  targets_grow ids id before after so_far more = grind (arith, one_more)
 
   pub none_added : (content : List RustTarget) (wanted : Option Target) → option_map shown_target None ≡ option_map (target_shown rs) wanted
       → map shown_target content ≡ map shown_target content ++ targets_shown rs (target_if wanted)
-  none_added content None is = sym (append-nil (map shown_target content))
-  none_added content (Some t) is = absurd cc
+  none_added content wanted is = grind (arith, append-nil)
 
   pub one_added : (before after : List RustTarget) (shown : RustTarget) (wanted : Option Target) → option_map shown_target (Some shown)
       ≡ option_map (target_shown rs) wanted → after ≡ before ++ shown ∷ [] → map shown_target after
       ≡ map shown_target before ++ targets_shown rs (target_if wanted)
-  one_added before after shown None is more = absurd cc
-  one_added before after shown (Some t) is more =
-      let same : shown_target shown ≡ target_shown rs t = cc in
-      ap (map shown_target) more ∙ map-append shown_target before (shown ∷ []) ∙ ap (λ (s : ShownTarget). map shown_target before ++ s ∷ []) same
+  one_added before after shown wanted is more = grind (arith, map-append)
 
 -- ---- a page of a part of a list
 

@@ -1,6 +1,6 @@
 -- Entries of a list by their numbers, and the part of it that is on a page.
 use Rattle.desk_views.proofs.Common.{◌≡◌, ℕ, zero, suc, ◌+◌, ◌-◌, min, List, [], ◌∷◌, ◌++◌, length, take, drop, Some, refl, sym, ap, ◌∙◌, arith, add-one}
-use Rattle.desk_views.proofs.Common.{length-drop, slice_get, take-nil, Option, None, option_map, if_found, item_numbered, numbered, page_of, Page}
+use Rattle.desk_views.proofs.Common.{length-drop, slice_get, take-nil, Option, option_map, if_found, item_numbered, numbered, page_of, Page}
 use Rattle.rollout_machine.specs.Replies.{Reply}
 
 pub numbered_length : {X Y : Type 0} (f : ℕ → X → Y) (n : ℕ) (xs : List X) → length (numbered f n xs) ≡ length xs
@@ -14,8 +14,7 @@ numbered_get f n (x ∷ xs) (suc i) k is = numbered_get f (suc n) xs i k (omega 
 
 -- the entry of a number is made of the item of that number
 entry_numbered : {X Y : Type 0} (f : ℕ → X → Y) (xs : List X) (k : ℕ) → item_numbered (numbered f 1 xs) k ≡ option_map (f k) (item_numbered xs k)
-entry_numbered f xs zero = refl
-entry_numbered f xs (suc i) = numbered_get f 1 xs i (suc i) (omega arith)
+entry_numbered f xs k = grind (arith, numbered_get)
 
 -- .. that was found
 pub entry_is : {X Y : Type 0} (f : ℕ → X → Y) (xs : List X) (k n : ℕ) (found : Option Y) → k ≡ n → found ≡ option_map (f k) (item_numbered xs k)
@@ -25,8 +24,7 @@ entry_is f xs k n found same is = ap (item_numbered (numbered f 1 xs)) (sym same
 -- the reply to a query for it
 pub found_replied : {X Y : Type 0} (f : X → Y) (reply : Y → Reply) (o : Option X) (found : Option Y) → found ≡ option_map f o → if_found reply found
     ≡ if_found (λ x. reply (f x)) o
-found_replied f reply None found is = ap (if_found reply) is
-found_replied f reply (Some x) found is = ap (if_found reply) is
+found_replied f reply o found is = grind arith
 
 drop_get : {X : Type 0} (n : ℕ) (xs : List X) (i k : ℕ) → k ≡ n + i → slice_get (drop n xs) i ≡ slice_get xs k
 drop_get zero xs i k is = ap (slice_get xs) (omega (arith, is))
@@ -44,10 +42,7 @@ one_more (y ∷ ys) (suc i) x is = ap (λ l. y ∷ l) (one_more ys i x is)
 pub page_grows : {X : Type 0} (xs items more : List X) (offset place number : ℕ) (x : X) → items ≡ take place (drop offset xs) → item_numbered xs number
     ≡ Some x → number ≡ offset + place + 1 → more ≡ items ++ x ∷ []
     → more ≡ take (place + 1) (drop offset xs)
-page_grows xs items more offset place zero x is found at one = absurd cc
-page_grows xs items more offset place (suc k) x is found at one =
-    one ∙ ap (λ l. l ++ x ∷ []) is ∙ sym (one_more (drop offset xs) place x (drop_get offset xs place k (omega (arith, at)) ∙ found))
-    ∙ ap (λ n. take n (drop offset xs)) (sym (add-one place))
+page_grows xs items more offset place number x is found at one = grind (arith, one_more, drop_get, add-one)
 
 take_within : {X : Type 0} (n : ℕ) (xs : List X) (m : ℕ) → m ≡ min n (length xs) → take m xs ≡ take n xs
 take_within n [] zero is = sym (take-nil n)
@@ -61,6 +56,4 @@ take_within (suc n) (x ∷ xs) (suc m) is = ap (λ l. x ∷ l) (take_within n xs
 pub page_ends : {X : Type 0} (xs : List X) (page : Page) (items : List X) (total place : ℕ) → place ≡ min page.limit (total - page.offset)
     → items ≡ take place (drop page.offset xs) → total ≡ length xs
     → record { content = items; total = total } ≡ page_of page xs
-page_ends xs page items total place end is count =
-    let all = is ∙ take_within page.limit (drop page.offset xs) place (omega (arith, end, count, length-drop page.offset xs)) in
-    λ i. record { content = all i; total = count i }
+page_ends xs page items total place end is count = grind (arith, take_within, length-drop)

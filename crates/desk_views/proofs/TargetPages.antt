@@ -1,11 +1,10 @@
 -- From typed reads of targets to pages of them.
-use Rattle.desk_views.proofs.Common.{◌≡◌, ℕ, suc, ◌+◌, ◌-◌, ◌&&◌, nat_le, nat_lt, ◌*◌, ◌/◌, ◌%◌, min, Bool, true, false, cond, List, [], ◌∷◌, ◌++◌, map}
-use Rattle.desk_views.proofs.Common.{filter, length, take, drop, Some, None, refl, sym, ap, ◌∙◌, append-nil, append_assoc, arith, length-drop, Vec, take-add}
-use Rattle.desk_views.proofs.Common.{take-nil, leb-false, leb-true, drop-append-le, drop-map, drop_all, length-append, length-map, map-append, take-append-le}
-use Rattle.desk_views.proofs.Common.{take-map, take_all, IsSomeAnd, Global, query_reply, targets_matching, Bytes, matches, seen, page_of, target_shown}
-use Rattle.desk_views.proofs.Common.{targets_shown, Records, PageOf, TargetsShown, Page, ShowTargets, Target, listed, listed_targets, reply_of, shown_target}
-use Rattle.desk_views.proofs.Common.{ShownTarget, Tree, filter_of, listed_target, matching_shown, worded, target_listed, part_seen, div_ceil_times}
-use Rattle.desk_views.proofs.Common.{ListedTarget}
+use Rattle.desk_views.proofs.Common.{◌≡◌, ℕ, suc, ◌+◌, ◌-◌, ◌&&◌, nat_le, nat_lt, ◌*◌, ◌/◌, ◌%◌, min, Bool, true, false, cond, List, [], ◌∷◌, ◌++◌, map, filter}
+use Rattle.desk_views.proofs.Common.{length, take, drop, Some, None, refl, sym, ap, ◌∙◌, append-nil, append_assoc, arith, length-drop, Vec, take-add, leb-false}
+use Rattle.desk_views.proofs.Common.{leb-true, drop-append-le, drop-map, drop_all, length-append, length-map, map-append, take-append-le, take-map, take_all}
+use Rattle.desk_views.proofs.Common.{IsSomeAnd, Global, query_reply, targets_matching, Bytes, matches, seen, page_of, target_shown, targets_shown, Records}
+use Rattle.desk_views.proofs.Common.{PageOf, TargetsShown, Page, ShowTargets, Target, listed, listed_targets, reply_of, shown_target, ShownTarget, Tree}
+use Rattle.desk_views.proofs.Common.{filter_of, listed_target, matching_shown, worded, target_listed, part_seen, div_ceil_times, ListedTarget}
 use Rattle.std.proofs.lemmas.List.Elements.{filter-append}
 use Rattle.rollout_model.specs.declared.page.PageOf.{PageOf as RustPageOf}
 use Rattle.rollout_model.specs.declared.request.Reply.TheVariants as reply
@@ -27,19 +26,14 @@ module _ (r : Records) where
   shown_map (t ∷ ts) = ap (λ l. target_shown r t ∷ l) (shown_map ts)
 
   shown_part : (n m : ℕ) (ts : List Target) → targets_shown r (take n (drop m ts)) ≡ take n (drop m (targets_shown r ts))
-  shown_part n m ts =
-      shown_map (take n (drop m ts)) ∙ sym (take-map (target_shown r) n (drop m ts)) ∙ ap (take n) (sym (drop-map (target_shown r) m ts))
-      ∙ ap (λ l. take n (drop m l)) (sym (shown_map ts))
+  shown_part n m ts = grind (arith, shown_map, take-map, drop-map)
 
   -- ---- all targets
 
   pub entries_grow : (items more : List ShownTarget) (entries : List ListedTarget) (entry : ListedTarget) (target : SeenTarget) (shown : ShownTarget)
       → items ≡ map (worded r) (map (target_listed r) entries) → target ≡ target_listed r entry
       → shown ≡ worded r target → more ≡ items ++ shown ∷ [] → more ≡ map (worded r) (map (target_listed r) (entries ++ entry ∷ []))
-  entries_grow items more entries entry target shown is read said one =
-      one ∙ ap (λ l. l ++ shown ∷ []) is ∙ ap (λ s. map (worded r) (map (target_listed r) entries) ++ s ∷ []) (said ∙ ap (worded r) read)
-      ∙ sym (ap (map (worded r)) (map-append (target_listed r) entries (entry ∷ []))
-      ∙ map-append (worded r) (map (target_listed r) entries) (target_listed r entry ∷ []))
+  entries_grow items more entries entry target shown is read said one = grind (arith, map-append)
 
   pub all_replied : (page : Page) (entries : List ListedTarget) (items : Vec ShownTarget Global) (total : ℕ) → are_sorted r.targets ≡ true
       → total ≡ length r.targets
@@ -61,10 +55,7 @@ module _ (r : Records) where
     pub matching_grow : (all : List ShownTarget) (entries : List ListedTarget) (entry : ListedTarget)
         → (all ++ matching_shown r f (map (target_listed r) entries)) ++ matching_shown r f (target_listed r entry ∷ [])
         ≡ all ++ matching_shown r f (map (target_listed r) (entries ++ entry ∷ []))
-    matching_grow all entries entry =
-        append_assoc all _ _
-        ∙ ap (λ l. all ++ l) (sym (ap (matching_shown r f) (map-append (target_listed r) entries (entry ∷ []))
-        ∙ matching_join (map (target_listed r) entries) (target_listed r entry ∷ [])))
+    matching_grow all entries entry = grind (arith, append_assoc, map-append, matching_join)
 
     pub one_matches : (all : List ShownTarget) (t u : SeenTarget) → t ≡ u → holds f t ≡ true → all ++ worded r t ∷ [] ≡ all ++ matching_shown r f (u ∷ [])
     one_matches all t u is on = rw (sym is, on) refl
@@ -77,21 +68,11 @@ module _ (r : Records) where
         ≡ map listed_target (take n (drop offset r.targets))
         → matching_shown r f (map seen (take offset r.targets)) ++ matching_shown r f (map (target_listed r) entries)
         ≡ matching_shown r f (map seen (take (offset + n) r.targets))
-    chunk_matched sorted offset n entries is =
-        ap (λ l. matching_shown r f (map seen (take offset r.targets)) ++ matching_shown r f l) (ap (map (target_listed r)) is ∙ part_seen r sorted n offset)
-        ∙ sym (matching_join (map seen (take offset r.targets)) (map seen (take n (drop offset r.targets))))
-        ∙ ap (matching_shown r f) (sym (map-append seen (take offset r.targets) (take n (drop offset r.targets)))
-        ∙ ap (map seen) (sym (take-add offset n r.targets)))
+    chunk_matched sorted offset n entries is = grind (arith, part_seen, matching_join, map-append, take-add)
 
     filter_seen : (ts : List Target) → filter (holds f) (map seen ts) ≡ map seen (filter (matches f) ts)
     filter_seen [] = refl
-    filter_seen (t ∷ ts) = go (matches f t) (filter_seen ts)
-      where
-        go : (b : Bool) → filter (holds f) (map seen ts) ≡ map seen (filter (matches f) ts)
-            → cond b (seen t ∷ filter (holds f) (map seen ts)) (filter (holds f) (map seen ts))
-            ≡ map seen (cond b (t ∷ filter (matches f) ts) (filter (matches f) ts))
-        go true rest = ap (λ l. seen t ∷ l) rest
-        go false rest = rest
+    filter_seen (t ∷ ts) = grind (arith, filter_seen ts)
 
     matching_is : map shown_target (matching_shown r f (map seen r.targets)) ≡ targets_shown r (filter (matches f) r.targets)
     matching_is = ap (λ l. map shown_target (map (worded r) l)) (filter_seen r.targets) ∙ all_shown (filter (matches f) r.targets)
@@ -114,9 +95,7 @@ module _ (r : Records) where
 
 -- the page of nothing
 pub nothing_yet : {X : Type 0} (page : Page) (items : Vec X Global) → items.items ≡ [] → listed (record { content = items; total = 0 }) ≡ page_of page []
-nothing_yet page items empty =
-    let here = empty ∙ sym (take-nil page.limit) ∙ ap (take page.limit) (sym (drop_all page.offset [] (omega arith))) in
-    λ i. record { content = here i; total = 0 }
+nothing_yet page items empty = grind (arith, drop_all)
 
 -- ---- one target more
 
@@ -143,15 +122,7 @@ module _ (page : Page) (old : RustPageOf ShownTarget) (items : Vec ShownTarget G
     (was : listed old ≡ page_of page all) (on : Bool) (asked : on ≡ (nat_le page.offset old.total && nat_lt (old.total - page.offset) page.limit)) where
   pub page_with : (total : ℕ) → total ≡ old.total + 1 → items.items ≡ cond on (old.content.items ++ x ∷ []) old.content.items
       → listed (record { content = items; total = total }) ≡ page_of page (all ++ x ∷ [])
-  page_with total one is =
-      let content : old.content.items ≡ take page.limit (drop page.offset all) = ap (λ (p : PageOf ShownTarget). p.content) was in
-      let count : old.total ≡ length all = ap (λ (p : PageOf ShownTarget). p.total) was in
-      let here = is ∙ (λ i. cond (asked i) (content i ++ x ∷ []) (content i))
-      ∙ ap (λ n. cond (nat_le page.offset n && nat_lt (n - page.offset) page.limit) (take page.limit (drop page.offset all) ++ x ∷ [])
-      (take page.limit (drop page.offset all))) count
-      ∙ sym (next_on page.limit page.offset all x) in
-      let more = one ∙ ap (λ n. n + 1) count ∙ sym (length-append all (x ∷ [])) in
-      λ i. record { content = here i; total = more i }
+  page_with total one is = grind (arith, next_on, length-append)
 
 module _ (r : Records) (f : Tree) (text : Bytes) (t : SeenTarget) (entry : ListedTarget) (is_match : Bool)
     (computed : IsSomeAnd (filter_of text) (λ tree. is_match ≡ holds tree t)) (tree : filter_of text ≡ Some f) (read : t ≡ target_listed r entry)
@@ -175,9 +146,7 @@ module _ (page : Page) (f : Tree) (r : Records) where
   pub next_chunk : (old new : RustPageOf ShownTarget) (chunk offset : ℕ) → offset ≡ chunk * 10000
       → (listed old ≡ page_of_first offset → listed new ≡ page_of_first (offset + 10000)) → listed old ≡ page_of_first (chunk * 10000) → listed new
       ≡ page_of_first ((chunk + 1) * 10000)
-  next_chunk old new chunk offset at adds was =
-      let next : offset + 10000 ≡ (chunk + 1) * 10000 = omega (arith, at) in
-      adds (was ∙ ap page_of_first (sym at)) ∙ ap page_of_first next
+  next_chunk old new chunk offset at adds was = grind arith
 
   pub last_chunk : (shown : RustPageOf ShownTarget) (chunk count : ℕ) → chunk ≡ count / 10000 + min 1 (count % 10000) → count ≡ length r.targets → listed shown
       ≡ page_of_first (chunk * 10000) → listed shown ≡ page_of page (matching_shown r f (map seen r.targets))

@@ -1,6 +1,7 @@
 -- From typed reads of targets to what is shown.
-use Rattle.desk_views.proofs.Common.{◌≡◌, ◌∷◌, Bool, true, false, cond, List, [], find, Option, Some, None, refl, sym, ap, ◌∙◌, option_map, stored_target}
-use Rattle.desk_views.proofs.Common.{if_found, query_reply, same_bytes, Bytes, target_shown, Records, TargetShown, ShowTarget, target_word, Target, tags_of}
+use native.Mathlib.Omega.{arith}
+use Rattle.desk_views.proofs.Common.{◌≡◌, ◌∷◌, List, [], find, Option, Some, None, refl, sym, ap, ◌∙◌, option_map, stored_target}
+use Rattle.desk_views.proofs.Common.{query_reply, Bytes, target_shown, Records, ShowTarget, target_word, Target, tags_of}
 use Rattle.desk_views.proofs.Common.{target_of, reply_of, shown_target, same_true, NotFound, Reply, ShownTarget, target_listed, worded}
 use Rattle.desk_records.specs.declared.target_row.StoredTarget.{StoredTarget}
 use Rattle.desk_records.specs.Targets.{attributes_of}
@@ -11,16 +12,11 @@ use Rattle.rollout_model.specs.declared.target.Target.{Target as SeenTarget}
 -- what is found by an id has it
 pub id_found : (id : Bytes) (t : Target) (ts : List Target) → find (has_id id) ts ≡ Some t → t.id ≡ id
 id_found id t [] found = absurd cc
-id_found id t (x ∷ ts) found = go (same_bytes x.id id) refl found (id_found id t ts)
-  where
-    go : (b : Bool) → same_bytes x.id id ≡ b → cond b (Some x) (find (has_id id) ts) ≡ Some t → (find (has_id id) ts ≡ Some t → t.id ≡ id) → t.id ≡ id
-    go true same is rest = let here : x ≡ t = cc in ap (λ (y : Target). y.id) (sym here) ∙ same_true x.id id same
-    go false other is rest = rest is
+id_found id t (x ∷ ts) found = grind (arith, id_found id t ts, same_true)
 
 module _ (r : Records) (id : Bytes) where
   pub no_target : (wanted : Option Target) → None ≡ option_map stored_target wanted → None ≡ option_map (target_shown r) wanted
-  no_target None is = refl
-  no_target (Some t) is = absurd cc
+  no_target wanted is = grind arith
 
   -- what was found of the target, then read with its tags and its attributes, and then shown with its word
   module _ (stored : StoredTarget) (target : SeenTarget) (shown : ShownTarget) where
@@ -48,11 +44,4 @@ module _ (r : Records) (id : Bytes) where
 
   pub replied : (found : Option ShownTarget) → option_map shown_target found ≡ option_map (target_shown r) (target_of r id) → reply_of (reply_for found)
       ≡ query_reply r (ShowTarget id)
-  replied found is = go found (target_of r id) is
-    where
-      go : (found : Option ShownTarget) (wanted : Option Target) → option_map shown_target found ≡ option_map (target_shown r) wanted
-          → reply_of (reply_for found) ≡ if_found (λ (x : Target). TargetShown (target_shown r x)) wanted
-      go None None is = refl
-      go None (Some t) is = absurd cc
-      go (Some shown) None is = absurd cc
-      go (Some shown) (Some t) is = let same : shown_target shown ≡ target_shown r t = cc in ap TargetShown same
+  replied found is = grind (arith, option_map)

@@ -1,13 +1,13 @@
 -- From typed reads to the word of a target.
-use Rattle.desk_views.proofs.Common.{◌≡◌, ℕ, suc, ◌+◌, Bool, true, false, cond, not, ◌&&◌, ◌||◌, List, [], ◌∷◌, map, filter, Option, Some, None, is_none}
+use native.Mathlib.Omega.{arith}
+use Rattle.desk_views.proofs.Common.{◌≡◌, ℕ, suc, ◌+◌, Bool, true, false, cond, not, ◌&&◌, List, [], ◌∷◌, map, filter, Option, Some, None, is_none}
 use Rattle.desk_views.proofs.Common.{refl, sym, ap, ◌∙◌, false≢true, or_parts, list_any, zip, is_some, tally_of, last_ended, has_begun, ending_of}
-use Rattle.desk_views.proofs.Common.{stored_action, ListedAction, item_numbered, Bytes, Offer, first_offer, offer, Records, ActionRecord}
-use Rattle.desk_views.proofs.Common.{GroupRecord, RolloutRecord, group_holding, group_is_started, has_started, is_for, is_started_in, started_actions_of}
-use Rattle.desk_views.proofs.Common.{target_word, word_by_last, InError, InSync, Pending, TargetWord, Unknown, is_begun, groups_of, numbered_from}
+use Rattle.desk_views.proofs.Common.{stored_action, ListedAction, Bytes, Offer, first_offer, offer, Records, ActionRecord}
+use Rattle.desk_views.proofs.Common.{GroupRecord, group_holding, group_is_started, has_started, is_for, started_actions_of}
+use Rattle.desk_views.proofs.Common.{target_word, word_by_last, InError, InSync, Pending, TargetWord, Unknown, is_begun, numbered_from}
 use Rattle.std.specs.List.{last_or}
 use Rattle.campaign_core.specs.StatusWords.{last_word, target_word_from}
 use Rattle.desk_records.specs.RolloutRow.{ended_for}
-use Rattle.rollout_machine.specs.Groups.{holds_position}
 use Rattle.rollout_machine.specs.declared.outcome.Outcome.{Outcome}
 use Rattle.rollout_machine.specs.declared.outcome.Outcome.TheVariants.{Bad, Gone, Good}
 
@@ -16,18 +16,10 @@ use Rattle.rollout_machine.specs.declared.outcome.Outcome.TheVariants.{Bad, Gone
 -- the place of a group doesn't say whether it is started
 group_same : (j n : ℕ) (gs : List GroupRecord) → group_is_started (group_holding j (numbered_from n gs)) ≡ group_is_started (group_holding j gs)
 group_same j n [] = refl
-group_same j n (g ∷ gs) = go (holds_position j g.bounds) (group_same j (n + 1) gs) where
-  go : (b : Bool) → group_is_started (group_holding j (numbered_from (n + 1) gs)) ≡ group_is_started (group_holding j gs)
-      → group_is_started (cond b (Some (record g { number = n })) (group_holding j (numbered_from (n + 1) gs)))
-      ≡ group_is_started (cond b (Some g) (group_holding j gs))
-  go true rest = refl
-  go false rest = rest
+group_same j n (g ∷ gs) = grind (arith, group_same j (n + 1) gs)
 
 pub begun_is : (r : Records) (a : ActionRecord) → is_begun r (stored_action r.rollouts (a, tally_of a)) ≡ has_started r a
-begun_is r a = go (item_numbered r.rollouts a.rollout) where
-  go : (x : Option RolloutRecord) → group_is_started (group_holding a.position (groups_of x)) ≡ is_started_in x a
-  go None = refl
-  go (Some x) = group_same a.position 1 x.groups
+begun_is r a = grind (arith, group_same)
 
 -- ---- the word
 
@@ -39,10 +31,7 @@ abbrev word_by_ending : Option Outcome → TargetWord
 word_by_ending o = elim o [ None ↦ Pending | Some x ↦ elim x [ Good ↦ InSync | Bad ↦ InError | Gone ↦ Unknown ] ]
 
 ended_word : (o : Option Outcome) → is_none o ≡ false → last_word o ≡ word_by_ending o
-ended_word None e = absurd (false≢true (sym e))
-ended_word (Some Good) e = refl
-ended_word (Some Bad) e = refl
-ended_word (Some Gone) e = refl
+ended_word o e = grind arith
 
 module _ (r : Records) (t : Bytes) where
   abbrev own : List ActionRecord → List ActionRecord
@@ -51,14 +40,7 @@ module _ (r : Records) (t : Bytes) where
   -- something is offered while an action is open
   offered_open : (k : ℕ) (actions : List ActionRecord) → is_some (first_offer r t k actions) ≡ list_any is_open (own actions)
   offered_open k [] = refl
-  offered_open k (a ∷ more) = go (is_open a) (is_for r t a && has_started r a) refl (offered_open (suc k) more) where
-    go : (o b : Bool) → is_open a ≡ o → is_some (first_offer r t (suc k) more) ≡ list_any is_open (own more)
-        → is_some (cond (o && b) (Some (record { action = k; canceling = a.canceling })) (first_offer r t (suc k) more))
-        ≡ list_any is_open (cond b (a ∷ own more) (own more))
-    go true true is rest = sym (ap (λ c. c || list_any is_open (own more)) is)
-    go false true is rest = rest ∙ sym (ap (λ c. c || list_any is_open (own more)) is)
-    go true false is rest = rest
-    go false false is rest = rest
+  offered_open k (a ∷ more) = grind (arith, offered_open (suc k) more, is_some)
 
   -- those that ended, the first of all of a number
   abbrev pub ended_from : ℕ → List ActionRecord → List ListedAction
@@ -98,6 +80,4 @@ module _ (r : Records) (t : Bytes) where
 
     pub word_ended : (ending : Option Outcome) → is_some found ≡ false → has_begun r (last_ended r t) ≡ true → ending ≡ ending_of (last_ended r t)
         → target_word_from (record { any_open = false; last = ending }) ≡ target_word r t
-    word_ended ending none begun ended =
-        ap last_word ended ∙ ending_is 1 r.actions None Unknown (λ begun. refl) (open_is false none) begun
-        ∙ sym (ap (λ b. cond b Pending (word_by_last Unknown (started_actions_of r t))) (open_is false none))
+    word_ended ending none begun ended = grind (arith, ending_is, open_is)
