@@ -1,34 +1,28 @@
 -- What a command on an action counts has room, and what it rests on is there.
-use Rattle.desk_commands.proofs.Common.{◌≡◌, ◌≤◌, ◌<◌, ◌^◌, ℕ, zero, suc, ◌+◌, Bool, true, false, cond, List, [], ◌∷◌, ◌++◌, length, Option, Some, None}
-use Rattle.desk_commands.proofs.Common.{option_map, refl, sym, ap, ◌∙◌, subst, arith, is_some, length-map, length-set, zip, item_numbered}
-use Rattle.desk_commands.proofs.Common.{CommandList, Bytes, Reported, entries_in, is_note, notes_of, IsValid, Records, records, Outcome, Good, Bad, Gone}
-use Rattle.desk_commands.proofs.Common.{ActionRecord, GroupRecord, RolloutRecord, numbered_map, ActionChange, Ends, Tally, tally_of, borne_at, numbers_from}
-use Rattle.desk_commands.proofs.Common.{numbers_of, Ledger, ledger_of, set_numbered, StoredAction, PlacedNumber, Acts, TellsAction, FollowsSo}
-use Rattle.desk_commands.proofs.Common.{StartsGroupOf, outcomes_in, MayReoffer, CountsNumbers, entries_by, notes_by, SeenAction, Told, Has, limits_hold}
-use Rattle.desk_commands.proofs.Common.{Following, Ending, CanEnd, CanEndBy, CanFollow, CanTell, HasNext, Leads, TakesSteps, AreActionsNumbered}
+use Rattle.desk_commands.proofs.Common.{◌≡◌, ◌≤◌, ◌<◌, ◌^◌, ℕ, ◌+◌, List, [], ◌∷◌, length, Option, Some}
+use Rattle.desk_commands.proofs.Common.{option_map, sym, ap, ◌∙◌, subst, arith, is_some, length-map, length-set, zip, item_numbered}
+use Rattle.desk_commands.proofs.Common.{CommandList, Reported, entries_in, is_note, notes_of, IsValid, Records, records, Outcome, Good, Bad, Gone}
+use Rattle.desk_commands.proofs.Common.{ActionRecord, GroupRecord, RolloutRecord, numbered_map, ActionChange, Tally, tally_of, numbers_from}
+use Rattle.desk_commands.proofs.Common.{numbers_of, Ledger, ledger_of, set_numbered, PlacedNumber, Acts, TellsAction, FollowsSo}
+use Rattle.desk_commands.proofs.Common.{outcomes_in, SeenAction, Told, Has, limits_hold}
+use Rattle.desk_commands.proofs.Common.{Following, CanEndBy, CanFollow, CanTell, Leads, TakesSteps, AreActionsNumbered}
 use Rattle.std.proofs.lemmas.List.Sums.{count_by-le-length, length-filter}
+use Rattle.std.proofs.lemmas.Option.{same_Some}
 use Rattle.sqlite_rules.proofs.ListLemmas.{has_got}
-use Rattle.desk_commands.proofs.ItemSteps.{zip_map}
+use Rattle.desk_commands.proofs.ItemSteps.{own_pair}
 
 -- ---- lists
 
 has_numbered : {X : Type 0} (xs : List X) (k : ℕ) (x : X) → item_numbered xs k ≡ Some x → Has xs x
-has_numbered xs zero x at = absurd cc
-has_numbered xs (suc k) x at = has_got xs k x at
+has_numbered xs k x at = grind (arith, has_got)
 
 same_length : {X : Type 0} (xs : List X) (k : ℕ) (x : X) → length (set_numbered xs k x) ≡ length xs
-same_length xs zero x = refl
-same_length xs (suc k) x = length-set xs k x
+same_length xs k x = grind (arith, length-set)
 
 -- no more entries bear a number than there are
 few_numbers : (sequence : ℕ) (history : List Reported) → length (numbers_from sequence history) ≤ length history
 few_numbers sequence [] = omega arith
-few_numbers sequence (r ∷ history) = go r.number (few_numbers (sequence + 1) history)
-  where
-    go : (number : Option ℕ) → length (numbers_from (sequence + 1) history) ≤ length history
-        → length (borne_at sequence number ++ numbers_from (sequence + 1) history) ≤ suc (length history)
-    go None rest = omega (arith, rest)
-    go (Some n) rest = omega (arith, rest)
+few_numbers sequence (r ∷ history) = grind (arith, few_numbers (sequence + 1) history)
 
 -- .. and no more are notes
 few_notes : (a : ActionRecord) → notes_of a ≤ length a.history
@@ -50,16 +44,13 @@ heard l takes k action there = subst (λ m. item_numbered (zip m.records.actions
     (at (records takes.of_list.list)) there
   where
     at : (r : Records) → item_numbered (zip r.actions (ledger_of r).tallies) k ≡ Some action → IsHeard (ledger_of r) k action
-    at r there = go (item_numbered r.actions k) refl (sym (zip_map tally_of k r.actions) ∙ there)
-      where
-        go : (o : Option ActionRecord) → item_numbered r.actions k ≡ o → option_map (λ (a : ActionRecord). (a, tally_of a)) o ≡ Some action
-            → IsHeard (ledger_of r) k action
-        go None at is = absurd cc
-        go (Some a) at is = record {
-          a = a;
-          at = at;
-          is = let same : (a, tally_of a) ≡ action = cc in sym same;
-          numbers = λ its are. let both : Some its ≡ Some (numbers_of a) = sym are ∙ numbered_map numbers_of r.actions k ∙ ap (option_map numbers_of) at in cc;
+    at r there =
+        let it = own_pair tally_of k r.actions action there in
+        record {
+          a = it.0;
+          at = it.1;
+          is = it.2;
+          numbers = λ its are. same_Some its (numbers_of it.0) (sym are ∙ numbered_map numbers_of r.actions k ∙ ap (option_map numbers_of) it.1);
         }
 
 module _ (seen : SeenAction) (after : ActionChange) (told : Option Told) (l : Ledger) (w : Leads (Acts seen after told) l) where
@@ -73,36 +64,7 @@ module _ (seen : SeenAction) (after : ActionChange) (told : Option Told) (l : Le
   few = w.takes.counted.few its.a (has_numbered l.records.actions seen.number its.a its.at)
 
   pub can_tell : CanTell seen told
-  can_tell = record {
-    notes = notes told;
-    entries = entries told;
-    numbers =
-        record { numbers = λ it is. record { room = λ number bears. numbered it is number bears } };
-  }
-    where
-      tally : (seen.action.notes ≡ notes_of its.a) × (seen.action.entries ≡ length its.a.history)
-      tally = (
-        ap (λ (s : StoredAction). s.notes) t.seen_as ∙ ap (λ (x : ActionRecord × Tally). x.1.notes) its.is,
-        ap (λ (s : StoredAction). s.entries) t.seen_as ∙ ap (λ (x : ActionRecord × Tally). x.1.entries) its.is,
-      )
-
-      notes : (told : Option Told) → notes_by told seen.action.notes < 2 ^ 32
-      notes None = omega (arith, few, few_notes its.a, tally.0)
-      notes (Some it) = more it.entry.is_note
-        where
-          more : (b : Bool) → seen.action.notes + cond b 1 0 < 2 ^ 32
-          more true = omega (arith, few, few_notes its.a, tally.0)
-          more false = omega (arith, few, few_notes its.a, tally.0)
-
-      entries : (told : Option Told) → entries_by told seen.action.entries < 2 ^ 32
-      entries None = omega (arith, few, tally.1)
-      entries (Some it) = omega (arith, few, tally.1)
-
-      numbered : (it : Told) → told ≡ Some it → (number : ℕ) → it.entry.number ≡ Some number → it.numbers + 1 < 2 ^ 32
-      numbered it is number bears =
-          let count : it.numbers ≡ length t.numbers = subst (λ o. CountsNumbers o t.numbers) is t.counted (ap is_some bears) in
-          let same : length t.numbers ≡ length (numbers_of its.a) = ap length (its.numbers t.numbers t.are_its) in
-          omega (arith, few, count, same, few_numbers 1 its.a.history)
+  can_tell = grind (arith, few, few_notes, is_some, few_numbers)
 
   -- the actions keep their numbers
   pub numbers_stay : AreActionsNumbered w.changes.acted
@@ -121,19 +83,8 @@ module _ (seen : SeenAction) (after : ActionChange) (told : Option Told) (l : Le
 
 -- ---- what follows
 
-rollouts_stay : (b : Bool) (id : Bytes) (acted offered : Ledger) → MayReoffer b id acted offered → offered.records.rollouts ≡ acted.records.rollouts
-rollouts_stay true id acted offered is = ap (λ (m : Ledger). m.records.rollouts) is
-rollouts_stay false id acted offered w = ap (λ (m : Ledger). m.records.rollouts) w.next_is
-
-next_there : (seen : SeenAction) (l next : Ledger) → StartsGroupOf seen.action.rollout seen.next l next → HasNext seen
-next_there seen l next = go seen.next refl
-  where
-    go : (o : Option GroupRecord) → seen.next ≡ o → StartsGroupOf seen.action.rollout o l next → HasNext seen
-    go None is starts = absurd starts
-    go (Some g) is starts = record { next = g; is_there = is }
-
 follows_there : (seen : SeenAction) (so : Following) (l next : Ledger) → FollowsSo seen so l next → CanFollow seen so
-follows_there seen so l next f = record { next = λ starts. next_there seen l next (subst (λ so. FollowsSo seen so l next) starts f) }
+follows_there seen so l next f = grind arith
 
 few_outcomes : (h : CommandList) → IsValid h → (r : ℕ) (x : RolloutRecord) (i : ℕ) (g : GroupRecord) → item_numbered (records h).rollouts r ≡ Some x
     → item_numbered x.groups i ≡ Some g → (o : Outcome) → outcomes_in o g ≤ 10000
@@ -148,18 +99,4 @@ few_outcomes h valid r x i g at its o =
     go ok bad gone few Gone = omega (arith, gone, few)
 
 pub can_end : (seen : SeenAction) (after : ActionChange) (told : Option Told) (l : Ledger) → Leads (Acts seen after told) l → CanEndBy seen after
-can_end seen after told l w = record { ends = λ e is. go e (subst (λ a. Leads (Acts seen a told) l) is w) }
-  where
-    go : (e : Ending) → Leads (Acts seen (Ends e) told) l → CanEnd seen e
-    go e w =
-        let f = w.changes.follows in
-        let of = w.takes.of_list in
-        let stay = rollouts_stay false seen.action.target w.changes.acted w.changes.offered w.changes.offers
-        ∙ ap (λ (m : Ledger). m.records.rollouts) (w.changes.tells.next_is) ∙ ap (λ (m : Ledger). m.records.rollouts) of.is in
-        let at : item_numbered (records of.list).rollouts seen.action.rollout ≡ Some f.rollout = ap (λ xs. item_numbered xs seen.action.rollout) (sym stay)
-        ∙ f.is_its in
-        let few = few_outcomes of.list of.valid seen.action.rollout f.rollout seen.own.number seen.own at f.own e.outcome in
-        record {
-          counts = record { room = omega (arith, few) };
-          follows = follows_there seen e.following _ w.next f.follows;
-        }
+can_end seen after told l w = grind (arith, few, few_outcomes, follows_there)

@@ -1,5 +1,6 @@
 -- Commands on actions, by what was seen of the action and what the rule of the command made of it.
-use Rattle.desk_commands.proofs.Common.{◌≡◌, ℕ, Bool, true, false, cond, ◌&&◌, ◌||◌, not, List, [], ◌∷◌, Option, Some, None, option_map, Ok, refl, sym, ap, ◌∙◌}
+use native.Mathlib.Omega.{arith}
+use Rattle.desk_commands.proofs.Common.{◌≡◌, ℕ, Bool, true, false, cond, ◌||◌, not, List, [], ◌∷◌, Option, Some, None, option_map, Ok, refl, sym, ap, ◌∙◌}
 use Rattle.desk_commands.proofs.Common.{subst, is_some, is_none, and_parts, item_numbered, same_bytes, CommandList, IsWellFormed, Bytes, Cancel, Command}
 use Rattle.desk_commands.proofs.Common.{Credential, step_records, Records, records, Reported, IsValid, check, first_refusal, target_of, Outcome, AreSound}
 use Rattle.desk_commands.proofs.Common.{DecidesAs, JudgesCancel, of_device, ActionRecord, same_true, Refusal, ClosedAction, WrongState, ChangesAction}
@@ -7,45 +8,34 @@ use Rattle.desk_commands.proofs.Common.{IsFeedbackView, MayChangeAction, cancel_
 use Rattle.desk_commands.proofs.Common.{ActionChange, records_are_sound, numbers_of, ledger_of, actor, Acts, WritesFeedback, CountsNumbers, TellsReports}
 use Rattle.desk_commands.proofs.Common.{IsSeen, MaySee, SeesFeedback, SeesTarget, action_view_seen, cancel_view_seen, only_of, only_started, device_action_seen}
 use Rattle.desk_commands.proofs.Common.{seen_if, Told, SeenAction, SeenFeedback}
+use Rattle.std.proofs.lemmas.Option.{same_Some}
 use Rattle.campaign_core.specs.declared.rollout_checks.RolloutChange.TheVariants as change
 use Rattle.campaign_core.specs.declared.rollout_checks.RolloutCommandView.TheVariants as view
 use Rattle.campaign_core.specs.declared.rollout_checks.actions.CancelView.{CancelView}
 use Rattle.campaign_core.specs.declared.rollout_checks.of_devices.DeviceAction.{DeviceAction}
 use Rattle.desk_commands.proofs.ActingEnds.{acts}
-use Rattle.desk_commands.proofs.KnownActions.{IsKnown, cancel_viewed, feedback_viewed, heard_whole, known, seen_at}
+use Rattle.desk_commands.proofs.KnownActions.{cancel_viewed, feedback_viewed, heard_whole, known}
 
 -- ---- which action was seen
 
--- it was found, and is of the target
-record IsOf (id : Bytes) (found : Option SeenAction) (s : SeenAction) : Type 0 where
-  is_found : found ≡ Some s
-  target : s.action.target ≡ id
+passed : (b : Bool) (t s : SeenAction) → seen_if b t ≡ Some s → (b ≡ true) × (t ≡ s)
+passed b t s is = grind (arith, same_Some)
 
-of_target : (id : Bytes) (found : Option SeenAction) (s : SeenAction) → only_of id found ≡ Some s → IsOf id found s
+-- it was found, and is of the target
+of_target : (id : Bytes) (found : Option SeenAction) (s : SeenAction) → only_of id found ≡ Some s → (found ≡ Some s) × (s.action.target ≡ id)
 of_target id None s is = cc
-of_target id (Some t) s is = go (same_bytes t.action.target id) refl is
-  where
-    go : (b : Bool) → same_bytes t.action.target id ≡ b → seen_if b t ≡ Some s → IsOf id (Some t) s
-    go true same it = record {
-      is_found = it;
-      target =
-          (let one : t ≡ s = cc in ap (λ (u : SeenAction). u.action.target) (sym one) ∙ same_true t.action.target id same);
-    }
-    go false same it = cc
+of_target id (Some t) s is =
+    let it = passed (same_bytes t.action.target id) t s is in
+    (ap (λ u. Some u) it.1, ap (λ (u : SeenAction). u.action.target) (sym it.1) ∙ same_true t.action.target id it.0)
 
 started_too : (found : Option SeenAction) (s : SeenAction) → only_started found ≡ Some s → (found ≡ Some s) × (s.own.started ≡ true)
 started_too None s is = cc
-started_too (Some t) s is = go t.own.started refl is
-  where
-    go : (b : Bool) → t.own.started ≡ b → seen_if b t ≡ Some s → (Some t ≡ Some s) × (s.own.started ≡ true)
-    go true on it = (it, (let one : t ≡ s = cc in ap (λ (u : SeenAction). u.own.started) (sym one) ∙ on))
-    go false on it = cc
+started_too (Some t) s is = let it = passed t.own.started t s is in (ap (λ u. Some u) it.1, ap (λ (u : SeenAction). u.own.started) (sym it.1) ∙ it.0)
 
 -- ---- what is made of it
 
 none_of : {X : Type 0} (o : Option X) → is_none o ≡ true → o ≡ None
-none_of None is = refl
-none_of (Some x) is = cc
+none_of o is = grind arith
 
 module _ (h : CommandList) (c : Command) (valid : IsValid h) (formed : IsWellFormed c) (accepted : check (records h) c ≡ None) (k : ℕ) (told : Option Told)
     (reports : List Reported) (tells : TellsReports reports told) where
@@ -53,25 +43,16 @@ module _ (h : CommandList) (c : Command) (valid : IsValid h) (formed : IsWellFor
   abbrev Counted : Type 0
   Counted = (a : ActionRecord) → item_numbered (records h).actions k ≡ Some a → CountsNumbers told (numbers_of a)
 
-  acts_on : (s : SeenAction) → IsSeen (ledger_of (records h)) k s → Counted → actor c ≡ Some s.action.target → is_none s.action.outcome ≡ true → s.own.started
-      ≡ true → (gives : Option Outcome) (canceling : Bool)
+  -- what is made of it
+  abbrev ActsOn : SeenAction → Type 0
+  ActsOn s = actor c ≡ Some s.action.target → is_none s.action.outcome ≡ true → s.own.started ≡ true → (gives : Option Outcome) (canceling : Bool)
       → ChangesAction (change_by (action_view_seen s) gives canceling) reports k (records h) (step_records (records h) c)
       → Acts s (change_by (action_view_seen s) gives canceling) told (ledger_of (records h)) (ledger_of (step_records (records h) c))
-  acts_on s sees counted by unended begun gives canceling leads = go (known h valid k s sees)
-    where
-      go : IsKnown (records h) k s → Acts s (change_by (action_view_seen s) gives canceling) told (ledger_of (records h))
-          (ledger_of (step_records (records h) c))
-      go w = at s w.is by unended begun leads
-        where
-          at : (t : SeenAction) → t ≡ seen_at (records h) k w.placed → actor c ≡ Some t.action.target → is_none t.action.outcome ≡ true → t.own.started ≡ true
-              → ChangesAction (change_by (action_view_seen t) gives canceling) reports k (records h) (step_records (records h) c)
-              → Acts t (change_by (action_view_seen t) gives canceling) told (ledger_of (records h)) (ledger_of (step_records (records h) c))
-          at t is = subst
-              (λ (u : SeenAction). actor c ≡ Some u.action.target → is_none u.action.outcome ≡ true → u.own.started ≡ true
-              → ChangesAction (change_by (action_view_seen u) gives canceling) reports k (records h) (step_records (records h) c)
-              → Acts u (change_by (action_view_seen u) gives canceling) told (ledger_of (records h)) (ledger_of (step_records (records h) c)))
-              (sym is) (λ by unended begun leads. acts h c valid formed accepted k w.placed told reports tells (counted w.placed.action w.placed.at) by unended
-              begun gives canceling leads)
+
+  acts_on : (s : SeenAction) → IsSeen (ledger_of (records h)) k s → Counted → ActsOn s
+  acts_on s sees counted =
+      let it = known h valid k s sees in
+      subst ActsOn (sym it.is) (acts h c valid formed accepted k it.placed told reports tells (counted it.placed.action it.placed.at))
 
 -- ---- feedback, on a deployment or on its cancel
 
@@ -105,10 +86,10 @@ module _ {seen : SeenFeedback} {s : SeenAction} (own : (seen.misses_device ≡ f
             let its = of_target device.id w.found s on.0 in
             let unended = (and_parts (is_none s.action.outcome) _ at).0 in
             subst Writes (sym is) (λ told tells numbers. acts_on h c valid formed it.0 k (Some told) (new ∷ []) tells s
-            (subst (λ o. MaySee k (ledger_of (records h)) o) its.is_found w.sees)
+            (subst (λ o. MaySee k (ledger_of (records h)) o) its.0 w.sees)
             (λ r there bears. numbers
             ∙ (heard_whole h valid k device new seen w s own.1 (none_of s.action.outcome unended) r there).numbers (sym (ap is_some tells.number) ∙ bears))
-            (by ∙ ap (λ t. Some t) (sym its.target)) unended on.1 gives canceling (changes _ is))
+            (by ∙ ap (λ t. Some t) (sym its.1)) unended on.1 gives canceling (changes _ is))
         writes false at is = subst Writes (sym is) (ap ledger_of (changes _ is))
 
         pub feedback_taken : (check (records h) c ≡ None) × Writes after
@@ -117,35 +98,19 @@ module _ {seen : SeenFeedback} {s : SeenAction} (own : (seen.misses_device ≡ f
 -- it acts only where the report is new
 pub acts_on_fresh : (v : DeviceAction) {after : Option ActionChange} (gives : Option Outcome) (canceling : Bool) → after ≡ change_if_fresh v gives canceling
     → is_some after ≡ true → says_fresh v.standing ≡ true
-acts_on_fresh v gives canceling judged some = (and_parts (is_none v.action.outcome) _ (if_fresh (is_fresh v) _ (sym (ap is_some judged) ∙ some))).1
-  where
-    if_fresh : (b : Bool) (o : Option ActionChange) → is_some (cond b o None) ≡ true → b ≡ true
-    if_fresh true o is = refl
-    if_fresh false o is = cc
+acts_on_fresh v gives canceling judged some = grind (arith, and_parts, is_none, is_some)
 
 -- ---- cancels
 
 abbrev first_of : Bool → Bool → Bool → Option Refusal
 first_of closed on standing = first_refusal ((closed, ClosedAction) ∷ (not on || standing, WrongState) ∷ [])
 
-begun_of : (v : CancelView) (force : Bool) → cancel_refusal (Some v) force ≡ None → v.started ≡ true
-begun_of v force none = go (is_some v.action.outcome) v.started (v.action.canceling && not force) none
-  where
-    go : (closed on standing : Bool) → first_of closed on standing ≡ None → on ≡ true
-    go true on standing is = cc
-    go false true standing is = refl
-    go false false standing is = cc
-
-open_of : (v : CancelView) (force : Bool) → cancel_refusal (Some v) force ≡ None → is_none v.action.outcome ≡ true
-open_of v force none = go v.action.outcome none
-  where
-    go : (o : Option Outcome) → first_of (is_some o) v.started (v.action.canceling && not force) ≡ None → is_none o ≡ true
-    go None is = refl
-    go (Some o) is = cc
+-- what is canceled is open, and its group is started
+cancels : (v : CancelView) (force : Bool) → cancel_refusal (Some v) force ≡ None → (is_none v.action.outcome ≡ true) × (v.started ≡ true)
+cancels v force none = grind (arith, is_some, is_none)
 
 there : (gone : Bool) (o : Option SeenAction) (s : SeenAction) → Some s ≡ cond gone None o → o ≡ Some s
-there true o s is = cc
-there false o s is = sym is
+there gone o s is = grind arith
 
 module _ (id : Bytes) (k : ℕ) (force : Bool) {s : SeenAction} {after : ActionChange} (formed : IsWellFormed (Cancel id k force))
     (decides : DecidesAs change.Cancel (view.Cancel (Some (cancel_view_seen s))) (Cancel id k force) (Ok after))
@@ -154,11 +119,12 @@ module _ (id : Bytes) (k : ℕ) (force : Bool) {s : SeenAction} {after : ActionC
       × Acts s after None (ledger_of (records h)) (ledger_of (step_records (records h) (Cancel id k force)))
   cancel_taken h valid w =
       let it = decides (records h) (records_are_sound h valid) (cancel_viewed h valid k id (Some s) w) in
-      let its = of_target id w.found s (there (is_none (target_of (records h) id)) (only_of id w.found) s w.action) in (
+      let its = of_target id w.found s (there (is_none (target_of (records h) id)) (only_of id w.found) s w.action) in
+      let may = cancels (cancel_view_seen s) force judged.0 in (
         it.0,
         subst (λ o. Acts s o None (ledger_of (records h)) (ledger_of (step_records (records h) (Cancel id k force)))) (sym judged.1)
-            (acts_on h (Cancel id k force) valid formed it.0 k None [] tt s (subst (λ o. MaySee k (ledger_of (records h)) o) its.is_found w.sees) (λ a at. tt)
-            (ap (λ t. Some t) (sym its.target)) (open_of (cancel_view_seen s) force judged.0) (begun_of (cancel_view_seen s) force judged.0)
+            (acts_on h (Cancel id k force) valid formed it.0 k None [] tt s (subst (λ o. MaySee k (ledger_of (records h)) o) its.0 w.sees) (λ a at. tt)
+            (ap (λ t. Some t) (sym its.1)) may.0 may.1
             (outcome_forced s.action.canceling force) true
             (subst (λ o. ChangesAction o [] k (records h) (step_records (records h) (Cancel id k force))) judged.1 it.1)),
       )

@@ -1,5 +1,5 @@
 -- An action of a list of accepted commands has its rollout and its group, of which something is said, and no group ends beyond 32 bits.
-use Rattle.desk_commands.proofs.Common.{◌≡◌, ◌≤◌, ℕ, Option, Some, None, length, option_map, refl, sym, ap, ◌∙◌, subst, arith, zip, item_numbered, CommandList}
+use Rattle.desk_commands.proofs.Common.{◌≡◌, ◌≤◌, ℕ, Option, Some, length, option_map, sym, ap, ◌∙◌, subst, arith, zip, item_numbered, CommandList}
 use Rattle.desk_commands.proofs.Common.{IsValid, GroupRule, rule_at, rollout_in, group_in, records, group_holding, number_of_group, ActionRecord, GroupRecord}
 use Rattle.desk_commands.proofs.Common.{RolloutRecord, tally_of, Ledger, ledger_of, stored_action, stored_rollout, group_and_next, GroupAndNext, StoredAction}
 use Rattle.desk_commands.proofs.Common.{has_place, of_group, of_rollout, recorded, invariant_of, limits_hold, last_of, size_of, groups_of, rule_numbered}
@@ -7,7 +7,7 @@ use Rattle.desk_commands.proofs.Common.{StoredRollout, rule_there, rules_there, 
 use Rattle.rollout_machine.proofs.Cuts.{group_of, in_its_group}
 use Rattle.rollout_machine.proofs.Ties.{find_holding}
 use Rattle.desk_commands.proofs.GroupNumbers.{held_stands, numbered_groups, same_groups}
-use Rattle.desk_commands.proofs.ItemSteps.{zip_map}
+use Rattle.desk_commands.proofs.ItemSteps.{own_pair, shown}
 use Rattle.desk_commands.proofs.KnownActions.{both_read}
 
 -- ---- the groups
@@ -73,22 +73,13 @@ module _ (h : CommandList) (valid : IsValid h) (k : ℕ) where
   of_stored : (action : StoredAction) → Some action
       ≡ option_map (stored_action (records h).rollouts) (item_numbered (zip (records h).actions (ledger_of (records h)).tallies) k)
       → HasGroup (ledger_of (records h)) action
-  of_stored action told = go (item_numbered (records h).actions k) refl
-      (told ∙ ap (option_map (stored_action (records h).rollouts)) (zip_map tally_of k (records h).actions))
-    where
-      go : (o : Option ActionRecord) → item_numbered (records h).actions k ≡ o → Some action
-          ≡ option_map (stored_action (records h).rollouts) (option_map (λ (a : ActionRecord). (a, tally_of a)) o) → HasGroup (ledger_of (records h)) action
-      go None at is = absurd cc
-      go (Some a) at is = let same : action ≡ stored_action (records h).rollouts (a, tally_of a) = cc in
-          subst (λ s. HasGroup (ledger_of (records h)) s) (sym same) (of_record a at)
+  of_stored action told =
+      let it = shown (stored_action (records h).rollouts) (item_numbered (zip (records h).actions (ledger_of (records h)).tallies) k) action (sym told) in
+      let own = own_pair tally_of k (records h).actions it.0 it.1 in
+      subst (λ s. HasGroup (ledger_of (records h)) s) (sym (it.2 ∙ ap (stored_action (records h).rollouts) own.2)) (of_record own.0 own.1)
 
 pub has_group : (k : ℕ) (action : StoredAction) (l : Ledger) → IsActionOf k action l → HasGroup l action
-has_group k action l w =
-    let of = w.of_list in
-    subst (λ m. HasGroup m action) (sym of.is)
-    (of_stored of.list of.valid k action
-    (subst (λ (m : Ledger). Some action ≡ option_map (stored_action m.records.rollouts) (item_numbered (zip m.records.actions m.tallies) k)) of.is
-    w.is_there))
+has_group k action l w = grind (arith, of_stored, option_map)
 
 -- ---- what was read of it
 
@@ -110,5 +101,4 @@ module _ (l : Ledger) (action : StoredAction) (w : HasGroup l action) where
     rule_is_there = ap (λ (x : GroupRecord). rule_numbered l.rules action.rollout x.number) (sym same_own) ∙ w.is_said
 
     pub never_beyond : EndsBeyond (Some own) → ⊥
-    never_beyond beyond = let last : w.own.bounds.last ≡ own.bounds.last = ap (λ (x : GroupRecord). x.bounds.last) same_own in
-        omega (arith, last, beyond, w.ends)
+    never_beyond beyond = grind (arith, same_own)

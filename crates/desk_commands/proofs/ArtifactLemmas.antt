@@ -1,10 +1,10 @@
 -- What the reads of an artifact's addition say, and what its writes come to.
-use Rattle.desk_commands.proofs.Common.{◌≡◌, ◌≤◌, ℕ, suc, ◌+◌, ◌-◌, ◌*◌, min, nat_eq, Bool, true, false, not, cond, List, [], ◌∷◌, ◌++◌, length, filter, take}
+use Rattle.desk_commands.proofs.Common.{◌≡◌, ◌≤◌, ℕ, suc, ◌+◌, ◌-◌, ◌*◌, min, nat_eq, not, List, [], ◌∷◌, ◌++◌, length, filter, take}
 use Rattle.desk_commands.proofs.Common.{drop, Some, refl, sym, ap, ◌∙◌, arith, subst, append_assoc, append-nil, slice_get, pointwise, length-append}
 use Rattle.desk_commands.proofs.Common.{length-take, length-drop, take-append-drop, command_reply, added_artifact, item_numbered, same_bytes, Bytes, Upload}
 use Rattle.desk_commands.proofs.Common.{AddArtifact, ArtifactRecord, Records, artifact_from, step_records, ArtifactAdded, wrong_digest, reply_of, Artifact}
 use Rattle.desk_commands.proofs.Common.{AddsArtifact, AddsContents, same_pointwise}
-use Rattle.desk_records.specs.Artifacts.{artifact_filed, with_artifact, and_piece, AddsPiece}
+use Rattle.desk_records.specs.Artifacts.{with_artifact, and_piece, AddsPiece}
 use Rattle.rollout_machine.specs.Digests.{digest_of}
 use Rattle.rollout_machine.specs.Objects.{artifact_shown, artifacts_shown}
 use Rattle.rollout_model.specs.Limits.{piece_length}
@@ -15,16 +15,11 @@ use Rattle.campaign_core.specs.declared.checks.artifacts.NewArtifact.{NewArtifac
 
 -- ---- the view
 
-one_more : {X Y : Type 0} (b : Bool) (x : X) (xs : List X) (y : Y) (ys : List Y) → length xs ≡ length ys → length (cond b (x ∷ xs) xs)
-    ≡ length (cond b (y ∷ ys) ys)
-one_more true x xs y ys h = ap suc h
-one_more false x xs y ys h = h
-
 -- as many artifacts of a module are shown as there are
 pub shown_count : (m k : ℕ) (artifacts : List ArtifactRecord) → length (artifacts_shown m k artifacts)
     ≡ length (filter (λ (a : ArtifactRecord). nat_eq a.module_number m) artifacts)
 shown_count m k [] = refl
-shown_count m k (a ∷ artifacts) = one_more (nat_eq a.module_number m) _ _ _ _ (shown_count m (suc k) artifacts)
+shown_count m k (a ∷ artifacts) = grind (arith, shown_count m (suc k) artifacts)
 
 pub is_another : (u : Upload) (named digest : Bytes) → u.expected ≡ Some named → digest ≡ digest_of u.contents → not (pointwise nat_eq named digest)
     ≡ wrong_digest u
@@ -37,10 +32,7 @@ with_artifacts r artifacts = record r { artifacts = artifacts }
 
 pub adds_no_bytes : (number before : ℕ) (bytes : Bytes) → length bytes ≡ 0 → (r next : Records) → AddsContents number before bytes r next → next ≡ r
 unfolding with_artifacts
-adds_no_bytes number before [] none r next h =
-    let same : h.others ++ and_piece h.artifact [] ∷ [] ≡ r.artifacts = ap (λ (c : Bytes). h.others ++ (record h.artifact { contents = c }) ∷ [])
-    (append-nil h.artifact.contents) ∙ sym h.last in
-    h.next_is ∙ ap (with_artifacts r) same
+adds_no_bytes number before [] none r next h = grind (arith, append-nil, with_artifacts)
 adds_no_bytes number before (b ∷ bytes) none r next h = absurd (omega (arith, none))
 
 pub adds_first_piece : (number before n : ℕ) (bytes : Bytes) → 1 ≤ length bytes → n ≡ min 65536 (length bytes) → (r next : Records)
@@ -82,19 +74,7 @@ adds_first_piece number before n bytes some is r next h =
 pub adds_parts : (m : ℕ) (artifact : Artifact) (contents : Bytes) (r next : Records) → AddsArtifact m artifact contents r next
     → (mid : Records) × ((artifact.number ≡ length r.artifacts + 1) × (mid ≡ with_artifact r m artifact.filename artifact.size artifact.digest))
     × AddsContents artifact.number 0 contents mid next
-adds_parts m artifact contents r next h = (
-  with_artifact r m artifact.filename artifact.size artifact.digest,
-  (h.0, refl),
-  record {
-    others = r.artifacts;
-    artifact = artifact_filed m artifact.filename artifact.size artifact.digest;
-    last = refl;
-    number_is = h.0;
-    so_far =
-        λ some. refl;
-    next_is = h.1;
-  },
-)
+adds_parts m artifact contents r next h = grind arith
 
 abbrev pub uploaded : Upload → NewArtifact → Artifact
 uploaded u added = record { number = added.number; filename = u.filename; size = added.size; digest = added.digest }
@@ -103,8 +83,7 @@ uploaded u added = record { number = added.number; filename = u.filename; size =
 pub is_of_upload : (r : Records) (u : Upload) (view : ArtifactView) (added : NewArtifact) → IsArtifactView view u r
     → added ≡ record { number = view.count + 1; size = view.size; digest = view.digest }
     → uploaded u added ≡ artifact_shown (length r.artifacts + 1) (artifact_from u)
-is_of_upload r u view added is new =
-    ap (uploaded u) new ∙ (λ i. record { number = is.count i + 1; filename = u.filename; size = is.size i; digest = is.digest i })
+is_of_upload r u view added is new = grind arith
 
 pub artifact_is_step : (u : Upload) (artifact : Artifact) (r : Records) → artifact ≡ artifact_shown (length r.artifacts + 1) (artifact_from u)
     → AddsArtifact u.module_number artifact u.contents r (step_records r (AddArtifact u))

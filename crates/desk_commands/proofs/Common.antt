@@ -6,8 +6,8 @@ pub use Rattle.std.proofs.Common.{◌≤◌, ◌⊎◌}
 pub use Rattle.std.proofs.Math.Bool.{and-false, and_assoc, and_comm, or-false, or-true, or_assoc, or_comm}
 pub use Rattle.std.proofs.lemmas.Bool.{and_parts, cases_Bool, eq-eqb, eqb-true, false≢true, ltb-true, not-true, or_parts, or_right}
 pub use Rattle.std.proofs.lemmas.Bool.Decides.{nat_tests}
-pub use Rattle.std.proofs.lemmas.List.{length-append, length-drop, length-map, length-set, length-take, length-take-le, map-append, take-append-drop}
-pub use Rattle.std.proofs.lemmas.List.{take_all, take_more}
+pub use Rattle.std.proofs.lemmas.List.{length-append, length-drop, length-map, length-set, length-take, length-take-le, map-append, take-append-drop, take_all}
+pub use Rattle.std.proofs.lemmas.List.{take_more}
 pub use Rattle.std.specs.Cmp.Lexicographic.{pointwise}
 pub use Rattle.std.specs.List.{find, last_or, list_all, list_any, zip}
 pub use Rattle.std.specs.Option.{IsSomeAnd, is_none, ok_or, option_map, unwrap_or}
@@ -33,8 +33,8 @@ pub use Rattle.rollout_machine.specs.ByteStrings.{bytes_below, contains_word, it
 pub use Rattle.rollout_machine.specs.CommandList.{CommandList, ◌▸◌}
 pub use Rattle.rollout_machine.specs.CommandRules.{IsWellFormed}
 pub use Rattle.rollout_machine.specs.Commands.{AddArtifact, AddModule, AddSet, Approve, Attribute, Bytes, Cancel, CancelFeedback, Command, CreateRollout}
-pub use Rattle.rollout_machine.specs.Commands.{Credential, Deny, Feedback, ModuleLabel, Pause, PutAttributes, PutTargets, Resume, RolloutPlan, SetLabel}
-pub use Rattle.rollout_machine.specs.Commands.{Start, Tag, TargetRow, TriggerNext, Untag, Upload}
+pub use Rattle.rollout_machine.specs.Commands.{Credential, Deny, Feedback, ModuleLabel, Pause, PutAttributes, PutTargets, Resume, RolloutPlan, SetLabel, Start}
+pub use Rattle.rollout_machine.specs.Commands.{Tag, TargetRow, TriggerNext, Untag, Upload}
 pub use Rattle.rollout_machine.specs.Counts.{is_outcome}
 pub use Rattle.rollout_machine.specs.GroupRules.{GroupRule, rule_at, rules_of}
 pub use Rattle.rollout_machine.specs.Offers.{Offer, first_offer, offer}
@@ -124,8 +124,7 @@ pub use Rattle.desk_commands.specs.Failures.{IsLastOf, IsSeenFrom, IsSeenIn, Lea
 pub use Rattle.desk_commands.specs.GroupStarts.{StartsAndOffers, started, with_group}
 pub use Rattle.desk_commands.specs.GroupViews.{EndsBeyond, view_by}
 pub use Rattle.desk_commands.specs.Imports.{AddsTags, CountsTargets, DropsTags, HasCounted, IsTooMany, PutsAll, PutsOver, PutsRow, PutsRows, Renames, Retags}
-pub use Rattle.desk_commands.specs.Imports.{ids_after, lacking, retagged, row_ids, tagged_with, untagged_from, with_row, without_words}
-pub use Rattle.desk_commands.specs.LedgerEnds.{StartsNoGroup, Waits, starts_of}
+pub use Rattle.desk_commands.specs.Imports.{lacking, retagged, row_ids, tagged_with, untagged_from, with_row, without_words}
 pub use Rattle.desk_commands.specs.Offering.{MayReoffer, Reoffers}
 pub use Rattle.desk_commands.specs.SeenActions.{IsSeen, MaySee, SeesFeedback, SeesIn, SeesTarget, action_seen, action_view_seen, cancel_view_seen}
 pub use Rattle.desk_commands.specs.SeenActions.{device_action_seen, feedback_view_seen, only_of, only_started, own_seen, seen_if}

@@ -1,5 +1,5 @@
 -- A command inside a change, from what was read and what was written.
-use Rattle.desk_commands.proofs.Common.{◌≡◌, true, Some, None, Result, Ok, Err, arith, State, HasCleanDisk, Finds, Makes, Wears, Sees, command_reply}
+use Rattle.desk_commands.proofs.Common.{◌≡◌, true, Some, None, Result, Ok, arith, State, HasCleanDisk, Finds, Makes, Wears, Sees, command_reply}
 use Rattle.desk_commands.proofs.Common.{CommandList, Command, Records, records, step_records, IsValid, check, reply_of, Refusal, HoldsLedger, ledger_of}
 use Rattle.desk_commands.proofs.Common.{are_sorted}
 use Rattle.rollout_model.specs.declared.request.Reply.{Reply}
@@ -23,15 +23,7 @@ module _ {command : Command} {F : Type 0} where
         → Makes HoldsLedger ledger_of {A = Unit {0}} {E = G} b c (Ok tt) W → (reply : Reply)
         → ((h : CommandList) → IsValid h → P (records h) x → (check (records h) command ≡ None)
         × (reply_of reply ≡ command_reply command (step_records (records h) command))) → Steps {E = F} a c command (Ok (step.Accepted reply))
-    accepted_at writes write reply means = record {
-      wears = omega (arith, read.wears, write.wears);
-      steps = λ h valid was.
-          let r = records h in
-          let it = read.finds r was in (
-            write.makes r (step_records r command) it.0 (λ clean. writes h valid (it.1 (omega (arith, clean, write.wears)))),
-            λ clean. means h valid (it.1 (omega (arith, clean, write.wears))),
-          );
-    }
+    accepted_at writes write reply means = grind arith
 
     pub accepted : ((r : Records) → P r x → W r (step_records r command)) → Makes HoldsLedger ledger_of {A = Unit {0}} {E = G} b c (Ok tt) W → (reply : Reply)
         → ((r : Records) → P r x → (check r command ≡ None) × (reply_of reply ≡ command_reply command (step_records r command)))
@@ -49,6 +41,4 @@ sorted_now a b clean wears now was = (was.sees (omega (arith, clean, wears))).no
 -- a write may take it that the order is kept
 pub in_order : {A E : Type 0} {a b : State} (W : Records → Records → Type 0) (out : Result A E) → Makes HoldsLedger ledger_of a b out (InOrder W)
     → Makes HoldsLedger ledger_of a b out W
-in_order {a = a} {b = b} W (Ok x) h =
-    record { wears = h.wears; makes = λ now next was change. h.makes now next was (λ clean. (sorted_now a b clean h.wears now was, change clean)) }
-in_order W (Err e) h = record { wears = h.wears; makes = tt }
+in_order h0 out h = grind (arith, sorted_now)

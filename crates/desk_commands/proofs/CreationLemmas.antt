@@ -1,20 +1,20 @@
 -- The creation of a rollout, from what is read to what is written.
-use Rattle.desk_commands.proofs.Common.{◌≡◌, ◌≤◌, ◌<◌, ℕ, zero, suc, ◌+◌, Bool, true, false, not, cond, nat_eq, List, [], ◌∷◌, ◌++◌, map, filter, get_or, take}
+use Rattle.desk_commands.proofs.Common.{◌≡◌, ◌≤◌, ◌<◌, ℕ, zero, suc, ◌+◌, Bool, true, false, not, cond, nat_eq, List, [], ◌∷◌, ◌++◌, map, get_or, take}
 use Rattle.desk_commands.proofs.Common.{drop, length, set, slice_get, Some, None, is_none, refl, sym, ap, subst, ◌∙◌, arith, list_all, IsSomeAnd, and_parts}
-use Rattle.desk_commands.proofs.Common.{nat_tests, length-append, length-map, length-take-le, map-append, take_all, added_rollout, command_reply, item_numbered}
-use Rattle.desk_commands.proofs.Common.{CommandList, Bytes, CreateRollout, RolloutPlan, GroupRule, rule_at, rules_of, first_offer, RolloutAdded, Records}
-use Rattle.desk_commands.proofs.Common.{action_in, rollouts_in, new_group, new_rollout, step_records, bounds_at, chosen, rollouts, RolloutWord, is_finished}
-use Rattle.desk_commands.proofs.Common.{rollout_word, Target, IsValid, check, reply_of, Bounds, ActionRecord, RolloutRecord, each_from_more, length_each}
+use Rattle.desk_commands.proofs.Common.{nat_tests, length-append, length-map, length-take-le, map-append, take_all, command_reply, item_numbered}
+use Rattle.desk_commands.proofs.Common.{CommandList, Bytes, CreateRollout, RolloutPlan, GroupRule, rule_at, rules_of, first_offer, Records}
+use Rattle.desk_commands.proofs.Common.{action_in, rollouts_in, new_group, new_rollout, step_records, bounds_at, chosen, rollouts, RolloutWord}
+use Rattle.desk_commands.proofs.Common.{Target, IsValid, check, reply_of, Bounds, ActionRecord, RolloutRecord, each_from_more, length_each}
 use Rattle.desk_commands.proofs.Common.{numbered_each, Tree, filter_of, IsPlanView, approval_at, plan_refusal, Ledger, ledger_of, AddsGroup, AddsMember}
 use Rattle.desk_commands.proofs.Common.{AddsRollout, AddsRule, cut_group, set_numbered, with_rollouts, with_rules, listed_target, are_sorted, same_ledger}
 use Rattle.desk_commands.proofs.Common.{target_listed, CreatesRollout, IsChosen, IsWordOf, and_rollout, first_rules, ids_matching, in_part, shown_new}
 use Rattle.desk_commands.proofs.Common.{invariant_of, not-true}
 use Rattle.rollout_machine.specs.Records.{records}
 use Rattle.std.proofs.lemmas.Option.{slice_get-get_or, slice_get_within}
+use Rattle.std.proofs.lemmas.List.Elements.{filter-append}
 use Rattle.rollout_machine.specs.Actions.{ActionPlace, action_places}
-use Rattle.rollout_machine.specs.Filters.{matches, seen}
+use Rattle.rollout_machine.specs.Filters.{seen}
 use Rattle.rollout_machine.specs.Groupings.{bounds_by, cut_by}
-use Rattle.rollout_machine.specs.Objects.{rollout_shown}
 use Rattle.rollout_machine.specs.Rollouts.{Rollout as MadeRollout}
 use Rattle.rollout_model.specs.declared.request.Reply.TheVariants as reply
 use Rattle.rollout_model.specs.declared.rollout.Rollout.{Rollout}
@@ -31,52 +31,26 @@ use Rattle.desk_commands.proofs.PutLemmas.{one_more}
 -- ---- the members
 
 module _ (r : Records) (f : Tree) (text : Bytes) (t : SeenTarget) (entry : ListedTarget) (is_match : Bool)
-    (computed : IsSomeAnd (filter_of text) (λ tree. is_match ≡ holds tree t)) (tree : filter_of text ≡ Some f) (read : t ≡ target_listed r entry)
-    (ids : List Bytes) where
+    (computed : IsSomeAnd (filter_of text) (λ tree. is_match ≡ holds tree t)) (tree : filter_of text ≡ Some f) (read : t ≡ target_listed r entry) where
   by_tree : is_match ≡ holds f t
   by_tree = rw tree at computed
 
-  pub id_added : is_match ≡ true → ids ++ entry.id ∷ [] ≡ ids ++ ids_matching f (target_listed r entry ∷ [])
-  id_added on = let is : holds f (target_listed r entry) ≡ true = ap (holds f) (sym read) ∙ sym by_tree ∙ on in rw is refl
+  -- its id is added where it matches
+  pub id_matched : ids_matching f (target_listed r entry ∷ []) ≡ cond is_match (entry.id ∷ []) []
+  id_matched = let is : holds f (target_listed r entry) ≡ is_match = ap (holds f) (sym read) ∙ sym by_tree in grind (arith, is)
 
-  pub id_left : is_match ≡ false → ids ≡ ids ++ ids_matching f (target_listed r entry ∷ [])
-  id_left off = let is : holds f (target_listed r entry) ≡ false = ap (holds f) (sym read) ∙ sym by_tree ∙ off in rw is (sym (nothing ids))
-    where
-      nothing : (l : List Bytes) → l ++ [] ≡ l
-      nothing [] = refl
-      nothing (x ∷ l) = ap (λ l. x ∷ l) (nothing l)
-
-pub ids_grow : (f : Tree) (ts : List SeenTarget) (t : SeenTarget) → ids_matching f ts ++ ids_matching f (t ∷ []) ≡ ids_matching f (ts ++ t ∷ [])
-ids_grow f [] t = refl
-ids_grow f (x ∷ ts) t = go (holds f x) (ids_grow f ts t)
-  where
-    go : (b : Bool) → ids_matching f ts ++ ids_matching f (t ∷ []) ≡ ids_matching f (ts ++ t ∷ [])
-        → map (λ (t : SeenTarget). t.id) (cond b (x ∷ filter (holds f) ts) (filter (holds f) ts)) ++ ids_matching f (t ∷ [])
-        ≡ map (λ (t : SeenTarget). t.id) (cond b (x ∷ filter (holds f) (ts ++ t ∷ [])) (filter (holds f) (ts ++ t ∷ [])))
-    go true rest = ap (λ l. x.id ∷ l) rest
-    go false rest = rest
+ids_grow : (f : Tree) (ts us : List SeenTarget) → ids_matching f (ts ++ us) ≡ ids_matching f ts ++ ids_matching f us
+ids_grow f ts us = grind (arith, filter-append, map-append)
 
 -- of one more
 pub one_more_matched : (r : Records) (f : Tree) (entries : List ListedTarget) (entry : ListedTarget) (items more : List Bytes)
     → items ≡ ids_matching f (map (target_listed r) entries) → more ≡ items ++ ids_matching f (target_listed r entry ∷ [])
     → more ≡ ids_matching f (map (target_listed r) (entries ++ entry ∷ []))
-one_more_matched r f entries entry items more is one =
-    one ∙ ap (λ l. l ++ ids_matching f (target_listed r entry ∷ [])) is ∙ ids_grow f (map (target_listed r) entries) (target_listed r entry)
-    ∙ ap (ids_matching f) (sym (mapped entries))
-  where
-    mapped : (es : List ListedTarget) → map (target_listed r) (es ++ entry ∷ []) ≡ map (target_listed r) es ++ target_listed r entry ∷ []
-    mapped [] = refl
-    mapped (e ∷ es) = ap (λ l. target_listed r e ∷ l) (mapped es)
+one_more_matched r f entries entry items more is one = grind (arith, map-append, ids_grow)
 
 ids_seen : (f : Tree) (ts : List Target) → ids_matching f (map seen ts) ≡ chosen (Some f) ts
 ids_seen f [] = refl
-ids_seen f (t ∷ ts) = go (matches f t) (ids_seen f ts)
-  where
-    go : (b : Bool) → ids_matching f (map seen ts) ≡ chosen (Some f) ts
-        → map (λ (t : SeenTarget). t.id) (cond b (seen t ∷ filter (holds f) (map seen ts)) (filter (holds f) (map seen ts)))
-        ≡ map (λ (t : Target). t.id) (cond b (t ∷ filter (matches f) ts) (filter (matches f) ts))
-    go true rest = ap (λ l. t.id ∷ l) rest
-    go false rest = rest
+ids_seen f (t ∷ ts) = grind (arith, ids_seen f ts)
 
 -- all targets were listed
 pub all_chosen : (r : Records) → are_sorted r.targets ≡ true → (f : Tree) (count : ℕ) (entries : List ListedTarget) → count ≡ length r.targets → entries
@@ -183,16 +157,14 @@ behind xs x zero apart = refl
 behind [] x (suc zero) apart = absurd cc
 behind [] x (suc (suc n)) apart = refl
 behind (y ∷ xs) x (suc zero) apart = refl
-behind (y ∷ xs) x (suc (suc n)) apart = behind xs x (suc n) (let it : nat_eq (suc n) (length xs + 1) ≡ false = grind (arith, nat_tests, apart) in it)
+behind (y ∷ xs) x (suc (suc n)) apart = behind xs x (suc n) (grind (arith, nat_tests, apart))
 
 -- so each target keeps its offer
 same_offers : (r : Records) (x : RolloutRecord) (t : Bytes) (k : ℕ) (as' : List ActionRecord)
     → list_all (λ (a : ActionRecord). not (nat_eq a.rollout (length r.rollouts + 1))) as' ≡ true
     → first_offer (record r { rollouts = r.rollouts ++ x ∷ [] }) t k as' ≡ first_offer r t k as'
 same_offers r x t k [] none = refl
-same_offers r x t k (a ∷ more) none =
-    let parts = and_parts (not (nat_eq a.rollout (length r.rollouts + 1))) _ none in
-    rw (behind r.rollouts x a.rollout (not-true _ parts.0), same_offers r x t (suc k) more parts.1) refl
+same_offers r x t k (a ∷ more) none = grind (arith, same_offers r x t (suc k) more, and_parts, behind, not-true)
 
 at_lists : (h : CommandList) (n : ℕ) (ps : List ActionPlace) → ((i : ℕ) (p : ActionPlace) → slice_get ps i ≡ Some p → nat_eq p.rollout n ≡ false)
     → list_all (λ (a : ActionRecord). not (nat_eq a.rollout n)) (map (action_in h) ps) ≡ true
@@ -200,8 +172,7 @@ at_lists h n [] none = refl
 at_lists h n (p ∷ ps) none = rw (none 0 p refl) (at_lists h n ps (λ i q at. none (suc i) q at))
 
 below : {X : Type 0} (xs : List X) (n : ℕ) (x : X) → item_numbered xs n ≡ Some x → n ≤ length xs
-below xs zero x at = omega arith
-below xs (suc k) x at = let less = slice_get_within xs k x at in omega (arith, less)
+below xs n x at = grind (arith, slice_get_within)
 
 as_many : (h : CommandList) (a : ℕ) (xs : List MadeRollout) → length (rollouts_in h a xs) ≡ length xs
 as_many h a [] = refl
@@ -230,9 +201,7 @@ made plan r = new_rollout r.approval (suc (length r.rollouts)) plan (chosen (fil
 
 module _ (plan : RolloutPlan) (n : NewRollout) (members : List Bytes) where
   same_rollout : (r : Records) → IsReady plan n members r → made plan r ≡ in_part n plan (length members) plan.groups.count members
-  same_rollout r is =
-      let next : suc (length r.rollouts) ≡ n.number = omega (arith, is.number_is) in
-      λ i. in_part (record { number = next i; approval = sym is.approval_is i }) plan (length (sym is.members_are i)) plan.groups.count (sym is.members_are i)
+  same_rollout r is = grind arith
 
   -- the ledger of the records after it is the one that is written
   pub creates : (h : CommandList) → IsValid h → IsReady plan n members (records h)
@@ -252,33 +221,10 @@ module _ (plan : RolloutPlan) (n : NewRollout) (members : List Bytes) where
   pub shown_added : (r : Records) → IsReady plan n members r → (count : ℕ) → count ≡ length members → (shown : Rollout) → (word : RolloutWord)
       × IsWordOf n.approval word × (shown ≡ shown_new plan n.number word count)
       → reply_of (reply.RolloutAdded shown) ≡ command_reply (CreateRollout plan) (step_records r (CreateRollout plan))
-  shown_added r is count size shown it =
-      let x = made plan r in
-      let number : n.number ≡ suc (length r.rollouts) = omega (arith, is.number_is) in
-      let word : it.0 ≡ rollout_word x = subst (λ a. IsWordOf a it.0) is.approval_is it.1 (is_finished x) false in
-      let targets : count ≡ length x.members = size ∙ ap length is.members_are in
-      let same : shown ≡ rollout_shown x = it.2
-      ∙ (λ i. record {
-        number = number i;
-        name = plan.name;
-        set_number = plan.set_number;
-        filter_text = plan.filter_text;
-        word = word i;
-        groups =
-            plan.groups.count;
-        targets = targets i;
-      }) in
-      ap RolloutAdded same ∙ sym (ap added_rollout (numbered_last r.rollouts x (length (r.rollouts ++ x ∷ [])) (length-append r.rollouts (x ∷ []))))
+  shown_added r is count size shown it = grind (arith, numbered_last, length-append)
 
 -- the view is of the plan, and the verdict lets it pass
 pub ready : (plan : RolloutPlan) (n : NewRollout) (found : Chosen) (view : PlanView) (r : Records) → IsChosen plan.filter_text r found
     → (IsChosen plan.filter_text r found → IsPlanView view plan r) → plan_refusal view plan.groups ≡ None
     → n ≡ record { number = view.count + 1; approval = approval_at view.approval } → IsReady plan n found.members.items r
-ready plan n found view r chosen sees passes is =
-    let seen_as = sees chosen in
-    record {
-      accepted = judged r plan view seen_as ∙ passes;
-      number_is = ap (λ (m : NewRollout). m.number) is ∙ ap (λ k. k + 1) seen_as.count;
-      approval_is = ap (λ (m : NewRollout). m.approval) is ∙ ap approval_at seen_as.approval;
-      members_are = chosen.members;
-    }
+ready plan n found view r chosen sees passes is = grind (arith, judged)

@@ -1,5 +1,5 @@
 -- When a command tells broken rows, by what was read before.
-use Rattle.desk_commands.proofs.Common.{◌≡◌, Option, Some, Ok, Err, Result, sym, ap, ◌∙◌, subst, arith, IsErrAnd, ok_or, Sees, Wears, CommandList, IsValid}
+use Rattle.desk_commands.proofs.Common.{◌≡◌, Option, Some, Ok, Err, Result, ap, ◌∙◌, arith, IsErrAnd, ok_or, Sees, Wears, CommandList, IsValid}
 use Rattle.desk_commands.proofs.Common.{Records, records, HoldsLedger, Ledger, ledger_of, seen_in, Fault, Ghosts, FailsGiven, HasReason, ReadableAs}
 use Rattle.desk_commands.proofs.Common.{IsReadable, OpenChange, IsOfList, CountsIf, FailsWriting}
 use Rattle.desk_commands.specs.Failures.{FailsWritingIn}
@@ -20,20 +20,17 @@ module _ {S B : Type 0} {g : Ghosts S} {Given : Ledger → Type 0} {old new : Op
   -- .. where it reads
   pub reads_end : {fault : Fault} → Exits g Given (seen_in g old) new fault → (out : Result B Fault) → IsErrAnd out (λ e. e ≡ fault)
       → FailsGiven g Given old new out
-  reads_end exits (Ok y) is = absurd is
-  reads_end exits (Err e) is = record { to = λ l sees given. subst (HasReason g new ⊥) (sym is) (exits l sees given) }
+  reads_end exits out is = grind arith
 
   -- .. and where it writes
   pub writes_end : {fault : Fault} → Exits g Given (seen_in g old) new fault → (out : Result B Fault) → IsErrAnd out (λ e. e ≡ fault)
       → FailsWriting g Given old new out
-  writes_end exits (Ok y) is = absurd is
-  writes_end exits (Err e) is = record { to = λ l sees given. subst (HasReason g new ⊥) (sym is) (exits l sees given) }
+  writes_end exits out is = grind arith
 
   -- a step asks less than what is known before it
   pub writes_as : {Asked : Ledger → Type 0} → ((l : Ledger) → Given l → Asked l) → (out : Result B Fault) → FailsWriting g Asked old new out
       → FailsWriting g Given old new out
-  writes_as means (Ok y) w = record { to = tt }
-  writes_as means (Err fault) w = record { to = λ l sees it. w.to l sees (record { readable = it.readable; given = means l it.given }) }
+  writes_as means out w = grind arith
 
 -- ---- behind a write
 
@@ -41,8 +38,7 @@ module _ {S B : Type 0} {g : Ghosts S} {Given : Ledger → Type 0} {old new : Op
 pub writes_behind : {S B : Type 0} {g : Ghosts S} {Given : Ledger → Type 0} {old mid new : OpenChange S}
     → ((l : Ledger) → Sees HoldsLedger (seen_in g old) l → ReadableAs Given l → (next : Ledger) × IsReadable next × Sees HoldsLedger (seen_in g mid) next)
     → (out : Result B Fault) → FailsWritingIn g mid new out → FailsWriting g Given old new out
-writes_behind means (Ok y) w = record { to = tt }
-writes_behind means (Err fault) w = record { to = λ l sees given. let it = means l sees given in w.to it.0 it.2 it.1 }
+writes_behind means out w = grind arith
 
 -- ---- by what is given
 
@@ -58,55 +54,34 @@ module _ {S A : Type 0} {g : Ghosts S} {Given : Ledger → Type 0} {was : State}
       → Exits g Given was new fault
   never read why = λ l sees it. record { reason = λ is clean. absurd (why l ((read.finds l sees).1 clean) it.given) }
 
-  -- .. of the records of a list
-  pub never_at : ((l : Ledger) → Given l → IsOfList l) → {P : Records → A → Type 0} → Finds HoldsLedger ledger_of {E = Fault} was (seen_in g new) (Ok x) P
-      → ((h : CommandList) → IsValid h → P (records h) x → Given (ledger_of (records h)) → ⊥) → Exits g Given was new fault
-  never_at listed read why = λ l sees it.
-      let of = listed l it.given in
-      let found = read.finds (records of.list) (subst (Sees HoldsLedger was) of.is sees) in
-      record { reason = λ is clean. absurd (why of.list of.valid (found.1 clean) (subst Given of.is it.given)) }
-
   module _ {seen : State} where
     -- a call asks for it
     pub asked : {P : Ledger → A → Type 0} → Finds HoldsLedger (λ (l : Ledger). l) {E = Fault} was seen (Ok x) P → Wears seen (seen_in g new)
         → {Asked : Ledger → Type 0} → ((l : Ledger) → P l x → Given l → Asked l) → Exits g Asked seen new fault → Exits g Given was new fault
-    asked read wears means exits = λ l sees it.
-        let found = read.finds l sees in
-        record {
-          reason = λ is clean.
-              (exits l found.0 (record { readable = it.readable; given = means l (found.1 (omega (arith, clean, wears))) it.given })).reason is clean;
-        }
+    asked read wears means exits = grind arith
 
     pub asked_at : ((l : Ledger) → Given l → IsOfList l) → {P : Records → A → Type 0} → Finds HoldsLedger ledger_of {E = Fault} was seen (Ok x) P
         → (Asked : Ledger → Type 0) → Wears seen (seen_in g new)
         → ((h : CommandList) → IsValid h → P (records h) x → Given (ledger_of (records h)) → Asked (ledger_of (records h))) → Exits g Asked seen new fault
         → Exits g Given was new fault
-    asked_at listed read Asked wears means exits = λ l sees it.
-        let of = listed l it.given in
-        let found = read.finds (records of.list) (subst (Sees HoldsLedger was) of.is sees) in
-        record {
-          reason = λ is clean.
-              (exits l (subst (Sees HoldsLedger seen) (sym of.is) found.0)
-              (record {
-                readable = it.readable;
-                given = subst Asked (sym of.is) (means of.list of.valid (found.1 (omega (arith, clean, wears))) (subst Given of.is it.given));
-              })).reason is
-              clean;
-        }
+    asked_at listed read h2 wears means exits = grind arith
+
+  -- .. of the records of a list
+  pub never_at : ((l : Ledger) → Given l → IsOfList l) → {P : Records → A → Type 0} → Finds HoldsLedger ledger_of {E = Fault} was (seen_in g new) (Ok x) P
+      → ((h : CommandList) → IsValid h → P (records h) x → Given (ledger_of (records h)) → ⊥) → Exits g Given was new fault
+  never_at listed read why = asked_at listed read (λ l. ⊥) (omega arith) why (never_given (λ l none. none))
 
 -- ---- writes that ask for no ledger
 
 -- where the broken rows are the function's own
 pub counts_never : {S B : Type 0} {g : Ghosts S} {If : Type 0} {old new : OpenChange S} → (If → ⊥) → (fault : Fault) (out : Result B Fault)
     → IsErrAnd out (λ e. e ≡ fault) → CountsIf g If old new out
-counts_never why fault (Ok y) is = absurd is
-counts_never why fault (Err e) is = record { to = λ so. absurd (why so) }
+counts_never why fault out is = grind arith
 
 -- where they are those of a call
 pub writes_last : {S B : Type 0} {g : Ghosts S} {Given : Ledger → Type 0} {If : Type 0} {old mid new : OpenChange S} → ((l : Ledger) → Given l → If)
     → (out : Result B Fault) → CountsIf g If mid new out → FailsWriting g Given old new out
-writes_last means (Ok y) w = record { to = tt }
-writes_last means (Err fault) w = record { to = λ l sees it. w.to (means l it.given) }
+writes_last means out w = grind arith
 
 pub counted : {S A : Type 0} {g : Ghosts S} {If : Type 0} {old new : OpenChange S} {fault : Fault} → CountsIf g If {A = A} old new (Err fault) → {was : State}
     → Exits g (λ l. If) was new fault

@@ -1,37 +1,32 @@
 -- The groups of a rollout stand at their numbers.
-use Rattle.desk_commands.proofs.Common.{◌≡◌, ℕ, zero, suc, ◌+◌, Bool, true, cond, List, [], ◌∷◌, map, set, Some, refl, sym, ap, ◌∙◌, arith, nat_eq, inl, inr}
-use Rattle.desk_commands.proofs.Common.{slice_get, find, cases_Bool, eq-eqb, eqb-true, item_numbered, CommandList, records, group_holding, GroupRecord}
-use Rattle.desk_commands.proofs.Common.{RolloutRecord, set_numbered, numbered_from}
+use Rattle.desk_commands.proofs.Common.{◌≡◌, ℕ, suc, ◌+◌, Bool, true, false, cond, ◌||◌, List, [], ◌∷◌, map, Some, refl, sym, ap, ◌∙◌, arith, nat_eq}
+use Rattle.desk_commands.proofs.Common.{slice_get, eq-eqb, eqb-true, nat_tests, or-false, or-true, item_numbered, CommandList, records, group_holding}
+use Rattle.desk_commands.proofs.Common.{GroupRecord, RolloutRecord, set_numbered, numbered_from, of_group, of_rollout, start_group, started, None}
+use Rattle.std.proofs.lemmas.List.Folds.{find_at}
+use Rattle.std.proofs.lemmas.Bool.{cases_eq}
+use Rattle.std.proofs.lemmas.Option.{same_Some}
+use Rattle.std.specs.List.{position_or_len}
+use Rattle.rollout_machine.proofs.Actions.{map_same}
+use Rattle.rollout_machine.specs.Groups.{holds_position}
 use Rattle.campaign_core.proofs.ItemLemmas.{picked}
-use Rattle.desk_commands.proofs.ItemSteps.{set_is_change}
-use Rattle.desk_commands.proofs.LedgerEnds.{groups_stand}
+use Rattle.desk_commands.proofs.ItemSteps.{set_elsewhere, set_is_change, set_is_there}
 
 -- each group has the number of its place
 abbrev pub Numbered : List GroupRecord → Type 0
 Numbered gs = (j : ℕ) (g : GroupRecord) → item_numbered gs j ≡ Some g → g.number ≡ j
 
--- ---- found
-
-passes : {X : Type 0} (p : X → Bool) (xs : List X) (x : X) → find p xs ≡ Some x → p x ≡ true
-passes p [] x is = cc
-passes p (y ∷ ys) x is = elim (cases_Bool (p y)) [
-  | inl hit ↦ (let same : y ≡ x = first hit in ap p (sym same) ∙ hit)
-  | inr miss ↦ passes p ys x (rw miss at is)
-]
-  where
-    first : p y ≡ true → y ≡ x
-    first hit = let it : Some y ≡ Some x = rw hit at is in cc
-
-stands_in : {X : Type 0} (p : X → Bool) (xs : List X) (x : X) → find p xs ≡ Some x → (j : ℕ) × (slice_get xs j ≡ Some x)
-stands_in p [] x is = cc
-stands_in p (y ∷ ys) x is = elim (cases_Bool (p y)) [
-  | inl hit ↦ (0, (let it : Some y ≡ Some x = rw hit at is in it))
-  | inr miss ↦ (let it = stands_in p ys x (rw miss at is) in (suc it.0, it.1))
-]
+-- so it is of a list of accepted commands
+pub numbered_groups : (h : CommandList) (r : ℕ) (x : RolloutRecord) → item_numbered (records h).rollouts r ≡ Some x → Numbered x.groups
+numbered_groups h r x at j g its =
+    let of = of_rollout h r x at in
+    ap (λ (z : GroupRecord). z.number) (of_group h r of.rollout j g (ap (λ (z : RolloutRecord). item_numbered z.groups j) (sym of.is) ∙ its)).is
 
 -- the one that holds a place stands at its number
 pub held_stands : (gs : List GroupRecord) → Numbered gs → (p : ℕ) (g : GroupRecord) → group_holding p gs ≡ Some g → item_numbered gs g.number ≡ Some g
-held_stands gs numbered p g is = let it = stands_in _ gs g is in ap (item_numbered gs) (numbered (suc it.0) g it.1) ∙ it.1
+held_stands gs numbered p g is =
+    let holds = λ (x : GroupRecord). holds_position p x.bounds in
+    let at : slice_get gs (position_or_len holds gs) ≡ Some g = sym (find_at holds gs) ∙ is in
+    ap (item_numbered gs) (numbered (suc (position_or_len holds gs)) g at) ∙ at
 
 -- ---- renumbered
 
@@ -46,28 +41,35 @@ same_groups gs numbered = renumbered 1 gs (λ j g at. let it = numbered (suc j) 
 
 -- ---- one of them changes
 
-pub map_at : (f : GroupRecord → GroupRecord) (k : ℕ) (gs : List GroupRecord) (g : GroupRecord) → Numbered gs → item_numbered gs k ≡ Some g
-    → map (λ (x : GroupRecord). cond (nat_eq x.number k) (f x) x) gs ≡ set_numbered gs k (f g)
-map_at f k gs g numbered at =
-    picked (λ (x : GroupRecord). nat_eq x.number k) f k gs (record {
+-- what leaves the groups of all other numbers
+pub only_at : (f : GroupRecord → GroupRecord) (k : ℕ) (gs : List GroupRecord) (g : GroupRecord) → Numbered gs → item_numbered gs k ≡ Some g
+    → ((x : GroupRecord) → nat_eq x.number k ≡ false → f x ≡ x) → map f gs ≡ set_numbered gs k (f g)
+only_at f k gs g numbered at still =
+    map_same f (λ (x : GroupRecord). cond (nat_eq x.number k) (f x) x) (λ x. go x (nat_eq x.number k) refl) gs
+    ∙ picked (λ (x : GroupRecord). nat_eq x.number k) f k gs (record {
       only = λ j x its same. sym (numbered j x its) ∙ eqb-true x.number k same;
       here = λ x its. eq-eqb x.number k (numbered k x its);
     }) ∙ set_is_change f k gs g at
-
-pub set_numbered_still : (gs : List GroupRecord) (k : ℕ) (g : GroupRecord) → Numbered gs → g.number ≡ k → Numbered (set_numbered gs k g)
-set_numbered_still gs zero g numbered same j x at = numbered j x at
-set_numbered_still gs (suc k) g numbered same zero x at = cc
-set_numbered_still gs (suc k) g numbered same (suc j) x at = go k gs j (suc k) (suc j) same (numbered (suc j)) (λ e. ap suc e) at
   where
-    go : (k : ℕ) (gs : List GroupRecord) (j m n : ℕ) → g.number ≡ m → ((x : GroupRecord) → slice_get gs j ≡ Some x → x.number ≡ n) → (k ≡ j → m ≡ n)
-        → slice_get (set gs k g) j ≡ Some x → x.number ≡ n
-    go k [] j m n own all to at = cc
-    go zero (y ∷ ys) zero m n own all to at = let same : g ≡ x = cc in ap (λ (z : GroupRecord). z.number) (sym same) ∙ own ∙ to refl
-    go zero (y ∷ ys) (suc j) m n own all to at = all x at
-    go (suc k) (y ∷ ys) zero m n own all to at = all x at
-    go (suc k) (y ∷ ys) (suc j) m n own all to at = go k ys j m n own all (λ e. to (ap suc e)) at
+    go : (x : GroupRecord) (b : Bool) → nat_eq x.number k ≡ b → f x ≡ cond b (f x) x
+    go x true is = refl
+    go x false is = still x is
 
--- ---- of a list of accepted commands
+pub started_one : (n : ℕ) (gs : List GroupRecord) (g : GroupRecord) → Numbered gs → item_numbered gs n ≡ Some g → map (start_group (Some n)) gs
+    ≡ set_numbered gs n (started g)
+started_one n gs g numbered at =
+    let on : (g.started || nat_eq n g.number) ≡ true = ap (λ b. g.started || b) (eq-eqb n g.number (sym (numbered n g at))) ∙ or-true g.started in
+    only_at (start_group (Some n)) n gs g numbered at still ∙ ap (set_numbered gs n) (λ i. record g { started = on i })
+  where
+    still : (x : GroupRecord) → nat_eq x.number n ≡ false → start_group (Some n) x ≡ x
+    still x other =
+        let off : nat_eq n x.number ≡ false = grind (arith, nat_tests, other) in
+        λ i. record x { started = (ap (λ b. x.started || b) off ∙ or-false x.started) i }
 
-pub numbered_groups : (h : CommandList) (r : ℕ) (x : RolloutRecord) → item_numbered (records h).rollouts r ≡ Some x → Numbered x.groups
-numbered_groups h r x its j g at = eqb-true g.number j (passes _ x.groups g (groups_stand h r x its j ∙ at))
+pub starts_none : (gs : List GroupRecord) → map (start_group None) gs ≡ gs
+starts_none [] = refl
+starts_none (g ∷ gs) = λ i. record g { started = or-false g.started i } ∷ starts_none gs i
+
+pub set_numbered_still : (gs : List GroupRecord) (k : ℕ) (y g : GroupRecord) → Numbered gs → item_numbered gs k ≡ Some y → g.number ≡ k
+    → Numbered (set_numbered gs k g)
+set_numbered_still gs k y g numbered its same j x at = grind (arith, cases_eq, set_is_there, same_Some, set_elsewhere)

@@ -1,9 +1,10 @@
 -- An action that was seen in the tables of a list of accepted commands, and the views of it.
-use Rattle.desk_commands.proofs.Common.{◌≡◌, ◌+◌, ℕ, Bool, true, false, cond, ◌&&◌, List, Option, Some, None, option_map, refl, sym, ap, ◌∙◌, subst, is_some}
-use Rattle.desk_commands.proofs.Common.{is_none, item_numbered, CommandList, Bytes, Credential, rule_at, view_from_group, Records, action_in, records}
+use native.Mathlib.Omega.{arith}
+use Rattle.desk_commands.proofs.Common.{◌≡◌, ◌+◌, ℕ, Bool, true, false, cond, ◌&&◌, List, Option, Some, None, option_map, sym, ap, ◌∙◌, subst, is_some}
+use Rattle.desk_commands.proofs.Common.{is_none, item_numbered, CommandList, Bytes, Credential, rule_at, Records, action_in, records}
 use Rattle.desk_commands.proofs.Common.{rollout_in, Reported, standing_of, Standing, group_holding, group_is_started, group_number_of, group_numbered}
-use Rattle.desk_commands.proofs.Common.{has_started, is_for, is_started_in, number_of_group, Target, IsValid, target_of, ActionRecord, GroupRecord}
-use Rattle.desk_commands.proofs.Common.{RolloutRecord, own_view_of, waits, BothOrNone, IsActionView, IsCancelView, IsFeedbackView, IsDeviceAction, action_for}
+use Rattle.desk_commands.proofs.Common.{has_started, is_started_in, number_of_group, Target, IsValid, target_of, ActionRecord, GroupRecord}
+use Rattle.desk_commands.proofs.Common.{RolloutRecord, BothOrNone, IsActionView, IsCancelView, IsFeedbackView, IsDeviceAction, action_for}
 use Rattle.desk_commands.proofs.Common.{device_action, only_if, Tally, tally_of, ledger_of, said_of, group_and_next, GroupAndNext, stored_action}
 use Rattle.desk_commands.proofs.Common.{stored_rollout, IsSeen, MaySee, SeesIn, SeesFeedback, SeesTarget, action_seen, action_view_seen, cancel_view_seen}
 use Rattle.desk_commands.proofs.Common.{only_of, only_started, feedback_view_seen, device_action_seen, seen_if, StandsAt, asked, with_number, SeenAction}
@@ -11,7 +12,7 @@ use Rattle.desk_commands.proofs.Common.{SeenFeedback}
 use Rattle.campaign_core.proofs.PlacedActions.{is_members}
 use Rattle.desk_store.proofs.GroupPlaces.{group_and_next_at}
 use Rattle.desk_commands.proofs.GroupNumbers.{Numbered, held_stands, numbered_groups, same_groups}
-use Rattle.desk_commands.proofs.ItemSteps.{zip_map}
+use Rattle.desk_commands.proofs.ItemSteps.{none_shown, own_pair, zip_map}
 use Rattle.desk_commands.proofs.LedgerEnds.{groups_stand}
 
 -- the action of a number, with its rollout and its group
@@ -41,11 +42,7 @@ paired a = (a, tally_of a)
 -- the first group of two that are read is the one that holds the place
 own_held : (gs : List GroupRecord) → Numbered gs → (j : ℕ) (own : GroupRecord) → item_numbered gs (number_of_group (group_holding j gs)) ≡ Some own
     → group_holding j gs ≡ Some own
-own_held gs numbered j own = go (group_holding j gs) refl
-  where
-    go : (o : Option GroupRecord) → group_holding j gs ≡ o → item_numbered gs (number_of_group o) ≡ Some own → o ≡ Some own
-    go None is at = cc
-    go (Some g) is at = sym (held_stands gs numbered j g is) ∙ at
+own_held gs numbered j own = grind (arith, held_stands)
 
 -- of an action's place the group that holds it is read, and the group of the next number
 pub both_read : (h : CommandList) → IsValid h → (k : ℕ) (a : ActionRecord) (x : RolloutRecord) → item_numbered (records h).actions k ≡ Some a
@@ -61,114 +58,64 @@ both_read h valid k a x at there =
     subst (λ b. Read b x) (sym it.is) (subst (λ y. Read (action_in h it.place) y) it.same here)
 
 module _ (h : CommandList) (valid : IsValid h) where
-  place : (k : ℕ) (s : SeenAction) (it : ActionRecord × Tally) → option_map paired (item_numbered (records h).actions k) ≡ Some it
-      → SeesIn (ledger_of (records h)) k (stored_action (records h).rollouts it) s → IsKnown (records h) k s
-  place k s it = go (item_numbered (records h).actions k) refl
-    where
-      go : (o : Option ActionRecord) → item_numbered (records h).actions k ≡ o → option_map paired o ≡ Some it
-          → SeesIn (ledger_of (records h)) k (stored_action (records h).rollouts it) s → IsKnown (records h) k s
-      go None at is w = cc
-      go (Some a) at is w =
-          let pair : it ≡ (a, tally_of a) = cc in
-          let v : SeesIn (ledger_of (records h)) k (stored_action (records h).rollouts (a, tally_of a)) s =
-          subst (λ (p : ActionRecord × Tally). SeesIn (ledger_of (records h)) k (stored_action (records h).rollouts p) s) pair w in
-          let numbered = numbered_groups h a.rollout v.rollout v.is_its in
-          let gs = v.rollout.groups in
-          let both : record { group = Some v.own; next = v.next }
-          ≡ record { group = item_numbered gs (group_number_of v.rollout a); next = item_numbered gs (group_number_of v.rollout a + 1) } =
-          sym v.holds ∙ ap (group_and_next a.position) (same_groups gs numbered) ∙ both_read h valid k a v.rollout at v.is_its in
-          let holds : group_holding a.position gs ≡ Some v.own = own_held gs numbered a.position v.own (sym (ap (λ (b : GroupAndNext). b.group) both)) in
-          let stood = held_stands gs numbered a.position v.own holds in
-          record {
-            placed = record {
-              action = a;
-              at = at;
-              rollout = v.rollout;
-              its = v.is_its;
-              own = v.own;
-              held = holds;
-              own_at = stood;
-              found = groups_stand h a.rollout v.rollout v.is_its v.own.number ∙ stood;
-              next = groups_stand h a.rollout v.rollout v.is_its (v.own.number + 1);
-            };
-            is = v.seen_is ∙ (λ i. action_seen k (stored_action (records h).rollouts (a, tally_of a)) (stored_rollout v.rollout)
-                (said_of (records h) a.rollout v.own.number v.rollout v.rule v.is_its (sym v.is_said) i) v.own v.next)
-                ∙ ap (action_seen k (stored_action (records h).rollouts (a, tally_of a)) (stored_rollout v.rollout) (rule_at v.rollout.plan v.own.number) v.own)
-                (ap (λ (b : GroupAndNext). b.next) both ∙ ap (λ o. item_numbered gs (number_of_group o + 1)) holds);
-          }
-
   pub known : (k : ℕ) (s : SeenAction) → IsSeen (ledger_of (records h)) k s → IsKnown (records h) k s
-  known k s w = place k s w.action (sym (zip_map tally_of k (records h).actions) ∙ w.is_there) w.sees
+  known k s w =
+      let it = own_pair tally_of k (records h).actions w.action w.is_there in
+      let a = it.0 in
+      let v : SeesIn (ledger_of (records h)) k (stored_action (records h).rollouts (a, tally_of a)) s =
+      subst (λ (p : ActionRecord × Tally). SeesIn (ledger_of (records h)) k (stored_action (records h).rollouts p) s) it.2 w.sees in
+      let numbered = numbered_groups h a.rollout v.rollout v.is_its in
+      let gs = v.rollout.groups in
+      let both : record { group = Some v.own; next = v.next }
+      ≡ record { group = item_numbered gs (group_number_of v.rollout a); next = item_numbered gs (group_number_of v.rollout a + 1) } =
+      sym v.holds ∙ ap (group_and_next a.position) (same_groups gs numbered) ∙ both_read h valid k a v.rollout it.1 v.is_its in
+      let holds : group_holding a.position gs ≡ Some v.own = own_held gs numbered a.position v.own (sym (ap (λ (b : GroupAndNext). b.group) both)) in
+      let stood = held_stands gs numbered a.position v.own holds in
+      record {
+        placed = record {
+          action = a;
+          at = it.1;
+          rollout = v.rollout;
+          its = v.is_its;
+          own = v.own;
+          held = holds;
+          own_at = stood;
+          found = groups_stand h a.rollout v.rollout v.is_its v.own.number ∙ stood;
+          next = groups_stand h a.rollout v.rollout v.is_its (v.own.number + 1);
+        };
+        is = v.seen_is ∙ (λ i. action_seen k (stored_action (records h).rollouts (a, tally_of a)) (stored_rollout v.rollout)
+            (said_of (records h) a.rollout v.own.number v.rollout v.rule v.is_its (sym v.is_said) i) v.own v.next)
+            ∙ ap (action_seen k (stored_action (records h).rollouts (a, tally_of a)) (stored_rollout v.rollout) (rule_at v.rollout.plan v.own.number) v.own)
+            (ap (λ (b : GroupAndNext). b.next) both ∙ ap (λ o. item_numbered gs (number_of_group o + 1)) holds);
+      }
 
   pub none_known : (k : ℕ) → MaySee k (ledger_of (records h)) None → item_numbered (records h).actions k ≡ None
-  none_known k none = go (item_numbered (records h).actions k) (sym (zip_map tally_of k (records h).actions) ∙ none)
-    where
-      go : (o : Option ActionRecord) → option_map paired o ≡ None → o ≡ None
-      go None is = refl
-      go (Some a) is = cc
+  none_known k none = none_shown paired (item_numbered (records h).actions k) (sym (zip_map tally_of k (records h).actions) ∙ none)
 
 -- ---- what rules ask of it
 
 module _ (rs : Records) (k : ℕ) (w : IsPlaced rs k) where
   pub view_is : IsActionView (action_view_seen (seen_at rs k w)) w.action rs
-  view_is = record {
-    outcome = refl;
-    canceling = refl;
-    number = refl;
-    rollout = sym (ap (option_map (λ (x : RolloutRecord). own_view_of x (group_number_of x w.action))) w.its
-        ∙ ap (λ o. Some (own_view_of w.rollout (number_of_group o))) w.held
-        ∙ (λ i. Some (record {
-          paused = w.rollout.paused;
-          own = view_from_group w.rollout.plan w.own.number (w.found i);
-          next_waits =
-              group_is_started (w.found i) && waits (w.next i);
-        })));
-  }
+  view_is = grind (arith, option_map)
 
   pub started_is : has_started rs w.action ≡ w.own.started
   started_is = ap (λ o. is_started_in o w.action) w.its ∙ ap group_is_started w.held
 
-  module _ (new : Reported) (standing : Standing) where
-    -- where it is seen as a device's, and open
-    abbrev Stands : Option SeenAction → Type 0
-    Stands seen = seen ≡ Some (seen_at rs k w) → w.action.outcome ≡ None → standing ≡ standing_of w.action.history new
+  -- where both are there by the same test, the fact holds
+  both_if : {V : Type 0} (P : V → ActionRecord → Type 0) (f : SeenAction → V) (b : Bool) → (b ≡ true → P (f (seen_at rs k w)) w.action)
+      → BothOrNone P (option_map f (seen_if b (seen_at rs k w))) (only_if b (Some w.action))
+  both_if h0 f b holds = grind arith
 
-    -- its group is started, or not
-    if_started : (b : Bool) → Stands (seen_if b (seen_at rs k w))
-        → BothOrNone (λ v a. IsDeviceAction v a new rs) (option_map (device_action_seen standing) (seen_if b (seen_at rs k w))) (only_if b (Some w.action))
-    if_started true stands = record { notes = refl; standing = stands refl; action = view_is }
-    if_started false stands = tt
-
-    -- it is a device's, or not
-    device_action_is : (for : Bool) → Stands (only_started (seen_if for (seen_at rs k w)))
-        → BothOrNone (λ v a. IsDeviceAction v a new rs) (option_map (device_action_seen standing) (only_started (seen_if for (seen_at rs k w))))
-        (only_if (for && has_started rs w.action) (Some w.action))
-    device_action_is true stands =
-        subst (λ b. BothOrNone (λ v a. IsDeviceAction v a new rs) (option_map (device_action_seen standing) (seen_if w.own.started (seen_at rs k w)))
-        (only_if b (Some w.action))) (sym started_is) (if_started w.own.started stands)
-    device_action_is false stands = tt
-
-    pub its_action : (t : Bytes) → Stands (only_started (only_of t (Some (seen_at rs k w))))
-        → BothOrNone (λ v a. IsDeviceAction v a new rs) (option_map (device_action_seen standing) (only_started (only_of t (Some (seen_at rs k w)))))
-        (device_action rs t k)
-    its_action t stands = rw w.at (device_action_is (is_for rs t w.action) stands)
-
-  canceled_is : (there for : Bool) → BothOrNone (λ v a. IsCancelView v a rs) (option_map cancel_view_seen (cond there (seen_if for (seen_at rs k w)) None))
-      (only_if (there && for) (Some w.action))
-  canceled_is true true = record { started = sym started_is; action = view_is }
-  canceled_is true false = tt
-  canceled_is false for = tt
+  pub its_action : (new : Reported) (standing : Standing) (t : Bytes)
+      → (only_started (only_of t (Some (seen_at rs k w))) ≡ Some (seen_at rs k w) → w.action.outcome ≡ None → standing ≡ standing_of w.action.history new)
+      → BothOrNone (λ v a. IsDeviceAction v a new rs) (option_map (device_action_seen standing) (only_started (only_of t (Some (seen_at rs k w)))))
+      (device_action rs t k)
+  its_action new standing t = grind (arith, started_is, option_map, both_if, view_is)
 
   pub its_cancel : (t : Bytes)
       → BothOrNone (λ v a. IsCancelView v a rs) (option_map cancel_view_seen (cond (is_none (target_of rs t)) None (only_of t (Some (seen_at rs k w)))))
       (action_for rs t k)
-  its_cancel t = rw w.at (go (target_of rs t))
-    where
-      go : (o : Option Target) → BothOrNone (λ v a. IsCancelView v a rs)
-          (option_map cancel_view_seen (cond (is_none o) None (only_of t (Some (seen_at rs k w)))))
-          (only_if (is_some o && is_for rs t w.action) (Some w.action))
-      go None = tt
-      go (Some x) = canceled_is true (is_for rs t w.action)
+  its_cancel t = grind (arith, option_map, is_none, is_some, both_if, started_is, view_is)
 
 -- on an open action the number is asked for
 asked_whole : (new : Reported) (seen : Option SeenAction) (s : SeenAction) → seen ≡ Some s → s.action.outcome ≡ None → asked seen new ≡ new
@@ -178,8 +125,7 @@ module _ (h : CommandList) (valid : IsValid h) (k : ℕ) where
   module _ (device : Credential) (new : Reported) (seen : SeenFeedback) (w : SeesFeedback device k new (records h) seen) where
     -- what an open action has heard, all of the report is seen among
     pub heard_whole : (s : SeenAction) → seen.action ≡ Some s → s.action.outcome ≡ None → StandsAt k new (records h) seen.report
-    heard_whole s is open_still = subst (λ (it : Reported). StandsAt k it (records h) seen.report) (asked_whole new seen.action s is open_still)
-        (w.report (record { list = h; valid = valid; are = refl }))
+    heard_whole s is open_still = grind (arith, asked_whole)
 
     abbrev Viewed : Option SeenAction → Type 0
     Viewed action = BothOrNone (λ v a. IsDeviceAction v a new (records h)) (option_map (device_action_seen seen.report.standing) action)

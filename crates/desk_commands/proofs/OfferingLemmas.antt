@@ -1,9 +1,11 @@
 -- What a target is offered, looked up among its actions.
-use Rattle.desk_commands.proofs.Common.{◌≡◌, ℕ, zero, suc, Bool, true, false, cond, ◌&&◌, List, [], ◌∷◌, length, set, Option, Some, None, refl, sym, ap, ◌∙◌}
-use Rattle.desk_commands.proofs.Common.{slice_get, list_any, is_none, item_numbered, same_bytes, CommandList, ◌▸◌, Bytes, Command, Offer, first_offer, offer}
-use Rattle.desk_commands.proofs.Common.{has_started, is_for, is_started_in, Reported, Records, IsValid, ActionRecord, RolloutRecord, acted, actor_of, Ledger}
-use Rattle.desk_commands.proofs.Common.{SetsOffer, set_numbered, with_offer, any_starts, next_offer, next_offer_from, starts_at, parts_of, Reoffers, and_assoc}
-use Rattle.desk_commands.proofs.Common.{and_comm}
+use native.Mathlib.Omega.{arith}
+use Rattle.desk_commands.proofs.Common.{◌≡◌, ℕ, zero, suc, true, cond, ◌&&◌, List, [], ◌∷◌, length, map, Option, Some, None, refl, sym, ap, ◌∙◌, slice_get}
+use Rattle.desk_commands.proofs.Common.{list_any, is_none, item_numbered, same_bytes, CommandList, ◌▸◌, Bytes, Command, Offer, first_offer, offer, has_started}
+use Rattle.desk_commands.proofs.Common.{is_for, is_started_in, Reported, Records, IsValid, ActionRecord, RolloutRecord, acted, actor_of, Ledger, SetsOffer}
+use Rattle.desk_commands.proofs.Common.{set_numbered, with_offer, any_starts, next_offer, next_offer_from, starts_at, parts_of, Reoffers, and_assoc, and_comm}
+use Rattle.desk_commands.proofs.Common.{cases_Bool, inl, inr}
+use Rattle.desk_commands.proofs.ItemSteps.{same_but_for}
 use Rattle.offer_laws.proofs.AnyGroup.{started_by_any_then}
 
 -- ---- as the machine says
@@ -53,12 +55,10 @@ first_there rs t n zero (x ∷ xs) a at is =
       ap (λ b. cond b (Some (record { action = n; canceling = x.canceling })) (first_offer rs t (suc n) xs))
           (ap (λ (v : ActionRecord). is_none v.outcome && (is_for rs t v && has_started rs v)) (sym same) ∙ is),
     )
-first_there rs t n (suc j) (x ∷ xs) a at is = go (is_none x.outcome && (is_for rs t x && has_started rs x)) (first_there rs t (suc n) j xs a at is)
-  where
-    go : (b : Bool) → (o : Offer) × (first_offer rs t (suc n) xs ≡ Some o) → (o : Offer)
-        × (cond b (Some (record { action = n; canceling = x.canceling })) (first_offer rs t (suc n) xs) ≡ Some o)
-    go true later = (record { action = n; canceling = x.canceling }, refl)
-    go false later = later
+first_there rs t n (suc j) (x ∷ xs) a at is = elim (cases_Bool (is_none x.outcome && (is_for rs t x && has_started rs x))) [
+  | inl this ↦ (record { action = n; canceling = x.canceling }, rw this refl)
+  | inr other ↦ rw other (first_there rs t (suc n) j xs a at is)
+]
 
 -- the target of an open action whose group is started is offered something
 pub offer_there : (rs : Records) (t : Bytes) (k : ℕ) (a : ActionRecord) → item_numbered rs.actions k ≡ Some a
@@ -68,32 +68,22 @@ offer_there rs t (suc k) a at is = first_there rs t 1 k rs.actions a at is
 
 -- ---- an offer that stays
 
-others_offered : (rs : Records) (as' : List ActionRecord) (t : Bytes) (n : ℕ) (xs : List ActionRecord) → first_offer (record rs { actions = as' }) t n xs
-    ≡ first_offer rs t n xs
-others_offered rs as' t n [] = refl
-others_offered rs as' t n (x ∷ xs) =
-    ap (λ o. cond (is_none x.outcome && (is_for rs t x && has_started rs x)) (Some (record { action = n; canceling = x.canceling })) o)
-    (others_offered rs as' t (suc n) xs)
-
 started_alike : (o : Option RolloutRecord) (a : ActionRecord) (hs : List Reported) → is_started_in o (record a { history = hs }) ≡ is_started_in o a
-started_alike None a hs = refl
-started_alike (Some x) a hs = refl
+started_alike o a hs = grind arith
 
-still_offered : (rs : Records) (as' : List ActionRecord) (t : Bytes) (hs : List Reported) (a : ActionRecord) (n k : ℕ) (xs : List ActionRecord) → slice_get xs k
-    ≡ Some a → first_offer (record rs { actions = as' }) t n (set xs k (record a { history = hs })) ≡ first_offer rs t n xs
-still_offered rs as' t hs a n k [] at = cc
-still_offered rs as' t hs a n zero (x ∷ xs) at =
-    let same : a ≡ x = cc in
-    (λ i. cond (is_none a.outcome && (is_for rs t a && started_alike (item_numbered rs.rollouts a.rollout) a hs i))
-    (Some (record { action = n; canceling = a.canceling })) (others_offered rs as' t (suc n) xs i))
-    ∙ ap (λ (v : ActionRecord). cond (is_none v.outcome && (is_for rs t v && has_started rs v)) (Some (record { action = n; canceling = v.canceling }))
-    (first_offer rs t (suc n) xs)) same
-still_offered rs as' t hs a n (suc k) (x ∷ xs) at =
-    ap (λ o. cond (is_none x.outcome && (is_for rs t x && has_started rs x)) (Some (record { action = n; canceling = x.canceling })) o)
-    (still_offered rs as' t hs a (suc n) k xs at)
+-- what offers rest on of an action
+abbrev bare : ActionRecord → ActionRecord
+bare a = record a { history = [] }
+
+offered_by : (rs : Records) (as' : List ActionRecord) (t : Bytes) (n : ℕ) (xs : List ActionRecord) → first_offer (record rs { actions = as' }) t n xs
+    ≡ first_offer rs t n (map bare xs)
+offered_by rs as' t n [] = refl
+offered_by rs as' t n (x ∷ xs) = grind (arith, offered_by rs as' t (suc n) xs, is_none, started_alike)
 
 -- whatever is told of an action, its target is offered the same
 pub offer_stays : (rs : Records) (k : ℕ) (a : ActionRecord) (hs : List Reported) (t : Bytes) → item_numbered rs.actions k ≡ Some a
     → offer (record rs { actions = set_numbered rs.actions k (record a { history = hs }) }) t ≡ offer rs t
-offer_stays rs zero a hs t at = cc
-offer_stays rs (suc k) a hs t at = still_offered rs (set rs.actions k (record a { history = hs })) t hs a 1 k rs.actions at
+offer_stays rs k a hs t at =
+    let next = set_numbered rs.actions k (record a { history = hs }) in
+    offered_by rs next t 1 next ∙ ap (first_offer rs t 1) (same_but_for bare rs.actions k a (record a { history = hs }) at refl)
+    ∙ sym (offered_by rs rs.actions t 1 rs.actions)

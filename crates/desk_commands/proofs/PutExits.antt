@@ -1,13 +1,11 @@
 -- The ledger behind a row of a put, and between its name and its tags, can be read.
 use Rattle.sqlite.specs.State.{State}
-use Rattle.desk_commands.proofs.Common.{◌≡◌, ◌≤◌, ◌<◌, ◌&&◌, ℕ, zero, suc, Bool, true, false, cond, List, [], ◌∷◌, take, get_or, length}
-use Rattle.desk_commands.proofs.Common.{Option, None, Result, Err, sym, ap, ◌∙◌, subst, arith, length-map, list_all, and_parts}
-use Rattle.desk_commands.proofs.Common.{HasCleanDisk, HoldsLedger, ledger_of, Sees, Wears, Fault, Refusal, CommandList, ◌▸◌, IsValid, Records, records}
-use Rattle.desk_commands.proofs.Common.{records_step, step_records, put_targets, change_target, TargetRow, PutTargets, Target, check}
-use Rattle.desk_commands.proofs.Common.{same_bytes, renamed, with_changed, Has, is_digest, is_tag_list, is_text}
-use Rattle.desk_commands.proofs.Common.{is_word, limits_hold}
-use Rattle.desk_commands.proofs.Common.{IsReadable, seen_in, OpenChange, Ghosts, FailsWriting, TakesRow, TakesRows}
-use Rattle.desk_commands.proofs.Common.{kept_to}
+use Rattle.desk_commands.proofs.Common.{◌≡◌, ◌≤◌, ◌<◌, ◌&&◌, ℕ, Bool, true, false, cond, List, take, get_or, length, Option, None, Result, Err, sym, subst}
+use Rattle.desk_commands.proofs.Common.{arith, length-map, list_all, and_parts, ledger_of, Wears, Fault, Refusal, CommandList}
+use Rattle.desk_commands.proofs.Common.{◌▸◌, IsValid, Records, records, records_step, step_records, put_targets, change_target, TargetRow, PutTargets, Target}
+use Rattle.desk_commands.proofs.Common.{check, same_bytes, renamed, with_changed, Has, is_digest, is_tag_list, is_text, is_word, limits_hold, IsReadable}
+use Rattle.desk_commands.proofs.Common.{seen_in, OpenChange, Ghosts, FailsWriting, TakesRow, TakesRows, kept_to}
+use Rattle.std.proofs.lemmas.List.Folds.{list_all_at}
 use Rattle.rollout_model.specs.Rows.{is_target_row}
 use Rattle.desk_records.proofs.Membership.{has_mapped}
 use Rattle.desk_store.proofs.ReadableTargets.{KeepsTarget, readable_with}
@@ -60,34 +58,11 @@ renamed_readable h valid row good w =
 -- ---- the exit of a row
 
 good_at : {X : Type 0} (p : X → Bool) (xs : List X) (k : ℕ) (x : X) → k < length xs → x ≡ get_or xs k x → list_all p xs ≡ true → p x ≡ true
-good_at p [] k x below is all = absurd (omega (arith, below))
-good_at p (y ∷ ys) zero x below is all = ap p is ∙ (and_parts (p y) (list_all p ys) all).0
-good_at p (y ∷ ys) (suc k) x below is all = good_at p ys k x (omega (arith, below)) is (and_parts (p y) (list_all p ys) all).1
+good_at p xs k x below is all = grind (arith, list_all_at p xs k x, below, is, all)
 
 -- behind those that are put before it
 pub rows_end : {S : Type 0} {g : Ghosts S} {was : State} {mid new : OpenChange S} {fault : Fault} (rows : List TargetRow) (row : TargetRow) (k : ℕ)
     → k < length rows → row ≡ get_or rows k row → (left : Option ℕ) → PutsSoFar was (seen_in g mid) (take k rows) left
     → Wears (seen_in g mid) (seen_in g new) → FailsWriting g (TakesRow row) {A = Result (Option ℕ) Refusal} mid new (Err fault)
     → Exits g (TakesRows rows) was new fault
-rows_end {g = g} {was = was} {mid = mid} rows row k below at left so_far wears w = λ l sees it.
-    let of = it.given.of_list in
-    let h = of.list in
-    let so = so_far.puts h of.valid (subst (Sees HoldsLedger was) of.is sees) in
-    let good = kept_to is_target_row k rows it.given.rows_keep in
-    record {
-      reason = λ is clean.
-          let quiet : HasCleanDisk (seen_in g mid) = omega (arith, clean, wears) in
-          let few = few_left left (step_records (records h) (PutTargets (take k rows))) (so.1 quiet) in
-          (w.to (ledger_of (step_records (records h) (PutTargets (take k rows)))) so.0
-          (record {
-            readable = put_readable h of.valid (take k rows) good few (subst IsReadable of.is it.readable);
-            given = record {
-              of_list = record {
-                list = h ▸ PutTargets (take k rows);
-                valid = put_valid h of.valid (take k rows) good few;
-                is = ap ledger_of (put_is h of.valid (take k rows) good few);
-              };
-              row_keeps = good_at is_target_row rows k row below at it.given.rows_keep;
-            };
-          })).reason is clean;
-    }
+rows_end rows row k below at left so_far wears w = grind (arith, kept_to, few_left, put_readable, put_valid, put_is, good_at)

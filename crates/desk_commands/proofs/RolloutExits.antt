@@ -1,22 +1,15 @@
 -- What a step on a rollout that is seen rests on is there.
-use Rattle.desk_commands.proofs.Common.{◌≡◌, ◌≤◌, ◌≢◌, ℕ, ◌+◌, Bool, List, Option, Some, None, length, slice_get, refl, sym, ap, ◌∙◌, subst, arith, zip}
+use Rattle.desk_commands.proofs.Common.{◌≡◌, ◌≤◌, ◌≢◌, ℕ, ◌+◌, Bool, List, Option, Some, length, slice_get, sym, ap, ◌∙◌, subst, arith, zip}
 use Rattle.desk_commands.proofs.Common.{item_numbered, CommandList, IsValid, GroupRule, rule_at, records, Bytes, last_started, GroupRecord, RolloutRecord}
-use Rattle.desk_commands.proofs.Common.{Ledger, ledger_of, SeenRollout, GoesOn, StartsIf, ReadsMembers, of_rollout, invariant_of, limits_hold, at_place}
-use Rattle.desk_commands.proofs.Common.{members_of, rule_numbered, rule_there, rules_there, CanStart, HasItem, IsSeenFrom, IsSeenIn, EndsBeyond}
-use Rattle.rollout_machine.proofs.Ties.{last_is}
+use Rattle.desk_commands.proofs.Common.{Ledger, ledger_of, SeenRollout, GoesOn, ReadsMembers, of_rollout, limits_hold, at_place}
+use Rattle.desk_commands.proofs.Common.{members_of, rule_numbered, rule_there, rules_there, CanStart, IsSeenFrom, IsSeenIn, EndsBeyond}
 use Rattle.desk_commands.proofs.ActionGroups.{group_ends}
-use Rattle.desk_commands.proofs.ProgressLemmas.{groups_count}
+use Rattle.desk_commands.proofs.ProgressLemmas.{groups_count, last_at}
 use Rattle.desk_commands.proofs.StandingLemmas.{Found}
-use Rattle.desk_commands.proofs.StartLemmas.{zipped}
+use Rattle.desk_commands.proofs.StartLemmas.{all_pairs}
 
 pub found_in : (h : CommandList) (r : ℕ) (seen : SeenRollout) → Found h r seen → IsSeenIn r seen (ledger_of (records h))
-found_in h r seen w = record {
-  of_list = record { list = h; valid = w.at.valid; is = refl };
-  rollout = w.rollout;
-  is_there = w.at.is_there;
-  is_seen =
-      w.at.is_seen;
-}
+found_in h r seen w = grind arith
 
 -- where it was seen, at the list
 there_in : (r : ℕ) (seen : SeenRollout) (l : Ledger) → (w : IsSeenIn r seen l) → item_numbered (records w.of_list.list).rollouts r ≡ Some w.rollout
@@ -29,12 +22,9 @@ last_ruled : (h : CommandList) → IsValid h → (r : ℕ) (y : RolloutRecord) �
     → rule_numbered (ledger_of (records h)).rules r (last_started y.groups) ≡ Some (rule_at y.plan (last_started y.groups))
 last_ruled h valid r y at some =
     let of = of_rollout h r y at in
-    let inv = invariant_of h valid in
-    let its = (inv.follows r of.rollout of.there).is_last in
-    let last : last_started y.groups ≡ inv.last r = ap (λ (z : RolloutRecord). last_started z.groups) of.is ∙ last_is of.rollout r (inv.last r) h its in
     let count : y.plan.groups.count ≡ of.rollout.plan.groups.count = ap (λ (z : RolloutRecord). z.plan.groups.count) of.is in
     ap (λ rules. item_numbered rules (last_started y.groups)) (rules_there (records h) r y at) ∙ rule_there y.plan (last_started y.groups) (omega (arith, some))
-    (omega (arith, last, count, its.within))
+    (omega (arith, count, (last_at h valid r y at).within))
 
 pub last_said : (r : ℕ) (seen : SeenRollout) (last : ℕ) (l : Ledger) → IsSeenFrom r seen last l → last ≢ 0 → (rule : GroupRule)
     × (rule_numbered l.rules r last ≡ Some rule)
@@ -50,18 +40,12 @@ last_said r seen last l w some =
 -- no group that is seen ends beyond 32 bits
 pub ends_in : (r : ℕ) (seen : SeenRollout) (l : Ledger) → IsSeenIn r seen l → (i : ℕ) (o : Option GroupRecord) → o ≡ item_numbered seen.groups.items i
     → EndsBeyond o → ⊥
-ends_in r seen l w i None is beyond = beyond
-ends_in r seen l w i (Some g) is beyond =
-    let its : item_numbered w.rollout.groups i ≡ Some g = ap (λ gs. item_numbered gs i) (sym w.is_seen.groups) ∙ sym is in
-    omega (arith, beyond, group_ends w.of_list.list w.of_list.valid r w.rollout (there_in r seen l w) i g its)
+ends_in r seen l w i o is beyond = grind (arith, group_ends, there_in)
 
 -- the group that starts is there
 pub can_start : (r : ℕ) (seen : SeenRollout) (paused : Bool) (starts : Option ℕ) (l next : Ledger) → GoesOn r seen paused starts l next
     → CanStart seen.groups.items starts
-can_start r seen paused starts l next w = record { group = λ i is. it i (subst (λ o. StartsIf r seen.groups.items o w.between next) is w.starts_if) }
-  where
-    it : (i : ℕ) → StartsIf r seen.groups.items (Some i) w.between next → HasItem seen.groups.items i
-    it i h = record { group = h.0; is_there = h.1 }
+can_start r seen paused starts l next w = grind arith
 
 -- ---- a start
 
@@ -81,5 +65,5 @@ numbers_left h valid r seen w last count members size many read =
     let limits = limits_hold h valid in
     let all : members ≡ w.rollout.members = read (ap (λ o. length (members_of o)) w.at.is_there ∙ sym many) ∙ ap members_of w.at.is_there in
     let of : length members ≡ length w.rollout.members = ap length all in
-    let actions : length (zip (records h).actions (ledger_of (records h)).tallies) ≡ length (records h).actions = zipped (records h).actions in
+    let actions : length (zip (records h).actions (ledger_of (records h)).tallies) ≡ length (records h).actions = all_pairs (records h) in
     omega (arith, size, of, actions, limits.actions, (limits.each r w.rollout w.at.is_there).members)

@@ -1,17 +1,17 @@
 -- The start of a rollout, from what is read to what is written.
-use Rattle.desk_commands.proofs.Common.{◌≡◌, ◌≤◌, ◌<◌, ◌||◌, ℕ, zero, suc, ◌+◌, Bool, true, false, not, cond, nat_eq, List, [], ◌∷◌, ◌++◌, map, get_or, take}
-use Rattle.desk_commands.proofs.Common.{drop, length, slice_get, Option, Some, None, refl, sym, ap, subst, ◌∙◌, arith, append-nil, append_assoc, or-false}
-use Rattle.desk_commands.proofs.Common.{or-true, zip, unwrap_or, nat_tests, length-append, length-map, map-append, take_all, item_numbered, CommandList, Bytes}
-use Rattle.desk_commands.proofs.Common.{Start, each_from, Approval, Denied, Given, Waiting, Records, group_in, records, rollout_in, begin_rollout}
-use Rattle.desk_commands.proofs.Common.{change_rollout, new_action, new_actions, start_group, step_records, Rollout, is_finished, word_from, IsValid, check}
-use Rattle.desk_commands.proofs.Common.{is_ready, ActionRecord, GroupRecord, RolloutRecord, each_from_more, length_each, NotFound, WrongState}
-use Rattle.desk_commands.proofs.Common.{records_are_sound, actor_of, tally_of, numbers_of, Ledger, ledger_of, AddsAction, SetsRollout, scheduled, set_numbered}
-use Rattle.desk_commands.proofs.Common.{turned, with_actions, with_groups, with_numbers, with_rollouts, SeenRollout, StartsAndOffers, started, AddsActions}
-use Rattle.desk_commands.proofs.Common.{ReadsMembers, StartsWhole, and_actions, new_for, never_started, members_of}
+use Rattle.desk_commands.proofs.Common.{◌≡◌, ◌<◌, ℕ, zero, suc, ◌+◌, true, false, List, [], ◌∷◌, ◌++◌, map, get_or, take, drop, length}
+use Rattle.desk_commands.proofs.Common.{slice_get, Option, Some, None, refl, sym, ap, ◌∙◌, arith, append-nil, append_assoc, zip, unwrap_or, length-append}
+use Rattle.desk_commands.proofs.Common.{length-map, map-append, take_all, item_numbered, CommandList, Bytes, Start, each_from}
+use Rattle.desk_commands.proofs.Common.{Records, records, begin_rollout, change_rollout, new_action, new_actions, step_records, IsValid}
+use Rattle.desk_commands.proofs.Common.{check, ActionRecord, GroupRecord, RolloutRecord, each_from_more, length_each, records_are_sound}
+use Rattle.desk_commands.proofs.Common.{actor_of, tally_of, numbers_of, Ledger, ledger_of, AddsAction, scheduled, set_numbered, turned, with_actions}
+use Rattle.desk_commands.proofs.Common.{with_numbers, with_rollouts, SeenRollout, started, AddsActions, ReadsMembers, StartsWhole, and_actions, new_for}
+use Rattle.desk_commands.proofs.Common.{never_started, members_of, of_group, of_rollout}
 use Rattle.std.proofs.lemmas.Option.{slice_get_read}
 use Rattle.rollout_machine.specs.Actions.{places_from}
-use Rattle.desk_commands.proofs.ItemSteps.{set_twice}
-use Rattle.desk_commands.proofs.LedgerEnds.{changed_at, ends_with_group, rollout_of, said_stays, set_is_there}
+use Rattle.desk_commands.proofs.GroupNumbers.{numbered_groups, started_one}
+use Rattle.desk_commands.proofs.ItemSteps.{set_is_there, zip_own}
+use Rattle.desk_commands.proofs.LedgerEnds.{changed_at, starts_last, then_started}
 use Rattle.desk_commands.proofs.StandingLemmas.{Found, is_numbered}
 
 -- ---- what is read
@@ -23,8 +23,7 @@ all_members r count l members is size = is ∙ take_all count (members_of (item_
 -- ---- the actions, one by one
 
 pub no_action : (r last : ℕ) (members : List Bytes) (l next : Ledger) → AddsActions r last members 0 l next → next ≡ l
-no_action r last members l next h = h.next_is
-    ∙ (λ i. with_numbers (with_actions l (append-nil l.records.actions i) (append-nil l.tallies i)) (append-nil l.numbers i))
+no_action r last members l next h = grind (arith, append-nil)
 
 one_behind : {X : Type 0} (f : ActionRecord → X) (xs : List X) (as' : List ActionRecord) (a : ActionRecord) → xs ++ map f (as' ++ a ∷ [])
     ≡ (xs ++ map f as') ++ f a ∷ []
@@ -64,80 +63,27 @@ one_action r last members id i number within is numbered l next h =
     member_in None j = []
     member_in (Some x) j = unwrap_or (item_numbered x.members j) []
 
--- ---- the parts
-
-pub record StartsFirst (r : ℕ) (seen : SeenRollout) (last : ℕ) (members : List Bytes) (l next : Ledger) : Type 0 where
-  pub begun : Ledger
-  pub sets : SetsRollout r seen.approval true seen.paused l begun
-  pub adds : AddsActions r last members (length members) begun next
-
-pub two_parts : (r : ℕ) (seen : SeenRollout) (last : ℕ) (members : List Bytes) (l next : Ledger) → StartsFirst r seen last members l next
-    → (mid : Ledger) × SetsRollout r seen.approval true seen.paused l mid × AddsActions r last members (length members) mid next
-two_parts r seen last members l next h = (h.begun, h.sets, h.adds)
-
-pub three_parts : (r : ℕ) (seen : SeenRollout) (first : GroupRecord) (last : ℕ) (members : List Bytes) (l next : Ledger)
-    → StartsWhole r seen first last members l next
-    → (mid : Ledger) × StartsFirst r seen last members l mid × StartsAndOffers r first mid next
-three_parts r seen first last members l next h = (h.acting, record { begun = h.begun; sets = h.sets; adds = h.adds }, h.starts)
-
 -- ---- the first group
 
-record IsFirst (x : RolloutRecord) (g : GroupRecord) : Type 0 where
-  number : g.number ≡ 1
-  its : item_numbered x.groups 1 ≡ Some g
-  waits : x.started ≡ false → g.started ≡ false
-  begins : map (start_group (Some 1)) x.groups ≡ set_numbered x.groups 1 (started g)
-
-first_is : (h : CommandList) (r : ℕ) (x : RolloutRecord) → item_numbered (records h).rollouts r ≡ Some x → (g : GroupRecord) → slice_get x.groups 0 ≡ Some g
-    → IsFirst x g
-first_is h r x there g at = let it = rollout_of h r x there in subst (λ (z : RolloutRecord). slice_get z.groups 0 ≡ Some g → IsFirst z g) it.same
-    (go it.rollout it.rollout.plan.groups.count refl) at
-  where
-    others : (y : Rollout) (a n : ℕ) → 2 ≤ a → map (start_group (Some 1)) (each_from (group_in y r h) a n) ≡ each_from (group_in y r h) a n
-    others y a zero low = refl
-    others y a (suc n) low =
-        let apart : nat_eq 1 a ≡ false = grind (arith, nat_tests, low) in
-        let still = ap (λ b. (group_in y r h a).started || b) apart ∙ or-false (group_in y r h a).started in
-        λ i. record (group_in y r h a) { started = still i } ∷ others y (suc a) n (omega (arith, low)) i
-
-    go : (y : Rollout) (n : ℕ) → y.plan.groups.count ≡ n → slice_get (rollout_in h r y).groups 0 ≡ Some g → IsFirst (rollout_in h r y) g
-    go y zero none at = absurd (let it : None ≡ Some g = ap (λ k. slice_get (each_from (group_in y r h) 1 k) 0) (sym none) ∙ at in cc)
-    go y (suc n) some at =
-        let head : Some (group_in y r h 1) ≡ Some g = ap (λ k. slice_get (each_from (group_in y r h) 1 k) 0) (sym some) ∙ at in
-        let same : group_in y r h 1 ≡ g = cc in
-        subst (IsFirst (rollout_in h r y)) same (record {
-          number = refl;
-          its = ap (λ k. item_numbered (each_from (group_in y r h) 1 k) 1) some;
-          waits = λ off. never_started y r 1 h off;
-          begins =
-              ap (λ k. map (start_group (Some 1)) (each_from (group_in y r h) 1 k)) some
-              ∙ (λ i. record (group_in y r h 1) { started = or-true (group_in y r h 1).started i } ∷ others y 2 n (omega arith) i)
-              ∙ ap (λ k. set_numbered (each_from (group_in y r h) 1 k) 1 (started (group_in y r h 1))) (sym some);
-        })
+-- it waits where its rollout isn't started
+first_waits : (h : CommandList) (r : ℕ) (x : RolloutRecord) → item_numbered (records h).rollouts r ≡ Some x → x.started ≡ false → (g : GroupRecord)
+    → item_numbered x.groups 1 ≡ Some g → g.started ≡ false
+first_waits h r x there off g its =
+    let of = of_rollout h r x there in
+    let one = of_group h r of.rollout 1 g (ap (λ (z : RolloutRecord). item_numbered z.groups 1) (sym of.is) ∙ its) in
+    ap (λ (b : GroupRecord). b.started) one.is ∙ never_started of.rollout r 1 h (ap (λ (z : RolloutRecord). z.started) (sym of.is) ∙ off)
 
 -- ---- the command
 
-pub not_there : (rs : Records) (r : ℕ) → item_numbered rs.rollouts r ≡ None → check rs (Start r) ≡ Some NotFound
-not_there rs r none = rw none refl
-
 unstarted : (rs : Records) (r : ℕ) (x : RolloutRecord) → item_numbered rs.rollouts r ≡ Some x → check rs (Start r) ≡ None → x.started ≡ false
-unstarted rs r x there accepted = go x.approval x.started (is_finished x) x.paused (rw there at accepted)
-  where
-    go : (a : Approval) (s f p : Bool) → cond (not (is_ready (word_from a s f p))) (Some WrongState) None ≡ None → s ≡ false
-    go Given false f p h = refl
-    go Given true true p h = absurd cc
-    go Given true false true h = absurd cc
-    go Given true false false h = absurd cc
-    go Waiting s f p h = absurd cc
-    go Denied s f p h = absurd cc
+unstarted rs r x there accepted = grind arith
 
 new_placed : (r a n : ℕ) → map new_action (places_from r a n) ≡ each_from (scheduled r) a n
 new_placed r a zero = refl
 new_placed r a (suc n) = ap (λ l. scheduled r a ∷ l) (new_placed r (suc a) n)
 
-pub zipped : (as' : List ActionRecord) → length (zip as' (map tally_of as')) ≡ length as'
-zipped [] = refl
-zipped (a ∷ as') = ap suc (zipped as')
+pub all_pairs : (rs : Records) → length (zip rs.actions (map tally_of rs.actions)) ≡ length rs.actions
+all_pairs rs = ap length (zip_own tally_of rs.actions) ∙ length-map rs.actions (λ (a : ActionRecord). (a, tally_of a))
 
 -- what was read of a rollout that is ready is written as the step
 pub starts_whole : (h : CommandList) → IsValid h → (r : ℕ) (seen : SeenRollout) (g : GroupRecord) (last count : ℕ) (members : List Bytes)
@@ -151,29 +97,20 @@ starts_whole h valid r seen g last count members found accepted first size many 
   acting = acting_ledger;
   adds = record {
     tallied = length-map rs.actions tally_of;
-    last_is = size ∙ zipped rs.actions;
+    last_is = size ∙ all_pairs rs;
     rollout = y;
     is_there = set_is_there rs.rollouts r x y there;
     members_are = all;
     next_is = refl;
   };
   starts =
-      ends_with_group h (Start r) valid (is_numbered h r seen found) accepted r g acting_ledger y (set_is_there rs.rollouts r x y there)
-      (ap (item_numbered x.groups) fg.number ∙ fg.its)
+      starts_last h (Start r) valid (is_numbered h r seen found) accepted (and_actions (ledger_of rs) new)
       (record {
-        rollout = x;
-        is_there = there;
-        group = g;
-        is_its = ap (item_numbered x.groups) fg.number ∙ fg.its;
-        bounds = refl;
-        waits = fg.waits (unstarted rs r x there accepted);
-      })
-      (λ i. record rs { rollouts = rolls i; actions = acts i })
-      (record {
-        tallies = sym (map-append tally_of rs.actions (new_for r (length members)));
-        rules = sym (said_stays rs.rollouts r x y there refl);
-        numbers = sym (map-append numbers_of rs.actions (new_for r (length members)));
-      }) (λ t. refl);
+        tallies = sym (map-append tally_of rs.actions new);
+        rules = refl;
+        numbers = sym (map-append numbers_of rs.actions new);
+      }) (λ t. refl) refl r x (then_started y g) there (λ i. record rs { rollouts = rolls i; actions = acts i }) refl y g own
+      (first_waits h r x there (unstarted rs r x there accepted) g its) own refl;
 }
   where
     rs : Records
@@ -188,31 +125,37 @@ starts_whole h valid r seen g last count members found accepted first size many 
     y : RolloutRecord
     y = turned seen.approval true seen.paused x
 
-    z : RolloutRecord
-    z = with_groups y (set_numbered x.groups g.number (started g))
+    its : item_numbered x.groups 1 ≡ Some g
+    its = ap (λ gs. slice_get gs 0) (sym found.at.is_seen.groups) ∙ first
 
-    fg : IsFirst x g
-    fg = first_is h r x there g (ap (λ gs. slice_get gs 0) (sym found.at.is_seen.groups) ∙ first)
+    named : g.number ≡ 1
+    named = numbered_groups h r x there 1 g its
+
+    own : item_numbered x.groups g.number ≡ Some g
+    own = ap (item_numbered x.groups) named ∙ its
 
     all : members ≡ x.members
     all = read (ap (λ o. length (members_of o)) there ∙ sym many) ∙ ap members_of there
+
+    new : List ActionRecord
+    new = new_for r (length members)
 
     turned_ledger : Ledger
     turned_ledger = with_rollouts (ledger_of rs) (set_numbered rs.rollouts r y)
 
     acting_ledger : Ledger
-    acting_ledger = and_actions turned_ledger (new_for r (length members))
+    acting_ledger = and_actions turned_ledger new
 
-    begins : begin_rollout x ≡ z
+    begins : begin_rollout x ≡ then_started y g
     begins =
-        let gs = fg.begins ∙ ap (λ k. set_numbered x.groups k (started g)) (sym fg.number) in
+        let gs = started_one 1 x.groups g (numbered_groups h r x there) its ∙ ap (λ k. set_numbered x.groups k (started g)) (sym named) in
         λ i. record x { approval = sym found.at.is_seen.approval i; started = true; paused = sym found.at.is_seen.paused i; groups = gs i }
 
-    rolls : change_rollout r begin_rollout rs.rollouts ≡ set_numbered (set_numbered rs.rollouts r y) r z
-    rolls = changed_at h valid r begin_rollout x z there begins ∙ sym (set_twice r rs.rollouts y z)
+    rolls : change_rollout r begin_rollout rs.rollouts ≡ set_numbered rs.rollouts r (then_started y g)
+    rolls = changed_at h valid r begin_rollout x (then_started y g) there begins
 
     acts : rs.actions ++ new_actions (item_numbered rs.rollouts r) ≡ rs.actions ++ new_for r (length members)
     acts =
-        let named : x.number ≡ r = (records_are_sound h valid).numbered r x there in
+        let number : x.number ≡ r = (records_are_sound h valid).numbered r x there in
         ap (λ l. rs.actions ++ l) (ap new_actions there ∙ new_placed x.number 1 (length x.members)
-        ∙ (λ i. each_from (scheduled (named i)) 1 (length (sym all i))))
+        ∙ (λ i. each_from (scheduled (number i)) 1 (length (sym all i))))

@@ -3,7 +3,7 @@ use Rattle.std.specs.Prelude.{◌≡◌, ◌≤◌, ℕ, true, false, not, List,
 use Rattle.sqlite.specs.State.{State, HasCleanDisk}
 use Rattle.sql_calls.specs.Standing.{Wears, Sees}
 use Rattle.desk_records.specs.TargetRow.{stored_target}
-use Rattle.desk_records.specs.Targets.{ids_of, renamed, with_changed}
+use Rattle.desk_records.specs.Targets.{renamed, with_changed}
 use Rattle.desk_records.specs.declared.target_row.StoredTarget.{StoredTarget}
 use Rattle.rollout_machine.specs.ByteStrings.{contains_word, with_words, without_word, sorted_words}
 use Rattle.desk_records.specs.Holds.{HoldsLedger, ledger_of}
@@ -71,10 +71,6 @@ PutsOver stored row r next = (stored ≡ option_map stored_target (target_of r r
 
 abbrev pub row_ids : List TargetRow → List Bytes
 row_ids rows = map (λ (row : TargetRow). row.id) rows
-
--- the ids of all targets once these rows are put
-abbrev pub ids_after : List TargetRow → Records → List Bytes
-ids_after rows r = with_words (row_ids rows) (ids_of r.targets)
 
 -- the desk has no more targets than it takes, and so many where they are counted
 abbrev pub HasCounted : Option ℕ → Records → Type 0

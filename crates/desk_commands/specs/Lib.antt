@@ -12,7 +12,6 @@ pub mod SeenActions
 pub mod Offering
 pub mod Endings
 pub mod ActionSteps
-pub mod LedgerEnds
 pub mod Standings
 pub mod Creations
 pub mod Starts

@@ -27,6 +27,7 @@ fn has_key(attributes: &[Attribute], key: &Word) -> bool
 }
 
 /// Whether a target that had these attributes, and was given others since, has one of this key.
+#[tactic(auto, using(crate::proofs::AttributeLemmas::has_since))]
 fn has_key_since(had: &[Attribute], since: &[Attribute], key: &Word) -> bool
     ensures { result ≡ contains_word key.now (keys_after since.now had.now) }
 {

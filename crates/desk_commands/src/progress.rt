@@ -1,6 +1,6 @@
 //! How a rollout goes on: by a resume, and by a trigger of its next group.
 
-ghost use Rattle.std.specs.Prelude.{◌≡◌, ◌&&◌, None, Some, cond, nat_lt, not};
+ghost use Rattle.std.specs.Prelude.{◌≡◌, ◌∷◌, None, Some, [], cond, nat_eq, not};
 ghost use Rattle.std.specs.List.{list_any};
 ghost use Rattle.rollout_machine.specs.ByteStrings.{item_numbered};
 ghost use Rattle.rollout_machine.specs.Commands.{Resume, TriggerNext};
@@ -35,7 +35,7 @@ enum Going {
 
 /// The number of a group that comes after the last started one, if it is started.
 fn last_after(last: u32, group: &GroupRecord) -> u32
-    ensures { result ≡ cond (group.now.started && nat_lt 0 group.now.number) group.now.number last }
+    ensures { result ≡ cond (nat_eq (last_started (group.now ∷ [])) 0) last (last_started (group.now ∷ [])) }
 {
     if group.started && group.number > 0 {
         group.number

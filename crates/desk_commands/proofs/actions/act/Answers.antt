@@ -1,9 +1,9 @@
-use Rattle.desk_commands.proofs.Answering.{makes_three, can_end, can_tell, numbers_stay, writes_end, writes_last, acting_parts}
+use Rattle.desk_commands.proofs.Answering.{makes_three, can_end, can_tell, numbers_stay, writes_end, writes_last}
 use Rattle.desk_commands.proofs.actions.act.Goals as goal
 
 pub returns-clause-writes : goal.returns-clause-writes
 returns-clause-writes g c =
-    makes_three c.in_ok-tell_action.ensures.writes c.in_ok-offer_next.ensures.writes (acting_parts c.args.seen.now c.args.after.now c.args.told.now) _
+    makes_three c.in_ok-tell_action.ensures.writes c.in_ok-offer_next.ensures.writes (λ l next w. (w.offered, (w.acted, w.tells, w.offers), w.follows)) _
     c.follow.ensures.writes
 
 pub returns-in_err-tell_action-clause-fails : goal.returns-in_err-tell_action-clause-fails

@@ -1,5 +1,14 @@
-use Rattle.desk_commands.proofs.Answering.{makes_then, ending_parts}
+use Rattle.desk_commands.proofs.Answering.{refl, makes_then}
+use Rattle.desk_commands.specs.Endings.{with_outcome, with_rollout}
 use Rattle.desk_commands.proofs.endings.follow_ending.Goals as goal
 
 pub returns-clause-writes : goal.returns-clause-writes
-returns-clause-writes g c = makes_then c.in_ok-count_outcome.ensures.writes (ending_parts c.args.seen.now c.args.ending.now) _ c.write_following.ensures.writes
+returns-clause-writes g c =
+    let seen = c.args.seen.now in
+    makes_then c.in_ok-count_outcome.ensures.writes
+    (λ l next w. (
+      with_rollout l seen.action.rollout (with_outcome seen c.args.ending.now.outcome w.rollout),
+      record { rollout = w.rollout; is_its = w.is_its; own = w.own; next_is = refl },
+      w.follows,
+    ))
+    _ c.write_following.ensures.writes

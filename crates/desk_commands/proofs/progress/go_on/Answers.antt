@@ -1,11 +1,12 @@
 use Rattle.desk_commands.proofs.Answering.{Ok, rules, ◌∙◌, both_found, ledger_made, ledger_of, records, GoesOn, CanStart, IsSeenIn, accepted_at, refused_at}
-use Rattle.desk_commands.proofs.Answering.{asked_at, counted, writes_end, can_start, found_in, cant_go, gone_on, gone_reply, none_there, of_list, seen_there}
+use Rattle.desk_commands.proofs.Answering.{asked_at, counted, writes_end, can_start, found_in, gone_on, none_there, of_list, seen_there}
+use Rattle.desk_commands.proofs.ProgressLemmas.{is_gone}
 use Rattle.desk_commands.proofs.progress.go_on.Goals as goal
 
 pub returns-in_default-clause-steps : goal.returns-in_default-clause-steps
 returns-in_default-clause-steps g c =
     refused_at (rw c.in_default.is at c.in_ok-found.ensures.reads)
-    (λ h valid sees. cant_go c.args.going (records h) c.args.number (none_there h valid c.args.number sees))
+    (λ h valid sees. (is_gone c.args.going).lacks (records h) c.args.number (none_there h valid c.args.number sees))
 
 pub returns-in-Some-refusal_of-clause-steps : goal.returns-in-Some-refusal_of-clause-steps
 returns-in-Some-refusal_of-clause-steps g c =
@@ -30,7 +31,7 @@ returns-clause-steps g c =
     _ (λ h valid sees.
     let it = seen_there h valid number seen sees.0 in (
       c.refusal_of.ensures h number it.rollout it.at (sees.1 (of_list h valid) it.rollout it.at.is_there it.at.is_seen) ∙ c.in_default-refusal_of.is,
-      gone_reply going _ number,
+      (is_gone going).reply _ number,
     ))
 
 pub returns-in_err-rollout-clause-fails : goal.returns-in_err-rollout-clause-fails

@@ -1,4 +1,5 @@
-use Rattle.desk_commands.proofs.Answering.{both_found, finds_as, not_there, asked, reads_end}
+use Rattle.desk_commands.proofs.Answering.{sym, both_found, finds_as, asked, reads_end}
+use Rattle.desk_commands.proofs.ItemSteps.{none_shown}
 use Rattle.desk_commands.proofs.SeenLemmas.{seen_there}
 use Rattle.desk_commands.proofs.seen_actions.see_action.Goals as goal
 
@@ -8,7 +9,7 @@ returns-in_ok-seen-in-Some-clause-reads g c =
     (λ l is. seen_there l c.args.number _ c.in_ok-seen-in-Some.seen is.0 is.1)
 
 pub returns-in-None-clause-reads : goal.returns-in-None-clause-reads
-returns-in-None-clause-reads g c = finds_as (rw c.in-None.is at c.in_ok-found.ensures.reads) (λ l is. not_there l c.args.number is)
+returns-in-None-clause-reads g c = finds_as (rw c.in-None.is at c.in_ok-found.ensures.reads) (λ l is. none_shown _ _ (sym is))
 
 pub returns-in_err-seen-in-Some-clause-fails : goal.returns-in_err-seen-in-Some-clause-fails
 returns-in_err-seen-in-Some-clause-fails g c =

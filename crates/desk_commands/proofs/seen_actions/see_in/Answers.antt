@@ -16,9 +16,9 @@ returns-in_err-view-clause-stays g c =
 pub returns-clause-reads : goal.returns-clause-reads
 returns-clause-reads g c =
     finds_as (both_found (both_found c.in_ok-read_rollout.ensures.reads c.in_ok-found.ensures.reads) c.in_ok-read_rule.ensures.reads)
-    (λ l is. sees l c.args.number c.args.action.now _ _ c.in_ok-rollout.rollout c.in_ok-own.own c.in_ok-rule.rule _
+    (λ l is. rw c.in_ok-view.ensures (sees l c.args.number c.args.action.now _ _ c.in_ok-rollout.rollout c.in_ok-own.own c.in_ok-rule.rule
     is.0.0 (ok_or_some _ _ _ c.in_ok-rollout.ensures.value) is.0.1 (ok_or_some _ _ _ c.in_ok-own.ensures.value)
-    (sym is.1 ∙ ok_or_some _ _ _ c.in_ok-rule.ensures.value) c.in_ok-view.ensures)
+    (sym is.1 ∙ ok_or_some _ _ _ c.in_ok-rule.ensures.value)))
 
 pub returns-in_err-rollout-clause-fails : goal.returns-in_err-rollout-clause-fails
 returns-in_err-rollout-clause-fails g c =

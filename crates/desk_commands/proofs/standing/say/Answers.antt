@@ -1,12 +1,11 @@
-use Rattle.desk_commands.proofs.Answering.{Ok, ◌∙◌, ledger_made, ledger_of, records, WritesSaid, accepted_at, refused_at, none_there, said_reply, said_written}
-use Rattle.desk_commands.proofs.Answering.{seen_there}
-use Rattle.desk_commands.proofs.StandingLemmas.{not_there}
+use Rattle.desk_commands.proofs.Answering.{Ok, ◌∙◌, ledger_made, ledger_of, records, WritesSaid, accepted_at, refused_at, none_there, said_written, seen_there}
+use Rattle.desk_commands.proofs.StandingLemmas.{is_said}
 use Rattle.desk_commands.proofs.standing.say.Goals as goal
 
 pub returns-in_default-clause-steps : goal.returns-in_default-clause-steps
 returns-in_default-clause-steps g c =
     refused_at (rw c.in_default.is at c.in_ok-found.ensures.reads)
-    (λ h valid sees. not_there c.args.said (records h) c.args.number (none_there h valid c.args.number sees))
+    (λ h valid sees. (is_said c.args.said).lacks (records h) c.args.number (none_there h valid c.args.number sees))
 
 pub returns-in-Some-refusal_of-clause-steps : goal.returns-in-Some-refusal_of-clause-steps
 returns-in-Some-refusal_of-clause-steps g c =
@@ -25,4 +24,4 @@ returns-clause-steps g c =
     (c.refusal_of.ensures h number it.rollout it.at ∙ c.in_default-refusal_of.is))
     (ledger_made (Ok tt) c.in_ok-write_said.ensures.writes)
     _ (λ h valid sees. let it = seen_there h valid number seen sees in
-    (c.refusal_of.ensures h number it.rollout it.at ∙ c.in_default-refusal_of.is, said_reply said _ number))
+    (c.refusal_of.ensures h number it.rollout it.at ∙ c.in_default-refusal_of.is, (is_said said).reply _ number))

@@ -1,12 +1,11 @@
 use Rattle.desk_commands.proofs.Answering.{Ok, refl, ◌∙◌, arith, rules, both_found, ledger_found, ledger_made, records, ledger_of, StartsWhole, accepted_at}
 use Rattle.desk_commands.proofs.Answering.{refused_at, none_there, seen_there, never_at, never_missing, writes_end, first_there, found_in, numbers_left}
 use Rattle.desk_commands.proofs.Answering.{starts_whole, ok_or_some}
-use Rattle.desk_commands.proofs.StartLemmas.{not_there}
 use Rattle.desk_commands.proofs.starting.start_rollout.Goals as goal
 
 pub returns-in_default-clause-steps : goal.returns-in_default-clause-steps
 returns-in_default-clause-steps g c =
-    refused_at (rw c.in_default.is at c.in_ok-found.ensures.reads) (λ h valid sees. not_there (records h) c.args.number (none_there h valid c.args.number sees))
+    refused_at (rw c.in_default.is at c.in_ok-found.ensures.reads) (λ h valid sees. rw (none_there h valid c.args.number sees) refl)
 
 pub returns-in-Some-start_refusal-clause-steps : goal.returns-in-Some-start_refusal-clause-steps
 returns-in-Some-start_refusal-clause-steps g c =

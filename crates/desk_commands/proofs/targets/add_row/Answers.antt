@@ -1,9 +1,9 @@
-use Rattle.desk_commands.proofs.Answering.{None, makes_then, PutsOver, in_order, adds_row_parts, tags_distinct}
+use Rattle.desk_commands.proofs.Answering.{makes_then, adds_row_parts, tags_distinct}
 use Rattle.desk_commands.proofs.targets.add_row.Goals as goal
 
 pub returns-clause-writes : goal.returns-clause-writes
 returns-clause-writes g c =
     let row = c.args.row.now in
-    in_order (PutsOver None row) _ (makes_then c.in_ok-write_target.ensures.writes
-    (λ r next h. adds_row_parts row (tags_distinct c.as_slice.result.now row.tags c.as_slice.ensures.list c.as_slice.ensures.value) r next h.0 h.1.0 h.1.1) _
-    (rw c.as_slice.ensures.value at c.add_tags.ensures.writes))
+    makes_then c.in_ok-write_target.ensures.writes
+    (λ r next h. adds_row_parts row (tags_distinct c.as_slice.result.now row.tags c.as_slice.ensures.list c.as_slice.ensures.value) r next h.0 h.1) _
+    (rw c.as_slice.ensures.value at c.add_tags.ensures.writes)
