@@ -1,6 +1,6 @@
 -- What the reads of the tables of artifacts and pieces come to.
 use Rattle.desk_verify.proofs.Common.{◌≡◌, ℕ, suc, ◌+◌, Bool, true, false, not, true≢false, List, [], ◌∷◌, map, length, nat_eq, Vec, vec_items, Some, None}
-use Rattle.desk_verify.proofs.Common.{refl, sym, ap, subst, ◌∙◌, arith, AllByRecursion, pointwise, Global, Decides-eqb, nat_tests, slice_eq-Decides, Blob, Row}
+use Rattle.desk_verify.proofs.Common.{refl, sym, ap, subst, ◌∙◌, arith, AllByRecursion, pointwise, Global, Decides-eqb, nat_tests, slice_eq-Decides, Row}
 use Rattle.desk_verify.proofs.Common.{column, all_from, all_has, digest_of, piece_count, Bytes, ArePieces, pieces_in, Artifacts, Pieces, Tables, number_in_is}
 use Rattle.desk_verify.proofs.Common.{one_number, count_pieces, ListsRows, SaysArtifact, any_row, SettlesWhether, HashesPieces, AgreesArtifacts, not-false}
 use Rattle.desk_verify.specs.Artifacts.{IsWhole}
@@ -53,18 +53,7 @@ by_end t a digest behind count place none has is so_many at lies is_none = subst
 
 -- a row says one artifact
 same_whole : (t : Tables) (row : Row) (a b : CheckedArtifact) → SaysArtifact row a → SaysArtifact row b → IsWhole t a → IsWhole t b
-same_whole t row a b says_a says_b whole =
-    let number : a.number ≡ b.number = one_number (column row 0) a.number b.number (number_in_is _ _ says_a.number_is) (number_in_is _ _ says_b.number_is) in
-    let size : a.artifact.size ≡ b.artifact.size = one_number (column row 4) a.artifact.size b.artifact.size says_a.shows.size says_b.shows.size in
-    let both : Blob a.artifact.digest ≡ Blob b.artifact.digest = sym says_a.shows.digest ∙ says_b.shows.digest in
-    let digest : a.artifact.digest ≡ b.artifact.digest = cc in
-    record {
-      contents = whole.contents;
-      size = whole.size ∙ size;
-      digest = whole.digest ∙ digest;
-      pieces = λ k piece is. subst (λ n. ArePieces (t Pieces) n (k + 1) (piece ∷ [])) number (whole.pieces k piece is);
-      end = subst (λ n. ArePieces (t Pieces) n (length (pieces_in whole.contents) + 1) []) number whole.end;
-    }
+same_whole t row a b says_a says_b whole = grind (arith, one_number, column, number_in_is)
 
 pub row_broken : (t : Tables) → ListsRows (t Artifacts) any_row SaysArtifact None → SettlesWhether (AgreesArtifacts t) false
 row_broken t broken agree = let it = agree broken.row broken.among in broken.breaks it.artifact it.is

@@ -1,10 +1,11 @@
 -- No action has more notes than the limit.
-use Rattle.rollout_machine.proofs.Common.{◌≡◌, ℕ, ◌+◌, ◌<◌, ◌≤◌, Bool, true, false, cond, ◌&&◌, List, [], ◌∷◌, ◌++◌, length, refl, sym, ◌∙◌, ap, subst, arith}
-use Rattle.rollout_machine.proofs.Common.{Option, Some, None, is_none, nat_le, leb-false, filter, action_place, history, is_heard, outcome, reports}
-use Rattle.rollout_machine.proofs.Common.{CommandList}
-use Rattle.rollout_machine.proofs.Common.{Make, ◌▸◌, CancelFeedback, Command, Feedback, HistoryEntry, Reported, OfCancel, OfDeployment}
-use Rattle.rollout_machine.proofs.Common.{action_in, records, item_numbered, reported, reported_by, entries_in, says_again, standing_of, IsValid, on_action}
-use Rattle.rollout_machine.proofs.Common.{verdict, verdict_row, is_note, notes_of}
+use Rattle.std.proofs.lemmas.List.{length-append}
+use Rattle.std.proofs.lemmas.List.Elements.{filter-append}
+use Rattle.rollout_machine.proofs.Common.{◌≡◌, ℕ, ◌≤◌, Bool, true, false, cond, ◌&&◌, List, [], ◌∷◌, ◌++◌, length, refl, sym, ◌∙◌, ap, subst, arith, Option}
+use Rattle.rollout_machine.proofs.Common.{Some, None, is_none, nat_le, leb-false, filter, action_place, history, is_heard, outcome, reports, CommandList, Make}
+use Rattle.rollout_machine.proofs.Common.{◌▸◌, CancelFeedback, Command, Feedback, HistoryEntry, Reported, OfCancel, OfDeployment, action_in, records}
+use Rattle.rollout_machine.proofs.Common.{item_numbered, reported, reported_by, entries_in, says_again, standing_of, IsValid, on_action, verdict, verdict_row}
+use Rattle.rollout_machine.proofs.Common.{is_note, notes_of}
 use Rattle.rollout_machine.specs.Verdicts.{is_beyond, is_new}
 use Rattle.rollout_machine.specs.declared.outcome.Outcome.{Outcome}
 use Rattle.rollout_machine.specs.declared.records.ActionRecord.{ActionRecord}
@@ -20,21 +21,7 @@ notes_in heard = length (filter is_note (entries_in heard))
 -- one more entry, which is a note only where there is room
 one_more : (es : List HistoryEntry) (e : HistoryEntry) → (is_note e && nat_le note_limit (length (filter is_note es))) ≡ false
     → length (filter is_note es) ≤ note_limit → length (filter is_note (es ++ e ∷ [])) ≤ note_limit
-one_more es e room few = go (is_note e) refl room
-  where
-    behind : (b : Bool) → is_note e ≡ b → (es : List HistoryEntry) → length (filter is_note (es ++ e ∷ [])) ≡ length (filter is_note es) + cond b 1 0
-    behind true d [] = rw d refl
-    behind false d [] = rw d refl
-    behind b d (first ∷ es) = with_first (is_note first) refl (behind b d es)
-      where
-        with_first : (own : Bool) → is_note first ≡ own → length (filter is_note (es ++ e ∷ [])) ≡ length (filter is_note es) + cond b 1 0
-            → length (filter is_note (first ∷ es ++ e ∷ [])) ≡ length (filter is_note (first ∷ es)) + cond b 1 0
-        with_first true k ih = rw k (omega (arith, ih))
-        with_first false k ih = rw k ih
-
-    go : (b : Bool) → is_note e ≡ b → (b && nat_le note_limit (length (filter is_note es))) ≡ false → length (filter is_note (es ++ e ∷ [])) ≤ note_limit
-    go true d full = let less : length (filter is_note es) < note_limit = leb-false _ _ full in omega (arith, behind true d es, less)
-    go false d full = omega (arith, behind false d es, few)
+one_more es e room few = grind (arith, filter-append, length-append, leb-false)
 
 has_room : (a : ActionRecord) (new : Reported) → a.outcome ≡ None → says_again (standing_of a.history new) ≡ false → (is_new new a && is_beyond new a) ≡ false
     → is_beyond new a ≡ false

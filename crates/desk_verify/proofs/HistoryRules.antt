@@ -1,8 +1,9 @@
 -- The numbers of feedback in histories: each is in its range, and they are no more than the entries.
-use Rattle.desk_verify.proofs.Common.{◌≡◌, inl, inr, ◌≤◌, ◌<◌, ℕ, suc, ◌+◌, Bool, true, false, cond, List, [], ◌∷◌, ◌++◌, length, Option, Some, None, refl}
+use Rattle.std.proofs.lemmas.Bool.Decides.{nat_tests}
+use Rattle.desk_verify.proofs.Common.{◌≡◌, inl, inr, ◌≤◌, ◌<◌, ℕ, ◌+◌, Bool, true, List, [], ◌∷◌, ◌++◌, length, Option, Some, None, refl}
 use Rattle.desk_verify.proofs.Common.{sym, ap, subst, ◌∙◌, arith, and_parts, item_numbered, CommandList, Make, ◌▸◌, IsValid, list_all, Has, history}
-use Rattle.desk_verify.proofs.Common.{IsWellFormed, is_credential, is_device_feedback, is_feedback_number_or_none, CancelFeedback, Command, DeviceFeedback}
-use Rattle.desk_verify.proofs.Common.{Feedback, records, Reported, reported_by, ActionRecord, are_details, is_number, PlacedNumber}
+use Rattle.desk_verify.proofs.Common.{IsWellFormed, is_device_feedback, is_feedback_number_or_none, Command, DeviceFeedback}
+use Rattle.desk_verify.proofs.Common.{records, Reported, reported_by, ActionRecord, PlacedNumber}
 use Rattle.std.proofs.lemmas.List.Folds.{list_all-append}
 use Rattle.rollout_machine.proofs.AtNumbers.{has_place}
 use Rattle.desk_records.specs.FeedbackNumbers.{borne_at, numbers_from}
@@ -13,21 +14,14 @@ abbrev pub keeps_number : Reported → Bool
 keeps_number it = is_feedback_number_or_none it.number
 
 of_feedback : {W : Type 0} (feedback : DeviceFeedback W) → is_device_feedback feedback ≡ true → is_feedback_number_or_none feedback.number ≡ true
-of_feedback feedback formed =
-    (and_parts (are_details feedback.details) _ (and_parts (is_number feedback.action) _ (and_parts (is_credential feedback.credential) _ formed).1).1).1
+of_feedback feedback formed = grind (arith, and_parts)
 
 one_keeps : (c : Command) → IsWellFormed c → list_all keeps_number (reported_by c) ≡ true
-one_keeps (Feedback feedback) formed = rw (of_feedback feedback formed) refl
-one_keeps (CancelFeedback feedback) formed = rw (of_feedback feedback formed) refl
-one_keeps _ formed = refl
+one_keeps c formed = grind (arith, of_feedback)
 
 history_keeps : (h : CommandList) → IsValid h → (r j : ℕ) → list_all keeps_number (history h r j) ≡ true
 history_keeps (Make approval) valid r j = refl
-history_keeps (h ▸ c) valid r j = list_all-append keeps_number (history h r j) _ ∙ rw (history_keeps h valid.0 r j) (if_added _ (one_keeps c valid.1))
-  where
-    if_added : (b : Bool) → list_all keeps_number (reported_by c) ≡ true → list_all keeps_number (cond b (reported_by c) []) ≡ true
-    if_added true all = all
-    if_added false all = refl
+history_keeps (h ▸ c) valid r j = grind (arith, nat_tests, history_keeps h valid.0 r j, list_all-append, one_keeps)
 
 pub numbers_kept : (h : CommandList) → IsValid h → (k : ℕ) (a : ActionRecord) → item_numbered (records h).actions k ≡ Some a → list_all keeps_number a.history
     ≡ true
@@ -38,12 +32,7 @@ numbers_kept h valid k a at = let of = has_place h k a at in subst (λ (b : Acti
 
 pub few_numbers : (sequence : ℕ) (reports : List Reported) → length (numbers_from sequence reports) ≤ length reports
 few_numbers sequence [] = omega arith
-few_numbers sequence (r ∷ more) = go r.number (few_numbers (sequence + 1) more)
-  where
-    go : (number : Option ℕ) → length (numbers_from (sequence + 1) more) ≤ length more → length (borne_at sequence number ++ numbers_from (sequence + 1) more)
-        ≤ suc (length more)
-    go None few = omega (arith, few)
-    go (Some n) few = omega (arith, few)
+few_numbers sequence (r ∷ more) = grind (arith, few_numbers (sequence + 1) more)
 
 -- what bears a number
 pub record IsBorne (sequence : ℕ) (reports : List Reported) (it : PlacedNumber) : Type 0 where

@@ -2,7 +2,6 @@ pub mod Common
 mod PieceChecks
 mod ArtifactLemmas
 mod Counting
-mod OneRow
 mod RolloutLemmas
 mod Follow
 mod MemberLemmas
@@ -10,6 +9,8 @@ mod RuleLemmas
 mod GroupLemmas
 mod CodeLemmas
 mod PlanLaw
+mod HeldRows
+mod RecordRows
 mod GroupLaw
 mod Naming
 mod MemberLaw

@@ -1,22 +1,23 @@
 -- What the reads of the table of members come to.
-use Rattle.desk_verify.proofs.Common.{◌≡◌, ℕ, true, List, length, Some, ◌∙◌, nat_eq, column, ListsPlaces, Members, Tables, PlacedMember, is_at, number_in_is}
-use Rattle.desk_verify.proofs.Common.{number_in_least, SettlesWhether, follow, AreAllChecked, IsChecked, AgreesMembers, IsInPlace, IsThere}
-use Rattle.desk_verify.proofs.Follow.{in_place}
-use Rattle.desk_verify.proofs.RolloutLemmas.{decided}
+use native.Mathlib.Omega.{arith}
+use Rattle.desk_verify.proofs.Common.{◌≡◌, ℕ, List, length, nat_eq, column, AreMembers, Members, Tables, PlacedMember, is_at, number_in_is}
+use Rattle.desk_verify.proofs.Common.{number_in_least, SettlesWhether, follow, AreAllChecked, JudgesOne, AgreesMembers, IsInPlace, IsThere}
+use Rattle.std.specs.Bool.{then_some}
+use Rattle.desk_verify.proofs.Follow.{agreeing, in_place}
+use Rattle.desk_verify.proofs.RolloutLemmas.{decided, judged}
 
 -- ---- one rollout
 
-pub fits : (t : Tables) (r : ℕ) (members : List PlacedMember) (count : ℕ) → IsThere t r → ListsPlaces (t Members) r (Some members) → follow 0 members ≡ true
-    → count ≡ length members
-    → IsChecked Members 1 IsInPlace (λ t r. Unit) t r count
-fits t r members count there are h is = record { rows = record { each = in_place t r members there are h; all = is ∙ are.said.count }; whole = tt }
+pub judged_members : (t : Tables) (r : ℕ) (members : List PlacedMember) (count : ℕ) → IsThere t r → AreMembers (t Members) r members → count ≡ length members
+    → JudgesOne Members 1 IsInPlace (λ t r. Unit) AgreesMembers t r (then_some (follow 0 members) count)
+judged_members t r members count there are is = grind (arith, judged, in_place, agreeing)
 
 -- ---- all of them
 
 -- the members of all rollouts that are there, where there are no more
 pub agrees : (t : Tables) (listed all : ℕ) → AreAllChecked Members 1 IsInPlace (λ t r. Unit) t listed → all ≡ length (t Members)
     → SettlesWhether (AgreesMembers t) (nat_eq listed all)
-agrees t listed all checked is = decided Members 1 IsInPlace (λ t r. Unit) AgreesMembers AgreesMembers t listed all checked is
+agrees t listed all checked is = decided AgreesMembers AgreesMembers listed all checked is
     (λ each whole. each)
     (λ agree row among. let it = agree row among in
     record {

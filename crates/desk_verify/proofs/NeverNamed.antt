@@ -1,6 +1,6 @@
 -- A desk that holds the records of accepted commands is never told of a table.
-use Rattle.desk_verify.proofs.Common.{◌∷◌, inl, Option, Some, None, Result, Ok, Err, refl, sym, subst, arith, AllByRecursion, State, Has, all_has, has_right}
-use Rattle.desk_verify.proofs.Common.{Fault, Finds, records, ledger_of, HoldsTables, Tables, are_tables, rows_of, Agrees, IsDamage, NamesFirst, checked}
+use Rattle.desk_verify.proofs.Common.{Option, Some, None, Result, Ok, Err, refl, arith, AllByRecursion, State, all_has, has_right, Fault, Finds, records}
+use Rattle.desk_verify.proofs.Common.{ledger_of, HoldsTables, Tables, are_tables, held_rows, rows_of, Agrees, IsDamage, NamesFirst, checked}
 use Rattle.desk_verify.specs.Promises.{NamesNone, RecordsAgree}
 use Rattle.desk_verify.specs.declared.damage.CheckedTable.{CheckedTable}
 use Rattle.desk_verify.proofs.ActionLaw.{actions_agree}
@@ -11,18 +11,13 @@ use Rattle.desk_verify.proofs.OfferLaw.{offers_agree}
 
 -- each table that has a rule, in the order of the tables
 pub all_agree : RecordsAgree
-all_agree h valid db t held holds = (
+all_agree h valid db t held holds = let rows = held_rows db (ledger_of (records h)) held t holds in (
   artifacts_agree h valid db t held holds,
-  (
-    members_agree h valid db t held holds,
-    (groups_agree h valid db t held holds, (actions_agree h valid db t held holds, (offers_agree h valid db t held holds, tt))),
-  ),
+  (members_agree h valid t rows, (groups_agree h valid t rows, (actions_agree h valid t rows, (offers_agree h valid t rows, tt)))),
 )
 
 named_agrees : (t : Tables) (table : CheckedTable) → NamesFirst t table → AllByRecursion (Agrees t) checked → ⊥
-named_agrees t table named agree =
-    named.differs (all_has (Agrees t) checked table agree
-    (subst (λ l. Has l table) (sym named.order) (has_right named.before (table ∷ named.after) table (inl refl))))
+named_agrees t table named agree = grind (arith, all_has, has_right)
 
 pub never_named : (old new : State) (result : Result (Option CheckedTable) Fault) → Finds HoldsTables (λ (t : Tables). t) old new result IsDamage
     → NamesNone old new result

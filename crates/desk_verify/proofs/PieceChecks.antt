@@ -1,6 +1,7 @@
 -- What is found at the places of an artifact, one after the other.
+use Rattle.desk_records.proofs.Membership.{has_alone}
 use Rattle.desk_verify.proofs.Common.{◌≡◌, ◌≤◌, ◌<◌, ◌⊎◌, inl, inr, ◌++◌, ℕ, zero, suc, ◌+◌, ◌-◌, ◌*◌, List, [], ◌∷◌, length, map, slice_get, get_or, min}
-use Rattle.desk_verify.proofs.Common.{drop, Vec, vec_items, Some, None, refl, sym, ap, ap₂, subst, ◌∙◌, arith, length-append, Global, Blob, Row, Has}
+use Rattle.desk_verify.proofs.Common.{drop, Vec, vec_items, Some, None, refl, sym, ap, ap₂, subst, ◌∙◌, arith, length-append, Global, Blob, Row}
 use Rattle.desk_verify.proofs.Common.{piece_count, Bytes, ArePieces, pieces_in, Pieces, Tables, count_pieces, nth_piece, one_more, same_contents, HashesPieces}
 use Rattle.desk_verify.proofs.Common.{IsHashed, HasPieces, length-drop, length-take, piece_length}
 use Rattle.std.proofs.lemmas.Grind.{div_ceil_times}
@@ -9,10 +10,6 @@ use Rattle.sha2.specs.Hashers.{Holds256}
 use Rattle.sha2.specs.declared.Sha256.{Sha256}
 
 -- ---- what lies at one place
-
-only : {X : Type 0} (x y : X) → Has (x ∷ []) y → y ≡ x
-only x y (inl same) = same
-only x y (inr none) = absurd none
 
 -- where a piece lies alone, it is all that is found
 pub alone : (rows : List Row) (number place : ℕ) (piece : Bytes) (found : List Bytes) → ArePieces rows number place (piece ∷ [])
@@ -26,7 +23,7 @@ alone rows number place piece found one all = go found all (all.count ∙ sym on
         let other = one.complete it.row it.among it.passes in
         let same : Blob x ≡ Blob other.one = sym it.is.bytes_are ∙ other.is.bytes_are in
         let bytes : x ≡ other.one = cc in
-        ap (λ (b : Bytes). b ∷ []) (bytes ∙ only piece other.one other.among)
+        ap (λ (b : Bytes). b ∷ []) (bytes ∙ has_alone piece other.one other.among)
     go (x ∷ y ∷ found) all count = absurd (omega (arith, count))
 
 -- where none lies, none is found
@@ -58,8 +55,7 @@ pub record IsHashedTo (t : Tables) (number size k : ℕ) (hasher : Sha256) : Typ
 pushed : {X : Type 0} (xs : List X) (x : X) (k : ℕ) (y : X) → slice_get (xs ++ x ∷ []) k ≡ Some y → (slice_get xs k ≡ Some y) ⊎ ((k ≡ length xs) × (y ≡ x))
 pushed [] x zero y is = let same : x ≡ y = cc in inr (refl, sym same)
 pushed [] x (suc k) y is = absurd cc
-pushed (z ∷ xs) x zero y is = inl is
-pushed (z ∷ xs) x (suc k) y is = elim (pushed xs x k y is) [ inl it ↦ inl it | inr it ↦ inr (ap suc it.0, it.1) ]
+pushed (z ∷ xs) x k y is = grind (arith, pushed xs x)
 
 -- a place before the last is within the contents
 within_size : (size k : ℕ) → k < piece_count size → k * piece_length < size

@@ -1,14 +1,14 @@
 -- The plans of accepted commands: each is well formed, and leaves no group of its members empty.
 use Rattle.desk_verify.proofs.Common.{◌≡◌, ◌≤◌, ◌<◌, ℕ, zero, suc, ◌+◌, true, false, List, [], ◌∷◌, length, slice_get, Some, None, refl, sym, ap, subst, ◌∙◌}
-use Rattle.desk_verify.proofs.Common.{arith, option_map, and_parts, eqb-true, define_each, is_grouping, item_numbered, CommandList, CreateRollout, RolloutPlan}
+use Rattle.desk_verify.proofs.Common.{arith, option_map, and_parts, eqb-true, define_each, item_numbered, CommandList, CreateRollout, RolloutPlan}
 use Rattle.desk_verify.proofs.Common.{GroupRule, rule_at, rules_of, GroupDefinition, leaves_empty, IsValid, RolloutRecord, length_each, each_created, made}
 use Rattle.desk_verify.proofs.Common.{told_rule, HaveRules, definitions_in, grouping_of, is_plan, each_rule, IsRuleRow}
 use Rattle.rollout_machine.specs.Rollouts.{Rollout, members_of, size_of}
 use Rattle.rollout_machine.specs.Ranges.{each_from}
 use Rattle.rollout_machine.specs.Records.{records}
-use Rattle.rollout_machine.specs.Verdicts.{verdict, verdict_row}
+use Rattle.rollout_machine.specs.Verdicts.{verdict}
 use Rattle.rollout_machine.proofs.AtNumbers.{of_rollout}
-use Rattle.rollout_machine.proofs.Valid.{NoneHolds, none_holds}
+use Rattle.rollout_machine.proofs.Valid.{none_holds}
 use Rattle.desk_verify.proofs.CodeLemmas.{percentage_is}
 
 -- ---- plans
@@ -23,8 +23,7 @@ IsPlannedRollout x = IsPlanned x.plan (size_of x)
 new_is_planned : (h : CommandList) (plan : RolloutPlan) → IsValid h → is_plan plan ≡ true → verdict h (CreateRollout plan) ≡ None
     → IsPlannedRollout (made plan (members_of plan.filter_text h))
 unfolding records
-new_is_planned h plan valid formed accepted = let row : NoneHolds (verdict_row (records h) (CreateRollout plan)) =
-    none_holds (verdict_row (records h) (CreateRollout plan)) accepted in record { formed = formed; full = row.1.1.1.0 }
+new_is_planned h plan valid formed accepted = grind (arith, none_holds)
 
 pub plans_are : (h : CommandList) → IsValid h → (r : ℕ) (y : RolloutRecord) → item_numbered (records h).rollouts r ≡ Some y
     → IsPlanned y.plan (length y.members)
@@ -50,8 +49,7 @@ rule_told plan i formed =
 pub each_has : (Has : ℕ → GroupRule → Type 0) (f : ℕ → GroupRule) (first n : ℕ) → ((i : ℕ) → first ≤ i → i < first + n → Has i (f i))
     → HaveRules Has first (each_from f first n)
 each_has Has f first zero each = tt
-each_has Has f first (suc n) each =
-    (each first (omega arith) (omega arith), each_has Has f (suc first) n (λ i low high. each i (omega (arith, low)) (omega (arith, high))))
+each_has Has f first (suc n) each = grind (arith, each_has Has f (suc first) n)
 
 -- a list is the rest of another from k on
 abbrev IsRest : ℕ → List GroupDefinition → List GroupDefinition → Type 0
@@ -74,16 +72,10 @@ definitions_back plan k (suc n) (d ∷ ds) is few =
     (ap (λ l. d ∷ l) (definitions_back plan (suc k) n ds (next_of k plan.groups.definitions (d ∷ ds) ds is (λ j. refl)) (omega (arith, few))))
 
 no_more : (ds : List GroupDefinition) (count : ℕ) → define_each ds count ≡ true → length ds ≤ count
-no_more [] count each = omega arith
-no_more (d ∷ ds) count each = let same : length (d ∷ ds) ≡ count = eqb-true _ _ (and_parts _ _ each).1 in omega (arith, same)
+no_more ds count each = grind (arith, eqb-true, and_parts)
 
 whole : (ds : List GroupDefinition) → IsRest 0 ds ds
 whole ds j = let at : 0 + j ≡ j = omega arith in ap (slice_get ds) at
 
 pub rules_make : (plan : RolloutPlan) → is_plan plan ≡ true → grouping_of (rules_of plan) ≡ Some plan.groups
-rules_make plan formed =
-    let grouping : is_grouping plan.groups ≡ true = (and_parts _ _ formed).0 in
-    let few = no_more plan.groups.definitions plan.groups.count (and_parts _ _ grouping).1 in
-    let definitions : definitions_in (rules_of plan) ≡ plan.groups.definitions = definitions_back plan 0 plan.groups.count plan.groups.definitions
-    (whole plan.groups.definitions) few in
-    rw (length_each (rule_at plan) 1 plan.groups.count, definitions, grouping) refl
+rules_make plan formed = grind (arith, and_parts, no_more, definitions_back, whole, length_each)

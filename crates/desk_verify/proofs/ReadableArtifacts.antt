@@ -1,13 +1,11 @@
 -- The tables of modules, sets and artifacts can be read where records of accepted commands are held.
-use Rattle.desk_verify.proofs.Common.{◌≡◌, inl, inr, ◌<◌, ◌^◌, ◌&&◌, List, [], ◌∷◌, subst, ℕ, suc, pos, Bool, true, slice_get, Some, None, true≢false, refl}
-use Rattle.desk_verify.proofs.Common.{sym, ap, ◌∙◌, arith, and_parts, CommandList, IsValid, All-contains, list_all, contains_had, has_got, test_has}
-use Rattle.desk_verify.proofs.Common.{limits_hold, Bytes, ModuleLabel, SetLabel, ArtifactRecord, records, are_distinct_numbers, is_digest, is_module_list}
-use Rattle.desk_verify.proofs.Common.{is_number, is_text, place_within, is_in_range, is_small, IsWhole, KeepsRules, all_keep, all_whole, digest_is_one}
-use Rattle.desk_verify.proofs.Common.{broken_artifact_column, broken_stored_artifact_column, artifact_row, piece_row, pieces_in, desk_row, module_row}
-use Rattle.desk_verify.proofs.Common.{Artifacts, Desk}
-use Rattle.desk_verify.proofs.Common.{Modules, Pieces, SetModules, Sets, columns_of_stored_artifact, columns_of_artifact, BreaksColumn}
-use Rattle.desk_verify.proofs.Common.{columns_of_module_label, Has, Row, Int}
-use Rattle.desk_verify.proofs.Common.{columns_of_set_name}
+use Rattle.desk_verify.proofs.ArtifactLaw.{is_artifact, its_digest, keeps_rules, small_size}
+use Rattle.desk_records.proofs.Membership.{has_alone}
+use Rattle.desk_verify.proofs.Common.{◌≡◌, inl, inr, ◌<◌, ◌&&◌, List, ◌∷◌, ℕ, suc, pos, Bool, slice_get, Some, None, true≢false, refl, sym, ◌∙◌, arith}
+use Rattle.desk_verify.proofs.Common.{and_parts, CommandList, IsValid, list_all, has_got, test_has, limits_hold, Bytes, ModuleLabel, SetLabel, ArtifactRecord}
+use Rattle.desk_verify.proofs.Common.{records, are_distinct_numbers, is_module_list, is_number, is_text, place_within, is_in_range, is_small}
+use Rattle.desk_verify.proofs.Common.{broken_artifact_column, artifact_row, piece_row, pieces_in, desk_row, module_row, Artifacts, Desk, Modules, Pieces}
+use Rattle.desk_verify.proofs.Common.{SetModules, Sets, columns_of_artifact, BreaksColumn, columns_of_module_label, Int, columns_of_set_name}
 use Rattle.desk_records.specs.ReadRows.{broken_module_label_column, broken_set_name_column}
 use Rattle.desk_records.specs.Sets.{place_row, set_row}
 use Rattle.desk_records.specs.Versions.{newest}
@@ -21,14 +19,7 @@ desk_is_told : (b : Bool) → BreaksColumn Desk (desk_row newest b) → ⊥
 desk_is_told b none = let told : Some b ≡ None = sym (flag_is b) ∙ none in absurd cc
 
 pub keeps_desk : (h : CommandList) → Keeps (records h) Desk
-keeps_desk h rows are = go rows are
-  where
-    go : (rows : List Row) → rows ≡ desk_row newest (records h).approval ∷ [] → (row : Row) → Has rows row → BreaksColumn Desk row → ⊥
-    go rows are row among = one row (subst (λ (l : List Row). Has l row) are among)
-      where
-        one : (row : Row) → Has (desk_row newest (records h).approval ∷ []) row → BreaksColumn Desk row → ⊥
-        one row (inl same) breaks = desk_is_told (records h).approval (subst (BreaksColumn Desk) same breaks)
-        one row (inr none) breaks = absurd none
+keeps_desk h rows are row among breaks = grind (arith, desk_is_told, has_alone)
 
 -- ---- modules
 
@@ -80,32 +71,19 @@ keeps_set_modules h valid rows held = of_parts (λ row. BreaksColumn SetModules 
 
 -- ---- artifacts
 
-module _ (h : CommandList) (valid : IsValid h) (d : ℕ) (a : ArtifactRecord) (at : slice_get (records h).artifacts d ≡ Some a) where
-  whole : IsWhole a
-  whole = All-contains IsWhole (records h).artifacts a (all_whole h) (contains_had (records h).artifacts a (has_got (records h).artifacts d a at))
+one_artifact : (h : CommandList) (valid : IsValid h) (d : ℕ) (a : ArtifactRecord) → slice_get (records h).artifacts d ≡ Some a
+    → BreaksColumn Artifacts (artifact_row (suc d) a) → ⊥
+one_artifact h valid d a at breaks = elim breaks [
+  | inl none ↦ fails_not _ (is_sized (suc d) (omega (arith, few))) none
+  | inr broken ↦ elim broken [ inl it ↦ unbroken _ (is_artifact h valid d at).kept it | inr it ↦ unbroken _ listed it ]
+]
+  where
+    few : d < 256
+    few = omega (arith, place_within (records h).artifacts d a at, (limits_hold h valid).artifacts)
 
-  keeps : KeepsRules a
-  keeps = All-contains KeepsRules (records h).artifacts a (all_keep h valid) (contains_had (records h).artifacts a (has_got (records h).artifacts d a at))
-
-  digest : is_digest a.digest ≡ true
-  digest = ap is_digest whole.1 ∙ digest_is_one a.contents
-
-  few : d < 256
-  few = let less = place_within (records h).artifacts d a at in let most = (limits_hold h valid).artifacts in omega (arith, less, most)
-
-  small : a.size < 2 ^ 32
-  small = omega (arith, whole.0, keeps.few)
-
-  stored : broken_stored_artifact_column (columns_of_stored_artifact (artifact_row (suc d) a)) ≡ None
-  stored = rw (keeps.module_number, keeps.filename, is_small a.size small, digest) refl
-
-  listed : broken_artifact_column (columns_of_artifact (artifact_row (suc d) a)) ≡ None
-  listed = rw (is_in_range (suc d) (omega arith) (omega (arith, few)), keeps.filename, is_small a.size small, digest) refl
-
-  one_artifact : BreaksColumn Artifacts (artifact_row (suc d) a) → ⊥
-  one_artifact (inl none) = fails_not _ (is_sized (suc d) (omega (arith, few))) none
-  one_artifact (inr (inl broken)) = unbroken _ stored broken
-  one_artifact (inr (inr broken)) = unbroken _ listed broken
+    listed : broken_artifact_column (columns_of_artifact (artifact_row (suc d) a)) ≡ None
+    listed = let keeps = keeps_rules h valid d at in
+        rw (is_in_range (suc d) (omega arith) (omega (arith, few)), keeps.filename, is_small a.size (small_size h valid d at), its_digest h d at) refl
 
 pub keeps_artifacts : (h : CommandList) → IsValid h → Keeps (records h) Artifacts
 keeps_artifacts h valid rows are = of_ordered (λ row. BreaksColumn Artifacts row → ⊥) artifact_row (records h).artifacts rows are (one_artifact h valid)

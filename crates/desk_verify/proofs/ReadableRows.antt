@@ -1,7 +1,8 @@
 -- What the rows of a table are made of where a ledger is held, and when a row breaks no column.
-use Rattle.desk_verify.proofs.Common.{◌≡◌, ℕ, suc, pos, Bool, true, false, List, ◌∷◌, map, slice_get, Option, Some, None, true≢false, sym, ap, subst, ◌∙◌}
-use Rattle.desk_verify.proofs.Common.{arith, Records, ledger_of, IsHeld, flat_map, Has, Row, Int, IsHeldBy, rows_from, numbered, of_part, wanted_of}
+use Rattle.desk_verify.proofs.Common.{◌≡◌, ℕ, suc, pos, Bool, true, false, List, ◌∷◌, map, slice_get, Option, Some, None, true≢false, sym, subst, ◌∙◌}
+use Rattle.desk_verify.proofs.Common.{Records, ledger_of, IsHeld, flat_map, Has, Row, Int, IsHeldBy, rows_from, wanted_of}
 use Rattle.desk_verify.proofs.Common.{has_mapped, parts_from, Place, Column, BreaksColumn, has_flat}
+use Rattle.desk_verify.proofs.HeldRows.{item_of, part_of}
 use Rattle.desk_records.specs.RowFaults.{BreaksRule}
 
 -- ---- what is so of each row
@@ -10,10 +11,7 @@ module _ (P : Row → Type 0) where
   -- of a table of numbered rows
   pub of_ordered : {X : Type 0} (f : ℕ → X → Row) (xs : List X) (rows : List Row) → rows ≡ rows_from f 1 xs
       → ((d : ℕ) (x : X) → slice_get xs d ≡ Some x → P (f (suc d) x)) → (row : Row) → Has rows row → P row
-  of_ordered f xs rows are each row among =
-      let it = numbered f 1 xs row (subst (λ (l : List Row). Has l row) are among) in
-      let at : it.at ≡ suc it.index = (let k = it.at_is in omega (arith, k)) in
-      subst P (sym (it.is ∙ ap (λ n. f n it.one) at)) (each it.index it.one it.got)
+  of_ordered f xs rows are each row among = let it = item_of f xs are row among in subst P (sym it.is) (each it.d it.one it.got)
 
   -- of one whose numbers nobody knows
   pub of_unordered : (wanted rows : List Row) → IsHeldBy rows wanted → ((n : ℕ) (x : Row) → Has wanted x → P (Int (pos n) ∷ x)) → (row : Row) → Has rows row
@@ -25,17 +23,8 @@ module _ (P : Row → Type 0) where
   pub of_parts : {X Y : Type 0} (f : ℕ → ℕ → Y → Row) (items : X → List Y) (xs : List X) (rows : List Row) → IsHeldBy rows (parts_from f items 1 xs)
       → ((n d k : ℕ) (x : X) (y : Y) → slice_get xs d ≡ Some x → slice_get (items x) k ≡ Some y → P (Int (pos n) ∷ f (suc d) (suc k) y)) → (row : Row)
       → Has rows row → P row
-  of_parts f items xs rows held each = of_unordered (parts_from f items 1 xs) rows held one
-    where
-      one : (n : ℕ) (x : Row) → Has (parts_from f items 1 xs) x → P (Int (pos n) ∷ x)
-      one n x among =
-          let of = of_part f items 1 xs x among in
-          let item = numbered (f of.number) 1 (items of.whole) x of.among in
-          let at : of.number ≡ suc of.index = (let k = of.number_is in omega (arith, k)) in
-          let place : item.at ≡ suc item.index = (let k = item.at_is in omega (arith, k)) in
-          let own : x ≡ f (suc of.index) (suc item.index) item.one = item.is ∙ ap (λ k. f k item.at item.one) at ∙ ap (λ k. f (suc of.index) k item.one)
-          place in
-          subst (λ (z : Row). P (Int (pos n) ∷ z)) (sym own) (each n of.index item.index of.whole item.one of.got item.got)
+  of_parts f items xs rows held each row among = let it = part_of f items xs held row among in
+      subst P (sym it.is) (each it.n it.d it.k it.whole it.one it.got it.lies)
 
   -- .. that are made of a list
   pub of_mapped : {X : Type 0} (f : X → Row) (xs : List X) (rows : List Row) → IsHeldBy rows (map f xs) → ((n : ℕ) (x : X) → Has xs x → P (Int (pos n) ∷ f x))

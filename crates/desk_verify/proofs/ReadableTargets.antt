@@ -1,7 +1,8 @@
 -- The tables of targets and members can be read where records of accepted commands are held.
+use Rattle.desk_verify.proofs.RecordRows.{is_member}
 use Rattle.desk_verify.proofs.Common.{◌≡◌, inl, inr, ◌<◌, ◌^◌, ℕ, pos, List, [], ◌∷◌, length, None, refl, arith, and_parts, CommandList, IsValid}
-use Rattle.desk_verify.proofs.Common.{RolloutRecord, ledger_of, IsHeld, length-map, has_got, test_has, Has, Row, Int, Text, limits_hold, Attribute, Bytes}
-use Rattle.desk_verify.proofs.Common.{records, is_value, is_word, member_row, Members, TargetAttributes, TargetTags, Targets, BreaksColumn, member_ids}
+use Rattle.desk_verify.proofs.Common.{RolloutRecord, ledger_of, IsHeld, length-map, test_has, Has, Row, Int, Text, limits_hold, Attribute, Bytes}
+use Rattle.desk_verify.proofs.Common.{records, is_value, is_word, member_row, Members, TargetAttributes, TargetTags, Targets, BreaksColumn}
 use Rattle.desk_verify.proofs.Common.{columns_of_attribute, columns_of_listed_target, columns_of_stored_target}
 use Rattle.rollout_machine.specs.Targets.{Target}
 use Rattle.sql_calls.proofs.Counts.{length_held}
@@ -70,4 +71,4 @@ members_in x = x.members
 pub keeps_members : (h : CommandList) → IsValid h → Keeps (records h) Members
 keeps_members h valid rows held =
     of_parts (λ row. BreaksColumn Members row → ⊥) member_row members_in (records h).rollouts rows held
-    (λ n d k x id at its. fails_not (is_word id) (member_ids h valid x (has_got (records h).rollouts d x at) id (has_got x.members k id its)))
+    (λ n d k x id at its. fails_not (is_word id) (is_member h valid d at n k its).word)

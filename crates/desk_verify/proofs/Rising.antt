@@ -1,32 +1,63 @@
 -- Lists whose numbers rise.
-use Rattle.desk_verify.proofs.Common.{◌≡◌, ◌⊎◌, inl, inr, ◌<◌, ℕ, true, List, [], ◌∷◌, map, nat_lt, sym, ap, ◌∙◌, arith, and_parts, nat_tests, Has, rise}
+use Rattle.desk_verify.proofs.Common.{◌≡◌, inl, inr, ◌<◌, ℕ, true, List, [], ◌∷◌, map, ap, arith, and_parts, nat_tests, Has, rise, subst, refl}
+use Rattle.std.specs.List.{AllZip}
+
+-- each is greater than the one that they rise from
+pub above : {X : Type 0} (f : X → ℕ) (last : ℕ) (xs : List X) → rise last (map f xs) ≡ true → (x : X) → Has xs x → last < f x
+above f last [] h x among = absurd among
+above f last (y ∷ xs) h x among = grind (arith, nat_tests, above f (f y) xs)
 
 module _ {X : Type 0} (f : X → ℕ) where
-  -- each is greater than the one that they rise from
-  pub above : (last : ℕ) (xs : List X) → rise last (map f xs) ≡ true → (x : X) → Has xs x → last < f x
-  above last [] h x among = absurd among
-  above last (y ∷ xs) h x among = go (grind (arith, nat_tests, parts.0)) among (above (f y) xs parts.1 x)
-    where
-      parts : (nat_lt last (f y) ≡ true) × (rise (f y) (map f xs) ≡ true)
-      parts = and_parts (nat_lt last (f y)) (rise (f y) (map f xs)) h
-
-      go : last < f y → (x ≡ y) ⊎ Has xs x → (Has xs x → f y < f x) → last < f x
-      go less (inl same) later = let it = ap f same in omega (arith, it, less)
-      go less (inr it) later = let more = later it in omega (arith, more, less)
-
   pub rest_rises : (last : ℕ) (x : X) (xs : List X) → rise last (map f (x ∷ xs)) ≡ true → rise (f x) (map f xs) ≡ true
-  rest_rises last x xs h = (and_parts (nat_lt last (f x)) (rise (f x) (map f xs)) h).1
+  rest_rises last x xs h = (and_parts _ _ h).1
 
   -- no two are of one number
   pub only_one : (last : ℕ) (xs : List X) → rise last (map f xs) ≡ true → (x y : X) → Has xs x → Has xs y → f x ≡ f y → x ≡ y
   only_one last [] h x y at_x at_y same = absurd at_x
-  only_one last (z ∷ xs) h x y at_x at_y same = go at_x at_y (λ a b. only_one (f z) xs rest x y a b same)
-    where
-      rest : rise (f z) (map f xs) ≡ true
-      rest = rest_rises last z xs h
+  only_one last (z ∷ xs) h x y at_x at_y same = grind (arith, nat_tests, only_one (f z) xs, above f (f z) xs)
 
-      go : (x ≡ z) ⊎ Has xs x → (y ≡ z) ⊎ Has xs y → (Has xs x → Has xs y → x ≡ y) → x ≡ y
-      go (inl a) (inl b) later = a ∙ sym b
-      go (inl a) (inr b) later = let more = above (f z) xs rest y b in let it = ap f a in absurd (omega (arith, more, it, same))
-      go (inr a) (inl b) later = let more = above (f z) xs rest x a in let it = ap f b in absurd (omega (arith, more, it, same))
-      go (inr a) (inr b) later = later a b
+  -- where another number rises along, it is greater where the first one is
+  pub rise_both : (g : X → ℕ) (last before : ℕ) (xs : List X) → rise last (map f xs) ≡ true → rise before (map g xs) ≡ true → (x y : X) → Has xs x → Has xs y
+      → f x < f y → g x < g y
+  rise_both g last before [] h k x y at_x at_y less = absurd at_x
+  rise_both g last before (z ∷ xs) h k x y at_x at_y less = grind (arith, nat_tests, rise_both g (f z) (g z) xs, above f (f z) xs, above g (g z) xs)
+
+-- Two lists rise, the second one as another number of its items does. Where each item of either one has one of the other list, they go in step.
+module _ {X Y : Type 0} (f : X → ℕ) (g h : Y → ℕ) (R : X → Y → Type 0) (keyed : (x : X) (y : Y) → R x y → f x ≡ g y) where
+  pub in_step : (last before : ℕ) (xs : List X) (ys : List Y) → rise last (map f xs) ≡ true → rise before (map h ys) ≡ true
+      → ((a b : Y) → Has ys a → Has ys b → h a < h b → g a < g b) → ((x : X) → Has xs x → (y : Y) × Has ys y × R x y)
+      → ((y : Y) → Has ys y → (x : X) × Has xs x × R x y) → AllZip R xs ys
+  in_step last before [] [] p q along there back = tt
+  in_step last before [] (y ∷ ys) p q along there back = absurd (back y (inl refl)).1
+  in_step last before (x ∷ xs) [] p q along there back = absurd (there x (inl refl)).1
+  in_step last before (x ∷ xs) (y ∷ ys) p q along there back = (
+    head,
+    in_step (f x) (h y) xs ys (rest_rises f last x xs p) (rest_rises h before y ys q) (λ a b at_a at_b. along a b (inr at_a) (inr at_b))
+        (λ z among. let its = there z (inr among) in elim its.1 [
+          | inl same ↦ absurd (let one = keyed z its.0 its.2 in let other = ap g same in omega (arith, one, other, first, behind z among))
+          | inr later ↦ (its.0, later, its.2)
+        ])
+        (λ z among. let its = back z (inr among) in elim its.1 [
+          | inl same ↦ absurd (let one = keyed its.0 z its.2 in let other = ap f same in omega (arith, one, other, first, after z among))
+          | inr later ↦ (its.0, later, its.2)
+        ]),
+  )
+    where
+      behind : (z : X) → Has xs z → f x < f z
+      behind z among = above f (f x) xs (rest_rises f last x xs p) z among
+
+      after : (z : Y) → Has ys z → g y < g z
+      after z among = along y z (inl refl) (inr among) (above h (h y) ys (rest_rises h before y ys q) z among)
+
+      head : R x y
+      head = let its = there x (inl refl) in let mine = back y (inl refl) in elim its.1 [
+        | inl same ↦ subst (R x) same its.2
+        | inr later ↦ elim mine.1 [
+          | inl own ↦ subst (λ z. R z y) own mine.2
+          | inr more ↦ absurd (let one = keyed x its.0 its.2 in let other = keyed mine.0 y mine.2 in
+              omega (arith, one, other, after its.0 later, behind mine.0 more))
+        ]
+      ]
+
+      first : f x ≡ g y
+      first = keyed x y head

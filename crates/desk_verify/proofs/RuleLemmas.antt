@@ -1,38 +1,25 @@
 -- What is said of the groups of a rollout, and how it is cut by that.
-use Rattle.desk_verify.proofs.Common.{◌≡◌, ◌≤◌, ℕ, suc, ◌+◌, Bool, true, false, cond, List, [], ◌∷◌, ◌++◌, length, Some, None, refl, sym, ap, subst, ◌∙◌}
-use Rattle.desk_verify.proofs.Common.{arith, pos, and_parts, leb-true, Row, column, has_rowid, Grouping, is_grouping, GroupRule, percentage_in}
-use Rattle.desk_verify.proofs.Common.{percentage_or_none_in, IsOnly, Rollouts, IsRollout, Tables, StoredRollout, SaysRule, HasGroupCount, HasRule, HaveRules}
-use Rattle.desk_verify.proofs.Common.{definitions_in, grouping_of, grouping_with, no_grouping, HasOnlyRule, HaveOnlyRules, IsCutOnlyBy, IsGroupCount, IsCutBy}
-use Rattle.desk_verify.proofs.Common.{HasRollout, Place, Rules}
+use Rattle.desk_verify.proofs.Common.{◌≡◌, ◌≤◌, ℕ, suc, ◌+◌, Bool, true, false, cond, List, [], ◌∷◌, ◌++◌, length, Some, None, refl, sym, ap, subst, ◌∙◌, arith}
+use Rattle.desk_verify.proofs.Common.{pos, and_parts, leb-true, Row, column, has_rowid, Grouping, is_grouping, GroupRule, IsOnly, Rollouts, IsRollout, Tables}
+use Rattle.desk_verify.proofs.Common.{StoredRollout, SaysRule, HasGroupCount, HasRule, HaveRules, definitions_in, grouping_of, grouping_with, no_grouping}
+use Rattle.desk_verify.proofs.Common.{HasOnlyRule, HaveOnlyRules, IsCutOnlyBy, IsGroupCount, IsCutBy, HasRollout, Place, Rules}
 use Rattle.rollout_model.specs.declared.group_definition.GroupDefinition.{GroupDefinition}
-use Rattle.desk_records.proofs.KeptColumns.{one_in}
 use Rattle.desk_store.specs.Unreadable.{IsUnreadableIn}
 
 -- ---- how many groups a rollout is to have
 
 pub found_count : (t : Tables) (r : ℕ) (found : StoredRollout) → IsOnly (t Rollouts) (has_rowid (pos r)) IsRollout found → IsGroupCount t r found.plan.groups
-found_count t r found one = record {
-  there = record { row = one.said.row; among = one.said.among; numbered = one.said.passes; says = one.said.is.groups };
-  only = λ k has. (let it = one.each has.row has.among has.numbered in let same : Some k ≡ Some found.plan.groups = sym has.says ∙ it.groups in cc);
-}
+found_count t r found one = grind arith
 
 -- ---- rules
 
 one_rule : (row : Row) (a b : GroupRule) → SaysRule row a → SaysRule row b → a ≡ b
-one_rule row a b is other =
-    let percentage = one_in (percentage_or_none_in (column row 3)) a.percentage b.percentage is.percentage other.percentage in
-    let success = one_in (percentage_in (column row 4)) a.success b.success is.success other.success in
-    let error = one_in (percentage_in (column row 5)) a.error b.error is.error other.error in
-    λ i. record { percentage = percentage i; success = success i; error = error i }
+one_rule row a b is other = grind (arith, column)
 
 pub one_rule_more : (Has : ℕ → GroupRule → Type 0) (i : ℕ) (rules : List GroupRule) (rule : GroupRule) → HaveRules Has i rules → Has (i + length rules) rule
     → HaveRules Has i (rules ++ rule ∷ [])
 one_rule_more Has i [] rule have has = (subst (λ k. Has k rule) (let e : i + 0 ≡ i = omega arith in e) has, tt)
-one_rule_more Has i (first ∷ rules) rule have has = (
-  have.0,
-  one_rule_more Has (suc i) rules rule have.1
-      (subst (λ k. Has k rule) (let e : i + suc (length rules) ≡ suc i + length rules = omega arith in e) has),
-)
+one_rule_more Has i (first ∷ rules) rule have has = grind (arith, one_rule_more Has (suc i) rules rule have.1)
 
 module _ (t : Tables) (r : ℕ) where
   are_said : (i : ℕ) (rules : List GroupRule) → HaveRules (HasOnlyRule t r) i rules → HaveRules (HasRule t r) i rules
@@ -44,23 +31,20 @@ module _ (t : Tables) (r : ℕ) where
   same_rules i [] [] said only many = refl
   same_rules i [] (other ∷ others) said only many = absurd (omega (arith, many))
   same_rules i (rule ∷ rules) [] said only many = absurd (omega (arith, many))
-  same_rules i (rule ∷ rules) (other ∷ others) said only many =
-      let first : other ≡ rule = one_rule said.0.row other rule said.0.is (only.0.each said.0.row said.0.among said.0.passes) in
-      let rest = same_rules (suc i) rules others said.1 only.1 (omega (arith, many)) in
-      λ k. first k ∷ rest k
+  same_rules i (rule ∷ rules) (other ∷ others) said only many = grind (arith, same_rules (suc i) rules others said.1 only.1 (omega (arith, many)), one_rule)
 
 -- ---- the grouping that they make
 
 pub grouping_is : (n : ℕ) (ds : List GroupDefinition) (groups : Grouping) → grouping_with n ds ≡ Some groups → (groups ≡ record { count = n; definitions = ds })
     × (is_grouping groups ≡ true)
-grouping_is n ds groups made = go (is_grouping (record { count = n; definitions = ds })) refl made
+grouping_is n ds groups made = elim (is_grouping own) as
+    (λ b. is_grouping own ≡ b → cond b (Some own) None ≡ Some groups → (groups ≡ own) × (is_grouping groups ≡ true)) [
+      | true ↦ λ is its. (let same : own ≡ groups = cc in (sym same, ap is_grouping (sym same) ∙ is))
+      | false ↦ λ is its. absurd cc
+    ] refl made
   where
     own : Grouping
     own = record { count = n; definitions = ds }
-
-    go : (b : Bool) → is_grouping own ≡ b → cond b (Some own) None ≡ Some groups → (groups ≡ own) × (is_grouping groups ≡ true)
-    go true is made = let same : own ≡ groups = cc in (sym same, ap is_grouping (sym same) ∙ is)
-    go false is made = absurd cc
 
 pub some_groups : (groups : Grouping) (rules : List GroupRule) → grouping_of rules ≡ Some groups → 1 ≤ groups.count
 some_groups groups rules made = leb-true _ _ (and_parts _ _ (and_parts _ _ (grouping_is (length rules) (definitions_in rules) groups made).1).0).0

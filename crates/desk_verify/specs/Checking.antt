@@ -1,17 +1,11 @@
 -- What is known while a table is checked: which tables are read, and that those before it agree.
-use Rattle.std.specs.Prelude.{◌≡◌, true}
-use Rattle.desk_records.specs.Schema.{Actions, Feedbacks, Groups, Members, Numbers, Place, Rollouts, Rules}
+use Rattle.desk_records.specs.Schema.{Actions, Feedbacks, Groups, Members, Numbers, Pieces, Rollouts, Rules}
 use Rattle.desk_store.specs.Blaming.{Reading, ReadsOf}
 use Rattle.desk_store.specs.RawLists.{AreOffers}
 use Rattle.desk_verify.specs.Agreement.{AgreeBefore}
-use Rattle.desk_verify.specs.Stopping.{is_read_for}
+use Rattle.desk_verify.specs.RolloutChecks.{IsGoneThrough}
 use Rattle.desk_verify.specs.declared.damage.CheckedTable.{CheckedTable}
-use Rattle.desk_verify.specs.declared.damage.CheckedTable.TheVariants.{Action, Offer}
-
--- any of the tables
-pub record ChecksTable (table : CheckedTable) (reading : Reading) : Type 0 where
-  pub agree : AgreeBefore table reading.tables
-  pub reads : (place : Place) → is_read_for table place ≡ true → ReadsOf place reading
+use Rattle.desk_verify.specs.declared.damage.CheckedTable.TheVariants.{Action, Artifact, Member, Offer, RolloutGroup}
 
 pub record ChecksGroups (reading : Reading) : Type 0 where
   pub members : ReadsOf Members reading
@@ -34,3 +28,11 @@ pub record ChecksOffers (reading : Reading) : Type 0 where
 pub record ChecksDueActions (reading : Reading) : Type 0 where
   pub checks : ChecksOffers reading
   pub offers : AreOffers reading.tables
+
+-- any of the tables
+abbrev pub ChecksTable : CheckedTable → Reading → Type 0
+ChecksTable Artifact = ReadsOf Pieces
+ChecksTable Member = IsGoneThrough Members (ReadsOf Members)
+ChecksTable RolloutGroup = IsGoneThrough Groups ChecksGroups
+ChecksTable Action = IsGoneThrough Actions ChecksActions
+ChecksTable Offer = ChecksOffers

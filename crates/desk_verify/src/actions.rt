@@ -36,7 +36,7 @@ impl<S: Alter> ByRollout<S> for Actions {
     fn check_rollout(
         change: &mut OpenChange<'_, S>,
         rollout: &NumberedRollout,
-    ) -> Result<Option<u32>, Fault> {
+    ) -> Result<Option<usize>, Fault> {
         let Some(actions) = actions_of(change, rollout.number)? else {
             return Ok(None);
         };
@@ -47,13 +47,8 @@ impl<S: Alter> ByRollout<S> for Actions {
         if !are_for(&members, &actions) {
             return Ok(None);
         }
-        if !fit_histories(change, &actions)? {
-            return Ok(None);
-        }
-        match u32::try_from(actions.len()) {
-            Ok(count) => Ok(Some(count)),
-            Err(_) => Err(Fault::Broken),
-        }
+        let fit = fit_histories(change, &actions)?;
+        Ok(fit.then_some(actions.len()))
     }
 }
 
@@ -67,11 +62,11 @@ pub(crate) fn check_actions<S: Alter>(change: &mut OpenChange<'_, S>) -> Result<
         return Ok(false);
     };
     let all = change.count_actions()?;
-    Ok(listed == all)
+    Ok(listed == all as usize)
 }
 
 /// How many actions a rollout has that isn't started, where it has none.
-fn count_none(actions: &[ListedAction]) -> Option<u32>
+fn count_none(actions: &[ListedAction]) -> Option<usize>
     ensures { result ≡ count_none actions.now }
 {
     if actions.is_empty() { Some(0) } else { None }

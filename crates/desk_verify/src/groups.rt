@@ -34,7 +34,7 @@ impl<S: Alter> ByRollout<S> for Groups {
     fn check_rollout(
         change: &mut OpenChange<'_, S>,
         rollout: &NumberedRollout,
-    ) -> Result<Option<u32>, Fault> {
+    ) -> Result<Option<usize>, Fault> {
         let grouping = read_grouping(change, rollout)?;
         let members = change.count_places(rollout.number)?;
         let Some(groups) = change.list_groups(rollout.number)? else {
@@ -44,13 +44,7 @@ impl<S: Alter> ByRollout<S> for Groups {
         let Ok(right) = are_right(change.alloc(), &groups, &actions, members, &grouping) else {
             return Err(Fault::Memory);
         };
-        if !right {
-            return Ok(None);
-        }
-        match u32::try_from(groups.len()) {
-            Ok(listed) => Ok(Some(listed)),
-            Err(_) => Err(Fault::Broken),
-        }
+        Ok(right.then_some(groups.len()))
     }
 }
 
@@ -64,5 +58,5 @@ pub(crate) fn check_groups<S: Alter>(change: &mut OpenChange<'_, S>) -> Result<b
         return Ok(false);
     };
     let all = change.count_groups()?;
-    Ok(listed == all)
+    Ok(listed == all as usize)
 }

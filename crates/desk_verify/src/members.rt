@@ -31,17 +31,11 @@ impl<S: Alter> ByRollout<S> for Members {
     fn check_rollout(
         change: &mut OpenChange<'_, S>,
         rollout: &NumberedRollout,
-    ) -> Result<Option<u32>, Fault> {
+    ) -> Result<Option<usize>, Fault> {
         let Some(members) = change.list_places(rollout.number)? else {
             return Ok(None);
         };
-        if !are_in_place(&members) {
-            return Ok(None);
-        }
-        match u32::try_from(members.len()) {
-            Ok(count) => Ok(Some(count)),
-            Err(_) => Err(Fault::Broken),
-        }
+        Ok(are_in_place(&members).then_some(members.len()))
     }
 }
 
@@ -55,5 +49,5 @@ pub(crate) fn check_members<S: Alter>(change: &mut OpenChange<'_, S>) -> Result<
         return Ok(false);
     };
     let all = change.count_members()?;
-    Ok(listed == all)
+    Ok(listed == all as usize)
 }

@@ -45,20 +45,15 @@ impl<S: Alter> ByRollout<S> for Actions {
     fn check_rollout(
         change: &mut OpenChange<'_, S>,
         rollout: &NumberedRollout,
-    ) -> Result<Option<u32>, Fault> {
+    ) -> Result<Option<usize>, Fault> {
         let Some(groups) = change.list_groups(rollout.number)? else {
             return Err(Fault::Broken);
         };
         let Some(actions) = change.list_all_actions(rollout.number)? else {
             return Err(Fault::Broken);
         };
-        if !are_offered_if_due(change, &groups, &actions)? {
-            return Ok(None);
-        }
-        match u32::try_from(actions.len()) {
-            Ok(count) => Ok(Some(count)),
-            Err(_) => Err(Fault::Broken),
-        }
+        let offered = are_offered_if_due(change, &groups, &actions)?;
+        Ok(offered.then_some(actions.len()))
     }
 }
 

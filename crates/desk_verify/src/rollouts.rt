@@ -41,7 +41,7 @@ pub(crate) trait ByRollout<S: Alter> {
     fn check_rollout(
         change: &mut OpenChange<'_, S>,
         rollout: &NumberedRollout,
-    ) -> Result<Option<u32>, Fault>
+    ) -> Result<Option<usize>, Fault>
         ensures stays { StaysIn S.Store change.old change.new result }
         ensures judges { FindsTables S.Store change.old change.new result
             (λ t count. HasRollout t rollout.now.number rollout.now.rollout → JudgesOne table column is_right is_whole agrees t rollout.now.number count) }
@@ -51,13 +51,13 @@ pub(crate) trait ByRollout<S: Alter> {
 /// How many rows are of rollouts that are there; `None` where the table doesn't agree.
 pub(crate) fn check_rollouts<T: ByRollout<S>, S: Alter>(
     change: &mut OpenChange<'_, S>,
-) -> Result<Option<u32>, Fault>
+) -> Result<Option<usize>, Fault>
     ensures stays { StaysIn S.Store change.old change.new result }
     ensures judges { FindsTables S.Store change.old change.new result (λ t count. JudgesAll T.table T.column T.is_right T.is_whole T.agrees t count) }
     ensures blames { BlamesGiven S.Store (IsGoneThrough T.table T.given) change.old change.new result }
 {
     let last = change.read_last_rollout()?;
-    let mut listed: u32 = 0;
+    let mut listed: usize = 0;
     for before in 0..last {
         let rollout = rollout_of(change, before + 1)?;
         let Some(count) = T::check_rollout(change, &rollout)? else {

@@ -10,7 +10,7 @@ pub returns-then-not-branch-clause-judges : goal.returns-then-not-branch-clause-
 returns-then-not-branch-clause-judges g c =
     finds_as (both_found (rw c.in-Some.is at c.in_ok-listed.ensures.reads)
     (rw (c.deref.ensures.value, c.if-not-branch.true) at c.in_ok-are_right.ensures.judges))
-    (λ t is. one_wrong t c.in_action_order-offers.result.items (sorted_said c.in_action_order-offers.ensures is.0) is.1)
+    (λ t is. one_wrong t (sorted_said c.in_action_order-offers.ensures is.0) is.1)
 
 pub returns-clause-judges : goal.returns-clause-judges
 returns-clause-judges g c =
@@ -18,7 +18,7 @@ returns-clause-judges g c =
     (both_found (rw c.in-Some.is at c.in_ok-listed.ensures.reads)
     (both_found (rw (c.deref.ensures.value, c.if-not-branch.false) at c.in_ok-are_right.ensures.judges) c.in_ok-offered.ensures.judges))
     (λ t is. subst (SettlesWhether (AgreesOffers t)) (sym c.is_some.ensures)
-    (agrees t c.in_action_order-offers.result.items (sorted_said c.in_action_order-offers.ensures is.0) is.1.0 c.in_ok-offered.offered is.1.1))
+    (agrees t (sorted_said c.in_action_order-offers.ensures is.0) is.1.0 c.in_ok-offered.offered is.1.1))
 
 pub returns-in_err-offered-clause-blames : goal.returns-in_err-offered-clause-blames
 returns-in_err-offered-clause-blames g c =

@@ -9,7 +9,7 @@ loop-before-init g c = record {
   stays = search rules;
   blames = search rules;
   judged =
-      finds_as c.in_ok-last.ensures.tells (λ t is. (is, none_yet g.T.ByRollout.table g.T.ByRollout.column g.T.ByRollout.is_right g.T.ByRollout.is_whole t));
+      finds_as c.in_ok-last.ensures.tells (λ t is. (is, none_yet));
 }
 
 pub returns-in_default-clause-judges : goal.returns-in_default-clause-judges
@@ -26,9 +26,7 @@ loop-before-preserved g c =
       judged = finds_as (both_found c.loop-before.invariant.judged (both_found c.in_ok-rollout.ensures.reads (rw c.in-Some.is at c.in_ok-count.ensures.judges)))
           (λ t is. (
             is.0.0,
-            one_more g.T.ByRollout.table g.T.ByRollout.column g.T.ByRollout.is_right g.T.ByRollout.is_whole t c.loop-before.before c.loop-before.listed
-                c.in-Some.count c.in-Some-checked_add.sum c.in_ok-rollout.rollout.number
-                is.0.1 c.in_ok-rollout.ensures.number (is.1.1 is.1.0) sum,
+            one_more c.in-Some-checked_add.sum c.in_ok-rollout.rollout.number is.0.1 c.in_ok-rollout.ensures.number (is.1.1 is.1.0) sum,
           ));
     }
 
@@ -67,6 +65,5 @@ returns-in-None-clause-blames g c =
     (Err Broken)
     (λ reading is given. listed_many reading g.T.ByRollout.table (within g.T.ByRollout.column (c.loop-before.before + 1))
     (c.loop-before.listed + c.in-Some.count)
-    (one_more g.T.ByRollout.table g.T.ByRollout.column g.T.ByRollout.is_right g.T.ByRollout.is_whole reading.tables c.loop-before.before
-    c.loop-before.listed c.in-Some.count (c.loop-before.listed + c.in-Some.count) c.in_ok-rollout.rollout.number
-    is.0.1 c.in_ok-rollout.ensures.number (is.1.1 is.1.0) refl).rows.all large given.rows)
+    (one_more (c.loop-before.listed + c.in-Some.count) c.in_ok-rollout.rollout.number is.0.1 c.in_ok-rollout.ensures.number (is.1.1 is.1.0) refl).rows.all
+    large given.rows)
