@@ -1,41 +1,25 @@
 -- What was read is taken over.
-use Rattle.desk_opening.proofs.Common.{◌≡◌, inl, inr, Ok, Err, Result, IfErr, IsTrue, sym, subst, arith, Trees, Database, State, HasCleanDisk, StandsSomewhere}
-use Rattle.desk_opening.proofs.Common.{HoldIn, IsAtRest, Rests, still_holds, Wears, Records, desk_table, HoldsRecords, HoldsAt, HoldsReadable, newest, Version}
-use Rattle.desk_opening.proofs.Common.{from_newest, newest_is_readable, OpenFault, NotDesk, NewerVersion, Memory, Store, HoldsFrom, Migrates, MigratesTo}
+use Rattle.desk_opening.proofs.Common.{◌≡◌, inr, Ok, Err, Result, IfErr, IsTrue, sym, subst, arith, Trees, Database, State, HasCleanDisk, StandsSomewhere}
+use Rattle.desk_opening.proofs.Common.{HoldIn, IsAtRest, Rests, still_holds, Wears, Records, desk_table, HoldsAt, HoldsReadable, newest, Version, from_newest}
+use Rattle.desk_opening.proofs.Common.{OpenFault, NotDesk, NewerVersion, Memory, Store, HoldsFrom, HoldsOf, LeftOf, Migrates, MovesTo, None, Option, Some}
 use Rattle.desk_opening.proofs.Common.{Adopts, HasDeskAt, HasRow, IsDeskRow, IsFailure, IsSettled, Keeps, TellsVersion}
-use Rattle.desk_opening.specs.Opening.{TakesOverTo}
 use Rattle.desk_opening.proofs.HeldLemmas.{same_version}
-use Rattle.desk_opening.proofs.Steps.{rests_as}
+use Rattle.desk_opening.proofs.Steps.{open_at_rest, rests_as}
 
 -- ---- the version that the row names
 
 at_row : (db : Database) (r : Records) (v : Version) → HasRow db (IsDeskRow v) → HoldsReadable db r → HoldsAt v db r
 at_row db r v row (w, holds) = subst (λ u. HoldsAt u db r) (sym (same_version db r w holds v row)) holds
 
--- while a connection is open, every crash leaves the last commit, and so that version
 rest_at : (s : State) → IsSettled s → IsTrue s.is_open → (v : Version) → HasRow s.now (IsDeskRow v) → (r : Records) → IsAtRest HoldsReadable s r
     → IsAtRest (HoldsAt v) s r
-rest_at s settled on v row r was =
-    let held : HoldsAt v s.committed r = at_row s.committed r v (subst (λ d. HasRow d (IsDeskRow v)) (was.held.ended was.mode on) row)
-    (was.held.kept_holds on) in
-    record {
-      mode = was.mode;
-      held = record {
-        ended = was.held.ended;
-        kept_holds = λ _. held;
-        crash = λ db left. subst (λ t. HoldIn (HoldsAt v) t r) (sym (settled db on left))
-            (s.committed.schema, held);
-      };
-    }
+rest_at s settled on v row r was = open_at_rest (HoldsAt v) s r settled was.mode was.held.ended on
+    (at_row s.committed r v (subst (λ d. HasRow d (IsDeskRow v)) (was.held.ended was.mode on) row) (was.held.kept_holds on))
 
 -- ---- what is made of older tables
 
 pub stays_newest : {E : Type 0} (v : Version) → v ≡ newest → (s : State) → Migrates {A = Unit {0}} {E = E} v s s (Ok tt)
-stays_newest v is s = record {
-  wears = omega arith;
-  migrates =
-      λ r. rests_as (HoldsAt v) HoldsRecords r r (λ db held. from_newest db r (subst (λ u. HoldsAt u db r) is held)) s;
-}
+stays_newest v is s = grind (arith, rests_as, from_newest)
 
 -- the tables were looked at again
 pub looked_at : {E F : Type 0} (v : Version) (a z : State) → Migrates {A = Unit {0}} {E = F} v a z (Ok tt) → (out : Result (Unit {0}) E) → Migrates v a z out
@@ -47,9 +31,8 @@ looked_at v a z h (Err e) = record {
 }
 
 -- in the one version or the other
-pub one_or_other : (v : Version) (r : Records) (db : Trees) → HoldIn (HoldsFrom v) db r → HoldIn HoldsReadable db r
-one_or_other v r db (s, inl h) = (s, (v, h))
-one_or_other v r db (s, inr h) = (s, newest_is_readable _ r h)
+one_or_other : (v : Version) (r : Records) (db : Trees) → HoldIn (HoldsFrom v) db r → HoldIn (LeftOf None) db r
+one_or_other v r db h3 = grind arith
 
 -- ---- the whole
 
@@ -63,33 +46,30 @@ module _ (old mid : State) (table : StandsSomewhere old.now.schema (desk_table 0
   stood wears clean r was =
       let between : HasCleanDisk mid = omega (arith, clean, wears) in
       let before : HasCleanDisk old = omega (arith, between, k.wears) in
-      k.keeps_at v r (λ _. rest_at old settled (k.opened between) v (found between).row r (was before))
+      k.keeps (Some v) r (λ _. rest_at old settled (k.opened between) v (found between).row r (was before))
 
   -- the version that they stood in is the one that the row names
   moved_at : (w : Version) → Wears mid new → HasCleanDisk new → (r : Records) → Rests (HoldsAt w) old r → v ≡ w
-  moved_at w wears clean r was =
-      let between : HasCleanDisk mid = omega (arith, clean, wears) in
-      let before : HasCleanDisk old = omega (arith, between, k.wears) in
-      same_version old.now r w (still_holds (HoldsAt w) old r (was before) (k.opened between)) v (found between).row
+  moved_at w wears clean r was = grind (arith, same_version, still_holds, found)
 
   pub stood_at : (w : Version) → Wears mid new → HasCleanDisk new → (r : Records) → Rests (HoldsAt w) old r → Rests (HoldsAt v) mid r
-  stood_at w wears clean r was = subst (λ u. Rests (HoldsAt u) mid r) (sym (moved_at w wears clean r was)) (k.keeps_at w r was)
+  stood_at w wears clean r was = subst (λ u. Rests (HoldsAt u) mid r) (sym (moved_at w wears clean r was)) (k.keeps (Some w) r was)
 
-  still : {A : Type 0} {e : OpenFault} → Migrates {A = A} v mid new (Err e) → TakesOverTo {A = A} old new (Err e)
-  still m r was clean db left = one_or_other v r db (m.migrates r (stood m.wears clean r was) clean db left)
+  stood_of : (o : Option Version) → Wears mid new → HasCleanDisk new → (r : Records) → Rests (HoldsOf o) old r → Rests (HoldsAt v) mid r
+  stood_of o = grind (arith, stood, stood_at)
 
-  still_at : {A : Type 0} (w : Version) {e : OpenFault} → Migrates {A = A} v mid new (Err e) → MigratesTo {A = A} w old new (Err e)
-  still_at w m r was clean db left = subst (λ u. HoldIn (HoldsFrom u) db r) (moved_at w m.wears clean r was)
+  still : (o : Option Version) {A : Type 0} {e : OpenFault} → Migrates {A = A} v mid new (Err e) → MovesTo {A = A} o old new (Err e)
+  still None m r was clean db left = one_or_other v r db (m.migrates r (stood m.wears clean r was) clean db left)
+  still (Some w) m r was clean db left = subst (λ u. HoldIn (HoldsFrom u) db r) (moved_at w m.wears clean r was)
       (m.migrates r (stood_at w m.wears clean r was) clean db left)
 
   pub adopts_renewed : {A : Type 0} (out : Result A OpenFault) → Migrates v mid new out → IfErr out IsFailure → Adopts old new out
   adopts_renewed (Ok x) m fails = record {
     wears = omega (arith, k.wears, m.wears);
-    takes = λ r was clean. m.migrates r (stood m.wears clean r was) clean;
-    takes_at = λ w r was clean. m.migrates r (stood_at w m.wears clean r was) clean;
+    takes = λ o r was clean. m.migrates r (stood_of o m.wears clean r was) clean;
     tells = λ clean. let it = found (omega (arith, clean, m.wears)) in record { version = v; tables = it.tables; row = it.row };
   }
   adopts_renewed (Err NotDesk) m fails = absurd fails
   adopts_renewed (Err NewerVersion) m fails = absurd fails
-  adopts_renewed (Err Memory) m fails = record { wears = omega (arith, k.wears, m.wears); takes = still m; takes_at = λ w. still_at w m; tells = λ clean. tt }
-  adopts_renewed (Err Store) m fails = record { wears = omega (arith, k.wears, m.wears); takes = still m; takes_at = λ w. still_at w m; tells = λ clean. tt }
+  adopts_renewed (Err Memory) m fails = record { wears = omega (arith, k.wears, m.wears); takes = λ o. still o m; tells = λ clean. tt }
+  adopts_renewed (Err Store) m fails = record { wears = omega (arith, k.wears, m.wears); takes = λ o. still o m; tells = λ clean. tt }

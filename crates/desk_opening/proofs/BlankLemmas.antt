@@ -1,8 +1,7 @@
 -- Files that hold nothing are opened to empty trees.
 use Rattle.desk_opening.proofs.Common.{◌≡◌, ◌≤◌, ◌<◌, ◌-◌, ◌*◌, ℕ, List, [], ◌∷◌, ◌++◌, codes, min, true, false, length, take, slice_index, Option, Some}
-use Rattle.desk_opening.proofs.Common.{unwrap_or, inl, inr, refl, sym, ap, subst, ◌∙◌, zero-add, arith, get_or-take, AllZip, length-take, ∥∥₁_elim, Schema}
-use Rattle.desk_opening.proofs.Common.{Trees, Image, AreFoundIn, IsNothing, IsTableRow, IsIndexRow, IsViewRow, AreListed, stored_size, used_size, LeavesFree}
-use Rattle.desk_opening.proofs.Common.{desk_names, UsesNoName}
+use Rattle.desk_opening.proofs.Common.{unwrap_or, inl, inr, refl, sym, ap, ◌∙◌, zero-add, arith, get_or-take, AllZip, length-take, ∥∥₁_elim, Schema, Trees}
+use Rattle.desk_opening.proofs.Common.{Image, AreFoundIn, IsNothing, stored_size, used_size, LeavesFree, is_used, UsesNoName}
 use Rattle.sqlite_trees.specs.Objects.{catalog_tree}
 use Rattle.sqlite_wal.specs.Format.{part}
 use Rattle.sqlite_wal.specs.Recovery.{Pages, pages_after}
@@ -14,12 +13,10 @@ use Rattle.sqlite_pool.specs.StoredLaws.{trimmed_some}
 use Rattle.sqlite_pool.specs.File.{header_in, IsSoundFile}
 use Rattle.sqlite_pool.specs.Opening.{IsBlankFile}
 use Rattle.sqlite_pool.proofs.ProbeLemmas.{first_byte}
+use Rattle.sqlite_keyed.proofs.ListLemmas.{all_of}
 
 shorter : (n m size : ℕ) (xs wanted : List ℕ) → take n (take m (take size xs)) ≡ wanted → length wanted ≡ n → n ≤ size
-shorter n m size xs wanted is len =
-    let least : min n (min m (min size (length xs))) ≡ n =
-    sym (length-take n (take m (take size xs)) ∙ ap (min n) (length-take m (take size xs) ∙ ap (min m) (length-take size xs))) ∙ ap length is ∙ len in
-    grind (arith, least)
+shorter n m size xs wanted is len = grind (arith, min, length-take)
 
 -- ---- files that recover to a sound file are not blank
 
@@ -73,21 +70,14 @@ module _ (size : ℕ) (image : Image) (pages : Pages) (found : Adopts size image
 -- ---- empty trees list no table
 
 none_zipped : {A B : Type 0} (R : A → B → Type 0) → (xs : List B) → AllZip R [] xs → xs ≡ []
-none_zipped R [] h = refl
-none_zipped R (x ∷ xs) h = absurd h
+none_zipped h0 xs h = grind arith
 
 -- a schema of nothing leaves all names free
 pub nothing_is_used : (s : Schema) → s.tables ≡ [] → s.indexes ≡ [] → s.views ≡ [] → (names : List (List ℕ)) → LeavesFree s names
-nothing_is_used s tables indexes views [] = tt
-nothing_is_used s tables indexes views (name ∷ names) = (rw (tables, indexes, views) refl, nothing_is_used s tables indexes views names)
+nothing_is_used s tables indexes views = all_of (λ name. is_used s name ≡ false) (λ name. rw (tables, indexes, views) refl)
 
 pub empty_is_unused : (db : Trees) → db catalog_tree ≡ [] → UsesNoName db
-empty_is_unused db none s sound =
-    let listed : AreListed [] s = subst (λ rows. AreListed rows s) none sound.lists.listed in
-    let tables : s.tables ≡ [] = none_zipped IsTableRow s.tables listed.tables in
-    let indexes : s.indexes ≡ [] = none_zipped (IsIndexRow s.tables) s.indexes listed.indexes in
-    let views : s.views ≡ [] = none_zipped IsViewRow s.views listed.views in
-    nothing_is_used s tables indexes views desk_names
+empty_is_unused db none s sound = grind (arith, none_zipped, nothing_is_used)
 
 pub nothing_is_unused : (image : Image) (db : Trees) → IsNothing image → AreFoundIn image db → UsesNoName db
 nothing_is_unused image db nothing (inl found) =

@@ -2,10 +2,10 @@
 pub use Rattle.std.proofs.Common.{◌≡◌, ℕ, zero, suc, ◌+◌, ◌-◌, ◌*◌, ◌%◌, ◌^◌, ◌<◌, ◌≤◌, min, Bool, true, false, cond, not, ◌||◌, ◌≢◌, ◌⊎◌, List, [], ◌∷◌}
 pub use Rattle.std.proofs.Common.{◌++◌, map, length, get_or, take, drop, set, ℤ, pos, ◌<ℤ◌, IfOk, IfErr, if◌then◌else◌, IsErr, IsTrue, ◌==◌, slice_get}
 pub use Rattle.std.proofs.Common.{slice_index, slice_index_or, Some, None, Ok, Err, codes, filter, Option, Result, option_map, find, unwrap_or, sym, refl, ap}
-pub use Rattle.std.proofs.Common.{◌∙◌, subst, ap₂, inl, inr, zero-add, arith, get_or-take}
+pub use Rattle.std.proofs.Common.{◌∙◌, subst, ap₂, inl, inr, zero-add, arith, rules, get_or-take}
 pub use Rattle.std.proofs.Math.Logic.{∥∥₁_elim, ∥∥₁_map}
 pub use Rattle.std.proofs.lemmas.Bool.{and_parts, both_ways, cases_Bool, cases_eq, eqb-true, or_parts, true≢false}
-pub use Rattle.std.proofs.lemmas.List.{drop_all, drop_more, length-map, length-take, nil_from_length, take-append-drop, take_all, take_more}
+pub use Rattle.std.proofs.lemmas.List.{drop_all, drop_more, length-map, length-take, take-append-drop, take_all, take_more}
 pub use Rattle.std.specs.List.{AllByRecursion, AllZip, list_any, position_from}
 pub use Rattle.sqlite.proofs.Callers.{statement_of}
 pub use Rattle.sqlite.specs.Command.TheVariants.{Begin, Commit, CreateTable, Insert, Select, Update}
@@ -60,29 +60,30 @@ pub use Rattle.desk_records.proofs.EachPlace.{each_place}
 pub use Rattle.desk_records.proofs.Meaning.{desk_query, desk_terms, get_desk_is, put_desk_is, set_version_is, set_version_query, version_values}
 pub use Rattle.desk_records.proofs.MeaningWords.{asked_at, changed_at, is_equal, means_of, put_at}
 pub use Rattle.desk_records.proofs.Places.{among, is_among, is_named, place_named, place_or_other, same_elsewhere, same_places}
-pub use Rattle.desk_records.proofs.Readable.{at_newest, from_newest, has_desk, is_known, newest_is_readable, of_all, one_numbered}
+pub use Rattle.desk_records.proofs.Readable.{at_newest, from_newest, has_desk, is_known, of_all, one_numbered}
 pub use Rattle.desk_records.specs.Codes.{flag}
 pub use Rattle.desk_records.specs.Holds.{AreRowsOf, Content, HoldsLedger, HoldsRecords, IsHeld, Ledger, Offered, Ordered, Spot, Unordered, content_at}
 pub use Rattle.desk_records.specs.Holds.{content_of, desk_row, ledger_of}
 pub use Rattle.desk_records.specs.Readable.{HoldsAt, HoldsPlace, HoldsReadable}
 pub use Rattle.desk_records.specs.Rollouts.{rule_row, rules_from, told_rollout}
-pub use Rattle.desk_records.specs.Schema.{Desk, Numbers, Offers, Place, Rules, desk_names, desk_table, name_of, offer_table, places, rule_table, table_at}
+pub use Rattle.desk_records.specs.Schema.{Desk, Offers, Place, Rules, desk_names, desk_table, name_of, offer_table, places, rule_table, table_at}
+pub use Rattle.desk_records.specs.TableTexts.{create_text_of}
 pub use Rattle.desk_records.specs.Versions.{IsEven, IsTellable, IsUnnumbered, later_than, newest, version_number, places_at, table_count_of}
 pub use Rattle.desk_records.specs.declared.rollout_texts.TheConstants.{GET_ROLLOUT, LAST_ROLLOUT, PUT_RULE}
 pub use Rattle.desk_records.specs.declared.texts.TheConstants.{GET_DESK, PUT_DESK, SET_VERSION}
 pub use Rattle.desk_records.specs.declared.version.Version.{Version}
 pub use Rattle.desk_records.specs.declared.version.Version.TheVariants.{One, Three, Two}
-pub use Rattle.desk_opening.specs.Filling.{FillsLater, FillsRollout, FindsLedger, IsOfNumber, Leaves, MakesLedger, Stays, WritesCopies, WritesRules}
+pub use Rattle.desk_opening.specs.Filling.{FillsLater, FillsRollout, FindsLedger, IsOfNumber, MakesLedger, Stays, WritesCopies, WritesRules}
 pub use Rattle.desk_opening.specs.Filling.{WritesUpTo, bare_ledger, no_rules, rules_up_to}
-pub use Rattle.desk_opening.specs.Making.{AreApart, At, Before, Changes, Free, HoldsBefore, HoldsPartly, HoldsStage, IsEmptyTable, LeavesDeskWith}
-pub use Rattle.desk_opening.specs.Making.{LeavesNoDesk, Makes, MakesTables, Nothing, Older, Partly, Stage, Standing, Whole, first_records, told}
-pub use Rattle.desk_opening.specs.Migrating.{HoldsFrom, Migrates, MigratesTo}
-pub use Rattle.desk_opening.specs.Opening.{Adopts, FindsTo, HasDesk, HasDeskAt, HasDeskTables, HasNoDesk, HasNoRow, HasRow, IsDeskRow, IsFailure, IsKnownOpen}
-pub use Rattle.desk_opening.specs.Opening.{IsNewerRow, IsOtherRow, IsSettled, IsWholeAt, Keeps, LacksAt, LacksPartOfDesk, LacksTables, OpensDesk, OpensTo}
-pub use Rattle.desk_opening.specs.Opening.{TakesDeskRow, TellsOfRow, TellsVersion}
-pub use Rattle.desk_opening.specs.Places.{create_text_of, place_of}
-pub use Rattle.desk_opening.specs.Reopening.{BeginsPlain, EachAfter, HasNewer, HoldsDesk, HoldsDeskAt, HoldsNoDesk, HoldsNone, HoldsPlain, HoldsWhatWas}
-pub use Rattle.desk_opening.specs.Reopening.{IsForeign, IsOpenable, LeavesUnharmed, RefusesOpened, Reopens, Spares, UsesNoName}
+pub use Rattle.desk_opening.specs.Making.{AreApart, At, Before, Changes, Free, HoldsBefore, HoldsPartly, HoldsStage, IsEmptyTable}
+pub use Rattle.desk_opening.specs.Making.{Leaves, Makes, MakesTables, Nothing, Older, Partly, Stage, Standing, Steps, Whole, first_records, told}
+pub use Rattle.desk_opening.specs.Migrating.{HoldsFrom, HoldsOf, LeftOf, Migrates, MovesTo}
+pub use Rattle.desk_opening.specs.Opening.{Adopts, FindsFault, FindsTo, HasDesk, HasDeskAt, HasDeskTables, HasNoDesk, HasNoRow, HasRow, IsDeskRow, IsFailure}
+pub use Rattle.desk_opening.specs.Opening.{IsKnownOpen, IsNewerRow, IsOtherRow, IsSettled, IsWholeAt, Keeps, LacksAt, LacksPartOfDesk, LacksTables, OpensDesk}
+pub use Rattle.desk_opening.specs.Opening.{OpensTo, TakesDeskRow, TellsOfRow, TellsVersion}
+pub use Rattle.desk_opening.specs.Places.{place_of}
+pub use Rattle.desk_opening.specs.Reopening.{BeginsPlain, EachAfter, HoldsDesk, HoldsDeskAt, HoldsNone, HoldsPlain, HoldsWhatWas}
+pub use Rattle.desk_opening.specs.Reopening.{IsForeign, LeavesUnharmed, RefusesOpened, Reopens, Spares, UsesNoName}
 pub use Rattle.desk_opening.specs.declared.desk_table.DeskTable.{DeskTable}
 pub use Rattle.desk_opening.specs.declared.opening.OpenFault.{OpenFault}
 pub use Rattle.desk_opening.specs.declared.opening.OpenFault.TheVariants.{Memory, NewerVersion, NotDesk, Store}

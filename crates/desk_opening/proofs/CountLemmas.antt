@@ -1,130 +1,48 @@
 -- A call that failed is counted.
-use Rattle.desk_opening.proofs.Common.{◌≡◌, ◌≢◌, ◌≤◌, ◌+◌, ◌-◌, ◌^◌, ℕ, Bool, true, false, inl, inr, Ok, Err, Result, IfErr, refl, sym, subst, arith, Fault}
-use Rattle.desk_opening.proofs.Common.{Version, OpenFault, Store}
-use Rattle.std.specs.Prelude.{IsErrAnd, nat_lt}
+use Rattle.desk_opening.proofs.Common.{◌≡◌, ◌≢◌, ◌≤◌, ℕ, Err, Result, IfErr, arith, Fault, OpenFault, Store}
+use Rattle.std.specs.Prelude.{IsErrAnd}
 use Rattle.std.proofs.lemmas.Bool.Decides.{nat_tests}
-use Rattle.sqlite.specs.Store.{Ghosts}
-use Rattle.sql_calls.specs.Calls.{capped, failures_in, failures_of, fails}
+use Rattle.sql_calls.specs.Calls.{Grows, failures_of}
 use Rattle.sql_calls.specs.declared.calls.Calls.{Calls}
 use Rattle.sql_calls.specs.declared.fault.Fault.TheVariants as fault
-use Rattle.desk_records.specs.Holds.{Ledger}
 use Rattle.desk_store.specs.Blaming.{HasFailed}
-use Rattle.desk_opening.specs.Counting.{Counts, CountsBy, CountsOpening, FailedBefore, FailsAt, FailsGiven, HasCall, IsStore, TellsStore}
+use Rattle.desk_opening.specs.Counting.{CountsWhere, IsStore, NeverBreaks, TellsStore}
 
-more_failed : (failed before now : ℕ) → failed ≤ before → now ≡ capped (before + 1) → HasFailed failed now
-more_failed failed before now least is = go (nat_lt before (2 ^ 64 - 1)) refl
-  where
-    go : (b : Bool) → nat_lt before (2 ^ 64 - 1) ≡ b → HasFailed failed now
-    go true room = inl (grind (arith, nat_tests, least, is, room))
-    go false full = inr (grind (arith, nat_tests, least, is, full))
+-- more calls failed after an earlier count, and before a later one
+pub failed_within : {a b c d : ℕ} → a ≤ b → HasFailed b c → c ≤ d → HasFailed a d
+failed_within le h1 grows = grind arith
 
-module _ {S : Type 0} {old new : Calls S} (grows : old.failures ≤ new.failures) where
-  still : (failed : ℕ) → FailedBefore old failed → FailedBefore new failed
-  still failed was = record { failures = omega (arith, was.failures, grows) }
+-- one that failed is counted
+pub is_counted : {S : Type 0} {old new : Calls S} (f : Fault) → f ≡ fault.Store → Grows (failures_of f) old new → HasFailed old.failures new.failures
+is_counted f is grows = grind (arith, nat_tests)
 
-  has_call : (e : Fault) → e ≢ fault.Broken → new.failures ≡ fails (failures_of e) old.failures → (failed : ℕ) → FailedBefore old failed
-      → HasCall TellsStore new failed e
-  has_call fault.Memory sound counted failed was = record { before = still failed was; call = λ is. absurd (is refl) }
-  has_call fault.Store sound counted failed was =
-      record { before = still failed was; call = λ is. more_failed failed old.failures new.failures was.failures counted }
-  has_call fault.Broken sound counted failed was = absurd (sound refl)
+is_store : (f : Fault) → f ≢ fault.Broken → TellsStore f → f ≡ fault.Store
+is_store f sound told = grind arith
 
-  pub call_counts : {A : Type 0} (out : Result A Fault) → IfErr out (λ e. e ≢ fault.Broken) → new.failures ≡ fails (failures_in out) old.failures
-      → Counts old new out
-  call_counts (Ok x) sound counted = record { to = still }
-  call_counts (Err e) sound counted = record { to = has_call e sound counted }
+-- a call of the database tells no broken rows
+pub never_breaks : {A : Type 0} (out : Result A Fault) → IfErr out (λ f. f ≢ fault.Broken) → NeverBreaks out
+never_breaks out sound = grind arith
 
--- ---- put together
-
-pub nothing_counted : {S : Type 0} {a : Calls S} → Counts {A = Unit {0}} a a (Ok tt)
-nothing_counted = record { to = λ failed was. was }
-
-pub counts_then : {S A B : Type 0} {a b c : Calls S} {x : A} → Counts a b (Ok x) → (out : Result B Fault) → Counts b c out → Counts a c out
-counts_then h (Ok y) k = record { to = λ failed was. k.to failed (h.to failed was) }
-counts_then h (Err e) k = record { to = λ failed was. k.to failed (h.to failed was) }
-
--- ---- what `?` passes on
-
+-- what `?` passes on
 pub passed_on : {B E : Type 0} (Is : E → Type 0) (f : E) → Is f → (out : Result B E) → IsErrAnd out (λ e. e ≡ f) → IfErr out Is
-passed_on Is f h (Ok x) is = absurd is
-passed_on Is f h (Err e) is = subst Is (sym is) h
+passed_on h0 f h out is = grind arith
 
-pub counts_passed : {S A B E : Type 0} {Told : E → Type 0} {a b : Calls S} (f : E) → CountsBy {A = A} Told a b (Err f) → (out : Result B E)
-    → IsErrAnd out (λ e. e ≡ f) → CountsBy Told a b out
-counts_passed f h (Ok x) is = absurd is
-counts_passed {Told = Told} f h (Err e) is = record { to = λ failed was. subst (HasCall Told _ failed) (sym is) (h.to failed was) }
-
-pub err_counts : {S A B X : Type 0} {a b c : Calls S} {x : X} → Counts a b (Ok x) → (f : Fault) → Counts {A = A} b c (Err f) → (out : Result B Fault)
-    → IsErrAnd out (λ e. e ≡ f) → Counts a c out
-err_counts h f k (Ok y) is = absurd is
-err_counts h f k (Err e) is = record { to = λ failed was. subst (HasCall TellsStore _ failed) (sym is) (k.to failed (h.to failed was)) }
-
-module _ {S : Type 0} {g : Ghosts S} {Given : Ledger → Type 0} where
-  pub fails_counted : {A : Type 0} {old new : Calls S} (out : Result A Fault) → Counts old new out → FailsGiven g Given old new out
-  fails_counted (Ok x) h = record { to = h.to }
-  fails_counted (Err e) h = record { to = λ failed was l sees given clean. h.to failed was }
-
-  pub fails_then_counts : {A B : Type 0} {a b c : Calls S} {x : A} → FailsGiven g Given a b (Ok x) → (out : Result B Fault) → Counts b c out
-      → FailsGiven g Given a c out
-  fails_then_counts h (Ok y) k = record { to = λ failed was. k.to failed (h.to failed was) }
-  fails_then_counts h (Err e) k = record { to = λ failed was l sees given clean. k.to failed (h.to failed was) }
-
-  pub fails_err : {A B : Type 0} {Other : Ledger → Type 0} {old new : Calls S} → ((l : Ledger) → Given l → Other l) → (f : Fault)
-      → FailsGiven g Other {A = A} old new (Err f) → (out : Result B Fault) → IsErrAnd out (λ e. e ≡ f) → FailsGiven g Given old new out
-  fails_err so f h (Ok x) is = absurd is
-  fails_err so f h (Err e) is =
-      record { to = λ failed was l sees given clean. subst (HasCall TellsStore _ failed) (sym is) (h.to failed was l sees (so l given) clean) }
-
-  pub fails_as : {A : Type 0} {Other : Ledger → Type 0} {old new : Calls S} → ((l : Ledger) → Given l → Other l) → (out : Result A Fault)
-      → FailsGiven g Other old new out → FailsGiven g Given old new out
-  fails_as so (Ok x) h = record { to = h.to }
-  fails_as so (Err e) h = record { to = λ failed was l sees given. h.to failed was l sees (so l given) }
-
-module _ {S E : Type 0} {g : Ghosts S} {Told : E → Type 0} (v : Version) where
-  pub at_counted : {A : Type 0} {old new : Calls S} (out : Result A E) → CountsBy Told old new out → FailsAt g Told v old new out
-  at_counted (Ok x) h = record { to = h.to }
-  at_counted (Err e) h = record { to = λ failed was r rests readable clean. h.to failed was }
-
-  -- no call, and no failed store
-  pub at_none : {A : Type 0} {s : Calls S} (out : Result A E) → IfErr out (λ e. Told e → ⊥) → FailsAt g Told v s s out
-  at_none (Ok x) never = record { to = λ failed was. was }
-  at_none (Err e) never = record { to = λ failed was r rests readable clean. record { before = was; call = λ is. absurd (never is) } }
-
--- ---- of an opening
-
-module _ {S : Type 0} {a b : Calls S} where
+module _ {Where : Type 0} {S : Type 0} where
   -- a fault of a call
-  pub named : {A B : Type 0} (f : Fault) → Counts {A = A} a b (Err f) → (e : OpenFault) → (IsStore e → TellsStore f) → CountsOpening {A = B} a b (Err e)
-  named f h e same = record { to = λ failed was. let it = h.to failed was in record { before = it.before; call = λ is. it.call (same is) } }
+  pub named : {A : Type 0} {a b : Calls S} (f : Fault) → Grows (failures_of f) a b → (Where → f ≢ fault.Broken) → (e : OpenFault) → (IsStore e → TellsStore f)
+      → CountsWhere Where {A = A} a b (Err e)
+  named f grows sound e same = record { grows = grows.failures; cause = λ so is. is_counted f (is_store f (sound so) (same is)) grows }
 
   -- what was seen is no failed store
-  pub seen_counts : {A B : Type 0} {x : A} → Counts a b (Ok x) → (out : Result B OpenFault) → IfErr out (λ e. e ≢ Store) → CountsOpening a b out
-  seen_counts h (Ok y) never = record { to = h.to }
-  seen_counts h (Err e) never = record { to = λ failed was. record { before = h.to failed was; call = λ is. absurd (never is) } }
+  pub seen_counts : {A : Type 0} {a b : Calls S} → a.failures ≤ b.failures → (out : Result A OpenFault) → IfErr out (λ e. e ≢ Store) → CountsWhere Where a b out
+  seen_counts grows out never = grind arith
 
-  still_failed : {A : Type 0} {x : A} → Counts a b (Ok x) → (failed : ℕ) → HasFailed failed a.failures → HasFailed failed b.failures
-  still_failed h failed (inl more) = let it = h.to (failed + 1) (record { failures = omega (arith, more) }) in inl (omega (arith, it.failures))
-  still_failed h failed (inr full) = let it = h.to (2 ^ 64 - 1) (record { failures = full }) in inr it.failures
+  -- what is done before and after it
+  pub counts_within : {That A : Type 0} {a b c d : Calls S} (out : Result A OpenFault) → CountsWhere That b c out → a.failures ≤ b.failures
+      → c.failures ≤ d.failures → (Where → That) → CountsWhere Where a d out
+  counts_within out h first last so = grind (arith, failed_within)
 
--- from BEGIN to ROLLBACK, whatever was seen
-pub counts_between : {S A B X : Type 0} {a b c d : Calls S} {x : A} {y : B} → Counts a b (Ok x) → (out : Result X OpenFault) → CountsOpening b c out
-    → Counts c d (Ok y) → CountsOpening a d out
-counts_between first (Ok z) seen last = record { to = λ failed was. last.to failed (seen.to failed (first.to failed was)) }
-counts_between first (Err e) seen last =
-    record {
-      to = λ failed was. let it = seen.to failed (first.to failed was) in
-          record { before = last.to failed it.before; call = λ is. still_failed last failed (it.call is) };
-    }
-
-pub counts_behind : {S A B X Y : Type 0} {a b c d : Calls S} {x : A} → Counts a b (Ok x) → (seen : Result X OpenFault) → CountsOpening b c seen → (f : Fault)
-    → Counts {A = Y} c d (Err f) → (e : OpenFault) → (IsStore e → TellsStore f) → CountsOpening {A = B} a d (Err e)
-counts_behind first (Ok z) seen f last e same =
-    record {
-      to = λ failed was. let it = last.to failed (seen.to failed (first.to failed was)) in
-          record { before = it.before; call = λ is. it.call (same is) };
-    }
-counts_behind first (Err o) seen f last e same =
-    record {
-      to = λ failed was. let it = last.to failed (seen.to failed (first.to failed was)).before in
-          record { before = it.before; call = λ is. it.call (same is) };
-    }
+  -- a fault that `?` passes on
+  pub counts_passed : {That A B : Type 0} {a b : Calls S} (f : OpenFault) → CountsWhere That {A = A} a b (Err f) → (out : Result B OpenFault)
+      → IsErrAnd out (λ e. e ≡ f) → (Where → That) → CountsWhere Where a b out
+  counts_passed f h out is so = grind arith

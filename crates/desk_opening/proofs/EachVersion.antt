@@ -1,8 +1,8 @@
 -- What is known of each version by its cases.
-use Rattle.desk_opening.proofs.Common.{◌≡◌, ℕ, ◌+◌, List, [], ◌∷◌, map, true, None, refl, ap, subst, AllByRecursion, take-append-drop, Row, Records}
-use Rattle.desk_opening.proofs.Common.{RolloutRecord, Content, Ordered, Unordered, Offered, content_at, ledger_of, rule_row, rules_from, Place, Offers, places}
-use Rattle.desk_opening.proofs.Common.{IsTellable, IsUnnumbered, later_than, places_at, table_count_of, Version, One, Two, Three, among, is_among, of_all}
-use Rattle.desk_opening.proofs.Common.{bare_ledger, no_rules, all_both}
+use native.Mathlib.Omega.{arith}
+use Rattle.desk_opening.proofs.Common.{◌≡◌, ℕ, ◌+◌, List, [], ◌∷◌, map, true, None, refl, subst, AllByRecursion, take-append-drop, Row, Records, RolloutRecord}
+use Rattle.desk_opening.proofs.Common.{Content, Ordered, Unordered, Offered, content_at, ledger_of, rule_row, rules_from, Place, Offers, places, IsTellable}
+use Rattle.desk_opening.proofs.Common.{IsUnnumbered, later_than, places_at, table_count_of, Version, among, is_among, of_all, bare_ledger, no_rules, all_both}
 use Rattle.rollout_machine.specs.declared.records.ActionRecord.{ActionRecord}
 use Rattle.desk_records.specs.Parts.{parts_from}
 use Rattle.desk_records.specs.FeedbackNumbers.{number_row, number_rows, numbers_of}
@@ -13,18 +13,14 @@ has_at v t there P all = among P (places_at v) t all there
 
 -- the table of offers is there
 offers_there : (v : Version) → is_among (places_at v) Offers ≡ true
-offers_there One = refl
-offers_there Two = refl
-offers_there Three = refl
+offers_there v = grind arith
 
 pub has_offers : (v : Version) (P : Place → Type 0) → AllByRecursion P (places_at v) → P Offers
 has_offers v = has_at v Offers (offers_there v)
 
 -- its tables hold what is told of the records
 pub older_held : (v : Version) (r : Records) → map (content_at v (ledger_of r)) (places_at v) ≡ map (content_at v (bare_ledger v r)) (places_at v)
-older_held One r = refl
-older_held Two r = refl
-older_held Three r = refl
+older_held v r = grind arith
 
 -- records without parts have no rows of them
 no_part_rows : {X Y : Type 0} (f : ℕ → ℕ → Y → Row) (parts : X → List Y) (n : ℕ) (xs : List X) → AllByRecursion (λ x. parts x ≡ []) xs
@@ -48,9 +44,7 @@ no_number_rows = no_part_rows number_row numbers_of 1
 -- later ones hold nothing
 pub later_held : (v : Version) (r : Records) → IsTellable v r
     → AllByRecursion (λ t. content_at v (bare_ledger v r) t ≡ nothing (content_at v (bare_ledger v r) t)) (later_than v)
-later_held One r told = (ap Unordered (no_rule_rows r.rollouts), (ap Unordered (no_number_rows r.actions told.1), tt))
-later_held Two r told = (ap Unordered (no_number_rows r.actions told), tt)
-later_held Three r told = tt
+later_held v r told = grind (arith, no_rule_rows, no_number_rows)
 
 -- ---- of all
 

@@ -1,9 +1,10 @@
 -- The row of `desk` is read in a change that is given up.
 use Rattle.desk_opening.proofs.Common.{inl, inr, [], codes, Option, Ok, Err, Result, subst, arith, Trees, Begin, Select, Database, State, HasCleanDisk, Fault}
 use Rattle.desk_opening.proofs.Common.{RunsText, TakesFirst, Wears, HoldIn, Rests, Spoiled, Knows, runs_plain, begin_is, rollback_is, begins, fails_to_begin}
-use Rattle.desk_opening.proofs.Common.{gives_up, Records, Desk, HoldsAt, HoldsPlace, HoldsReadable, Version, has_desk, GET_DESK, desk_query, get_desk_is}
+use Rattle.desk_opening.proofs.Common.{gives_up, Records, Desk, HoldsAt, HoldsPlace, Version, has_desk, None, Some, GET_DESK, desk_query, get_desk_is}
 use Rattle.desk_opening.proofs.Common.{OpenFault, Keeps, TakesDeskRow, TellsVersion, asked_at}
 use Rattle.sqlite.specs.Order.{Row}
+use Rattle.desk_opening.specs.Migrating.{HoldsOf}
 use Rattle.sql_calls.specs.Standing.{FrameTo, Opens}
 use Rattle.sql_calls.proofs.Framing.{first_frames}
 
@@ -37,7 +38,7 @@ module _ (Holds : Database → Records → Type 0) (knows : Knows Holds GET_DESK
       end_keeps : RunsText c d (codes "ROLLBACK") [] (Ok tt) → (r : Records) → Rests Holds a r → Rests Holds d r
       end_keeps h r was = (gives_up Holds (codes "ROLLBACK") c d (rollback_is c.now.schema) (Ok tt) h).gives_up r (taken r was)
 
--- ---- of records in any version, and in one
+-- ---- of records in one version, and in any
 
 knows_at : (v : Version) → Knows (HoldsAt v) GET_DESK.now
 knows_at v db r holds =
@@ -47,16 +48,15 @@ knows_at v db r holds =
       means = (asked_at get_desk_is).at db.schema spot.at spot.tree (has_desk v (λ t. HoldsPlace v db r (holds.spot t) t) holds.tables).0;
     }
 
-knows_any : Knows HoldsReadable GET_DESK.now
-knows_any db r (v, holds) = knows_at v db r holds
+knows_of : (o : Option Version) → Knows (HoldsOf o) GET_DESK.now
+knows_of None db r (v, holds) = knows_at v db r holds
+knows_of (Some v) db r holds = knows_at v db r holds
 
 module _ (a b : State) where
   pub not_begun : {A E : Type 0} (fault : Fault) (e : E) → RunsText a b (codes "BEGIN") [] (Err fault) → Keeps {A = A} a b (Err e)
   not_begun fault e h = record {
     wears = h.survives.clean;
-    keeps = begin_leaves HoldsReadable knows_any a b fault h;
-    keeps_at =
-        λ v. begin_leaves (HoldsAt v) (knows_at v) a b fault h;
+    keeps = λ o. begin_leaves (HoldsOf o) (knows_of o) a b fault h;
     opened = tt;
   }
 
@@ -67,8 +67,7 @@ module _ (a b : State) where
     pub not_ended : {A E : Type 0} (fault : Fault) (e : E) → RunsText c d (codes "ROLLBACK") [] (Err fault) → Keeps {A = A} a d (Err e)
     not_ended fault e h = record {
       wears = wears h.survives.clean;
-      keeps = end_leaves HoldsReadable knows_any a b first c row.took row.takes d fault h;
-      keeps_at = λ v. end_leaves (HoldsAt v) (knows_at v) a b first c row.took row.takes d fault h;
+      keeps = λ o. end_leaves (HoldsOf o) (knows_of o) a b first c row.took row.takes d fault h;
       opened = tt;
     }
 
@@ -76,15 +75,13 @@ module _ (a b : State) where
     pub ended : {A E : Type 0} (out : Result A E) → RunsText c d (codes "ROLLBACK") [] (Ok tt) → Keeps a d out
     ended (Ok x) h = record {
       wears = wears h.survives.clean;
-      keeps = end_keeps HoldsReadable knows_any a b first c row.took row.takes d h;
-      keeps_at = λ v. end_keeps (HoldsAt v) (knows_at v) a b first c row.took row.takes d h;
+      keeps = λ o. end_keeps (HoldsOf o) (knows_of o) a b first c row.took row.takes d h;
       opened = λ clean. let done = first.runs (omega (arith, clean, row.takes.survives.clean, h.survives.clean)) in
           (runs_plain (codes "BEGIN") Begin [] a b (begin_is a.now.schema) done.0 done.1).1.was_open;
     }
     ended (Err e) h = record {
       wears = wears h.survives.clean;
-      keeps = λ r was clean. (end_keeps HoldsReadable knows_any a b first c row.took row.takes d h r was clean).held.crash;
-      keeps_at = λ v r was clean. (end_keeps (HoldsAt v) (knows_at v) a b first c row.took row.takes d h r was clean).held.crash;
+      keeps = λ o r was clean. (end_keeps (HoldsOf o) (knows_of o) a b first c row.took row.takes d h r was clean).held.crash;
       opened = tt;
     }
 

@@ -1,11 +1,10 @@
 -- From files that were opened to what the connection stands for.
-use Rattle.desk_opening.proofs.Common.{◌≡◌, ◌⊎◌, inl, inr, ℕ, ◌+◌, Bool, cond, false, Some, ap, List, [], ◌∷◌, map, ◌∙◌, refl, Ok, Err, Result, IfOk, sym}
-use Rattle.desk_opening.proofs.Common.{subst, arith, ∥∥₁_elim, Trees, Schema, Table, Image, HoldsDatabase, AreFoundIn, IsNothing, IsBlankAs, file_state, Held}
-use Rattle.desk_opening.proofs.Common.{State, HasCleanDisk, Opens, IsLive, AllZip, position_from, Row, Text, IsSound, IsViewRow, same_name, is_used, Stands}
-use Rattle.desk_opening.proofs.Common.{Has, HoldIn, Rests, still_holds, LeavesFree, Records, desk_names, HoldsAt, HoldsPlace, HoldsReadable, Version}
-use Rattle.desk_opening.proofs.Common.{name_of, later_than, places_at, HoldsStage, Free, told, OpenFault, OpensDesk, HasDesk, HasNoDesk, HasRow}
-use Rattle.desk_opening.proofs.Common.{IsFailure, IsNewerRow, FindsTo, IsSettled, Reopens, RefusesOpened, BeginsPlain, HoldsDesk, HoldsDeskAt, HoldsNone}
-use Rattle.desk_opening.proofs.Common.{HoldsNoDesk, HasNewer, IsOpenable, UsesNoName}
+use Rattle.desk_opening.proofs.Common.{◌≡◌, ◌⊎◌, inl, inr, ℕ, ◌+◌, Bool, false, Some, List, [], ◌∷◌, ◌∙◌, refl, Ok, Err, Result, IfOk, sym, subst, arith}
+use Rattle.desk_opening.proofs.Common.{∥∥₁_elim, Trees, Schema, Table, Image, HoldsDatabase, AreFoundIn, IsNothing, IsBlankAs, file_state, Held, Database}
+use Rattle.desk_opening.proofs.Common.{State, HasCleanDisk, Opens, IsLive, AllZip, position_from, Row, IsSound, IsViewRow, same_name, is_used, Stands, HoldIn}
+use Rattle.desk_opening.proofs.Common.{Rests, still_holds, LeavesFree, Records, desk_names, HoldsAt, Version, HoldsStage, Free, told, OpenFault, OpensDesk}
+use Rattle.desk_opening.proofs.Common.{HasDesk, HasNoDesk, HasRow, IsFailure, IsNewerRow, FindsFault, IsSettled, Reopens, RefusesOpened, BeginsPlain, HoldsDesk}
+use Rattle.desk_opening.proofs.Common.{HoldsDeskAt, HoldsNone, UsesNoName}
 use Rattle.std.proofs.Math.Bool.{Bool-set}
 use mathlib.Core.HLevel.{Π_prop}
 use Rattle.sqlite_trees.specs.Props.{Trees-set, AllByRecursion-prop}
@@ -21,15 +20,14 @@ use Rattle.desk_opening.specs.Counting.{AreReadable}
 use Rattle.desk_opening.specs.Reopening.{RefusesCalls}
 use Rattle.sql_calls.proofs.Schemas.{same_indexes, same_tables}
 use Rattle.desk_opening.proofs.BlankLemmas.{nothing_is_unused}
-use Rattle.desk_opening.proofs.Tables.{all_kept}
+use Rattle.sqlite_keyed.proofs.ListLemmas.{all_weaker}
 use Rattle.desk_opening.proofs.HeldLemmas.{held_fails, free_fails}
 use Rattle.desk_opening.proofs.Steps.{settled_at_rest}
 
 -- ---- whichever schema an open finds
 
 stands_over : (s z : Schema) (name : List ℕ) (at : ℕ) (table : Table) → z.tables ≡ s.tables → Stands s name at table → Stands z name at table
-stands_over s z name at table same stands =
-    record { named = rw same stands.named; got = rw same stands.got; found = rw same stands.found; keyless = rw same stands.keyless; stored = stands.stored }
+stands_over s z name at table same stands = grind arith
 
 -- views are known by their names, which stand in the rows
 same_views : (name : List ℕ) (k : ℕ) (rows : List Row) (xs ys : List View) → AllZip IsViewRow rows xs → AllZip IsViewRow rows ys
@@ -39,11 +37,7 @@ same_views name k [] [] (y ∷ ys) h g = absurd g
 same_views name k [] (x ∷ xs) ys h g = absurd h
 same_views name k (row ∷ rows) [] ys h g = absurd h
 same_views name k (row ∷ rows) (x ∷ xs) [] h g = absurd g
-same_views name k (row ∷ rows) (x ∷ xs) (y ∷ ys) h g =
-    let texts : Text x.name ≡ Text y.name = sym h.0.described.name_is ∙ g.0.described.name_is in
-    let names : x.name ≡ y.name = cc in
-    ap (λ n. cond (same_name n name) (Some k) (position_from (λ (v : View). same_name v.name name) (k + 1) xs)) names
-    ∙ ap (cond (same_name y.name name) (Some k)) (same_views name (k + 1) rows xs ys h.1 g.1)
+same_views name k (row ∷ rows) (x ∷ xs) (y ∷ ys) h g = grind (arith, same_views name (k + 1) rows xs ys h.1 g.1)
 
 used_over : (s z : Schema) (trees : Trees) → IsSound s trees → IsSound z trees → (name : List ℕ) → is_used z name ≡ is_used s name
 used_over s z trees was sound name =
@@ -51,27 +45,12 @@ used_over s z trees was sound name =
     rw (same_tables z s trees sound was, same_indexes z s trees sound was, views) refl
 
 free_over : (s z : Schema) (trees : Trees) → IsSound s trees → IsSound z trees → (names : List (List ℕ)) → LeavesFree s names → LeavesFree z names
-free_over s z trees was sound [] free = tt
-free_over s z trees was sound (name ∷ names) free = (used_over s z trees was sound name ∙ free.0, free_over s z trees was sound names free.1)
+free_over s z trees was sound = all_weaker _ (λ name. is_used z name ≡ false) (λ name free. used_over s z trees was sound name ∙ free)
 
 -- it finds the records, in the same version
 at_over : (v : Version) (z : Schema) (trees : Trees) (r : Records) → IsSound z trees → HoldIn (HoldsAt v) trees r
     → HoldsAt v (record { schema = z; trees = trees }) r
-at_over v z trees r sound (s, h) =
-    let same = same_tables z s trees sound h.sound in
-    record {
-      sound = sound;
-      spot = h.spot;
-      tables = all_kept _ (λ t. HoldsPlace v (record { schema = z; trees = trees }) r (h.spot t) t) (λ t held. (stands_over s z _ _ _ same held.0, held.1))
-          (places_at v) h.tables;
-      free = free_over s z trees h.sound sound (map name_of (later_than v)) h.free;
-      tellable = h.tellable;
-      sorted = h.sorted;
-      keyed = λ index there. h.keyed index (subst (λ indexes. Has indexes index) (same_indexes z s trees sound h.sound) there);
-    }
-
-any_over : (z : Schema) (trees : Trees) (r : Records) → IsSound z trees → HoldIn HoldsReadable trees r → HoldsReadable (record { schema = z; trees = trees }) r
-any_over z trees r sound (s, (v, h)) = (v, at_over v z trees r sound (s, h))
+at_over v z trees r sound h5 = grind (arith, same_tables, all_weaker, stands_over, free_over, same_indexes)
 
 -- ---- what was found
 
@@ -87,14 +66,13 @@ module _ (image : Image) (found : Trees) (holds : (db : Trees) → HoldsDatabase
   found_none nothing (inl empty) = nothing empty
   found_none nothing (inr has) = ∥∥₁_elim has (none_is_prop found) (λ it. subst UsesNoName (sym (holds it.0 it.1)) it.2)
 
+-- the version of a desk
+at_version : (image : Image) (r : Records) → HoldsDesk HoldsDatabase image r → (v : Version) × HoldsDeskAt HoldsDatabase v image r
+at_version image r has = let held = has.2 in (held.1.0, (has.0, has.1, (held.0, held.1.1)))
+
 module _ (image : Image) (old : State) (opened : HasCleanDisk old → Opens old × IsLive old) (holds : HasCleanDisk old → (db : Trees) → HoldsDatabase image db
     → old.committed.trees ≡ db)
     (reads : HasCleanDisk old → AreFoundIn image old.committed.trees) (settled : IsSettled old) where
-  rests : (r : Records) → HoldsDesk HoldsDatabase image r → Rests HoldsReadable old r
-  rests r has clean = let it = opened clean in
-      settled_at_rest HoldsReadable old r settled it.0 (any_over old.committed.schema old.committed.trees r (it.1 it.0.is_open).1
-      (found_records image old.committed.trees (holds clean) (λ t. HoldIn HoldsReadable t r) has))
-
   rests_at : (v : Version) (r : Records) → HoldsDeskAt HoldsDatabase v image r → Rests (HoldsAt v) old r
   rests_at v r has clean = let it = opened clean in
       settled_at_rest (HoldsAt v) old r settled it.0 (at_over v old.committed.schema old.committed.trees r (it.1 it.0.is_open).1
@@ -109,24 +87,17 @@ module _ (image : Image) (old : State) (opened : HasCleanDisk old → Opens old 
             (λ nothing. nothing_is_unused image old.committed.trees nothing (reads clean)) none old.committed.schema sound,
       )
 
-  found : HasCleanDisk old → HasDesk old.now ⊎ LeavesFree old.now.schema desk_names → (db : Trees) × AreFoundIn image db × IsOpenable db
-  found clean is =
-      let it = opened clean in
-      (old.committed.trees, reads clean, (old.committed.schema, (it.1 it.0.is_open).1, subst (λ d. HasDesk d ⊎ LeavesFree d.schema desk_names) it.0.clean is))
+  met : (Is : Database → Type 0) → HasCleanDisk old → Is old.now
+      → (db : Trees) × AreFoundIn image db × ((schema : Schema) × IsSound schema db × Is (record { schema = schema; trees = db }))
+  met Is clean is = let it = opened clean in
+      (old.committed.trees, reads clean, (old.committed.schema, (it.1 it.0.is_open).1, subst Is it.0.clean is))
 
-  newer : HasCleanDisk old → HasRow old.now IsNewerRow → (db : Trees) × AreFoundIn image db × HasNewer db
-  newer clean row = let it = opened clean in
-      (old.committed.trees, reads clean, (old.committed.schema, (it.1 it.0.is_open).1, subst (λ d. HasRow d IsNewerRow) it.0.clean row))
-
-  none : HasCleanDisk old → HasNoDesk old.now → (db : Trees) × AreFoundIn image db × HoldsNoDesk db
-  none clean lacks = let it = opened clean in
-      (old.committed.trees, reads clean, (old.committed.schema, (it.1 it.0.is_open).1, subst (λ d. HasNoDesk d) it.0.clean lacks))
-
-  only_fails : (A : Type 0) (e : OpenFault) → HasCleanDisk old → FindsTo {A = A} old.now (Err e) → ((r : Records) × HoldsDesk HoldsDatabase image r)
+  only_fails : (e : OpenFault) → HasCleanDisk old → FindsFault old.now e → ((r : Records) × HoldsDesk HoldsDatabase image r)
       ⊎ HoldsNone HoldsDatabase image → IsFailure e
-  only_fails A e clean finds (inl has) = let (v, holds) = still_holds HoldsReadable old has.0 (rests has.0 has.1 clean) (opened clean).0.is_open in
-      held_fails old.now has.0 v holds A e finds
-  only_fails A e clean finds (inr nothing) = free_fails A old.now (still_holds HoldsStage old Free (rests_free nothing clean) (opened clean).0.is_open).1 e
+  only_fails e clean finds (inl has) =
+      let it = at_version image has.0 has.1 in
+      held_fails old.now has.0 it.0 (still_holds (HoldsAt it.0) old has.0 (rests_at it.0 has.0 it.1 clean) (opened clean).0.is_open) e finds
+  only_fails e clean finds (inr nothing) = free_fails old.now (still_holds HoldsStage old Free (rests_free nothing clean) (opened clean).0.is_open).1 e
       finds
 
   pub reopens : {X Y : Type 0} (view : X → State) (approval : Bool) (out : Result X (OpenFault × Y))
@@ -135,8 +106,8 @@ module _ (image : Image) (old : State) (opened : HasCleanDisk old → Opens old 
   reopens view approval (Ok x) h =
       let is_open = λ (clean : HasCleanDisk old). (opened clean).0.is_open in
       record {
-        finds = λ clean. found (omega (arith, clean, h.wears)) (h.finds clean);
-        holds = λ r has. h.takes is_open r (rests r has);
+        finds = λ clean. met (λ d. HasDesk d ⊎ LeavesFree d.schema desk_names) (omega (arith, clean, h.wears)) (h.finds clean);
+        holds = λ r has. let it = at_version image r has in h.takes is_open (Some it.0) r (rests_at it.0 r it.1);
         makes = λ none. h.makes is_open (rests_free none);
       }
 
@@ -145,10 +116,10 @@ module _ (image : Image) (old : State) (opened : HasCleanDisk old → Opens old 
   refuses X new approval e h clean =
       let is_open = λ (clean : HasCleanDisk old). (opened clean).0.is_open in
       record {
-        newer = λ is. newer (omega (arith, clean, h.wears)) (subst (λ f. FindsTo {A = X} old.now (Err f)) is (h.finds clean));
-        none = λ is. none (omega (arith, clean, h.wears)) (subst (λ f. FindsTo {A = X} old.now (Err f)) is (h.finds clean));
-        fails = only_fails X e (omega (arith, clean, h.wears)) (h.finds clean);
-        holds = λ v r has. h.takes_at is_open v r (rests_at v r has) clean;
+        newer = λ is. met (λ d. HasRow d IsNewerRow) (omega (arith, clean, h.wears)) (subst (FindsFault old.now) is (h.finds clean));
+        none = λ is. met HasNoDesk (omega (arith, clean, h.wears)) (subst (FindsFault old.now) is (h.finds clean));
+        fails = only_fails e (omega (arith, clean, h.wears)) (h.finds clean);
+        holds = λ v r has. h.takes is_open (Some v) r (rests_at v r has) clean;
         makes = λ none. h.makes is_open (rests_free none) clean;
       }
 
@@ -161,8 +132,8 @@ module _ (image : Image) (old : State) (opened : HasCleanDisk old → Opens old 
       record { refuses = refuses X (file_state calls.conn) approval e h clean; causes = λ sound. why.cause is_open (healthy sound) clean }
     where
       healthy : ((r : Records) × HoldsDesk HoldsDatabase image r × AreReadable r) ⊎ HoldsNone HoldsDatabase image → IsHealthy old
-      healthy (inl it) = let held = it.1.2 in
-          inl (record { version = held.1.0; records = it.0; rests = rests_at held.1.0 it.0 (it.1.0, it.1.1, (held.0, held.1.1)); readable = it.2 })
+      healthy (inl it) = let its = at_version image it.0 it.1 in
+          inl (record { version = its.0; records = it.0; rests = rests_at its.0 it.0 its.1; readable = it.2 })
       healthy (inr nothing) = inr (rests_free nothing)
 
 -- ---- what the connection began as
@@ -176,7 +147,7 @@ begins_plain image approval first found plain (Err e) h = tt
 begins_plain image approval first found plain (Ok x) h =
     record {
       first = first;
-      opens = record { wears = h.wears; finds = h.finds; takes = h.takes; takes_at = h.takes_at; makes = h.makes };
+      opens = record { wears = h.wears; finds = h.finds; takes = h.takes; makes = h.makes };
       found = found;
       plain = plain;
     }

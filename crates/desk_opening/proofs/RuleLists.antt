@@ -9,11 +9,6 @@ got_set [] k x y there = absurd cc
 got_set (z ∷ xs) zero x y there = refl
 got_set (z ∷ xs) (suc k) x y there = got_set xs k x y there
 
-pub set_twice : {X : Type 0} (xs : List X) (k : ℕ) (y z : X) → set (set xs k y) k z ≡ set xs k z
-set_twice [] k y z = refl
-set_twice (x ∷ xs) zero y z = refl
-set_twice (x ∷ xs) (suc k) y z = ap (λ l. x ∷ l) (set_twice xs k y z)
-
 pub set_same : {X : Type 0} (xs : List X) (k : ℕ) (x : X) → slice_get xs k ≡ Some x → set xs k x ≡ xs
 set_same [] k x there = absurd cc
 set_same (z ∷ xs) zero x there = let is : x ≡ z = cc in ap (λ y. y ∷ xs) is

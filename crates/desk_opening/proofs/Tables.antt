@@ -1,21 +1,22 @@
 -- What each text of the making does.
-use Rattle.desk_opening.proofs.Common.{◌≡◌, ◌≢◌, inl, inr, ℕ, zero, suc, slice_index_or, ◌+◌, ◌<◌, ◌^◌, ◌==◌, Bool, true, false, List, [], ◌∷◌, ◌++◌, length}
-use Rattle.desk_opening.proofs.Common.{codes, pos, map, drop, Some, None, Ok, find, if◌then◌else◌, refl, sym, ap, subst, ◌∙◌, arith, AllZip, AllByRecursion}
-use Rattle.desk_opening.proofs.Common.{position_from, true≢false, and_parts, eqb-true, Value, Null, Int, Real, Text, Blob, Order, column, Schema, Table}
-use Rattle.desk_opening.proofs.Common.{Database, IsDatabase, CreateTable, Insert, Values, State, Writes, Has, same_name, next_tree, is_used, automatics}
-use Rattle.desk_opening.proofs.Common.{IsTableRow, IsIndexRow, IsDefined, all-slice_get, IsPermutation-same, table_defined_by, Stands, LeavesFree}
-use Rattle.desk_opening.proofs.Common.{HasNoForeignKey, ComparesBytes, Inserted, inserts, uncounted, given_rows, cast_int, cast_null, Place, Desk, Offers}
-use Rattle.desk_opening.proofs.Common.{places, table_at, name_of, desk_table, offer_table, newest, version_number, places_at, HoldsPlace, AreRowsOf, Content}
-use Rattle.desk_opening.proofs.Common.{HoldsRecords, Offered, Ordered, Spot, IsHeld, Unordered, content_at, content_of, desk_row, ledger_of, desk_terms}
-use Rattle.desk_opening.proofs.Common.{create_text_of, Before, HoldsBefore, HoldsPartly, IsEmptyTable, Nothing, Older, first_records, each_place}
-use Rattle.desk_opening.proofs.Common.{place_or_other, same_elsewhere, same_places}
+use Rattle.desk_opening.proofs.Common.{◌≡◌, ◌≢◌, inl, inr, ℕ, slice_index_or, ◌+◌, ◌<◌, ◌^◌, ◌==◌, Bool, true, false, List, [], ◌∷◌, ◌++◌, length, codes, pos}
+use Rattle.desk_opening.proofs.Common.{map, drop, Some, None, Ok, find, if◌then◌else◌, refl, sym, ap, subst, ◌∙◌, arith, AllByRecursion, position_from}
+use Rattle.desk_opening.proofs.Common.{and_parts, eqb-true, Value, Int, column, Schema, Table, Database, IsDatabase, CreateTable, Insert, Values, State, Writes}
+use Rattle.desk_opening.proofs.Common.{Has, same_name, next_tree, is_used, automatics, IsTableRow, IsDefined, all-slice_get, IsPermutation-same}
+use Rattle.desk_opening.proofs.Common.{table_defined_by, Stands, LeavesFree, HasNoForeignKey, ComparesBytes, Inserted, inserts, uncounted, given_rows, cast_int}
+use Rattle.desk_opening.proofs.Common.{cast_null, Place, Desk, Offers, places, table_at, name_of, desk_table, offer_table, newest, places_at, HoldsPlace}
+use Rattle.desk_opening.proofs.Common.{AreRowsOf, Content, HoldsRecords, Spot, IsHeld, content_at, content_of, desk_row, ledger_of, desk_terms, create_text_of}
+use Rattle.desk_opening.proofs.Common.{Before, HoldsBefore, HoldsPartly, IsEmptyTable, Nothing, Older, first_records, each_place, all_both, place_or_other}
+use Rattle.desk_opening.proofs.Common.{same_elsewhere, same_places, HoldsLedger, Ledger, same_some, place_named, is_named}
 use Rattle.sqlite_value.specs.declared.keys.Collation.TheVariants.{Binary}
 use Rattle.sqlite_value.specs.Keys.{plain, first_key}
 use Rattle.sqlite.specs.Order.{Row}
 use Rattle.sqlite_schema.specs.declared.schema.Index.{Index}
+use Rattle.std.proofs.Math.ListN.{get_or-map}
 use Rattle.sqlite_catalog.proofs.LayoutLemmas.{zipped_left}
 use Rattle.sqlite_catalog.proofs.StepLemmas.{same_itself, table_below}
-use Rattle.sqlite_rules.proofs.ListLemmas.{has_got}
+use Rattle.sqlite_rules.proofs.ListLemmas.{has_got, has_right}
+use Rattle.sqlite_keyed.proofs.ListLemmas.{all_weaker}
 use Rattle.sql_front.proofs.Created.{stands_kept, stands_last}
 use Rattle.sql_front.proofs.Grown.{Grown, grown}
 use Rattle.sqlite_rules.specs.Edit.{put_all, numbered}
@@ -25,70 +26,35 @@ use Rattle.rollout_machine.specs.RecordSteps.{no_records}
 use Rattle.rollout_machine.proofs.Answering.{made_records}
 use Rattle.sql_calls.specs.Keyed.{IsHeldBy}
 use Rattle.desk_opening.proofs.EachVersion.{has_offers, nothing}
-use Rattle.desk_opening.proofs.Places.{is_place, HaveNamesApart, names_apart}
+use Rattle.desk_records.specs.Targets.{are_sorted}
+use Rattle.desk_records.proofs.HoldsAfter.{Leaves as LeavesRows}
+use Rattle.desk_opening.proofs.Places.{is_place, HaveNamesApart}
 
 -- ---- the tree of a table is low
 
-zip_low : (rows : List Row) (tables : List Table) → AllZip IsTableRow rows tables → (t : Table) → Has tables t → t.tree < 65536
-zip_low [] [] h t has = absurd has
-zip_low [] (x ∷ tables) h t has = absurd h
-zip_low (row ∷ rows) [] h t has = absurd has
-zip_low (row ∷ rows) (x ∷ tables) h t (inl is) = rw is (h.0.described.low)
-zip_low (row ∷ rows) (x ∷ tables) h t (inr more) = zip_low rows tables h.1 t more
-
-has_middle : (front more : List Table) (t : Table) → Has (front ++ t ∷ more) t
-has_middle [] more t = inl refl
-has_middle (x ∷ front) more t = inr (has_middle front more t)
-
 low_tree : (db : Database) (front more : List Table) (t : Table) → IsDatabase db → db.schema.tables ≡ front ++ t ∷ more → t.tree < 2 ^ 31
-low_tree db front more t sound grown = let low = zip_low _ db.schema.tables sound.lists.listed.tables t (rw grown (has_middle front more t)) in
-    omega (arith, low)
+low_tree db front more t sound grown =
+    let it = zipped_left IsTableRow _ db.schema.tables t sound.lists.listed.tables (rw grown (has_right front (t ∷ more) t (inl refl))) in
+    omega (arith, it.2.described.low)
 
 -- ---- the indexes of a table
 
 its_tree : (table : Table) (index : Index) (sql : Value) → IsDefined table index sql → index.table ≡ table.tree
-its_tree table index Null is = ap (λ (i : Index). i.table) is.3
-its_tree table index (Int n) is = absurd is
-its_tree table index (Real x) is = absurd is
-its_tree table index (Text sql) is = ap (λ (i : Index). i.table) is.2
-its_tree table index (Blob b) is = absurd is
+its_tree table index sql is = grind arith
 
 -- in a sound database an index is that of a table, and so its tree is below the next
 index_owned : (db : Database) → IsDatabase db → (index : Index) → Has db.schema.indexes index → index.table < next_tree db.schema
-index_owned db sound index there =
-    let it = zipped_left (IsIndexRow db.schema.tables) _ db.schema.indexes index sound.lists.listed.indexes there in
-    let is = its_tree it.2.table index (column it.0 4) it.2.defined in
-    omega (arith, is, table_below db.schema it.2.table it.2.listed)
+index_owned db sound index there = grind (arith, zipped_left, its_tree, column, table_below)
 
-abbrev pub AreInPlainOrder : List Order → Type 0
-AreInPlainOrder = AllByRecursion (λ order. order ≡ plain)
-
-plain_at : (orders : List Order) (k : ℕ) → AreInPlainOrder orders → slice_index_or orders k plain ≡ plain
-plain_at [] k h = refl
-plain_at (o ∷ orders) zero h = h.0
-plain_at (o ∷ orders) (suc k) h = plain_at orders k h.1
-
-all_plain : {X : Type 0} (xs : List X) → AreInPlainOrder (map (λ x. plain) xs)
-all_plain [] = tt
-all_plain (x ∷ xs) = (refl, all_plain xs)
-
-plain_orders : (t : Place) → AreInPlainOrder (table_at t 0).orders
-plain_orders t = subst AreInPlainOrder (sym (same_places (λ k. (table_at k 0).orders) (λ k. map (λ u. plain) (table_at k 0).uniques) refl t))
-    (all_plain (table_at t 0).uniques)
+-- each index that SQLite makes is in plain order
+plain_order : (t : Place) (k : ℕ) → slice_index_or (table_at t 0).orders k plain ≡ plain
+plain_order t k = grind (arith, plain, same_places, get_or-map)
 
 first_plain : (first_key plain).collation ≡ Binary
 unfolding first_key
 first_plain = refl
 
 -- ---- the tables
-
-pub all_kept : {X : Type 0} (P Q : X → Type 0) → ((x : X) → P x → Q x) → (xs : List X) → AllByRecursion P xs → AllByRecursion Q xs
-all_kept P Q f [] h = tt
-all_kept P Q f (x ∷ xs) h = (f x h.0, all_kept P Q f xs h.1)
-
-all_last : {X : Type 0} (P : X → Type 0) (xs : List X) (x : X) → AllByRecursion P xs → P x → AllByRecursion P (xs ++ x ∷ [])
-all_last P [] x h k = (k, tt)
-all_last P (y ∷ xs) x h k = (h.0, all_last P xs x h.1 k)
 
 -- no index that SQLite makes for a UNIQUE has such a name
 unindexed : (name : List ℕ) → ((rest : List ℕ) → same_name (codes "sqlite_autoindex_" ++ rest) name ≡ false)
@@ -148,7 +114,7 @@ module _ (t : Place) (before : Before) (made left : List Place) (apart : AllByRe
       let offers : HoldsPlace v old.now r (h.spot Offers) Offers = has_offers v (λ u. HoldsPlace v old.now r (h.spot u) u) h.tables in
       record {
         spot = h.spot;
-        tables = all_kept (λ u. HoldsPlace v old.now r (h.spot u) u) (λ u. HoldsPlace v new.now r (h.spot u) u)
+        tables = all_weaker (λ u. HoldsPlace v old.now r (h.spot u) u) (λ u. HoldsPlace v new.now r (h.spot u) u)
             (λ u it. (
               still_stands u (h.spot u).at (h.spot u).tree it.0,
               subst (AreRowsOf (content_at v (ledger_of r) u))
@@ -164,7 +130,7 @@ module _ (t : Place) (before : Before) (made left : List Place) (apart : AllByRe
   own_order : (index : Index) → Has new.now.schema.indexes index → index.table ≡ next_tree s → index.order ≡ plain
   own_order index h on = elim (g.indexes index h) [
     | inl there ↦ absurd (let low = index_owned old.now was.sound index there in omega (arith, low, on))
-    | inr own ↦ own.order ∙ plain_at (table_at t 0).orders own.place (plain_orders t)
+    | inr own ↦ own.order ∙ plain_order t own.place
   ]
 
   spared : (u : Place) → same_name (table_at t 0).name (name_of u) ≡ false → is_used s (name_of u) ≡ false → is_used new.now.schema (name_of u) ≡ false
@@ -180,9 +146,45 @@ module _ (t : Place) (before : Before) (made left : List Place) (apart : AllByRe
   table_made = record {
     sound = w.sound;
     kept = still_kept before was.kept;
-    stand = all_last (IsEmptyTable new.now) made t (all_kept (IsEmptyTable old.now) (IsEmptyTable new.now) still_empty made was.stand)
-        (record { at = length s.tables; tree = next_tree s; stands = made_last; empty = g.empty; plainly = own_order });
+    stand = all_both (IsEmptyTable new.now) made (t ∷ []) (all_weaker (IsEmptyTable old.now) (IsEmptyTable new.now) still_empty made was.stand)
+        (record { at = length s.tables; tree = next_tree s; stands = made_last; empty = g.empty; plainly = own_order }, tt);
     free = still_free left apart was.free.1;
+  }
+
+-- ---- the row of `desk` is written, and the other tables keep their rows
+
+-- a table stands in one place
+pub one_tree : {s : Schema} (t : Place) {at here : ℕ} (tree its : ℕ) → Stands s (name_of t) at (table_at t tree) → Stands s (name_of t) here (table_at t its)
+    → tree ≡ its
+one_tree t tree its stands other = grind (arith, same_some)
+
+module _ (before : Place → Content) (l : Ledger) (old new : Database) (spot : Place → Spot)
+    (stands : (t : Place) → Stands old.schema (name_of t) (spot t).at (table_at t (spot t).tree))
+    (held : (t : Place) → AreRowsOf (before t) (old.trees (spot t).tree)) where
+  one_place : (t : Place) → (spot t).tree ≡ (spot Desk).tree → t ≡ Desk
+  one_place t same =
+      let both : Some (table_at t (spot t).tree) ≡ Some (table_at Desk (spot Desk).tree) = sym (stands t).found
+      ∙ ap (λ n. find (λ (x : Table). x.tree == n) old.schema.tables) same ∙ (stands Desk).found in
+      let tables : table_at t (spot t).tree ≡ table_at Desk (spot Desk).tree = cc in
+      let named : Some t ≡ Some Desk = sym (is_named t) ∙ ap (λ (x : Table). place_named x.name) tables ∙ is_named Desk in
+      cc
+
+  pub desk_written : LeavesRows old new (spot Desk).tree → IsHeld l Desk (new.trees (spot Desk).tree)
+      → ((t : Place) → t ≢ Desk → content_of l t ≡ before t) → are_sorted l.records.targets ≡ true
+      → ComparesBytes old.schema (offer_table (spot Offers).tree) 1 → HoldsLedger new l
+  desk_written left here elsewhere sorted keyed = record {
+    sound = left.sound;
+    spot = spot;
+    stands = λ t. subst (λ s. Stands s (name_of t) (spot t).at (table_at t (spot t).tree)) (sym left.schema) (stands t);
+    rows = λ t. elim (place_or_other t Desk) [
+      | inl is ↦ subst (λ x. IsHeld l x (new.trees (spot x).tree)) (sym is) here
+      | inr other ↦
+          let kept = all-slice_get (λ (x : Table). HasNoForeignKey old.schema x.tree → x.tree ≢ (spot Desk).tree → new.trees x.tree ≡ old.trees x.tree)
+          old.schema.tables (spot t).at (table_at t (spot t).tree) (stands t).got left.others (stands t).keyless (λ same. other (one_place t same)) in
+          subst (λ c. AreRowsOf c (new.trees (spot t).tree)) (sym (elsewhere t other)) (subst (AreRowsOf (before t)) (sym kept) (held t))
+    ];
+    sorted = sorted;
+    keyed = subst (λ s. ComparesBytes s (offer_table (spot Offers).tree) 1) (sym left.schema) keyed;
   }
 
 -- ---- the row of `desk`
@@ -191,40 +193,18 @@ only_row : (approval : Bool) (tree : ℕ)
     → put_all [] (numbered Chosen []
     (map (λ s. cast_row (uncounted (desk_table tree)) (drop 0 s))
     (given_rows (uncounted (desk_table tree)) (Int (if approval then pos 1 else pos 0) ∷ []) desk_terms 5))) ≡ desk_row newest approval ∷ []
-only_row true tree = rw (cast_int 1, cast_int (version_number newest), cast_null)
-only_row false tree = rw (cast_int 1, cast_int (version_number newest), cast_int 0, cast_null)
-
--- a table of another name is in another tree
-in_another : (s : Schema) (desk other : Place) (m n : ℕ) → find (λ (x : Table). x.tree == m) s.tables ≡ Some (table_at desk m)
-    → find (λ (x : Table). x.tree == n) s.tables ≡ Some (table_at other n)
-    → HaveNamesApart desk other → n ≢ m
-in_another s desk other m n here there apart same =
-    let both : Some (table_at other n) ≡ Some (table_at desk m) = sym there ∙ ap (λ tree. find (λ (x : Table). x.tree == tree) s.tables) same ∙ here in
-    let tables : table_at other n ≡ table_at desk m = cc in
-    let names : name_of other ≡ name_of desk = ap (λ (t : Table). t.name) tables in
-    true≢false (sym (same_itself (name_of desk)) ∙ ap (same_name (name_of desk)) (sym names) ∙ apart)
-
--- the names of all other tables are apart from that of `desk`
-beside_desk : (t : Place) → t ≢ Desk → HaveNamesApart Desk t
-beside_desk = each_place (λ t. t ≢ Desk → HaveNamesApart Desk t) (
-  (λ other. absurd (other refl)),
-  all_kept (HaveNamesApart Desk) (λ t. t ≢ Desk → HaveNamesApart Desk t) (λ t apart other. apart) (drop 1 places)
-      names_apart.0,
-)
+only_row approval tree = grind (arith, cast_int, cast_null)
 
 none_held : (rows : List Row) → rows ≡ [] → IsHeldBy rows []
 none_held rows empty = subst (λ l. IsHeldBy l []) (sym empty) (record { order = []; rising = tt; same = IsPermutation-same [] [] refl })
 
 pub no_rows : (c : Content) (rows : List Row) → rows ≡ [] → AreRowsOf (nothing c) rows
-no_rows (Ordered wanted) rows empty = empty
-no_rows (Unordered wanted) rows empty = none_held rows empty
-no_rows (Offered offers) rows empty = record { listed = []; held = none_held rows empty; its = λ id. refl }
+no_rows c rows empty = grind (arith, none_held)
 
 -- of no records every table but `desk` holds nothing
 nothing_held : (approval : Bool) (t : Place) → t ≢ Desk → content_of (ledger_of (no_records approval)) t
     ≡ nothing (content_of (ledger_of (no_records approval)) t)
-nothing_held approval = same_elsewhere (content_of (ledger_of (no_records approval))) (λ t. nothing (content_of (ledger_of (no_records approval)) t))
-    (λ t. t ≢ Desk) (Desk ∷ []) refl ((λ other. absurd (other refl)), tt)
+nothing_held approval = grind (arith, same_elsewhere)
 
 module _ (approval : Bool) (old new : State) (text : List ℕ) (count : ℕ) (was : HoldsPartly old.now Nothing places [])
     (w : Writes old new None (Insert was.stand.0.at (Values desk_terms 5)) text (Int (if approval then pos 1 else pos 0) ∷ []) count) where
@@ -245,42 +225,16 @@ module _ (approval : Bool) (old new : State) (text : List ℕ) (count : ℕ) (wa
   desk_rows : new.now.trees was.stand.0.tree ≡ desk_row newest approval ∷ []
   desk_rows = made.applies.rows ∙ rw (was.stand.0.empty) (only_row approval was.stand.0.tree)
 
-  found_at : (t : Place) → find (λ (x : Table). x.tree == (at_place t).tree) here.tables ≡ Some (table_at t (at_place t).tree)
-  found_at t = (at_place t).stands.found
-
-  stay_empty : (t : Place) → t ≢ Desk → new.now.trees (at_place t).tree ≡ []
-  stay_empty t other =
-      let e = at_place t in
-      let kept : e.tree ≢ was.stand.0.tree → new.now.trees e.tree ≡ old.now.trees e.tree =
-      all-slice_get (λ (x : Table). HasNoForeignKey here x.tree → x.tree ≢ was.stand.0.tree → new.now.trees x.tree ≡ old.now.trees x.tree) here.tables e.at
-      (table_at t e.tree) e.stands.got made.applies.tables e.stands.keyless in
-      kept (in_another here Desk t was.stand.0.tree e.tree was.stand.0.stands.found (found_at t) (beside_desk t other)) ∙ e.empty
-
-  rows : (t : Place) → IsHeld (ledger_of (no_records approval)) t (new.now.trees (spot_of t).tree)
-  rows t = elim (place_or_other t Desk) [
-    | inl is ↦ subst (λ x. IsHeld (ledger_of (no_records approval)) x (new.now.trees (spot_of x).tree)) (sym is) desk_rows
-    | inr other ↦ subst (λ c. AreRowsOf c (new.now.trees (spot_of t).tree)) (sym (nothing_held approval t other))
-        (no_rows (content_of (ledger_of (no_records approval)) t) (new.now.trees (spot_of t).tree) (stay_empty t other))
-  ]
-
-  keyed : ComparesBytes new.now.schema (offer_table (spot_of Offers).tree) 1
-  keyed index there guarding on =
-      let e = at_place Offers in
-      let was_there : Has here.indexes index = subst (λ (x : Schema). Has x.indexes index) made.schema_is there in
-      ap (λ (o : Order). (first_key o).collation) (e.plainly index was_there (eqb-true index.table e.tree (and_parts _ _ guarding).1)) ∙ first_plain
-
-  filled_with : HoldsRecords new.now (no_records approval)
-  filled_with = record {
-    sound = w.sound;
-    spot = spot_of;
-    stands = λ t. subst (λ x. Stands x (name_of t) (at_place t).at (table_at t (at_place t).tree)) (sym made.schema_is) (at_place t).stands;
-    rows = rows;
-    sorted = refl;
-    keyed = keyed;
-  }
+  keyed : ComparesBytes here (offer_table (spot_of Offers).tree) 1
+  keyed index there guarding on = grind (arith, first_key, eqb-true, and_parts, first_plain)
 
   pub desk_filled : HoldsRecords new.now (first_records approval)
-  desk_filled = subst (HoldsRecords new.now) (sym (made_records approval)) filled_with
+  desk_filled =
+      let empty = ledger_of (no_records approval) in
+      subst (HoldsRecords new.now) (sym (made_records approval))
+      (desk_written (λ t. nothing (content_of empty t)) empty old.now new.now spot_of (λ t. (at_place t).stands)
+      (λ t. no_rows (content_of empty t) (old.now.trees (spot_of t).tree) (at_place t).empty)
+      (record { schema = made.schema_is; sound = w.sound; others = made.applies.tables }) desk_rows (nothing_held approval) refl keyed)
 
 -- ---- the tables that are found are the desk's
 

@@ -1,5 +1,5 @@
 -- Why an opening is a failed store.
-use Rattle.std.specs.Prelude.{◌≡◌, ◌⊎◌, ℕ, Result, Ok, Err}
+use Rattle.std.specs.Prelude.{◌≡◌, ◌⊎◌}
 use Rattle.sqlite.specs.Store.{Ghosts}
 use Rattle.sqlite.specs.Held.{state}
 use Rattle.sqlite.specs.State.{State, HasCleanDisk}
@@ -9,7 +9,7 @@ use Rattle.rollout_machine.specs.Records.{Records}
 use Rattle.desk_records.specs.Readable.{HoldsAt}
 use Rattle.desk_records.specs.declared.version.Version.{Version}
 use Rattle.desk_store.specs.Blaming.{HasFailed}
-use Rattle.desk_opening.specs.Counting.{AreReadable, FailedBefore, HasCall, IsStore}
+use Rattle.desk_opening.specs.Counting.{AreReadable}
 use Rattle.desk_opening.specs.Making.{HoldsStage, Free}
 use Rattle.desk_opening.specs.Opening.{IsKnownOpen}
 use Rattle.desk_opening.specs.declared.opening.OpenFault.{OpenFault}
@@ -26,15 +26,14 @@ pub record RestsReadable (s : State) : Type 0 where
 abbrev pub IsHealthy : State → Type 0
 IsHealthy s = RestsReadable s ⊎ Rests HoldsStage s Free
 
-module _ {S : Type 0} (g : Ghosts S) where
-  abbrev pub FailsOpeningTo : {A : Type 0} → Calls S → Calls S → Result A OpenFault → Type 0
-  FailsOpeningTo old new (Ok a) = Unit {0}
-  FailsOpeningTo old new (Err e) = (failed : ℕ) → FailedBefore old failed → IsKnownOpen (state g old.conn) → IsHealthy (state g old.conn)
-      → HasCleanDisk (state g new.conn) → HasCall IsStore new failed e
+-- a readable desk was there, and its disk has not lied
+abbrev pub HadReadable : State → State → Type 0
+HadReadable old new = RestsReadable old × HasCleanDisk new
 
-  pub record FailsOpening {A : Type 0} (old new : Calls S) (result : Result A OpenFault) : Type 0 where
-    pub to : FailsOpeningTo old new result
+-- the connection was open and sound, and its disk has not lied
+abbrev pub WasHealthy : State → State → Type 0
+WasHealthy old new = IsKnownOpen old × IsHealthy old × HasCleanDisk new
 
-  -- where the connection was open and sound, a failed store is a call that failed, which is counted
-  pub record HasCause (old : State) (new : Calls S) (e : OpenFault) : Type 0 where
-    pub cause : IsKnownOpen old → IsHealthy old → HasCleanDisk (state g new.conn) → e ≡ Store → HasFailed 0 new.failures
+-- where it was, a failed store is a call that failed, which is counted
+pub record HasCause {S : Type 0} (g : Ghosts S) (old : State) (new : Calls S) (e : OpenFault) : Type 0 where
+  pub cause : IsKnownOpen old → IsHealthy old → HasCleanDisk (state g new.conn) → e ≡ Store → HasFailed 0 new.failures

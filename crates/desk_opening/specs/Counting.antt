@@ -1,9 +1,8 @@
 -- What an opening counts: a failed store is a call that failed.
-use Rattle.std.specs.Prelude.{◌≡◌, ◌≢◌, ◌≤◌, ◌<◌, ◌^◌, ℕ, length, Some, None, Result, Ok, Err}
+use Rattle.std.specs.Prelude.{◌≡◌, ◌≢◌, ◌≤◌, ◌<◌, ◌^◌, ℕ, length, Some, None, Result, Ok, Err, IfErr}
 use Rattle.std.specs.List.{AllByRecursion}
-use Rattle.sqlite.specs.Store.{Ghosts}
-use Rattle.sqlite.specs.Held.{state}
-use Rattle.sqlite.specs.State.{HasCleanDisk}
+use Rattle.sqlite.specs.State.{State, HasCleanDisk}
+use Rattle.sql_calls.specs.Calls.{Grows, failures_in}
 use Rattle.sql_calls.specs.Standing.{Rests, Sees}
 use Rattle.rollout_machine.specs.ByteStrings.{item_numbered}
 use Rattle.rollout_machine.specs.Records.{Records}
@@ -20,10 +19,6 @@ use Rattle.desk_store.specs.Blaming.{HasFailed}
 use Rattle.desk_opening.specs.declared.opening.OpenFault.{OpenFault}
 use Rattle.desk_opening.specs.declared.opening.OpenFault.TheVariants as refused
 
--- at least so many calls failed
-pub record FailedBefore {S : Type 0} (calls : Calls S) (failed : ℕ) : Type 0 where
-  pub failures : failed ≤ calls.failures
-
 -- what an opening tells as a failed store
 abbrev pub TellsStore : Fault → Type 0
 TellsStore f = f ≢ fault.Memory
@@ -31,24 +26,23 @@ TellsStore f = f ≢ fault.Memory
 abbrev pub IsStore : OpenFault → Type 0
 IsStore e = e ≡ refused.Store
 
--- no count fell, and what is told so is a call that failed since
-pub record HasCall {S E : Type 0} (Told : E → Type 0) (calls : Calls S) (failed : ℕ) (e : E) : Type 0 where
-  pub before : FailedBefore calls failed
-  pub call : Told e → HasFailed failed calls.failures
+-- ---- what only writes
 
-abbrev pub CountsCallsTo : {S A E : Type 0} → (E → Type 0) → Calls S → Calls S → Result A E → Type 0
-CountsCallsTo Told old new (Ok a) = (failed : ℕ) → FailedBefore old failed → FailedBefore new failed
-CountsCallsTo Told old new (Err e) = (failed : ℕ) → FailedBefore old failed → HasCall Told new failed e
+-- no rows are told as broken
+pub record IsSound (f : Fault) : Type 0 where
+  pub sound : f ≢ fault.Broken
 
--- No count falls, and a failed store is a call that failed, whatever is seen.
-pub record CountsBy {S A E : Type 0} (Told : E → Type 0) (old new : Calls S) (result : Result A E) : Type 0 where
-  pub to : CountsCallsTo Told old new result
+abbrev pub SoundTo : {A : Type 0} → Result A Fault → Type 0
+SoundTo (Ok a) = Unit {0}
+SoundTo (Err f) = IsSound f
 
-abbrev pub Counts : {S A : Type 0} → Calls S → Calls S → Result A Fault → Type 0
-Counts = CountsBy TellsStore
+pub record NeverBreaks {A : Type 0} (result : Result A Fault) : Type 0 where
+  pub to : SoundTo result
 
-abbrev pub CountsOpening : {S A : Type 0} → Calls S → Calls S → Result A OpenFault → Type 0
-CountsOpening = CountsBy IsStore
+-- Each call that failed is counted, and a failed store is such a call, whatever is seen.
+pub record Counts {S A : Type 0} (old new : Calls S) (result : Result A Fault) : Type 0 where
+  pub grows : Grows (failures_in result) old new
+  pub sound : NeverBreaks result
 
 -- ---- what a migration reads
 
@@ -67,22 +61,33 @@ pub record HasReadable (number : ℕ) (l : Ledger) : Type 0 where
   pub is_there : item_numbered l.records.rollouts number ≡ Some rollout
   pub readable : IsRolloutReadable rollout
 
-module _ {S : Type 0} (g : Ghosts S) where
-  module _ (Given : Ledger → Type 0) where
-    abbrev pub FailsTo : {A : Type 0} → Calls S → Calls S → Result A Fault → Type 0
-    FailsTo old new (Ok a) = (failed : ℕ) → FailedBefore old failed → FailedBefore new failed
-    FailsTo old new (Err e) = (failed : ℕ) → FailedBefore old failed → (l : Ledger) → Sees HoldsLedger (state g old.conn) l → Given l
-        → HasCleanDisk (state g new.conn) → HasCall TellsStore new failed e
+abbrev pub FailsTo : (Ledger → Type 0) → {A : Type 0} → State → State → Result A Fault → Type 0
+FailsTo Given old new (Ok a) = Unit {0}
+FailsTo Given old new (Err f) = (l : Ledger) → Sees HoldsLedger old l → Given l → HasCleanDisk new → IsSound f
 
-    -- where the ledger is as given, a failed store is a call that failed
-    pub record FailsGiven {A : Type 0} (old new : Calls S) (result : Result A Fault) : Type 0 where
-      pub to : FailsTo old new result
+-- where the ledger is as given, broken rows are never told
+pub record FailsGiven (Given : Ledger → Type 0) {A : Type 0} (old new : State) (result : Result A Fault) : Type 0 where
+  pub to : FailsTo Given old new result
 
-  abbrev pub FailsAtTo : {A E : Type 0} → (E → Type 0) → Version → Calls S → Calls S → Result A E → Type 0
-  FailsAtTo Told v old new (Ok a) = (failed : ℕ) → FailedBefore old failed → FailedBefore new failed
-  FailsAtTo Told v old new (Err e) = (failed : ℕ) → FailedBefore old failed → (r : Records) → Rests (HoldsAt v) (state g old.conn) r → AreReadable r
-      → HasCleanDisk (state g new.conn) → HasCall Told new failed e
+abbrev pub FailsAtTo : Version → {A : Type 0} → State → State → Result A Fault → Type 0
+FailsAtTo v old new (Ok a) = Unit {0}
+FailsAtTo v old new (Err f) = (r : Records) → Rests (HoldsAt v) old r → AreReadable r → HasCleanDisk new → IsSound f
 
-  -- where the tables of a version hold records that can be read, a failed store is a call that failed
-  pub record FailsAt {A E : Type 0} (Told : E → Type 0) (v : Version) (old new : Calls S) (result : Result A E) : Type 0 where
-    pub to : FailsAtTo Told v old new result
+-- where the tables of a version hold records that can be read, broken rows are never told
+pub record FailsAt (v : Version) {A : Type 0} (old new : State) (result : Result A Fault) : Type 0 where
+  pub to : FailsAtTo v old new result
+
+-- ---- what an opening tells
+
+-- No count falls, and where this is so, a failed store is a call that failed.
+pub record CountsWhere (Where : Type 0) {S A : Type 0} (old new : Calls S) (result : Result A OpenFault) : Type 0 where
+  pub grows : old.failures ≤ new.failures
+  pub cause : IfErr result (λ e. Where → IsStore e → HasFailed old.failures new.failures)
+
+-- whatever is seen
+abbrev pub CountsOpening : {S A : Type 0} → Calls S → Calls S → Result A OpenFault → Type 0
+CountsOpening = CountsWhere (Unit {0})
+
+-- the tables of a version hold records that can be read
+abbrev pub IsReadableAt : Version → State → State → Type 0
+IsReadableAt v old new = (r : Records) × Rests (HoldsAt v) old r × AreReadable r × HasCleanDisk new

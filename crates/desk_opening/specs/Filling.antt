@@ -1,10 +1,9 @@
 -- A change that fills the tables of the newest version.
 use Rattle.std.specs.Option.{option_map}
-use Rattle.std.specs.Prelude.{◌≡◌, ◌≤◌, ℕ, zero, suc, List, [], ◌∷◌, length, map, Option, Some, None, Result, Ok, Err}
+use Rattle.std.specs.Prelude.{◌≡◌, ◌≤◌, ℕ, zero, suc, List, [], ◌∷◌, length, map, Option, Some, None, Result}
 use Rattle.sqlite_value.specs.Order.{Row}
-use Rattle.sqlite.specs.Tree.{Trees}
-use Rattle.sqlite.specs.State.{State, HasCleanDisk}
-use Rattle.sql_calls.specs.Standing.{Finds, HoldIn, Makes, Wears}
+use Rattle.sqlite.specs.State.{State}
+use Rattle.sql_calls.specs.Standing.{Finds, Makes}
 use Rattle.rollout_model.specs.declared.group_rule.GroupRule.{GroupRule}
 use Rattle.rollout_machine.specs.ByteStrings.{item_numbered}
 use Rattle.rollout_machine.specs.GroupRules.{even_rules}
@@ -21,21 +20,11 @@ use Rattle.desk_records.specs.declared.rollout_row.StoredRollout.{StoredRollout}
 use Rattle.desk_records.specs.declared.version.Version.{Version}
 use Rattle.desk_records.specs.declared.version.Version.TheVariants.{One, Two, Three}
 use Rattle.desk_opening.specs.Counting.{AreReadable}
-use Rattle.desk_opening.specs.Making.{Changes, HoldsStage, Stage, Standing}
+use Rattle.desk_opening.specs.Making.{Standing, Steps}
 
--- every crash leaves what the change began with
-pub record Leaves (s : State) (kept : Stage) : Type 0 where
-  pub crash : HasCleanDisk s → (db : Trees) → s.may_leave db → HoldIn HoldsStage db kept
-
-abbrev pub StaysTo : {A E : Type 0} → State → State → Result A E → Type 0
-StaysTo old new (Ok a) = (kept : Stage) → Changes old Standing kept → Changes new Standing kept
-StaysTo old new (Err e) = (kept : Stage) → Changes old Standing kept → Leaves new kept
-
--- Whatever a call answers, the tables stay where they are: Ok leaves the change open, and after an error a crash leaves what it would have
--- left before.
-pub record Stays {A E : Type 0} (old new : State) (result : Result A E) : Type 0 where
-  pub wears : Wears old new
-  pub stays : StaysTo old new result
+-- the tables stay where they are
+abbrev pub Stays : {A E : Type 0} → State → State → Result A E → Type 0
+Stays old new result = Steps Standing Standing old new result
 
 -- the ledger answers, and stays as it is
 abbrev pub FindsLedger : {A E : Type 0} → State → State → Result A E → (Ledger → A → Type 0) → Type 0

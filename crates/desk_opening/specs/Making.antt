@@ -106,10 +106,19 @@ pub record Changes (s : State) (now kept : Stage) : Type 0 where
 abbrev pub AreApart : List Place → Type 0
 AreApart = IsAscending (λ t u. same_name (name_of t) (name_of u) ≡ false)
 
-abbrev pub MakesTablesTo : {A E : Type 0} → List Place → State → State → Result A E → Type 0
-MakesTablesTo ts old new (Ok _) = (before : Before) (kept : Stage) → Changes old (Partly before [] ts) kept → Changes new (Partly before ts []) kept
-MakesTablesTo ts old new (Err e) = (before : Before) (kept : Stage) → Changes old (Partly before [] ts) kept → HasCleanDisk new
-    → (db : Trees) → new.may_leave db → HoldIn HoldsStage db kept
+-- every crash leaves what the change began with
+pub record Leaves (s : State) (kept : Stage) : Type 0 where
+  pub crash : HasCleanDisk s → (db : Trees) → s.may_leave db → HoldIn HoldsStage db kept
+
+abbrev pub StepsTo : {A E : Type 0} → Stage → Stage → State → State → Result A E → Type 0
+StepsTo now next old new (Ok a) = (kept : Stage) → Changes old now kept → Changes new next kept
+StepsTo now next old new (Err e) = (kept : Stage) → Changes old now kept → Leaves new kept
+
+-- Whatever a call answers: Ok leaves the change open, from one stage to the next, and after an error a crash leaves what it would have left
+-- before.
+pub record Steps {A E : Type 0} (now next : Stage) (old new : State) (result : Result A E) : Type 0 where
+  pub wears : Wears old new
+  pub steps : StepsTo now next old new result
 
 -- the fault alone, of a call that gives back with it what was left
 abbrev pub told : {A E X : Type 0} → Result A (E × X) → Result A E
@@ -117,6 +126,5 @@ told (Ok a) = Ok a
 told (Err e) = Err e.0
 
 -- these tables, within a change
-pub record MakesTables {A E : Type 0} (ts : List Place) (old new : State) (result : Result A E) : Type 0 where
-  pub wears : Wears old new
-  pub makes : MakesTablesTo ts old new result
+abbrev pub MakesTables : {A E : Type 0} → List Place → State → State → Result A E → Type 0
+MakesTables ts old new result = (before : Before) → Steps (Partly before [] ts) (Partly before ts []) old new result

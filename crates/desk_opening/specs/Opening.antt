@@ -17,14 +17,13 @@ use Rattle.sql_calls.specs.declared.fault.Fault.{Fault}
 use Rattle.rollout_machine.specs.Records.{Records}
 use Rattle.desk_records.specs.Schema.{table_at, desk_table, name_of, desk_names}
 use Rattle.desk_records.specs.Holds.{HoldsRecords}
-use Rattle.desk_records.specs.Readable.{HoldsAt, HoldsReadable}
 use Rattle.desk_records.specs.Versions.{later_than, newest, version_number, places_at}
 use Rattle.desk_records.specs.declared.texts.TheConstants.{GET_DESK}
 use Rattle.desk_records.specs.declared.version.Version.{Version}
 use Rattle.desk_opening.specs.declared.opening.OpenFault.{OpenFault}
 use Rattle.desk_opening.specs.declared.opening.OpenFault.TheVariants.{NotDesk, NewerVersion, Memory, Store}
 use Rattle.desk_opening.specs.Making.{HoldsStage, Free, LeavesNoDesk, LeavesDeskWith, first_records}
-use Rattle.desk_opening.specs.Migrating.{MigratesTo}
+use Rattle.desk_opening.specs.Migrating.{HoldsOf, MovesTo}
 
 -- each table of the version is there as the desk makes it, and the names of later ones are free
 pub record HasDeskTables (v : Version) (schema : Schema) : Type 0 where
@@ -133,22 +132,16 @@ KeepsTo Holds old new (Err e) = (r : Records) → Rests Holds old r → HasClean
 -- Records that stood, stand, and in the same version; at an error every crash still leaves them. Ok comes of an open connection alone.
 pub record Keeps {A E : Type 0} (old new : State) (result : Result A E) : Type 0 where
   pub wears : Wears old new
-  pub keeps : KeepsTo HoldsReadable old new result
-  pub keeps_at : (v : Version) → KeepsTo (HoldsAt v) old new result
+  pub keeps : (o : Option Version) → KeepsTo (HoldsOf o) old new result
   pub opened : IfOk result (λ a. HasCleanDisk new → IsTrue old.is_open)
 
 -- ---- taking over
-
-abbrev pub TakesOverTo : {A E : Type 0} → State → State → Result A E → Type 0
-TakesOverTo old new (Ok _) = (r : Records) → Rests HoldsReadable old r → Rests HoldsRecords new r
-TakesOverTo old new (Err e) = (r : Records) → Rests HoldsReadable old r → HasCleanDisk new → (db : Trees) → new.may_leave db → HoldIn HoldsReadable db r
 
 -- Records that stood in the tables of any version that the program reads stand in those of the newest, and at an error every crash still
 -- leaves them: in the version that they stood in, or in the newest. The answer is by the database as it was.
 pub record Adopts {A : Type 0} (old new : State) (result : Result A OpenFault) : Type 0 where
   pub wears : Wears old new
-  pub takes : TakesOverTo old new result
-  pub takes_at : (v : Version) → MigratesTo v old new result
+  pub takes : (o : Option Version) → MovesTo o old new result
   pub tells : HasCleanDisk new → TellsOfRow (λ _. HasDesk old.now) (HasRow old.now) (LacksPartOfDesk old.now) result
 
 -- A name of a desk is used, and by no desk: a table or the row is another's, or is not there.
@@ -168,19 +161,21 @@ OpensTo old new approval (Err e) = Rests HoldsStage old Free → HasCleanDisk ne
     ⊎ LeavesDeskWith db (first_records approval)
 
 -- What is opened is a desk, or uses no name of one. What is refused as no desk is none, and what is refused as a later one says so.
+abbrev pub FindsFault : Database → OpenFault → Type 0
+FindsFault db NotDesk = HasNoDesk db
+FindsFault db NewerVersion = HasRow db IsNewerRow
+FindsFault db Memory = Unit {0}
+FindsFault db Store = Unit {0}
+
 abbrev pub FindsTo : {A : Type 0} → Database → Result A OpenFault → Type 0
 FindsTo db (Ok _) = HasDesk db ⊎ LeavesFree db.schema desk_names
-FindsTo db (Err NotDesk) = HasNoDesk db
-FindsTo db (Err NewerVersion) = HasRow db IsNewerRow
-FindsTo db (Err Memory) = Unit {0}
-FindsTo db (Err Store) = Unit {0}
+FindsTo db (Err e) = FindsFault db e
 
 -- A desk that is there is taken over. Where no name of a desk is used, a new one is there whole or not at all.
 pub record OpensDesk {A : Type 0} (old new : State) (approval : Bool) (result : Result A OpenFault) : Type 0 where
   pub wears : Wears old new
   pub finds : HasCleanDisk new → FindsTo old.now result
-  pub takes : IsKnownOpen old → TakesOverTo old new result
-  pub takes_at : IsKnownOpen old → (v : Version) → MigratesTo v old new result
+  pub takes : IsKnownOpen old → (o : Option Version) → MovesTo o old new result
   pub makes : IsKnownOpen old → OpensTo old new approval result
 
 -- A law of each store: while it is open, a crash leaves the last commit.

@@ -3,7 +3,8 @@
 
 ghost use Rattle.std.specs.Prelude.{◌≡◌};
 ghost use Rattle.desk_records.specs.Schema.{name_of};
-ghost use Rattle.desk_opening.specs.Places.{place_of, create_text_of};
+ghost use Rattle.desk_records.specs.TableTexts.{create_text_of};
+ghost use Rattle.desk_opening.specs.Places.{place_of};
 
 use desk_records::{
     CREATE_ACTION, CREATE_ARTIFACT, CREATE_DESK, CREATE_FEEDBACK, CREATE_FEEDBACK_NUMBER,

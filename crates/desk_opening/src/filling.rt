@@ -6,6 +6,7 @@ ghost use Rattle.desk_records.specs.LedgerSteps.{AddsRule};
 ghost use Rattle.desk_records.specs.ReadRows.{IsStoredRolloutRow};
 ghost use Rattle.desk_records.specs.RowFaults.{IfRowsBroken};
 ghost use Rattle.desk_store.specs.Rows.{IsReadAs};
+ghost use Rattle.sql_calls.specs.Calls.{Grows, failures_in};
 ghost use Rattle.desk_opening.specs.Counting.{Counts, FailsGiven, HasReadable};
 ghost use Rattle.desk_opening.specs.Filling.{FillsLater, FillsRollout, FindsLedger, GivenBare, GivenRules, IsOfNumber, LacksRollout, MakesLedger, Stays};
 ghost use Rattle.desk_opening.specs.Filling.{WritesCopies, WritesRules};
@@ -27,7 +28,8 @@ pub(crate) fn fill_later<S: Alter>(
 ) -> Result<(), Fault>
     ensures stays { Stays (state S.Store calls.old.conn) (state S.Store calls.new.conn) result }
     ensures writes { MakesLedger (state S.Store calls.old.conn) (state S.Store calls.new.conn) result (FillsLater version) }
-    ensures fails { FailsGiven S.Store (GivenBare version) calls.old calls.new result }
+    ensures fails { FailsGiven (GivenBare version) (state S.Store calls.old.conn) (state S.Store calls.new.conn) result }
+    ensures grows { Grows (failures_in result) calls.old calls.new }
 {
     match version {
         Version::One => write_rules(alloc, calls),
@@ -39,7 +41,8 @@ pub(crate) fn fill_later<S: Alter>(
 fn write_rules<S: Alter>(alloc: Global, calls: &mut Calls<S>) -> Result<(), Fault>
     ensures stays { Stays (state S.Store calls.old.conn) (state S.Store calls.new.conn) result }
     ensures writes { MakesLedger (state S.Store calls.old.conn) (state S.Store calls.new.conn) result WritesRules }
-    ensures fails { FailsGiven S.Store GivenRules calls.old calls.new result }
+    ensures fails { FailsGiven GivenRules (state S.Store calls.old.conn) (state S.Store calls.new.conn) result }
+    ensures grows { Grows (failures_in result) calls.old calls.new }
 {
     let last = read_last(calls)?;
     for k in 0..last {
@@ -53,7 +56,8 @@ fn write_rules_of<S: Alter>(alloc: Global, calls: &mut Calls<S>, number: u32) ->
     requires { 1 ≤ number }
     ensures stays { Stays (state S.Store calls.old.conn) (state S.Store calls.new.conn) result }
     ensures writes { MakesLedger (state S.Store calls.old.conn) (state S.Store calls.new.conn) result (FillsRollout number) }
-    ensures fails { FailsGiven S.Store (HasReadable number) calls.old calls.new result }
+    ensures fails { FailsGiven (HasReadable number) (state S.Store calls.old.conn) (state S.Store calls.new.conn) result }
+    ensures grows { Grows (failures_in result) calls.old calls.new }
 {
     let rollout = read_rollout(alloc, calls, number)?;
     let groups = rollout.plan.groups.get();
@@ -106,7 +110,8 @@ fn write_rule<S: Alter>(
 fn read_last<S: Alter>(calls: &mut Calls<S>) -> Result<u32, Fault>
     ensures stays { Stays (state S.Store calls.old.conn) (state S.Store calls.new.conn) result }
     ensures reads { FindsLedger (state S.Store calls.old.conn) (state S.Store calls.new.conn) result (λ l last. last ≡ length l.records.rollouts) }
-    ensures fails { FailsGiven S.Store (λ l. length l.records.rollouts < 2 ^ 32) calls.old calls.new result }
+    ensures fails { FailsGiven (λ l. length l.records.rollouts < 2 ^ 32) (state S.Store calls.old.conn) (state S.Store calls.new.conn) result }
+    ensures grows { Grows (failures_in result) calls.old calls.new }
 {
     let row = first(calls, LAST_ROLLOUT, &[])?;
     last_number(row)
@@ -121,7 +126,8 @@ fn read_rollout<S: Alter>(
     requires { 1 ≤ number }
     ensures stays { Stays (state S.Store calls.old.conn) (state S.Store calls.new.conn) result }
     ensures reads { FindsLedger (state S.Store calls.old.conn) (state S.Store calls.new.conn) result (IsOfNumber number) }
-    ensures fails { FailsGiven S.Store (HasReadable number) calls.old calls.new result }
+    ensures fails { FailsGiven (HasReadable number) (state S.Store calls.old.conn) (state S.Store calls.new.conn) result }
+    ensures grows { Grows (failures_in result) calls.old calls.new }
 {
     let row = first(calls, GET_ROLLOUT, params![number])?;
     rollout_in(alloc, row)

@@ -2,7 +2,8 @@
 
 ghost use Rattle.std.specs.Prelude.{IfOk};
 ghost use Rattle.sqlite.specs.Held.{state};
-ghost use Rattle.desk_opening.specs.Counting.{FailsAt, TellsStore};
+ghost use Rattle.sql_calls.specs.Calls.{Grows, failures_in};
+ghost use Rattle.desk_opening.specs.Counting.{FailsAt};
 ghost use Rattle.desk_opening.specs.Migrating.{Migrates};
 ghost use Rattle.desk_opening.specs.Opening.{IsKnownOpen};
 
@@ -22,7 +23,8 @@ pub(crate) fn migrate<S: Alter>(
     version: Version,
 ) -> Result<(), Fault>
     ensures migrates { Migrates version (state S.Store calls.old.conn) (state S.Store calls.new.conn) result }
-    ensures fails { FailsAt S.Store TellsStore version calls.old calls.new result }
+    ensures fails { FailsAt version (state S.Store calls.old.conn) (state S.Store calls.new.conn) result }
+    ensures grows { Grows (failures_in result) calls.old calls.new }
     ensures opened { IfOk result (λ done. IsKnownOpen (state S.Store calls.new.conn)) }
 {
     run(calls, BEGIN, &[])?;

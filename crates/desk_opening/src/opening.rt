@@ -18,8 +18,8 @@ ghost use Rattle.desk_records.specs.Versions.{newest};
 ghost use Rattle.desk_opening.specs.Opening.{Adopts, HasDeskTables, IsDeskRow, IsFailure, IsSettled, IsWholeAt, Keeps, LacksAt, OpensDesk, TakesDeskRow};
 ghost use Rattle.desk_opening.specs.Opening.{TellsOfRow, TellsVersion};
 ghost use Rattle.desk_opening.specs.Migrating.{Migrates};
-ghost use Rattle.desk_opening.specs.Counting.{CountsOpening, FailsAt, IsStore, TellsStore};
-ghost use Rattle.desk_opening.specs.Causes.{FailsOpening, HasCause};
+ghost use Rattle.desk_opening.specs.Counting.{CountsOpening, CountsWhere, IsReadableAt, IsStore, TellsStore};
+ghost use Rattle.desk_opening.specs.Causes.{HadReadable, HasCause, WasHealthy};
 
 use crate::desk_table::{DeskTable, TABLES};
 use crate::making::fill;
@@ -222,7 +222,7 @@ fn first_fault(seen: Result<Version, OpenFault>, fault: Fault) -> OpenFault
 /// looked at: a later version may have others. The tables of an older version become those of the newest.
 fn take_over<S: Alter>(alloc: Global, calls: &mut Calls<S>) -> Result<(), OpenFault>
     ensures adopts { Adopts (state S.Store calls.old.conn) (state S.Store calls.new.conn) result }
-    ensures fails { (v : Version) → FailsAt S.Store IsStore v calls.old calls.new result }
+    ensures fails { CountsWhere (HadReadable (state S.Store calls.old.conn) (state S.Store calls.new.conn)) calls.old calls.new result }
 {
     if !has_table(alloc, calls.schema(), DeskTable::Desk)? {
         return Err(OpenFault::NotDesk);
@@ -236,7 +236,7 @@ fn renew<S: Alter>(alloc: Global, calls: &mut Calls<S>, version: Version) -> Res
     ensures renews { Migrates version (state S.Store calls.old.conn) (state S.Store calls.new.conn) result }
     ensures renewed { IfOk result (λ it. (version ≡ newest) ⊎ HasDeskTables newest (state S.Store calls.new.conn).now.schema) }
     ensures failed { IfErr result IsFailure }
-    ensures fails { FailsAt S.Store IsStore version calls.old calls.new result }
+    ensures fails { CountsWhere (IsReadableAt version (state S.Store calls.old.conn) (state S.Store calls.new.conn)) calls.old calls.new result }
 {
     if let Version::Three = version {
         return Ok(());
@@ -302,7 +302,7 @@ fn enter<S: Alter>(
 ) -> Result<(), OpenFault>
     ensures opens { OpensDesk (state S.Store calls.old.conn) (state S.Store calls.new.conn) approval_if_new result }
     ensures settled { IsSettled (state S.Store calls.old.conn) }
-    ensures fails { FailsOpening S.Store calls.old calls.new result }
+    ensures fails { CountsWhere (WasHealthy (state S.Store calls.old.conn) (state S.Store calls.new.conn)) calls.old calls.new result }
 {
     if uses_desk_name(calls.schema()) {
         return take_over(alloc, calls);

@@ -1,4 +1,4 @@
-use Rattle.desk_opening.proofs.Common.{refl}
+use Rattle.desk_opening.proofs.Common.{refl, rules}
 use Rattle.desk_store.proofs.Known.{known}
 use Rattle.desk_store.proofs.RolloutCalls.{last_read}
 use Rattle.desk_records.proofs.RolloutMeaning.{last_rollout_is}
@@ -13,7 +13,8 @@ pub returns : goal.returns
 returns g c =
     let out = c.last_number.result in
     record {
+      grows = search rules;
       stays = stays_read _ _ _ _ c.in_ok-row.ensures.takes (known last_rollout_is) _ refl out;
       reads = last_read _ _ c.in_ok-row.row c.in_ok-row.ensures.takes out c.last_number.ensures.ok;
-      fails = last_fails c.in_ok-row.ensures.counts c.in_ok-row.ensures.takes out c.last_number.ensures.err;
+      fails = last_fails c.in_ok-row.ensures.takes out c.last_number.ensures.err;
     }

@@ -10,7 +10,8 @@ pub returns-in-Ok-None-clause-tells : goal.returns-in-Ok-None-clause-tells
 returns-in-Ok-None-clause-tells g c = λ clean table. tells_none _ _ _ c.in-Ok-None.field-0-is c.in-Ok-None.ensures.takes clean table
 
 pub returns-in-Ok-Some-clause-counts : goal.returns-in-Ok-Some-clause-counts
-returns-in-Ok-Some-clause-counts g c = seen_counts c.in-Ok-Some.ensures.counts c.judge_whole.result c.judge_whole.ensures.memory
+returns-in-Ok-Some-clause-counts g c = seen_counts c.in-Ok-Some.ensures.counts.grows.failures c.judge_whole.result c.judge_whole.ensures.memory
 
 pub returns-in-Err-clause-counts : goal.returns-in-Err-clause-counts
-returns-in-Err-clause-counts g c = named c.in-Err.fault c.in-Err.ensures.counts c.open_fault.result c.open_fault.ensures.store
+returns-in-Err-clause-counts g c = named c.in-Err.fault c.in-Err.ensures.counts.grows (λ so. c.in-Err.ensures.counts.sound.to.sound) c.open_fault.result
+    c.open_fault.ensures.store

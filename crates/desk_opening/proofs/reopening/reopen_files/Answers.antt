@@ -19,5 +19,6 @@ returns-in-Err-open_desk-clause-refused g c = refuses_calls (image_of g.D.Disk c
     c.in-Err-open_desk.fault c.in-Err-open_desk.calls c.in-Err-open_desk.ensures.refused c.in-Err-open_desk.ensures.fails
 
 pub returns-in-Err-clause-refused : goal.returns-in-Err-clause-refused
-returns-in-Err-clause-refused g c = λ clean. spares g.D.Disk g.met.D.Disk.seen_may_stay c.args.files c.in-Err.error c.in-Err.left c.refused_open.result
+returns-in-Err-clause-refused g c = λ clean. spares g.D.Disk g.met.D.Disk.seen_may_stay c.args.files _ (λ image out. out) c.in-Err.error c.in-Err.left
+    c.refused_open.result
     c.refused_open.ensures.opened c.refused_open.ensures.named c.refused_open.ensures.memory (c.in-Err.ensures.cause clean, c.in-Err.ensures.unharmed clean)

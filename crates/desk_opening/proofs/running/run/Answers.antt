@@ -1,5 +1,5 @@
-use Rattle.desk_opening.proofs.CountLemmas.{call_counts}
+use Rattle.desk_opening.proofs.CountLemmas.{never_breaks}
 use Rattle.desk_opening.proofs.running.run.Goals as goal
 
-pub returns : goal.returns
-returns g c = record { runs = c.run.ensures.runs; counts = call_counts c.run.ensures.grows.failures c.run.result c.run.ensures.sound c.run.ensures.failures }
+pub returns-clause-counts : goal.returns-clause-counts
+returns-clause-counts g c = record { grows = c.run.ensures.grows; sound = never_breaks c.run.result c.run.ensures.sound }
