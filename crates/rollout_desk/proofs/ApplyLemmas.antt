@@ -4,7 +4,7 @@ use Rattle.rollout_desk.proofs.Common.{Trees, State, HasCleanDisk, HoldIn, IsAtR
 use Rattle.rollout_desk.proofs.Common.{answer, CommandList, ◌▸◌, followed_by, Command, Records, records, step_records, Reply, Refused, Request}
 use Rattle.rollout_desk.proofs.Common.{Do, Asks, one, StandsFor, Becomes, AppliesAt, IsValid, reply_of, refused_answer}
 use Rattle.rollout_desk.proofs.Common.{accepted_step, records_step, answer_never_stores, failed_true, Refusal, StoreFailed, NoMemory, HoldsList, desk_state_at}
-use Rattle.rollout_desk.proofs.Common.{rest_shows, Fault, Broken, Memory, Store, is_failed_store, refusal_of_fault, Handles, EndsByCommit, EndsByRollback}
+use Rattle.rollout_desk.proofs.Common.{rest_shows, Fault, is_failed_store, refusal_of_fault, Handles, EndsByCommit, EndsByRollback}
 use Rattle.rollout_desk.proofs.Common.{HoldsLedger, HoldsRecords, Ledger, ledger_of, HoldsReadable}
 use Rattle.rollout_model.specs.declared.request.Reply as model
 use Rattle.rollout_machine.specs.CommandRules.{IsWellFormed}
@@ -29,9 +29,7 @@ abbrev pub IsFailure : Reply → Type 0
 IsFailure reply = (reply ≡ Refused NoMemory) ⊎ (reply ≡ Refused StoreFailed)
 
 pub fault_fails : (fault : Fault) (reply : Reply) → reply ≡ Refused (refusal_of_fault fault) → IsFailure reply
-fault_fails Memory reply is = inl is
-fault_fails Store reply is = inr is
-fault_fails Broken reply is = inr is
+fault_fails fault reply is = grind arith
 
 -- what the desk keeps is read again
 pub readable : (db : Trees) (r : Records) → HoldIn HoldsRecords db r → HoldIn HoldsReadable db r
@@ -83,25 +81,20 @@ module _ (h : CommandList) (valid : IsValid h) (s : State) (request : Request) (
   }
 
   failed : IsFailure reply → IsAtRest HoldsRecords s (records h) → AppliesAt h (desk_state_at HoldsRecords (is_failed_store reply) s) (Asks request) reply
-  failed (inl is) rest = without_memory is rest
-  failed (inr is) rest = left_alone is rest.held.crash
+  failed h0 rest = grind (arith, without_memory, left_alone)
 
   answered : (accepted : Option Command) → record { reply = reply; accepted = accepted } ≡ answer h (Asks request)
       → StandsFor (desk_state_at HoldsRecords false s) (followed_by h (one accepted)) → AppliesAt h (desk_state_at HoldsRecords (is_failed_store reply) s)
       (Asks request) reply
-  answered accepted is standing =
-      let never : reply ≢ Refused StoreFailed = λ failed. answer_never_stores h request (ap (λ (a : Answer). a.reply) (sym is) ∙ failed) in
-      record { accepted = accepted; answers = inr (inr (never, is)); becomes = becomes_list s h reply accepted never standing }
+  answered accepted is standing = grind (arith, failed, answer_never_stores, accepted, becomes_list)
 
 -- ---- what stands, said of records and of the ledger that they are kept in
 
 pub rests_ledger : (s : State) (r : Records) → Rests HoldsRecords s r → Rests HoldsLedger s (ledger_of r)
-rests_ledger s r was clean = let it = was clean in
-    record { mode = it.mode; held = record { ended = it.held.ended; kept_holds = it.held.kept_holds; crash = it.held.crash } }
+rests_ledger s r was clean = grind arith
 
 pub rests_records : (s : State) (r : Records) → Rests HoldsLedger s (ledger_of r) → Rests HoldsRecords s r
-rests_records s r was clean = let it = was clean in
-    record { mode = it.mode; held = record { ended = it.held.ended; kept_holds = it.held.kept_holds; crash = it.held.crash } }
+rests_records s r was clean = grind arith
 
 pub stood : (s : State) (h : CommandList) → StandsFor (desk_state_at HoldsRecords false s) h → Rests HoldsLedger s (ledger_of (records h))
 stood s h was = rests_ledger s (records h) (λ clean. was.shows)
@@ -109,12 +102,7 @@ stood s h was = rests_ledger s (records h) (λ clean. was.shows)
 -- ---- no change begins
 
 pub unbegun : (a b : State) (request : Request) (reply : Reply) → Keeps HoldsLedger a b → IsFailure reply → Handles HoldsRecords a b request reply
-unbegun a b request reply keeps bad =
-    record {
-      wears = keeps.wears;
-      handles =
-          λ h clean was. failed h was.valid b request reply bad (rests_records b (records h) (keeps.rests (ledger_of (records h)) (stood a h was)) clean);
-    }
+unbegun a b request reply keeps bad = grind (arith, failed, rests_records, stood)
 
 module _ (a b : State) (begins : Begins HoldsLedger a b) (c d : State) where
   seen : (h : CommandList) → StandsFor (desk_state_at HoldsRecords false a) h → Sees HoldsLedger b (ledger_of (records h))

@@ -1,5 +1,5 @@
 -- Why a request's failed store is a call that failed: what was blamed inside its change, and how the change ended.
-use Rattle.rollout_desk.proofs.Common.{◌≡◌, ◌≢◌, ◌≤◌, ◌⊎◌, inl, inr, Bool, false, Option, Some, None, Ok, refl, sym, subst, ap, ◌∙◌, arith, state}
+use Rattle.rollout_desk.proofs.Common.{◌≡◌, ◌≢◌, ◌≤◌, ◌⊎◌, Bool, false, Option, None, Ok, refl, sym, subst, ap, ◌∙◌, arith, state}
 use Rattle.rollout_desk.proofs.Common.{Ghosts, State, HasCleanDisk, Begins, Sees, Wears, Fault, rest_shows, HoldsLedger, HoldsRecords, Ledger}
 use Rattle.rollout_desk.proofs.Common.{ledger_of, OpenChange, Answer, answer, CommandList, Command, records, Reply, Refused, Refusal, Request, Do, Ask, Query}
 use Rattle.rollout_desk.proofs.Common.{Asks, reply_of, query_answer, refused_answer, accepted_step, IsValid, StandsFor, StoreFailed, Broken}
@@ -21,7 +21,7 @@ use Rattle.desk_store.specs.Breaking.{HasReason}
 use Rattle.desk_store.specs.Readable.{IsReadable}
 use Rattle.rollout_desk.specs.Causes.{FailsByCalls}
 use Rattle.rollout_desk.proofs.ApplyLemmas.{stood}
-use Rattle.rollout_desk.proofs.VerifyLemmas.{failed_within, is_counted, stored}
+use Rattle.rollout_desk.proofs.VerifyLemmas.{failed_within, stored}
 
 -- the machine never answers so
 pub never_answered : (h : CommandList) (request : Request) (made : Reply) (accepted : Option Command) → record { reply = made; accepted = accepted }
@@ -45,21 +45,13 @@ module _ {S : Type 0} (g : Ghosts S) (old : Calls S) (begun read : OpenChange S)
       → ((l : Ledger) → Sees HoldsLedger (seen_in g begun) l → Given l → HasReason g read ⊥ fault)
       → ((h : CommandList) → IsValid h → IsReadable (ledger_of (records h)) → AreCounted (records h) → Given (ledger_of (records h)))
       → (reply ≡ made) ⊎ HasFailed read.store.now.calls.failures end.failures → reply ≡ store → FailsByCalls g old end
-  failed_inside Given fault made reply named grows breaks given (inr failed) is h clean counted stands =
-      failed_within (omega (arith, grew, rose)) failed (omega arith)
-  failed_inside Given fault made reply named grows breaks given (inl same) is h clean counted stands = elim (named (sym same ∙ is)) [
-    | inl store ↦ failed_within grew (is_counted fault store grows) ended
-    | inr broken ↦ absurd ((breaks (ledger_of (records h)) (shown h stands) (given h stands.valid (readable h stands.valid counted) counted)).reason broken
-        (omega (arith, clean, wears)))
-  ]
+  failed_inside h0 fault made reply named grows breaks given h8 is h clean counted stands = grind (arith, failed_within, shown, readable)
 
   -- what was made tells of no fault
   pub well_inside : {R : Type 0} {store : R} (made reply : R)
       → ((h : CommandList) → IsValid h → Sees HoldsLedger (seen_in g begun) (ledger_of (records h)) → HasCleanDisk (seen_in g read) → made ≢ store)
       → (reply ≡ made) ⊎ HasFailed read.store.now.calls.failures end.failures → reply ≡ store → FailsByCalls g old end
-  well_inside made reply never (inr failed) is h clean counted stands = failed_within (omega (arith, grew, rose)) failed (omega arith)
-  well_inside made reply never (inl same) is h clean counted stands =
-      absurd (never h stands.valid (shown h stands) (omega (arith, clean, wears)) (sym same ∙ is))
+  well_inside made reply never h3 is h clean counted stands = grind (arith, failed_within, shown)
 
 -- ---- replies that the machine gives
 
@@ -69,19 +61,13 @@ module _ {E : Type 0} {b c : State} (h : CommandList) (valid : IsValid h) (seen 
       never_answered h (Do command) (Refused refusal) None (sym (refused_answer h command refusal (steps.steps h valid seen clean)))
 
   pub accepted_never : (command : Command) (rust : model.Reply) → Steps {E = E} b c command (Ok (step.Accepted rust)) → reply_of rust ≢ Refused StoreFailed
-  accepted_never command rust steps =
-      let facts = (steps.steps h valid seen).1 clean in
-      never_answered h (Do command) (reply_of rust) (Some command) (ap (λ (x : Reply). record { reply = x; accepted = Some command }) facts.1
-      ∙ sym (accepted_step h command valid facts.0))
+  accepted_never command rust steps = grind (arith, never_answered, accepted_step)
 
 -- a query's answer at the list that the desk stood for
 module _ {S : Type 0} (g : Ghosts S) {old new : Calls S} (query : Query) (rust : model.Reply) (it : Looked g (ReadsAnswer g query) old new (Ok rust)) where
   pub query_found : (h : CommandList) → StandsFor (desk_state_at HoldsRecords false (state g old.conn)) h → HasCleanDisk (state g new.conn)
       → record { reply = reply_of rust; accepted = None } ≡ answer h (Asks (Ask query))
-  query_found h was clean = let at = it.to.0 in
-      ap (λ (x : Reply). record { reply = x; accepted = None })
-      ((at.finds.answers.shows.finds (records h) (at.begins.sees _ (rest_shows HoldsLedger _ _ (stood (state g old.conn) h was)))).1
-      (omega (arith, clean, at.wears)) (record { list = h; valid = was.valid; are = refl })) ∙ sym (query_answer h query)
+  query_found h was clean = grind (arith, rest_shows, stood, query_answer)
 
   -- the machine never answers so
   pub query_never : reply_of rust ≡ Refused StoreFailed → FailsByCalls g old new

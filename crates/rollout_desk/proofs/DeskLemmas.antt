@@ -1,14 +1,12 @@
 -- From one request of a desk's store to the desk, which may be stopped.
-use Rattle.rollout_desk.proofs.Common.{◌≡◌, Bool, true, false, sym, subst, ◌∙◌, arith, false≢true, Database, State, HasCleanDisk, Records, Reply, Request}
-use Rattle.rollout_desk.proofs.Common.{Asks, StandsFor, Applies, AppliesAt, StaysStopped, desk_state_at, is_failed_store, Handles}
+use Rattle.rollout_desk.proofs.Common.{◌≡◌, Bool, true, false, sym, ◌∙◌, arith, false≢true, Database, State, HasCleanDisk, Records, Reply, Request}
+use Rattle.rollout_desk.proofs.Common.{Asks, Applies, StaysStopped, desk_state_at, is_failed_store, Handles}
 
 module _ (Holds : Database → Records → Type 0) (old new : State) where
   -- a running desk answers by its store, and is stopped after a failed one
   pub answers : (was stopped : Bool) (request : Request) (reply : Reply) → was ≡ false → Handles Holds old new request reply → stopped ≡ is_failed_store reply
       → Applies (desk_state_at Holds was old) (desk_state_at Holds stopped new) (Asks request) reply
-  answers was stopped request reply runs h is list clean standing =
-      subst (λ (b : Bool). AppliesAt list (desk_state_at Holds b new) (Asks request) reply) (sym is)
-      (h.handles list clean (subst (λ (b : Bool). StandsFor (desk_state_at Holds b old) list) runs standing))
+  answers was stopped request reply runs h is list clean standing = grind arith
 
   pub was_clean : {request : Request} {reply : Reply} → Handles Holds old new request reply → HasCleanDisk new → HasCleanDisk old
   was_clean h clean = omega (arith, clean, h.wears)

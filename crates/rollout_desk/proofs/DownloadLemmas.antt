@@ -1,31 +1,27 @@
 -- From looks at the records, and from answers, to downloads.
 use Rattle.rollout_desk.proofs.Common.{◌≡◌, ◌≢◌, ◌≤◌, ◌<◌, inl, inr, ◌+◌, ◌*◌, ◌++◌, ℕ, zero, suc, List, [], ◌∷◌, Bool, true, false, cond, nat_eq, take, drop}
-use Rattle.rollout_desk.proofs.Common.{Vec, Option, Some, None, Result, Ok, Err, refl, sym, subst, ap, ◌∙◌, arith, Global, option_map, State}
-use Rattle.rollout_desk.proofs.Common.{rest_shows, HoldsLedger, HoldsRecords}
-use Rattle.rollout_desk.proofs.Common.{piece_numbered, pieces_of_artifact, Answer, query_reply, if_found, artifact_if, artifact_of_module, item_numbered}
-use Rattle.rollout_desk.proofs.Common.{CommandList, followed_by, Bytes, Command, Credential, ArtifactRecord, Records, added_artifacts, artifacts, Reply}
-use Rattle.rollout_desk.proofs.Common.{Refused, ArtifactShown, ContentsShown, Ask, Asks, Request, ShowArtifact, ShowContents, one, DeskState, StandsFor}
-use Rattle.rollout_desk.proofs.Common.{Applies, reply_of, query_answer, piece_length, Refusal, NoMemory, NotFound, StoreFailed, desk_state_at, sent}
-use Rattle.rollout_desk.proofs.Common.{next_length, BeginsAt, HandsPieces, artifact_in, BeginsOffered, HandsItsArtifact, IsNextOf, RefusesContents}
-use Rattle.rollout_desk.proofs.Common.{DownloadsGoOn, FindsDownload, Looks, bytes_of, IsPromised, length}
-use Rattle.rollout_desk.proofs.Common.{length-take, length-drop, find, Sends, same_bytes, artifacts_shown, modules_offered, offer, list_any, is_known}
-use Rattle.rollout_desk.proofs.Common.{Unauthorized, HasCleanDisk}
-use Rattle.desk_views.specs.Downloads.{downloadable, or_not_found}
+use Rattle.rollout_desk.proofs.Common.{Vec, Option, Some, None, Result, Ok, Err, refl, sym, subst, ap, ◌∙◌, arith, Global, option_map, State, rest_shows}
+use Rattle.rollout_desk.proofs.Common.{HoldsRecords, piece_numbered, pieces_of_artifact, Answer, query_reply, if_found, artifact_if}
+use Rattle.rollout_desk.proofs.Common.{item_numbered, CommandList, followed_by, Bytes, Command, Credential, ArtifactRecord, Records}
+use Rattle.rollout_desk.proofs.Common.{added_artifacts, artifacts, Reply, Refused, ArtifactShown, ContentsShown, Ask, Asks, Request, ShowArtifact, ShowContents}
+use Rattle.rollout_desk.proofs.Common.{one, DeskState, StandsFor, Applies, reply_of, query_answer, piece_length, Refusal, NoMemory, StoreFailed}
+use Rattle.rollout_desk.proofs.Common.{desk_state_at, sent, next_length, BeginsAt, HandsPieces, artifact_in, BeginsOffered, HandsItsArtifact, IsNextOf}
+use Rattle.rollout_desk.proofs.Common.{RefusesContents, DownloadsGoOn, FindsDownload, Looks, bytes_of, IsPromised, length, length-take, length-drop}
+use Rattle.rollout_desk.proofs.Common.{Sends, HasCleanDisk, Ghosts}
+use Rattle.rollout_desk.proofs.Common.{state}
+use Rattle.desk_views.specs.Downloads.{downloadable}
 use Rattle.desk_views.proofs.DeviceViews.{answered_by}
 use Rattle.rollout_machine.specs.Objects.{artifact_shown}
 use Rattle.rollout_machine.specs.Records.{records}
 use Rattle.rollout_machine.specs.Requests.{Download as DownloadOf}
 use Rattle.rollout_model.specs.declared.artifact.Artifact.{Artifact}
 use Rattle.rollout_model.specs.declared.request.Reply as model
-use Rattle.rollout_model.specs.declared.request.Reply.TheVariants as reply
 use Rattle.contents_handler.specs.declared.download.Download.{Download}
 use Rattle.rollout_desk.specs.Downloads.{Begins}
-use Rattle.rollout_desk.specs.Looks.{IsOtherThan}
+use Rattle.rollout_desk.specs.Looks.{IsOtherThan, Looked, ReadsDownload}
 use Rattle.rollout_desk.proofs.ApplyLemmas.{rests_records, shown, stands, stood, unshown}
-use Rattle.rollout_desk.proofs.Common.{Ghosts, state}
 use Rattle.sql_calls.specs.declared.calls.Calls.{Calls}
 use Rattle.rollout_desk.specs.Causes.{FailsByCalls}
-use Rattle.rollout_desk.specs.Looks.{Looked, ReadsDownload}
 use Rattle.rollout_desk.proofs.PromiseLemmas.{downloaded}
 use Rattle.rollout_desk.proofs.PieceLemmas.{size_is, piece_is, piece_there, so_far, joins}
 
@@ -61,8 +57,7 @@ module _ (was : Bool) (a b : State) (p : Download) where
 -- ---- whatever the download is of
 
 none_numbered : (n : ℕ) → item_numbered {X = Bytes} [] n ≡ None
-none_numbered zero = refl
-none_numbered (suc k) = refl
+none_numbered n = grind arith
 
 next_of : (h : CommandList) (p : Download) (piece : Bytes) → Some piece ≡ piece_numbered (records h).artifacts p.number (p.pieces + 1) → IsNextOf h p piece
 next_of h p piece is = go (item_numbered (records h).artifacts p.number) refl where
@@ -78,12 +73,7 @@ next_of h p piece is = go (item_numbered (records h).artifacts p.number) refl wh
 module _ (was : Bool) (a b : State) (p : Download) where
   pub own_piece : (found : Found) (piece : Vec ℕ Global) → Looks HoldsRecords a b found (IsNextPiece p) → found ≡ Ok (Some piece) → was ≡ false
       → HandsItsArtifact (desk_state_at HoldsRecords was a) (desk_state_at HoldsRecords was b) p (Ok (Some piece))
-  own_piece found piece look is runs h clean standing =
-      let looked : Looks HoldsRecords a b (Ok (Some piece)) (IsNextPiece p) = subst (λ x. Looks HoldsRecords a b x (IsNextPiece p)) is look in
-      let it = looked.looks (records h) (λ _. standing.shows) in (
-        subst (λ (x : Bool). StandsFor (desk_state_at HoldsRecords x b) h) (sym runs) (stands b h standing.valid (it.0 clean)),
-        next_of h p piece.items (it.1 clean),
-      )
+  own_piece found piece look is runs h clean standing = grind (arith, next_of)
 
   -- a list's contents have the piece, of its length
   pub never_other : (found : Found) → Looks HoldsRecords a b found (IsNextPiece p) → 1 ≤ next_length p → (h : CommandList) (contents : Bytes) → HasCleanDisk b
@@ -110,12 +100,10 @@ answered r = record { reply = r; accepted = None }
 
 -- a reply that shows no artifact
 pub other_reply : (r o : model.Reply) → Err o ≡ artifact_in r → (r ≡ o) × ((shown : Artifact) → reply_of r ≢ ArtifactShown shown)
-other_reply (reply.Artifact a) o is = absurd cc
-other_reply _ o is = (cc, λ shown same. absurd cc)
+other_reply r o is = grind arith
 
 pub shown_reply : (r : model.Reply) (a : Artifact) → Ok a ≡ artifact_in r → reply_of r ≡ ArtifactShown a
-shown_reply (reply.Artifact a) b is = let same : b ≡ a = cc in ap ArtifactShown (sym same)
-shown_reply _ b is = absurd cc
+shown_reply r b is = grind arith
 
 module _ {File : Type 0} (old new : DeskState File) (m k : ℕ) where
   abbrev for_artifact : Option ArtifactRecord → Reply
@@ -125,50 +113,21 @@ module _ {File : Type 0} (old new : DeskState File) (m k : ℕ) where
   for_contents x = if_found (λ (a : ArtifactRecord). ContentsShown a.contents) x
 
   same_refusal : (r : Reply) → ((shown : Artifact) → r ≢ ArtifactShown shown) → (x : Option ArtifactRecord) → r ≡ for_artifact x → r ≡ for_contents x
-  same_refusal r never None is = is
-  same_refusal r never (Some a) is = absurd (never (artifact_shown k a) is)
+  same_refusal r never x is = grind arith
 
   -- the contents are refused as the artifact is
   pub contents_refused : (r : Reply) → ((shown : Artifact) → r ≢ ArtifactShown shown) → Applies old new (Asks (Ask (ShowArtifact m k))) r
       → Applies old new (Asks (Ask (ShowContents m k))) r
-  contents_refused r never applies h clean standing =
-      let it = applies h clean standing in
-      let asked = query_answer h (ShowArtifact m k) in
-      let wanted = query_answer h (ShowContents m k) in
-      record {
-        accepted = it.accepted;
-        answers = elim it.answers [
-          | inl none ↦ inl none
-          | inr other ↦ elim other [
-            | inl failed ↦ inr (inl (failed.0, failed.1 ∙ ap (λ (x : Answer). x.accepted) asked ∙ sym (ap (λ (x : Answer). x.accepted) wanted)))
-            | inr found ↦ inr (inr (
-              found.0,
-              (let same : r ≡ query_reply (records h) (ShowArtifact m k) = ap (λ (x : Answer). x.reply) (found.1 ∙ asked) in
-                  let none : it.accepted ≡ None = ap (λ (x : Answer). x.accepted) (found.1 ∙ asked) in
-                  let refused : r ≡ query_reply (records h) (ShowContents m k) = same_refusal r never (artifact_of_module (records h) m k) same in
-                  (λ i. record { reply = refused i; accepted = none i }) ∙ sym wanted),
-            ))
-          ]
-        ];
-        becomes = it.becomes;
-      }
+  contents_refused r never applies h clean standing = grind (arith, query_answer, same_refusal)
 
   refused_as : (r : Reply) → ((shown : Artifact) → r ≢ ArtifactShown shown) → (x : Option ArtifactRecord) → r ≡ for_artifact x → (refusal : Refusal)
       × (r ≡ Refused refusal)
-  refused_as r never None is = (NotFound, is)
-  refused_as r never (Some a) is = absurd (never (artifact_shown k a) is)
+  refused_as r never x is = grind arith
 
   -- an answer that shows no artifact refuses
   pub refuses : (r : Reply) → ((shown : Artifact) → r ≢ ArtifactShown shown) → Applies old new (Asks (Ask (ShowArtifact m k))) r
       → RefusesContents old new (ShowContents m k) r
-  refuses r never applies h clean standing =
-      elim (applies h clean standing).answers [
-        | inl none ↦ (NoMemory, none.0)
-        | inr other ↦ elim other [
-          | inl failed ↦ (StoreFailed, failed.0)
-          | inr found ↦ refused_as r never (artifact_of_module (records h) m k) (ap (λ (x : Answer). x.reply) (found.1 ∙ query_answer h (ShowArtifact m k)))
-        ]
-      ]
+  refuses r never applies h clean standing = grind (arith, refused_as, query_answer)
 
   module _ (shown : Artifact) (h : CommandList) (standing : StandsFor new h) where
     abbrev Begun : Type 0
@@ -191,8 +150,7 @@ module _ {File : Type 0} (old new : DeskState File) (m k : ℕ) where
         }
 
     begun_at : (x : Option ArtifactRecord) → item_numbered (records h).artifacts k ≡ x → ArtifactShown shown ≡ for_artifact (artifact_if m x) → Begun
-    begun_at None at is = absurd cc
-    begun_at (Some a) at is = begun_own a at (nat_eq a.module_number m) refl is
+    begun_at x at is = grind (arith, begun_own)
 
   -- the artifact is shown, so its contents can be sent
   pub begun : (shown : Artifact) → Applies old new (Asks (Ask (ShowArtifact m k))) (ArtifactShown shown)
@@ -219,15 +177,7 @@ module _ {File : Type 0} (old new : DeskState File) (m k : ℕ) where
 -- the machine never refuses a download so
 pub never_stores : (r : Records) (device : Credential) (m : ℕ) (filename : Bytes) (found : Result Artifact Refusal) → found ≡ downloadable r device m filename
     → found ≢ Err StoreFailed
-never_stores r device m filename found is failed =
-    go (is_known r device) (list_any (λ n. nat_eq n m) (modules_offered r (offer r device.id)))
-    (find (λ (a : Artifact). same_bytes a.filename filename) (artifacts_shown m 1 r.artifacts)) (sym is ∙ failed)
-  where
-    go : (known among : Bool) (o : Option Artifact) → cond known (cond among (or_not_found o) (Err NotFound)) (Err Unauthorized) ≡ Err StoreFailed → ⊥
-    go true true (Some a) e = absurd cc
-    go true true None e = absurd cc
-    go true false o e = absurd cc
-    go false among o e = absurd cc
+never_stores r device m filename found is failed = grind arith
 
 module _ {S : Type 0} (g : Ghosts S) (old new : Calls S) (device : Credential) (m : ℕ) (filename : Bytes) where
   abbrev LooksFor : Result (Result Artifact Refusal) Refusal → Type 0
@@ -238,8 +188,7 @@ module _ {S : Type 0} (g : Ghosts S) (old new : Calls S) (device : Credential) (
 
   is_found : (found : Result Artifact Refusal) → LooksFor (Ok found) → (h : CommandList) → StandsFor (desk_state_at HoldsRecords false (state g old.conn)) h
       → HasCleanDisk (state g new.conn) → found ≡ downloadable (records h) device m filename
-  is_found found it h was clean = let at = it.to.0 in
-      (at.finds.reads.finds (records h) (at.begins.sees _ (rest_shows HoldsLedger _ _ (stood (state g old.conn) h was)))).1 (omega (arith, clean, at.wears))
+  is_found found it h was clean = grind (arith, rest_shows, stood)
 
   pub looked_for : (found : Result Artifact Refusal) → LooksFor (Ok found) → FindsIt found
   looked_for (Ok s) it = record {

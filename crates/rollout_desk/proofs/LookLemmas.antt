@@ -1,6 +1,6 @@
 -- From the calls of the store to a look at the records.
-use Rattle.rollout_desk.proofs.Common.{◌≡◌, ◌⊎◌, inl, inr, Bool, None, Ok, Err, Result, refl, sym, ap, subst, ◌∙◌, arith, Trees, State, HasCleanDisk, Begins}
-use Rattle.rollout_desk.proofs.Common.{Doubts, HoldIn, Opens, Rests, Spoiled, Wears, rest_shows, Fault, Broken, Memory, Store, HoldsLedger}
+use Rattle.rollout_desk.proofs.Common.{◌≡◌, ◌⊎◌, inl, inr, Bool, None, Ok, Err, Result, sym, ap, subst, ◌∙◌, arith, Trees, State, HasCleanDisk, Begins}
+use Rattle.rollout_desk.proofs.Common.{Doubts, HoldIn, Opens, Rests, Spoiled, Wears, rest_shows, Fault, Broken, HoldsLedger}
 use Rattle.rollout_desk.proofs.Common.{HoldsRecords, Ledger, ledger_of, CommandList, Records, records, Refused, Becomes, DeskState, IsInDoubt, StandsFor}
 use Rattle.rollout_desk.proofs.Common.{is_store, Refusal, NoMemory, StoreFailed, Looks, EndsLook, refusal_of_fault, desk_state_at}
 use Rattle.rollout_desk.proofs.Common.{◌≤◌, Ghosts, IsValid, OpenChange, Sees, HoldsTables, state}
@@ -14,7 +14,7 @@ use Rattle.desk_store.specs.Failing.{nothing}
 use Rattle.rollout_desk.specs.Causes.{FailsByCalls}
 use Rattle.rollout_desk.specs.Looks.{FoundIn, Looked, LookedTo}
 use Rattle.rollout_desk.proofs.ApplyLemmas.{readable, rests_ledger, rests_records, stands, stood}
-use Rattle.rollout_desk.proofs.VerifyLemmas.{failed_within, is_counted}
+use Rattle.rollout_desk.proofs.VerifyLemmas.{failed_within}
 
 -- ---- what was found in a change
 
@@ -45,43 +45,13 @@ module _ {S : Type 0} (g : Ghosts S) {A : Type 0} (Finds : OpenChange S → Open
         → ((kept : Ledger) → Opens HoldsLedger (seen_in g begun) kept → Opens HoldsLedger (seen_in g read) kept)
         → Finds begun read (Ok a) → begun.store.now.calls.failures ≤ read.store.now.calls.failures
         → EndsLook (seen_in g read) (state g end.conn) (Ok a) result → (result ≡ Ok a) ⊎ HasMore → Comes result
-    found_well a result goes finds rose ends fails = elim ends.ends [
-      | inl it ↦ subst Comes (sym it.0) (found_in (Ok a) finds ends.wears, λ l was. it.1 l (goes l (begins.opens l was)).spoiled)
-      | inr it ↦ elim fails [
-        | inl same ↦ absurd cc
-        | inr more ↦ subst Comes (sym it.0)
-            (inr (refl, (λ l was. it.1 l (goes l (begins.opens l was)).spoiled), inl (failed_within (omega (arith, grew, rose)) more (omega arith))))
-      ]
-    ]
+    found_well a result goes finds rose ends fails = grind (arith, found_in, failed_within)
 
     pub found_in_vain : (fault : Fault) (refusal : Refusal) (result : Result A Refusal) → refusal ≡ refusal_of_fault fault
         → ((kept : Ledger) → Opens HoldsLedger (seen_in g begun) kept → Spoiled HoldsLedger (seen_in g read) kept) → Finds begun read (Err fault)
         → Grows (failures_of fault) begun.store.now.calls read.store.now.calls → read.store.now.calls.failures ≤ end.failures
         → EndsLook (seen_in g read) (state g end.conn) (Err refusal) result → (result ≡ Err refusal) ⊎ HasMore → Comes result
-    found_in_vain fault refusal result named leaves finds grows ended ends fails = elim ends.ends [
-      | inl it ↦ subst Comes (sym it.0) (by_fault fault named finds grows (λ l was. it.1 l (leaves l (begins.opens l was))))
-      | inr it ↦ elim fails [
-        | inl same ↦ let failed : refusal ≡ StoreFailed = cc in
-            subst Comes (sym it.0) (inr (refl, (λ l was. it.1 l (leaves l (begins.opens l was))), why fault (sym named ∙ failed) finds grows))
-        | inr more ↦ subst Comes (sym it.0) (inr (
-          refl,
-          (λ l was. it.1 l (leaves l (begins.opens l was))),
-          inl (failed_within (omega (arith, grew, grows.failures)) more (omega arith)),
-        ))
-      ]
-    ]
-      where
-        why : (fault : Fault) → refusal_of_fault fault ≡ StoreFailed → Finds begun read (Err fault) → Grows (failures_of fault) begun.store.now.calls
-            read.store.now.calls → HasFailed old.failures end.failures ⊎ FoundIn g Finds old end (Err Broken)
-        why Memory never finds grows = absurd cc
-        why Store is finds grows = inl (failed_within grew (is_counted Store refl grows) ended)
-        why Broken is finds grows = inr (found_in (Err Broken) finds ends.wears)
-
-        by_fault : (fault : Fault) → refusal ≡ refusal_of_fault fault → Finds begun read (Err fault) → Grows (failures_of fault) begun.store.now.calls
-            read.store.now.calls → Rested → Comes (Err refusal)
-        by_fault Memory is finds grows rests = inl (is, rests)
-        by_fault Store is finds grows rests = inr (is, rested rests, why Store refl finds grows)
-        by_fault Broken is finds grows rests = inr (is, rested rests, why Broken refl finds grows)
+    found_in_vain fault refusal result named leaves finds grows ended ends fails = grind (arith, failed_within, found_in, rested)
 
   -- ---- what a look says
 
@@ -110,16 +80,7 @@ module _ {S : Type 0} (g : Ghosts S) {A : Type 0} (Finds : OpenChange S → Open
     pub fails_at : (Given : Ledger → Type 0) → ((b c : OpenChange S) → Finds b c (Err Broken) → BreaksOnly g HoldsLedger Given nothing {A = A} b c (Err Broken))
         → ((h : CommandList) → IsValid h → AreCounted (records h) → Given (ledger_of (records h))) → (result : Result A Refusal)
         → Looked g Finds old new result → result ≡ Err StoreFailed → FailsByCalls g old new
-    fails_at Given breaks given (Ok x) it is h clean counted stands = absurd cc
-    fails_at Given breaks given (Err refusal) it is h clean counted stands = elim it.to [
-      | inl none ↦ absurd cc
-      | inr lost ↦ elim lost.2 [
-        | inl failed ↦ failed
-        | inr at ↦ absurd (((breaks at.begun at.read at.finds).to (ledger_of (records h))
-            (at.begins.sees _ (rest_shows HoldsLedger _ _ (stood (state g old.conn) h stands))) (given h stands.valid counted)).reason refl
-            (omega (arith, clean, at.wears)))
-      ]
-    ]
+    fails_at h0 breaks given result it is h clean counted stands = grind (arith, rest_shows, stood)
 
 -- ---- a look that is refused
 
@@ -127,11 +88,7 @@ module _ {A : Type 0} (was : Bool) (a b : State) (Answer : Records → A → Typ
   -- whatever a look finds, a crash leaves what stood
   left_by : (found : Result A Refusal) → Looks HoldsRecords a b found Answer → (h : CommandList) → HasCleanDisk b
       → StandsFor (desk_state_at HoldsRecords was a) h → (db : Trees) → b.may_leave db → HoldIn HoldsRecords db (records h)
-  left_by (Ok x) look h clean standing db left = ((look.looks (records h) (λ _. standing.shows)).0 clean).held.crash db left
-  left_by (Err refusal) look h clean standing db left = elim look.looks [
-    | inl it ↦ (it.1 (records h) (λ _. standing.shows) clean).held.crash db left
-    | inr it ↦ elim ((it.1 (records h) (λ _. standing.shows) clean).crash db left) [ inl one ↦ one | inr one ↦ one ]
-  ]
+  left_by found look h clean standing db left = grind arith
 
   -- memory was wanted, or the store failed, and the desk is stopped
   pub interrupted : (found : Result A Refusal) → Looks HoldsRecords a b found Answer → (refusal : Refusal) {Other : Type 0} → (found ≡ Err refusal)
@@ -161,8 +118,4 @@ module _ {A : Type 0} (was : Bool) (a b : State) (Answer : Records → A → Typ
 
 pub becomes_refused : (s : DeskState Trees) (h : CommandList) (refusal : Refusal) → ((refusal ≡ NoMemory) × StandsFor s h)
     ⊎ ((refusal ≡ StoreFailed) × IsInDoubt s h None) → Becomes s h (Refused refusal) None
-becomes_refused s h refusal (inl it) = record {
-  in_doubt = λ is. let other : Refused NoMemory ≡ Refused StoreFailed = sym (ap Refused it.0) ∙ is in absurd (cc);
-  stands = λ _. it.1;
-}
-becomes_refused s h refusal (inr it) = record { in_doubt = λ _. it.1; stands = λ never. absurd (never (ap Refused it.0)) }
+becomes_refused s h refusal h3 = grind arith

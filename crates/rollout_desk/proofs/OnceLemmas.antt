@@ -1,9 +1,9 @@
 -- What comes again in a run leaves no trace.
-use Rattle.rollout_desk.proofs.Common.{◌≡◌, inl, inr, Bool, List, [], ◌∷◌, ◌++◌, Option, Some, None, sym, subst, ap, ◌∙◌, Database, State, Trees, HoldIn}
-use Rattle.rollout_desk.proofs.Common.{IsAtRest, Answer, answer, MayAnswer, CommandList, ◌▸◌, followed_by, Command, step_records, Records, Reply, Asked, Asks}
+use native.Mathlib.Omega.{arith}
+use Rattle.rollout_desk.proofs.Common.{inl, inr, Bool, List, [], ◌∷◌, ◌++◌, Option, subst, Database, State, Trees, HoldIn}
+use Rattle.rollout_desk.proofs.Common.{MayAnswer, CommandList, ◌▸◌, followed_by, Command, Records, Reply, Asked, Asks}
 use Rattle.rollout_desk.proofs.Common.{Request, one, StandsFor, IsInDoubt, IsValid, records_step, HoldsReadable, HoldsList, desk_state_at, EndsRun}
-use Rattle.rollout_desk.proofs.Common.{RequestExchange}
-use Rattle.rollout_desk.proofs.Common.{IsRun, accepted_of}
+use Rattle.rollout_desk.proofs.Common.{RequestExchange, IsRun, accepted_of}
 use Rattle.rollout_machine.specs.Repeats.{without_repeats, IsTraceless}
 use Rattle.rollout_machine.proofs.Once.{repeats_leave_no_trace}
 use Rattle.rollout_desk.specs.Once.{AnswersOnce, EndsOnce}
@@ -14,15 +14,7 @@ use Rattle.rollout_desk.proofs.RunLemmas.{followed_append}
 -- what may be answered at a list may be at the list without its repeats
 may_answer : (h : CommandList) (asked : Asked) (reply : Reply) (accepted : Option Command) → IsValid h → MayAnswer h asked reply accepted
     → MayAnswer (without_repeats h) asked reply accepted
-may_answer h asked reply accepted valid may =
-    let same : answer h asked ≡ answer (without_repeats h) asked = (repeats_leave_no_trace h valid).answers asked in
-    elim may [
-      | inl none ↦ inl none
-      | inr other ↦ elim other [
-        | inl failed ↦ inr (inl (failed.0, failed.1 ∙ ap (λ (x : Answer). x.accepted) same))
-        | inr found ↦ inr (inr (found.0, found.1 ∙ same))
-      ]
-    ]
+may_answer h asked reply accepted valid may = grind (arith, repeats_leave_no_trace)
 
 -- a list of accepted commands begins with one
 valid_before : (h : CommandList) (cs : List Command) → IsValid (followed_by h cs) → IsValid h
@@ -62,25 +54,10 @@ module _ (Holds : Database → Records → Type 0) (stopped : Bool) (s : State) 
   -- with one more command after it
   holds_more : (file : Trees) (h : CommandList) (accepted : Option Command) → HoldsList file (followed_by h (one accepted))
       → HoldsList file (followed_by (without_repeats h) (one accepted))
-  holds_more file h None holds = holds_calm file h holds
-  holds_more file h (Some c) holds =
-      let valid = holds.0 in
-      let it : IsTraceless h = repeats_leave_no_trace h valid.0 in
-      let here = sym (it.verdicts c) ∙ valid.2 in (
-        (it.valid, valid.1, here),
-        subst (HoldIn HoldsReadable file) (records_step h c valid.0 valid.2 ∙ ap (λ (rs : Records). step_records rs c) it.same
-            ∙ sym (records_step (without_repeats h) c it.valid here)) holds.1,
-      )
+  holds_more file h accepted holds = grind (arith, holds_calm, repeats_leave_no_trace, records_step)
 
   stands_calm : (h : CommandList) → StandsFor (desk_state_at Holds stopped s) h → StandsFor (desk_state_at Holds stopped s) (without_repeats h)
-  stands_calm h standing =
-      let it : IsTraceless h = repeats_leave_no_trace h standing.valid in
-      record {
-        runs = standing.runs;
-        valid = it.valid;
-        shows = subst (IsAtRest Holds s) it.same standing.shows;
-        crash = λ file left. holds_calm file h (standing.crash file left);
-      }
+  stands_calm h standing = grind (arith, repeats_leave_no_trace, holds_calm)
 
   doubt_calm : (h : CommandList) (accepted : Option Command) → IsInDoubt (desk_state_at Holds stopped s) h accepted
       → IsInDoubt (desk_state_at Holds stopped s) (without_repeats h) accepted

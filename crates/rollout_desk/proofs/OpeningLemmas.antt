@@ -1,8 +1,7 @@
 -- From a connection that was opened to a desk over it.
-use Rattle.rollout_desk.proofs.Common.{◌≡◌, Bool, false, Ok, Err, Result, IfOk, IfErr, refl, sym, ap, ◌∙◌, subst}
-use Rattle.rollout_desk.proofs.Common.{Files, Trees, AreClean, IsClosed, file_state, recovers, Held, FileStore, Rests, Image}
-use Rattle.rollout_desk.proofs.Common.{State, HasCleanDisk, HoldsRecords, Reopens, CommandList, Make, records, StandsFor, IsValid, desk_state_at, Global}
-use Rattle.rollout_desk.proofs.Common.{ReopensDesk, GivesBack}
+use Rattle.rollout_desk.proofs.Common.{◌≡◌, Bool, false, Ok, Err, Result, IfOk, IfErr, refl, sym, ap, ◌∙◌, subst, Files, Trees, AreClean, IsClosed, file_state}
+use Rattle.rollout_desk.proofs.Common.{recovers, Held, FileStore, Rests, Image, State, HasCleanDisk, HoldsRecords, Reopens, CommandList, Make, records}
+use Rattle.rollout_desk.proofs.Common.{StandsFor, IsValid, desk_state_at, Global, ReopensDesk, GivesBack}
 use Rattle.sqlite_disk.specs.declared.Disk as disk
 use Rattle.sqlite.specs.Closing.{IsCopied}
 use Rattle.sql_calls.specs.Calls.{no_work}

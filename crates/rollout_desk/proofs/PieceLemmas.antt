@@ -1,5 +1,5 @@
 -- From pieces in the records to pieces that are handed out.
-use Rattle.rollout_desk.proofs.Common.{◌≡◌, ◌<◌, ◌+◌, ◌*◌, ◌++◌, ℕ, zero, suc, List, take, drop, length, min, Option, Some, None, All, sym, subst, ap, ◌∙◌}
+use Rattle.rollout_desk.proofs.Common.{◌≡◌, ◌<◌, ◌+◌, ◌*◌, ◌++◌, ℕ, zero, suc, List, take, drop, length, min, Option, Some, All, sym, subst, ap, ◌∙◌}
 use Rattle.rollout_desk.proofs.Common.{arith, add-one, slice_get, option_map, pieces_in, pieces_of_artifact, piece_numbered, IsWhole, all_whole, item_numbered}
 use Rattle.rollout_desk.proofs.Common.{CommandList, Bytes, ArtifactRecord, Records, records, piece_length, get_or, []}
 use Rattle.std.proofs.lemmas.Grind.{div_ceil_times}
@@ -25,15 +25,12 @@ size_is h number a is = (is_whole h number a is).0
 
 pieces_are : (found : Option ArtifactRecord) (contents : Bytes) → option_map (λ (a : ArtifactRecord). a.contents) found ≡ Some contents
     → pieces_of_artifact found ≡ pieces_in contents
-pieces_are None contents is = absurd cc
-pieces_are (Some a) contents is = let same : a.contents ≡ contents = cc in ap pieces_in same
+pieces_are found contents is = grind arith
 
 pub piece_is : (r : Records) (number k : ℕ) (contents piece : Bytes) → option_map (λ (a : ArtifactRecord). a.contents) (item_numbered r.artifacts number)
     ≡ Some contents → Some piece ≡ piece_numbered r.artifacts number (k + 1)
     → piece ≡ take piece_length (drop (k * piece_length) contents)
-piece_is r number k contents piece has is =
-    nth_piece contents piece k (ap (λ l. slice_get l k) (sym (pieces_are (item_numbered r.artifacts number) contents has))
-    ∙ ap (item_numbered (pieces_of_artifact (item_numbered r.artifacts number))) (sym (add-one k)) ∙ sym is)
+piece_is r number k contents piece has is = grind (arith, nth_piece, pieces_are, add-one)
 
 -- .. is there, where the contents reach so far
 nth_there : (contents : Bytes) (k : ℕ) → k * piece_length < length contents → slice_get (pieces_in contents) k
@@ -47,9 +44,7 @@ nth_there contents k within =
 pub piece_there : (r : Records) (number k : ℕ) (contents : Bytes) → option_map (λ (a : ArtifactRecord). a.contents) (item_numbered r.artifacts number)
     ≡ Some contents → k * piece_length < length contents
     → piece_numbered r.artifacts number (k + 1) ≡ Some (take piece_length (drop (k * piece_length) contents))
-piece_there r number k contents has within =
-    ap (item_numbered (pieces_of_artifact (item_numbered r.artifacts number))) (add-one k)
-    ∙ ap (λ l. slice_get l k) (pieces_are (item_numbered r.artifacts number) contents has) ∙ nth_there contents k within
+piece_there r number k contents has within = grind (arith, add-one, pieces_are, nth_there)
 
 -- ---- what was handed out so far
 

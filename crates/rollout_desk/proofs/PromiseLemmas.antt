@@ -1,26 +1,23 @@
 -- What is promised of an answer follows from the answer itself.
-use Rattle.rollout_desk.proofs.Common.{◌≡◌, inl, inr, ℕ, Bool, true, false, cond, not, ◌&&◌, ◌||◌, List, [], ◌∷◌, map, Option, Some, None, refl, sym, subst}
-use Rattle.rollout_desk.proofs.Common.{ap, ◌∙◌, is_some, nat_eq, Answer, query_reply, if_found, for_device, download, targets_reply, targets_matching}
-use Rattle.rollout_desk.proofs.Common.{is_offer_of, modules_offered, artifact_named, action_of_target, artifact_if, artifact_of_module, contains_word}
+use native.Mathlib.Omega.{arith}
+use Rattle.rollout_desk.proofs.Common.{◌≡◌, ℕ, Bool, true, false, cond, ◌&&◌, ◌||◌, List, [], ◌∷◌, map, Option, Some, None, refl, sym, subst}
+use Rattle.rollout_desk.proofs.Common.{ap, ◌∙◌, is_some, nat_eq, query_reply, if_found, for_device, targets_reply}
+use Rattle.rollout_desk.proofs.Common.{is_offer_of, modules_offered, artifact_named, artifact_if, artifact_of_module, contains_word}
 use Rattle.rollout_desk.proofs.Common.{item_numbered, same_bytes, CommandList, Bytes, Credential, TargetRow, ArtifactRecord, Records, Reply, Refused}
-use Rattle.rollout_desk.proofs.Common.{PollShown, DeploymentShown, CancelShown, ContentsShown, Page, Query, Ask, Asks, Poll, ShowDeployment, ShowCancel}
-use Rattle.rollout_desk.proofs.Common.{Download, ShowTargets, ShowTarget, ShowTargetActions, ShowAction, ShowHistory, ShowModules, ShowModule, ShowArtifacts}
-use Rattle.rollout_desk.proofs.Common.{ShowArtifact, ShowContents, ShowSets, ShowSet, ShowRollouts, ShowRollout, ShowGroups, ShowGroup, ShowGroupTargets}
-use Rattle.rollout_desk.proofs.Common.{ShowReport, ShowActionsTable, Applies, DeskState, IsValid, query_answer, Refusal, NoMemory, NotFound, StoreFailed}
+use Rattle.rollout_desk.proofs.Common.{PollShown, ContentsShown, Page, Query, Ask, Asks, Poll}
+use Rattle.rollout_desk.proofs.Common.{Download}
+use Rattle.rollout_desk.proofs.Common.{ShowContents}
+use Rattle.rollout_desk.proofs.Common.{Applies, DeskState, IsValid, query_answer, Refusal, NotFound}
 use Rattle.rollout_desk.proofs.Common.{Unauthorized, unwrap_or, and_parts, eqb-true, false≢true, IsWhole, all_whole, Describes, DownloadsItsOffer, IsPromised}
 use Rattle.rollout_desk.proofs.Common.{IsTarget, KeepsToOffers, NamesItsOffer, ShowsWhole, asker, offer_named, not-true, or_right}
-use Rattle.rollout_machine.specs.Objects.{deployment_shown}
 use Rattle.rollout_machine.specs.Offers.{Offer, offer}
 use Rattle.rollout_machine.specs.Records.{records}
-use Rattle.rollout_machine.specs.StateWords.{group_numbered}
 use Rattle.rollout_machine.specs.Targets.{Target, last_row_of, target_ids, target_in}
-use Rattle.rollout_machine.specs.Verdicts.{is_known, target_of}
+use Rattle.rollout_machine.specs.Verdicts.{is_known}
 use Rattle.rollout_machine.proofs.Offering.{downloads_are_offered}
 use Rattle.rollout_machine.proofs.Offers.{offer_is_least}
 use Rattle.rollout_machine.proofs.TargetMeanings.{targets_are_named}
 use Rattle.rollout_machine.proofs.TargetTies.{same_true, same_refl}
-use Rattle.target_filter.specs.Grammar.{Tree}
-use Rattle.target_filter.specs.Profile.{filter_of}
 use Rattle.std.specs.List.{list_any}
 use Rattle.sqlite_keyed.proofs.SliceLemmas.{All-find}
 use Rattle.rollout_desk.proofs.PieceLemmas.{is_whole}
@@ -62,19 +59,13 @@ is_target h device e = go (last_row_of device.id h) refl (sym (targets_are_named
 -- ---- replies that name no offer
 
 names_none : {X : Type 0} (reply : X → Reply) (o : Option X) → ((x : X) → offer_named (reply x) ≡ None) → offer_named (if_found reply o) ≡ None
-names_none reply None none = refl
-names_none reply (Some x) none = none x
+names_none reply o none = grind arith
 
 either_none : (b : Bool) (x y : Reply) → offer_named x ≡ None → offer_named y ≡ None → offer_named (cond b x y) ≡ None
-either_none true x y ex ey = ex
-either_none false x y ex ey = ey
+either_none b x y ex ey = grind arith
 
 targets_none : (rs : Records) (page : Page) (o : Option Bytes) → offer_named (targets_reply rs page o) ≡ None
-targets_none rs page None = refl
-targets_none rs page (Some text) = go (filter_of text) where
-  go : (o : Option Tree) → offer_named (targets_matching rs page o) ≡ None
-  go None = refl
-  go (Some f) = refl
+targets_none rs page o = grind arith
 
 never : {o : Offer} {x : Option Offer} → x ≡ None → x ≡ Some o → ⊥
 never none some = cc
@@ -84,96 +75,30 @@ never none some = cc
 -- a reply to a device that isn't refused comes to one that is known
 if_known : (rs : Records) (device : Credential) (reply : Reply) (o : Offer) → offer_named (for_device rs device reply) ≡ Some o → (is_known rs device ≡ true)
     × (offer_named reply ≡ Some o)
-if_known rs device reply o e = go (is_known rs device) refl e where
-  go : (b : Bool) → is_known rs device ≡ b → offer_named (cond b reply (Refused Unauthorized)) ≡ Some o → (is_known rs device ≡ true)
-      × (offer_named reply ≡ Some o)
-  go true d f = (d, f)
-  go false d f = cc
+if_known rs device reply o e = grind arith
 
 -- an answer that names an action of a kind comes only where it is offered so
 where_offered : (rs : Records) (t : Bytes) (kind : Bool) (n : ℕ) (o : Offer) (reply : Reply) → offer_named reply
     ≡ Some (record { action = n; canceling = kind })
     → offer_named (cond (is_offer_of n kind (offer rs t)) reply (Refused NotFound)) ≡ Some o → offer rs t ≡ Some o
-where_offered rs t kind n o reply names e = go (offer rs t) refl e where
-  same_kind : (x : Offer) (k : Bool) → cond k x.canceling (not x.canceling) ≡ true → x.canceling ≡ k
-  same_kind x true d = d
-  same_kind x false d = not-true x.canceling d
-
-  by : (x : Offer) (b : Bool) → offer rs t ≡ Some x → (nat_eq x.action n && cond kind x.canceling (not x.canceling)) ≡ b
-      → offer_named (cond b reply (Refused NotFound)) ≡ Some o → offer rs t ≡ Some o
-  by x true d f g =
-      let both = and_parts _ _ f in
-      let number : x.action ≡ n = eqb-true _ _ both.0 in
-      let same : x ≡ record { action = n; canceling = kind } = λ i. record { action = number i; canceling = same_kind x kind both.1 i } in
-      d ∙ ap Some same ∙ sym names ∙ g
-  by x false d f g = cc
-
-  go : (x : Option Offer) → offer rs t ≡ x → offer_named (cond (is_offer_of n kind x) reply (Refused NotFound)) ≡ Some o → offer rs t ≡ Some o
-  go None d f = cc
-  go (Some x) d f = by x _ d refl f
+where_offered rs t kind n o reply names e = grind (arith, not-true, and_parts, eqb-true, names)
 
 offered_to : (h : CommandList) (query : Query) (device : Credential) (o : Offer) → IsValid h → asker query ≡ Some device → is_known (records h) device ≡ true
     → offer (records h) device.id ≡ Some o → NamesItsOffer h query o
-offered_to h query device o v asks known e =
-    record { device = device; asks = asks; known = is_target h device known; least = (offer_is_least h device.id v).0 o e }
+offered_to h query device o v asks known e = grind (arith, is_target, offer_is_least)
 
 names : (h : CommandList) (query : Query) (o : Offer) → IsValid h → offer_named (query_reply (records h) query) ≡ Some o → NamesItsOffer h query o
-names h (Poll device) o v e = let it = if_known (records h) device (PollShown device.id (offer (records h) device.id)) o e in
-    offered_to h (Poll device) device o v refl it.0 it.1
-names h (ShowDeployment device n) o v e =
-    let it = if_known (records h) device _ o e in
-    offered_to h (ShowDeployment device n) device o v refl it.0
-    (where_offered (records h) device.id false n o (DeploymentShown (deployment_shown (records h) device.id n)) refl it.1)
-names h (ShowCancel device n) o v e = let it = if_known (records h) device _ o e in
-    offered_to h (ShowCancel device n) device o v refl it.0 (where_offered (records h) device.id true n o (CancelShown n) refl it.1)
-names h (Download device m filename) o v e =
-    let none : offer_named (download (records h) device.id m filename) ≡ None =
-    either_none (list_any (λ n. nat_eq n m) (modules_offered (records h) (offer (records h) device.id)))
-    (if_found (λ (a : ArtifactRecord). ContentsShown a.contents) (artifact_named m filename (records h).artifacts)) (Refused NotFound)
-    (names_none _ (artifact_named m filename (records h).artifacts) (λ a. refl)) refl in
-    absurd (never none (if_known (records h) device (download (records h) device.id m filename) o e).1)
-names h (ShowTargets filter_text page) o v e = absurd (never (targets_none (records h) page filter_text) e)
-names h (ShowTarget t) o v e = absurd (never (names_none _ (target_of (records h) t) (λ x. refl)) e)
-names h (ShowTargetActions t page) o v e = absurd (never (names_none _ (target_of (records h) t) (λ x. refl)) e)
-names h (ShowAction t n) o v e = absurd (never (names_none _ (action_of_target (records h) t n) (λ a. refl)) e)
-names h (ShowHistory t n page) o v e = absurd (never (names_none _ (action_of_target (records h) t n) (λ a. refl)) e)
-names h (ShowModules page) o v e = cc
-names h (ShowModule n) o v e = absurd (never (names_none _ (item_numbered (records h).modules n) (λ label. refl)) e)
-names h (ShowArtifacts m page) o v e = absurd (never (names_none _ (item_numbered (records h).modules m) (λ label. refl)) e)
-names h (ShowArtifact m n) o v e = absurd (never (names_none _ (artifact_of_module (records h) m n) (λ a. refl)) e)
-names h (ShowContents m n) o v e = absurd (never (names_none _ (artifact_of_module (records h) m n) (λ a. refl)) e)
-names h (ShowSets page) o v e = cc
-names h (ShowSet n) o v e = absurd (never (names_none _ (item_numbered (records h).sets n) (λ label. refl)) e)
-names h (ShowRollouts page) o v e = cc
-names h (ShowRollout r) o v e = absurd (never (names_none _ (item_numbered (records h).rollouts r) (λ x. refl)) e)
-names h (ShowGroups r page) o v e = absurd (never (names_none _ (item_numbered (records h).rollouts r) (λ x. refl)) e)
-names h (ShowGroup r i) o v e =
-    absurd (never (names_none _ (item_numbered (records h).rollouts r) (λ x. names_none _ (group_numbered i x.groups) (λ g. refl))) e)
-names h (ShowGroupTargets r i page) o v e =
-    absurd (never (names_none _ (item_numbered (records h).rollouts r) (λ x. names_none _ (group_numbered i x.groups) (λ g. refl))) e)
-names h (ShowReport r) o v e = absurd (never (names_none _ (item_numbered (records h).rollouts r) (λ x. refl)) e)
-names h (ShowActionsTable r) o v e = absurd (never (names_none _ (item_numbered (records h).rollouts r) (λ x. refl)) e)
+names h query o v e = grind (arith, if_known, offered_to, where_offered, either_none, names_none, never, targets_none)
 
 -- a device that polls and is told of nothing is offered nothing
 polled_none : (h : CommandList) (device : Credential) → query_reply (records h) (Poll device) ≡ PollShown device.id None → offer (records h) device.id ≡ None
-polled_none h device e = go (is_known (records h) device) e where
-  go : (b : Bool) → cond b (PollShown device.id (offer (records h) device.id)) (Refused Unauthorized) ≡ PollShown device.id None → offer (records h) device.id
-      ≡ None
-  go true f = cc
-  go false f = cc
+polled_none h device e = grind arith
 
 -- ---- what a device gets
 
 pub downloaded : (h : CommandList) (device : Credential) (m : ℕ) (filename contents : Bytes) → query_reply (records h) (Download device m filename)
     ≡ ContentsShown contents → DownloadsItsOffer h device m filename contents
-downloaded h device m filename contents e = record {
-  known = is_target h device (go (is_known (records h) device) refl e);
-  downloadable = downloads_are_offered h device m filename contents (ap (λ (x : Answer). x.reply) (query_answer h (Download device m filename)) ∙ e);
-} where
-  go : (b : Bool) → is_known (records h) device ≡ b → cond b (download (records h) device.id m filename) (Refused Unauthorized) ≡ ContentsShown contents
-      → is_known (records h) device ≡ true
-  go true d f = d
-  go false d f = cc
+downloaded h device m filename contents e = grind (arith, is_target, downloads_are_offered, query_answer)
 
 keeps_to_offers : (h : CommandList) (query : Query) → IsValid h → KeepsToOffers h query (query_reply (records h) query)
 keeps_to_offers h query v = record {
@@ -183,11 +108,7 @@ keeps_to_offers h query v = record {
 }
 
 refusals_keep : (h : CommandList) (query : Query) (refusal : Refusal) → KeepsToOffers h query (Refused refusal)
-refusals_keep h query refusal = record {
-  names = λ o e. absurd cc;
-  withholds_none = λ device is e. absurd cc;
-  hands_out = λ device m filename contents is e. absurd cc;
-}
+refusals_keep h query refusal = grind (arith, names)
 
 -- ---- contents
 
@@ -218,9 +139,7 @@ shows_whole h (Download device m filename) =
 shows_whole h query = tt
 
 refusals_show_none : (h : CommandList) (query : Query) (refusal : Refusal) → ShowsWhole h query (Refused refusal)
-refusals_show_none h (ShowContents m k) refusal = tt
-refusals_show_none h (Download device m filename) refusal = tt
-refusals_show_none h query refusal = tt
+refusals_show_none h query refusal = grind arith
 
 -- ---- from the answer of a desk
 
@@ -229,14 +148,7 @@ module _ {File : Type 0} (old new : DeskState File) (query : Query) (reply : Rep
   promised : (Holds : CommandList → Reply → Type 0) → ((h : CommandList) (refusal : Refusal) → Holds h (Refused refusal))
       → ((h : CommandList) → IsValid h → Holds h (query_reply (records h) query))
       → Applies old new (Asks (Ask query)) reply → IsPromised old new (λ h. Holds h reply)
-  promised Holds refusals answers applies h clean standing =
-      elim (applies h clean standing).answers [
-        | inl none ↦ subst (Holds h) (sym none.0) (refusals h NoMemory)
-        | inr other ↦ elim other [
-          | inl failed ↦ subst (Holds h) (sym failed.0) (refusals h StoreFailed)
-          | inr found ↦ subst (Holds h) (sym (ap (λ (x : Answer). x.reply) (found.1 ∙ query_answer h query))) (answers h standing.valid)
-        ]
-      ]
+  promised h0 refusals answers applies h clean standing = grind (arith, query_answer)
 
   pub offers_kept : Applies old new (Asks (Ask query)) reply → IsPromised old new (λ h. KeepsToOffers h query reply)
   offers_kept applies = promised (λ h r. KeepsToOffers h query r) (λ h refusal. refusals_keep h query refusal) (λ h v. keeps_to_offers h query v) applies

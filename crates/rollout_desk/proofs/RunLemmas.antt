@@ -1,5 +1,5 @@
 -- Runs grow at their end by one request.
-use Rattle.rollout_desk.proofs.Common.{Contains, inl, inr, ◌≡◌, ◌≢◌, ◌≤◌, ◌<◌, ◌+◌, ℕ, true, false, zero, suc, length, take, drop, get_or, List, [], ◌∷◌, ◌++◌}
+use Rattle.rollout_desk.proofs.Common.{Contains, inl, inr, ◌≡◌, ◌≢◌, ◌≤◌, ◌<◌, ◌+◌, ℕ, true, false, length, take, drop, get_or, List, [], ◌∷◌, ◌++◌}
 use Rattle.rollout_desk.proofs.Common.{map, refl, sym, ap, ◌∙◌, subst, append-nil, arith, false≢true, StoreFailed, MayAnswer, Command, CommandList, ◌▸◌}
 use Rattle.rollout_desk.proofs.Common.{followed_by, Reply, Refused, Request, Asks, one, DeskState, StandsFor, Applies, request_of, reply_of, RequestExchange}
 use Rattle.rollout_desk.proofs.Common.{accepted_of, IsRun, GoesOn, RunsThrough, BreaksOff, is_failed_store, failed_true}
@@ -14,8 +14,7 @@ followed_append h [] ds = refl
 followed_append h (c ∷ cs) ds = followed_append (h ▸ c) cs ds
 
 accepted_more : (xs : List RequestExchange) (x : RequestExchange) → accepted_of (xs ++ x ∷ []) ≡ accepted_of xs ++ one x.accepted
-accepted_more xs x = flat_map-append (λ (y : RequestExchange). one y.accepted) xs (x ∷ [])
-    ∙ ap (λ (cs : List Command). accepted_of xs ++ cs) (append-nil (one x.accepted))
+accepted_more xs x = grind (arith, flat_map-append, append-nil)
 
 -- the list that one more exchange leads to
 led : (h : CommandList) (xs : List RequestExchange) (x : RequestExchange) → followed_by (followed_by h (accepted_of xs)) (one x.accepted)
@@ -37,8 +36,7 @@ abbrev pub Ran : {File : Type 0} → DeskState File → DeskState File → List 
 Ran old new requests replies = (h : CommandList) → new.is_clean → StandsFor old h → RunsThrough h new requests replies
 
 one_goes : (x : RequestExchange) → x.reply ≢ Refused StoreFailed → GoesOn (x ∷ [])
-one_goes x goes zero d few = goes
-one_goes x goes (suc k) d few = absurd (omega (arith, few))
+one_goes x goes h2 d few = grind arith
 
 pub nothing_ran : {File : Type 0} (s : DeskState File) → Ran s s [] []
 nothing_ran s h clean stands = record {

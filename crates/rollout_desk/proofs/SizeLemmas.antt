@@ -1,21 +1,19 @@
 -- From what a call inside a change says of the tables to what a query is answered.
-use Rattle.rollout_desk.proofs.Common.{◌≡◌, ℕ, Result, Ok, Err, IfOk, sym, subst, arith, Ghosts, Fault, Refused}
-use Rattle.rollout_desk.proofs.Common.{Query, Download, Poll, ShowCancel, ShowContents, ShowDeployment, reply_of, Refusal, Tables}
-use Rattle.rollout_desk.proofs.Common.{OpenChange, AnswersIn, KeepsOffer, KeepsOffers, KeepsSizes}
+use Rattle.rollout_desk.proofs.Common.{◌≡◌, ℕ, Result, Ok, IfOk, sym, subst, arith, Ghosts, Fault, Refused, Query, Download}
+use Rattle.rollout_desk.proofs.Common.{reply_of, Refusal, Tables, OpenChange, AnswersIn, KeepsOffer, KeepsOffers, KeepsSizes}
+use Rattle.rollout_desk.proofs.Common.{state}
 use Rattle.rollout_machine.specs.Commands.{Bytes, Credential}
 use Rattle.rollout_model.specs.declared.artifact.Artifact.{Artifact}
 use Rattle.rollout_machine.specs.Replies as shown
 use Rattle.rollout_model.specs.declared.request.Reply.{Reply}
 use Rattle.desk_views.specs.Showing.{ShowsIn}
 use Rattle.desk_views.specs.Sizes.{AgreesIn, KeepsSize}
-use Rattle.rollout_desk.proofs.Common.{state}
 use Rattle.sql_calls.specs.declared.calls.Calls.{Calls}
 use Rattle.rollout_desk.specs.Looks.{Looked, ReadsDownload}
 use Rattle.rollout_desk.specs.Sizes.{ReadsAnswer}
 
 every : {A E : Type 0} {P : A → Type 0} (out : Result A E) → ((a : A) → P a) → IfOk out P
-every (Ok a) all = all a
-every (Err e) all = tt
+every out all = grind arith
 
 -- what is so of any tables
 pub always : {S : Type 0} {g : Ghosts S} {old new : OpenChange S} {out : Result Reply Fault} {Is : Tables → Reply → Type 0}
@@ -26,25 +24,18 @@ always {out = out} is = record { agrees = every out (λ reply t was clean. is t 
 pub other_answered : {S : Type 0} {g : Ghosts S} {old new : OpenChange S} {query : Query} {out : Result Reply Fault} → ShowsIn g old new query out
     → ((t : Tables) (reply : shown.Reply) → KeepsSize t query reply × KeepsOffer t query reply)
     → AnswersIn g old new query out
-other_answered shows none =
-    record { shows = shows; sized = always (λ t reply. (none t (reply_of reply)).0); kept = always (λ t reply. (none t (reply_of reply)).1) }
+other_answered shows none = grind (arith, always)
 
 -- a refusal shows no contents
 refused : (t : Tables) (query : Query) (refusal : Refusal) → KeepsSize t query (Refused refusal)
-refused t (ShowContents m k) refusal = tt
-refused t (Download device m filename) refusal = tt
-refused t query refusal = tt
+refused t query refusal = grind arith
 
 pub refused_sized : (t : Tables) (query : Query) (reply : shown.Reply) (refusal : Refusal) → reply ≡ Refused refusal → KeepsSize t query reply
 refused_sized t query reply refusal is = subst (KeepsSize t query) (sym is) (refused t query refusal)
 
 -- .. and tells no offer
 unoffered : (t : Tables) (query : Query) (refusal : Refusal) → KeepsOffer t query (Refused refusal)
-unoffered t (Poll device) refusal = tt
-unoffered t (ShowDeployment device action) refusal = tt
-unoffered t (ShowCancel device action) refusal = tt
-unoffered t (Download device m filename) refusal = tt
-unoffered t query refusal = tt
+unoffered t query refusal = grind arith
 
 pub refused_kept : (t : Tables) (query : Query) (reply : shown.Reply) (refusal : Refusal) → reply ≡ Refused refusal → KeepsOffer t query reply
 refused_kept t query reply refusal is = subst (KeepsOffer t query) (sym is) (unoffered t query refusal)
@@ -65,6 +56,4 @@ module _ {S : Type 0} (g : Ghosts S) {old new : Calls S} where
   pub found_kept : (device : Credential) (m : ℕ) (filename : Bytes) (found : Result Artifact Refusal)
       → Looked g (ReadsDownload g device m filename) old new (Ok found)
       → IfOk found (λ x. (contents : Bytes) → KeepsOffers (state g old.conn) (state g new.conn) (Download device m filename) (shown.ContentsShown contents))
-  found_kept device m filename (Err refusal) it = tt
-  found_kept device m filename (Ok x) it = λ contents t clean shown. let at = it.to.0 in
-      at.finds.kept.agrees t (at.tables.sees t shown) (omega (arith, clean, at.wears))
+  found_kept device m filename found it = grind arith
