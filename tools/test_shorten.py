@@ -1,5 +1,7 @@
 """Tests of what tools/shorten reads of a file of proofs, and of what it tries in place of a proof."""
+from collections import Counter
 from pathlib import Path
+from tempfile import TemporaryDirectory
 
 from as_module import as_module
 from crates import ROOT
@@ -72,3 +74,91 @@ def test_a_call_is_cut_where_its_arguments_are_no_longer_known():
 def test_a_lemma_is_told_by_what_it_ends_in():
     at = next(n for n, line in enumerate(LINES) if line.startswith("  pub none"))
     same(shorten.says(LINES, at), "is_some o ≡ false")
+
+
+def in_place(pieces, lines):
+    """What a file says with these pieces in it."""
+    with TemporaryDirectory() as folder:
+        file = Path(folder) / "Lists.antt"
+        for it in pieces:
+            it.file = file
+            for one in it.fallen():
+                one.file = file
+        shorten.written({file: lines}, pieces)
+        return file.read_text(encoding="utf-8").split("\n")
+
+
+ONCE = """use Rattle.std.proofs.Common.{ℕ, arith, least_of}
+
+-- what a list has at least
+low : (n : ℕ) → 1 ≤ n + 1
+low n = omega (arith, least_of n)
+
+pub high : (n : ℕ) (h : 0 ≤ n) → n < n + 2
+high n h = omega (arith, low n)
+""".split(
+    "\n"
+)
+
+
+def test_a_lemma_that_is_called_once_falls_with_its_comment():
+    file = Path("Lists.antt")
+    own = list(shorten.lemmas_of(file, ONCE))
+    once = shorten.called_once(own, Counter(word for line in ONCE for word in shorten.WORD.findall(line)))
+    same(list(once), ["low"])
+    pieces = [it for lemma in own for it in shorten.inlined(lemma, {"low", "high", "least_of"}, once, {file: ONCE})]
+    same(pieces[0].gain(ONCE), 2)
+    same(
+        in_place(pieces, ONCE),
+        [
+            "use Rattle.std.proofs.Common.{ℕ, arith, least_of}",
+            "",
+            "pub high : (n : ℕ) (h : 0 ≤ n) → n < n + 2",
+            "high n h = grind (arith, least_of)",
+            "",
+        ],
+    )
+
+
+def test_what_is_refused_stays_as_it_was():
+    file = Path("Lists.antt")
+    own = list(shorten.lemmas_of(file, ONCE))
+    (piece,) = shorten.inlined(own[1], {"low", "high", "least_of"}, {"low": own[0]}, {file: ONCE})
+    shorten.judge(piece, None, 0)
+    same(in_place([piece], ONCE), ONCE)
+
+
+def test_no_lemma_falls_that_another_piece_stands_in():
+    def piece(start, falls):
+        return shorten.Piece(Path("Lists.antt"), start, start + 1, [], [[]], [falls])
+
+    own = {it.name: it for it in shorten.lemmas_of(Path("Lists.antt"), ONCE)}
+    first, second = piece(7, [own["low"]]), piece(4, [own["high"]])
+    same(shorten.apart([first, second]), [first])
+    same(shorten.apart([piece(4, [own["low"]])]), [])
+
+
+def test_an_import_goes_with_its_last_name():
+    line = "use Rattle.std.proofs.Common.{ℕ, arith}"
+    same(shorten.without(line, {"arith"}), ["use Rattle.std.proofs.Common.{ℕ}"])
+    same(shorten.without(line, {"ℕ", "arith"}), [])
+    same(shorten.without("low n = arith", {"arith"}), ["low n = arith"])
+
+
+def test_an_answer_falls_until_it_is_asked_for():
+    lines = [
+        "use Lib.goal",
+        "",
+        "pub ends : goal.ends",
+        "ends c =",
+        "    refl",
+        "",
+        "pub begins : goal.begins",
+        "begins c = refl",
+    ]
+    folder = Path("proofs")
+    file = folder / "lists/few/Answers.antt"
+    ends, begins = shorten.answers({file: lines}, set())
+    same((ends.start, ends.stop, begins.stop), (2, 6, 8))
+    said = "fn few: no proof: expected answers in ./proofs/lists/few/Answers.antt; `search` did not prove `begins`"
+    same(list(shorten.asked([ends, begins], folder, said)), [begins])
