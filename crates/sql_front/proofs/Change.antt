@@ -1,7 +1,7 @@
 -- UPDATE and DELETE mean the same wherever the table stands in the schema.
-use Rattle.sql_front.proofs.Common.{◌≡◌, refl, ℕ, true, false, Ok, List, [], ◌∷◌, ◌++◌, Option, Some, slice_get, ⊤, if◌then◌else◌}
-use Rattle.sql_front.proofs.Common.{Query, Term, col, Expr, Parsed, Draft, Schema, Table, Unsupported, Compiled, ◌>>=◌}
-use Rattle.sql_front.proofs.Common.{and_then, pure, fail, get, take_steps, fresh, max_budget, value_of, Name, Context, first, Stands}
+use Rattle.sql_front.proofs.Common.{◌≡◌, refl, ℕ, true, false, Ok, List, [], ◌∷◌, ◌++◌, Option, Some, slice_get, ⊤, if◌then◌else◌, Query, Term, col, Expr}
+use Rattle.sql_front.proofs.Common.{Parsed, Draft, Schema, Table, Unsupported, Compiled, ◌>>=◌, and_then, pure, fail, get, take_steps, fresh, max_budget}
+use Rattle.sql_front.proofs.Common.{value_of, Name, Context, first, Stands, arith}
 use Rattle.sqlite_ast.specs.declared.Statement.TheVariants as written
 use Rattle.sqlite_schema.specs.declared.command.Command.TheVariants.{Update, Delete}
 use Rattle.sqlite_resolve.specs.Reach.{any_scans}
@@ -10,10 +10,9 @@ use Rattle.sqlite_resolve.specs.Program.{program}
 use Rattle.sqlite_resolve.specs.Compile.{compiled, planned, meaning, timed, returning, command, shows, update, delete}
 use Rattle.sql_front.proofs.Lower.{Same, IsPlain, lower_same}
 use Rattle.sql_front.proofs.Plain.{plainly}
-use Rattle.sql_front.proofs.OneTable.{same_columns}
+use Rattle.sql_front.proofs.Levels.{placed_at, same_placed}
 use Rattle.sql_front.proofs.Select.{IsPlainTest, tests_same}
 use Rattle.sql_front.proofs.Texts.{Becomes, alone}
-use Rattle.sql_front.proofs.Common.{arith}
 
 abbrev pub ArePlainSets : List (Name × Expr) → Type 0
 ArePlainSets [] = ⊤
@@ -43,7 +42,7 @@ module _ (a b : Context) (same : Same a b) (table : Table) where
 
 module _ (s : Schema) (at : ℕ) (table : Table) (got : slice_get s.tables at ≡ Some table) where
   columns_alone : Same (over s at table.name) (over (alone table) 0 table.name)
-  columns_alone = same_columns s (alone table) at 0 table got refl table.name 1 [] [] false true
+  columns_alone = same_placed s (alone table) (placed_at s (alone table) table.name 1 table at 0 got refl ∷ []) false true
 
   update_alone : (all : List (Name × Expr)) (test : Option Expr) → ArePlainSets all → IsPlainTest test → updated s at table all test
       ≡ updated (alone table) 0 table all test

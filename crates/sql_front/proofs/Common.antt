@@ -1,7 +1,7 @@
 -- The names of other modules that the proofs here cite, passed on from one place. Declares nothing.
-pub use Rattle.std.proofs.Common.{◌≡◌, ℕ, zero, suc, ◌+◌, ◌^◌, ◌<◌, ◌≤◌, Bool, true, false, cond, not, ◌&&◌, ◌||◌, ◌⊎◌, List, [], ◌∷◌, ◌++◌, length, nat_lt}
-pub use Rattle.std.proofs.Common.{nat_le, ◌==◌, slice_get, slice_index_or, Some, None, Ok, Err, codes, Option, Result, find, sym, refl, ap, ◌∙◌, subst, inl}
-pub use Rattle.std.proofs.Common.{inr, append_assoc, append-nil, arith}
+pub use Rattle.std.proofs.Common.{◌≡◌, ℕ, zero, suc, ◌+◌, ◌^◌, ◌<◌, ◌≤◌, Bool, true, false, not, ◌&&◌, ◌||◌, ◌⊎◌, List, [], ◌∷◌, ◌++◌, length, nat_lt, nat_le}
+pub use Rattle.std.proofs.Common.{◌==◌, slice_get, slice_index_or, Some, None, Ok, Err, codes, Option, Result, find, sym, refl, ap, ◌∙◌, subst, inl, inr}
+pub use Rattle.std.proofs.Common.{append_assoc, append-nil, arith}
 pub use Rattle.std.proofs.lemmas.Bool.{cases_Bool, eq-eqb, eqb-true, leb-false, lt-leb, ne_eqb}
 pub use Rattle.std.specs.Bool.{if◌then◌else◌, ⊤}
 pub use Rattle.std.specs.List.{AllByRecursion, position_from}
@@ -18,14 +18,13 @@ pub use Rattle.sqlite_catalog.specs.Change.{KeepsRows, automatics, created, is_u
 pub use Rattle.sqlite_draft.specs.Query.{query_of}
 pub use Rattle.sqlite_draft.specs.declared.join.Step.TheVariants.{Inner}
 pub use Rattle.sqlite_draft.specs.declared.query.Draft.{Draft}
-pub use Rattle.sqlite_resolve.specs.Body.{found_name, heading_at, is_column, joins, outputs_from, shown_at, tests}
+pub use Rattle.sqlite_resolve.specs.Body.{found_name, is_column, outputs_from, shown_at}
 pub use Rattle.sqlite_resolve.specs.Compile.{compiled, first, is_reserved, new_rows, small}
-pub use Rattle.sqlite_resolve.specs.Expr.{applied, combine, count_rows, counted, function_named, is_identity, is_plain, lower, lower_to, node_at, operator}
-pub use Rattle.sqlite_resolve.specs.Expr.{passes, star_by}
-pub use Rattle.sqlite_resolve.specs.Lowering.{Checked, Lowering, again, and_then, begin, chosen, fail, finish, fresh, get, last, lateral, lift, max_budget}
-pub use Rattle.sqlite_resolve.specs.Lowering.{pure, spend, take_steps, ◌>>=◌, ◌>>◌}
+pub use Rattle.sqlite_resolve.specs.Expr.{applied, combine, count_rows, counted, is_identity, lower, lower_to, node_at, operator, passes}
+pub use Rattle.sqlite_resolve.specs.Lowering.{Checked, Lowering, and_then, begin, chosen, fail, finish, fresh, get, last, lift, max_budget, pure, spend}
+pub use Rattle.sqlite_resolve.specs.Lowering.{take_steps, ◌>>=◌, ◌>>◌}
 pub use Rattle.sqlite_resolve.specs.Program.{Shown}
-pub use Rattle.sqlite_resolve.specs.Scope.{Context, Name, alias_of, column, found_or, is_hidden, is_meant, is_rowid, shown_again}
+pub use Rattle.sqlite_resolve.specs.Scope.{Context, Name, column, found_or, is_hidden, is_meant, shown_again}
 pub use Rattle.sqlite_resolve.specs.Select.{named, paging, value_of}
 pub use Rattle.sqlite_resolve.specs.declared.compiled.Compiled.{Compiled}
 pub use Rattle.sqlite_resolve.specs.declared.error.CompileError.TheVariants.{NoSuchColumn, TooBig, Unsupported}
@@ -42,7 +41,7 @@ pub use Rattle.sqlite_schema.specs.declared.schema.Index.{Index}
 pub use Rattle.sqlite_schema.specs.declared.schema.Schema.{Schema}
 pub use Rattle.sqlite_schema.specs.declared.schema.Table.{Table}
 pub use Rattle.sqlite_sql.specs.Query.{Query, end, inner}
-pub use Rattle.sqlite_sql.specs.Term.{Term, case, col, lit, op1, op2, reads_below}
+pub use Rattle.sqlite_sql.specs.Term.{Term, col, op2}
 pub use Rattle.sqlite_syntax.specs.declared.statement.Parsed.{Parsed}
 pub use Rattle.sqlite_typing.specs.Types.{accepts_after, accepts_program, are_tests, integer, is_count, row_classes}
 pub use Rattle.sqlite_value.specs.declared.keys.Collation.{Collation}

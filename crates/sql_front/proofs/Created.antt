@@ -1,8 +1,7 @@
 -- What a table that is made leaves of the tables before it, and how it stands itself.
-use Rattle.sql_front.proofs.Common.{◌≡◌, refl, sym, ap, ◌∙◌, ℕ, zero, suc, ◌+◌, ◌^◌, ◌<◌, ◌==◌, Bool, true, false, List, [], ◌∷◌, ◌++◌, length, Option}
-use Rattle.sql_front.proofs.Common.{Some, None, slice_get, find, arith, AllByRecursion, position_from, is_some, eq-eqb, lt-leb, Table, Index, Schema}
-use Rattle.sql_front.proofs.Common.{same_name, table_named, index_named, view_named, next_tree, is_used, created, automatics, Name, table_below, Stands}
-use Rattle.sql_front.proofs.Common.{NoneHasForeignKey}
+use Rattle.sql_front.proofs.Common.{◌≡◌, refl, sym, ap, ◌∙◌, ℕ, zero, suc, ◌+◌, ◌^◌, ◌<◌, ◌==◌, Bool, true, false, List, [], ◌∷◌, ◌++◌, length, Option, Some}
+use Rattle.sql_front.proofs.Common.{None, slice_get, find, arith, AllByRecursion, position_from, is_some, eq-eqb, lt-leb, Table, Index, Schema, same_name}
+use Rattle.sql_front.proofs.Common.{table_named, index_named, view_named, next_tree, is_used, created, automatics, Name, table_below, Stands, NoneHasForeignKey}
 use Rattle.sqlite_rules.proofs.ListLemmas.{all_from}
 use Rattle.sql_front.proofs.Past.{position_past, slice_past, find_past, unused, above_all}
 

@@ -1,9 +1,8 @@
 -- A table that is found by its name and by its tree stands there.
-use Rattle.sql_front.proofs.Common.{◌≡◌, refl, sym, ap, subst, ◌∙◌, ℕ, ◌^◌, ◌<◌, ◌==◌, Some, slice_get, find, eqb-true}
-use Rattle.sql_front.proofs.Common.{lt-leb, leb-false, Table, Schema, table_named, NoneHasForeignKey}
+use Rattle.sql_front.proofs.Common.{◌≡◌, refl, sym, ap, subst, ◌∙◌, ℕ, ◌^◌, ◌<◌, ◌==◌, Some, slice_get, find, eqb-true, lt-leb, leb-false, Table, Schema}
+use Rattle.sql_front.proofs.Common.{table_named, NoneHasForeignKey, arith}
 use Rattle.sql_front.specs.Found.{StandsSomewhere, HasFirst}
 use Rattle.sqlite_rules.proofs.ListLemmas.{has_found}
-use Rattle.sql_front.proofs.Common.{arith}
 
 pub stands_by : (s : Schema) (table named first : Table) (at : ℕ) → table_named s table.name ≡ Some at → slice_get s.tables at ≡ Some named
     → find (λ t. t.tree == named.tree) s.tables ≡ Some first

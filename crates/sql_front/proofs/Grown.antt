@@ -1,7 +1,7 @@
 -- What CREATE TABLE makes of a database, where it also makes the list of AUTOINCREMENT's numbers and where it doesn't.
-use Rattle.sql_front.proofs.Common.{◌≡◌, ◌⊎◌, inl, inr, sym, ap, ◌∙◌, ℕ, false, List, [], ◌∷◌, ◌++◌, append-nil, append_assoc, codes, None, Ok}
-use Rattle.sql_front.proofs.Common.{Err, Result, ◌+◌, slice_index_or, cases_Bool, Index, Table, Has, Schema, same_name, next_tree, is_used, created}
-use Rattle.sql_front.proofs.Common.{automatics, KeepsRows, Name}
+use Rattle.sql_front.proofs.Common.{◌≡◌, ◌⊎◌, inl, inr, sym, ap, ◌∙◌, ℕ, false, List, [], ◌∷◌, ◌++◌, append-nil, append_assoc, codes, None, Ok, Err, Result}
+use Rattle.sql_front.proofs.Common.{◌+◌, slice_index_or, cases_Bool, Index, Table, Has, Schema, same_name, next_tree, is_used, created, automatics, KeepsRows}
+use Rattle.sql_front.proofs.Common.{Name, arith}
 use Rattle.sqlite.specs.Order.{Row}
 use Rattle.sqlite.specs.Tree.{Trees}
 use Rattle.sqlite.specs.Does.{sequence_text, MakesSequence}
@@ -14,7 +14,6 @@ use Rattle.sqlite_rules.proofs.ListLemmas.{has_either}
 use Rattle.sqlite_resolve.specs.Compile.{table_defined_by, first, table_in}
 use Rattle.sqlite_resolve.specs.declared.error.CompileError.{CompileError}
 use Rattle.sql_front.proofs.Created.{AreKeyless, SparesIndexes, still_free}
-use Rattle.sql_front.proofs.Common.{arith}
 
 went : {B E R : Type 0} {b : B} {Stops : E → Type 0} → ((stop : E) × Stops stop × (Ok b ≡ Err stop)) ⊎ R → R
 went h = grind arith
@@ -56,9 +55,6 @@ automatic_is table tree at next (key ∷ keys) index (inr more) = automatic_is t
 created_indexes : (s : Schema) (table : Table) (index : Index) → Has (created s table).indexes index → Has s.indexes index ⊎ IsIndexOf table (next_tree s) index
 created_indexes s table index h = grind (arith, has_either, automatic_is)
 
-no_index : (s : Schema) (table : Table) (index : Index) → table.uniques ≡ [] → Has (created s table).indexes index → Has s.indexes index
-no_index s table index none h = grind (arith, append-nil)
-
 abbrev part : {X : Type 0} → (Table → X) → X → Result Table CompileError → X
 part f none (Ok t) = f t
 part f none (Err e) = none
@@ -71,7 +67,7 @@ sequence_defined t h = (ap (part (λ t. t.name) []) (sym h), ap (part (λ t. t.u
 finish : (s : Schema) (table : Table) (old mid final : Database) → mid.schema ≡ created s table → mid.trees (next_tree s) ≡ []
     → KeepsRows s.tables old.trees mid.trees → MakesSequence mid (Ok final) → Grown s table old final
 finish s table old mid final is empty others h =
-    grind (arith, cases_Bool, same_value, created_indexes, still_free, sequence_defined, append_assoc, keeps_last, keeps_both, no_index)
+    grind (arith, cases_Bool, same_value, created_indexes, still_free, sequence_defined, append_assoc, keeps_last, keeps_both, append-nil)
 
 pub grown : (s : Schema) (table : Table) (text : List ℕ) → table_defined_by text ≡ Ok table → (old new : State) → old.now.schema ≡ s
     → (params : Row) (count : ℕ) → Writes old new None CreateTable text params count → Grown s table old.now new.now

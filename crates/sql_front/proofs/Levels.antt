@@ -1,29 +1,25 @@
 -- Where an expression sees one table at each level, it is lowered alike in each schema that has these tables, wherever they stand in it.
-use Rattle.sql_front.proofs.Common.{◌≡◌, refl, ℕ, zero, suc, ◌+◌, ◌==◌, Bool, false, not, ◌&&◌, ◌||◌, Ok, Err, List, [], ◌∷◌}
-use Rattle.sql_front.proofs.Common.{Option}
-use Rattle.sql_front.proofs.Common.{Some, None, slice_get, cases_Bool, column_named, Schema, Table, Output, Bound, Found, Level, Name, Context}
-use Rattle.sql_front.proofs.Common.{found_or, is_meant}
-use Rattle.sql_front.proofs.Common.{is_hidden, Checked, ◌>>=◌, lift, fail, shown_again, and_then, Alias, Column, Rowid, NoSuchColumn}
-use Rattle.sql_front.proofs.Common.{Unsupported, if◌then◌else◌}
-use Rattle.sql_front.proofs.Common.{option_map, unwrap_or, is_some, and-true}
+use Rattle.sql_front.proofs.Common.{◌≡◌, refl, ℕ, zero, suc, ◌+◌, ◌==◌, Bool, not, ◌&&◌, Ok, Err, List, [], ◌∷◌, Option, Some, None, slice_get, cases_Bool}
+use Rattle.sql_front.proofs.Common.{column_named, Schema, Table, Output, Bound, Found, Level, Name, Context, found_or, is_meant, is_hidden, Checked, ◌>>=◌}
+use Rattle.sql_front.proofs.Common.{lift, fail, shown_again, and_then, Alias, Column, Rowid, NoSuchColumn, Unsupported, if◌then◌else◌, option_map, unwrap_or}
+use Rattle.sql_front.proofs.Common.{and-true, arith}
 use Rattle.sqlite_resolve.specs.Scope.{column, find, find_from, in_level, only, hit, column_in, rowid_in, column_at, term_of}
 use Rattle.sqlite_resolve.specs.Lowering.{or_else}
 use Rattle.sqlite_resolve.specs.Compare.{of_column, at_place, table_in}
 use Rattle.sqlite_resolve.specs.declared.compare.Affinity.TheVariants as affinity
 use Rattle.sql_front.proofs.Lower.{Same}
-use Rattle.sql_front.proofs.Common.{arith}
 
-abbrev pub one_bound : Name → ℕ → List Name → ℕ → Bound
-one_bound name slot shared at = record { name = name; table = at; slot = slot; shared = shared }
+abbrev pub one_bound : Name → ℕ → ℕ → Bound
+one_bound name slot at = record { name = name; table = at; slot = slot; shared = [] }
 
-abbrev pub one_level : Name → ℕ → List Name → List Output → ℕ → Level
-one_level name slot shared outs at = record { tables = one_bound name slot shared at ∷ []; shown = outs }
+abbrev pub one_level : Name → ℕ → List Output → ℕ → Level
+one_level name slot outs at = record { tables = one_bound name slot at ∷ []; shown = outs }
 
 -- What is made of a name is the same at two places of a table, if that is so of each thing that the name may stand for.
 module _ (s z : Schema) (at there : ℕ) (table : Table) (got : slice_get s.tables at ≡ Some table) (own : slice_get z.tables there ≡ Some table) (name : Name)
-    (slot : ℕ) (shared : List Name) (outs : List Output) (depth : ℕ) where
+    (slot : ℕ) (outs : List Output) (depth : ℕ) where
   abbrev pub seen_in : Schema → Option Name → Name → ℕ → Checked Found → Checked Found
-  seen_in schema wanted text k outside = and_then (in_level schema wanted text depth (one_level name slot shared outs k)) (found_or outside)
+  seen_in schema wanted text k outside = and_then (in_level schema wanted text depth (one_level name slot outs k)) (found_or outside)
 
   pub record Alike {X : Type 0} (here away : Checked Found → X) (p q : Checked Found) : Type 0 where
     pub columns : (k : ℕ) → here (Ok (Column slot at k)) ≡ away (Ok (Column slot there k))
@@ -31,26 +27,21 @@ module _ (s z : Schema) (at there : ℕ) (table : Table) (got : slice_get s.tabl
     pub aliases : (k : ℕ) → here (Ok (Alias depth k)) ≡ away (Ok (Alias depth k))
     pub outside : here p ≡ away q
 
-  unfound : {X : Type 0} (here away : Checked Found → X) (p q : Checked Found) → Alike here away p q → (wanted : Option Name) (o : Option ℕ)
-      → here (and_then (if (false || is_some wanted) then Ok None else Ok (option_map (Alias depth) o)) (found_or p))
-      ≡ away (and_then (if (false || is_some wanted) then Ok None else Ok (option_map (Alias depth) o)) (found_or q))
-  unfound here away p q h wanted o = grind arith
-
   -- whether the name may be this table's, and what it finds there
   by_column : {X : Type 0} (here away : Checked Found → X) (p q : Checked Found) → Alike here away p q
       → (wanted : Option Name) (text : Name) (seen : Bool) (o : Option ℕ)
-      → ((k : ℕ) → (is_meant wanted (one_bound name slot shared k) && not (is_hidden wanted text (one_bound name slot shared k))) ≡ seen)
+      → ((k : ℕ) → (is_meant wanted (one_bound name slot k) && not (is_hidden wanted text (one_bound name slot k))) ≡ seen)
       → column_named table text ≡ o
       → here (seen_in s wanted text at p) ≡ away (seen_in z wanted text there q)
   unfolding in_level only hit column_in rowid_in
-  by_column here away p q h wanted text seen o meant named = grind (arith, cases_Bool, unfound)
+  by_column here away p q h wanted text seen o meant named = grind (arith, cases_Bool)
 
   pub seen_alike : {X : Type 0} (here away : Checked Found → X) (p q : Checked Found) → Alike here away p q → (wanted : Option Name) (text : Name)
       → here (seen_in s wanted text at p) ≡ away (seen_in z wanted text there q)
-  seen_alike here away p q h None text = by_column here away p q h None text (not (is_hidden None text (one_bound name slot shared at)))
+  seen_alike here away p q h None text = by_column here away p q h None text (not (is_hidden None text (one_bound name slot at)))
       (column_named table text) (λ k. refl) refl
-  seen_alike here away p q h (Some other) text = by_column here away p q h (Some other) text (is_meant (Some other) (one_bound name slot shared at))
-      (column_named table text) (λ k. and-true (is_meant (Some other) (one_bound name slot shared at))) refl
+  seen_alike here away p q h (Some other) text = by_column here away p q h (Some other) text (is_meant (Some other) (one_bound name slot at))
+      (column_named table text) (λ k. and-true (is_meant (Some other) (one_bound name slot at))) refl
 
 -- a column of a table is the same term, whatever is around
 pub found_same : (a b : Context) (slot at there : ℕ) (table : Table) → slice_get a.schema.tables at ≡ Some table → slice_get b.schema.tables there ≡ Some table
@@ -68,7 +59,6 @@ key_same a b slot at there = refl
 pub record Placed (s z : Schema) : Type 0 where
   pub name : Name
   pub slot : ℕ
-  pub shared : List Name
   pub outs : List Output
   pub table : Table
   pub at : ℕ
@@ -77,13 +67,18 @@ pub record Placed (s z : Schema) : Type 0 where
   pub own : slice_get z.tables there ≡ Some table
 
 module _ (s z : Schema) where
+  -- of a query that shows nothing yet
+  abbrev pub placed_at : Name → ℕ → (table : Table) (at there : ℕ) → slice_get s.tables at ≡ Some table → slice_get z.tables there ≡ Some table → Placed s z
+  placed_at name slot table at there got own =
+      record { name = name; slot = slot; outs = []; table = table; at = at; there = there; got = got; own = own }
+
   abbrev pub nears : List (Placed s z) → List Level
   nears [] = []
-  nears (p ∷ ps) = one_level p.name p.slot p.shared p.outs p.at ∷ nears ps
+  nears (p ∷ ps) = one_level p.name p.slot p.outs p.at ∷ nears ps
 
   abbrev pub fars : List (Placed s z) → List Level
   fars [] = []
-  fars (p ∷ ps) = one_level p.name p.slot p.shared p.outs p.there ∷ fars ps
+  fars (p ∷ ps) = one_level p.name p.slot p.outs p.there ∷ fars ps
 
   -- what is made of a name, if it is the same of each thing that the name may stand for
   pub found_alike : {X : Type 0} (here away : Checked Found → X)
@@ -94,7 +89,7 @@ module _ (s z : Schema) where
       → here (find_from s wanted text depth (nears ps)) ≡ away (find_from z wanted text depth (fars ps))
   found_alike here away columns rowids aliases none wanted text depth [] = none
   found_alike here away columns rowids aliases none wanted text depth (p ∷ ps) =
-      seen_alike s z p.at p.there p.table p.got p.own p.name p.slot p.shared p.outs depth here away (find_from s wanted text (depth + 1) (nears ps))
+      seen_alike s z p.at p.there p.table p.got p.own p.name p.slot p.outs depth here away (find_from s wanted text (depth + 1) (nears ps))
       (find_from z wanted text (depth + 1) (fars ps))
       (record {
         columns = columns p;
@@ -110,19 +105,16 @@ module _ (s z : Schema) where
   level_same b k (p ∷ ps) zero = refl
   level_same b k (p ∷ ps) (suc depth) = level_same b k ps depth
 
-  place_same : (p : Placed s z) (at : ℕ) → at_place s p.at at ≡ at_place z p.there at
-  place_same p at = grind arith
-
   affinity_in : (slot at : ℕ) (ps : List (Placed s z)) → option_map (λ t. at_place s t at) (table_in slot (nears ps))
       ≡ option_map (λ t. at_place z t at) (table_in slot (fars ps))
   affinity_in slot at [] = refl
-  affinity_in slot at (p ∷ ps) = grind (arith, affinity_in slot at ps, cases_Bool, place_same)
+  affinity_in slot at (p ∷ ps) = grind (arith, affinity_in slot at ps, cases_Bool)
 
   module _ (ps : List (Placed s z)) (may_aggregate may_alias : Bool) where
-    abbrev near : Context
+    abbrev pub near : Context
     near = record { schema = s; levels = nears ps; may_aggregate = may_aggregate; may_alias = may_alias }
 
-    abbrev far : Context
+    abbrev pub far : Context
     far = record { schema = z; levels = fars ps; may_aggregate = may_aggregate; may_alias = may_alias }
 
     alias_same : (depth k : ℕ) → term_of near (Alias depth k) ≡ term_of far (Alias depth k)

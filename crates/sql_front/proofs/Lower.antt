@@ -1,17 +1,14 @@
 -- A plain expression is lowered alike under two contexts that find the same columns.
-use Rattle.sql_front.proofs.Common.{◌≡◌, refl, ℕ, zero, suc, false, Option, ⊤, Term, op2, Collation, Expr, out-Expr}
-use Rattle.sql_front.proofs.Common.{Select, Layer, Expr-F, Exists, operator, applied, node_at, is_identity, count_rows, function_named, star_by, counted}
-use Rattle.sql_front.proofs.Common.{Name, Context, column, Lowering, ◌>>=◌, ◌>>◌, pure, last, spend, begin, finish, chosen, combine, passes}
+use Rattle.sql_front.proofs.Common.{◌≡◌, refl, ℕ, zero, suc, false, Option, ⊤, Term, op2, Collation, Expr, out-Expr, Select, Layer, Expr-F, Exists, operator}
+use Rattle.sql_front.proofs.Common.{applied, node_at, is_identity, count_rows, counted, Name, Context, column, Lowering, ◌>>=◌, ◌>>◌, pure, last, spend, begin}
+use Rattle.sql_front.proofs.Common.{finish, chosen, combine, passes, arith}
 use Rattle.sqlite_sql.specs.declared.ops.BinaryOp.{BinaryOp}
 use Rattle.sqlite_sql.specs.declared.ops.BinaryOp.TheVariants as by
 use Rattle.sqlite_ast.specs.declared.Binary.{Binary}
-use Rattle.sqlite_resolve.specs.declared.function.Function.{Function}
-use Rattle.sqlite_resolve.specs.Expr.{both, operation, between, bounded, tests_truth, tests_alias, wanted_truth, star}
+use Rattle.sqlite_resolve.specs.Expr.{both, operation, between, bounded, tests_truth, tests_alias, wanted_truth, star, lower_to, node, opened}
 use Rattle.sqlite_sql.specs.declared.ops.CompareOp.{CompareOp}
 use Rattle.sqlite_resolve.specs.declared.state.Carried.{Carried}
 use Rattle.sqlite_resolve.specs.Compare.{compared, affinity_of, of_column, converted}
-use Rattle.sqlite_resolve.specs.Expr.{lower_to, node, opened}
-use Rattle.sql_front.proofs.Common.{arith}
 
 pub record Same (a b : Context) : Type 0 where
   pub columns : (table : Option Name) (name : Name) → column a table name ≡ column b table name
@@ -65,12 +62,6 @@ module _ (a b : Context) (same : Same a b) where
   unfolding bounded
   bounded_same low op x p e h = λ i. h i >>= (λ t. last >>= (λ q. pure (compared_same (by.Compare op (chosen p q)) x t i)))
 
-  applied_same : (o : Option BinaryOp) (x y : Term) → applied a o x y ≡ applied b o x y
-  applied_same o x y = grind (arith, compared_same)
-
-  star_same : (f : Function) → star_by a f ≡ star_by b f
-  star_same f = grind (arith, count_rows)
-
   layer_same : (low : Context → Expr → Lowering Term) (Q : Select → Type 0) (P : Expr → Type 0)
       → ((query : Select) → Q query → counted low a Exists query ≡ counted low b Exists query) → ((e : Expr) → P e → low a e ≡ low b e)
       → (l : Layer) → PlainLayer Q P l → node_at low a l ≡ node_at low b l
@@ -80,8 +71,8 @@ module _ (a b : Context) (same : Same a b) where
   layer_same low Q P nested below (Expr-F.Text text) h = refl
   layer_same low Q P nested below (Expr-F.Parameter k) h = refl
   layer_same low Q P nested below (Expr-F.Column table name) h = same.columns table name
-  layer_same low Q P nested below (Expr-F.CallStar name) h = star_same (function_named name)
-  layer_same low Q P nested below (Expr-F.Binary op x y) h = grind (arith, is_two_sides, applied_same, operator)
+  layer_same low Q P nested below (Expr-F.CallStar name) h = grind (arith, count_rows)
+  layer_same low Q P nested below (Expr-F.Binary op x y) h = grind (arith, is_two_sides, compared_same, operator)
   layer_same low Q P nested below (Expr-F.Between x lo hi) h = grind (arith, bounded_same, op2)
   layer_same low Q P nested below (Expr-F.Exists query) h = nested query h
   layer_same low Q P nested below _ h = absurd h

@@ -1,14 +1,13 @@
 -- What a SELECT over one table is compiled to, under any schema that has the table.
-use Rattle.sql_front.proofs.Common.{◌≡◌, ℕ, ◌^◌, nat_le, ◌==◌, true, false, ◌&&◌, Ok, List, [], ◌∷◌, Option, Some, find, Query, inner, end, Term, Expr}
-use Rattle.sql_front.proofs.Common.{Parsed, query_of, Schema, Table, accepts_program, accepts_after, are_tests, integer, is_count, row_classes, Name, named}
-use Rattle.sql_front.proofs.Common.{paging, Shown, first}
+use Rattle.sql_front.proofs.Common.{◌≡◌, ℕ, ◌^◌, nat_le, ◌==◌, true, false, ◌&&◌, Ok, List, [], ◌∷◌, Option, Some, find, Query, inner, end, Term, Expr, Parsed}
+use Rattle.sql_front.proofs.Common.{query_of, Schema, Table, accepts_program, accepts_after, are_tests, integer, is_count, row_classes, Name, named, paging}
+use Rattle.sql_front.proofs.Common.{Shown, first, Compiled}
 use Rattle.sqlite_sql.specs.Query.{counted}
 use Rattle.sqlite_ast.specs.declared.Select as written_select
 use Rattle.sqlite_ast.specs.declared.Statement.TheVariants as written
 use Rattle.sqlite_schema.specs.declared.command.Command.TheVariants.{Select}
 use Rattle.sqlite_resolve.specs.Program.{query, query_to, level, with, whole, alone, single, sources, source, viewing, program}
 use Rattle.sqlite_resolve.specs.Compile.{compiled, planned, meaning, timed, returning, command, read}
-use Rattle.sql_front.proofs.Common.{Compiled}
 use Rattle.sql_front.proofs.Plain.{plainly}
 use Rattle.sql_front.proofs.Select.{IsOneTableBut}
 
@@ -43,7 +42,7 @@ module _ (s : Schema) (tested : Option Expr → Type 0) where
       → IsOneTableBut tested name (written_select.out-Select q).first (written_select.out-Select q).order → paging s q ≡ Ok page
       → named s (written_select.out-Select q).first (written_select.out-Select q).order page ≡ Ok shown → query s q ≡ Ok (shown, [])
   unfolding query query_to level with whole alone single sources source viewing
-  query_known name q page shown with others one paged known = rw (with) (rw (paged) (rw (others) (rw (one.from) (rw (one.table) (rw known)))))
+  query_known name q page shown with others one paged known = rw (with) (rw (paged) (rw (others) (rw (one.from.is) (rw (one.from.table) (rw known)))))
 
   pub select_known : (text : List ℕ) (name : Name) (p : Parsed) (q : written_select.Select) (page : Term × Term) (shown : Shown) → first text ≡ Ok p
       → Selects p q

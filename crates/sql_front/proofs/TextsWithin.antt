@@ -4,7 +4,7 @@ use Rattle.sql_front.proofs.Common.{Schema, Table, table_named, accepts_program,
 use Rattle.sql_front.proofs.Common.{Shown, compiled, first, Stands}
 use Rattle.sqlite_sql.specs.Query.{counted}
 use Rattle.sqlite_ast.specs.declared.Select as written_select
-use Rattle.sql_front.proofs.Select.{IsOneTableBut, IsTestBut, same_named_but, over, same_over, tests_same_but}
+use Rattle.sql_front.proofs.Select.{IsOneTableBut, IsTestBut, same_named_but, only, here, there, seen, same_seen, tests_same_but}
 use Rattle.sql_front.proofs.Within.{CountsOne, exists_same}
 use Rattle.sql_front.proofs.Query.{Selects, accepted_within, select_known, with_query}
 
@@ -38,11 +38,11 @@ module _ (text : List ℕ) (name : Name) (table : Table) (nested : Name) (other 
   pub queries_known_within : compiled s text ≡ Ok (with_query r.parsed body columns)
   queries_known_within =
       let z = pair table other in
+      let p = only s z at 0 table name stands.named stands.got r.named_first refl in
       let same = same_named_but s z at 0 table name stands.named stands.got r.named_first refl _ _ (IsTestBut (CountsOne nested) 700) r.one
-      (λ outs e h. tests_same_but (over s z at 0 table stands.got refl name s at outs false) (over s z at 0 table stands.got refl name z 0 outs false)
-      (same_over s z at 0 table stands.got refl name outs false)
-      (CountsOne nested) (λ n query one. exists_same s z at 0 table stands.got refl name 1 outs nest 1 other stands'.got refl nested stands'.named
-      r.named_second n query one false) 700 [] e h) r.page in
+      (λ outs e h. tests_same_but (here s z [] p outs false) (there s z [] p outs false) (same_seen s z [] p outs false) (CountsOne nested)
+      (λ n query one. exists_same s z (seen s z [] p outs) other nested nest 1 stands'.got refl stands'.named r.named_second n query one false) 700 [] e h)
+      r.page in
       let fits = accepted_within s body table other r.cap r.test r.over stands.stored stands'.stored stands.found stands'.found r.tests_fit r.fits in
       let known : compiled s text ≡ Ok (with_query r.parsed (query_of r.shown.0) r.shown.1) =
       select_known s (IsTestBut (CountsOne nested) 700) text name r.parsed r.select r.page r.shown r.read r.selects r.one (r.paged s) (same ∙ r.known)

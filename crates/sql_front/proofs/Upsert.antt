@@ -1,8 +1,7 @@
 -- INSERT .. SELECT .. ON CONFLICT means the same wherever its two tables stand in the schema.
-use Rattle.sql_front.proofs.Common.{◌≡◌, inl, inr, refl, sym, ap, subst, ◌∙◌, ℕ, ◌+◌, ◌==◌, true, false, ◌&&◌, Ok, List, [], ◌∷◌, ◌++◌, length, find, Some}
-use Rattle.sql_front.proofs.Common.{slice_get, codes, Bool, ◌||◌, arith, eqb-true, eq-eqb, Collation, Query, inner, end, Term, Parsed, Draft}
-use Rattle.sql_front.proofs.Common.{query_of, Schema, Table, Index, Has, table_named, accepts_program, accepts_after, is_count, row_classes, Compiled, Name}
-use Rattle.sql_front.proofs.Common.{Context, named, paging, Shown, first, small, Stands}
+use Rattle.sql_front.proofs.Common.{◌≡◌, inl, inr, refl, sym, ap, ◌∙◌, ℕ, ◌+◌, ◌==◌, true, false, ◌&&◌, Ok, List, [], ◌∷◌, ◌++◌, length, find, Some, slice_get}
+use Rattle.sql_front.proofs.Common.{codes, Bool, ◌||◌, arith, eqb-true, eq-eqb, Collation, Query, Term, Parsed, Draft, Schema, Table, Index, Has, table_named}
+use Rattle.sql_front.proofs.Common.{Compiled, Name, Context, named, paging, Shown, first, small, Stands}
 use Rattle.sqlite_ast.specs.declared.Rows.TheVariants as rows
 use Rattle.sqlite_ast.specs.declared.Select as written_select
 use Rattle.sqlite_ast.specs.declared.Upsert as written_clause
@@ -21,12 +20,12 @@ use Rattle.sql_front.proofs.Past.{slice_past}
 use Rattle.sql_front.proofs.Created.{slice_front}
 use Rattle.sql_front.proofs.Select.{IsOneTable, IsPlainTest, same_named}
 use Rattle.sql_front.proofs.Plain.{plainly}
-use Rattle.sql_front.proofs.Query.{accepted, query_known}
-use Rattle.sql_front.proofs.Texts.{alone}
+use Rattle.sql_front.proofs.Query.{query_known}
+use Rattle.sql_front.proofs.Texts.{Becomes, fits_as, alone}
 use Rattle.sql_front.proofs.Change.{ArePlainSets, updated_same}
 use Rattle.sql_front.proofs.Write.{unstamped}
 use Rattle.sql_front.proofs.Lower.{Same}
-use Rattle.sql_front.proofs.Levels.{one_level, same_placed}
+use Rattle.sql_front.proofs.Levels.{one_level, placed_at, same_placed}
 use Rattle.std.proofs.lemmas.Bool.{both_ways, cond_both}
 
 abbrev pub excluded : Name
@@ -37,7 +36,7 @@ excluded = codes "excluded"
 module _ (table : Table) (base : ℕ) where
   -- what the clause reads
   abbrev pub on_conflict : Schema → ℕ → Context
-  on_conflict s at = nested (with_given s table base) (one_level table.name 1 [] [] at) (one_level excluded 0 [] [] (length s.tables))
+  on_conflict s at = nested (with_given s table base) (one_level table.name 1 [] at) (one_level excluded 0 [] (length s.tables))
 
   excluded_at : (s : Schema) → slice_get (with_given s table base).tables (length s.tables) ≡ Some (given table base)
   excluded_at s = let none_more : length s.tables + 0 ≡ length s.tables = omega arith in ap (slice_get (s.tables ++ given table base ∷ [])) (sym none_more)
@@ -45,27 +44,13 @@ module _ (table : Table) (base : ℕ) where
 
   on_conflict_same : (s z : Schema) (at there : ℕ) → slice_get s.tables at ≡ Some table → slice_get z.tables there ≡ Some table
       → Same (on_conflict s at) (on_conflict z there)
-  on_conflict_same s z at there got own = same_placed (with_given s table base) (with_given z table base) (record {
-    name = table.name;
-    slot = 1;
-    shared = [];
-    outs = [];
-    table = table;
-    at = at;
-    there = there;
-    got = slice_front s.tables (given table base ∷ []) at table got;
-    own = slice_front z.tables (given table base ∷ []) there table own;
-  } ∷ record {
-    name = excluded;
-    slot = 0;
-    shared = [];
-    outs = [];
-    table = given table base;
-    at = length s.tables;
-    there = length z.tables;
-    got = excluded_at s;
-    own = excluded_at z;
-  } ∷ []) false true
+  on_conflict_same s z at there got own =
+      let before = with_given s table base in
+      let after = with_given z table base in
+      same_placed before after (
+      placed_at before after table.name 1 table at there (slice_front s.tables (given table base ∷ []) at table got)
+      (slice_front z.tables (given table base ∷ []) there table own)
+      ∷ placed_at before after excluded 0 (given table base) (length s.tables) (length z.tables) (excluded_at s) (excluded_at z) ∷ []) false true
 
 -- what computes of a text that puts what a query over one table shows into another table, over those two alone
 pub record Upserts (text : List ℕ) (name : Name) (table : Table) (from : Name) (read : Table) (body : Query) (key : List ℕ) (setter : Query) : Type 0 where
@@ -73,39 +58,29 @@ pub record Upserts (text : List ℕ) (name : Name) (table : Table) (from : Name)
   pub columns : List Name
   pub select : written_select.Select
   pub clause : written_clause.Upsert
-  pub is_read : first text ≡ Ok parsed
-  pub statement : parsed.statement ≡ written.Insert conflict.Abort name columns (rows.Select select) (clause ∷ []) []
-  pub formats : parsed.formats ≡ []
-  -- the query
+  pub parses : (first text ≡ Ok parsed) × (parsed.statement ≡ written.Insert conflict.Abort name columns (rows.Select select) (clause ∷ []) [])
+      × (parsed.formats ≡ [])
+  -- the query, and its rows as the table has them
   pub page : Term × Term
   pub shown : Shown
-  pub with : (written_select.out-Select select).with ≡ []
-  pub others : (written_select.out-Select select).others ≡ []
+  pub is : ((written_select.out-Select select).with ≡ []) × ((written_select.out-Select select).others ≡ [])
   pub one : IsOneTable from (written_select.out-Select select).first (written_select.out-Select select).order
   pub paged : (s : Schema) → paging s select ≡ Ok page
-  pub named_alone : table_named (alone read) from ≡ Some 0
-  pub known : named (alone read) (written_select.out-Select select).first (written_select.out-Select select).order page ≡ Ok shown
-  -- its rows, as the table has them
+  pub named : (table_named (alone read) from ≡ Some 0)
+      × (named (alone read) (written_select.out-Select select).first (written_select.out-Select select).order page ≡ Ok shown)
   pub at : List ℕ
   pub terms : List Term
   pub by : List Collation
-  pub placed : places (unstamped table) columns ≡ Ok at
-  pub laid_out : as_row (unstamped table) (small parsed.names + small []) at shown.0 ≡ Ok (terms, by)
-  pub is_body : query_of (record shown.0 { project = terms; collations = by }) ≡ body
-  pub over : body.from ≡ inner read.tree end
-  pub fits : (accepts_after [] body (Some (row_classes read ∷ [])) && (is_count [] body.limit && is_count [] body.offset)) ≡ true
+  pub placed : (places (unstamped table) columns ≡ Ok at) × (as_row (unstamped table) (small parsed.names + small []) at shown.0 ≡ Ok (terms, by))
+  pub becomes : Becomes read (record shown.0 { project = terms; collations = by }) body
   -- the clause
-  pub aimed : (length clause.target == 0) ≡ false
-  pub key_is : places (unstamped table) clause.target ≡ Ok key
-  pub sets : (length clause.sets == 0) ≡ false
+  pub aimed : ((length clause.target == 0) ≡ false) × (places (unstamped table) clause.target ≡ Ok key) × ((length clause.sets == 0) ≡ false)
   pub values : ArePlainSets clause.sets
   pub filter : IsPlainTest clause.filter
   pub draft : Draft
   pub updated : updated_in (on_conflict (unstamped table) (small parsed.names + small []) (alone (unstamped table)) 0) (unstamped table) clause.sets
       clause.filter ≡ Ok draft
-  pub is_setter : query_of (at_rowid (small parsed.names + small []) draft) ≡ setter
-  pub setter_over : setter.from ≡ inner table.tree end
-  pub setter_fits : (accepts_after [] setter (Some (row_classes (unstamped table) ∷ [])) && (is_count [] setter.limit && is_count [] setter.offset)) ≡ true
+  pub sets : Becomes (unstamped table) (at_rowid (small parsed.names + small []) draft) setter
 
 abbrev pub upsert_of : List ℕ → Query → Upsert
 upsert_of key setter = record { target = Some key; update = Some (record { lets = []; body = setter }) }
@@ -122,30 +97,21 @@ module _ (text : List ℕ) (name : Name) (table : Table) (from : Name) (read : T
   rows_known : new_rows s (unstamped table) base u.columns (rows.Select u.select) ≡ Ok (source.Query (record { lets = []; body = body }))
   unfolding new_rows inserted selected source_of queried program
   rows_known =
-      let same = same_named s (alone read) there 0 read from stands_there.named stands_there.got u.named_alone refl _ _ u.one u.page in
-      let query = query_known s IsPlainTest from u.select u.page u.shown u.with u.others u.one (u.paged s) (same ∙ u.known) in
-      let laid : Draft = record u.shown.0 { project = u.terms; collations = u.by } in
-      let fits : accepts_program s [] (query_of laid) [] ≡ true = subst (λ q. accepts_program s [] q [] ≡ true) (sym u.is_body)
-      (accepted s body read u.over stands_there.stored stands_there.found u.fits) in
-      let is : new_rows s (unstamped table) base u.columns (rows.Select u.select) ≡ Ok (source.Query (record { lets = []; body = query_of laid })) =
-      rw (u.placed) (rw (query) (rw (u.laid_out) (rw (fits)))) in
-      is ∙ ap (λ (q : Query). Ok (source.Query (record { lets = []; body = q }))) u.is_body
+      let same = same_named s (alone read) there 0 read from stands_there.named stands_there.got u.named.0 refl _ _ u.one u.page in
+      let query = query_known s IsPlainTest from u.select u.page u.shown u.is.0 u.is.1 u.one (u.paged s) (same ∙ u.named.1) in
+      rw (u.placed.0) (rw (query) (rw (u.placed.1) (rw (fits_as s from there read stands_there _ body u.becomes) (rw (u.becomes.0)))))
 
   clause_known : upserts s at (unstamped table) base (u.clause ∷ []) ≡ Ok (upsert_of key setter ∷ [])
   unfolding upserts upsert key_meant update do_update program
   clause_known =
       let contexts = on_conflict_same (unstamped table) base s (alone (unstamped table)) at 0 stands.got refl in
       let draft = updated_same _ _ contexts (unstamped table) u.clause.sets u.clause.filter u.values u.filter ∙ u.updated in
-      let set_by = query_of (at_rowid base u.draft) in
-      let fits : accepts_program s [] set_by [] ≡ true = subst (λ q. accepts_program s [] q [] ≡ true) (sym u.is_setter)
-      (accepted s setter (unstamped table) u.setter_over stands.stored stands.found u.setter_fits) in
-      let is : upserts s at (unstamped table) base (u.clause ∷ []) ≡ Ok (upsert_of key set_by ∷ []) =
-      rw (u.aimed) (rw (u.key_is) (rw (keyed) (rw (u.sets) (rw (draft) (rw (fits)))))) in
-      is ∙ ap (λ (q : Query). Ok (upsert_of key q ∷ [])) u.is_setter
+      rw (u.aimed.0) (rw (u.aimed.1) (rw (keyed) (rw (u.aimed.2)
+      (rw (draft) (rw (fits_as s name at (unstamped table) stands _ setter u.sets) (rw (u.sets.0)))))))
 
   pub upserts_known : compiled s text ≡ Ok (with_upsert u.parsed at body (upsert_of key setter))
   unfolding compiled planned meaning timed returning command shows insert_or_abort insert_or
-  upserts_known = rw (u.is_read) (rw (u.statement) (rw (u.formats) (rw (stands.named) (rw (stands.got) (rw (rows_known) (rw (clause_known)))))))
+  upserts_known = rw (u.parses.0) (rw (u.parses.1) (rw (u.parses.2) (rw (stands.named) (rw (stands.got) (rw (rows_known) (rw (clause_known)))))))
 
 -- ---- the key
 

@@ -1,6 +1,6 @@
 -- INSERT and CREATE TABLE under any schema that has the table, or does not use its name.
-use Rattle.sql_front.proofs.Common.{◌≡◌, ℕ, ◌+◌, ◌==◌, true, false, not, ◌&&◌, Ok, List, [], length, Parsed, Schema, Table, is_used, Name}
-use Rattle.sql_front.proofs.Common.{Compiled, first, new_rows, small, is_reserved, Stands}
+use Rattle.sql_front.proofs.Common.{◌≡◌, ℕ, ◌+◌, ◌==◌, true, false, not, ◌&&◌, Ok, List, [], length, Parsed, Schema, Table, is_used, Name, Compiled, first}
+use Rattle.sql_front.proofs.Common.{new_rows, small, is_reserved, Stands, arith}
 use Rattle.sqlite_ast.specs.declared.Rows.{Rows}
 use Rattle.sqlite_ast.specs.declared.Conflict.TheVariants as conflict
 use Rattle.sqlite_ast.specs.declared.CreateTable as definition
@@ -12,7 +12,6 @@ use Rattle.sqlite_resolve.specs.Compile.{compiled, planned, meaning, timed, retu
 use Rattle.sqlite_resolve.specs.Compile.{is_attached}
 use Rattle.sql_front.proofs.Past.{unused}
 use Rattle.sql_front.proofs.Plain.{plainly}
-use Rattle.sql_front.proofs.Common.{arith}
 
 -- ---- INSERT .. VALUES
 
