@@ -1,14 +1,13 @@
 -- What foreign keys set off: their actions change tables that have some, and no others.
-use Rattle.sql_calls.proofs.Common.{◌≡◌, ◌≢◌, ℤ, ◌+◌, nat_lt, Err, MatchBool, inl, inr, ℕ, zero, suc, Bool, true, false, List, [], ◌∷◌, ◌++◌}
-use Rattle.sql_calls.proofs.Common.{Option, Some, None, Ok, refl, sym, ap, subst, filter_map, AllByRecursion, Row, Trees, Table}
-use Rattle.sql_calls.proofs.Common.{Schema, Edit, edited, Applies, Reference, ParentKey, Deed, Has, Work, pairs, work_by, work_for, works}
-use Rattle.sql_calls.proofs.Common.{End, Goes, ActsOn, Acts, Leads, AreChildren, action_edit, refuses, max_depth, all_has, all_from, HasNoForeignKey}
+use Rattle.sql_calls.proofs.Common.{◌≡◌, ◌≢◌, ℤ, ◌+◌, nat_lt, Err, MatchBool, inl, inr, ℕ, zero, suc, Bool, true, false, List, [], ◌∷◌, ◌++◌, Option, Some}
+use Rattle.sql_calls.proofs.Common.{None, Ok, refl, sym, ap, subst, filter_map, AllByRecursion, Row, Trees, Table, Schema, Edit, edited, Applies, Reference}
+use Rattle.sql_calls.proofs.Common.{ParentKey, Deed, Has, Work, pairs, work_by, work_for, works, End, Goes, ActsOn, Acts, Leads, AreChildren, action_edit}
+use Rattle.sql_calls.proofs.Common.{refuses, max_depth, all_has, all_from, HasNoForeignKey, arith}
 use Rattle.sqlite_schema.specs.declared.schema.Keys.{Keys}
 use Rattle.sqlite_schema.specs.declared.schema.Constraint.TheVariants.{ForeignKey}
 use Rattle.sqlite_rules.specs.declared.error.Refusal.TheVariants.{Violates, TooDeep}
 use Rattle.sqlite_rules.specs.Action.{Writes as Edits}
 use Rattle.sqlite_keyed.proofs.ListLemmas.{all-append, all-flat_map}
-use Rattle.sql_calls.proofs.Common.{arith}
 
 its_child : (depth tree : ℕ) (moves : List (Row × Row)) (child : Table) (ref : Reference) (deed : Option Deed) (key : Option ParentKey) (w : Work)
     → work_by depth tree moves child ref deed key ≡ Some w → w.child ≡ child
@@ -48,10 +47,6 @@ module _ (schema : Schema) (keys : Keys) where
     abbrev Keeps : (Trees → List Work → End → Type 0) → Type 0
     Keeps Then = (mid : Trees) (stack : List Work) → AllByRecursion IsOnChild stack → Then mid stack (Ok next) → next t.tree ≡ mid t.tree
 
-    edit_keeps : (Then : Trees → List Work → End → Type 0) → Keeps Then → (db : Trees) (edit : Edit) (depth : ℕ) (below : List Work)
-        → AllByRecursion IsOnChild below → t.tree ≢ edit.table.tree → Goes schema keys Then db edit depth below (Ok next) → next t.tree ≡ db t.tree
-    edit_keeps h0 more db edit depth below all other h8 = grind (arith, all_both, on_children, all_has)
-
     action_keeps : (Then : Trees → List Work → End → Type 0) → Keeps Then → (db : Trees) (below : List Work) (w : Work) → AllByRecursion IsOnChild below
         → IsOnChild w → Acts schema keys Then db w below (Ok next) → next t.tree ≡ db t.tree
     action_keeps Then more db below w all on h = deep (nat_lt w.depth max_depth) h
@@ -59,7 +54,7 @@ module _ (schema : Schema) (keys : Keys) where
         judged : (id : ℤ) (ids : List ℤ) (b : Bool) → MatchBool b (◌≡◌ {A = End} (Ok next) (Err (Some (Violates ForeignKey))))
             (Goes schema keys Then db (action_edit db w (id ∷ ids)) (w.depth + 1) below (Ok next)) → next t.tree ≡ db t.tree
         judged id ids true it = absurd cc
-        judged id ids false it = edit_keeps Then more db (action_edit db w (id ∷ ids)) (w.depth + 1) below all (apart w.child on.0 on.1) it
+        judged id ids false it = (grind (arith, all_both, on_children, all_has))
 
         found : (ids : List ℤ) → ActsOn schema keys Then db w below (Ok next) ids → next t.tree ≡ db t.tree
         found [] it = more db below all it

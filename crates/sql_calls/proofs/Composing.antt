@@ -1,6 +1,5 @@
 -- Calls in a change one after the other.
 use Rattle.sql_calls.proofs.Common.{◌≡◌, Result, Ok, IfOk, arith, Database, State, Finds, Makes}
-use Rattle.sql_calls.proofs.Common.{arith}
 
 -- by what is between them
 abbrev pub Then : {R : Type 0} → (R → R → Type 0) → (R → R → Type 0) → R → R → Type 0

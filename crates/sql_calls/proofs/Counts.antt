@@ -1,13 +1,12 @@
 -- What SELECT count(*) shows of a table.
-use Rattle.sql_calls.proofs.Common.{◌≡◌, ℕ, suc, min, pos, List, [], ◌∷◌, map, filter, flat_map, length, Some, false, refl, sym, ap, subst, ◌∙◌}
-use Rattle.sql_calls.proofs.Common.{IsPermutation, list_all, AllZip, length-map, length_permutation, Value, Null, Int, Binary, Trees, Env, lit, col}
-use Rattle.sql_calls.proofs.Common.{holds, Query, IsAnswer, Output, output, page, overlay, one_permutation, IsHeldBy}
+use Rattle.sql_calls.proofs.Common.{◌≡◌, ℕ, suc, min, pos, List, [], ◌∷◌, map, filter, flat_map, length, Some, false, refl, sym, ap, subst, ◌∙◌, IsPermutation}
+use Rattle.sql_calls.proofs.Common.{list_all, AllZip, length-map, length_permutation, Value, Null, Int, Binary, Trees, Env, lit, col, holds, Query, IsAnswer}
+use Rattle.sql_calls.proofs.Common.{Output, output, page, overlay, one_permutation, IsHeldBy, arith}
 use Rattle.sqlite_value.specs.Order.{Row}
 use Rattle.sqlite_sql.specs.Group.{Aggregate, Grouping, Summarizes, IsSummary, value_over}
 use Rattle.sqlite_sql.specs.declared.aggregate.AggregateOp.TheVariants.{CountRows}
 use Rattle.sql_calls.proofs.KeyedRows.{risen, shown_alike}
 use Rattle.sql_calls.proofs.Selects.{simple, matched, no_overlay}
-use Rattle.sql_calls.proofs.Common.{arith}
 
 abbrev counting : Aggregate
 counting = record { op = CountRows; distinct = false; collation = Binary; argument = lit Null }

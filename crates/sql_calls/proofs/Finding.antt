@@ -1,13 +1,11 @@
 -- What one statement of a change answers, and what it makes of what the change sees.
-use Rattle.sql_calls.proofs.Common.{◌≡◌, ℕ, Bool, cond, List, [], ◌∷◌, Vec, Option, Some, None, Result, Ok, Err, IfOk, subst}
-use Rattle.sql_calls.proofs.Common.{◌∙◌, arith, Global, Row, Command, Database, understood, State, IsUnchanged, Runs, Writes, EndsIn, statement_of, Fault}
-use Rattle.sql_calls.proofs.Common.{RunsText, AsksText, AsksFew, TakesFirst, TakesTo, few_of, Known, Knows, Finds, IsSeeing, Makes, HasCleanDisk}
+use Rattle.sql_calls.proofs.Common.{◌≡◌, ℕ, List, [], ◌∷◌, Vec, Option, Some, None, Result, Ok, Err, IfOk, subst, ◌∙◌, arith, Global, Row, Command, Database}
+use Rattle.sql_calls.proofs.Common.{understood, State, IsUnchanged, Runs, Writes, EndsIn, statement_of, Fault, RunsText, AsksText, AsksFew, TakesFirst, TakesTo}
+use Rattle.sql_calls.proofs.Common.{few_of, Known, Knows, Finds, Makes, HasCleanDisk}
 use Rattle.sql_calls.specs.Standing.{Wears}
 use Rattle.sqlite.specs.Effect.{Reads as Shows}
-use Rattle.sql_calls.specs.declared.fault.Fault.TheVariants.{Store}
 use Rattle.sql_calls.proofs.Framing.{took}
 use Rattle.sql_calls.proofs.Leavings.{unchanged_by, first_shown, none_shown, shows_as, runs_plain}
-use Rattle.sql_calls.proofs.Common.{arith}
 
 -- a first row, and that there are more or not, or no row
 abbrev pub ShowsFirst : Command → Database → Row → Option Row → Type 0
@@ -21,22 +19,16 @@ took_row sql params old new (Some row) k last h =
     (shown.0, shows_as sql k.command params old new k.means (row ∷ shown.0) shown.1)
 took_row sql params old new None k last h = shows_as sql k.command params old new k.means [] (none_shown sql k.command params old new k.means h)
 
-one_kept : (b : Bool) (answer : Result (Vec Row Global) Fault) (rows : Vec Row Global) → Ok rows ≡ cond b answer (Err Store) → answer ≡ Ok rows
-one_kept b answer rows e = grind arith
-
 -- few rows are all of the answer
 few_kept : (most : ℕ) (rows : Vec Row Global) (answer : Result (Vec Row Global) Fault) → Ok rows ≡ few_of most answer → answer ≡ Ok rows
-few_kept most rows answer e = grind (arith, one_kept)
+few_kept most rows answer e = grind arith
 
 module _ {R Q : Type 0} (Holds : Database → R → Type 0) (of : Q → R) (sql : List ℕ) (params : Row) (old new : State) where
-  sees_still : (now : R) → IsSeeing Holds old now → IsUnchanged old new → IsSeeing Holds new now
-  sees_still now was same = grind arith
-
   module _ {A E : Type 0} (Answer : Q → A → Type 0) (knows : Knows Holds sql) where
     -- what is unchanged, and answers by what was held
     found_by : (wears : Wears old new) (out : Result A E)
         → IfOk out (λ a. (now : Q) (holds : Holds old.now (of now)) → HasCleanDisk new → IsUnchanged old new × Answer now a) → Finds Holds of old new out Answer
-    found_by wears out each = grind (arith, sees_still)
+    found_by wears out each = grind arith
 
     pub ask_finds : (rows : Vec Row Global) → AsksText old new sql params (Ok rows) → (out : Result A E)
         → IfOk out (λ a. (db : Database) (now : Q) (holds : Holds db (of now)) → Shows (knows db (of now) holds).command db params rows.items → Answer now a)

@@ -1,11 +1,9 @@
 -- What one statement leaves of the transaction.
-use Rattle.sql_calls.proofs.Common.{◌≡◌, ℕ, true, List, [], Vec, Option, Some, None, Result, Ok, Err, sym, ap, subst, ◌∙◌, arith}
-use Rattle.sql_calls.proofs.Common.{Global, both_ways, Row, Trees, Schema, Table, Command, Tally, OnRows, AtPlace, Database}
-use Rattle.sql_calls.proofs.Common.{understood, State, HasCleanDisk, IsUnchanged, Survives, Runs, Writes, CommitsShowing, CommitsBy, statement_of}
-use Rattle.sql_calls.proofs.Common.{Fault, RunsText, AsksText, AsksFew, TakesFirst, TakesTo, few_of, Means, Known, Knows, KnowsWrite, writes_rows, IsInside}
-use Rattle.sql_calls.proofs.Common.{IsSpoiled, Opens, Spoiled, FrameTo, IsAtRest, IsRolledBack}
+use Rattle.sql_calls.proofs.Common.{◌≡◌, ℕ, true, List, [], Vec, Option, Some, None, Result, Ok, Err, sym, ap, subst, ◌∙◌, arith, Global, both_ways, Row, Trees}
+use Rattle.sql_calls.proofs.Common.{Schema, Command, Database, understood, State, HasCleanDisk, IsUnchanged, Survives, Runs, Writes, CommitsShowing, CommitsBy}
+use Rattle.sql_calls.proofs.Common.{statement_of, Fault, RunsText, AsksText, AsksFew, TakesFirst, TakesTo, few_of, Means, Known, Knows, KnowsWrite, writes_rows}
+use Rattle.sql_calls.proofs.Common.{IsInside, IsSpoiled, Opens, Spoiled, FrameTo, IsAtRest, IsRolledBack}
 use Rattle.sql_calls.specs.Standing.{Wears}
-use Rattle.sqlite.specs.declared.run.Mode.{Mode}
 use Rattle.sql_calls.proofs.Inserts.{same_value}
 use Rattle.sql_calls.proofs.Leavings.{Leaves, refused, unanswered, stays_inside, never_shows_inside, never_commits_inside, crash_kept, unchanged_by}
 use Rattle.sql_calls.proofs.Leavings.{first_unchanged, first_fails, none_shown, runs_plain}
@@ -15,15 +13,10 @@ use Rattle.sql_calls.proofs.Leavings.{first_unchanged, first_fails, none_shown, 
 pub inside : (command : Command) → writes_rows command ≡ true → stays_inside command ≡ true
 inside command rows = grind arith
 
-on_rows : (limit : Option ℕ) (mode : Mode) (params : Row) (db : Database) (command : Command) (tally : Tally) (after : Database) (t : Option Table)
-    → AtPlace (λ table. OnRows (record { limit = limit; keys = mode.keys; schema = db.schema; table = table; params = params }) mode None command db.trees) t
-    (Ok (tally, after)) → after.schema ≡ db.schema
-on_rows limit mode params db command tally after t h = grind (arith, same_value)
-
 -- a command that writes rows writes, and the schema stays
 pub wrote_rows : (old new : State) (command : Command) (text : List ℕ) (params : Row) (count : ℕ) → writes_rows command ≡ true
     → Runs old new None command text params count → Writes old new None command text params count × (new.now.schema ≡ old.now.schema)
-wrote_rows old new command text params count rows w = grind (arith, on_rows)
+wrote_rows old new command text params count rows w = grind (arith, same_value)
 
 pub is_written : (old new : State) (command : Command) (text : List ℕ) (params : Row) (count : ℕ) → writes_rows command ≡ true
     → Runs old new None command text params count → Writes old new None command text params count
@@ -33,9 +26,6 @@ is_written old new command text params count rows ran = (wrote_rows old new comm
 
 abbrev pub schema_of : Database → Schema
 schema_of d = d.schema
-
-stays_inside_it : (old new : State) → IsInside old → IsUnchanged old new → IsInside new
-stays_inside_it old new was same = grind arith
 
 module _ {R : Type 0} (Holds : Database → R → Type 0) where
   still_kept : (old new : State) (kept : R) → IsInside old → IsSpoiled Holds old kept → ((db : Trees) → new.may_leave db → old.may_leave db)
@@ -76,7 +66,7 @@ module _ {R : Type 0} (Holds : Database → R → Type 0) where
 
     reads_on : (kept : R) → Opens Holds old kept → (survives : Survives old new (CommitsShowing sql params old))
         → (Known old.now.schema sql → HasCleanDisk new → IsUnchanged old new) → Opens Holds new kept
-    reads_on kept opens survives same = grind (arith, goes_on, still_kept, shown_kept, stays_inside_it)
+    reads_on kept opens survives same = grind (arith, goes_on, still_kept, shown_kept)
 
     reads_off : (kept : R) → Opens Holds old kept → (survives : Survives old new (CommitsShowing sql params old))
         → (Known old.now.schema sql → HasCleanDisk new → Leaves old new) → Spoiled Holds new kept

@@ -1,14 +1,13 @@
 -- What INSERT .. VALUES does, for any schema.
-use Rattle.sql_calls.proofs.Common.{[], ◌∷◌, ◌≡◌, ◌⊎◌, ℕ, ◌/◌, filter_map, refl, List, length, slice_get}
-use Rattle.sql_calls.proofs.Common.{false, Option, Some, None, Ok, Err, Result, sym, ap, subst, ◌∙◌, Row, Trees, Term, Table, Schema, Enforced, Values}
-use Rattle.sql_calls.proofs.Common.{Insert, edit_of, Reference, ParentKey, Deed, work_by, works, Chosen, Tally, OnRows, Written, Task}
-use Rattle.sql_calls.proofs.Common.{stamped, Database, value_rows, State, Command, Edit, ℤ, mode_of, Writes, one_step}
+use Rattle.sql_calls.proofs.Common.{[], ◌∷◌, ◌≡◌, ◌⊎◌, ℕ, ◌/◌, filter_map, refl, List, length, slice_get, false, Option, Some, None, Ok, Err, Result, sym, ap}
+use Rattle.sql_calls.proofs.Common.{subst, ◌∙◌, Row, Trees, Term, Table, Schema, Enforced, Values, Insert, edit_of, Reference, ParentKey, Deed, work_by, works}
+use Rattle.sql_calls.proofs.Common.{Chosen, Tally, OnRows, Written, Task, stamped, Database, value_rows, State, Command, Edit, ℤ, mode_of, Writes, one_step}
+use Rattle.sql_calls.proofs.Common.{arith}
 use Rattle.sqlite_rules.specs.Action.{Writes as Edits}
 use Rattle.sqlite.specs.Rows.{Then, Gives, Edited}
 use Rattle.sqlite.specs.Does.{OnTable, WritesRows}
 use Rattle.sql_calls.proofs.Actions.{Rewritten, applied}
 use Rattle.sqlite_keyed.proofs.ListLemmas.{flat_map_none}
-use Rattle.sql_calls.proofs.Common.{arith}
 
 pub went : {B E R : Type 0} {b : B} {Stops : E → Type 0} → ((stop : E) × Stops stop × (Ok b ≡ Err stop)) ⊎ R → R
 went h = grind arith

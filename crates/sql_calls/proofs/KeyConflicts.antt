@@ -1,13 +1,11 @@
 -- Which rows meet a new one under a key of one column, where a schema has further indexes.
-use Rattle.sql_calls.proofs.Common.{◌≡◌, ◌⊎◌, ℕ, Bool, true, false, List, [], ◌∷◌, Some, refl, bytes_eq, slice_get, list_any}
-use Rattle.sql_calls.proofs.Common.{cases_Bool, eq-eqb, first_key, column, Binary, Schema, Table, Trees, Index, equal, guards, IsSound}
-use Rattle.sql_calls.proofs.Common.{conflicts, shares, Has, all-slice_get, and-true}
+use Rattle.sql_calls.proofs.Common.{◌≡◌, ◌⊎◌, ℕ, Bool, true, false, List, [], ◌∷◌, Some, refl, bytes_eq, slice_get, list_any, cases_Bool, eq-eqb, first_key}
+use Rattle.sql_calls.proofs.Common.{column, Binary, Schema, Table, Trees, Index, equal, guards, IsSound, conflicts, shares, Has, all-slice_get, and-true, arith}
 use Rattle.std.proofs.lemmas.Slice.Eq.{bytes_eq-Decides}
 use Rattle.sqlite_value.specs.Order.{Row}
 use Rattle.sqlite_keyed.proofs.ListLemmas.{any_from_none}
 use Rattle.sqlite_rules.proofs.ListLemmas.{all_from, some_from}
 use Rattle.sql_calls.specs.KeyIndexes.{ComparesBytes}
-use Rattle.sql_calls.proofs.Common.{arith}
 
 -- ---- a key of one column
 

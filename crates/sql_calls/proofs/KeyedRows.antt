@@ -1,18 +1,15 @@
 -- What the statements on one key do to a table whose rowids nobody knows.
 use Rattle.sql_calls.proofs.Common.{◌≡◌, ◌⊎◌, inl, inr, ◌≤◌, ◌<◌, ℕ, ℤ, ◌+◌, ◌+ℤ◌, pos, Bool, true, false, not, ◌||◌, ◌&&◌, cond, List, [], ◌∷◌, ◌++◌, map}
-use Rattle.sql_calls.proofs.Common.{filter, fold, refl, sym, ap, ap₂, ◌∙◌, subst, arith, Ordering, Less, Equal, Greater, true≢false, IsPermutation, IsSorted}
-use Rattle.sql_calls.proofs.Common.{AllByRecursion, list_any, is_eq, ordering_reverse, ints, or_parts, both_ways, nat_tests, IsPermutation-cons}
-use Rattle.sql_calls.proofs.Common.{IsPermutation-sym, IsPermutation-trans, IsPermutation-map, IsPermutation-to_front, list_any-IsPermutation, Value, Null}
-use Rattle.sql_calls.proofs.Common.{Int, value_cmp, value_cmp-Int, rowid, has_rowid, put_row, without_rowid, IsAscending, agree, clashes, differ, id_in}
-use Rattle.sql_calls.proofs.Common.{next_rowid, without_all, ids_of, filter_all, all_weaker, all_of, and-true, Has, IsPermutation-filter, along_permutation}
-use Rattle.sql_calls.proofs.Common.{sort_by}
-use Rattle.sql_calls.proofs.Common.{sorted_is-sort_by, AreIn, IsHeldBy}
+use Rattle.sql_calls.proofs.Common.{filter, fold, refl, sym, ap, ap₂, ◌∙◌, subst, arith, Less, Equal, Greater, IsPermutation, AllByRecursion, list_any, is_eq}
+use Rattle.sql_calls.proofs.Common.{ints, or_parts, both_ways, nat_tests, IsPermutation-cons, IsPermutation-sym, IsPermutation-trans, IsPermutation-map}
+use Rattle.sql_calls.proofs.Common.{IsPermutation-to_front, list_any-IsPermutation, Value, Null, Int, value_cmp, value_cmp-Int, rowid, has_rowid, put_row}
+use Rattle.sql_calls.proofs.Common.{without_rowid, IsAscending, agree, clashes, differ, id_in, next_rowid, without_all, ids_of, filter_all, all_weaker, all_of}
+use Rattle.sql_calls.proofs.Common.{and-true, Has, IsPermutation-filter, AreIn, IsHeldBy, all_from}
 use Rattle.sqlite_value.specs.declared.keys.Order.{Order}
 use Rattle.sqlite_value.specs.Order.{Row}
 use Rattle.sqlite_sql.specs.Ops.{binary}
-use Rattle.std.specs.Cmp.{IsTotalOrder}
-use Rattle.std.proofs.lemmas.Bool.{cond_both, false_from_ne_true}
-use Rattle.sqlite_keyed.proofs.ListLemmas.{all_both, all_map, all-filter, any_from_none, none_from_any}
+use Rattle.std.proofs.lemmas.Bool.{cond_both}
+use Rattle.sqlite_keyed.proofs.ListLemmas.{all_both, all_map, all-filter, any_from_none, none_from_any, ascending-filter}
 use Rattle.sqlite_rules.proofs.ListLemmas.{has_filtered}
 use Rattle.sqlite_trees.proofs.ListLemmas.{filter_same}
 
@@ -57,9 +54,6 @@ module _ (m : ℕ) where
   pub over : (r : Row) → IsPast m r → value_cmp (rowid r) (Int (pos m)) ≡ Greater
   over r past = rw past.2 (ids_more m past.0 past.1)
 
-  without_past : (rows : List Row) → AllByRecursion (IsPast m) rows → without_rowid (pos m) rows ≡ rows
-  without_past rows h = grind (arith, filter_all, all_weaker, past, is_eq, over)
-
   put_before : (new : Row) (rows : List Row) → rowid new ≡ Int (pos m) → AllByRecursion (IsPast m) rows → put_row new rows ≡ new ∷ rows
   put_before new [] is h = refl
   put_before new (r ∷ rows) is h = rw (is, over r h.0) refl
@@ -67,7 +61,7 @@ module _ (m : ℕ) where
   -- in the place of the first row
   pub put_first : (new r : Row) (rows : List Row) → rowid new ≡ Int (pos m) → rowid r ≡ Int (pos m) → AllByRecursion (IsPast m) rows
       → put_row new (without_rowid (pos m) (r ∷ rows)) ≡ new ∷ rows
-  put_first new r rows is same h = grind (arith, is_eq, ids_same, without_past, put_before)
+  put_first new r rows is same h = grind (arith, ids_same, filter_all, all_weaker, past, over, put_before)
 
   -- .. of a later one
   pub put_later : (n : ℕ) (new r : Row) (rows : List Row) → rowid new ≡ Int (pos m) → rowid r ≡ Int (pos n) → n < m
@@ -252,56 +246,16 @@ module _ (o : Order) (places : List ℕ) where
         are_apart h (all_weaker _ (λ row. clashes o places rows row ≡ false) (λ row c. (or_parts _ _ c).1) rows unique.1),
       )
 
-  all_passing : (P : Row → Type 0) (p : Row → Bool) (rows : List Row) → AllByRecursion (λ r. p r ≡ true → P r) rows → AllByRecursion P (filter p rows)
-  all_passing P p [] h = tt
-  all_passing P p (r ∷ rows) h = grind (arith, all_passing P p rows)
-
-  -- an order that ties no rows but those of one key
-  module _ {A : Type 0} (p : Row → Bool) (f : Row → A) (cmp : A → A → Ordering) (Fine : Row → Type 0)
-      (tie : (r s : Row) → Fine r → Fine s → p r ≡ true → p s ≡ true → is_eq (cmp (f r) (f s)) ≡ true → agree o places s places r ≡ true) where
-    pub no_ties : (rows : List Row) → AllByRecursion Fine rows → AreApart rows → IsAscending (λ a b. is_eq (cmp a b) ≡ false) (map f (filter p rows))
-    no_ties [] fine apart = tt
-    no_ties (r ∷ rows) fine apart =
-        let more = no_ties rows fine.1 apart.1 in
-        cond_both (p r) (r ∷ filter p rows) (filter p rows) (λ l. IsAscending (λ a b. is_eq (cmp a b) ≡ false) (map f l))
-        (λ e. (
-          all_map _ f _ (all_passing _ p rows (all_both Fine (λ s. agree o places s places r ≡ false) (λ s. p s ≡ true → is_eq (cmp (f r) (f s)) ≡ false)
-              (λ s good none here. false_from_ne_true _ (λ same. both_ways _ none (tie r s fine.0 good e here same))) rows fine.1 apart.0)),
-          more,
-        ))
-        (λ e. more)
-
-  at_most_one : (rows : List Row) → IsAscending (λ a b. is_eq Equal ≡ false) (map (λ (r : Row). r) rows) → (rows ≡ []) ⊎ ((found : Row) × (rows ≡ found ∷ []))
-  at_most_one [] h = inl refl
-  at_most_one (r ∷ []) h = inr (r, refl)
-  at_most_one (r ∷ s ∷ rows) h = absurd (true≢false h.0.0)
+  at_most_one : (rows : List Row) → AreApart rows → AllByRecursion (λ r. AllByRecursion (λ s. agree o places s places r ≡ true) rows) rows
+      → (rows ≡ []) ⊎ ((found : Row) × (rows ≡ found ∷ []))
+  at_most_one [] apart same = inl refl
+  at_most_one (r ∷ []) apart same = inr (r, refl)
+  at_most_one (r ∷ s ∷ rows) apart same = absurd (both_ways _ apart.0.0 same.0.1.0)
 
   pub one_at_most : (p : Row → Bool) → IsKey p o places → (rows : List Row) → AreApart rows → (filter p rows ≡ []) ⊎ ((found : Row)
       × (filter p rows ≡ found ∷ []))
-  one_at_most p key rows apart = at_most_one (filter p rows)
-      (no_ties p (λ r. r) (λ _ _. Equal) (λ _. Unit {0}) (λ r s _ _ here there _. key s r there here) rows (all_of _ (λ r. tt) rows) apart)
-
-turned_eq : (a b : Ordering) → a ≡ ordering_reverse b → is_eq b ≡ false → is_eq a ≡ false
-turned_eq a b h k = grind arith
-
-module _ {A : Type 0} (cmp : A → A → Ordering) (total : IsTotalOrder cmp) where
-  abbrev Apart : A → A → Type 0
-  Apart a b = is_eq (cmp a b) ≡ false
-
-  abbrev Carries : List A → List A → Type 0
-  Carries xs ys = (IsAscending Apart xs → IsAscending Apart ys) × ((z : A) → AllByRecursion (Apart z) xs → AllByRecursion (Apart z) ys)
-
-  pub ties_permuted : (xs ys : List A) → IsPermutation xs ys → IsAscending Apart xs → IsAscending Apart ys
-  ties_permuted xs ys h = (along_permutation Carries
-      (λ xs. (λ a. a, λ z a. a))
-      (λ x xs ys h. (λ a. (h.1 x a.0, h.0 a.1), λ z a. (a.0, h.1 z a.1)))
-      (λ x y xs. (λ a. ((turned_eq _ _ (total.antisymm y x) a.0.0, a.1.0), (a.0.1, a.1.1)), λ z a. (a.1.0, (a.0, a.1.1))))
-      (λ xs ys zs h k. (λ a. k.0 (h.0 a), λ z a. k.1 z (h.1 z a)))
-      xs ys h).0
-
-  -- what is sorted, of elements that have no ties, is the one sorted order
-  pub sorted_of : (xs ys zs : List A) → IsPermutation xs ys → IsAscending Apart ys → IsPermutation xs zs → IsSorted cmp zs → zs ≡ sort_by cmp xs
-  sorted_of xs ys zs same apart given sorted = sorted_is-sort_by cmp total xs zs (ties_permuted ys xs (IsPermutation-sym xs ys same) apart) given sorted
+  one_at_most p key rows apart = at_most_one (filter p rows) (ascending-filter _ p rows apart)
+      (all_from _ _ (λ r there. all_from _ _ (λ s here. key s r (has_filtered p rows s here).1 (has_filtered p rows r there).1)))
 
 -- ---- the row that was found
 

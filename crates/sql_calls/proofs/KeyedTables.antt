@@ -1,21 +1,19 @@
 -- What the usual statements do to a table that has a text or composite key, in contents: rows less their rowids, in any order.
-use Rattle.sql_calls.proofs.Common.{get_or, ◌≡◌, ◌⊎◌, inl, inr, ◌≤◌, ℕ, pos, Bool, true, not, List, [], ◌∷◌, map, filter, length, slice_get, Some}
-use Rattle.sql_calls.proofs.Common.{refl, sym, ap, ◌∙◌, subst, arith, IsPermutation, is_eq, length-map, IsPermutation-trans, IsPermutation-map}
-use Rattle.sql_calls.proofs.Common.{length_permutation, Null, Int, Trees, rowid, put_row, without_rowid, Table, Schema, agree, are_present, Has}
-use Rattle.sql_calls.proofs.Common.{cast_all, ids_of, agree_back, agree_chain, Given, Term, col, IsAnswer, output_cmp, page, Output}
-use Rattle.sql_calls.proofs.Common.{overlay, output_cmp_total, Database, one_permutation, sort_by, all-slice_get, map-map, plain, IsSound, all_from, has_got}
-use Rattle.sql_calls.proofs.Common.{IsHeldBy, HaveKeysApart, AreWhole, Key, id_in}
+use Rattle.sqlite_keyed.proofs.ListLemmas.{ascending_weaker, ascending-map, filter_none}
+use Rattle.sql_calls.proofs.Common.{Rise, column, suc, Binary, false, Query, Less, get_or, ◌≡◌, ◌⊎◌, inl, inr, ◌≤◌, ℕ, pos, Bool, true, not, List, [], ◌∷◌, map}
+use Rattle.sql_calls.proofs.Common.{filter, length, slice_get, Some, refl, sym, ap, ◌∙◌, subst, arith, IsPermutation, length-map, IsPermutation-trans}
+use Rattle.sql_calls.proofs.Common.{IsPermutation-map, length_permutation, Null, Int, Trees, rowid, put_row, without_rowid, Table, Schema, agree, Has, cast_all}
+use Rattle.sql_calls.proofs.Common.{ids_of, agree_back, agree_chain, Given, Term, col, IsAnswer, output_cmp, page, Output, overlay, Database, one_permutation}
+use Rattle.sql_calls.proofs.Common.{map-map, plain, IsSound, all_from, has_got, IsHeldBy, HaveKeysApart, Key, id_in}
 use Rattle.sqlite_value.specs.Order.{Row}
-use Rattle.sqlite_schema.specs.declared.schema.Constraint.TheVariants.{NotNull}
 use Rattle.sqlite_rules.specs.Edit.{edit_of, edited}
 use Rattle.sqlite_catalog.proofs.AlterLemmas.{keys_are_unique}
 use Rattle.sql_calls.proofs.KeyedRows.{IsBlind, on_content, IsKey, changed, held_added, held_seen, held_dropped, held_unchanged, held_changed, one_at_most}
-use Rattle.sql_calls.proofs.KeyedRows.{no_ties, sorted_of, are_apart, risen}
+use Rattle.sql_calls.proofs.KeyedRows.{are_apart, risen}
 use Rattle.std.proofs.lemmas.Bool.{false_from_ne_true}
-use Rattle.sqlite_keyed.proofs.ListLemmas.{filter_none}
 use Rattle.sqlite_rules.proofs.ListLemmas.{has_kept}
 use Rattle.sql_calls.proofs.NumberedRows.{cast_int, cast_null}
-use Rattle.sql_calls.proofs.Selects.{simple, passes, shown_of, simple_rows, by, shown_in, ordered_rows}
+use Rattle.sql_calls.proofs.Selects.{simple, passes, shown_of, simple_rows, by, shown_in, rises_to}
 use Rattle.sql_calls.proofs.Inserts.{Inserted, given_rows}
 use Rattle.sql_calls.proofs.Updates.{Updated, Deleted}
 
@@ -48,10 +46,6 @@ pub keys_apart : (schema : Schema) (db : Trees) (at : ℕ) (table : Table) (k : 
     → slice_get table.uniques k ≡ Some key → get_or table.orders k plain ≡ plain
     → HaveKeysApart key (db table.tree)
 keys_apart schema db at table k key sound there unique in_order = grind (arith, all_from, keys_are_unique, has_got)
-
-pub are_whole : (schema : Schema) (db : Trees) (at : ℕ) (table : Table) → IsSound schema db → slice_get schema.tables at ≡ Some table
-    → AreWhole table (db table.tree)
-are_whole schema db at table sound there = all-slice_get _ schema.tables at table there (sound.obeys.rules NotNull)
 
 module _ (schema : Schema) (table : Table) (key : List ℕ) where
   module _ (test : List Term) (params : Row) (blind : IsBlind (passes test params)) (ks : List ℕ) (keyed : (r : Row) → passes test params r ≡ true
@@ -128,33 +122,29 @@ module _ (schema : Schema) (table : Table) (key : List ℕ) where
         (IsPermutation-map (λ r. id_in (rowid r)) _ _ same) in
         subst (λ l. IsHeldBy l (filter (λ x. not (p (Null ∷ x))) wanted)) (sym u.applies.rows) (held_dropped p blind rows wanted held (ids_of u.rows) ids)
 
-    -- SELECT .. WHERE .. ORDER BY: the page of what passes, in the one order, where rows that tie have the same key
-    module _ (shows : List Term) (order : List (Term × Key)) (limit offset : Term)
-        (fair : IsBlind (shown_in (by (simple table.tree test shows) order limit offset) params))
-        (tie : (r s : Row) → are_present table.key 0 table.columns r ≡ true → are_present table.key 0 table.columns s ≡ true → passes test params r ≡ true
-        → passes test params s ≡ true
-        → is_eq (output_cmp (by (simple table.tree test shows) order limit offset) (shown_in (by (simple table.tree test shows) order limit offset) params r)
-        (shown_in (by (simple table.tree test shows) order limit offset) params s)) ≡ true
-        → agree plain key s key r ≡ true) where
-      pub reads_in_order : (db : Trees) (wanted : List Row) → HaveKeysApart key (db table.tree) → AreWhole table (db table.tree)
-          → IsHeldBy (db table.tree) wanted
-          → (rows : List Row) → IsAnswer (by (simple table.tree test shows) order limit offset) (overlay db []) params rows
-          → rows ≡ page (by (simple table.tree test shows) order limit offset) params
-          (map (λ (o : Output). o.1) (sort_by (output_cmp (by (simple table.tree test shows) order limit offset))
-          (map (on_content (shown_in (by (simple table.tree test shows) order limit offset) params)) (filter (on_content (passes test params)) wanted))))
-      reads_in_order db wanted unique whole held rows answer =
-          let q = by (simple table.tree test shows) order limit offset in
-          let p = passes test params in
-          let f = shown_in q params in
-          let it = ordered_rows table.tree test shows order limit offset params db rows answer in
-          let first = held_seen p blind f fair (db table.tree) wanted held in
-          let apart = no_ties plain key p f (output_cmp q) (λ r. are_present table.key 0 table.columns r ≡ true) tie (db table.tree) whole
-          (are_apart plain key (risen 1 _ held.order held.rising) unique) in
-          it.is ∙ ap (λ l. page q params (map (λ (o : Output). o.1) l))
-          (sorted_of (output_cmp q) (output_cmp_total q) _ _ it.ordered first apart (IsPermutation-trans _ _ _ first it.same) it.sorted)
-
   -- INSERT .. VALUES of one row, whose rowid SQLite chooses
   pub adds_row : (params : Row) (terms : List Term) (width : ℕ) (source : Row) → given_rows table params terms width ≡ (Null ∷ source) ∷ []
       → (old new : Database) (wanted : List Row) → IsHeldBy (old.trees table.tree) wanted
       → Inserted schema table (given_rows table params terms width) old new → IsHeldBy (new.trees table.tree) (cast_all table.columns source ∷ wanted)
   adds_row params terms width source one old new wanted held made = grind (arith, edited, cast_null, held_added)
+
+-- SELECT .. WHERE .. ORDER BY column LIMIT .., where the contents that pass are written in that order
+module _ (tree : ℕ) (test : List Term) (params : Row) (blind : IsBlind (passes test params)) (c : ℕ) (shows : List Term)
+    (fair : IsBlind (shown_of shows params)) (limit offset : Term) where
+  abbrev order : List (Term × Key)
+  order = (col 1 (suc c), record { descending = false; collation = Binary }) ∷ []
+
+  abbrev rising : Query
+  rising = by (simple tree test shows) order limit offset
+
+  pub reads_risen : (db : Trees) (wanted : List Row) → IsHeldBy (db tree) wanted → Rise c (filter (on_content (passes test params)) wanted)
+      → (rows : List Row) → IsAnswer rising (overlay db []) params rows
+      → rows ≡ page rising params (map (on_content (shown_of shows params)) (filter (on_content (passes test params)) wanted))
+  reads_risen db wanted held rise rows answer =
+      let f = shown_in rising params in
+      let kept = filter (on_content (passes test params)) wanted in
+      rises_to tree test shows order limit offset params db rows answer (map (on_content f) kept)
+      (held_seen (passes test params) blind f (λ id x. ap (λ (shown : Row). (column (id ∷ x) (suc c) ∷ [], shown)) (fair id x)) (db tree) wanted held)
+      (ascending-map (λ a b. output_cmp rising a b ≡ Less) (on_content f) kept
+      (ascending_weaker _ (λ a b. output_cmp rising (on_content f a) (on_content f b) ≡ Less) (λ a b less. rw less refl) kept rise))
+      ∙ ap (page rising params) (map-map (λ (o : Output). o.1) (on_content f) kept)

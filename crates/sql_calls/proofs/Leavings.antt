@@ -1,9 +1,8 @@
 -- What a statement leaves, whatever the database holds.
 use Rattle.sql_calls.proofs.Common.{◌≡◌, ◌⊎◌, inl, inr, ℕ, Bool, true, false, List, [], ◌∷◌, Option, Some, None, Ok, Err, IsTrue, refl, sym, ap, subst, ◌∙◌}
-use Rattle.sql_calls.proofs.Common.{slice_get, cases_Bool, both_ways, Row, Trees, Command, Begin, Commit, Rollback, Release, understood}
-use Rattle.sql_calls.proofs.Common.{Database, RefusesToRead, State, HasCleanDisk, IsUnchanged, IsRolledBack, Survives, Executes, IsNoStatement, RunsCommand}
-use Rattle.sql_calls.proofs.Common.{Runs, FailsToShow, MayCommit, store_error, EndsIn, command_of, statement_of, runs_as}
-use Rattle.sql_calls.proofs.Common.{reads_as, begins_shown, Means}
+use Rattle.sql_calls.proofs.Common.{slice_get, cases_Bool, both_ways, Row, Trees, Command, Begin, Commit, Rollback, Release, understood, Database}
+use Rattle.sql_calls.proofs.Common.{RefusesToRead, State, HasCleanDisk, IsUnchanged, IsRolledBack, Survives, Executes, RunsCommand, Runs, FailsToShow}
+use Rattle.sql_calls.proofs.Common.{store_error, EndsIn, command_of, statement_of, runs_as, reads_as, begins_shown, Means, arith}
 use Rattle.sqlite.specs.declared.error.Error.{Error}
 use Rattle.sqlite.specs.declared.error.Error.TheVariants.{QueryReturnedNoRows}
 use Rattle.sqlite_trees.specs.declared.error.StoreError.{StoreError}
@@ -11,7 +10,6 @@ use Rattle.sqlite_resolve.specs.declared.compiled.Compiled.{Compiled}
 use Rattle.sqlite_schema.specs.declared.command.Returning.{Returning}
 use Rattle.sqlite.specs.Effect.{Reads as Shows}
 use Rattle.sqlite.specs.State.{ExecutesIn, IsNotRun, FailsToQuery, Shown, Begins, QueriesRow, CommitsShowing, CommitsBy}
-use Rattle.sql_calls.proofs.Common.{arith}
 
 -- nothing changed, or the transaction is undone
 abbrev pub Leaves : State → State → Type 0
@@ -46,18 +44,11 @@ stays_inside Commit = false
 stays_inside (Release name) = false
 stays_inside _ = true
 
-no_commit : (s : State) (c : Compiled) (text : List ℕ) (params : Row) (db : Trees) → s.in_transaction ≡ true → stays_inside c.command ≡ true
-    → ¬ MayCommit s c.returning c.command text params db
-no_commit s c text params db inside stays h = grind arith
-
 -- a command that writes nothing
 abbrev pub is_idle : Command → Bool
 is_idle Begin = true
 is_idle Rollback = true
 is_idle _ = false
-
-idle_commits : (s : State) (command : Command) (text : List ℕ) (params : Row) (db : Trees) → is_idle command ≡ true → ¬ MayCommit s None command text params db
-idle_commits s command text params db idle h = grind arith
 
 pub never_shows_inside : (sql : List ℕ) (params : Row) (s : State) (db : Trees) → s.in_transaction ≡ true → ¬ CommitsShowing sql params s db
 unfolding CommitsShowing
@@ -77,7 +68,7 @@ IsSettled s = (db : Trees) → IsTrue s.is_open → s.may_leave db → db ≡ s.
 module _ (sql : List ℕ) (command : Command) (params : Row) (old new : State) (means : Means old.now.schema sql command) where
   pub never_commits_inside : (db : Trees) → old.in_transaction ≡ true → stays_inside command ≡ true → ¬ CommitsBy sql params old db
   unfolding CommitsBy
-  never_commits_inside db inside stays h = grind (arith, no_commit)
+  never_commits_inside db inside stays h = grind arith
 
   pub unchanged_by : (rows : List Row) → Shown sql params old new rows → IsUnchanged old new
   unfolding Shown
@@ -117,12 +108,9 @@ module _ (sql : List ℕ) (command : Command) (params : Row) (old new : State) (
   is_named : (cause : StoreError) → ¬ (QueryReturnedNoRows ≡ store_error cause)
   is_named cause e = grind arith
 
-  has_statement : ¬ IsNoStatement old sql params QueryReturnedNoRows
-  has_statement h = grind arith
-
   is_run : ¬ IsNotRun old new sql params QueryReturnedNoRows
   unfolding IsNotRun
-  is_run h0 = grind (arith, has_statement, is_named)
+  is_run h0 = grind (arith, is_named)
 
   is_read : (limit : Option ℕ) (k : Command) (db : Database) (given : Row) → ¬ RefusesToRead limit k db given QueryReturnedNoRows
   is_read limit k db given h = grind arith
@@ -143,4 +131,4 @@ module _ (sql : List ℕ) (command : Command) (params : Row) (old new : State) (
 module _ (sql : List ℕ) (command : Command) (old new : State) (means : Means old.now.schema sql command) where
   pub never_commits_idle : (db : Trees) → is_idle command ≡ true → ¬ CommitsBy sql [] old db
   unfolding CommitsBy
-  never_commits_idle db idle h = grind (arith, idle_commits)
+  never_commits_idle db idle h = grind arith

@@ -13,7 +13,6 @@ pub mod Upserts
 pub mod KeyedRows
 pub mod NumberedRows
 pub mod KeyedTables
-pub mod KeyedOrder
 pub mod NumberedTables
 pub mod NumberedWithin
 pub mod Counts

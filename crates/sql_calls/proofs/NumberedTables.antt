@@ -1,23 +1,20 @@
 -- A table whose k-th row has number k, with any UNIQUE and any index.
-use Rattle.sql_calls.proofs.Common.{◌≡◌, ◌<◌, ℕ, zero, suc, ◌+◌, pos, List, [], ◌∷◌, ◌++◌, length, map, filter, take, set, slice_get, Bool, true, false}
-use Rattle.sql_calls.proofs.Common.{Option, Some, option_map, refl, ap, ap₂, subst, ◌∙◌, arith, Ordering, Less, IsPermutation, AllByRecursion}
-use Rattle.sql_calls.proofs.Common.{is_eq, Value, Null, Int, value_cmp, rowid, put_row, without_rowid, IsAscending, Trees, Binary, Schema}
-use Rattle.sql_calls.proofs.Common.{Table, cast_all, Term, col, lit, Query, Output, output_cmp, page, IsAnswer, overlay, Database, one_permutation}
-use Rattle.sql_calls.proofs.Common.{output_cmp_total, all_of, filter_all, map-map, sorted_unique}
-use Rattle.sql_calls.proofs.Common.{rows_from}
+use Rattle.sql_calls.proofs.Common.{sym, ◌≡◌, ◌<◌, ℕ, zero, suc, ◌+◌, pos, List, [], ◌∷◌, ◌++◌, length, map, filter, take, set, slice_get, Bool, true, false}
+use Rattle.sql_calls.proofs.Common.{Option, Some, option_map, refl, ap, ap₂, subst, ◌∙◌, arith, Ordering, Less, IsPermutation, AllByRecursion, is_eq, Value}
+use Rattle.sql_calls.proofs.Common.{Null, Int, value_cmp, rowid, put_row, without_rowid, IsAscending, Trees, Binary, Schema, Table, cast_all, Term, col, lit}
+use Rattle.sql_calls.proofs.Common.{Query, Output, output_cmp, page, IsAnswer, overlay, Database, one_permutation, all_of, filter_all, map-map, rows_from}
+use Rattle.sql_calls.proofs.Common.{IsPermutation-map, IsPermutation-sym}
 use Rattle.sql_calls.proofs.KeyedRows.{ids_less, ids_same, IsPast, over, put_first, put_later}
-use Rattle.sqlite_keyed.proofs.ListLemmas.{filter_none, all_weaker}
+use Rattle.sqlite_keyed.proofs.ListLemmas.{filter_none, all_weaker, ascending-filter, ascending-map}
 use Rattle.std.specs.Option.{option_to_list}
 use Rattle.sqlite_value.specs.Order.{Row}
-use Rattle.sql_calls.proofs.Selects.{simple, by, passes, shown_of, shown_in, simple_rows, ordered_rows}
+use Rattle.sql_calls.proofs.Selects.{simple, by, passes, shown_of, shown_in, simple_rows, rises_to}
 use Rattle.sql_calls.proofs.Updates.{Updated}
 use Rattle.sql_calls.proofs.KeyedTables.{written, one_written}
 use Rattle.std.specs.Prelude.{reverse}
 use Rattle.std.proofs.lemmas.Grind.{reverse_onto}
 use Rattle.std.proofs.lemmas.List.Sorted.{IsPermutation-refl, IsPermutation-reverse}
-use Rattle.sqlite_keyed.proofs.ListLemmas.{ascending-filter, ascending-map}
 use Rattle.sqlite_exec.proofs.ScanLemmas.{ascending-reverse}
-use Rattle.sql_calls.proofs.Common.{IsPermutation-trans, IsPermutation-map, IsPermutation-sym}
 
 module _ {X : Type 0} (f : ℕ → X → Row) (ids : (n : ℕ) (x : X) → rowid (f n x) ≡ Int (pos n)) where
   abbrev pub has_number : ℕ → Row → Bool
@@ -129,12 +126,10 @@ module _ {X : Type 0} (f : ℕ → X → Row) (ids : (n : ℕ) (x : X) → rowid
           → IsPermutation (passing xs) kept → IsAscending (λ r s. output_cmp q (show r) (show s) ≡ Less) kept
           → rows ≡ page q params (map (shown_of shows params) kept)
       in_order db xs was rows answer kept same up =
-          let it = ordered_rows tree test shows ((col 1 0, record { descending = falling; collation = Binary }) ∷ []) limit offset params db rows answer in
-          let all = subst (λ l. IsPermutation (map show (filter (passes test params) l)) it.ordered) was it.same in
-          it.is ∙ ap (λ l. page q params (map (λ (o : Output). o.1) l))
-          (sorted_unique (output_cmp q) (output_cmp_total q) (map show kept) it.ordered (ascending-map (λ a b. output_cmp q a b ≡ Less) show kept up)
-          (IsPermutation-trans _ _ _ (IsPermutation-map show _ _ (IsPermutation-sym _ _ same)) all) it.sorted)
-          ∙ ap (page q params) (map-map (λ (o : Output). o.1) show kept)
+          rises_to tree test shows ((col 1 0, record { descending = falling; collation = Binary }) ∷ []) limit offset params db rows answer (map show kept)
+          (subst (λ l. IsPermutation (map show kept) (map show (filter (passes test params) l))) (sym was)
+          (IsPermutation-map show _ _ (IsPermutation-sym _ _ same)))
+          (ascending-map (λ a b. output_cmp q a b ≡ Less) show kept up) ∙ ap (page q params) (map-map (λ (o : Output). o.1) show kept)
 
     below : (m n : ℕ) (x y : X) → m < n → output_cmp (q false) (show false (f m x)) (show false (f n y)) ≡ Less
     below m n x y h = rw (ids m x, ids n y, ids_less m n h) refl

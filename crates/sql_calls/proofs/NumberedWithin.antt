@@ -1,5 +1,5 @@
 -- What a SELECT over a table whose k-th row has number k shows, where WHERE asks whether a second table has a row.
-use Rattle.sql_calls.proofs.Common.{◌≡◌, ◌<◌, ℕ, suc, min, pos, List, [], ◌∷◌, ◌++◌, length, map, filter, flat_map, Bool, true, false, cond, ◌||◌, refl}
+use Rattle.sql_calls.proofs.Common.{◌≡◌, ◌<◌, ℕ, min, pos, List, [], ◌∷◌, length, map, filter, flat_map, Bool, false, cond, ◌||◌, refl}
 use Rattle.sql_calls.proofs.Common.{sym, ap, ap₂, subst, ◌∙◌, arith, Less, IsPermutation, list_all, list_any, list_any-IsPermutation, Int, rowid, Trees, Term}
 use Rattle.sql_calls.proofs.Common.{Env, eval_all, holds, Query, Output, inner, counted, end, output, output_cmp, page, IsAnswer, overlay, is_true}
 use Rattle.sql_calls.proofs.Common.{output_cmp_total, sorted_unique, map-map, IsHeldBy, rows_from}
@@ -21,10 +21,7 @@ is_beside inside params r g = list_all (holds (params ∷ r ∷ g ∷ [])) insid
 pub counts_any : (inside : List Term) (params r : Row) (rows : List Row) → is_true (Int (pos (min 1 (length (beside inside params r rows)))))
     ≡ list_any (is_beside inside params r) rows
 counts_any inside params r [] = refl
-counts_any inside params r (g ∷ rows) =
-    let one : min 1 (suc (length (beside inside params r rows))) ≡ 1 = omega arith in
-    elim (is_beside inside params r g) as (λ b. is_true (Int (pos (min 1 (length (cond b ((params ∷ r ∷ g ∷ []) ∷ []) [] ++ beside inside params r rows)))))
-    ≡ (b || list_any (is_beside inside params r) rows)) [ true ↦ ap (λ m. is_true (Int (pos m))) one | false ↦ counts_any inside params r rows ]
+counts_any inside params r (g ∷ rows) = grind (arith, counts_any inside params r rows, length, is_true, cond, false)
 
 -- of a test that doesn't see the rowid
 module _ (p : Row → Bool) (blind : IsBlind p) where

@@ -1,7 +1,6 @@
 -- Trees list one schema alone.
-use Rattle.sql_calls.proofs.Common.{◌≡◌, true, false, filter, slice_get, Some, List, [], ◌∷◌, Ok, sym, ap, subst, ◌∙◌, arith, AllZip, Value}
-use Rattle.sql_calls.proofs.Common.{Null, Int, Real, Text, Blob, Trees, Schema, Table, Index, IsAscending, IsSound, IsTableRow, IsIndexRow, IsDefined}
-use Rattle.sql_calls.proofs.Common.{automatic, is_index_row}
+use Rattle.sql_calls.proofs.Common.{◌≡◌, true, false, filter, slice_get, Some, List, [], ◌∷◌, Ok, sym, ap, subst, ◌∙◌, arith, AllZip, Value, Null, Int, Real}
+use Rattle.sql_calls.proofs.Common.{Text, Blob, Trees, Schema, Table, Index, IsAscending, IsSound, IsTableRow, IsIndexRow, IsDefined, automatic, is_index_row}
 use Rattle.sqlite_value.specs.Order.{Row}
 use Rattle.sqlite_schema.specs.Names.{same_name}
 use Rattle.sqlite_trees.specs.Objects.{catalog_tree}

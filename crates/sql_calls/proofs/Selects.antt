@@ -1,10 +1,10 @@
 -- What a query over one table answers, for any schema.
-use Rattle.sql_calls.proofs.Common.{[], ◌≡◌, ℕ, ◌-◌, ◌^◌, pos, negsuc, List, ◌∷◌, map, slice_get, flat_map, filter, Bool, true, false, cond, None, refl}
-use Rattle.sql_calls.proofs.Common.{sym, ap, subst, ◌∙◌, nat_le, unwrap_or, list_all, IsPermutation-map, Row, Trees, Term, Env, lit, eval_all, holds, Query}
-use Rattle.sql_calls.proofs.Common.{inner, end, IsAnswer, output, output_cmp, page, Output, overlay, shown, Key, map-map}
+use Rattle.sql_calls.proofs.Common.{IsAscending, Less, sorted_unique, output_cmp_total, IsPermutation-trans, [], ◌≡◌, ℕ, ◌-◌, ◌^◌, pos, negsuc, List, ◌∷◌, map}
+use Rattle.sql_calls.proofs.Common.{slice_get, flat_map, filter, Bool, true, false, cond, None, refl, sym, ap, subst, ◌∙◌, nat_le, unwrap_or, list_all}
+use Rattle.sql_calls.proofs.Common.{IsPermutation-map, Row, Trees, Term, Env, lit, eval_all, holds, Query, inner, end, IsAnswer, output, output_cmp, page}
+use Rattle.sql_calls.proofs.Common.{Output, overlay, shown, Key, map-map, arith}
 use Rattle.std.specs.List.Sorted.{IsPermutation, IsSorted}
 use Rattle.sqlite.specs.declared.types.Value.TheVariants.{Int}
-use Rattle.sql_calls.proofs.Common.{arith}
 
 -- SELECT project FROM table WHERE filter
 abbrev pub simple : ℕ → List Term → List Term → Query
@@ -61,6 +61,18 @@ ordered_rows tree test shown order limit offset params db rows a =
     let kept : a.kept ≡ map (shown_in q params) (filter (passes test params) (db tree)) = a.distinct ∙ ap (map (output q)) staged
     ∙ outputs_in q test params (db tree) in
     record { ordered = a.ordered; same = subst (λ xs. IsPermutation xs a.ordered) kept a.same; sorted = a.sorted; is = a.shown }
+
+-- where what passes rises as the query shows it, the rows come so
+pub rises_to : (tree : ℕ) (test shown : List Term) (order : List (Term × Key)) (limit offset : Term) (params : Row) (db : Trees) (rows : List Row)
+    → IsAnswer (by (simple tree test shown) order limit offset) (overlay db []) params rows → (wanted : List Output)
+    → IsPermutation wanted (map (shown_in (by (simple tree test shown) order limit offset) params) (filter (passes test params) (db tree)))
+    → IsAscending (λ a b. output_cmp (by (simple tree test shown) order limit offset) a b ≡ Less) wanted
+    → rows ≡ page (by (simple tree test shown) order limit offset) params (map (λ o. o.1) wanted)
+rises_to tree test shown order limit offset params db rows answer wanted same up =
+    let q = by (simple tree test shown) order limit offset in
+    let it = ordered_rows tree test shown order limit offset params db rows answer in
+    it.is ∙ ap (λ l. page q params (map (λ (o : Output). o.1) l))
+    (sorted_unique (output_cmp q) (output_cmp_total q) wanted it.ordered up (IsPermutation-trans _ _ _ same it.same) it.sorted)
 
 -- ---- in no order
 

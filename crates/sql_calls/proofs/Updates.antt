@@ -1,10 +1,8 @@
 -- What UPDATE and DELETE do to a table that has no foreign key, for any schema, whatever foreign keys refer to the table.
 use Rattle.sql_calls.proofs.Common.{[], ◌≡◌, ℕ, List, slice_get, Option, Some, None, Ok, sym, subst, Row, Trees, Table, Schema, Enforced, Program, Update}
-use Rattle.sql_calls.proofs.Common.{Delete, edit_of, ids_of, Given, Written, Database, Answers, State}
-use Rattle.sql_calls.proofs.Common.{Writes, has_got, HasNoForeignKey}
+use Rattle.sql_calls.proofs.Common.{Delete, edit_of, ids_of, Given, Written, Database, Answers, State, Writes, has_got, HasNoForeignKey, refl, Edit, taken_by}
 use Rattle.sqlite_rules.specs.Action.{Writes as Edits}
 use Rattle.sqlite.specs.Rows.{Then, Gives, Edited, Queried}
-use Rattle.sql_calls.proofs.Common.{refl, Edit, taken_by}
 use Rattle.sql_calls.proofs.Actions.{Rewritten, rewritten}
 use Rattle.sql_calls.proofs.Inserts.{went, edits_to, writes_at}
 

@@ -1,14 +1,12 @@
 -- What INSERT .. VALUES of one row with one clause ON CONFLICT does to a table that has no foreign key, for any schema.
-use Rattle.sql_calls.proofs.Common.{[], ◌≡◌, ◌≢◌, ◌⊎◌, ℕ, List, ◌∷◌, ◌++◌, Option, Some, None, Ok, ap, AllByRecursion}
-use Rattle.sql_calls.proofs.Common.{all_of, Row, Trees, Table, Schema, Enforced, Program, edit_of, Applies, ids_of, Given}
-use Rattle.sql_calls.proofs.Common.{Written, Task, shown, rowid, AreConflicts, Upsert, Abort}
-use Rattle.sql_calls.proofs.Common.{Answers, one_step, Has, all_has, all_from, HasNoForeignKey}
+use Rattle.sql_calls.proofs.Common.{[], ◌≡◌, ◌⊎◌, ℕ, List, ◌∷◌, ◌++◌, Option, Some, None, Ok, ap, Row, Trees, Table, Schema, Enforced, Program, edit_of}
+use Rattle.sql_calls.proofs.Common.{Applies, ids_of, Given, Written, Task, shown, rowid, AreConflicts, Upsert, Abort, Answers, one_step, Has, HasNoForeignKey}
+use Rattle.sql_calls.proofs.Common.{arith}
 use Rattle.sqlite.specs.Rows as rows
 use Rattle.sqlite_rules.specs.declared.error.Refusal.{Refusal}
 use Rattle.sql_calls.proofs.Actions.{Rewritten, rewritten}
 use Rattle.sql_calls.proofs.Inserts.{same_value, no_works, uncounted, edits_to}
 use Rattle.sql_calls.proofs.Updates.{edited_by}
-use Rattle.sql_calls.proofs.Common.{arith}
 
 abbrev pub Resolved : Schema → Table → Row → Option Program → Row → Row → Trees → Trees → Type 0
 Resolved schema table params None there new db next = next ≡ db
@@ -39,11 +37,6 @@ module _ (limit : Option ℕ) (schema : Schema) (bare : Table) (params : Row) (t
       let edit = edit_of db table [] Given 0 (new ∷ []) in
       one_step schema Enforced db w.trees edit (no_works schema table.tree edit.news) (edits_to schema db edit _ _ w h)
 
-  cleared : (new : Row) (w : Written) (found : List Row) → rows.Clears task Abort new db found (Ok w)
-      → Applies schema Enforced db (edit_of db table [] Given 0 (new ∷ [])) w.trees
-  cleared new w [] h = put_in new w h
-  cleared new w (x ∷ more) h = put_in new w h
-
   resolved : (new there : Row) (w : Written) (u : Option Program) → rows.Resolves task new db there u (Ok w)
       → Resolved schema table params u there new db w.trees
   resolved new there w None h = ap (λ (it : Written). it.trees) (same_value h)
@@ -54,7 +47,7 @@ module _ (limit : Option ℕ) (schema : Schema) (bare : Table) (params : Row) (t
 
   met : (new : Row) (w : Written) (found : List Row) → AreConflicts target schema.indexes table (db table.tree) new found
       → rows.Meets task (rows.Upserts task Abort new db []) new db clause found (Ok w) → Puts schema table params target update new db w.trees
-  met new w found conflicts h = grind (arith, cleared, resolved)
+  met new w found conflicts h = grind (arith, put_in, resolved)
 
   judged : (new : Row) (w : Written) (verdict : Option Refusal) → rows.Judged task Abort (clause ∷ []) new db verdict (Ok w)
       → Puts schema table params target update new db w.trees
@@ -63,8 +56,3 @@ module _ (limit : Option ℕ) (schema : Schema) (bare : Table) (params : Row) (t
 
   pub tried : (new : Row) (w : Written) → rows.Tries task Abort (clause ∷ []) new db (Ok w) → Puts schema table params target update new db w.trees
   tried new w h2 = grind (arith, judged)
-
-pub upserted_keeps : (schema : Schema) (table : Table) (params : Row) (target : Option (List ℕ)) (update : Option Program) (new : Row) (db next : Trees)
-    → Puts schema table params target update new db next
-    → AllByRecursion (λ (s : Table). HasNoForeignKey schema s.tree → s.tree ≢ table.tree → next s.tree ≡ db s.tree) schema.tables
-upserted_keeps schema it_ params target update new db next h = grind (arith, all_from, all_has, all_of)

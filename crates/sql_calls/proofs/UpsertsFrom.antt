@@ -1,14 +1,12 @@
 -- What INSERT of a query's rows with one clause ON CONFLICT does to a table that has no foreign key, for any schema: the rows are put one after the other.
-use Rattle.sql_calls.proofs.Common.{[], ◌≡◌, ◌≢◌, ℕ, ℤ, List, ◌∷◌, slice_get, Option, Some, None, Ok, sym, ap, subst, Row, Key, Term, IsAnswer, Trees}
-use Rattle.sql_calls.proofs.Common.{Table, Schema, Enforced, Program, Source, InsertOr, Chosen, Written, Task, shown, stamped, cast_row}
-use Rattle.sql_calls.proofs.Common.{with_rowid, Upsert, Abort, Database, IsSource, State, Writes, Has, all_has, has_got, HasNoForeignKey}
+use Rattle.sql_calls.proofs.Common.{all_from, [], ◌≡◌, ◌≢◌, ℕ, ℤ, List, ◌∷◌, slice_get, Option, Some, None, Ok, sym, ap, subst, Row, Key, Term, IsAnswer, Trees}
+use Rattle.sql_calls.proofs.Common.{Table, Schema, Enforced, Program, Source, InsertOr, Chosen, Written, Task, shown, stamped, cast_row, with_rowid, Upsert}
+use Rattle.sql_calls.proofs.Common.{Abort, Database, IsSource, State, Writes, Has, all_has, has_got, HasNoForeignKey, refl, arith}
 use Rattle.sqlite_value.specs.declared.keys.Collation.{Collation}
 use Rattle.sql_calls.proofs.Selects.{by, simple}
 use Rattle.sqlite.specs.Rows as rows
 use Rattle.sql_calls.proofs.Inserts.{went, same_value, uncounted, writes_at}
-use Rattle.sql_calls.proofs.Common.{refl}
-use Rattle.sql_calls.proofs.Upserts.{Puts, tried, upserted_keeps}
-use Rattle.sql_calls.proofs.Common.{arith}
+use Rattle.sql_calls.proofs.Upserts.{Puts, tried}
 
 -- one after the other
 abbrev pub PutsEach : Schema → Table → Row → Option (List ℕ) → Option Program → List Row → Trees → Trees → Type 0
@@ -71,7 +69,7 @@ pub each_keeps : (schema : Schema) (table : Table) (params : Row) (target : Opti
     → (s : Table) → Has schema.tables s → HasNoForeignKey schema s.tree → s.tree ≢ table.tree → next s.tree ≡ db s.tree
 each_keeps schema it_ params target update [] db next each s there free apart = ap (λ (d : Trees). d s.tree) each
 each_keeps schema it_ params target update (source ∷ more) db next each s there free apart =
-    grind (arith, each_keeps schema it_ params target update more each.0 next each.2 s there free apart, upserted_keeps, all_has)
+    grind (arith, each_keeps schema it_ params target update more each.0 next each.2 s there free apart, schema, update, each, all_from, all_has)
 
 -- ---- the source
 
