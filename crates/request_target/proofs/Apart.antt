@@ -1,22 +1,16 @@
 -- A path meets one route at most.
-use Rattle.request_target.proofs.Common.{◌≡◌, ◌⊎◌, inl, inr, ℕ, List, [], ◌∷◌, drop, Bool, true, false, not, cond, ◌&&◌, ◌==◌, Option, Some, None, refl, sym}
+use Rattle.request_target.proofs.Common.{◌≡◌, ◌⊎◌, inl, inr, ℕ, List, [], ◌∷◌, drop, Bool, true, false, not, cond, ◌&&◌, ◌==◌, Some, None, refl, sym}
 use Rattle.request_target.proofs.Common.{◌∙◌, ap, arith, false≢true, eqb-true, nat_tests, RowsOf, first, apart, apart_from, all_apart, all_plain}
 use Rattle.request_target.proofs.Meets.{segment_len, is_empty, begins, meets, met_row, all_bytes, In}
 use Rattle.request_target.proofs.Longest.{both}
-use Rattle.request_target.proofs.Found.{Found, first_found}
+use Rattle.request_target.proofs.Found.{first_found}
 
 -- a pattern with a token meets no empty path
 not_empty : (x : ℕ) (t path : List ℕ) → is_empty path ≡ true → meets (x ∷ t) path ≡ true → ⊥
-not_empty x t [] e m = by (x == 256) m
-  where
-    by : (v : Bool) → cond v false false ≡ true → ⊥
-    by true h = false≢true h
-    by false h = false≢true h
-not_empty x t (b ∷ path) e m = false≢true e
+not_empty x t path e m = grind (arith, cond, false, false≢true, e)
 
 begins_one : (x y : ℕ) (path : List ℕ) → begins x path ≡ true → begins y path ≡ true → x ≡ y
-begins_one x y [] p q = absurd (false≢true p)
-begins_one x y (b ∷ path) p q = eqb-true x b p ∙ sym (eqb-true y b q)
+begins_one x y path p q = grind (arith, false≢true, eqb-true)
 
 pub not_both : (t u path : List ℕ) → apart t u ≡ true → meets t path ≡ true → meets u path ≡ true → ⊥
 not_both [] [] path h m n = false≢true h
@@ -84,11 +78,7 @@ none_is {K} ((u, l) ∷ rest) path none = by (meets u path) refl (none_is rest p
     by true e later = absurd (none u l (inl (refl, refl)) e)
     by false e later = later
 
-of_found : {K : Type 0} (rs : RowsOf K) (path : List ℕ) (o : Option K) → all_apart rs ≡ true → Found (λ t. meets t path) rs o → o ≡ met_row rs path
-of_found rs path (Some k) h (t, at, m) = met_is rs path t k h at m
-of_found rs path None h none = none_is rs path none
-
 -- a router's answer, by the patterns alone
 pub first_is : {K : Type 0} (rs : RowsOf K) (path : List ℕ) → all_bytes path ≡ true → all_plain rs ≡ true → all_apart rs ≡ true → first rs path
     ≡ met_row rs path
-first_is rs path bytes plain apart = of_found rs path (first rs path) apart (first_found rs path bytes plain)
+first_is rs path bytes plain apart = grind (arith, met_is, none_is, first_found, plain)

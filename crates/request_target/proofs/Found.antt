@@ -1,7 +1,7 @@
 -- What a walk finds is a row that the path meets.
 use Rattle.request_target.proofs.Common.{◌≡◌, ◌<◌, ◌≤◌, inl, inr, ℕ, zero, suc, ◌-◌, List, [], ◌∷◌, length, drop, Bool, true, false, cond, ◌&&◌, ◌==◌, ltb}
 use Rattle.request_target.proofs.Common.{Option, Some, None, refl, sym, ◌∙◌, ap, arith, subst, get_or, false≢true, eqb-true, ltb-true, lt-ltb, nat_tests}
-use Rattle.request_target.proofs.Common.{RowsOf, own, step, or_else, has_slash, with_suffix, param_step, first, is_plain, opens, all_plain}
+use Rattle.request_target.proofs.Common.{RowsOf, own, step, or_else, has_slash, with_suffix, param_step, first, is_plain, all_plain}
 use Rattle.matchit.specs.Seek.{seek}
 use Rattle.request_target.proofs.Meets.{all_bytes, segment_len, meets, all_open, some_goes_on, In}
 use Rattle.std.proofs.Math.Seq.{drop-length}
@@ -11,21 +11,16 @@ use Rattle.request_target.proofs.Rows.{in_step, in_stepped, in_own, not_own}
 use Rattle.request_target.proofs.Param.{param_none, param_slash, seek_of_none, seek_drop}
 
 both_true : (a b : Bool) → a ≡ true → b ≡ true → (a && b) ≡ true
-both_true true b p q = q
-both_true false b p q = absurd (false≢true p)
+both_true a b p q = grind (arith, false≢true)
 
 -- the answer is a row that the path meets, or none does
 abbrev pub Found : {K : Type 0} → (List ℕ → Bool) → RowsOf K → Option K → Type 0
 Found {K} met rs (Some k) = (t : List ℕ) × In t k rs × (met t ≡ true)
 Found {K} met rs None = (t : List ℕ) (k : K) → In t k rs → met t ≡ true → ⊥
 
-cond_none : (v : Bool) → cond v false false ≡ false
-cond_none true = refl
-cond_none false = refl
-
 none_own : {K : Type 0} (rs : RowsOf K) → own rs ≡ None → (t : List ℕ) (k : K) → In t k rs → meets t [] ≡ true → ⊥
 none_own rs e [] k h m = not_own k rs e h
-none_own rs e (x ∷ u) k h m = false≢true (sym (cond_none (x == 256)) ∙ m)
+none_own rs e (x ∷ u) k h m = grind (arith, false≢true)
 
 none_byte : {K : Type 0} (rs : RowsOf K) (b : ℕ) (p : List ℕ) → Found (λ t. meets t p) (step b rs) None
     → Found (λ t. meets (256 ∷ t) (b ∷ p)) (step 256 rs) None → (t : List ℕ) (k : K) → In t k rs → meets t (b ∷ p) ≡ true → ⊥
@@ -42,8 +37,7 @@ none_byte {K} rs b p none after (x ∷ u) k h m = by (x == 256) refl
         none u k (in_step b u k rs (rw is at h)) parts.1
 
 pub found_own : {K : Type 0} (rs : RowsOf K) (o : Option K) → own rs ≡ o → Found (λ t. meets t []) rs o
-found_own rs (Some k) e = ([], in_own k rs e, refl)
-found_own rs None e = none_own rs e
+found_own rs o e = grind (arith, in_own, e, none_own)
 
 -- three ways on from a byte
 pub found_byte : {K : Type 0} (rs : RowsOf K) (b : ℕ) (p : List ℕ) (bytes later : Option K) → b < 256
@@ -88,8 +82,7 @@ suffix_in t k ((y ∷ u, l) ∷ rest) opened h =
     elim found [ inl e ↦ inl e | inr later ↦ inr (suffix_in t k rest parts.1 later) ]
 
 pub found_same : {K : Type 0} (m n : List ℕ → Bool) → ((t : List ℕ) → m t ≡ n t) → (rs : RowsOf K) (o : Option K) → Found m rs o → Found n rs o
-found_same m n is rs (Some k) (t, at, met) = (t, at, sym (is t) ∙ met)
-found_same m n is rs None none = λ t k h met. none t k h (is t ∙ met)
+found_same m n is rs o none = grind arith
 
 -- a parameter that takes the rest of the path
 pub found_last : {K : Type 0} (rs : RowsOf K) (b : ℕ) (p : List ℕ) → all_open rs ≡ true → has_slash (b ∷ p) ≡ false
@@ -117,8 +110,7 @@ none_goes_on (([], l) ∷ rest) e x t k h = elim h [ inl q ↦ absurd (cc q.0) |
 none_goes_on ((y ∷ u, l) ∷ rest) e x t k h = false≢true (sym e)
 
 drop_on : (n b : ℕ) (p : List ℕ) → ltb 0 n ≡ true → drop (n - 1) p ≡ drop n (b ∷ p)
-drop_on zero b p e = absurd (false≢true e)
-drop_on (suc n) b p e = let one : suc n - 1 ≡ n = omega arith in rw one refl
+drop_on n b p e = grind (arith, false≢true, e)
 
 plain_suffix : {K : Type 0} (rs : RowsOf K) → all_open rs ≡ true → all_plain rs ≡ true → all_plain (with_suffix (47 ∷ []) rs) ≡ true
 plain_suffix [] opened plain = refl
@@ -166,35 +158,16 @@ found_param {K} rs b p opened plain shorter = by (has_slash (b ∷ p)) refl
     by true e = found_going rs b p opened plain e shorter
     by false e = found_last rs b p opened e
 
--- what a token leaves
-plain_tail : (x : ℕ) (t : List ℕ) → is_plain (x ∷ t) ≡ true → is_plain t ≡ true
-plain_tail x t plain = by (x == 256) plain
-  where
-    by : (v : Bool) → cond v (opens t && is_plain t) (ltb x 256 && is_plain t) ≡ true → is_plain t ≡ true
-    by true h = (both (opens t) (is_plain t) h).1
-    by false h = (both (ltb x 256) (is_plain t) h).1
-
-plain_cond : {K : Type 0} (v : Bool) (t : List ℕ) (k : K) (rs : RowsOf K) → is_plain t ≡ true → all_plain rs ≡ true → all_plain (cond v ((t, k) ∷ rs) rs) ≡ true
-plain_cond true t k rs one rest = both_true (is_plain t) (all_plain rs) one rest
-plain_cond false t k rs one rest = rest
-
 plain_step : {K : Type 0} (b : ℕ) (rs : RowsOf K) → all_plain rs ≡ true → all_plain (step b rs) ≡ true
 plain_step b [] plain = refl
 plain_step b (([], k) ∷ rest) plain = plain_step b rest plain
-plain_step b ((x ∷ t, k) ∷ rest) plain =
-    let parts = both (is_plain (x ∷ t)) (all_plain rest) plain in
-    plain_cond (x == b) t k (step b rest) (plain_tail x t parts.0) (plain_step b rest parts.1)
+plain_step b ((x ∷ t, k) ∷ rest) plain = grind (arith, plain_step b rest, both, all_plain, plain, both_true, cond, false)
 
 open_step : {K : Type 0} (rs : RowsOf K) → all_plain rs ≡ true → all_open (step 256 rs) ≡ true
 open_step [] plain = refl
 open_step (([], k) ∷ rest) plain = open_step rest plain
-open_step {K} ((x ∷ t, k) ∷ rest) plain = by (x == 256) (both (is_plain (x ∷ t)) (all_plain rest) plain).0
-    (open_step rest (both (is_plain (x ∷ t)) (all_plain rest) plain).1)
-  where
-    by : (v : Bool) → cond v (opens t && is_plain t) (ltb x 256 && is_plain t) ≡ true → all_open (step 256 rest) ≡ true
-        → all_open (cond v ((t, k) ∷ step 256 rest) (step 256 rest)) ≡ true
-    by true h later = both_true (opens t) _ (both (opens t) (is_plain t) h).0 later
-    by false h later = later
+open_step {K} ((x ∷ t, k) ∷ rest) plain =
+    grind (arith, nat_tests, open_step rest (both (is_plain (x ∷ t)) (all_plain rest) plain).1, all_plain, plain, cond, both_true, false)
 
 -- no plain pattern takes the rest of a path
 no_rest : {K : Type 0} (rs : RowsOf K) → all_plain rs ≡ true → own (step 257 rs) ≡ None
@@ -210,8 +183,7 @@ no_rest {K} ((x ∷ t, k) ∷ rest) plain = by (x == 257) refl (both (is_plain (
     by false e h later = later
 
 or_else_none : {K : Type 0} (o : Option K) → or_else o None ≡ o
-or_else_none None = refl
-or_else_none (Some k) = refl
+or_else_none o = grind arith
 
 bytes_drop : (i : ℕ) (p : List ℕ) → all_bytes p ≡ true → all_bytes (drop i p) ≡ true
 bytes_drop zero p h = h

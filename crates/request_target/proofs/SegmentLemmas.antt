@@ -1,32 +1,25 @@
 -- The first segment of a path, and the segment at a place.
-use Rattle.request_target.proofs.Common.{◌≡◌, ◌<◌, ◌+◌, ℕ, suc, List, [], ◌∷◌, ◌++◌, length, take, drop, get_or, Bool, true, false, not, ◌==◌, None, refl, sym}
+use Rattle.request_target.proofs.Common.{◌≡◌, ◌<◌, ◌+◌, ℕ, suc, List, [], ◌∷◌, ◌++◌, length, take, drop, get_or, Bool, true, not, ◌==◌, None, refl, sym}
 use Rattle.request_target.proofs.Common.{ap, ◌∙◌, arith, slice_get, list_all, false≢true, segments}
 use Rattle.std.proofs.lemmas.List.{take-append-drop}
 use Rattle.std.proofs.Math.Seq.{drop-cons}
-use Rattle.request_target.proofs.Longest.{both}
 
 abbrev pub no_slash : ℕ → Bool
 no_slash b = not (b == 47)
 
 in_front_one : (b : ℕ) (t : List ℕ) (c : Bool) → (b == 47) ≡ c → not c ≡ true → segments t ≡ t ∷ [] → segments (b ∷ t) ≡ (b ∷ t) ∷ []
-in_front_one b t true e h k = absurd (false≢true h)
-in_front_one b t false e h k = rw (e, k) refl
+in_front_one b t c e h k = grind (arith, false≢true, e)
 
 pub one_segment : (t : List ℕ) → list_all no_slash t ≡ true → segments t ≡ t ∷ []
 one_segment [] h = refl
-one_segment (b ∷ t) h =
-    let p = both (no_slash b) (list_all no_slash t) h in
-    in_front_one b t (b == 47) refl p.0 (one_segment t p.1)
+one_segment (b ∷ t) h = grind (arith, one_segment t, no_slash, in_front_one)
 
 in_front_more : (b : ℕ) (t p : List ℕ) (ps : List (List ℕ)) (c : Bool) → (b == 47) ≡ c → not c ≡ true → segments t ≡ p ∷ ps → segments (b ∷ t) ≡ (b ∷ p) ∷ ps
-in_front_more b t p ps true e h k = absurd (false≢true h)
-in_front_more b t p ps false e h k = rw (e, k) refl
+in_front_more b t p ps c e h k = grind (arith, false≢true, e)
 
 first_segment : (p rest : List ℕ) → list_all no_slash p ≡ true → segments (p ++ 47 ∷ rest) ≡ p ∷ segments rest
 first_segment [] rest h = refl
-first_segment (b ∷ p) rest h =
-    let q = both (no_slash b) (list_all no_slash p) h in
-    in_front_more b (p ++ 47 ∷ rest) p (segments rest) (b == 47) refl q.0 (first_segment p rest q.1)
+first_segment (b ∷ p) rest h = grind (arith, first_segment p rest, no_slash, in_front_more)
 
 pub cut : (t : List ℕ) (k : ℕ) → k < length t → get_or t k 0 ≡ 47 → list_all no_slash (take k t) ≡ true → segments t ≡ take k t ∷ segments (drop (k + 1) t)
 cut t k l e h =

@@ -1,6 +1,6 @@
 -- A path meets a route's tokens where the route's segments stand for its own.
 use Rattle.request_target.proofs.Common.{◌≡◌, ℕ, suc, List, [], ◌∷◌, ◌++◌, length, take, drop, Bool, true, false, not, cond, ◌&&◌, ◌==◌, nat_lt, nat_eq, refl}
-use Rattle.request_target.proofs.Common.{sym, ◌∙◌, ap, arith, append-nil, bytes_eq, list_all, nat_tests, onto_first, segments, is_parameter, stands_for, fits}
+use Rattle.request_target.proofs.Common.{sym, ◌∙◌, ap, arith, append-nil, bytes_eq, list_all, nat_tests, segments, stands_for, fits}
 use Rattle.request_target.proofs.Common.{part_tokens, tokens, is_part}
 use Rattle.request_target.proofs.Meets.{segment_len, meets}
 use Rattle.request_target.proofs.Longest.{both}
@@ -13,13 +13,7 @@ later (b ∷ rest) = segments rest
 -- the first segment, and those after it
 pub segments_split : (path : List ℕ) → segments path ≡ take (segment_len path) path ∷ later (drop (segment_len path) path)
 segments_split [] = refl
-segments_split (b ∷ path) = by (b == 47) (segments_split path)
-  where
-    by : (v : Bool) → segments path ≡ take (segment_len path) path ∷ later (drop (segment_len path) path)
-        → cond v ([] ∷ segments path) (onto_first b (segments path)) ≡ take (cond v 0 (suc (segment_len path))) (b ∷ path)
-        ∷ later (drop (cond v 0 (suc (segment_len path))) (b ∷ path))
-    by true is = refl
-    by false is = rw is refl
+segments_split (b ∷ path) = grind (arith, segments_split path, cond, false)
 
 -- what is left behind a segment is empty or begins with a slash
 abbrev IsRest : List ℕ → Type 0
@@ -28,11 +22,7 @@ IsRest (b ∷ rest) = (b == 47) ≡ true
 
 rest_is : (path : List ℕ) → IsRest (drop (segment_len path) path)
 rest_is [] = tt
-rest_is (b ∷ path) = by (b == 47) refl (rest_is path)
-  where
-    by : (v : Bool) → (b == 47) ≡ v → IsRest (drop (segment_len path) path) → IsRest (drop (cond v 0 (suc (segment_len path))) (b ∷ path))
-    by true is later = is
-    by false is later = later
+rest_is (b ∷ path) = grind (arith, rest_is path, cond, false)
 
 -- tokens that end, or go on with a slash
 abbrev IsTail : List ℕ → Type 0
@@ -40,24 +30,13 @@ IsTail [] = Unit {0}
 IsTail (x ∷ t) = x ≡ 47
 
 and_assoc : (a b c : Bool) → (a && (b && c)) ≡ ((a && b) && c)
-and_assoc true b c = refl
-and_assoc false b c = refl
-
--- a tail meets no path that goes on within its segment
-tail_within : (t : List ℕ) (b : ℕ) (path : List ℕ) → IsTail t → (b == 47) ≡ false → meets t (b ∷ path) ≡ false
-tail_within [] b path tail within = refl
-tail_within (x ∷ t) b path tail within = let is : (47 == b) ≡ false = grind (arith, nat_tests) in rw (tail, is) refl
+and_assoc a b c = grind arith
 
 -- the bytes of a word, and then a tail
 pub meets_word : (word t path : List ℕ) → list_all (λ b. nat_lt b 256 && not (b == 47)) word ≡ true → IsTail t
     → meets (word ++ t) path ≡ (bytes_eq word (take (segment_len path) path) && meets t (drop (segment_len path) path))
 meets_word [] t [] ok tail = refl
-meets_word [] t (b ∷ path) ok tail = by (b == 47) refl
-  where
-    by : (v : Bool) → (b == 47) ≡ v → meets t (b ∷ path)
-        ≡ (bytes_eq [] (take (cond v 0 (suc (segment_len path))) (b ∷ path)) && meets t (drop (cond v 0 (suc (segment_len path))) (b ∷ path)))
-    by true is = refl
-    by false is = tail_within t b path tail is
+meets_word [] t (b ∷ path) ok tail = grind (arith, cond, false)
 meets_word (x ∷ word) t path ok tail =
     by (λ (rest : List ℕ). meets_word word t rest (both (nat_lt x 256 && not (x == 47)) (list_all (λ b. nat_lt b 256 && not (b == 47)) word) ok).1 tail) path
   where
@@ -86,27 +65,16 @@ meets_word (x ∷ word) t path ok tail =
 
 -- the first segment's length
 length_first : (path : List ℕ) → nat_lt 0 (length (take (segment_len path) path)) ≡ nat_lt 0 (segment_len path)
-length_first [] = refl
-length_first (b ∷ path) = by (b == 47)
-  where
-    by : (v : Bool) → nat_lt 0 (length (take (cond v 0 (suc (segment_len path))) (b ∷ path))) ≡ nat_lt 0 (cond v 0 (suc (segment_len path)))
-    by true = refl
-    by false = grind (arith, nat_tests)
+length_first path = grind (arith, length, cond, false)
 
 -- nothing is left, or there is one more segment
 at_end : (q : List ℕ) → meets [] q ≡ fits [] (later q)
-at_end [] = refl
-at_end (b ∷ q) = rw (segments_split q) refl
+at_end q = grind (arith, segments_split)
 
 -- a part and a tail
 meets_part : (part t path : List ℕ) → is_part part ≡ true → IsTail t
     → meets (part_tokens part ++ t) path ≡ (stands_for part (take (segment_len path) path) && meets t (drop (segment_len path) path))
-meets_part part t path ok tail = by (is_parameter part) refl
-  where
-    by : (v : Bool) → is_parameter part ≡ v → meets (cond v (256 ∷ []) part ++ t) path
-        ≡ (cond v (nat_lt 0 (length (take (segment_len path) path))) (bytes_eq part (take (segment_len path) path)) && meets t (drop (segment_len path) path))
-    by true is = rw (length_first path) refl
-    by false is = meets_word part t path (rw is at ok) tail
+meets_part part t path ok tail = grind (arith, cond, length, length_first, false, meets_word)
 
 -- the tokens of a route's parts
 pub meets_tokens : (part : List ℕ) (parts : List (List ℕ)) (path : List ℕ) → list_all is_part (part ∷ parts) ≡ true

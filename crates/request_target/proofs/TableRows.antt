@@ -1,7 +1,8 @@
 -- The rows that were made of a table lead where the table does.
-use Rattle.request_target.proofs.Common.{◌≡◌, ℕ, List, [], ◌∷◌, Bool, true, false, cond, ◌&&◌, ◌==◌, Option, Some, None, option_map, Result, Ok, Err, refl}
-use Rattle.request_target.proofs.Common.{sym, ◌∙◌, ap, bytes_eq, false≢true, list_all, RowsOf, comes_before, first, segments, fits, onto_first, route_in}
-use Rattle.request_target.proofs.Common.{all_plain, all_apart, apart, apart_from, tokens, is_part, added, rows_with, is_new, are_new, are_routes}
+use native.Mathlib.Omega.{arith}
+use Rattle.request_target.proofs.Common.{◌≡◌, ℕ, List, [], ◌∷◌, Bool, true, false, cond, ◌&&◌, Option, Some, None, option_map, Result, Ok, Err, refl}
+use Rattle.request_target.proofs.Common.{sym, ◌∙◌, ap, bytes_eq, false≢true, list_all, RowsOf, first, segments, fits, route_in}
+use Rattle.request_target.proofs.Common.{all_plain, apart_from, tokens, is_part, added, rows_with, is_new, are_new, are_routes}
 use Rattle.std.proofs.lemmas.Slice.Eq.{bytes_eq-Decides}
 use Rattle.matchit.specs.Route.{Scan, parse_route}
 use Rattle.matchit.specs.Router.{RouteOf, route_from}
@@ -18,51 +19,29 @@ or_else (Some t) other = Some t
 or_else None other = other
 
 or_else_none : {T : Type 0} (a : Option T) → or_else a None ≡ a
-or_else_none (Some t) = refl
-or_else_none None = refl
+or_else_none a = grind arith
 
 or_else_assoc : {T : Type 0} (a b c : Option T) → or_else (or_else a b) c ≡ or_else a (or_else b c)
-or_else_assoc (Some t) b c = refl
-or_else_assoc None b c = refl
+or_else_assoc a b c = grind arith
 
 -- an answer where the test is passed
 abbrev pub only_if : {T : Type 0} → Bool → T → Option T
 only_if v t = cond v (Some t) None
 
 or_else_only_if : {T : Type 0} (v : Bool) (t : T) (rest : Option T) → or_else (only_if v t) rest ≡ cond v (Some t) rest
-or_else_only_if true t rest = refl
-or_else_only_if false t rest = refl
+or_else_only_if v t rest = grind arith
 
 -- no row that is apart from a pattern is met where the pattern is
 met_row-apart : {K : Type 0} (t : List ℕ) (rs : RowsOf K) (path : List ℕ) → apart_from t rs ≡ true → meets t path ≡ true → met_row rs path ≡ None
 met_row-apart t [] path new met = refl
-met_row-apart {K} t ((u, l) ∷ rest) path new met = by (meets u path) refl (met_row-apart t rest path parts.1 met)
-  where
-    parts : (apart t u ≡ true) × (apart_from t rest ≡ true)
-    parts = both (apart t u) (apart_from t rest) new
-
-    by : (v : Bool) → meets u path ≡ v → met_row rest path ≡ None → cond v (Some l) (met_row rest path) ≡ None
-    by true is later = absurd (not_both t u path parts.0 met is)
-    by false is later = later
+met_row-apart {K} t ((u, l) ∷ rest) path new met = grind (arith, met_row-apart t rest path, apart_from, cond, not_both, false)
 
 -- one more row, wherever it is placed, is met where none before it was
 met_row-placed : {K : Type 0} (t : List ℕ) (k : K) (rs : RowsOf K) (path : List ℕ) → apart_from t rs ≡ true → met_row (placed (t, k) rs) path
     ≡ or_else (met_row rs path) (only_if (meets t path) k)
 met_row-placed t k [] path new = refl
 met_row-placed {K} t k ((u, l) ∷ rest) path new =
-    by (comes_before t u) (meets u path) (meets t path) refl refl (met_row-placed t k rest path parts.1)
-  where
-    parts : (apart t u ≡ true) × (apart_from t rest ≡ true)
-    parts = both (apart t u) (apart_from t rest) new
-
-    by : (b n m : Bool) → meets u path ≡ n → meets t path ≡ m → met_row (placed (t, k) rest) path ≡ or_else (met_row rest path) (only_if (meets t path) k)
-        → met_row (cond b ((t, k) ∷ (u, l) ∷ rest) ((u, l) ∷ placed (t, k) rest)) path ≡ or_else (cond n (Some l) (met_row rest path)) (only_if m k)
-    by b true true en em later = absurd (not_both t u path parts.0 em en)
-    by true true false en em later = rw (em, en) refl
-    by false true false en em later = rw en refl
-    by true false true en em later = rw (em, met_row-apart t rest path parts.1 em) refl
-    by true false false en em later = rw (em, en) (sym (or_else_none (met_row rest path)))
-    by false false m en em later = rw en (later ∙ ap (λ v. or_else (met_row rest path) (only_if v k)) em)
+    grind (arith, met_row-placed t k rest path, apart_from, only_if, cond, not_both, false, met_row-apart, or_else_none)
 
 -- what a route of these parts leads to
 abbrev pub value_of : {T : Type 0} → Option (RouteOf T) → Option T
@@ -70,9 +49,7 @@ value_of found = option_map (λ r. r.value) found
 
 value_of-or_else : {T : Type 0} (a : Option (RouteOf T)) (v : Bool) (r : RouteOf T) → value_of (or_else a (only_if v r))
     ≡ or_else (value_of a) (only_if v r.value)
-value_of-or_else (Some k) v r = refl
-value_of-or_else None true r = refl
-value_of-or_else None false r = refl
+value_of-or_else a v r = grind arith
 
 abbrev IsNonempty : {A : Type 0} → List A → Type 0
 IsNonempty [] = ⊥
@@ -80,23 +57,14 @@ IsNonempty (x ∷ xs) = Unit {0}
 
 segments_some : (path : List ℕ) → IsNonempty (segments path)
 segments_some [] = tt
-segments_some (b ∷ path) = by (b == 47) (segments path)
-  where
-    by : (v : Bool) (rest : List (List ℕ)) → IsNonempty (cond v ([] ∷ rest) (onto_first b rest))
-    by true rest = tt
-    by false [] = tt
-    by false (s ∷ rest) = tt
+segments_some (b ∷ path) = grind (arith, cond, false)
 
 same_bytes : (a b : List ℕ) → bytes_eq a b ≡ true → a ≡ b
 same_bytes a b h = (bytes_eq-Decides a b).0 h
 
 -- a path meets the tokens of a route where the segments fit
 meets_route : (route path : List ℕ) → list_all is_part (segments route) ≡ true → meets (tokens (segments route)) path ≡ fits (segments route) (segments path)
-meets_route route path ok = by (segments route) (segments_some route) ok
-  where
-    by : (parts : List (List ℕ)) → IsNonempty parts → list_all is_part parts ≡ true → meets (tokens parts) path ≡ fits parts (segments path)
-    by [] some ok = absurd some
-    by (part ∷ parts) some ok = meets_tokens part parts path ok
+meets_route route path ok = grind (arith, segments_some, is_part, meets_tokens)
 
 -- a route that is added leads on from its own paths alone
 added_leads : {T : Type 0} (read : Result Scan InsertError) (route : List ℕ) (value : T) (rows : RowsOf (RouteOf T)) (path : List ℕ) → is_new read route rows
@@ -123,15 +91,7 @@ met_row-rows_with (r ∷ table) rows path new =
     ∙ or_else_assoc (value_of (met_row rows path)) (only_if (fits (segments r.0) (segments path)) r.1) (route_in table path)
     ∙ ap (or_else (value_of (met_row rows path))) (or_else_only_if (fits (segments r.0) (segments path)) r.1 (route_in table path))
 
--- a router's row is the table's route
-route_in-rows_with : {T : Type 0} (table : List (List ℕ × T)) (path : List ℕ) → are_new table [] ≡ true → value_of (met_row (rows_with table []) path)
-    ≡ route_in table path
-route_in-rows_with table path new = met_row-rows_with table [] path new
-
 -- what a router of this table finds
 pub first-rows_with : {T : Type 0} (table : List (List ℕ × T)) (rows : RowsOf (RouteOf T)) (path : List ℕ) → all_bytes path ≡ true → are_routes table ≡ true
     → rows ≡ rows_with table [] → value_of (first rows path) ≡ route_in table path
-first-rows_with table rows path bytes routes is =
-    let outer = both (are_new table [] && all_plain (rows_with table [])) (all_apart (rows_with table [])) routes in
-    let inner = both (are_new table []) (all_plain (rows_with table [])) outer.0 in
-    rw is (ap value_of (first_is (rows_with table []) path bytes inner.1 outer.1) ∙ route_in-rows_with table path inner.0)
+first-rows_with table rows path bytes routes is = grind (arith, are_new, all_plain, routes, first_is, met_row-rows_with)

@@ -1,7 +1,8 @@
 -- An action's record after one more command, from its record before it.
+use native.Mathlib.Omega.{arith}
 use Rattle.rollout_machine.proofs.Common.{◌≡◌, ℕ, zero, suc, Bool, true, false, cond, ◌&&◌, ◌||◌, not, List, [], ◌∷◌, ◌++◌, refl, sym, ◌∙◌, ap, Option, Some}
 use Rattle.rollout_machine.proofs.Common.{None, nat_eq, is_none, is_some, map, slice_get, and-false, option_or, unwrap_or, option_map, ActionPlace, action_of}
-use Rattle.rollout_machine.proofs.Common.{is_on_action, is_action_place, is_heard, outcome, outcome_given, cancel_stands, cancel_standing_said, is_canceling}
+use Rattle.rollout_machine.proofs.Common.{is_on_action, is_action_place, is_heard, outcome}
 use Rattle.rollout_machine.proofs.Common.{history, reports, item_numbered, CommandList, Make, ◌▸◌, Command, Outcome, action_after, is_same_action}
 use Rattle.rollout_machine.proofs.Common.{ActionRecord, action_in, Reported, entries_in, is_again, reported_by, eq-eqb, eqb-true, and_parts}
 use Rattle.rollout_machine.proofs.Tallies.{or_none}
@@ -26,10 +27,7 @@ stands_after on said b = cond (on && is_some said) (elim said [ None ↦ false |
 
 cancels : (o gv : Option Outcome) (said : Option Bool) (b : Bool) → (is_none (option_or o gv) && stands_after true said b)
     ≡ (is_none (option_or o gv) && unwrap_or said (is_none o && b))
-cancels (Some x) gv said b = refl
-cancels None (Some x) said b = refl
-cancels None None None b = refl
-cancels None None (Some v) b = refl
+cancels o gv said b = grind arith
 
 -- ---- what is heard
 
@@ -63,8 +61,7 @@ on_own h c q t = rw (t, eq-eqb q.rollout q.rollout refl, eq-eqb q.position q.pos
 
 -- what isn't heard on an action leaves its record
 pub unheard : (h : CommandList) (c : Command) (p : ActionPlace) → is_heard h c p.rollout p.position ≡ false → action_in (h ▸ c) p ≡ action_in h p
-unheard h c p e = same_action p _ _ _ _ _ _ (rw (e, or_none (outcome h p.rollout p.position)) refl) (rw e (or_none (outcome h p.rollout p.position)))
-    (rw e (append_none (history h p.rollout p.position)))
+unheard h c p e = grind (arith, same_action, e, or_none, append_none, history)
 
 pub off_action : (h : CommandList) (c : Command) (p : ActionPlace) → is_on_action h c p.rollout p.position ≡ false → action_in (h ▸ c) p ≡ action_in h p
 off_action h c p e = unheard h c p (rw e refl)
@@ -72,8 +69,7 @@ off_action h c p e = unheard h c p (rw e refl)
 -- so does each command on a closed one
 pub closed_action : (h : CommandList) (c : Command) (p : ActionPlace) (o : Outcome) → outcome h p.rollout p.position ≡ Some o → action_in (h ▸ c) p
     ≡ action_in h p
-closed_action h c p o e =
-    same_action p _ _ _ _ _ _ (rw e refl) (rw e refl) (rw (e, and-false (is_heard h c p.rollout p.position)) (append_none (history h p.rollout p.position)))
+closed_action h c p o e = grind (arith, same_action, e, and-false, append_none, history)
 
 closed_after : (h : CommandList) (c : Command) (p : ActionPlace) (o : Outcome) → outcome h p.rollout p.position ≡ Some o → action_after c (action_in h p)
     ≡ action_in h p
@@ -81,10 +77,7 @@ closed_after h c p o e = same_action p _ _ _ _ _ _ (rw e refl) (rw e refl) (rw e
 
 heard_action : (h : CommandList) (c : Command) (p : ActionPlace) → is_heard h c p.rollout p.position ≡ true → action_in (h ▸ c) p
     ≡ action_after c (action_in h p)
-heard_action h c p e = same_action p _ _ _ _ _ _
-    (rw e (cancels (outcome h p.rollout p.position) (outcome_given c (is_canceling h p.rollout p.position)) (cancel_standing_said c)
-    (cancel_stands h p.rollout p.position)))
-    (rw e refl) (rw e refl)
+heard_action h c p e = grind (arith, same_action, e, cancels)
 
 pub on_action : (h : CommandList) (c : Command) (p : ActionPlace) → is_on_action h c p.rollout p.position ≡ true → is_again (history h p.rollout p.position) c
     ≡ false → action_in (h ▸ c) p ≡ action_after c (action_in h p)
@@ -164,5 +157,4 @@ get_map f (x ∷ xs) zero = refl
 get_map f (x ∷ xs) (suc i) = get_map f xs i
 
 pub numbered_map : {X Y : Type 0} (f : X → Y) (xs : List X) (k : ℕ) → item_numbered (map f xs) k ≡ option_map f (item_numbered xs k)
-numbered_map f xs zero = refl
-numbered_map f xs (suc i) = get_map f xs i
+numbered_map f xs k = grind (arith, get_map, f)

@@ -1,6 +1,7 @@
 -- What answers are, by what is asked, and which refusals they can have.
-use Rattle.rollout_machine.proofs.Common.{◌≡◌, Bool, Some, None, refl, ap, ◌∙◌, query_reply, command_reply, CommandList, Make, ◌▸◌, Command, step_records}
-use Rattle.rollout_machine.proofs.Common.{no_records, Records, Refused, Query, Do, Ask, Asks, IsValid, verdict, Refusal}
+use native.Mathlib.Omega.{arith}
+use Rattle.rollout_machine.proofs.Common.{◌≡◌, Bool, Some, None, refl, query_reply, command_reply, CommandList, Make, ◌▸◌, Command, step_records}
+use Rattle.rollout_machine.proofs.Common.{no_records, Refused, Query, Do, Ask, Asks, IsValid, verdict, Refusal}
 use Rattle.rollout_machine.specs.Answers.{answer}
 use Rattle.rollout_machine.specs.Records.{records}
 use Rattle.rollout_machine.specs.Requests.{Rejected}
@@ -29,8 +30,7 @@ accepted_answer h c accepted = rw accepted
 -- the reply by one step of the records
 pub accepted_step : (h : CommandList) (c : Command) → IsValid h → verdict h c ≡ None → answer h (Asks (Do c))
     ≡ record { reply = command_reply c (step_records (records h) c); accepted = Some c }
-accepted_step h c valid accepted = accepted_answer h c accepted ∙ ap (λ (rs : Records). record { reply = command_reply c rs; accepted = Some c })
-    (records_step h c valid accepted)
+accepted_step h c valid accepted = grind (arith, accepted_answer, records_step, valid)
 
 pub made_records : (approval : Bool) → records (Make approval) ≡ no_records approval
 unfolding records

@@ -1,5 +1,5 @@
 -- What stands at a number in the records of a command list.
-use Rattle.rollout_machine.proofs.Common.{◌≡◌, ℕ, zero, suc, ◌<◌, ◌≤◌, sym, ◌∙◌, refl, arith, List, length, get_or, Option, Some, None, option_map}
+use Rattle.rollout_machine.proofs.Common.{◌≡◌, ℕ, zero, suc, ◌≤◌, sym, ◌∙◌, refl, arith, List, length, get_or, Option, Some, None, option_map}
 use Rattle.rollout_machine.proofs.Common.{ActionPlace, action_place, action_places, item_numbered, CommandList, ActionRecord, GroupRecord, RolloutRecord}
 use Rattle.rollout_machine.proofs.Common.{action_in, group_in, rollout_in, Rollout, rollout_at}
 use Rattle.std.proofs.lemmas.Option.{slice_get-get_or, slice_get_within}
@@ -14,8 +14,7 @@ item_in xs d zero low high = absurd (omega (arith, low))
 item_in xs d (suc i) low high = (get_or xs i d, slice_get-get_or xs i d (omega (arith, high)))
 
 pub item_within : {X : Type 0} (xs : List X) (j : ℕ) (x : X) → item_numbered xs j ≡ Some x → (1 ≤ j) × (j ≤ length xs)
-item_within xs zero x e = cc
-item_within xs (suc i) x e = let less : i < length xs = slice_get_within xs i x e in (omega arith, omega (arith, less))
+item_within xs j x e = grind (arith, length, slice_get_within, e)
 
 -- the action is that of a place
 pub record HasPlace (h : CommandList) (k : ℕ) (a : ActionRecord) : Type 0 where
@@ -39,11 +38,7 @@ pub record IsOfRollout (h : CommandList) (r : ℕ) (y : RolloutRecord) : Type 0 
 
 pub of_rollout : (h : CommandList) (r : ℕ) (y : RolloutRecord) → item_numbered (records h).rollouts r ≡ Some y → IsOfRollout h r y
 unfolding records
-of_rollout h r y e = go (rollout_at h r) refl
-  where
-    go : (o : Option Rollout) → rollout_at h r ≡ o → IsOfRollout h r y
-    go None d = let none : Some y ≡ None = sym e ∙ no_record h r d in cc
-    go (Some x) d = record { rollout = x; there = d; is = (let same : Some y ≡ Some (rollout_in h r x) = sym e ∙ rollout_numbered h r x d in cc) }
+of_rollout h r y e = grind (arith, e, no_record, rollout_numbered)
 
 pub recorded : (h : CommandList) (r : ℕ) (x : Rollout) → rollout_at h r ≡ Some x → item_numbered (records h).rollouts r ≡ Some (rollout_in h r x)
 unfolding records

@@ -1,7 +1,7 @@
 -- The names of other modules that the proofs here cite, passed on from one place. Declares nothing.
-pub use Rattle.std.proofs.Common.{◌≡◌, ℕ, zero, suc, ◌+◌, ◌-◌, ◌*◌, ◌/◌, ◌%◌, ◌<◌, ◌≤◌, Bool, true, false, cond, not, ◌&&◌, ◌||◌, ◌≢◌, ◌⊎◌, List, [], ◌∷◌}
-pub use Rattle.std.proofs.Common.{◌++◌, map, length, get_or, take, drop, replicate, is_some, is_none, nat_eq, nat_lt, nat_le, slice_get, Some, None, codes}
-pub use Rattle.std.proofs.Common.{filter, Option, sym, refl, ap, ◌∙◌, subst, ap₂, inl, inr, add-one, arith, rules}
+pub use Rattle.std.proofs.Common.{◌≡◌, ℕ, zero, suc, ◌+◌, ◌-◌, ◌*◌, ◌/◌, ◌%◌, ◌<◌, ◌≤◌, Bool, true, false, cond, not, ◌&&◌, ◌||◌, ◌≢◌, ◌⊎◌, List, [], ◌∷◌, ◌++◌}
+pub use Rattle.std.proofs.Common.{map, length, get_or, take, drop, replicate, is_some, is_none, nat_eq, nat_lt, nat_le, slice_get, Some, None, codes, filter}
+pub use Rattle.std.proofs.Common.{Option, sym, refl, ap, ◌∙◌, subst, ap₂, inl, inr, add-one, arith, rules}
 pub use Rattle.std.proofs.Math.Bool.{and-false, and-true, or-false, or-true}
 pub use Rattle.std.proofs.Math.Nat.{div-lt_iff_lt-mul, div-mul-le_self}
 pub use Rattle.std.proofs.lemmas.Bool.{and_parts, cases_Bool, cases_eq, cases_lt, cases_order, eq-eqb, eqb-true, false≢true, le-leb, leb-false, leb-true}
@@ -32,16 +32,15 @@ pub use Rattle.rollout_machine.specs.Commands.{Feedback, Gone, Good, ModuleLabel
 pub use Rattle.rollout_machine.specs.Commands.{Rejected, RejectedCancel, Resume, RolloutPlan, SetLabel, Start, Succeeded, Tag, TargetRow, TriggerNext, Untag}
 pub use Rattle.rollout_machine.specs.Commands.{Upload}
 pub use Rattle.rollout_machine.specs.Counts.{error_holds, is_outcome, reaches, success_holds, tally}
-pub use Rattle.rollout_machine.specs.Effects.{FollowsFeedback, FollowsResume, FollowsTrigger, GetsOutcome, HasSoundPlan, IsGroupView, IsInGroup, IsLast}
-pub use Rattle.rollout_machine.specs.Effects.{IsView, OutcomesStarted, StartedOnly, feedback_pauses, good_after, last_with, next_if, starts_next}
+pub use Rattle.rollout_machine.specs.Effects.{FollowsFeedback, FollowsResume, FollowsTrigger, GetsOutcome, HasSoundPlan, IsGroupView, IsInGroup, IsLast, IsView}
+pub use Rattle.rollout_machine.specs.Effects.{OutcomesStarted, StartedOnly, feedback_pauses, good_after, last_with, next_if, starts_next}
 pub use Rattle.rollout_machine.specs.Filters.{matches}
 pub use Rattle.rollout_machine.specs.Groupings.{GroupDefinition, GroupingCovers, cut_by, last_defined, leaves_empty, percentages, some_empty}
 pub use Rattle.rollout_machine.specs.Groups.{IsCut, cut, holds_position, last_position}
 pub use Rattle.rollout_machine.specs.Meanings.{CancelingIsLast, EndsInCommand, FinalIsAll, FirstOutcome, FirstStartedIs, IsLeastOffer, IsOfferable}
-pub use Rattle.rollout_machine.specs.Meanings.{LastIsCancel}
-pub use Rattle.rollout_machine.specs.Meanings.{LastRow, NeverNamed, NextIsStarted, NoResume, NoneGave, NoneSpeaks, NotNamed, NumbersActions, NumbersDiffer}
-pub use Rattle.rollout_machine.specs.Meanings.{OfferIsLeast, OutcomeIsFirst, PauseBegins, PausedIs, RowIsLast, Says, SomePause, SpeaksOfCancel, StartIsIn}
-pub use Rattle.rollout_machine.specs.Meanings.{StartedIs, TagsAreSaid, TargetsAreNamed, ValueIsLast, last_given, last_value, size_at, started_by}
+pub use Rattle.rollout_machine.specs.Meanings.{LastIsCancel, LastRow, NeverNamed, NextIsStarted, NoResume, NoneGave, NoneSpeaks, NotNamed, NumbersActions}
+pub use Rattle.rollout_machine.specs.Meanings.{NumbersDiffer, OfferIsLeast, OutcomeIsFirst, PauseBegins, PausedIs, RowIsLast, Says, SomePause, SpeaksOfCancel}
+pub use Rattle.rollout_machine.specs.Meanings.{StartIsIn, StartedIs, TagsAreSaid, TargetsAreNamed, ValueIsLast, last_given, last_value, size_at, started_by}
 pub use Rattle.rollout_machine.specs.Meanings.{started_sizes, value_of}
 pub use Rattle.rollout_machine.specs.Objects.{deployment_shown, modules_of_action}
 pub use Rattle.rollout_machine.specs.Offers.{Offer, first_offer, offer}
@@ -56,30 +55,29 @@ pub use Rattle.rollout_machine.specs.Records.{ActionRecord, Approval, ArtifactRe
 pub use Rattle.rollout_machine.specs.Records.{added_artifacts, approval_by, approval_of, artifacts, decided, decision_on, group_in, modules, needs_approval}
 pub use Rattle.rollout_machine.specs.Records.{records, rollout_in, rollouts_in, sets}
 pub use Rattle.rollout_machine.specs.Repeats.{IsTraceless, RepeatsLeaveNoTrace, is_doubled, is_had, is_repeat, same_row, same_rows, without_repeats}
-pub use Rattle.rollout_machine.specs.Replies.{ActionShown, ActionsShown, ActionsTableShown, Artifact, ArtifactAdded, ArtifactShown, ArtifactsShown}
-pub use Rattle.rollout_machine.specs.Replies.{CancelShown, ContentsShown, DeploymentShown, GroupShown, HistoryShown, Module, ModuleAdded, ModuleShown}
-pub use Rattle.rollout_machine.specs.Replies.{ModulesShown, PollShown, Refused, Reply, ReportShown, RolloutsShown, SetAdded, ShownAction, ShownGroup}
-pub use Rattle.rollout_machine.specs.Replies.{ShownTarget, TargetsPut, TargetsShown}
+pub use Rattle.rollout_machine.specs.Replies.{ActionShown, ActionsShown, ActionsTableShown, Artifact, ArtifactAdded, ArtifactShown, ArtifactsShown, CancelShown}
+pub use Rattle.rollout_machine.specs.Replies.{ContentsShown, DeploymentShown, GroupShown, HistoryShown, Module, ModuleAdded, ModuleShown, ModulesShown}
+pub use Rattle.rollout_machine.specs.Replies.{PollShown, Refused, Reply, ReportShown, RolloutsShown, SetAdded, ShownAction, ShownGroup, ShownTarget, TargetsPut}
+pub use Rattle.rollout_machine.specs.Replies.{TargetsShown}
 pub use Rattle.rollout_machine.specs.Reports.{Again, Fresh, HistoryEntry, Numbered, OfCancel, OfDeployment, Old, Reported, Standing, against, bearing}
 pub use Rattle.rollout_machine.specs.Reports.{entries_in, is_again, numbered_if, reported, reported_by, same_entry, says_again, says_old, standing_by}
 pub use Rattle.rollout_machine.specs.Reports.{standing_of}
 pub use Rattle.rollout_machine.specs.Requests.{Ask, Asked, Asks, Do, Download, Page, Poll, Query, Request, ShowAction, ShowActionsTable, ShowArtifact}
 pub use Rattle.rollout_machine.specs.Requests.{ShowArtifacts, ShowCancel, ShowContents, ShowDeployment, ShowGroup, ShowGroupTargets, ShowGroups, ShowHistory}
-pub use Rattle.rollout_machine.specs.Requests.{ShowModule, ShowModules, ShowReport, ShowRollout, ShowRollouts, ShowSet, ShowSets, ShowTarget}
-pub use Rattle.rollout_machine.specs.Requests.{ShowTargetActions, ShowTargets}
+pub use Rattle.rollout_machine.specs.Requests.{ShowModule, ShowModules, ShowReport, ShowRollout, ShowRollouts, ShowSet, ShowSets, ShowTarget, ShowTargetActions}
+pub use Rattle.rollout_machine.specs.Requests.{ShowTargets}
 pub use Rattle.rollout_machine.specs.Rollouts.{Rollout, bounds_in, chosen, created, error_at, first_of, last_of, members_of, rollout_at, rollouts, size_in}
 pub use Rattle.rollout_machine.specs.Rollouts.{size_of, success_at}
 pub use Rattle.rollout_machine.specs.Splits.{FirstEmptyTells, LeavesNoneEmpty, SplitCovers, first_empty, first_empty_from, left_by, share, split_bounds_of}
 pub use Rattle.rollout_machine.specs.Splits.{split_last}
 pub use Rattle.rollout_machine.specs.StateWords.{ApprovalDenied, ErrorGroup, FinishedGroup, FinishedRollout, GroupWord, InError, PausedRollout, Pending}
-pub use Rattle.rollout_machine.specs.StateWords.{ReadyGroup, RolloutWord, RunningAction, RunningGroup, RunningRollout, ScheduledAction, ScheduledGroup}
-pub use Rattle.rollout_machine.specs.StateWords.{Unknown, WaitingForApproval, all_final, group_holding, group_is_started, group_numbered, group_word}
-pub use Rattle.rollout_machine.specs.StateWords.{has_started, is_finished, is_for, is_started_in, member_at, number_of_group, rollout_word, target_word}
-pub use Rattle.rollout_machine.specs.StateWords.{word_from}
+pub use Rattle.rollout_machine.specs.StateWords.{ReadyGroup, RolloutWord, RunningAction, RunningGroup, RunningRollout, ScheduledAction, ScheduledGroup, Unknown}
+pub use Rattle.rollout_machine.specs.StateWords.{WaitingForApproval, all_final, group_holding, group_is_started, group_numbered, group_word, has_started}
+pub use Rattle.rollout_machine.specs.StateWords.{is_finished, is_for, is_started_in, member_at, number_of_group, rollout_word, target_word, word_from}
 pub use Rattle.rollout_machine.specs.Targets.{Target, attributes_in, has_tag, import_rows_of, last_row_for, last_row_of, tag_in_row, tags_by_row, tags_in}
 pub use Rattle.rollout_machine.specs.Targets.{target_ids, target_in, targets, with_attribute, with_attributes}
 pub use Rattle.rollout_machine.specs.Validity.{IsValid}
-pub use Rattle.rollout_machine.specs.Verdicts.{check, first_refusal, is_at_pause, is_device_action, is_known, is_note, is_old, is_ready, is_running}
-pub use Rattle.rollout_machine.specs.Verdicts.{is_waiting, notes_of, on_action, target_of, verdict, verdict_row, word_is}
+pub use Rattle.rollout_machine.specs.Verdicts.{check, first_refusal, is_at_pause, is_device_action, is_known, is_note, is_old, is_ready, is_running, is_waiting}
+pub use Rattle.rollout_machine.specs.Verdicts.{notes_of, on_action, target_of, verdict, verdict_row, word_is}
 pub use Rattle.rollout_machine.specs.declared.bounds.Bounds.{Bounds}
 pub use Rattle.rollout_machine.specs.declared.view.Effects.{Effects}

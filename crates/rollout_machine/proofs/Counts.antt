@@ -53,8 +53,4 @@ one_up_to p (suc n) k l u h = elim (cases_eq k (suc n)) [
 
 pub count_few : (p : ℕ → Bool) (first n : ℕ) → count_from p first n ≤ n
 count_few p first zero = omega arith
-count_few p first (suc n) = go (p (first + n)) (count_few p first n)
-  where
-    go : (b : Bool) → count_from p first n ≤ n → count_from p first n + cond b 1 0 ≤ suc n
-    go true few = omega arith
-    go false few = omega arith
+count_few p first (suc n) = grind (arith, count_few p first n, count_from, cond, false)

@@ -1,9 +1,9 @@
 -- Approval, and the commands that make modules, artifacts, sets and rollouts.
-use Rattle.rollout_machine.proofs.Common.{◌≡◌, ℕ, zero, suc, ◌+◌, ◌≤◌, Bool, true, false, cond, List, [], ◌∷◌, ◌++◌, refl, sym, ◌∙◌, ap, arith, Option, Some}
-use Rattle.rollout_machine.proofs.Common.{None, length, map, slice_get, option_or, ne_eqb, eq-eqb, action_of, action_places, outcome, CommandList, ◌▸◌}
+use Rattle.rollout_machine.proofs.Common.{◌≡◌, ℕ, zero, suc, ◌+◌, ◌≤◌, Bool, true, false, cond, List, [], ◌∷◌, ◌++◌, refl, sym, ◌∙◌, ap, arith, Some}
+use Rattle.rollout_machine.proofs.Common.{None, length, map, slice_get, ne_eqb, eq-eqb, action_of, action_places, outcome, CommandList, ◌▸◌}
 use Rattle.rollout_machine.proofs.Common.{RolloutPlan, Upload, SetLabel, Command, AddArtifact, AddSet, CreateRollout, Approve, Deny, Outcome, Good, Bad, Gone}
 use Rattle.rollout_machine.proofs.Common.{tally, is_outcome, is_paused, is_rollout_started, step_records, new_rollout, new_group, RolloutRecord, Approval}
-use Rattle.rollout_machine.proofs.Common.{Waiting, Denied, Given, rollout_in, rollouts_in, action_in, group_in, approval_of, approval_by, decided, decision_on}
+use Rattle.rollout_machine.proofs.Common.{Waiting, Denied, Given, rollout_in, rollouts_in, action_in, group_in, approval_of, decision_on}
 use Rattle.rollout_machine.proofs.Common.{needs_approval, modules, artifacts, sets, bounds_in, Rollout, rollouts, rollout_at, members_of, word_from}
 use Rattle.rollout_machine.proofs.Common.{is_finished, IsValid, verdict, verdict_row, is_waiting}
 use Rattle.rollout_machine.specs.Records.{records}
@@ -19,22 +19,11 @@ use Rattle.rollout_machine.proofs.Induction.{Invariant, IsUnmade, invariant_of, 
 -- ---- approval
 
 waits : (a : Approval) (b f p : Bool) → is_waiting (word_from a b f p) ≡ true → a ≡ Waiting
-waits Waiting b f p e = refl
-waits Denied b f p e = cc
-waits Given true true p e = cc
-waits Given true false true e = cc
-waits Given true false false e = cc
-waits Given false f p e = cc
-
-decides_now : (n d : Bool) (o : Option Bool) → cond n (approval_by o) Given ≡ Waiting → cond n (approval_by (option_or o (Some d))) Given ≡ cond d Given Denied
-decides_now true d None e = refl
-decides_now true d (Some true) e = cc
-decides_now true d (Some false) e = cc
-decides_now false d o e = cc
+waits a b f p e = grind arith
 
 decided_now : (h : CommandList) (q : ℕ) (c : Command) (d : Bool) → needs_approval (h ▸ c) ≡ needs_approval h → decision_on q c ≡ Some d → approval_of q h
     ≡ Waiting → approval_of q (h ▸ c) ≡ cond d Given Denied
-decided_now h q c d n e w = rw e (decides_now (needs_approval h) d (decided q h) w)
+decided_now h q c d n e w = grind (arith, e)
 
 calm_about : (h : CommandList) (q r : ℕ) (c : Command) → action_of h c ≡ None → IsCalm r h (Approve q)
 calm_about h q r c t = record { outcomes = λ j. calm_outcome h (Approve q) r j refl; pauses = refl; resumes = refl; triggers = refl; starts = refl }

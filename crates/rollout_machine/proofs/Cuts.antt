@@ -30,18 +30,12 @@ pub held : (x : Rollout) (i j : ℕ) → IsInGroup x i j → holds_position j (b
 held x i j w = rw (le-leb _ _ w.low, le-leb _ _ (up_to _ _ _ w.low w.high)) refl
 
 pub in_bounds : (x : Rollout) (i j : ℕ) → holds_position j (bounds_in x i) ≡ true → IsInGroup x i j
-in_bounds x i j e =
-    let parts = and_parts _ _ e in
-    let low = leb-true _ _ parts.0 in
-    record { low = low; high = below _ _ _ low (leb-true _ _ parts.1) }
+in_bounds x i j e = grind (arith, and_parts, e, leb-true, below)
 
 -- ---- each group has a member
 
 pub size_positive : (x : Rollout) (i : ℕ) → HasSoundPlan x → 1 ≤ i → i ≤ x.plan.groups.count → 1 ≤ size_in x i
-size_positive x i sound a b =
-    let before : i - 1 + 1 ≡ i = omega arith in
-    let more : last_of x (i - 1) + 1 ≤ last_of x i = subst (λ k. last_of x (i - 1) + 1 ≤ last_of x k) before (sound.cut.grows (i - 1) (omega arith)) in
-    omega arith
+size_positive x i sound a b = grind (arith, last_of)
 
 -- ---- each member is in one
 

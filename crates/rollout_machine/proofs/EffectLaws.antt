@@ -1,19 +1,17 @@
 -- The effects that the view alone gives are those of the history.
-use Rattle.rollout_machine.proofs.Common.{◌≡◌, ℕ, zero, suc, ◌+◌, ◌<◌, ◌≤◌, Bool, true, false, cond, ◌||◌, ◌&&◌, not, refl, sym, ◌∙◌, ap, arith, inl, inr}
-use Rattle.rollout_machine.proofs.Common.{Some, None, nat_lt, nat_eq, and-true, or-false, or-true, cases_eq, cases_lt, ne_eqb, eq-eqb, false≢true, lt-ltb}
-use Rattle.rollout_machine.proofs.Common.{action_of, is_on_action, is_action_place, outcome, CommandList, Make, ◌▸◌, Command, Resume, TriggerNext, Outcome}
-use Rattle.rollout_machine.proofs.Common.{Good, Bad, tally, reaches, success_holds, is_outcome, IsLast, HasSoundPlan, StartedOnly, GetsOutcome, IsView}
-use Rattle.rollout_machine.proofs.Common.{feedback_pauses, good_after, next_if, starts_next, last_with, FollowsFeedback, FollowsResume, FollowsTrigger}
-use Rattle.rollout_machine.proofs.Common.{is_group_started, next_started, is_paused, error_begins_at, is_trigger_of, some_up_to, Rollout, size_in, success_at}
-use Rattle.rollout_machine.proofs.Common.{Effects}
+use Rattle.rollout_machine.proofs.Common.{◌≡◌, ℕ, zero, suc, ◌+◌, ◌<◌, ◌≤◌, Bool, true, false, cond, ◌||◌, ◌&&◌, not, refl, sym, ◌∙◌, ap, arith, inl, inr, Some}
+use Rattle.rollout_machine.proofs.Common.{None, nat_lt, nat_eq, and-true, or-false, or-true, cases_eq, cases_lt, ne_eqb, eq-eqb, false≢true, lt-ltb, action_of}
+use Rattle.rollout_machine.proofs.Common.{is_on_action, is_action_place, outcome, CommandList, Make, ◌▸◌, Command, Resume, TriggerNext, Outcome, Good, Bad}
+use Rattle.rollout_machine.proofs.Common.{tally, reaches, success_holds, is_outcome, IsLast, HasSoundPlan, StartedOnly, GetsOutcome, IsView, feedback_pauses}
+use Rattle.rollout_machine.proofs.Common.{good_after, next_if, starts_next, last_with, FollowsFeedback, FollowsResume, FollowsTrigger, is_group_started}
+use Rattle.rollout_machine.proofs.Common.{next_started, is_paused, error_begins_at, is_trigger_of, some_up_to, Rollout, size_in, success_at, Effects}
 use Rattle.rollout_machine.specs.declared.view.RolloutView.{RolloutView}
 use Rattle.rollout_machine.proofs.Starts.{starts_one_more, last_after}
 use Rattle.rollout_machine.proofs.Tallies.{untouched, no_success, tally_same, tally_gains, tally_elsewhere, quiet, paused_after_outcome, no_error_begins}
 
 -- what `next_if` starts, beside the last group
 next_is : (b : Bool) (n l : ℕ) → n ≡ l → last_with (next_if b n) l ≡ cond b (suc l) l
-next_is true n l e = omega arith
-next_is false n l e = refl
+next_is b n l e = grind arith
 
 pub opens_by_count : (x : Rollout) (r : ℕ) (h : CommandList) (c : Command) (l : ℕ) → 1 ≤ l → is_trigger_of r c ≡ false → starts_one_more x r h c l
     ≡ (nat_lt l x.plan.groups.count && (not (is_paused x r (h ▸ c)) && success_holds x r l (h ▸ c)))
@@ -64,10 +62,7 @@ begins_now v x r g j l h c o w a =
     rw (w.own.bad, w.own.size, w.own.error, gain) refl
 
 or_swap : (a b : Bool) → (a || b) ≡ (b || a)
-or_swap true true = refl
-or_swap true false = refl
-or_swap false true = refl
-or_swap false false = refl
+or_swap a b = grind arith
 
 tests : (m n k i : ℕ) (a b d f : Bool) → m ≡ n → k ≡ i → a ≡ b → d ≡ f → (nat_lt m k && (not a && d)) ≡ (nat_lt n i && (not b && f))
 tests m n k i a b d f p q s t = rw (p, q, s, t) refl

@@ -1,4 +1,5 @@
 -- A grouping that leaves no group empty is a cut, and each group has thresholds.
+use native.Mathlib.Omega.{arith}
 use Rattle.rollout_machine.proofs.Common.{◌≡◌, ◌≤◌, ℕ, zero, suc, true, false, List, [], ◌∷◌, ◌++◌, length, slice_get, Option, Some, None, refl, sym, ap}
 use Rattle.rollout_machine.proofs.Common.{subst, ◌∙◌, is_some, AllByRecursion, list_all, and_parts, eqb-true, false≢true, leb-true, ltb-false, length-map}
 use Rattle.rollout_machine.proofs.Common.{is_plan, RolloutPlan, GroupDefinition, GroupingCovers, last_defined, percentages, some_empty, IsCut, LeavesNoneEmpty}
@@ -39,8 +40,7 @@ whole_is_cut ps m w some = subst (λ qs. IsCut (split_last m qs) m (length qs)) 
     (split_is_cut m w.before w.some (subst (LeavesNoneEmpty m) w.are some))
 
 no_first : (o : Option ℕ) → is_some o ≡ false → o ≡ None
-no_first None e = refl
-no_first (Some i) e = absurd (false≢true (sym e))
+no_first o e = grind (arith, false≢true, e)
 
 defined_is_cut : (ds : List GroupDefinition) (count m : ℕ) → is_group_count count ≡ true → define_each ds count ≡ true → some_empty ds count m ≡ false
     → IsCut (last_defined ds count m) m count

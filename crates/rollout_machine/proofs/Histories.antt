@@ -1,6 +1,7 @@
 -- The outcome of an action fits its history.
-use Rattle.rollout_machine.proofs.Common.{◌≡◌, ℕ, Bool, true, false, cond, ◌&&◌, List, [], ◌∷◌, ◌++◌, refl, sym, ◌∙◌, ap, subst, inl, inr, Option, Some, None}
-use Rattle.rollout_machine.proofs.Common.{is_none, option_or, history, is_heard, outcome, outcome_given, outcome_said, cancel_stands, CommandList, Make, ◌▸◌}
+use native.Mathlib.Omega.{arith}
+use Rattle.rollout_machine.proofs.Common.{◌≡◌, ℕ, Bool, true, false, cond, ◌&&◌, List, [], ◌∷◌, ◌++◌, refl, sym, ◌∙◌, subst, inl, inr, Option, Some, None}
+use Rattle.rollout_machine.proofs.Common.{is_none, option_or, history, outcome, outcome_given, outcome_said, CommandList, Make, ◌▸◌}
 use Rattle.rollout_machine.proofs.Common.{Command, Cancel, CancelFeedback, Feedback, Outcome, Gone, HistoryEntry, Reported, entries_in, reported_by}
 use Rattle.rollout_machine.specs.Histories.{first_outcome, FitsHistory, OutcomesFitHistories}
 use Rattle.rollout_machine.proofs.Actions.{append_none, entries_both}
@@ -50,17 +51,11 @@ fits_after None given es fs true v w = let same = first_behind es fs (open_gives
     record { given = λ said e. w.given said (sym same ∙ e); not_given = λ none. w.not_given (sym same ∙ none) }
 
 entries_if : (b : Bool) (reports : List Reported) → entries_in (cond b reports []) ≡ cond b (entries_in reports) []
-entries_if true reports = refl
-entries_if false reports = refl
+entries_if b reports = grind arith
 
 fits : (h : CommandList) (r j : ℕ) → FitsHistory (outcome h r j) (entries_in (history h r j))
 fits (Make approval) r j = given_fits None [] refl
-fits (h ▸ c) r j =
-    let entries = entries_both (history h r j) _
-    ∙ ap (λ es. entries_in (history h r j) ++ es) (entries_if (is_heard h c r j && is_none (outcome h r j)) (reported_by c)) in
-    subst (FitsHistory (outcome (h ▸ c) r j)) (sym entries)
-    (fits_after (outcome h r j) _ (entries_in (history h r j)) (entries_in (reported_by c)) (is_heard h c r j) (fits h r j)
-    (entries_fit c (is_none (outcome h r j) && cancel_stands h r j)))
+fits (h ▸ c) r j = grind (arith, fits h r j, entries_both, history, j, entries_if, is_none, fits_after, entries_fit)
 
 pub outcomes_fit_histories : OutcomesFitHistories
 outcomes_fit_histories h k a e =

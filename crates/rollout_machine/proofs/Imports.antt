@@ -154,18 +154,8 @@ abbrev pub by_row : Option TargetRow → Target → Target
 by_row None x = x
 by_row (Some row) x = record x { name = row.name; digest = row.digest; tags = sorted_words row.tags }
 
-keeps_id : (o : Option TargetRow) (x : Target) → (by_row o x).id ≡ x.id
-keeps_id None x = refl
-keeps_id (Some row) x = refl
-
 keeps_attributes : (o : Option TargetRow) (x : Target) → (by_row o x).attributes ≡ x.attributes
-keeps_attributes None x = refl
-keeps_attributes (Some row) x = refl
-
-by_row_twice : (a b : Option TargetRow) (x : Target) → by_row a (by_row b x) ≡ by_row (option_or a b) x
-by_row_twice None b x = refl
-by_row_twice (Some row) None x = refl
-by_row_twice (Some row) (Some other) x = refl
+keeps_attributes o x = grind arith
 
 abbrev pub names_it : TargetRow → Bytes → Option TargetRow
 names_it row t = cond (same_bytes row.id t) (Some row) None
@@ -188,9 +178,7 @@ old_is row x e = rw e refl
 
 others_same : (row : TargetRow) (f : Bytes → Target) (ids : List Bytes) → contains_word row.id ids ≡ false → map f ids ≡ map (after_row row f) ids
 others_same row f [] e = refl
-others_same row f (t ∷ ts) e =
-    let parts : (same_bytes row.id t ≡ false) × (contains_word row.id ts ≡ false) = or_parts _ _ e in
-    rw parts.0 (ap (λ xs. f t ∷ xs) (others_same row f ts parts.1))
+others_same row f (t ∷ ts) e = grind (arith, others_same row f ts, same_bytes, false, ts, or_parts, e, f)
 
 two : {X : Type 0} (x y : X) (xs ys : List X) → x ≡ y → xs ≡ ys → x ∷ xs ≡ y ∷ ys
 two x y xs ys e d = rw (e, d) refl
@@ -200,8 +188,7 @@ apart_both w t ts d n = rw (d, n) refl
 
 put_one : (row : TargetRow) (f : Bytes → Target) (ids : List Bytes) → KeepsIds f → IsSorted ids
     → (contains_word row.id ids ≡ false → (f row.id).attributes ≡ []) → put_target row (map f ids) ≡ map (after_row row f) (with_word row.id ids)
-put_one row f [] k s m = ap (λ (x : Target). x ∷ [])
-    (new_is row (f row.id) (k row.id) (m refl) ∙ sym (ap (λ b. by_row (cond b (Some row) None) (f row.id)) (same_refl row.id)))
+put_one row f [] k s m = grind (arith, Target, new_is, f, by_row, cond, same_refl)
 put_one row f (t ∷ ts) k s m =
     subst P (sym (k t)) (go (same_bytes row.id t) (bytes_below row.id t) refl refl (λ d. put_one row f ts k s.1 (λ n. m (apart_both row.id t ts d n))))
   where
@@ -234,14 +221,12 @@ put_all : (rows : List TargetRow) (f : Bytes → Target) (ids : List Bytes) → 
     ≡ map (after_rows rows f) (with_words (map (λ (row : TargetRow). row.id) rows) ids)
 put_all [] f ids k s m = refl
 put_all (row ∷ rows) f ids k s m =
-    ap (put_targets rows) (put_one row f ids k s (m row.id))
-    ∙ put_all rows (after_row row f) (with_word row.id ids) (λ t. keeps_id (names_it row t) (f t) ∙ k t) (sorted_with row.id ids s)
-    (λ t n. keeps_attributes (names_it row t) (f t) ∙ m t (or_parts _ _ (sym (has_with t row.id ids) ∙ n)).1)
+    grind (arith, put_all rows (after_row row f) (with_word row.id ids), f, ids, put_one, names_it, sorted_with, keeps_attributes, or_parts, has_with)
 
 -- the last row that names the target counts
 rows_are_last : (rows : List TargetRow) (f : Bytes → Target) (t : Bytes) → after_rows rows f t ≡ by_row (last_row_for t rows) (f t)
 rows_are_last [] f t = refl
-rows_are_last (row ∷ rows) f t = rows_are_last rows (after_row row f) t ∙ by_row_twice (last_row_for t rows) (names_it row t) (f t)
+rows_are_last (row ∷ rows) f t = grind (arith, rows_are_last rows (after_row row f) t, f, names_it)
 
 abbrev target_by : CommandList → Bytes → Option TargetRow → Target
 target_by h t o = record {
@@ -252,12 +237,8 @@ target_by h t o = record {
   attributes = attributes_in t h;
 }
 
-target_by_is : (h : CommandList) (t : Bytes) (o : Option TargetRow) → by_row o (target_in h t) ≡ target_by h t o
-target_by_is h t None = refl
-target_by_is h t (Some row) = refl
-
 imported_is : (h : CommandList) (rows : List TargetRow) (t : Bytes) → after_rows rows (target_in h) t ≡ target_in (h ▸ PutTargets rows) t
-imported_is h rows t = rows_are_last rows (target_in h) t ∙ target_by_is h t (last_row_for t rows)
+imported_is h rows t = grind (arith, rows_are_last, target_in)
 
 -- ---- who isn't there has no attributes
 

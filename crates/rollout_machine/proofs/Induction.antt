@@ -1,23 +1,22 @@
 -- What holds of every history of accepted commands.
 use Rattle.rollout_machine.proofs.Common.{◌≡◌, ℕ, zero, suc, ◌+◌, ◌<◌, ◌≤◌, Bool, true, false, cond, ◌||◌, ◌&&◌, not, List, [], ◌∷◌, ◌++◌, refl, sym, ◌∙◌, ap}
 use Rattle.rollout_machine.proofs.Common.{subst, arith, inl, inr, ◌⊎◌, Option, Some, None, length, nat_lt, nat_eq, is_none, slice_get, and-false, or-true}
-use Rattle.rollout_machine.proofs.Common.{unwrap_or, option_map, cases_Bool, ne_eqb, eq-eqb, and_parts, leb-true, eqb-true, false≢true, or_parts, not-false}
-use Rattle.rollout_machine.proofs.Common.{ActionPlace, action_of, is_on_action, is_action_place, action_places, action_place, new_places, places_of}
-use Rattle.rollout_machine.proofs.Common.{places_from, item_numbered, CommandList, Make, ◌▸◌, IsWellFormed, DeviceFeedback, DeploymentWord, CancelWord}
-use Rattle.rollout_machine.proofs.Common.{Command, AddModule, AddArtifact, AddSet, PutTargets, Tag, Untag, PutAttributes, CreateRollout, Cancel, Feedback}
+use Rattle.rollout_machine.proofs.Common.{option_map, cases_Bool, ne_eqb, eq-eqb, and_parts, leb-true, eqb-true, false≢true, or_parts, not-false}
+use Rattle.rollout_machine.proofs.Common.{ActionPlace, action_of, is_on_action, is_action_place, action_places, action_place, new_places}
+use Rattle.rollout_machine.proofs.Common.{places_from, item_numbered, CommandList, Make, ◌▸◌, IsWellFormed, DeviceFeedback, DeploymentWord, CancelWord, Command}
+use Rattle.rollout_machine.proofs.Common.{AddModule, AddArtifact, AddSet, PutTargets, Tag, Untag, PutAttributes, CreateRollout, Cancel, Feedback}
 use Rattle.rollout_machine.proofs.Common.{CancelFeedback, Resume, TriggerNext, Pause, Start, Approve, Deny, Bytes, RolloutPlan, ModuleLabel, HasSoundPlan}
 use Rattle.rollout_machine.proofs.Common.{StartedOnly, is_group_started, next_started, is_rollout_started, is_start_of, is_pause_of, is_resume_of, is_paused}
 use Rattle.rollout_machine.proofs.Common.{error_begins_at, some_up_to, step_records, decided, decision_on, rollouts_in, rollout_in, approval_of, Approval}
-use Rattle.rollout_machine.proofs.Common.{Waiting, Denied, Given, Rollout, rollouts, rollout_at, created, size_of, members_of, word_from, rollout_word}
+use Rattle.rollout_machine.proofs.Common.{Rollout, rollouts, rollout_at, created, size_of, members_of, word_from, rollout_word}
 use Rattle.rollout_machine.proofs.Common.{is_finished, RolloutWord, IsValid, verdict, verdict_row, is_running, is_at_pause, is_ready, word_is}
 use Rattle.rollout_machine.specs.Records.{records}
 use Rattle.rollout_machine.proofs.Groupings.{grouping_is_cut, has_thresholds}
 use Rattle.rollout_machine.proofs.Starts.{starts_one_more}
 use Rattle.rollout_machine.proofs.Tallies.{no_error_begins}
 use Rattle.rollout_machine.proofs.Ties.{IsFollowed, follow_on}
-use Rattle.rollout_machine.proofs.Whole.{IsAccepted, IsFresh}
-use Rattle.rollout_machine.proofs.Whole.{IsPlaced, rollout_numbered, feedback_step, cancel_feedback_step, cancel_step, resume_step, trigger_step, pause_step}
-use Rattle.rollout_machine.proofs.Whole.{start_step, module_step}
+use Rattle.rollout_machine.proofs.Whole.{IsAccepted, IsFresh, IsPlaced, rollout_numbered, feedback_step, cancel_feedback_step, cancel_step, resume_step}
+use Rattle.rollout_machine.proofs.Whole.{trigger_step, pause_step, start_step, module_step}
 use Rattle.rollout_machine.proofs.EffectLaws.{calm_on}
 use Rattle.rollout_machine.proofs.Valid.{IsPlace, NoneHolds, none_holds, feedback_place, cancel_feedback_place, feedback_started, cancel_feedback_started}
 use Rattle.rollout_machine.proofs.Valid.{cancel_started, cancel_place}
@@ -30,8 +29,7 @@ get_front (y ∷ xs) ys zero x e = e
 get_front (y ∷ xs) ys (suc i) x e = get_front xs ys i x e
 
 pub stays_numbered : {X : Type 0} (xs ys : List X) (k : ℕ) (x : X) → item_numbered xs k ≡ Some x → item_numbered (xs ++ ys) k ≡ Some x
-stays_numbered xs ys zero x e = cc
-stays_numbered xs ys (suc i) x e = get_front xs ys i x e
+stays_numbered xs ys k x e = grind (arith, get_front, e)
 
 get_either : {X : Type 0} (xs ys : List X) (i : ℕ) (x : X) → slice_get (xs ++ ys) i ≡ Some x → (slice_get xs i ≡ Some x)
     ⊎ ((slice_get xs i ≡ None) × ((j : ℕ) × (slice_get ys j ≡ Some x)))
@@ -41,8 +39,7 @@ get_either (y ∷ xs) ys (suc i) x e = get_either xs ys i x e
 
 pub either_numbered : {X : Type 0} (xs ys : List X) (k : ℕ) (x : X) → item_numbered (xs ++ ys) k ≡ Some x → (item_numbered xs k ≡ Some x)
     ⊎ ((item_numbered xs k ≡ None) × ((j : ℕ) × (slice_get ys j ≡ Some x)))
-either_numbered xs ys zero x e = cc
-either_numbered xs ys (suc i) x e = get_either xs ys i x e
+either_numbered xs ys k x e = grind (arith, get_either, e)
 
 -- ---- the invariant
 
@@ -125,10 +122,7 @@ not_decided h c r a e = go (decision_on r c) refl
     go (Some b) d = (let (x, k) = a.decides r b d in let both : Some x ≡ None = sym k ∙ e in cc)
 
 touched_placed : (h : CommandList) (c : Command) (p : ActionPlace) → action_of h c ≡ Some p → (k : ℕ) × (action_place h k ≡ Some p)
-touched_placed h (Cancel t a force) p e = (a, e)
-touched_placed h (Feedback feedback) p e = (feedback.action, e)
-touched_placed h (CancelFeedback feedback) p e = (feedback.action, e)
-touched_placed h _ p e = cc
+touched_placed h c p e = grind (arith, e)
 
 off_rollout : (h : CommandList) (c : Command) (r : ℕ) → Invariant h → is_rollout_started r h ≡ false → (j : ℕ) → is_on_action h c r j ≡ false
 off_rollout h c r w e j = go (action_of h c) refl
@@ -151,12 +145,8 @@ fresh_after h c r w e =
 
 in_range : (r a n j : ℕ) (p : ActionPlace) → slice_get (places_from r a n) j ≡ Some p → (p.rollout ≡ r) × (a ≤ p.position) × (p.position < a + n)
 in_range r a zero j p e = cc
-in_range r a (suc n) zero p e =
-    let er : p.rollout ≡ r = sym (ap (λ o. unwrap_or (option_map (λ (q : ActionPlace). q.rollout) o) r) e) in
-    let ej : p.position ≡ a = sym (ap (λ o. unwrap_or (option_map (λ (q : ActionPlace). q.position) o) a) e) in
-    (er, omega arith, omega arith)
-in_range r a (suc n) (suc j) p e = let t : (p.rollout ≡ r) × (suc a ≤ p.position) × (p.position < suc a + n) = in_range r (suc a) n j p e in
-    (t.0, omega (arith, t.1), omega (arith, t.2))
+in_range r a (suc n) zero p e = grind (arith, option_map, e)
+in_range r a (suc n) (suc j) p e = grind (arith, in_range r (suc a) n j p e, j, e)
 
 pub record IsNewPlace (h : CommandList) (c : Command) (p : ActionPlace) : Type 0 where
   pub rollout : Rollout
@@ -165,25 +155,11 @@ pub record IsNewPlace (h : CommandList) (c : Command) (p : ActionPlace) : Type 0
   pub low : 1 ≤ p.position
   pub high : p.position ≤ size_of rollout
 
-start_place : (h : CommandList) (r j : ℕ) (p : ActionPlace) (o : Option Rollout) → rollout_at h r ≡ o → slice_get (places_of r o) j ≡ Some p
-    → IsNewPlace h (Start r) p
-start_place h r j p None d e = cc
-start_place h r j p (Some x) d e =
-    let t : (p.rollout ≡ r) × (1 ≤ p.position) × (p.position < 1 + size_of x) = in_range r 1 (size_of x) j p e in
-    record { rollout = x; starts = eq-eqb r p.rollout (sym t.0); there = ap (rollout_at h) t.0 ∙ d; low = t.1; high = omega (arith, t.2) }
-
 new_place : (h : CommandList) (c : Command) (j : ℕ) (p : ActionPlace) → slice_get (new_places h c) j ≡ Some p → IsNewPlace h c p
-new_place h (Start r) j p e = start_place h r j p (rollout_at h r) refl e
-new_place h _ j p e = cc
+new_place h c j p e = grind (arith, in_range, j, e, eq-eqb)
 
 moved_place : (h : CommandList) (c : Command) (p : ActionPlace) → IsPlace h p → IsPlace (h ▸ c) p
-moved_place h c p w = record {
-  rollout = w.rollout;
-  there = stays_numbered (rollouts h) (created h c) p.rollout w.rollout w.there;
-  sound = w.sound;
-  low = w.low;
-  high = w.high;
-}
+moved_place h c p w = grind (arith, stays_numbered, created)
 
 pub goes_on : (h : CommandList) (c : Command) → Invariant h → IsAdmitted h c → Invariant (h ▸ c)
 goes_on h c w a = record {
@@ -256,16 +232,12 @@ no_rollout h a zero (x ∷ xs) e = cc
 no_rollout h a (suc i) (x ∷ xs) e = no_rollout h (suc a) i xs e
 
 pub no_record : (h : CommandList) (r : ℕ) → rollout_at h r ≡ None → item_numbered (rollouts_in h 1 (rollouts h)) r ≡ None
-no_record h zero e = refl
-no_record h (suc i) e = no_rollout h 1 i (rollouts h) e
+no_record h r e = grind (arith, no_rollout, e)
 
 -- a rollout that the verdict found is there
 pub found_rollout : (h : CommandList) (r : ℕ) → is_none (item_numbered (records h).rollouts r) ≡ false → (x : Rollout) × (rollout_at h r ≡ Some x)
 unfolding records
-found_rollout h r e = elim (is_there h r) [
-  | inr some ↦ some
-  | inl none ↦ (let t : is_none (item_numbered (records h).rollouts r) ≡ true = ap is_none (no_record h r none) in absurd (false≢true (sym e ∙ t)))
-]
+found_rollout h r e = grind (arith, is_there, inr, is_none, no_record, false≢true, e)
 
 started_in : (h : CommandList) (c : Command) → Invariant h → verdict h c ≡ None → (r : ℕ) (x : Rollout) → rollout_at h r ≡ Some x → StartedOnly x r h c
 started_in h (Feedback feedback) w e r x d = feedback_started h feedback (λ p t. w.placed feedback.action p t) e r x d
@@ -307,18 +279,10 @@ sound_in h (CreateRollout plan) m e (suc i) x d = cc
 sound_in h _ m e i x d = cc
 
 begins_in : (h : CommandList) (c : Command) → verdict h c ≡ None → (r : ℕ) → is_start_of r c ≡ true → (x : Rollout) × (rollout_at h r ≡ Some x)
-begins_in h (Start q) e r t =
-    let row : NoneHolds (verdict_row (records h) (Start q)) = none_holds (verdict_row (records h) (Start q)) e in
-    let (x, d) = found_rollout h q row.0 in
-    (x, ap (rollout_at h) (sym (eqb-true q r t)) ∙ d)
-begins_in h _ e r t = cc
+begins_in h c e r t = grind (arith, Start, none_holds, e, found_rollout, eqb-true)
 
 pauses_in : (h : CommandList) (c : Command) → verdict h c ≡ None → (r : ℕ) → is_pause_of r c ≡ true → (x : Rollout) × (rollout_at h r ≡ Some x)
-pauses_in h (Pause q) e r t =
-    let row : NoneHolds (verdict_row (records h) (Pause q)) = none_holds (verdict_row (records h) (Pause q)) e in
-    let (x, d) = found_rollout h q row.0 in
-    (x, ap (rollout_at h) (sym (eqb-true q r t)) ∙ d)
-pauses_in h _ e r t = cc
+pauses_in h c e r t = grind (arith, Pause, none_holds, e, found_rollout, eqb-true)
 
 decides_in : (h : CommandList) (c : Command) → verdict h c ≡ None → (r : ℕ) (b : Bool) → decision_on r c ≡ Some b → (x : Rollout) × (rollout_at h r ≡ Some x)
 decides_in h (Approve q) e r b t =
@@ -355,9 +319,7 @@ invariant_of (Make approval) v = begins_so approval
 invariant_of (h ▸ c) v = let w : Invariant h = invariant_of h v.0 in goes_on h c w (admitted h c w v.1 v.2)
 
 pub accepted : (h : CommandList) (c : Command) → IsValid h → verdict h c ≡ None → IsAccepted h c
-accepted h c v e =
-    let w : Invariant h = invariant_of h v in
-    record { last = w.last; follows = w.follows; started = started_in h c w e }
+accepted h c v e = grind (arith, invariant_of, started_in, e)
 
 -- ---- feedback, from the records before it
 
@@ -368,44 +330,27 @@ placed_at h c k w p e =
 
 pub feedback_is_step : (h : CommandList) (feedback : DeviceFeedback DeploymentWord) → IsValid h → verdict h (Feedback feedback) ≡ None
     → records (h ▸ Feedback feedback) ≡ step_records (records h) (Feedback feedback)
-feedback_is_step h feedback v e =
-    let (p, at, started) = feedback_place h feedback e in
-    feedback_step h feedback (accepted h (Feedback feedback) v e) (placed_at h (Feedback feedback) feedback.action (invariant_of h v) p at)
+feedback_is_step h feedback v e = grind (arith, feedback_place, e, feedback_step, accepted, Feedback, placed_at, invariant_of)
 
 pub cancel_feedback_is_step : (h : CommandList) (feedback : DeviceFeedback CancelWord) → IsValid h → verdict h (CancelFeedback feedback) ≡ None
     → records (h ▸ CancelFeedback feedback) ≡ step_records (records h) (CancelFeedback feedback)
-cancel_feedback_is_step h feedback v e =
-    let (p, at, started) = cancel_feedback_place h feedback e in
-    cancel_feedback_step h feedback (accepted h (CancelFeedback feedback) v e) (placed_at h (CancelFeedback feedback) feedback.action (invariant_of h v) p at)
+cancel_feedback_is_step h feedback v e = grind (arith, cancel_feedback_place, e, cancel_feedback_step, accepted, CancelFeedback, placed_at, invariant_of)
 
 pub cancel_is_step : (h : CommandList) (t : Bytes) (k : ℕ) (force : Bool) → IsValid h → verdict h (Cancel t k force) ≡ None → records (h ▸ Cancel t k force)
     ≡ step_records (records h) (Cancel t k force)
-cancel_is_step h t k force v e =
-    let (p, at, started) = cancel_place h t k force e in
-    cancel_step h t k force (accepted h (Cancel t k force) v e) (placed_at h (Cancel t k force) k (invariant_of h v) p at)
+cancel_is_step h t k force v e = grind (arith, cancel_place, e, cancel_step, accepted, Cancel, placed_at, invariant_of)
 
 -- ---- commands on a rollout
 
 -- what the words say of a record's flags
 running_begun : (a : Approval) (b f p : Bool) → is_running (word_from a b f p) ≡ true → b ≡ true
-running_begun Denied b f p e = cc
-running_begun Waiting b f p e = cc
-running_begun Given true f p e = refl
-running_begun Given false f p e = cc
+running_begun a b f p e = grind arith
 
 paused_begun : (a : Approval) (b f p : Bool) → is_at_pause (word_from a b f p) ≡ true → b ≡ true
-paused_begun Denied b f p e = cc
-paused_begun Waiting b f p e = cc
-paused_begun Given true f p e = refl
-paused_begun Given false f p e = cc
+paused_begun a b f p e = grind arith
 
 pub ready_not_begun : (a : Approval) (b f p : Bool) → is_ready (word_from a b f p) ≡ true → b ≡ false
-ready_not_begun Denied b f p e = cc
-ready_not_begun Waiting b f p e = cc
-ready_not_begun Given false f p e = refl
-ready_not_begun Given true true p e = cc
-ready_not_begun Given true false true e = cc
-ready_not_begun Given true false false e = cc
+ready_not_begun a b f p e = grind arith
 
 -- a rollout that has begun has a started group, and one that hasn't has none
 some_started : (x : Rollout) (r l : ℕ) (h : CommandList) → IsFollowed x r h l → is_rollout_started r h ≡ true → 1 ≤ l
@@ -437,10 +382,7 @@ trigger_is_step h q v e =
     trigger_step h q x w d (some_started x q (w.last q) h (w.follows q x d) b)
 
 pub pause_is_step : (h : CommandList) (q : ℕ) → IsValid h → verdict h (Pause q) ≡ None → records (h ▸ Pause q) ≡ step_records (records h) (Pause q)
-pause_is_step h q v e =
-    let row : NoneHolds (verdict_row (records h) (Pause q)) = none_holds (verdict_row (records h) (Pause q)) e in
-    let (x, d) = found_rollout h q row.0 in
-    pause_step h q x (accepted h (Pause q) v e) d
+pause_is_step h q v e = grind (arith, Pause, none_holds, e, found_rollout, pause_step, accepted)
 
 pub start_is_step : (h : CommandList) (q : ℕ) → IsValid h → verdict h (Start q) ≡ None → records (h ▸ Start q) ≡ step_records (records h) (Start q)
 start_is_step h q v e =

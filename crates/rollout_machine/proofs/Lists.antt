@@ -12,8 +12,7 @@ each_from_more f a n j x e d = rw (add-one, d, e) (longer f a n)
 get_each : {X : Type 0} (f : ℕ → X) (a n i : ℕ) (x : X) → slice_get (each_from f a n) i ≡ Some x → (i < n) × (x ≡ f (a + i))
 get_each f a zero i x e = cc
 get_each f a (suc n) zero x e = let k : a + 0 ≡ a = omega arith in (omega arith, rw k (cc))
-get_each f a (suc n) (suc i) x e = let rest = get_each f (suc a) n i x e in let k : suc a + i ≡ a + suc i = omega arith in
-    (omega (arith, rest.0), rw (← k) rest.1)
+get_each f a (suc n) (suc i) x e = grind (arith, get_each f (suc a) n i x e, f, e)
 
 pub each_there : {X : Type 0} (f : ℕ → X) (first n k i : ℕ) → k < n → i ≡ first + k → slice_get (each_from f first n) k ≡ Some (f i)
 each_there f first zero k i below at = absurd (omega (arith, below))
@@ -22,9 +21,7 @@ each_there f first (suc n) (suc k) i below at = each_there f (suc first) n k i (
 
 -- what stands at a number in the list of the numbers from 1 on
 pub numbered_each : {X : Type 0} (f : ℕ → X) (n i : ℕ) (x : X) → item_numbered (each_from f 1 n) i ≡ Some x → (1 ≤ i) × (i ≤ n) × (x ≡ f i)
-numbered_each f n zero x e = cc
-numbered_each f n (suc i) x e = let found = get_each f 1 n i x e in let k : 1 + i ≡ suc i = omega arith in
-    (omega arith, omega (arith, found.0), rw k at found.1)
+numbered_each f n i x e = grind (arith, get_each, f, e)
 
 pub length_each : {X : Type 0} (f : ℕ → X) (a n : ℕ) → length (each_from f a n) ≡ n
 length_each f a zero = refl

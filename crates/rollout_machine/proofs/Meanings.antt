@@ -1,17 +1,17 @@
 -- What the computing definitions mean, in words about the commands of a history.
 use Rattle.rollout_machine.proofs.Common.{◌≡◌, ◌⊎◌, inl, inr, ℕ, zero, suc, ◌+◌, ◌≤◌, ◌<◌, Bool, true, false, ◌||◌, ◌&&◌, not, cond, List, [], ◌∷◌, ◌++◌, refl}
-use Rattle.rollout_machine.proofs.Common.{sym, ◌∙◌, ap, subst, Option, Some, None, arith, slice_get, nat_eq, nat_lt, length, is_none, is_some, ActionPlace}
+use Rattle.rollout_machine.proofs.Common.{sym, ◌∙◌, ap, subst, Option, Some, None, arith, slice_get, nat_lt, length, is_none, is_some, ActionPlace}
 use Rattle.rollout_machine.proofs.Common.{action_places, places_from, places_of, new_places, action_place, action_of, is_heard, is_on_action, is_action_place}
-use Rattle.rollout_machine.proofs.Common.{outcome_given, outcome, outcome_of_deployment, outcome_of_cancel, cancel_standing_said, cancel_stands, is_canceling}
+use Rattle.rollout_machine.proofs.Common.{outcome_given, outcome, cancel_standing_said, cancel_stands, is_canceling}
 use Rattle.rollout_machine.proofs.Common.{reports, is_again, same_bytes, item_numbered, CommandList, Make, ◌▸◌, followed_by, Bytes, TargetRow, Command}
-use Rattle.rollout_machine.proofs.Common.{PutTargets, Start, Pause, TriggerNext, Cancel, Feedback, CancelFeedback, Succeeded, Failed, Noted, ClosedCancel}
-use Rattle.rollout_machine.proofs.Common.{CanceledCancel, RejectedCancel, NotedCancel, DeploymentWord, CancelWord, Outcome, Good, Bad, Gone, Rejected}
+use Rattle.rollout_machine.proofs.Common.{PutTargets, Start, Pause, TriggerNext, Cancel, Feedback, CancelFeedback}
+use Rattle.rollout_machine.proofs.Common.{Outcome, Gone, Rejected}
 use Rattle.rollout_machine.proofs.Common.{success_holds, error_holds, NoneGave, CancelingIsLast, NotNamed, LastRow, SpeaksOfCancel, EndsInCommand, NoneSpeaks}
 use Rattle.rollout_machine.proofs.Common.{StartedIs, NeverNamed, Says, PauseBegins, OutcomeIsFirst, NumbersActions, FirstOutcome, size_at, NextIsStarted}
 use Rattle.rollout_machine.proofs.Common.{LastIsCancel, started_sizes, started_by, Offer, offer, first_offer, is_paused, is_trigger_of, is_pause_of}
 use Rattle.rollout_machine.proofs.Common.{next_started, is_group_started, pause_begins, error_begins_at, some_up_to, Records, ActionRecord, Rollout}
 use Rattle.rollout_machine.proofs.Common.{rollout_at, size_of, is_for, has_started, import_rows_of, last_row_for, last_row_of, and_parts, not-true, eqb-true}
-use Rattle.rollout_machine.proofs.Common.{eq-eqb, lt-ltb, false≢true, cases_lt, option_or, unwrap_or}
+use Rattle.rollout_machine.proofs.Common.{eq-eqb, lt-ltb, false≢true, cases_lt, option_or}
 
 pub one_more : (h : CommandList) (cs : List Command) (c : Command) → followed_by h (cs ++ c ∷ []) ≡ followed_by h cs ▸ c
 one_more h [] c = refl
@@ -27,12 +27,10 @@ longer h c e = record {
 }
 
 is_pause : (r : ℕ) (c : Command) → is_pause_of r c ≡ true → c ≡ Pause r
-is_pause r (Pause q) e = ap Pause (eqb-true q r e)
-is_pause r _ e = cc
+is_pause r c e = grind (arith, Pause, eqb-true, e)
 
 or_split : (a b : Bool) → (a || b) ≡ true → (a ≡ true) ⊎ (b ≡ true)
-or_split true b d = inl d
-or_split false b d = inr d
+or_split a b d = grind (arith, inr)
 
 some_of : (p : ℕ → Bool) (n : ℕ) → some_up_to p n ≡ true → (i : ℕ) × (1 ≤ i) × (i ≤ n) × (p i ≡ true)
 some_of p zero e = cc
@@ -54,8 +52,7 @@ pause_begins_to x r before c e = go (or_split _ _ e)
         inr (record { group = w.0; first = w.1; last = w.2; now = parts.0; not_before = not-true _ parts.1 })
 
 is_trigger : (r : ℕ) (c : Command) → is_trigger_of r c ≡ true → c ≡ TriggerNext r
-is_trigger r (TriggerNext q) e = ap TriggerNext (eqb-true q r e)
-is_trigger r _ e = cc
+is_trigger r c e = grind (arith, TriggerNext, eqb-true, e)
 
 -- the same over any earlier group
 pub record SomeNext (x : Rollout) (r i : ℕ) (earlier : CommandList → Bool) (h : CommandList) : Type 0 where
@@ -109,22 +106,8 @@ started_to x r (suc i) h a b e =
 
 -- outcomes
 gave : (h : CommandList) (c : Command) (r j : ℕ) (o : Outcome) → outcome_given c (is_canceling h r j) ≡ Some o → Says h c r j o
-gave h (Feedback feedback) r j o e = word feedback.word refl e
-  where
-    word : (w : DeploymentWord) → feedback.word ≡ w → outcome_of_deployment w ≡ Some o → ((feedback.word ≡ Succeeded) × (o ≡ Good))
-        ⊎ ((feedback.word ≡ Failed) × (o ≡ Bad))
-    word Succeeded d e = inl (d, cc)
-    word Failed d e = inr (d, cc)
-    word Rejected d e = cc
-    word (Noted p) d e = cc
-gave h (CancelFeedback feedback) r j o e = word feedback.word refl e
-  where
-    word : (w : CancelWord) → feedback.word ≡ w → outcome_of_cancel w ≡ Some o → ((feedback.word ≡ ClosedCancel) ⊎ (feedback.word ≡ CanceledCancel))
-        × (o ≡ Gone)
-    word ClosedCancel d e = (inl d, cc)
-    word CanceledCancel d e = (inr d, cc)
-    word RejectedCancel d e = cc
-    word (NotedCancel p) d e = cc
+gave h (Feedback feedback) r j o e = grind (arith, e, inr, Rejected)
+gave h (CancelFeedback feedback) r j o e = grind (arith, e, inr)
 gave h (Cancel t a force) r j o e = word force (is_canceling h r j) refl refl e
   where
     word : (f b : Bool) → force ≡ f → is_canceling h r j ≡ b → cond (f && b) (Some Gone) None ≡ Some o → (force ≡ true) × (is_canceling h r j ≡ true)
@@ -135,20 +118,10 @@ gave h (Cancel t a force) r j o e = word force (is_canceling h r j) refl refl e
 gave h _ r j o e = cc
 
 gives_it : (h : CommandList) (c : Command) (r j : ℕ) (o : Outcome) → Says h c r j o → outcome_given c (is_canceling h r j) ≡ Some o
-gives_it h (Feedback feedback) r j o (inl d) = rw (d.0, d.1) refl
-gives_it h (Feedback feedback) r j o (inr d) = rw (d.0, d.1) refl
-gives_it h (CancelFeedback feedback) r j o d = elim (d.0) [ inl k ↦ rw (k, d.1) refl | inr k ↦ rw (k, d.1) refl ]
-gives_it h (Cancel t a force) r j o d = rw (d.0, d.1, d.2) refl
-gives_it h _ r j o d = absurd d
+gives_it h c r j o d = grind (arith, inr)
 
 at_place : (p : Option ActionPlace) (r j : ℕ) → is_action_place p r j ≡ true → p ≡ Some (record { rollout = r; position = j })
-at_place None r j e = cc
-at_place (Some p) r j e =
-    let w : (nat_eq p.rollout r ≡ true) × (nat_eq p.position j ≡ true) = and_parts _ _ e in
-    ap (λ (q : ActionPlace). Some q) (both p.rollout p.position (eqb-true _ _ w.0) (eqb-true _ _ w.1))
-  where
-    both : (a b : ℕ) → a ≡ r → b ≡ j → ◌≡◌ {A = ActionPlace} (record { rollout = a; position = b }) (record { rollout = r; position = j })
-    both a b d e = rw (d, e) refl
+at_place p r j e = grind (arith, j, and_parts, e, eqb-true)
 
 on_place : (h : CommandList) (c : Command) (r j : ℕ) → action_of h c ≡ Some (record { rollout = r; position = j }) → is_on_action h c r j ≡ true
 on_place h c r j e = rw e (rw (eq-eqb r r refl, eq-eqb j j refl) refl)
@@ -172,19 +145,13 @@ abbrev outcome_after : Option Outcome → Bool → Option Outcome → Option Out
 outcome_after was on gives = option_or was (cond on gives None)
 
 none_before : (was : Option Outcome) (on : Bool) (gives : Option Outcome) → outcome_after was on gives ≡ None → was ≡ None
-none_before None on gives e = refl
-none_before (Some o) on gives e = cc
+none_before was on gives e = grind arith
 
 none_given : (was : Option Outcome) (on : Bool) (gives : Option Outcome) (o : Outcome) → outcome_after was on gives ≡ None → on ≡ true → gives ≡ Some o → ⊥
-none_given None true None o e d k = cc
-none_given None true (Some p) o e d k = cc
-none_given None false gives o e d k = cc
-none_given (Some p) on gives o e d k = cc
+none_given was on gives o e d k = grind arith
 
 all_none : (was : Option Outcome) (on : Bool) (gives : Option Outcome) → was ≡ None → (on ≡ false) ⊎ (gives ≡ None) → outcome_after was on gives ≡ None
-all_none was on gives e (inl d) = rw (e, d) refl
-all_none was false gives e (inr d) = rw e refl
-all_none was true gives e (inr d) = rw (e, d) refl
+all_none was on gives e h4 = grind (arith, e)
 
 pub none_gave : (h : CommandList) (r j : ℕ) → outcome h r j ≡ None → NoneGave h r j
 none_gave (Make approval) r j e = tt
@@ -244,8 +211,7 @@ outcome_is_first h r j o = (first_to h r j o, first_from h r j o)
 
 -- starts, from the words
 or_true : (a b : Bool) → b ≡ true → (a || b) ≡ true
-or_true true b e = refl
-or_true false b e = e
+or_true a b e = grind (arith, e)
 
 next_stays : (x : Rollout) (r i : ℕ) (earlier : CommandList → Bool) (g : CommandList) (cs : List Command) → next_started x r i earlier g ≡ true
     → next_started x r i earlier (followed_by g cs) ≡ true
@@ -294,15 +260,7 @@ started_is x r i h a b = (started_to x r i h a b, started_from x r i h a b)
 -- cancels
 -- what was said by a cancel, and by a rejection
 is_cancel : (c : Command) (b : Bool) → cancel_standing_said c ≡ Some b → b ≡ true → (t : Bytes) × (a : ℕ) × (force : Bool) × (c ≡ Cancel t a force)
-is_cancel (Cancel t a force) b e d = (t, a, force, refl)
-is_cancel (CancelFeedback feedback) b e d = absurd (word feedback.word e)
-  where
-    word : (w : CancelWord) → cancel_standing_said (CancelFeedback (record feedback { word = w })) ≡ Some b → ⊥
-    word ClosedCancel e = cc
-    word CanceledCancel e = cc
-    word (NotedCancel p) e = cc
-    word RejectedCancel e = absurd (false≢true (ap (λ (v : Option Bool). unwrap_or v true) e ∙ d))
-is_cancel _ b e d = cc
+is_cancel c b e d = grind (arith, e, CancelFeedback, false≢true)
 
 abbrev stands_after : Bool → Option Bool → Bool → Bool
 stands_after on said b = cond (on && is_some said) (elim said [ None ↦ false | Some v ↦ v ]) b
@@ -349,21 +307,13 @@ stands_to (h ▸ c) r j e = go (is_heard h c r j) (cancel_standing_said c) refl 
 
 still_stands : (g : CommandList) (cs : List Command) (r j : ℕ) → NoneSpeaks g cs r j → cancel_stands g r j ≡ true → cancel_stands (followed_by g cs) r j ≡ true
 still_stands g [] r j w e = e
-still_stands g (c ∷ cs) r j w e = still_stands (g ▸ c) cs r j w.1 (go (is_heard g c r j) (cancel_standing_said c) refl refl)
-  where
-    go : (on : Bool) (said : Option Bool) → is_heard g c r j ≡ on → cancel_standing_said c ≡ said → stands_after on said (cancel_stands g r j) ≡ true
-    go false said d k = e
-    go true None d k = e
-    go true (Some b) d k = absurd (w.0 (d, ap (λ (v : Option Bool). is_some v) k))
+still_stands g (c ∷ cs) r j w e = grind (arith, still_stands (g ▸ c) cs r j w.1, j, false, e, is_some)
 
 stands_from : (h : CommandList) (r j : ℕ) → LastIsCancel h r j → cancel_stands h r j ≡ true
-stands_from h r j w =
-    let now : cancel_stands (w.before ▸ Cancel w.target w.action w.force) r j ≡ true = rw w.on refl in
-    subst (λ (g : CommandList). cancel_stands g r j ≡ true) w.whole (still_stands (w.before ▸ Cancel w.target w.action w.force) w.rest r j w.last now)
+stands_from h r j w = grind (arith, Cancel, j, still_stands)
 
 pub is_open : (o : Option Outcome) → is_none o ≡ true → o ≡ None
-is_open None e = refl
-is_open (Some o) e = cc
+is_open o e = grind arith
 
 pub canceling_is_last : CancelingIsLast
 canceling_is_last h r j = (to, λ w. both (outcome h r j) (cancel_stands h r j) w.0 (stands_from h r j w.1))
@@ -455,8 +405,7 @@ least_from rs t k (b ∷ rest) o e i a g l = go (is_candidate rs t b) refl e (le
 
 pub least_offer : (rs : Records) (t : Bytes) (o : Offer) → offer rs t ≡ Some o → (k : ℕ) (a : ActionRecord) → item_numbered rs.actions k ≡ Some a → k < o.action
     → is_candidate rs t a ≡ false
-least_offer rs t o e zero a g l = cc
-least_offer rs t o e (suc i) a g l = least_from rs t 1 rs.actions o e i a g (omega (arith, l))
+least_offer rs t o e k a g l = grind (arith, least_from, e)
 
 -- targets
 pub not_there : (t : Bytes) (rows : List TargetRow) → last_row_for t rows ≡ None → NotNamed t rows
@@ -546,11 +495,7 @@ some_there p (suc n) i a b e = go (cases_lt i (suc n)) (some_there p n i a)
     go (inr l) ih = let same : i ≡ suc n = omega (arith, l, b) in or_true (some_up_to p n) (p (suc n)) (subst (λ (k : ℕ). p k ≡ true) same e)
 
 pub pause_begins_from : (x : Rollout) (r : ℕ) (before : CommandList) (c : Command) → PauseBegins x r before c → pause_begins x r before c ≡ true
-pause_begins_from x r before c (inl e) = rw e (first (nat_eq r r) _ (eq-eqb r r refl))
-  where
-    first : (a b : Bool) → a ≡ true → (a || b) ≡ true
-    first true b e = refl
-    first false b e = cc
+pause_begins_from x r before c (inl e) = grind (arith, e, eq-eqb, false)
 pause_begins_from x r before c (inr w) = or_true (is_pause_of r c) (some_up_to (error_begins_at x r before c) x.plan.groups.count)
     (some_there (error_begins_at x r before c) x.plan.groups.count w.group w.first w.last (both _ _ w.now w.not_before))
   where

@@ -95,9 +95,7 @@ fresh_rises : (reports : List Reported) (new : Reported) → Rise reports → st
 fresh_rises reports new w e = rise_behind reports new w (λ n d. fresh_above reports n new.entry w (sym (ap (standing_by reports new.entry) d) ∙ e))
 
 fresh_by : (s : Standing) → says_again s ≡ false → says_old s ≡ false → s ≡ Fresh
-fresh_by Fresh a b = refl
-fresh_by Again a b = cc
-fresh_by Old a b = cc
+fresh_by s a b = grind arith
 
 is_new_by : (a : ActionRecord) (new : Reported) → a.outcome ≡ None → is_old new a ≡ false → says_old (standing_of a.history new) ≡ false
 is_new_by a new e d = sym (ap (λ (o : Option _). is_none o && says_old (standing_of a.history new)) e) ∙ d

@@ -1,4 +1,5 @@
 -- What answers to devices name and give is offered.
+use native.Mathlib.Omega.{arith}
 use Rattle.rollout_machine.proofs.Common.{◌≡◌, ℕ, Bool, true, false, cond, not, ◌&&◌, [], Option, Some, None, refl, subst, ◌∙◌, nat_eq, ActionPlace}
 use Rattle.rollout_machine.proofs.Common.{query_reply, if_found, for_device, download, targets_reply, targets_matching, is_offer_of, modules_offered}
 use Rattle.rollout_machine.proofs.Common.{artifact_named, action_of_target, artifact_of_module, item_numbered, CommandList, Bytes, Credential, IsOfferable}
@@ -6,7 +7,7 @@ use Rattle.rollout_machine.proofs.Common.{IsLeastOffer, deployment_shown, module
 use Rattle.rollout_machine.proofs.Common.{PollShown, DeploymentShown, CancelShown, ContentsShown, Page, Query, Poll, ShowDeployment, ShowCancel, Download}
 use Rattle.rollout_machine.proofs.Common.{ShowTargets, ShowTarget, ShowTargetActions, ShowAction, ShowHistory, ShowModules, ShowModule, ShowArtifacts}
 use Rattle.rollout_machine.proofs.Common.{ShowArtifact, ShowContents, ShowSets, ShowSet, ShowRollouts, ShowRollout, ShowGroups, ShowGroup, ShowGroupTargets}
-use Rattle.rollout_machine.proofs.Common.{ShowReport, ShowActionsTable, group_numbered, IsValid, is_known, target_of, NotFound, Unauthorized, Tree, filter_of}
+use Rattle.rollout_machine.proofs.Common.{ShowReport, ShowActionsTable, IsValid, is_known, target_of, NotFound, Unauthorized, Tree, filter_of}
 use Rattle.rollout_machine.proofs.Common.{list_any, option_map, and_parts, eqb-true}
 use Rattle.rollout_machine.specs.Answers.{answer}
 use Rattle.rollout_machine.specs.Promises.{named_action, NamedIsOfferable, IsDownloadable, DownloadsAreOffered}
@@ -15,12 +16,10 @@ use Rattle.rollout_machine.proofs.Offers.{offer_is_least}
 -- ---- replies that name no action
 
 names_none : {X : Type 0} (reply : X → Reply) (o : Option X) → ((x : X) → named_action (reply x) ≡ None) → named_action (if_found reply o) ≡ None
-names_none reply None none = refl
-names_none reply (Some x) none = none x
+names_none reply o none = grind arith
 
 either_none : (b : Bool) (x y : Reply) → named_action x ≡ None → named_action y ≡ None → named_action (cond b x y) ≡ None
-either_none true x y ex ey = ex
-either_none false x y ex ey = ey
+either_none b x y ex ey = grind arith
 
 targets_none : (rs : Records) (page : Page) (o : Option Bytes) → named_action (targets_reply rs page o) ≡ None
 targets_none rs page None = refl
@@ -79,13 +78,7 @@ named_is h (ShowDeployment device n) k v e =
     (if_known (records h) device _ k e))
 named_is h (ShowCancel device n) k v e =
     offerable_by h device.id k v (where_offered (records h) device.id true n k (CancelShown n) refl (if_known (records h) device _ k e))
-named_is h (Download device m filename) k v e =
-    let none : named_action (download (records h) device.id m filename) ≡ None =
-    either_none (list_any (λ n. nat_eq n m) (modules_offered (records h) (offer (records h) device.id)))
-    (if_found (λ (a : ArtifactRecord). ContentsShown a.contents) (artifact_named m filename (records h).artifacts)) (Refused NotFound)
-    (names_none _ (artifact_named m filename (records h).artifacts) (λ a. refl)) refl in
-    let some : named_action (download (records h) device.id m filename) ≡ Some k = if_known (records h) device (download (records h) device.id m filename) k
-    e in cc
+named_is h (Download device m filename) k v e = grind (arith, device, either_none, offer, if_found, ContentsShown, Refused, names_none, if_known, e)
 named_is h (ShowTargets filter_text page) k v e = absurd (never (targets_none (records h) page filter_text) e)
 named_is h (ShowTarget t) k v e = absurd (never (names_none _ (target_of (records h) t) (λ x. refl)) e)
 named_is h (ShowTargetActions t page) k v e = absurd (never (names_none _ (target_of (records h) t) (λ x. refl)) e)
@@ -101,10 +94,8 @@ named_is h (ShowSet n) k v e = absurd (never (names_none _ (item_numbered (recor
 named_is h (ShowRollouts page) k v e = cc
 named_is h (ShowRollout r) k v e = absurd (never (names_none _ (item_numbered (records h).rollouts r) (λ x. refl)) e)
 named_is h (ShowGroups r page) k v e = absurd (never (names_none _ (item_numbered (records h).rollouts r) (λ x. refl)) e)
-named_is h (ShowGroup r i) k v e =
-    absurd (never (names_none _ (item_numbered (records h).rollouts r) (λ x. names_none _ (group_numbered i x.groups) (λ g. refl))) e)
-named_is h (ShowGroupTargets r i page) k v e =
-    absurd (never (names_none _ (item_numbered (records h).rollouts r) (λ x. names_none _ (group_numbered i x.groups) (λ g. refl))) e)
+named_is h (ShowGroup r i) k v e = grind (arith, never, names_none, e)
+named_is h (ShowGroupTargets r i page) k v e = grind (arith, never, names_none, e)
 named_is h (ShowReport r) k v e = absurd (never (names_none _ (item_numbered (records h).rollouts r) (λ x. refl)) e)
 named_is h (ShowActionsTable r) k v e = absurd (never (names_none _ (item_numbered (records h).rollouts r) (λ x. refl)) e)
 

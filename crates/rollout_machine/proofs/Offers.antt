@@ -6,10 +6,9 @@ use Rattle.rollout_machine.proofs.Common.{first_offer, offer, is_group_started, 
 use Rattle.rollout_machine.proofs.Common.{IsValid, unwrap_or, false≢true, ltb-true}
 use Rattle.rollout_machine.specs.Records.{records}
 use Rattle.rollout_machine.proofs.Actions.{get_map}
-use Rattle.rollout_machine.proofs.Valid.{IsPlace, its_group, has_started_is}
+use Rattle.rollout_machine.proofs.Valid.{IsPlace, its_group, has_started_is, found_action}
 use Rattle.rollout_machine.proofs.Cuts.{group_of}
 use Rattle.rollout_machine.proofs.Whole.{rollout_numbered}
-use Rattle.rollout_machine.proofs.Valid.{found_action}
 use Rattle.rollout_machine.proofs.TargetTies.{same_refl, same_true}
 use Rattle.rollout_machine.proofs.Meanings.{is_candidate, is_open as is_open_of, least_offer, none_from}
 use Rattle.rollout_machine.proofs.Induction.{invariant_of}

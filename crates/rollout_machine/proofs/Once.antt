@@ -1,11 +1,12 @@
 -- A feedback on an action that has its outcome changes no record, and neither does an import that comes twice.
+use native.Mathlib.Omega.{arith}
 use Rattle.rollout_machine.proofs.Common.{List, [], ◌∷◌, ◌||◌, cond, Option, None, subst, inl, inr, ◌≡◌, Bool, true, false, ◌&&◌, refl, sym, ◌∙◌, ap, Some}
-use Rattle.rollout_machine.proofs.Common.{answer, query_reply, command_reply, Asked, Asks, Do, Ask, Refusal, ActionPlace, action_places, action_place}
+use Rattle.rollout_machine.proofs.Common.{answer, command_reply, Asked, Asks, Do, Ask, Refusal, ActionPlace, action_places, action_place}
 use Rattle.rollout_machine.proofs.Common.{contains_word, with_words, same_bytes, same_words, with_word, CommandList, ◌▸◌, Make, Command, Feedback, Bytes}
-use Rattle.rollout_machine.proofs.Common.{PutTargets, TargetRow, CancelFeedback, step_records, rollouts_in, action_in, needs_approval, modules, artifacts}
-use Rattle.rollout_machine.proofs.Common.{sets, without_repeats, is_doubled, same_rows, same_row, IsTraceless, is_had, RepeatsLeaveNoTrace, is_repeat}
-use Rattle.rollout_machine.proofs.Common.{rollouts, target_in, last_row_of, tags_in, target_ids, targets, attributes_in, Target, last_row_for, tags_by_row}
-use Rattle.rollout_machine.proofs.Common.{IsValid, verdict, check, option_or, unwrap_or, false≢true, cases_Bool, and_parts}
+use Rattle.rollout_machine.proofs.Common.{PutTargets, TargetRow, CancelFeedback, step_records, rollouts_in, action_in, needs_approval, modules, artifacts, sets}
+use Rattle.rollout_machine.proofs.Common.{without_repeats, is_doubled, same_rows, same_row, IsTraceless, is_had, RepeatsLeaveNoTrace, is_repeat, rollouts}
+use Rattle.rollout_machine.proofs.Common.{target_in, last_row_of, tags_in, target_ids, targets, attributes_in, Target, last_row_for, tags_by_row, IsValid}
+use Rattle.rollout_machine.proofs.Common.{verdict, check, option_or, unwrap_or, false≢true, cases_Bool, and_parts}
 use Rattle.rollout_machine.specs.Requests.{Rejected}
 use Rattle.rollout_machine.proofs.Answering.{rejected_answer, query_answer, refused_answer, accepted_step}
 use Rattle.rollout_machine.specs.Records.{records}
@@ -13,12 +14,10 @@ use Rattle.std.specs.Prelude.{map, ⊤}
 use Rattle.rollout_machine.proofs.Imports.{IsSorted, sorted_ids, never_with, with_there}
 use Rattle.rollout_machine.proofs.TargetTies.{same_refl, same_true, has_with}
 use Rattle.rollout_machine.proofs.EffectLaws.{calm_outcome}
-use Rattle.rollout_machine.proofs.Actions.{calm_actions}
-use Rattle.rollout_machine.proofs.Whole.{bare, calm_everywhere, had_changes_nothing}
+use Rattle.rollout_machine.proofs.Actions.{calm_actions, append_none, map_same}
+use Rattle.rollout_machine.proofs.Whole.{bare, calm_everywhere, had_changes_nothing, same_records}
 use Rattle.rollout_machine.proofs.Induction.{accepted}
 use Rattle.rollout_machine.proofs.Main.{records_step}
-use Rattle.rollout_machine.proofs.Actions.{append_none, map_same}
-use Rattle.rollout_machine.proofs.Whole.{same_records}
 
 -- ---- an import that comes twice
 
@@ -48,8 +47,7 @@ target_by h t o r ws = record {
 
 twice_same : (h : CommandList) (t : Bytes) (o r : Option TargetRow) (ws : List Bytes) → target_by h t o (option_or o r) (tags_by_row o ws)
     ≡ target_by h t o r ws
-twice_same h t None r ws = refl
-twice_same h t (Some row) r ws = refl
+twice_same h t o r ws = grind arith
 
 targets_twice : (h : CommandList) (rows : List TargetRow) → targets (h ▸ PutTargets rows ▸ PutTargets rows) ≡ targets (h ▸ PutTargets rows)
 targets_twice h rows =
@@ -142,8 +140,7 @@ doubled_same (h ▸ _) c v e d = cc
 -- lists with the same records have the same answers
 same_answers : (h k : CommandList) → IsValid h → IsValid k → records h ≡ records k → (asked : Asked) → answer h asked ≡ answer k asked
 same_answers h k v w e (Rejected refusal) = rejected_answer h refusal ∙ sym (rejected_answer k refusal)
-same_answers h k v w e (Asks (Ask query)) = query_answer h query ∙ ap (λ rs. record { reply = query_reply rs query; accepted = None }) e
-    ∙ sym (query_answer k query)
+same_answers h k v w e (Asks (Ask query)) = grind (arith, query_answer, e)
 same_answers h k v w e (Asks (Do c)) = go (verdict h c) refl
   where
     same : verdict h c ≡ verdict k c

@@ -24,9 +24,7 @@ rises_at (v ∷ vs) sorted zero (suc j) a b l e d = let same : v ≡ a = cc in s
 rises_at (v ∷ vs) sorted (suc i) (suc j) a b l e d = rises_at vs sorted.1 i j a b (omega (arith, l)) e d
 
 sorted_rises : (vs : List Bytes) → IsSorted vs → RiseInBytes vs
-sorted_rises vs sorted zero j a b l e d = cc
-sorted_rises vs sorted (suc i) zero a b l e d = cc
-sorted_rises vs sorted (suc i) (suc j) a b l e d = rises_at vs sorted i j a b (omega (arith, l)) e d
+sorted_rises vs sorted h2 j a b l e d = grind (arith, rises_at, sorted, j, e)
 
 -- ---- some words of a sorted list
 
@@ -76,12 +74,10 @@ sorted_all [] = tt
 sorted_all (w ∷ ws) = sorted_with w (sorted_words ws) (sorted_all ws)
 
 by_row_sorted : (o : Option TargetRow) (ws : List Bytes) → IsSorted ws → IsSorted (tags_by_row o ws)
-by_row_sorted None ws sorted = sorted
-by_row_sorted (Some row) ws sorted = sorted_all row.tags
+by_row_sorted o ws sorted = grind (arith, sorted, sorted_all)
 
 either : (b : Bool) (ws vs : List Bytes) → IsSorted ws → IsSorted vs → IsSorted (cond b ws vs)
-either true ws vs first second = first
-either false ws vs first second = second
+either b ws vs first second = grind arith
 
 tags_sorted : (t : Bytes) (h : CommandList) → IsSorted (tags_in t h)
 tags_sorted t (Make approval) = tt
@@ -102,8 +98,7 @@ members_sorted = each_created (λ x. IsSorted x.members) (λ h plan valid formed
 -- ---- the records
 
 tags_rise : (h : CommandList) (t : Target) (o : Option Bytes) → option_map (target_in h) o ≡ Some t → RiseInBytes t.tags
-tags_rise h t None e = cc
-tags_rise h t (Some u) e = let same : target_in h u ≡ t = cc in subst (λ (x : Target). RiseInBytes x.tags) same (sorted_rises (tags_in u h) (tags_sorted u h))
+tags_rise h t o e = grind (arith, target_in, Target, sorted_rises, tags_sorted)
 
 pub lists_rise_in_order : ListsRiseInOrder
 unfolding records

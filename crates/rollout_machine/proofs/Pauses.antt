@@ -1,4 +1,5 @@
 -- The computing definition of a pause, and the words "some prefix began a pause, and no resume follows it".
+use native.Mathlib.Omega.{arith}
 use Rattle.rollout_machine.proofs.Common.{◌≡◌, Bool, true, false, ◌||◌, ◌&&◌, not, List, [], ◌∷◌, ◌++◌, refl, ◌∙◌, ap, subst, ℕ, sym, inl, inr, ◌⊎◌, and_parts}
 use Rattle.rollout_machine.proofs.Common.{not-true, eq-eqb, eqb-true, false≢true, cases_Bool, CommandList, Make, ◌▸◌, followed_by, Resume, Start, Command}
 use Rattle.rollout_machine.proofs.Common.{NoResume, SomePause, PausedIs, StartIsIn, FirstStartedIs, is_rollout_started, is_start_of, is_paused, pause_begins}
@@ -65,8 +66,7 @@ paused_to x r (h ▸ c) e = go (or_split (pause_begins x r h c) (not (is_resume_
 -- ---- in words
 
 is_resume : (r : ℕ) (c : Command) → is_resume_of r c ≡ true → c ≡ Resume r
-is_resume r (Resume q) e = ap Resume (eqb-true q r e)
-is_resume r _ e = cc
+is_resume r c e = grind (arith, Resume, eqb-true, e)
 
 words_of : (r : ℕ) (cs : List Command) → NoneResumes r cs → NoResume r cs
 words_of r [] w = tt
@@ -104,8 +104,7 @@ paused_is x r h = (λ e. to (paused_to x r h e), λ w. paused_from x r h (from w
 -- ---- the first group is started where the start is in the list
 
 is_start : (r : ℕ) (c : Command) → is_start_of r c ≡ true → c ≡ Start r
-is_start r (Start q) e = ap Start (eqb-true q r e)
-is_start r _ e = cc
+is_start r c e = grind (arith, Start, eqb-true, e)
 
 start_to : (r : ℕ) (h : CommandList) → is_rollout_started r h ≡ true → StartIsIn r h
 start_to r (Make approval) e = cc

@@ -1,5 +1,5 @@
 -- At most one group starts in a command, and none is left to start after it.
-use Rattle.rollout_machine.proofs.Common.{◌≡◌, ℕ, Some, zero, suc, ◌≤◌, ◌<◌, Bool, true, false, cond, ◌&&◌, ◌||◌, not, refl, sym, ◌∙◌, arith, inl, inr, ◌⊎◌}
+use Rattle.rollout_machine.proofs.Common.{◌≡◌, ℕ, Some, zero, suc, ◌≤◌, ◌<◌, Bool, true, false, cond, ◌&&◌, ◌||◌, not, refl, sym, ◌∙◌, arith, inr}
 use Rattle.rollout_machine.proofs.Common.{nat_lt, CommandList, Make, ◌▸◌, Command, success_holds, IsLast, is_group_started, is_paused, next_started}
 use Rattle.rollout_machine.proofs.Common.{is_trigger_of, Rollout, rollout_at, false≢true, lt-ltb}
 use Rattle.rollout_machine.specs.Promises.{StartsGroup, NoGroupIsLeft}
@@ -10,30 +10,15 @@ use Rattle.rollout_machine.proofs.Whole.{IsAccepted}
 
 -- a group is behind the last started one, or not
 behind : (x : Rollout) (r i l : ℕ) (h : CommandList) → IsLast x r h l → is_group_started x r i h ≡ false → 1 ≤ i → l < i
-behind x r i l h last e low = go (cases i l) where
-  cases : (a b : ℕ) → (a ≤ b) ⊎ (b < a)
-  cases zero b = inl (omega arith)
-  cases (suc a) zero = inr (omega arith)
-  cases (suc a) (suc b) = elim (cases a b) [ inl u ↦ inl (omega (arith, u)) | inr u ↦ inr (omega (arith, u)) ]
-
-  go : (i ≤ l) ⊎ (l < i) → l < i
-  go (inl u) = absurd (false≢true (sym e ∙ last.up_to i low u))
-  go (inr u) = u
+behind x r i l h last e low = grind (arith, inr, false≢true, e)
 
 pub positive : (x : Rollout) (r i : ℕ) (h : CommandList) → is_group_started x r i h ≡ true → 1 ≤ i
-positive x r zero h e = absurd (false≢true e)
-positive x r (suc i) h e = omega arith
+positive x r i h e = grind (arith, false≢true, e)
 
 -- the group that starts is the one behind the last
 pub next_starts : (x : Rollout) (r i l : ℕ) (h : CommandList) (c : Command) (b : Bool) → IsLast x r h l → IsLast x r (h ▸ c) (cond b (suc l) l)
     → StartsGroup x r i h c → i ≡ suc l
-next_starts x r i l h c b last next s =
-    let low : l < i = behind x r i l h last s.before (positive x r i (h ▸ c) s.now) in
-    let high : i ≤ cond b (suc l) l = no_further x r i (cond b (suc l) l) (h ▸ c) next s.now in
-    go b high low where
-      go : (b : Bool) → i ≤ cond b (suc l) l → l < i → i ≡ suc l
-      go true high low = omega (arith, high, low)
-      go false high low = absurd (omega (arith, high, low))
+next_starts x r i l h c b last next s = grind (arith, behind, positive, cond, no_further, false)
 
 -- of one rollout at most one group starts
 pub one_of_rollout : (h : CommandList) (c : Command) (r i j : ℕ) (x : Rollout) → IsAccepted h c → rollout_at h r ≡ Some x → StartsGroup x r i h c

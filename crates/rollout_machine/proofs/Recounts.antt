@@ -1,6 +1,6 @@
 -- The counts of groups are those of their actions.
 use Rattle.rollout_machine.proofs.Common.{◌≡◌, ℕ, zero, suc, ◌+◌, ◌-◌, ◌≤◌, ◌<◌, Bool, true, false, cond, ◌&&◌, ◌||◌, List, [], ◌∷◌, ◌++◌, refl, sym, ◌∙◌, ap}
-use Rattle.rollout_machine.proofs.Common.{subst, arith, inl, inr, Option, Some, None, map, nat_eq, nat_le, slice_get, ActionPlace, action_places, new_places}
+use Rattle.rollout_machine.proofs.Common.{subst, arith, inl, inr, Option, Some, None, map, nat_eq, slice_get, ActionPlace, action_places, new_places}
 use Rattle.rollout_machine.proofs.Common.{places_of, places_from, outcome, CommandList, Make, ◌▸◌, Command, Start, Outcome, Good, Bad, Gone, is_outcome, tally}
 use Rattle.rollout_machine.proofs.Common.{IsCut, holds_position, is_rollout_started, is_start_of, is_paused, count_from, each_from, action_in, ActionRecord}
 use Rattle.rollout_machine.proofs.Common.{group_in, rollout_in, rollouts_in, approval_of, GroupRecord, Rollout, rollout_at, rollouts, size_of, bounds_in}
@@ -116,10 +116,7 @@ out_of : (b : Bounds) (f : ℕ → Bool) (j : ℕ) → (j < b.first) → (holds_
 out_of b f j l = rw (lt-leb b.first j l) refl
 
 past : (b : Bounds) (f : ℕ → Bool) (j : ℕ) → (b.last < j) → (holds_position j b && f j) ≡ false
-past b f j l = rw (lt-leb j b.last l) (none (nat_le b.first j) (f j)) where
-  none : (x y : Bool) → ((x && false) && y) ≡ false
-  none true y = refl
-  none false y = refl
+past b f j l = grind (arith, lt-leb, j, f, false)
 
 within : (b : Bounds) (f : ℕ → Bool) (j : ℕ) → b.first ≤ j → j ≤ b.last → (holds_position j b && f j) ≡ f j
 within b f j l u = rw (le-leb b.first j l, le-leb j b.last u) refl
@@ -211,5 +208,4 @@ rollouts_again h actions a (x ∷ xs) w = rw (w.0, rollouts_again h actions (suc
 
 pub stored_say_all : StoredSayAll
 unfolding records
-stored_say_all h v = ap (λ xs. record (records h) { rollouts = xs })
-    (rollouts_again h (map (action_in h) (action_places h)) 1 (rollouts h) (from_numbers _ (rollouts h) (λ r x d. rollout_again x r h v d)))
+stored_say_all h v = grind (arith, rollouts_again, from_numbers, rollout_again)

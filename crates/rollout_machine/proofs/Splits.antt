@@ -1,5 +1,5 @@
 -- A split that leaves no group empty is a cut.
-use Rattle.rollout_machine.proofs.Common.{◌≡◌, ◌≤◌, ◌<◌, ℕ, zero, suc, ◌+◌, ◌-◌, ◌*◌, ◌/◌, Bool, true, false, cond, List, [], ◌∷◌, ◌++◌, nat_eq, length}
+use Rattle.rollout_machine.proofs.Common.{◌≡◌, ◌≤◌, ◌<◌, ℕ, zero, suc, ◌+◌, ◌-◌, ◌*◌, Bool, true, false, cond, List, [], ◌∷◌, ◌++◌, nat_eq, length}
 use Rattle.rollout_machine.proofs.Common.{slice_get, take, drop, Some, None, refl, sym, ap, subst, ◌∙◌, arith, AllByRecursion, nat_tests, le-div}
 use Rattle.rollout_machine.proofs.Common.{div-lt_iff_lt-mul, FirstEmptyTells, SplitCovers, first_empty_from, left_by, share, split_bounds_of, split_last}
 use Rattle.rollout_machine.proofs.Common.{Bounds}
@@ -13,11 +13,7 @@ some_share rest p a b = le-div 1 (rest * p + 99) 100 (omega arith) (omega (arith
 
 -- 100 percent are all
 all_of : (rest : ℕ) → share rest 100 ≡ rest
-all_of rest =
-    let low : rest ≤ (rest * 100 + 99) / 100 = le-div rest (rest * 100 + 99) 100 (omega arith) (omega arith) in
-    let below : rest * 100 + 99 < (rest + 1) * 100 = omega arith in
-    let high : (rest * 100 + 99) / 100 < rest + 1 = (div-lt_iff_lt-mul {k = 100} {x = rest * 100 + 99} {y = rest + 1} (omega arith)).1 below in
-    omega (arith, low, high)
+all_of rest = grind (arith, le-div, div-lt_iff_lt-mul)
 
 no_more : (m : ℕ) (ps : List ℕ) → left_by m ps ≤ m
 no_more m [] = omega arith

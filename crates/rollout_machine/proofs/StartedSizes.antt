@@ -1,5 +1,5 @@
 -- No more actions than the members of all rollouts: each rollout is started once.
-use Rattle.rollout_machine.proofs.Common.{◌≡◌, ℕ, zero, suc, ◌+◌, ◌*◌, ◌≤◌, Bool, true, false, cond, List, [], ◌∷◌, ◌++◌, length, refl, ap, subst, arith, Some}
+use Rattle.rollout_machine.proofs.Common.{◌≡◌, ℕ, zero, suc, ◌+◌, ◌*◌, ◌≤◌, Bool, true, false, cond, List, [], ◌∷◌, ◌++◌, length, refl, ap, arith, Some}
 use Rattle.rollout_machine.proofs.Common.{None, slice_get, eq-eqb, action_places, CommandList, Make, ◌▸◌, Command, Start, size_at, started_by, started_sizes}
 use Rattle.rollout_machine.proofs.Common.{is_rollout_started, Rollout, created, rollout_at, rollouts, size_of, IsValid, verdict}
 use Rattle.rollout_machine.proofs.Meanings.{length_places}
@@ -26,19 +26,9 @@ grows p q wider a (x ∷ xs) ys = let rest = grows p q wider (suc a) xs ys in le
 gains : (p q : ℕ → Bool) → IsWider p q → (a i r : ℕ) (xs ys : List Rollout) (x : Rollout) → slice_get xs i ≡ Some x → a + i ≡ r → p r ≡ false → q r ≡ true
     → members_where p a xs + size_of x ≤ members_where q a (xs ++ ys)
 gains p q wider a i r [] ys x e at without with' = cc
-gains p q wider a zero r (y ∷ xs) ys x e at without with' =
-    let same : r ≡ a = omega (arith, at) in
-    let both : Some y ≡ Some x = e in
-    let item : y ≡ x = cc in
-    let size : size_of y ≡ size_of x = ap size_of item in
-    let rest = grows p q wider (suc a) xs ys in
-    let before : p a ≡ false = subst (λ (k : ℕ). p k ≡ false) same without in
-    let now : q a ≡ true = subst (λ (k : ℕ). q k ≡ true) same with' in
-    rw (before, now) (omega (arith, rest, size))
+gains p q wider a zero r (y ∷ xs) ys x e at without with' = grind (arith, e, grows, false)
 gains p q wider a (suc i) r (y ∷ xs) ys x e at without with' =
-    let rest = gains p q wider (suc a) i r xs ys x e (omega (arith, at)) without with' in
-    let own = part_grows (p a) (q a) (size_of y) (wider a) in
-    omega (arith, rest, own)
+    grind (arith, gains p q wider (suc a) i r xs ys x e (omega (arith, at)) without with', e, part_grows)
 
 abbrev begun_at : CommandList → ℕ → Bool
 begun_at h r = is_rollout_started r h

@@ -10,9 +10,7 @@ starts_one_more x r h c (suc k) = nat_lt (suc k) x.plan.groups.count
     && ((not (is_paused x r (h ▸ c)) && success_holds x r (suc k) (h ▸ c)) || is_trigger_of r c)
 
 stays : (lt nx b : Bool) → (lt && nx) ≡ true → (lt && (nx || b)) ≡ true
-stays true true b e = refl
-stays true false b e = cc
-stays false nx b e = cc
+stays lt nx b e = grind arith
 
 pub kept_started : (x : Rollout) (r i : ℕ) (h : CommandList) (c : Command) → is_group_started x r i h ≡ true → is_group_started x r i (h ▸ c) ≡ true
 kept_started x r zero h c e = e
@@ -21,25 +19,11 @@ kept_started x r (suc (suc k)) h c e = stays (nat_lt (suc k) x.plan.groups.count
 
 at_next : (lt nx e_now e_before calm trig : Bool) → (lt && nx) ≡ false → e_now ≡ true → e_before ≡ true
     → (lt && (nx || (e_now && (calm || (trig && (e_before && not nx)))))) ≡ (lt && (calm || trig))
-at_next false nx e_now e_before calm trig a b c = refl
-at_next true true e_now e_before calm trig a b c = cc
-at_next true false false e_before calm trig a b c = cc
-at_next true false true false calm trig a b c = cc
-at_next true false true true calm true a b c = refl
-at_next true false true true calm false a b c = refl
+at_next lt nx e_now e_before calm trig a b c = grind arith
 
 past_next : (lt nx e_now e_before quiet succeeds trig : Bool) → (lt && nx) ≡ false → e_before ≡ false → (e_now ≡ false) ⊎ (succeeds ≡ false)
     → (lt && (nx || (e_now && ((quiet && succeeds) || (trig && (e_before && not nx)))))) ≡ false
-past_next false nx e_now e_before quiet succeeds trig a b c = refl
-past_next true true e_now e_before quiet succeeds trig a b c = cc
-past_next true false e_now true quiet succeeds trig a b c = cc
-past_next true false false false quiet succeeds trig a b c = refl
-past_next true false true false quiet true trig a b (inl c) = cc
-past_next true false true false quiet true trig a b (inr c) = cc
-past_next true false true false true false true a b c = refl
-past_next true false true false true false false a b c = refl
-past_next true false true false false false true a b c = refl
-past_next true false true false false false false a b c = refl
+past_next lt nx e_now e_before quiet succeeds trig a b c = grind arith
 
 next_is : (x : Rollout) (r : ℕ) (h : CommandList) (c : Command) (l : ℕ) → IsLast x r h l → is_group_started x r (suc l) (h ▸ c) ≡ starts_one_more x r h c l
 next_is x r h c zero w = let b : is_rollout_started r h ≡ false = w.beyond 1 (omega arith) in rw b refl

@@ -1,25 +1,20 @@
 -- No answer is a failed store: verdicts and queries have other refusals.
-use Rattle.rollout_machine.proofs.Common.{◌≡◌, ◌≢◌, Bool, true, false, List, [], ◌∷◌, ℕ, Option, Some, None, refl, ap, sym, subst, length, ◌∙◌, cond, not}
-use Rattle.rollout_machine.proofs.Common.{◌&&◌, nat_eq, query_reply, command_reply, command_answer, if_found, for_device, download, targets_reply}
-use Rattle.rollout_machine.proofs.Common.{targets_matching, is_offer_of, added_artifact, added_rollout, modules_offered, artifact_named, action_of_target}
-use Rattle.rollout_machine.proofs.Common.{artifact_of_module, item_numbered, CommandList, ◌▸◌, Bytes, Credential, Command, AddModule, AddArtifact, AddSet}
-use Rattle.rollout_machine.proofs.Common.{PutTargets, Tag, Untag, PutAttributes, CreateRollout, Approve, Deny, Start, Pause, Resume, TriggerNext, Cancel}
-use Rattle.rollout_machine.proofs.Common.{Feedback, CancelFeedback, filter_of, Tree, deployment_shown, offer, records, Records, ArtifactRecord, RolloutRecord}
+use native.Mathlib.Omega.{arith}
+use Rattle.rollout_machine.proofs.Common.{◌≡◌, ◌≢◌, Bool, true, false, List, [], ◌∷◌, Option, Some, None, refl, ap, sym, subst, length, ◌∙◌, cond, not}
+use Rattle.rollout_machine.proofs.Common.{◌&&◌, query_reply, command_reply, command_answer, if_found, for_device, targets_reply}
+use Rattle.rollout_machine.proofs.Common.{targets_matching, action_of_target}
+use Rattle.rollout_machine.proofs.Common.{artifact_of_module, item_numbered, CommandList, Bytes, Credential, Command}
+use Rattle.rollout_machine.proofs.Common.{filter_of, Tree, offer, records, Records}
 use Rattle.rollout_machine.proofs.Common.{Reply, Refused, PollShown, DeploymentShown, CancelShown, ContentsShown, Page, Query, Poll, ShowDeployment}
 use Rattle.rollout_machine.proofs.Common.{ShowCancel, Download, ShowTargets, ShowTarget, ShowTargetActions, ShowAction, ShowHistory, ShowModules, ShowModule}
 use Rattle.rollout_machine.proofs.Common.{ShowArtifacts, ShowArtifact, ShowContents, ShowSets, ShowSet, ShowRollouts, ShowRollout, ShowGroups, ShowGroup}
 use Rattle.rollout_machine.proofs.Common.{ShowGroupTargets, ShowReport, ShowActionsTable, Request, Do, Ask, Asks, group_numbered, verdict, check, verdict_row}
-use Rattle.rollout_machine.proofs.Common.{first_refusal, is_known, target_of, Refusal, StoreFailed, NotFound, Unauthorized, list_any, false≢true, and_parts}
+use Rattle.rollout_machine.proofs.Common.{first_refusal, is_known, target_of, Refusal, StoreFailed, Unauthorized, false≢true, and_parts}
 use Rattle.rollout_machine.specs.Answers.{answer}
 use Rattle.rollout_machine.specs.StoreFailures.{is_failed_store, is_store}
 
-is_store_true : (refusal : Refusal) → is_store refusal ≡ true → refusal ≡ StoreFailed
-is_store_true StoreFailed e = refl
-is_store_true _ e = absurd (false≢true e)
-
 pub failed_true : (reply : Reply) → is_failed_store reply ≡ true → reply ≡ Refused StoreFailed
-failed_true (Refused refusal) e = ap Refused (is_store_true refusal e)
-failed_true _ e = absurd (false≢true e)
+failed_true reply e = grind (arith, Refused, false≢true, e)
 
 -- a reply by the test
 pub no_store_reply : (reply : Reply) → is_failed_store reply ≡ false → reply ≢ Refused StoreFailed
@@ -32,27 +27,10 @@ never_stores [] = true
 never_stores ((t, refusal) ∷ row) = not (is_store refusal) && never_stores row
 
 rows_never_store : (rs : Records) (c : Command) → never_stores (verdict_row rs c) ≡ true
-rows_never_store rs (AddModule label) = refl
-rows_never_store rs (AddArtifact upload) = refl
-rows_never_store rs (AddSet label) = refl
-rows_never_store rs (PutTargets rows) = refl
-rows_never_store rs (Tag t x) = refl
-rows_never_store rs (Untag t x) = refl
-rows_never_store rs (PutAttributes device attributes) = refl
-rows_never_store rs (CreateRollout plan) = refl
-rows_never_store rs (Approve r) = refl
-rows_never_store rs (Deny r) = refl
-rows_never_store rs (Start r) = refl
-rows_never_store rs (Pause r) = refl
-rows_never_store rs (Resume r) = refl
-rows_never_store rs (TriggerNext r) = refl
-rows_never_store rs (Cancel t k force) = refl
-rows_never_store rs (Feedback feedback) = refl
-rows_never_store rs (CancelFeedback feedback) = refl
+rows_never_store rs c = grind arith
 
 not_true : (b : Bool) → not b ≡ true → b ≡ false
-not_true true e = absurd (false≢true e)
-not_true false e = refl
+not_true b e = grind (arith, false≢true, e)
 
 first_never_stores : (row : List (Bool × Refusal)) (refusal : Refusal) → never_stores row ≡ true → first_refusal row ≡ Some refusal → is_store refusal ≡ false
 first_never_stores [] refusal never e = absurd (cc)
@@ -68,12 +46,10 @@ check_never_stores rs c refusal e = first_never_stores (verdict_row rs c) refusa
 -- ---- queries
 
 found_never : {X : Type 0} (reply : X → Reply) (o : Option X) → ((x : X) → is_failed_store (reply x) ≡ false) → is_failed_store (if_found reply o) ≡ false
-found_never reply None never = refl
-found_never reply (Some x) never = never x
+found_never reply o never = grind (arith, never)
 
 one_of_two : (b : Bool) (x y : Reply) → is_failed_store x ≡ false → is_failed_store y ≡ false → is_failed_store (cond b x y) ≡ false
-one_of_two true x y ex ey = ex
-one_of_two false x y ex ey = ey
+one_of_two b x y ex ey = grind arith
 
 device_never : (rs : Records) (device : Credential) (reply : Reply) → is_failed_store reply ≡ false → is_failed_store (for_device rs device reply) ≡ false
 device_never rs device reply never = one_of_two (is_known rs device) reply (Refused Unauthorized) never refl
@@ -87,15 +63,9 @@ targets_never rs page (Some text) = go (filter_of text) where
 
 query_never_stores : (rs : Records) (query : Query) → is_failed_store (query_reply rs query) ≡ false
 query_never_stores rs (Poll device) = device_never rs device (PollShown device.id (offer rs device.id)) refl
-query_never_stores rs (ShowDeployment device k) =
-    device_never rs device _ (one_of_two (is_offer_of k false (offer rs device.id)) (DeploymentShown (deployment_shown rs device.id k)) (Refused NotFound) refl
-    refl)
-query_never_stores rs (ShowCancel device k) =
-    device_never rs device _ (one_of_two (is_offer_of k true (offer rs device.id)) (CancelShown k) (Refused NotFound) refl refl)
-query_never_stores rs (Download device m filename) =
-    device_never rs device (download rs device.id m filename) (one_of_two (list_any (λ n. nat_eq n m) (modules_offered rs (offer rs device.id)))
-    (if_found (λ (a : ArtifactRecord). ContentsShown a.contents) (artifact_named m filename rs.artifacts)) (Refused NotFound)
-    (found_never (λ (a : ArtifactRecord). ContentsShown a.contents) (artifact_named m filename rs.artifacts) (λ a. refl)) refl)
+query_never_stores rs (ShowDeployment device k) = grind (arith, device_never, device, one_of_two, false, offer, DeploymentShown, Refused)
+query_never_stores rs (ShowCancel device k) = grind (arith, device_never, device, one_of_two, offer, CancelShown, Refused)
+query_never_stores rs (Download device m filename) = grind (arith, device_never, device, one_of_two, offer, if_found, ContentsShown, Refused, found_never)
 query_never_stores rs (ShowTargets filter_text page) = targets_never rs page filter_text
 query_never_stores rs (ShowTarget t) = found_never _ (target_of rs t) (λ x. refl)
 query_never_stores rs (ShowTargetActions t page) = found_never _ (target_of rs t) (λ x. refl)
@@ -118,22 +88,11 @@ query_never_stores rs (ShowActionsTable r) = found_never _ (item_numbered rs.rol
 
 -- ---- commands
 
-artifact_never : (k : ℕ) (o : Option ArtifactRecord) → is_failed_store (added_artifact k o) ≡ false
-artifact_never k None = refl
-artifact_never k (Some a) = refl
-
-rollout_never : (o : Option RolloutRecord) → is_failed_store (added_rollout o) ≡ false
-rollout_never None = refl
-rollout_never (Some x) = refl
-
 done_never_stores : (c : Command) (rs : Records) → is_failed_store (command_reply c rs) ≡ false
-done_never_stores (AddArtifact upload) rs = artifact_never _ (item_numbered rs.artifacts (length rs.artifacts))
-done_never_stores (CreateRollout plan) rs = rollout_never (item_numbered rs.rollouts (length rs.rollouts))
-done_never_stores _ rs = refl
+done_never_stores c rs = grind (arith, length)
 
 command_never_stores : (h : CommandList) (c : Command) (o : Option Refusal) → verdict h c ≡ o → is_failed_store (command_answer h c o).reply ≡ false
-command_never_stores h c None e = done_never_stores c (records (h ▸ c))
-command_never_stores h c (Some refusal) e = check_never_stores (records h) c refusal e
+command_never_stores h c o e = grind (arith, done_never_stores, check_never_stores, e)
 
 -- a desk's own answer to a request is no failed store
 pub answer_never_stores : (h : CommandList) (request : Request) → (answer h (Asks request)).reply ≢ Refused StoreFailed

@@ -2,7 +2,7 @@
 use Rattle.rollout_machine.proofs.Common.{◌≡◌, ℕ, zero, suc, ◌+◌, ◌*◌, ◌≤◌, Bool, true, false, cond, ◌||◌, ◌&&◌, not, refl, sym, ◌∙◌, ap, subst, arith, inl}
 use Rattle.rollout_machine.proofs.Common.{inr, Option, Some, None, nat_le, nat_eq, and-false, option_or, cases_eq, cases_Bool, lt-leb, ne_eqb, false≢true}
 use Rattle.rollout_machine.proofs.Common.{ActionPlace, action_of, is_heard, is_on_action, is_action_place, outcome, outcome_given, cancel_stands, CommandList}
-use Rattle.rollout_machine.proofs.Common.{◌▸◌, Command, Cancel, Feedback, CancelFeedback, Outcome, Good, Bad, Gone, tally, reaches, success_holds, is_outcome}
+use Rattle.rollout_machine.proofs.Common.{◌▸◌, Command, Outcome, Good, Bad, tally, reaches, success_holds, is_outcome}
 use Rattle.rollout_machine.proofs.Common.{IsInGroup, HasSoundPlan, StartedOnly, OutcomesStarted, GetsOutcome, is_group_started, is_paused, error_begins_at}
 use Rattle.rollout_machine.proofs.Common.{is_pause_of, is_resume_of, is_trigger_of, is_start_of, some_up_to, Rollout, success_at, error_at, first_of, size_in}
 use Rattle.rollout_machine.proofs.Counts.{count_same, count_none, count_one, none_up_to, one_up_to}
@@ -10,8 +10,7 @@ use Rattle.rollout_machine.proofs.Cuts.{one_group, size_positive}
 use Rattle.rollout_machine.proofs.Starts.{kept_started}
 
 pub or_none : (o : Option Outcome) → option_or o None ≡ o
-or_none None = refl
-or_none (Some x) = refl
+or_none o = grind arith
 
 pub untouched : (h : CommandList) (c : Command) (r j : ℕ) → is_on_action h c r j ≡ false → outcome (h ▸ c) r j ≡ outcome h r j
 untouched h c r j e = rw e (or_none (outcome h r j))
@@ -64,9 +63,7 @@ others x r g j h c o w k ne = untouched h c r k (ap (λ p. is_action_place p r k
     ∙ and-false (nat_eq r r))
 
 pub none_is : (q : Outcome) → is_outcome q None ≡ false
-none_is Good = refl
-none_is Bad = refl
-none_is Gone = refl
+none_is q = grind arith
 
 gains_by : (q : Outcome) (x : Rollout) (r g j : ℕ) (h : CommandList) (c : Command) (o : Outcome) → GetsOutcome x r g j h c o → (b : Bool)
     → is_outcome q (Some o) ≡ b → tally q x r g (h ▸ c) ≡ tally q x r g h + cond b 1 0
@@ -101,16 +98,11 @@ tally_elsewhere q x r g j h c o s w i a ne = tally_same q x r i h c (λ k v. oth
 -- ---- pauses
 
 never_begins : (a b : Bool) → a ≡ b → (a && not b) ≡ false
-never_begins true true e = refl
-never_begins true false e = cc
-never_begins false b e = refl
+never_begins a b e = grind arith
 
 pub quiet : (h : CommandList) (c : Command) (p : ActionPlace) (r : ℕ) → action_of h c ≡ Some p → (is_pause_of r c ≡ false) × (is_resume_of r c ≡ false)
     × (is_trigger_of r c ≡ false) × (is_start_of r c ≡ false)
-quiet h (Cancel t a force) p r e = (refl, refl, refl, refl)
-quiet h (Feedback feedback) p r e = (refl, refl, refl, refl)
-quiet h (CancelFeedback feedback) p r e = (refl, refl, refl, refl)
-quiet h _ p r e = cc
+quiet h c p r e = grind arith
 
 -- after a final outcome the rollout is paused if it was, or if the action's own group begins to be in error
 pub paused_after_outcome : (x : Rollout) (r g j : ℕ) (h : CommandList) (c : Command) (o : Outcome) → HasSoundPlan x → GetsOutcome x r g j h c o

@@ -1,4 +1,5 @@
 -- Targets in words: who is there, by which row, and the values of their attributes.
+use native.Mathlib.Omega.{arith}
 use Rattle.rollout_machine.proofs.Common.{◌≡◌, Bool, true, false, cond, ◌||◌, List, [], ◌∷◌, ◌++◌, refl, sym, ◌∙◌, ap, subst, Option, Some, None, map, is_some}
 use Rattle.rollout_machine.proofs.Common.{same_bytes, with_word, with_words, contains_word, bytes_below, Make, CommandList, ◌▸◌, followed_by, Attribute}
 use Rattle.rollout_machine.proofs.Common.{PutAttributes, Bytes, PutTargets, TargetRow, Command, NotNamed, ValueIsLast, RowIsLast, last_given, TargetsAreNamed}
@@ -37,15 +38,7 @@ row_is_the_last h t row = (row_is_last h t row, row_from h t row)
 named_in : (t : Bytes) (rows : List TargetRow) (vs : List Bytes) → contains_word t (with_words (map (λ (row : TargetRow). row.id) rows) vs)
     ≡ (is_some (last_row_for t rows) || contains_word t vs)
 named_in t [] vs = refl
-named_in t (row ∷ rows) vs =
-    named_in t rows (with_word row.id vs)
-    ∙ ap (λ b. is_some (last_row_for t rows) || b) (has_with t row.id vs ∙ ap (λ b. b || contains_word t vs) (same_sym t row.id))
-    ∙ joined (last_row_for t rows) (same_bytes row.id t) (contains_word t vs)
-  where
-    joined : (o : Option TargetRow) (a b : Bool) → (is_some o || (a || b)) ≡ (is_some (option_or o (cond a (Some row) None)) || b)
-    joined None true b = refl
-    joined None false b = refl
-    joined (Some x) a b = refl
+named_in t (row ∷ rows) vs = grind (arith, named_in t rows (with_word row.id vs), is_some, has_with, same_sym, same_bytes, cond, false)
 
 pub targets_are_named : TargetsAreNamed
 targets_are_named t (Make approval) = refl
@@ -83,13 +76,7 @@ value_with k a (b ∷ bs) = go (same_bytes a.key b.key) (bytes_below a.key b.key
 
 values_with : (k : Bytes) (new bs : List Attribute) → value_of k (with_attributes new bs) ≡ option_or (last_given k new) (value_of k bs)
 values_with k [] bs = refl
-values_with k (a ∷ more) bs = values_with k more (with_attribute a bs) ∙ ap (λ o. option_or (last_given k more) o) (value_with k a bs)
-    ∙ joined (last_given k more) (same_bytes a.key k) (value_of k bs)
-  where
-    joined : (o : Option Bytes) (s : Bool) (p : Option Bytes) → option_or o (cond s (Some a.value) p) ≡ option_or (option_or o (cond s (Some a.value) None)) p
-    joined None true p = refl
-    joined None false p = refl
-    joined (Some x) s p = refl
+values_with k (a ∷ more) bs = grind (arith, values_with k more (with_attribute a bs), value_with, same_bytes, cond, false)
 
 pub value_is_last : ValueIsLast
 value_is_last t k (Make approval) = refl

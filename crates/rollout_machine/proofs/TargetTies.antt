@@ -1,11 +1,10 @@
 -- The targets' records after a change of their tags or attributes.
-use Rattle.rollout_machine.proofs.Common.{◌≡◌, ℕ, arith, ap₂, Bool, true, false, cond, ◌||◌, ◌&&◌, not, List, [], ◌∷◌, refl, sym, ◌∙◌, ap, Option, Some, None}
-use Rattle.rollout_machine.proofs.Common.{map, nat_eq, inl, inr, unwrap_or, cases_Bool, eq-eqb, eqb-true, false≢true, and_parts, nat_tests, action_places}
+use Rattle.rollout_machine.proofs.Common.{◌≡◌, arith, Bool, true, false, cond, ◌||◌, ◌&&◌, not, List, [], ◌∷◌, refl, sym, ◌∙◌, ap, Option, Some, None}
+use Rattle.rollout_machine.proofs.Common.{map, nat_eq, inl, inr, unwrap_or, cases_Bool, eq-eqb, eqb-true, false≢true, and_parts, action_places}
 use Rattle.rollout_machine.proofs.Common.{same_bytes, bytes_below, contains_word, with_word, without_word, sorted_words, CommandList, Make, ◌▸◌, Bytes}
 use Rattle.rollout_machine.proofs.Common.{Credential, Attribute, TargetRow, Command, PutTargets, Tag, Untag, PutAttributes, TagsAreSaid, step_records}
 use Rattle.rollout_machine.proofs.Common.{change_target, rollouts_in, action_in, needs_approval, modules, artifacts, sets, rollouts, Target, target_in}
-use Rattle.rollout_machine.proofs.Common.{target_ids, tags_in, tags_by_row, has_tag, tag_in_row, last_row_for, attributes_in, with_attributes, IsValid}
-use Rattle.rollout_machine.proofs.Common.{verdict}
+use Rattle.rollout_machine.proofs.Common.{target_ids, tags_in, tags_by_row, has_tag, tag_in_row, last_row_for, attributes_in, with_attributes, IsValid, verdict}
 use Rattle.std.specs.Cmp.Lexicographic.{pointwise}
 use Rattle.rollout_machine.specs.Records.{records}
 use Rattle.rollout_machine.proofs.EffectLaws.{calm_outcome}
@@ -16,36 +15,19 @@ use Rattle.rollout_machine.proofs.Induction.{accepted}
 changed_targets : (h : CommandList) (c : Command) (u : Bytes) (f : Target → Target)
     → ((t : Bytes) → target_in (h ▸ c) t ≡ cond (same_bytes t u) (f (target_in h t)) (target_in h t)) → (ids : List Bytes) → map (target_in (h ▸ c)) ids
     ≡ change_target u f (map (target_in h) ids)
-changed_targets h c u f e ids =
-    map_same (target_in (h ▸ c)) (λ t. cond (same_bytes t u) (f (target_in h t)) (target_in h t)) e ids
-    ∙ sym (map_twice (target_in h) (λ (t : Target). cond (same_bytes t.id u) (f t) t) ids)
+changed_targets h c u f e ids = grind (arith, map_same, target_in, cond, same_bytes, f, e, ids, map_twice, Target)
 
 tag_in : (h : CommandList) (u x t : Bytes) → target_in (h ▸ Tag u x) t ≡ cond (same_bytes t u) (record (target_in h t) { tags = with_word x (tags_in t h) })
     (target_in h t)
-tag_in h u x t = go (same_bytes t u)
-  where
-    go : (b : Bool) → record (target_in h t) { tags = cond b (with_word x (tags_in t h)) (tags_in t h) }
-        ≡ cond b (record (target_in h t) { tags = with_word x (tags_in t h) }) (target_in h t)
-    go true = refl
-    go false = refl
+tag_in h u x t = grind (arith, same_bytes, target_in, cond, false)
 
 untag_in : (h : CommandList) (u x t : Bytes) → target_in (h ▸ Untag u x) t
     ≡ cond (same_bytes t u) (record (target_in h t) { tags = without_word x (tags_in t h) }) (target_in h t)
-untag_in h u x t = go (same_bytes t u)
-  where
-    go : (b : Bool) → record (target_in h t) { tags = cond b (without_word x (tags_in t h)) (tags_in t h) }
-        ≡ cond b (record (target_in h t) { tags = without_word x (tags_in t h) }) (target_in h t)
-    go true = refl
-    go false = refl
+untag_in h u x t = grind (arith, same_bytes, target_in, cond, without_word, false)
 
 attributes_of : (h : CommandList) (device : Credential) (new : List Attribute) (t : Bytes) → target_in (h ▸ PutAttributes device new) t
     ≡ cond (same_bytes t device.id) (record (target_in h t) { attributes = with_attributes new (attributes_in t h) }) (target_in h t)
-attributes_of h device new t = go (same_bytes t device.id)
-  where
-    go : (b : Bool) → record (target_in h t) { attributes = cond b (with_attributes new (attributes_in t h)) (attributes_in t h) }
-        ≡ cond b (record (target_in h t) { attributes = with_attributes new (attributes_in t h) }) (target_in h t)
-    go true = refl
-    go false = refl
+attributes_of h device new t = grind (arith, same_bytes, device, target_in, cond, false)
 
 pub tag_is_step : (h : CommandList) (u x : Bytes) → IsValid h → verdict h (Tag u x) ≡ None → records (h ▸ Tag u x) ≡ step_records (records h) (Tag u x)
 unfolding records
@@ -100,10 +82,7 @@ pub same_sym : (w v : Bytes) → same_bytes w v ≡ same_bytes v w
 same_sym [] [] = refl
 same_sym [] (y ∷ ys) = refl
 same_sym (x ∷ xs) [] = refl
-same_sym (x ∷ xs) (y ∷ ys) = ap₂ ◌&&◌ (turned x y) (same_sym xs ys)
-  where
-    turned : (x y : ℕ) → nat_eq x y ≡ nat_eq y x
-    turned x y = grind (arith, nat_tests)
+same_sym (x ∷ xs) (y ∷ ys) = grind (arith, same_sym xs ys)
 
 -- as the code compares them
 pub same_pointwise : (w v : Bytes) → pointwise nat_eq w v ≡ same_bytes w v
@@ -161,26 +140,15 @@ has_sorted x (w ∷ ws) = has_with x w (sorted_words ws) ∙ ap (λ t. same_byte
 
 tag_law_row : (x : Bytes) (o : Option TargetRow) (ws : List Bytes) (b : Bool) → contains_word x ws ≡ b → contains_word x (tags_by_row o ws)
     ≡ unwrap_or (tag_in_row x o) b
-tag_law_row x None ws b e = e
-tag_law_row x (Some row) ws b e = has_sorted x row.tags
+tag_law_row x o ws b e = grind (arith, e, has_sorted)
 
 tag_law_tag : (x y : Bytes) (on : Bool) (ws : List Bytes) (b : Bool) → contains_word x ws ≡ b → contains_word x (cond on (with_word y ws) ws)
     ≡ unwrap_or (cond (on && same_bytes x y) (Some true) None) b
-tag_law_tag x y false ws b e = e
-tag_law_tag x y true ws b e = has_with x y ws ∙ go (same_bytes x y)
-  where
-    go : (s : Bool) → (s || contains_word x ws) ≡ unwrap_or (cond s (Some true) None) b
-    go true = refl
-    go false = e
+tag_law_tag x y on ws b e = grind (arith, e, has_with, same_bytes, cond, false)
 
 tag_law_untag : (x y : Bytes) (on : Bool) (ws : List Bytes) (b : Bool) → contains_word x ws ≡ b → contains_word x (cond on (without_word y ws) ws)
     ≡ unwrap_or (cond (on && same_bytes x y) (Some false) None) b
-tag_law_untag x y false ws b e = e
-tag_law_untag x y true ws b e = has_without x y ws ∙ go (same_bytes x y)
-  where
-    go : (s : Bool) → (not s && contains_word x ws) ≡ unwrap_or (cond s (Some false) None) b
-    go true = refl
-    go false = e
+tag_law_untag x y on ws b e = grind (arith, e, has_without, same_bytes, cond, false)
 
 -- a word is in the list of tags exactly where the last command that spoke of it said so
 pub tags_are : TagsAreSaid

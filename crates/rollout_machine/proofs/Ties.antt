@@ -2,7 +2,7 @@
 use Rattle.rollout_machine.proofs.Common.{◌≡◌, ℕ, zero, suc, ◌+◌, ◌-◌, ◌<◌, ◌≤◌, Bool, true, false, cond, ◌||◌, ◌&&◌, not, List, [], ◌∷◌, refl, sym, ◌∙◌, ap}
 use Rattle.rollout_machine.proofs.Common.{subst, arith, inl, inr, Option, Some, None, nat_lt, nat_eq, map, nat_le, and-false, or-false, or-true, option_or}
 use Rattle.rollout_machine.proofs.Common.{cases_eq, cases_Bool, cases_lt, cases_order, ne_eqb, eq-eqb, ltb-true, ActionPlace, action_of, outcome, CommandList}
-use Rattle.rollout_machine.proofs.Common.{◌▸◌, Command, Cancel, Feedback, CancelFeedback, Resume, TriggerNext, Pause, Start, Outcome, Good, Bad, Gone, tally}
+use Rattle.rollout_machine.proofs.Common.{◌▸◌, Command, Resume, TriggerNext, Pause, Start, Outcome, Good, Bad, Gone, tally}
 use Rattle.rollout_machine.proofs.Common.{reaches, success_holds, is_outcome, IsInGroup, IsLast, HasSoundPlan, StartedOnly, OutcomesStarted, GetsOutcome}
 use Rattle.rollout_machine.proofs.Common.{IsGroupView, IsView, feedback_pauses, good_after, next_if, starts_next, last_with, is_group_started, is_paused}
 use Rattle.rollout_machine.proofs.Common.{is_pause_of, is_resume_of, is_trigger_of, is_start_of, is_rollout_started, each_from, is_item_number, start_group}
@@ -215,10 +215,7 @@ calm_rollout x r l h c a f s w e =
 -- ---- a command that gives an outcome
 
 pub silent : (h : CommandList) (c : Command) (p : ActionPlace) (r : ℕ) → action_of h c ≡ Some p → decision_on r c ≡ None
-silent h (Cancel t a force) p r e = refl
-silent h (Feedback feedback) p r e = refl
-silent h (CancelFeedback feedback) p r e = refl
-silent h _ p r e = cc
+silent h c p r e = grind arith
 
 twice : {X : Type 0} (f k : X → X) (xs : List X) → map k (map f xs) ≡ map (λ x. k (f x)) xs
 twice f k [] = refl

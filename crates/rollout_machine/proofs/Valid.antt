@@ -1,4 +1,5 @@
 -- What the verdict on a command gives: it is only on actions of started groups.
+use native.Mathlib.Omega.{arith}
 use Rattle.rollout_machine.proofs.Common.{◌≡◌, ℕ, ◌≤◌, Bool, true, false, ◌||◌, ◌&&◌, not, List, [], ◌∷◌, refl, sym, ◌∙◌, ap, subst, Option, Some, None}
 use Rattle.rollout_machine.proofs.Common.{nat_eq, option_map, eqb-true, false≢true, and_parts, or_parts, not-false, ActionPlace, action_of, is_action_place}
 use Rattle.rollout_machine.proofs.Common.{action_places, action_place, item_numbered, CommandList, DeviceFeedback, DeploymentWord, CancelWord, Command, Cancel}
@@ -70,8 +71,7 @@ found_action h k o e = numbered_map (action_in h) (action_places h) k ∙ ap (op
 
 device_action : (h : CommandList) (t : List ℕ) (o : Option ActionPlace) → is_device_action (records h) t (option_map (action_in h) o) ≡ true → (p : ActionPlace)
     × (o ≡ Some p) × (has_started (records h) (action_in h p) ≡ true)
-device_action h t None e = absurd (false≢true e)
-device_action h t (Some p) e = (p, refl, (and_parts _ _ e).1)
+device_action h t o e = grind (arith, false≢true, e, and_parts)
 
 -- accepted feedback is on an action whose group is started
 pub feedback_place : (h : CommandList) (feedback : DeviceFeedback DeploymentWord) → verdict h (Feedback feedback) ≡ None → (p : ActionPlace)
@@ -104,15 +104,10 @@ cancel_feedback_started h feedback placed e =
     let (p, at, started) = cancel_feedback_place h feedback e in
     only_started h (CancelFeedback feedback) p (placed p at) at started
 
-or_left_false : (a b : Bool) → (a || b) ≡ false → a ≡ false
-or_left_false true b e = cc
-or_left_false false b e = refl
-
 cancel_action : (h : CommandList) (t : List ℕ) (force : Bool) (o : Option ActionPlace) → not (on_action (is_for (records h) t) (option_map (action_in h) o))
     ≡ false → on_action (λ a. not (has_started (records h) a) || (a.canceling && not force)) (option_map (action_in h) o) ≡ false → (p : ActionPlace)
     × (o ≡ Some p) × (has_started (records h) (action_in h p) ≡ true)
-cancel_action h t force None a b = cc
-cancel_action h t force (Some p) a b = (p, refl, not-false _ (or_left_false _ _ b))
+cancel_action h t force o a b = grind (arith, not-false)
 
 pub cancel_place : (h : CommandList) (t : List ℕ) (k : ℕ) (force : Bool) → verdict h (Cancel t k force) ≡ None → (p : ActionPlace) × (action_place h k ≡ Some p)
     × (has_started (records h) (action_in h p) ≡ true)

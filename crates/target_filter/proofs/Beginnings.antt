@@ -1,12 +1,11 @@
 -- What stands behind a beginning that the scanner went through: parts of trees.
-use Rattle.target_filter.proofs.Common.{◌≡◌, ◌⊎◌, inl, inr, ℕ, zero, suc, ◌+◌, ◌-◌, ◌≤◌, ◌<◌, max, List, [], ◌∷◌, ◌++◌, length, Bool, true, false, cond, ◌&&◌}
-use Rattle.target_filter.proofs.Common.{◌==◌, ltb, leb, Option, Some, None, refl, sym, ◌∙◌, ap, subst, arith, append_assoc, add-zero, nat_le, nat_lt, codes}
-use Rattle.target_filter.proofs.Common.{list_all, false≢true, nat_tests, is_bare_byte, is_quotable_byte, is_nonempty, Field, Id, Name, Tag, Attribute, Value}
-use Rattle.target_filter.proofs.Common.{Bare, Quoted, Tree, Or, And, Group, Comparison, Level, OrLevel, AndLevel, AtomLevel, is_at, allows_or, allows_and}
-use Rattle.target_filter.proofs.Common.{spelling, field_text, value_text, Operator, Equal, NotEqual, operator_byte, nesting, is_field, is_filter_value}
-use Rattle.target_filter.proofs.Common.{is_word_letter, Mode, State, Move, run, next, step, state_after, mode_of_name, at_atom_start, at_operator, at_atom_end}
+use Rattle.target_filter.proofs.Common.{◌≡◌, ℕ, ◌≤◌, List, [], ◌∷◌, ◌++◌, length, Bool, true, false, ◌&&◌}
+use Rattle.target_filter.proofs.Common.{Option, Some, None, arith, append_assoc, codes}
+use Rattle.target_filter.proofs.Common.{list_all, false≢true, is_quotable_byte, Field}
+use Rattle.target_filter.proofs.Common.{Bare, Tree, Or, And, Group, Comparison, Level, OrLevel, AndLevel, AtomLevel, is_at}
+use Rattle.target_filter.proofs.Common.{spelling, field_text, Operator, operator_byte, is_field, is_filter_value}
+use Rattle.target_filter.proofs.Common.{is_word_letter, Mode}
 use Rattle.target_filter.specs.Scanner as scan
-use Rattle.target_filter.proofs.ScannedTrees.{both}
 
 -- the part of the level that is open: what stands before the last `,`, and behind it before the last `;`
 pub record Part : Type 0 where
@@ -36,12 +35,7 @@ or_with None x = x
 or_with (Some t) x = Or t x
 
 pub and_spelled : (o : Option Tree) (x : Tree) → spelling (and_with o x) ≡ before 59 o ++ spelling x
-and_spelled None x = refl
-and_spelled (Some t) x = sym (append_assoc (spelling t) (59 ∷ []) (spelling x))
-
-pub or_spelled : (o : Option Tree) (x : Tree) → spelling (or_with o x) ≡ before 44 o ++ spelling x
-or_spelled None x = refl
-or_spelled (Some t) x = sym (append_assoc (spelling t) (44 ∷ []) (spelling x))
+and_spelled o x = grind (arith, append_assoc)
 
 -- an atom is an and, an and is an or
 pub and_from_atom : (t : Tree) → is_at AtomLevel t ≡ true → is_at AndLevel t ≡ true
@@ -57,27 +51,20 @@ or_from_and (Group t) h = h
 or_from_and (Comparison f m v) h = h
 
 pub all_of : (a b : Bool) → a ≡ true → b ≡ true → (a && b) ≡ true
-all_of true b h k = k
-all_of false b h k = absurd (false≢true h)
+all_of a b h k = grind (arith, false≢true)
 
 pub and_fits : (o : Option Tree) (x : Tree) → fits AndLevel o → is_at AtomLevel x ≡ true → is_at AndLevel (and_with o x) ≡ true
-and_fits None x h k = and_from_atom x k
-and_fits (Some t) x h k = all_of (is_at AndLevel t) (is_at AtomLevel x) h k
-
-pub or_fits : (o : Option Tree) (x : Tree) → fits OrLevel o → is_at AndLevel x ≡ true → is_at OrLevel (or_with o x) ≡ true
-or_fits None x h k = or_from_and x k
-or_fits (Some t) x h k = all_of (is_at OrLevel t) (is_at AndLevel x) h k
+and_fits o x h k = grind (arith, and_from_atom, all_of, is_at, AndLevel, AtomLevel)
 
 -- the tree that the part makes with a last atom
 abbrev pub whole : Part → Tree → Tree
 whole p x = or_with p.ors (and_with p.ands x)
 
 pub whole_spelled : (p : Part) (x : Tree) → spelling (whole p x) ≡ part_text p ++ spelling x
-whole_spelled p x = or_spelled p.ors (and_with p.ands x) ∙ ap (λ y. before 44 p.ors ++ y) (and_spelled p.ands x)
-    ∙ sym (append_assoc (before 44 p.ors) (before 59 p.ands) (spelling x))
+whole_spelled p x = grind (arith, append_assoc, and_spelled)
 
 pub whole_fits : (p : Part) (x : Tree) → PartFits p → is_at AtomLevel x ≡ true → is_at OrLevel (whole p x) ≡ true
-whole_fits p x h k = or_fits p.ors (and_with p.ands x) h.0 (and_fits p.ands x h.1 k)
+whole_fits p x h k = grind (arith, or_from_and, all_of, is_at, OrLevel, AndLevel, and_fits)
 
 -- the enclosing levels, the innermost first
 abbrev pub outer_text : List Part → List ℕ

@@ -1,5 +1,5 @@
 -- Runs of bytes that pass a test.
-use Rattle.target_filter.proofs.Common.{◌≡◌, ℕ, suc, ◌<◌, ◌≤◌, List, [], ◌∷◌, ◌++◌, length, take, drop, get_or, Bool, true, false, not, refl, sym, ◌∙◌, ap}
+use Rattle.target_filter.proofs.Common.{◌≡◌, ℕ, ◌<◌, List, [], length, take, drop, get_or, Bool, true, false, not, refl, sym, ◌∙◌, ap}
 use Rattle.target_filter.proofs.Common.{append-nil, drop-cons, list_all, take-append-drop, front, behind_front}
 use Rattle.target_filter.proofs.ParsedTrees.{stops, fronts, pasts}
 

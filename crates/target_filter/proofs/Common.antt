@@ -1,7 +1,7 @@
 -- The names of other modules that the proofs here cite, passed on from one place. Declares nothing.
 pub use Rattle.std.proofs.Common.{◌≡◌, ℕ, zero, suc, ◌+◌, ◌-◌, ◌*◌, ◌<◌, ◌≤◌, max, Bool, true, false, cond, not, ◌&&◌, ◌||◌, eqb, ltb, leb, ◌⊎◌, List, [], ◌∷◌}
-pub use Rattle.std.proofs.Common.{◌++◌, length, get_or, take, drop, nat_eq, nat_lt, nat_le, ◌==◌, Some, None, Ok, Err, string_bytes, codes, Option, Result}
-pub use Rattle.std.proofs.Common.{sym, refl, ap, ◌∙◌, subst, inl, inr, append_assoc, append-nil, add-zero, arith, length-append}
+pub use Rattle.std.proofs.Common.{◌++◌, length, get_or, take, drop, nat_eq, nat_lt, nat_le, ◌==◌, Some, None, Ok, Err, string_bytes, codes, Option, Result, sym}
+pub use Rattle.std.proofs.Common.{refl, ap, ◌∙◌, subst, inl, inr, append_assoc, append-nil, add-zero, arith, length-append}
 pub use Rattle.std.proofs.Math.Seq.{drop-cons, drop-length, take-length}
 pub use Rattle.std.proofs.lemmas.Bool.{false≢true}
 pub use Rattle.std.proofs.lemmas.Bool.Decides.{Decides-eqb, nat_tests}
@@ -27,7 +27,6 @@ pub use Rattle.target_filter.specs.Meaning.{holds}
 pub use Rattle.target_filter.specs.Patterns.{IsJoined, IsJoinedAfterStar, Matches, byte_then, is_empty, matches, pieces, star_takes, with_first_byte}
 pub use Rattle.target_filter.specs.Profile.{IsInProfile, IsProfileFilter, filter_of, is_profile_filter}
 pub use Rattle.target_filter.specs.Scanner.{Ends, Mode, Move, State, StopsBehind, accepts, at_atom_end, at_atom_start, at_operator, mode_of_name, next, run}
-pub use Rattle.target_filter.specs.Scanner.{start}
-pub use Rattle.target_filter.specs.Scanner.{state_after, step}
+pub use Rattle.target_filter.specs.Scanner.{start, state_after, step}
 pub use Rattle.target_filter.specs.ScannerViews.{state_of}
 pub use Rattle.target_filter.specs.Views.{tree_of}

@@ -1,5 +1,5 @@
 -- The first place of a piece serves as well as any.
-use Rattle.target_filter.proofs.Common.{◌≡◌, ◌⊎◌, inl, inr, ℕ, zero, suc, ◌+◌, ◌-◌, ◌≤◌, ◌<◌, List, [], ◌∷◌, ◌++◌, length, take, drop, get_or, Bool, true}
+use Rattle.target_filter.proofs.Common.{◌≡◌, inr, ℕ, suc, ◌+◌, ◌-◌, ◌≤◌, ◌<◌, List, [], ◌∷◌, ◌++◌, length, take, drop, get_or, Bool, true}
 use Rattle.target_filter.proofs.Common.{false, cond, ◌&&◌, ◌||◌, ◌==◌, not, eqb, Option, Some, None, refl, sym, ◌∙◌, ap, subst, arith, append_assoc}
 use Rattle.target_filter.proofs.Common.{append-nil, length-append, list_all, starts_with, ends_with, option_map_or, false≢true, nat_tests, Decides-eqb}
 use Rattle.target_filter.proofs.Common.{drop_at, drop-append-le, take-append-drop, length-take-le, drop-cons, starts_is, ends_is, slice_eq-Decides, pointwise}
@@ -34,10 +34,6 @@ front_joins : (b : ℕ) (ps : List (List ℕ)) (t : List ℕ) → IsJoined ps t 
 front_joins b [] t h = absurd h
 front_joins b (p ∷ ps) t (rest, e, g) = (rest, ap (λ y. b ∷ y) e, g)
 
-joins_front : (b : ℕ) (ps : List (List ℕ)) (t : List ℕ) → IsJoined (with_first_byte b ps) t → ((c : List ℕ) × (t ≡ b ∷ c) × IsJoined ps c) ⊎ (ps ≡ [])
-joins_front b [] t h = inr refl
-joins_front b (p ∷ ps) t (rest, e, g) = inl (p ++ rest, e, (rest, refl, g))
-
 pieces_some : (q : List ℕ) → (r : List ℕ) × (rs : List (List ℕ)) × (pieces q ≡ r ∷ rs)
 pieces_some [] = ([], [], refl)
 pieces_some (b ∷ bs) = by (b == 42) (pieces bs) (pieces_some bs)
@@ -56,13 +52,8 @@ behind_joins : (ps : List (List ℕ)) (x t : List ℕ) → IsJoined ps t → IsJ
 behind_joins [] x t h = absurd h
 behind_joins (p ∷ ps) x t (rest, e, g) = (x, rest, ap (λ y. x ++ y) e, g)
 
-joins_behind : (p : List ℕ) (ps : List (List ℕ)) (t : List ℕ) → IsJoinedAfterStar (p ∷ ps) t → (x : List ℕ) × (rest : List ℕ) × (t ≡ x ++ rest)
-    × IsJoined (p ∷ ps) rest
-joins_behind p ps t (gap, rest, e, g) = (gap, p ++ rest, e, (rest, refl, g))
-
 empty_is : (t : List ℕ) → is_empty t ≡ true → t ≡ []
-empty_is [] h = refl
-empty_is (b ∷ bs) h = absurd (false≢true h)
+empty_is t h = grind (arith, false≢true)
 
 -- ---- the test and the relation
 to_by : (a : ℕ) (c : Bool) (pattern t : List ℕ) → ((u : List ℕ) → matches pattern u ≡ true → IsJoined (pieces pattern) u)
@@ -70,9 +61,7 @@ to_by : (a : ℕ) (c : Bool) (pattern t : List ℕ) → ((u : List ℕ) → matc
     → IsJoined (cond c ([] ∷ pieces pattern) (with_first_byte a (pieces pattern))) t
 to_by a true pattern t f h = let (x, rest, e, k) = star_some (matches pattern) t h in (t, refl, rw e (behind_joins (pieces pattern) x rest (f rest k)))
 to_by a false pattern [] f h = absurd (false≢true h)
-to_by a false pattern (b ∷ bs) f h =
-    let p = both (a == b) (matches pattern bs) h in
-    rw (← eq_true a b p.0) (front_joins a (pieces pattern) bs (f bs p.1))
+to_by a false pattern (b ∷ bs) f h = grind (arith, eq_true, front_joins, f)
 
 pub matches_joins : (pattern t : List ℕ) → matches pattern t ≡ true → Matches pattern t
 matches_joins [] t h = ([], empty_is t h, refl)
@@ -83,17 +72,11 @@ eq_self n = grind (arith, nat_tests)
 
 from_star : (pattern t : List ℕ) (ps : List (List ℕ)) (r : List ℕ) (rs : List (List ℕ)) → ps ≡ r ∷ rs
     → ((u : List ℕ) → IsJoined ps u → matches pattern u ≡ true) → IsJoinedAfterStar ps t → star_takes (matches pattern) t ≡ true
-from_star pattern t ps r rs e f h =
-    let g : IsJoinedAfterStar (r ∷ rs) t = subst (λ qs. IsJoinedAfterStar qs t) e h in
-    let (x, rest, w, k) = joins_behind r rs t g in
-    rw w (star_any (matches pattern) x rest (f rest (subst (λ qs. IsJoined qs rest) (sym e) k)))
+from_star pattern t ps r rs e f h = grind (arith, e, star_any, f)
 
 from_byte : (a : ℕ) (pattern t : List ℕ) (ps : List (List ℕ)) (r : List ℕ) (rs : List (List ℕ)) → ps ≡ r ∷ rs
     → ((u : List ℕ) → IsJoined ps u → matches pattern u ≡ true) → IsJoined (with_first_byte a ps) t → byte_then a (matches pattern) t ≡ true
-from_byte a pattern t ps r rs e f h = elim (joins_front a ps t h) [
-  | inl (c, w, k) ↦ rw w (all_of (a == a) (matches pattern c) (eq_self a) (f c k))
-  | inr n ↦ cc
-]
+from_byte a pattern t ps r rs e f h = grind (arith, inr, e, eq_self, f)
 
 from_by : (a : ℕ) (c : Bool) (pattern t : List ℕ) → ((u : List ℕ) → IsJoined (pieces pattern) u → matches pattern u ≡ true)
     → IsJoined (cond c ([] ∷ pieces pattern) (with_first_byte a (pieces pattern))) t → cond c (star_takes (matches pattern) t) (byte_then a (matches pattern) t)
@@ -146,9 +129,7 @@ abbrev Placed : List ℕ → List ℕ → List ℕ → Type 0
 Placed p t r = (gap : List ℕ) × (t ≡ gap ++ (p ++ r))
 
 placed_here : (p t r : List ℕ) → starts_with eqb t p ≡ true → after p t ≡ Some r → Placed p t r
-placed_here p t r h e =
-    let same : drop (length p) t ≡ r = cc (after_here p t h, e) in
-    ([], starts_at p t h ∙ ap (λ y. p ++ y) same)
+placed_here p t r h e = grind (arith, length, after_here, e, starts_at)
 
 placed_by : (p : List ℕ) (b : ℕ) (t r : List ℕ) (c : Bool) → starts_with eqb (b ∷ t) p ≡ c → (after p t ≡ Some r → Placed p t r) → after p (b ∷ t) ≡ Some r
     → Placed p (b ∷ t) r
@@ -156,8 +137,7 @@ placed_by p b t r true e f h = placed_here p (b ∷ t) r e h
 placed_by p b t r false e f h = let (gap, w) = f (sym (after_later p b t e) ∙ h) in (b ∷ gap, ap (λ y. b ∷ y) w)
 
 placed_none : (p r : List ℕ) (c : Bool) → starts_with eqb [] p ≡ c → after p [] ≡ Some r → Placed p [] r
-placed_none p r true e h = placed_here p [] r e h
-placed_none p r false e h = let none : after p [] ≡ None = rw e refl in cc
+placed_none p r c e h = grind (arith, placed_here, e)
 
 placed : (p t r : List ℕ) → after p t ≡ Some r → Placed p t r
 placed p [] r h = placed_none p r (starts_with eqb [] p) refl h
@@ -168,8 +148,7 @@ more_behind q ps x t (gap, rest, e, g) = (x ++ gap, rest, ap (λ y. x ++ y) e �
 
 greedy_found : (q : List ℕ) (ps : List (List ℕ)) (o : Option (List ℕ)) → option_map_or (greedy (q ∷ ps)) o false ≡ true → (r : List ℕ) × (o ≡ Some r)
     × (greedy (q ∷ ps) r ≡ true)
-greedy_found q ps None h = absurd (false≢true h)
-greedy_found q ps (Some r) h = (r, refl, h)
+greedy_found q ps o h = grind (arith, false≢true)
 
 pub greedy_behind : (ps : List (List ℕ)) (t : List ℕ) → greedy ps t ≡ true → IsJoinedAfterStar ps t
 greedy_behind [] t h = empty_is t h
@@ -200,24 +179,18 @@ abbrev pub no_star : ℕ → Bool
 no_star b = not (b == 42)
 
 in_front_one : (b : ℕ) (t : List ℕ) (c : Bool) → (b == 42) ≡ c → not c ≡ true → pieces t ≡ t ∷ [] → pieces (b ∷ t) ≡ (b ∷ t) ∷ []
-in_front_one b t true e h k = absurd (false≢true h)
-in_front_one b t false e h k = rw (e, k) refl
+in_front_one b t c e h k = grind (arith, false≢true, e)
 
 pub one_piece : (t : List ℕ) → list_all no_star t ≡ true → pieces t ≡ t ∷ []
 one_piece [] h = refl
-one_piece (b ∷ t) h =
-    let p = both (no_star b) (list_all no_star t) h in
-    in_front_one b t (b == 42) refl p.0 (one_piece t p.1)
+one_piece (b ∷ t) h = grind (arith, one_piece t, in_front_one)
 
 in_front_more : (b : ℕ) (t p : List ℕ) (ps : List (List ℕ)) (c : Bool) → (b == 42) ≡ c → not c ≡ true → pieces t ≡ p ∷ ps → pieces (b ∷ t) ≡ (b ∷ p) ∷ ps
-in_front_more b t p ps true e h k = absurd (false≢true h)
-in_front_more b t p ps false e h k = rw (e, k) refl
+in_front_more b t p ps c e h k = grind (arith, false≢true, e)
 
 pub first_piece : (p rest : List ℕ) → list_all no_star p ≡ true → pieces (p ++ 42 ∷ rest) ≡ p ∷ pieces rest
 first_piece [] rest h = refl
-first_piece (b ∷ p) rest h =
-    let q = both (no_star b) (list_all no_star p) h in
-    in_front_more b (p ++ 42 ∷ rest) p (pieces rest) (b == 42) refl q.0 (first_piece p rest q.1)
+first_piece (b ∷ p) rest h = grind (arith, first_piece p rest, in_front_more)
 
 pub cut : (t : List ℕ) (k : ℕ) → k < length t → get_or t k 0 ≡ 42 → list_all no_star (take k t) ≡ true → pieces t ≡ take k t ∷ pieces (drop (k + 1) t)
 cut t k l e h =
@@ -232,15 +205,7 @@ greedy_cut p q t =
     rw e refl
 
 true_both : (a b : Bool) → (a ≡ true → b ≡ true) → (b ≡ true → a ≡ true) → a ≡ b
-true_both true b f g = sym (f refl)
-true_both false true f g = g refl
-true_both false false f g = refl
-
-pub whole_only : (pattern t : List ℕ) → pieces pattern ≡ pattern ∷ [] → (matches pattern t ≡ true → t ≡ pattern) × (t ≡ pattern → matches pattern t ≡ true)
-whole_only pattern t e = (
-  λ h. let m : IsJoined (pattern ∷ []) t = subst (λ ps. IsJoined ps t) e (matches_joins pattern t h) in m.1 ∙ ap (λ y. pattern ++ y) m.2 ∙ append-nil pattern,
-  λ h. joins_matches pattern t (subst (λ ps. IsJoined ps t) (sym e) ([], h ∙ sym (append-nil pattern), refl)),
-)
+true_both a b f g = grind (arith, f)
 
 pub front_and_behind : (pattern t p q : List ℕ) (c : Bool) → pieces pattern ≡ p ∷ pieces q → c ≡ starts_with eqb t p → matches pattern t
     ≡ (c && greedy (pieces q) (drop (length p) t))
@@ -266,14 +231,8 @@ pub greedy_some : (whole p q t r : List ℕ) → pieces whole ≡ p ∷ pieces q
 greedy_some whole p q t r e n = sym (ap (λ ps. greedy ps t) e ∙ greedy_cut p q t ∙ ap (λ o. option_map_or (greedy (pieces q)) o false) n)
 
 pub whole_is : (pattern t : List ℕ) (r : Bool) → pieces pattern ≡ pattern ∷ [] → r ≡ pointwise eqb pattern t → r ≡ matches pattern t
-whole_is pattern t r e h =
-    let same = slice_eq-Decides Decides-eqb pattern t r h in
-    let only = whole_only pattern t e in
-    true_both r (matches pattern t) (λ y. only.1 (sym (same.0 y))) (λ y. same.1 (sym (only.0 y)))
+whole_is pattern t r e h = grind (arith, slice_eq-Decides, e, matches_joins, append-nil, joins_matches, true_both)
 
 pub cut_true : (pattern t p : List ℕ) (k : ℕ) (c : Bool) → pieces pattern ≡ take k pattern ∷ pieces (drop (k + 1) pattern) → k < length pattern
     → p ≡ take k pattern → c ≡ starts_with eqb t p → matches pattern t ≡ (c && greedy (pieces (drop (k + 1) pattern)) (drop k t))
-cut_true pattern t p k c e l w s =
-    let size : length (take k pattern) ≡ k = length-take-le k pattern (omega arith) in
-    front_and_behind pattern t (take k pattern) (drop (k + 1) pattern) c e (s ∙ ap (λ x. starts_with eqb t x) w)
-    ∙ ap (λ n. c && greedy (pieces (drop (k + 1) pattern)) (drop n t)) size
+cut_true pattern t p k c e l w s = grind (arith, length, length-take-le, front_and_behind, e)

@@ -1,17 +1,17 @@
 -- Where the scanner stops there ends the longest beginning that some continuation makes a filter.
-use Rattle.target_filter.proofs.Common.{◌≡◌, ◌⊎◌, inl, inr, ℕ, zero, suc, ◌+◌, ◌-◌, ◌≤◌, ◌<◌, max, List, [], ◌∷◌, ◌++◌, length, take, drop, get_or, Bool, true}
-use Rattle.target_filter.proofs.Common.{false, cond, ◌&&◌, ◌==◌, ltb, leb, Option, Some, None, refl, sym, ◌∙◌, ap, subst, arith, append_assoc, append-nil}
-use Rattle.target_filter.proofs.Common.{add-zero, length-append, nat_le, nat_lt, codes, list_all, IfSome, option_and_then, IsUtf8, IsAscii, IsCharBoundary}
-use Rattle.target_filter.proofs.Common.{false≢true, nat_tests, IsUtf8-from_ascii, IsUtf8-append, IsCharBoundary-end, IsCharBoundary-start}
-use Rattle.target_filter.proofs.Common.{IsCharBoundary-before_ascii, IsCharBoundary-after_ascii, take-take, take-append-drop, take_more, take_all}
-use Rattle.target_filter.proofs.Common.{is_bare_byte, is_quotable_byte, is_nonempty, Field, Id, Name, Tag, Attribute, is_field, field_text, Tree, is_at}
-use Rattle.target_filter.proofs.Common.{OrLevel, spelling, nesting, IsFilter, IsInGrammar, CanContinue, IsLongestBeginning, is_word_letter, Mode, State, Move}
-use Rattle.target_filter.proofs.Common.{run, next, step, state_after, mode_of_name, at_atom_start, at_operator, at_atom_end, start, accepts}
+use Rattle.target_filter.proofs.Common.{◌≡◌, ℕ, zero, suc, ◌+◌, ◌≤◌, ◌<◌, max, List, [], ◌∷◌, ◌++◌, length, take, drop, get_or, Bool, true}
+use Rattle.target_filter.proofs.Common.{false, ◌==◌, Option, Some, None, refl, sym, ◌∙◌, ap, arith, append_assoc, append-nil}
+use Rattle.target_filter.proofs.Common.{nat_lt, codes, list_all, option_and_then, IsUtf8, IsAscii}
+use Rattle.target_filter.proofs.Common.{nat_tests, IsUtf8-from_ascii, IsUtf8-append}
+use Rattle.target_filter.proofs.Common.{take-take, take-append-drop, take_more, take_all}
+use Rattle.target_filter.proofs.Common.{Field, is_field, field_text, Tree}
+use Rattle.target_filter.proofs.Common.{OrLevel, spelling, nesting, IsFilter, IsInGrammar, CanContinue, is_word_letter, Mode, State}
+use Rattle.target_filter.proofs.Common.{run, step, mode_of_name, start, accepts}
 use Rattle.std.proofs.lemmas.Str.Ascii.{IsAscii-nil, IsAscii-cons}
 use Rattle.target_filter.specs.Scanner as scan
 use Rattle.target_filter.proofs.ScannedTrees.{both, in_mode, reads, tree_end, tree_ends, closed, lt_true}
 use Rattle.target_filter.proofs.Beginnings.{Begun, all_of}
-use Rattle.target_filter.proofs.ScannerMoves.{eq_true, by_test, accepted, Stands, run_stands, start_stands}
+use Rattle.target_filter.proofs.ScannerMoves.{accepted, Stands, run_stands, start_stands}
 
 -- a continuation that ends the atom
 abbrev tail : Mode → List ℕ
@@ -37,14 +37,7 @@ tail_end scan.Quoted = scan.AtomEnd
 tail_end scan.AtomEnd = scan.AtomEnd
 
 tail_ends : (m : Mode) → scan.ends_atom (tail_end m) ≡ true
-tail_ends scan.AtomStart = refl
-tail_ends (scan.FieldName left k) = refl
-tail_ends (scan.Key n) = refl
-tail_ends scan.Equals = refl
-tail_ends scan.Value = refl
-tail_ends scan.Bare = refl
-tail_ends scan.Quoted = refl
-tail_ends scan.AtomEnd = refl
+tail_ends m = grind arith
 
 eq_self : (n : ℕ) → (n == n) ≡ true
 eq_self n = grind (arith, nat_tests)
@@ -105,16 +98,10 @@ ending s = tail s.mode ++ closing s.depth
 -- all that a continuation needs is ASCII
 letters_ascii : (xs : List ℕ) → list_all is_word_letter xs ≡ true → IsAscii xs
 letters_ascii [] h = IsAscii-nil
-letters_ascii (x ∷ xs) h =
-    let p = both (is_word_letter x) (list_all is_word_letter xs) h in
-    let small : x < 128 = let l = p.0 in grind (arith, nat_tests) in
-    IsAscii-cons x xs small (letters_ascii xs p.1)
+letters_ascii (x ∷ xs) h = grind (arith, letters_ascii xs, IsAscii-cons)
 
 field_letters : (f : Field) → is_field f ≡ true → list_all is_word_letter (field_text f) ≡ true
-field_letters Id h = refl
-field_letters Name h = refl
-field_letters Tag h = refl
-field_letters (Attribute key) h = (both (nat_le 1 (length key) && nat_le (length key) 64) (list_all is_word_letter key) h).1
+field_letters f h = grind (arith, length)
 
 second_part : (xs ys : List ℕ) → list_all is_word_letter (xs ++ ys) ≡ true → list_all is_word_letter ys ≡ true
 second_part [] ys h = h
@@ -127,10 +114,7 @@ left_ascii x left false (f, p, e) = letters_ascii left (second_part x left (rw e
 
 ascii : (xs : List ℕ) → list_all (λ x. nat_lt x 128) xs ≡ true → IsAscii xs
 ascii [] h = IsAscii-nil
-ascii (x ∷ xs) h =
-    let p = both (nat_lt x 128) (list_all (λ x. nat_lt x 128) xs) h in
-    let small : x < 128 = let l = p.0 in grind (arith, nat_tests) in
-    IsAscii-cons x xs small (ascii xs p.1)
+ascii (x ∷ xs) h = grind (arith, ascii xs, IsAscii-cons)
 
 tail_utf8 : (m : Mode) (x : List ℕ) → Begun m x → IsUtf8 (tail m)
 tail_utf8 scan.AtomStart x h = IsUtf8-from_ascii _ (ascii (codes "tag==a") refl)
@@ -154,22 +138,12 @@ closing_utf8 d = IsUtf8-from_ascii (closing d) (closing_ascii d)
     closing_ascii (suc d) = IsAscii-cons 41 (closing d) (omega arith) (closing_ascii d)
 
 sound : (m : Mode) (x : List ℕ) → Begun m x → Sound m
-sound scan.AtomStart x h = tt
-sound (scan.FieldName [] true) x h = h
-sound (scan.FieldName [] false) x h = tt
-sound (scan.FieldName (y ∷ ys) k) x h = tt
-sound (scan.Key n) x h = tt
-sound scan.Equals x h = tt
-sound scan.Value x h = tt
-sound scan.Bare x h = tt
-sound scan.Quoted x h = tt
-sound scan.AtomEnd x h = tt
+sound m x h = grind arith
 
 -- in two parts
 pub run_append : (p q : List ℕ) (s : State) → run s (p ++ q) ≡ option_and_then (λ t. run t q) (run s p)
 run_append [] q s = refl
-run_append (b ∷ p) q s = elim (step s b) as (λ o. option_and_then (λ t. run t (p ++ q)) o ≡ option_and_then (λ t. run t q) (option_and_then (λ t. run t p) o))
-    [ None ↦ refl | Some t ↦ run_append p q t ]
+run_append (b ∷ p) q s = grind (arith, run_append p q)
 
 pub can_continue : (p : List ℕ) (s : State) → run start p ≡ Some s → CanContinue p
 can_continue p s e =

@@ -1,11 +1,11 @@
 -- The tree of a text is found, so a text has one tree.
-use Rattle.target_filter.proofs.Common.{◌≡◌, ◌⊎◌, inl, inr, ℕ, zero, suc, ◌+◌, ◌-◌, ◌*◌, ◌≤◌, ◌<◌, List, [], ◌∷◌, ◌++◌, length, take, drop, Bool, true, false}
-use Rattle.target_filter.proofs.Common.{cond, ◌&&◌, ◌||◌, ◌==◌, not, eqb, Option, Some, None, refl, sym, ◌∙◌, ap, subst, arith, append_assoc, append-nil}
-use Rattle.target_filter.proofs.Common.{length-append, nat_le, codes, list_all, option_and_then, option_map, option_map_or, false≢true, nat_tests}
-use Rattle.target_filter.proofs.Common.{is_bare_byte, is_quotable_byte, is_nonempty, Field, Id, Name, Tag, Attribute, Value, Bare, Quoted, Tree, Or, And}
-use Rattle.target_filter.proofs.Common.{Group, Comparison, Level, OrLevel, AndLevel, AtomLevel, is_at, allows_or, allows_and, spelling, field_text, value_text}
-use Rattle.target_filter.proofs.Common.{Operator, Equal, NotEqual, operator_byte, is_field, is_filter_value, IsFilter, is_word_letter, front, behind_front}
-use Rattle.target_filter.proofs.Common.{attribute_field, field_of_name, operator_at, quoted_value, bare_value, value_at, comparison_at, closed, or_at}
+use Rattle.target_filter.proofs.Common.{◌≡◌, ℕ, zero, suc, ◌+◌, ◌*◌, ◌≤◌, List, [], ◌∷◌, ◌++◌, length, Bool, true, false}
+use Rattle.target_filter.proofs.Common.{cond, ◌==◌, not, Option, Some, refl, sym, ◌∙◌, ap, arith, append_assoc, append-nil}
+use Rattle.target_filter.proofs.Common.{length-append, list_all, option_and_then, option_map, option_map_or, false≢true, nat_tests}
+use Rattle.target_filter.proofs.Common.{is_bare_byte, Field, Id, Name, Tag, Attribute, Value, Tree, Or, And}
+use Rattle.target_filter.proofs.Common.{Group, Comparison, OrLevel, AndLevel, AtomLevel, is_at, spelling, field_text, value_text}
+use Rattle.target_filter.proofs.Common.{Operator, operator_byte, is_field, is_filter_value, IsFilter, is_word_letter, front, behind_front}
+use Rattle.target_filter.proofs.Common.{field_of_name, operator_at, value_at, comparison_at, closed, or_at}
 use Rattle.target_filter.proofs.Common.{more_ors, and_at, more_ands, atom_at}
 use Rattle.target_filter.proofs.ScannedTrees.{both}
 
@@ -15,12 +15,10 @@ stops p [] = true
 stops p (b ∷ bs) = not (p b)
 
 front_stop : (p : ℕ → Bool) (b : ℕ) (rest : List ℕ) (c : Bool) → p b ≡ c → not c ≡ true → front p (b ∷ rest) ≡ []
-front_stop p b rest true e h = absurd (false≢true h)
-front_stop p b rest false e h = rw e refl
+front_stop p b rest c e h = grind (arith, false≢true, e)
 
 past_stop : (p : ℕ → Bool) (b : ℕ) (rest : List ℕ) (c : Bool) → p b ≡ c → not c ≡ true → behind_front p (b ∷ rest) ≡ b ∷ rest
-past_stop p b rest true e h = absurd (false≢true h)
-past_stop p b rest false e h = rw e refl
+past_stop p b rest c e h = grind (arith, false≢true, e)
 
 pub fronts : (p : ℕ → Bool) (xs rest : List ℕ) → list_all p xs ≡ true → stops p rest ≡ true → front p (xs ++ rest) ≡ xs
 fronts p [] [] h s = refl
@@ -33,57 +31,27 @@ pasts p [] (b ∷ rest) h s = past_stop p b rest (p b) refl s
 pasts p (x ∷ xs) rest h s = let q = both (p x) (list_all p xs) h in rw q.0 (pasts p xs rest q.1 s)
 
 field_found : (f : Field) → field_of_name (field_text f) ≡ Some f
-field_found Id = refl
-field_found Name = refl
-field_found Tag = refl
-field_found (Attribute key) = refl
+field_found f = grind arith
 
 field_letters : (f : Field) → is_field f ≡ true → list_all is_word_letter (field_text f) ≡ true
-field_letters Id h = refl
-field_letters Name h = refl
-field_letters Tag h = refl
-field_letters (Attribute key) h = (both (nat_le 1 (length key) && nat_le (length key) 64) (list_all is_word_letter key) h).1
+field_letters f h = grind (arith, length)
 
 bare_not_quote : (b : ℕ) → is_bare_byte b ≡ true → (b == 34) ≡ false
 bare_not_quote b h = grind (arith, nat_tests)
 
 value_found : (v : Value) (rest : List ℕ) → is_filter_value v ≡ true → stops is_bare_byte rest ≡ true → value_at (value_text v ++ rest) ≡ Some (v, rest)
-value_found (Bare []) rest h s = absurd (false≢true h)
-value_found (Bare (b ∷ v)) rest h s =
-    let p = both (is_bare_byte b) (list_all is_bare_byte v) h in
-    ap (λ c. cond c (quoted_value (front is_quotable_byte (v ++ rest)) (behind_front is_quotable_byte (v ++ rest)))
-    (bare_value (front is_bare_byte (b ∷ (v ++ rest))) (behind_front is_bare_byte (b ∷ (v ++ rest))))) (bare_not_quote b p.0)
-    ∙ ap (λ y. bare_value y (behind_front is_bare_byte (b ∷ (v ++ rest)))) (fronts is_bare_byte (b ∷ v) rest h s)
-    ∙ ap (bare_value (b ∷ v)) (pasts is_bare_byte (b ∷ v) rest h s)
-value_found (Quoted v) rest h s =
-    ap (λ y. quoted_value (front is_quotable_byte y) (behind_front is_quotable_byte y)) (append_assoc v (34 ∷ []) rest)
-    ∙ ap (λ y. quoted_value y (behind_front is_quotable_byte (v ++ 34 ∷ rest))) (fronts is_quotable_byte v (34 ∷ rest) h refl)
-    ∙ ap (quoted_value v) (pasts is_quotable_byte v (34 ∷ rest) h refl)
+value_found v rest h s = grind (arith, nat_tests, false≢true, cond, bare_not_quote, fronts, pasts, append_assoc)
 
 mark_found : (m : Operator) (rest : List ℕ) → operator_at (operator_byte m ∷ 61 ∷ rest) ≡ Some (m, rest)
-mark_found Equal rest = refl
-mark_found NotEqual rest = refl
+mark_found m rest = grind arith
 
 mark_stops : (m : Operator) (rest : List ℕ) → stops is_word_letter (operator_byte m ∷ rest) ≡ true
-mark_stops Equal rest = refl
-mark_stops NotEqual rest = refl
+mark_stops m rest = grind arith
 
 test_found : (f : Field) (m : Operator) (v : Value) (rest : List ℕ) → is_field f ≡ true → is_filter_value v ≡ true → stops is_bare_byte rest ≡ true
     → comparison_at (spelling (Comparison f m v) ++ rest) ≡ Some (Comparison f m v, rest)
 test_found f m v rest h k s =
-    let tail = operator_byte m ∷ 61 ∷ (value_text v ++ rest) in
-    ap comparison_at (append_assoc (field_text f) (operator_byte m ∷ 61 ∷ value_text v) rest)
-    ∙ ap (λ y. option_and_then
-    (λ g. option_and_then (λ (m : Operator × List ℕ). option_map (λ (v : Value × List ℕ). (Comparison g m.0 v.0, v.1)) (value_at m.1))
-    (operator_at (behind_front is_word_letter (field_text f ++ tail)))) (field_of_name y))
-    (fronts is_word_letter (field_text f) tail (field_letters f h) (mark_stops m (61 ∷ (value_text v ++ rest))))
-    ∙ ap (option_and_then (λ g. option_and_then (λ (m : Operator × List ℕ). option_map (λ (v : Value × List ℕ). (Comparison g m.0 v.0, v.1)) (value_at m.1))
-    (operator_at (behind_front is_word_letter (field_text f ++ tail))))) (field_found f)
-    ∙ ap (λ y. option_and_then (λ (m : Operator × List ℕ). option_map (λ (v : Value × List ℕ). (Comparison f m.0 v.0, v.1)) (value_at m.1)) (operator_at y))
-    (pasts is_word_letter (field_text f) tail (field_letters f h) (mark_stops m (61 ∷ (value_text v ++ rest))))
-    ∙ ap (option_and_then (λ (m : Operator × List ℕ). option_map (λ (v : Value × List ℕ). (Comparison f m.0 v.0, v.1)) (value_at m.1)))
-    (mark_found m (value_text v ++ rest))
-    ∙ ap (option_map (λ (v : Value × List ℕ). (Comparison f m v.0, v.1))) (value_found v rest k s)
+    grind (arith, append_assoc, f, option_map, Comparison, value_at, fronts, field_letters, mark_stops, field_found, pasts, mark_found, value_found)
 
 abbrev semi : ℕ → Bool
 semi b = b == 59
@@ -92,22 +60,16 @@ abbrev comma : ℕ → Bool
 comma b = b == 44
 
 ands_stop_by : (n : ℕ) (t : Tree) (b : ℕ) (s : List ℕ) (c : Bool) → (b == 59) ≡ c → not c ≡ true → more_ands (suc n) t (b ∷ s) ≡ Some (t, b ∷ s)
-ands_stop_by n t b s true e h = absurd (false≢true h)
-ands_stop_by n t b s false e h = rw e refl
+ands_stop_by n t b s c e h = grind (arith, false≢true, e)
 
 ands_stop : (n : ℕ) (t : Tree) (rest : List ℕ) → stops semi rest ≡ true → more_ands n t rest ≡ Some (t, rest)
-ands_stop zero t rest h = refl
-ands_stop (suc n) t [] h = refl
-ands_stop (suc n) t (b ∷ s) h = ands_stop_by n t b s (b == 59) refl h
+ands_stop n t rest h = grind (arith, ands_stop_by)
 
 ors_stop_by : (n : ℕ) (t : Tree) (b : ℕ) (s : List ℕ) (c : Bool) → (b == 44) ≡ c → not c ≡ true → more_ors (suc n) t (b ∷ s) ≡ Some (t, b ∷ s)
-ors_stop_by n t b s true e h = absurd (false≢true h)
-ors_stop_by n t b s false e h = rw e refl
+ors_stop_by n t b s c e h = grind (arith, false≢true, e)
 
 ors_stop : (n : ℕ) (t : Tree) (rest : List ℕ) → stops comma rest ≡ true → more_ors n t rest ≡ Some (t, rest)
-ors_stop zero t rest h = refl
-ors_stop (suc n) t [] h = refl
-ors_stop (suc n) t (b ∷ s) h = ors_stop_by n t b s (b == 44) refl h
+ors_stop n t rest h = grind (arith, ors_stop_by)
 
 abbrev AtomReads : Tree → Type 0
 AtomReads t = (n : ℕ) (rest : List ℕ) → stops is_bare_byte rest ≡ true → 3 * length (spelling t ++ rest) + 1 ≤ n → atom_at n (spelling t ++ rest)

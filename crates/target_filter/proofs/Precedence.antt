@@ -1,5 +1,5 @@
 -- How `,` and `;` bind.
-use Rattle.target_filter.proofs.Common.{◌≡◌, ℕ, List, ◌∷◌, ◌++◌, Bool, true, ◌&&◌, refl, ap, Target, Tree, Or, And, OrLevel, AndLevel, AtomLevel, is_at}
+use Rattle.target_filter.proofs.Common.{ℕ, List, refl, ap, Tree, Or, And, OrLevel, AndLevel, AtomLevel, is_at}
 use Rattle.target_filter.proofs.Common.{IsFilter, holds}
 use Rattle.target_filter.specs.Laws.{HasMeaning, BindsAndOnTheRight, BindsAndOnTheLeft}
 use Rattle.target_filter.proofs.Beginnings.{all_of, or_from_and}

@@ -1,7 +1,7 @@
 -- What `filter_of` computes is the tree of a text of the profile.
-use Rattle.target_filter.proofs.Common.{◌≡◌, ◌⊎◌, inl, inr, ℕ, ◌+◌, ◌*◌, ◌≤◌, List, [], length, Bool, true, false, cond, ◌&&◌, Option, Some, None, refl, ◌∙◌}
-use Rattle.target_filter.proofs.Common.{ap, subst, arith, nat_le, nat_eq, option_and_then, pointwise, false≢true, nat_tests, Decides-eqb, slice_eq-Decides}
-use Rattle.target_filter.proofs.Common.{Tree, IsFilter, OrLevel, is_at, spelling, nesting, or_at, IsProfileFilter, IsInProfile, is_profile_filter, filter_of}
+use Rattle.target_filter.proofs.Common.{◌≡◌, ◌⊎◌, ℕ, ◌+◌, ◌*◌, ◌≤◌, List, length, Bool, true, cond, ◌&&◌, Option, Some, None, refl}
+use Rattle.target_filter.proofs.Common.{subst, arith, nat_le, nat_eq, option_and_then, pointwise, nat_tests, Decides-eqb, slice_eq-Decides}
+use Rattle.target_filter.proofs.Common.{Tree, OrLevel, is_at, spelling, nesting, or_at, IsProfileFilter, IsInProfile, is_profile_filter, filter_of}
 use Rattle.rollout_model.specs.Limits.{filter_length_limit, filter_depth_limit}
 use Rattle.target_filter.proofs.ScannedTrees.{both}
 use Rattle.target_filter.proofs.Beginnings.{all_of}
@@ -42,27 +42,22 @@ taken text found = cond (is_profile_filter text found.0) (Some found.0) None
 
 kept_by : (text : List ℕ) (u t : Tree) (c : Bool) → is_profile_filter text u ≡ c → ◌≡◌ {A = Option Tree} (cond c (Some u) None) (Some t)
     → is_profile_filter text t ≡ true
-kept_by text u t true e h = let same : u ≡ t = cc in rw (← same) e
-kept_by text u t false e h = cc
+kept_by text u t c e h = grind (arith, e)
 
 kept : (text : List ℕ) (t : Tree) (o : Option (Tree × List ℕ)) → option_and_then (taken text) o ≡ Some t → is_profile_filter text t ≡ true
-kept text t None h = cc
-kept text t (Some found) h = kept_by text found.0 t (is_profile_filter text found.0) refl h
+kept text t o h = grind (arith, kept_by)
 
 pub filter_tree : (text : List ℕ) (t : Tree) → filter_of text ≡ Some t → IsProfileFilter text t
 filter_tree text t h = passes text t (kept text t (or_at (3 * length text + 3) text) h)
 
 pub tree_filter : (text : List ℕ) (t : Tree) → IsProfileFilter text t → filter_of text ≡ Some t
-tree_filter text t h =
-    ap (option_and_then (taken text)) (parsed text t (3 * length text + 3) h.filter (omega arith))
-    ∙ ap (λ c. cond c (Some t) None) (passed text t h)
+tree_filter text t h = grind (arith, parsed, length, cond, passed)
 
 pub no_filter : (text : List ℕ) → filter_of text ≡ None → IsInProfile text → ⊥
 no_filter text e (t, h) = let some = tree_filter text t h in cc
 
 none_by : (text : List ℕ) (o : Option Tree) → filter_of text ≡ o → (IsInProfile text → ⊥) → filter_of text ≡ None
-none_by text None e h = e
-none_by text (Some t) e h = absurd (h (t, filter_tree text t e))
+none_by text o e h = grind (arith, e, filter_tree)
 
 pub filter_none : (text : List ℕ) → (IsInProfile text → ⊥) → filter_of text ≡ None
 filter_none text h = none_by text (filter_of text) refl h
@@ -73,5 +68,4 @@ tree_found text u r (t, h) e = subst (IsProfileFilter text) (found text (3 * len
 
 pub none_missing : (text : List ℕ) (e : ParseFault) → IsInProfile text → e ≡ Missing → (e ≡ Memory)
     ⊎ ((e ≡ Missing) × (or_at (3 * length text + 3) text ≡ None)) → ⊥
-none_missing text e p h (inl m) = cc
-none_missing text e (t, p) h (inr (m, none)) = let some = parsed text t (3 * length text + 3) p.filter (omega arith) in cc
+none_missing text e p h h4 = grind (arith, parsed, length)

@@ -1,7 +1,6 @@
 -- From the scanner's answer to the reader's.
 use Rattle.target_filter.proofs.Common.{◌≡◌, ℕ, ◌≤◌, ◌<◌, List, length, arith, ap, None, Result, Ok, Err, IsUtf8, StopsBehind, Ends, Tree, IsInGrammar}
-use Rattle.target_filter.proofs.Common.{IsFilter}
-use Rattle.target_filter.proofs.Common.{nesting, IsProfileFilter, IsInProfile, filter_of}
+use Rattle.target_filter.proofs.Common.{IsFilter, nesting, IsProfileFilter, IsInProfile, filter_of}
 use Rattle.target_filter.specs.Faults.{IsRefused}
 use Rattle.target_filter.specs.declared.fault.FilterFault.TheVariants.{Syntax, TooDeep, Memory}
 use Rattle.target_filter.specs.declared.fault.FilterFault.{FilterFault}

@@ -1,14 +1,13 @@
 -- The scanner goes through each filter.
-use Rattle.target_filter.proofs.Common.{◌≡◌, ℕ, zero, suc, ◌+◌, ◌-◌, ◌≤◌, ◌<◌, max, List, [], ◌∷◌, ◌++◌, length, Bool, true, false, cond, ◌&&◌, ltb, leb}
-use Rattle.target_filter.proofs.Common.{Option, Some, None, refl, sym, ◌∙◌, ap, arith, append_assoc, add-zero, nat_le, nat_lt, list_all, false≢true, nat_tests}
-use Rattle.target_filter.proofs.Common.{is_bare_byte, is_quotable_byte, is_nonempty, Field, Id, Name, Tag, Attribute, Value, Bare, Quoted, Tree, Or, And}
+use Rattle.target_filter.proofs.Common.{◌≡◌, ℕ, ◌+◌, ◌≤◌, ◌<◌, max, List, [], ◌∷◌, ◌++◌, length, Bool, true, false, ◌&&◌}
+use Rattle.target_filter.proofs.Common.{refl, sym, ◌∙◌, ap, arith, append_assoc, add-zero, nat_le, nat_lt, list_all, false≢true, nat_tests}
+use Rattle.target_filter.proofs.Common.{is_bare_byte, is_quotable_byte, Field, Id, Name, Tag, Attribute, Value, Bare, Quoted, Tree, Or, And}
 use Rattle.target_filter.proofs.Common.{Group, Comparison, Level, OrLevel, AndLevel, AtomLevel, is_at, allows_or, allows_and, spelling, field_text, value_text}
-use Rattle.target_filter.proofs.Common.{Operator, Equal, NotEqual, operator_byte, nesting, is_field, is_filter_value, is_word_letter, Mode, State, run, next}
+use Rattle.target_filter.proofs.Common.{Operator, operator_byte, nesting, is_field, is_filter_value, is_word_letter, Mode, State, run}
 use Rattle.target_filter.specs.Scanner as scan
 
 pub both : (a b : Bool) → (a && b) ≡ true → (a ≡ true) × (b ≡ true)
-both true b h = (refl, h)
-both false b h = absurd (false≢true h)
+both a b h = grind (arith, false≢true)
 
 abbrev pub in_mode : ℕ → ℕ → Mode → State
 in_mode d e m = record { depth = d; deepest = e; mode = m }
@@ -66,15 +65,7 @@ field_read d e (Attribute key) rest h =
 
 mark_read : (d e : ℕ) (f : Field) (m : Operator) (rest : List ℕ) → is_field f ≡ true → run (in_mode d e (field_end f)) (operator_byte m ∷ 61 ∷ rest)
     ≡ run (in_mode d e scan.Value) rest
-mark_read d e Id Equal rest h = refl
-mark_read d e Id NotEqual rest h = refl
-mark_read d e Name Equal rest h = refl
-mark_read d e Name NotEqual rest h = refl
-mark_read d e Tag Equal rest h = refl
-mark_read d e Tag NotEqual rest h = refl
-mark_read d e (Attribute []) m rest h = absurd (false≢true h)
-mark_read d e (Attribute (k ∷ ks)) Equal rest h = rw (lt_true 0 (suc (length ks)) (omega arith)) refl
-mark_read d e (Attribute (k ∷ ks)) NotEqual rest h = rw (lt_true 0 (suc (length ks)) (omega arith)) refl
+mark_read d e f m rest h = grind (arith, false≢true, lt_true, length)
 
 abbrev pub tree_end : Tree → Mode
 tree_end (Or a b) = tree_end b
@@ -91,37 +82,13 @@ tree_ends (Comparison f m (Quoted v)) = refl
 
 -- behind an atom
 comma : (d e : ℕ) (m : Mode) (rest : List ℕ) → scan.ends_atom m ≡ true → run (in_mode d e m) (44 ∷ rest) ≡ run (in_mode d e scan.AtomStart) rest
-comma d e scan.Bare rest h = refl
-comma d e scan.AtomEnd rest h = refl
-comma d e scan.AtomStart rest h = absurd (false≢true h)
-comma d e (scan.FieldName l k) rest h = absurd (false≢true h)
-comma d e (scan.Key n) rest h = absurd (false≢true h)
-comma d e scan.Equals rest h = absurd (false≢true h)
-comma d e scan.Value rest h = absurd (false≢true h)
-comma d e scan.Quoted rest h = absurd (false≢true h)
+comma d e m rest h = grind (arith, false≢true)
 
 semicolon : (d e : ℕ) (m : Mode) (rest : List ℕ) → scan.ends_atom m ≡ true → run (in_mode d e m) (59 ∷ rest) ≡ run (in_mode d e scan.AtomStart) rest
-semicolon d e scan.Bare rest h = refl
-semicolon d e scan.AtomEnd rest h = refl
-semicolon d e scan.AtomStart rest h = absurd (false≢true h)
-semicolon d e (scan.FieldName l k) rest h = absurd (false≢true h)
-semicolon d e (scan.Key n) rest h = absurd (false≢true h)
-semicolon d e scan.Equals rest h = absurd (false≢true h)
-semicolon d e scan.Value rest h = absurd (false≢true h)
-semicolon d e scan.Quoted rest h = absurd (false≢true h)
-
-down : (d : ℕ) → d + 1 - 1 ≡ d
-down d = omega arith
+semicolon d e m rest h = grind (arith, false≢true)
 
 pub closed : (d e : ℕ) (m : Mode) (rest : List ℕ) → scan.ends_atom m ≡ true → run (in_mode (d + 1) e m) (41 ∷ rest) ≡ run (in_mode d e scan.AtomEnd) rest
-closed d e scan.Bare rest h = rw (lt_true 0 (d + 1) (omega arith), down d) refl
-closed d e scan.AtomEnd rest h = rw (lt_true 0 (d + 1) (omega arith), down d) refl
-closed d e scan.AtomStart rest h = absurd (false≢true h)
-closed d e (scan.FieldName l k) rest h = absurd (false≢true h)
-closed d e (scan.Key n) rest h = absurd (false≢true h)
-closed d e scan.Equals rest h = absurd (false≢true h)
-closed d e scan.Value rest h = absurd (false≢true h)
-closed d e scan.Quoted rest h = absurd (false≢true h)
+closed d e m rest h = grind (arith, lt_true, false≢true)
 
 deeper : (d : ℕ) (m : Mode) (rest : List ℕ) (e f : ℕ) → e ≡ f → run (in_mode d e m) rest ≡ run (in_mode d f m) rest
 deeper d m rest e f h = ap (λ k. run (in_mode d k m) rest) h

@@ -1,23 +1,21 @@
 -- A move of the scanner keeps what stands behind the beginning.
-use Rattle.target_filter.proofs.Common.{◌≡◌, ◌⊎◌, inl, inr, ℕ, zero, suc, ◌+◌, ◌-◌, ◌≤◌, ◌<◌, max, List, [], ◌∷◌, ◌++◌, length, Bool, true, false, cond, ◌&&◌}
-use Rattle.target_filter.proofs.Common.{◌==◌, ltb, leb, Option, Some, None, refl, sym, ◌∙◌, ap, subst, arith, append_assoc, append-nil, add-zero}
-use Rattle.target_filter.proofs.Common.{length-append, nat_le, nat_lt, codes, list_all, IfSome, option_and_then, false≢true, nat_tests, is_bare_byte}
-use Rattle.target_filter.proofs.Common.{is_quotable_byte, is_nonempty, Field, Id, Name, Tag, Attribute, Value, Bare, Quoted, Tree, Or, And, Group, Comparison}
-use Rattle.target_filter.proofs.Common.{Level, OrLevel, AndLevel, AtomLevel, is_at, allows_or, allows_and, spelling, field_text, value_text, Operator, Equal}
-use Rattle.target_filter.proofs.Common.{NotEqual, operator_byte, nesting, is_field, is_filter_value, IsFilter, is_word_letter, Mode, State, Move, run, next}
-use Rattle.target_filter.proofs.Common.{step}
+use Rattle.target_filter.proofs.Common.{◌≡◌, ◌⊎◌, inl, inr, ℕ, suc, ◌+◌, ◌-◌, ◌≤◌, List, [], ◌∷◌, ◌++◌, length, Bool, true, false, cond}
+use Rattle.target_filter.proofs.Common.{◌==◌, Option, Some, None, refl, sym, ◌∙◌, ap, subst, arith, append_assoc, append-nil, length-append}
+use Rattle.target_filter.proofs.Common.{nat_lt, list_all, IfSome, option_and_then, nat_tests, is_bare_byte, is_quotable_byte}
+use Rattle.target_filter.proofs.Common.{is_nonempty, Field, Id, Name, Tag, Attribute, Quoted, Tree, Group, Comparison}
+use Rattle.target_filter.proofs.Common.{spelling, field_text, Equal, NotEqual}
+use Rattle.target_filter.proofs.Common.{operator_byte, is_field, IsFilter, is_word_letter, Mode, State, Move, run, next, step}
 use Rattle.target_filter.proofs.Common.{state_after, mode_of_name, at_atom_start, at_operator, at_atom_end}
 use Rattle.target_filter.specs.Scanner as scan
 use Rattle.target_filter.proofs.ScannedTrees.{both}
-use Rattle.target_filter.proofs.Beginnings.{Part, before, part_text, fits, PartFits, and_with, or_with, and_spelled, and_fits, whole, whole_spelled}
-use Rattle.target_filter.proofs.Beginnings.{whole_fits, outer_text, AllFit, Begun, atom_of, all_of}
+use Rattle.target_filter.proofs.Beginnings.{Part, part_text, PartFits, and_with, and_spelled, and_fits, whole, whole_spelled, whole_fits}
+use Rattle.target_filter.proofs.Beginnings.{outer_text, AllFit, Begun, atom_of, all_of}
 
 pub eq_true : (a b : ℕ) → (a == b) ≡ true → a ≡ b
 eq_true a b h = grind (arith, nat_tests)
 
 pub by_test : (P : Move → Type 0) (c : Bool) (x y : Move) → (c ≡ true → P x) → (c ≡ false → P y) → P (cond c x y)
-by_test P true x y f g = f refl
-by_test P false x y f g = g refl
+by_test h0 c x y f g = grind (arith, f)
 
 all_push : (p : ℕ → Bool) (xs : List ℕ) (b : ℕ) → list_all p xs ≡ true → p b ≡ true → list_all p (xs ++ b ∷ []) ≡ true
 all_push p [] b h k = all_of (p b) true k refl
@@ -63,12 +61,7 @@ named_good x y (z ∷ zs) true h = append_assoc x (y ∷ []) (z ∷ zs) ∙ h
 named_good x y (z ∷ zs) false (f, p, e) = (f, p, append_assoc x (y ∷ []) (z ∷ zs) ∙ e)
 
 key_field : (key : List ℕ) (n : ℕ) → list_all is_word_letter key ≡ true → length key ≡ n → n ≤ 64 → nat_lt 0 n ≡ true → is_field (Attribute key) ≡ true
-key_field [] n h e l z = absurd (grind (arith, nat_tests))
-key_field (k ∷ ks) n h e l z =
-    let small : nat_le (length (k ∷ ks)) 64 ≡ true = grind (arith, nat_tests) in
-    let some : nat_le 1 (length (k ∷ ks)) ≡ true = grind (arith, nat_tests) in
-    all_of (nat_le 1 (length (k ∷ ks)) && nat_le (length (k ∷ ks)) 64) (list_all is_word_letter (k ∷ ks))
-    (all_of (nat_le 1 (length (k ∷ ks))) (nat_le (length (k ∷ ks)) 64) some small) h
+key_field key n h e l z = grind (arith, length)
 
 some_push : (v : List ℕ) (b : ℕ) → is_nonempty (v ++ b ∷ []) ≡ true
 some_push [] b = refl
@@ -149,10 +142,7 @@ close_text o up part t p x b h e k = rw (h, e, k, whole_spelled part t) (simp ap
 
 close_stands : (s : State) (p : List ℕ) (b : ℕ) (outer : List Part) (h : Stands s p) → h.outer ≡ outer → scan.ends_atom s.mode ≡ true → b ≡ 41
     → IfSome (state_after s scan.Close) (λ t. Stands t (p ++ b ∷ []))
-close_stands s p b [] h w d k =
-    let none : s.depth ≡ 0 = sym h.depth ∙ ap length w in
-    let no : nat_lt 0 s.depth ≡ false = rw none refl in
-    rw no tt
+close_stands s p b [] h w d k = grind (arith, length, no, false)
 close_stands s p b (q ∷ qs) h w d k =
     let some : suc (length qs) ≡ s.depth = sym (ap length w) ∙ h.depth in
     let yes : nat_lt 0 s.depth ≡ true = grind (arith, nat_tests) in
@@ -224,13 +214,10 @@ step_stands s p b h = go_stands s p b h (next s.mode b) (good s.mode h.atom b h.
 
 run_from : (o : Option State) (p : List ℕ) (bs : List ℕ) (t : State) → IfSome o (λ s. Stands s p)
     → ((s : State) → Stands s p → run s bs ≡ Some t → Stands t (p ++ bs)) → option_and_then (λ s. run s bs) o ≡ Some t → Stands t (p ++ bs)
-run_from None p bs t h f e = cc
-run_from (Some s) p bs t h f e = f s h e
+run_from o p bs t h f e = grind (arith, f, e)
 
 pub run_stands : (bs : List ℕ) (s : State) (p : List ℕ) (t : State) → Stands s p → run s bs ≡ Some t → Stands t (p ++ bs)
-run_stands [] s p t h e =
-    let same : s ≡ t = cc in
-    rw (append-nil p, ← same) h
+run_stands [] s p t h e = grind (arith, append-nil)
 run_stands (b ∷ bs) s p t h e =
     rw (← append_assoc p (b ∷ []) bs) (run_from (step s b) (p ++ b ∷ []) bs t (step_stands s p b h) (λ u. run_stands bs u (p ++ b ∷ []) t) e)
 

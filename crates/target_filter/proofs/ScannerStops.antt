@@ -1,16 +1,16 @@
 -- The scanner stops at a character's beginning, and there ends the longest beginning that can go on.
-use Rattle.target_filter.proofs.Common.{◌≡◌, ◌⊎◌, inl, inr, ℕ, zero, suc, ◌+◌, ◌-◌, ◌≤◌, ◌<◌, max, List, [], ◌∷◌, ◌++◌, length, take, drop, get_or, Bool, true}
-use Rattle.target_filter.proofs.Common.{false, cond, ◌&&◌, ◌||◌, ◌==◌, not, ltb, leb, Option, Some, None, refl, sym, ◌∙◌, ap, subst, arith, append_assoc}
-use Rattle.target_filter.proofs.Common.{append-nil, add-zero, length-append, nat_le, nat_lt, codes, list_all, IfSome, option_and_then, IsUtf8, IsAscii}
+use Rattle.target_filter.proofs.Common.{◌≡◌, ◌⊎◌, inl, inr, ℕ, zero, suc, ◌+◌, ◌<◌, List, [], ◌∷◌, ◌++◌, length, take, get_or, Bool, true}
+use Rattle.target_filter.proofs.Common.{cond, ◌==◌, Some, None, refl, sym, ◌∙◌, ap, subst, arith}
+use Rattle.target_filter.proofs.Common.{append-nil, nat_lt, option_and_then, IsUtf8}
 use Rattle.target_filter.proofs.Common.{IsCharBoundary, false≢true, nat_tests, IsCharBoundary-end, IsCharBoundary-start, IsCharBoundary-before_ascii}
 use Rattle.target_filter.proofs.Common.{IsCharBoundary-after_ascii, IsUtf8-nil, take-length, take_more, is_bare_byte, is_quotable_byte, Tree, IsFilter}
-use Rattle.target_filter.proofs.Common.{IsInGrammar, CanContinue, IsLongestBeginning, nesting, is_word_letter, Mode, State, Move, run, next, step, state_after}
-use Rattle.target_filter.proofs.Common.{mode_of_name, at_atom_start, at_operator, at_atom_end, start, accepts, StopsBehind, Ends}
+use Rattle.target_filter.proofs.Common.{IsInGrammar, IsLongestBeginning, nesting, is_word_letter, Mode, State, Move, run, next, step, state_after}
+use Rattle.target_filter.proofs.Common.{mode_of_name, at_operator, at_atom_end, start, StopsBehind, Ends}
 use Rattle.target_filter.specs.Scanner as scan
 use Rattle.std.proofs.lemmas.Option.{option_and_then_some}
 use Rattle.target_filter.proofs.Beginnings.{Begun}
 use Rattle.target_filter.proofs.ScannerMoves.{eq_true, by_test, accepted, Stands, run_stands, start_stands}
-use Rattle.target_filter.proofs.LongestBeginnings.{left_ascii, run_append, can_continue, dead, dead_from, filter_accepted}
+use Rattle.target_filter.proofs.LongestBeginnings.{left_ascii, run_append, can_continue, dead_from, filter_accepted}
 
 -- only in quotes there are bytes from 128 on
 abbrev Small : ℕ → Move → Type 0
@@ -46,9 +46,7 @@ ended_small b = by_test (Small b) (b == 44) _ _ (λ h. below b 44 h (omega arith
     (λ _. by_test (Small b) (b == 41) scan.Close scan.Stop (λ h. below b 41 h (omega arith)) (λ _. tt)))
 
 named_small : (b : ℕ) (xs : List ℕ) (k : Bool) → b < 128 → Small b (scan.Go (mode_of_name xs k))
-named_small b [] true h = h
-named_small b [] false h = h
-named_small b (x ∷ xs) k h = h
+named_small b xs k h = grind arith
 
 small : (m : Mode) (x : List ℕ) (b : ℕ) → Begun m x → Small b (next m b)
 small scan.AtomStart p b g =
@@ -88,17 +86,13 @@ quiet r s b scan.Close g e = inl g
 quiet r s b scan.Next g e = inl g
 quiet r s b scan.Stop g e = cc
 
-plain_above : (b : ℕ) → nat_lt b 128 ≡ false → is_quotable_byte b ≡ true
-plain_above b h = grind (arith, nat_tests)
-
 quotes_take : (s : State) (b : ℕ) → s.mode ≡ scan.Quoted → is_quotable_byte b ≡ true → step s b
     ≡ Some (record { depth = s.depth; deepest = s.deepest; mode = scan.Quoted })
 quotes_take s b e p = ap (λ m. state_after s (next m b)) e
     ∙ ap (λ c. state_after s (cond c (scan.Go scan.Quoted) (cond (b == 34) (scan.Go scan.AtomEnd) scan.Stop))) p
 
 in_quotes : (s : State) (b : ℕ) (c : Bool) → nat_lt b 128 ≡ c → s.mode ≡ scan.Quoted → step s b ≡ None → b < 128
-in_quotes s b true h e n = grind (arith, nat_tests)
-in_quotes s b false h e n = let some = quotes_take s b e (plain_above b h) in cc
+in_quotes s b c h e n = grind (arith, quotes_take, e)
 
 before_byte : (text : List ℕ) (k : ℕ) (s : State) → IsUtf8 text → k + 1 < length text → run start (take (k + 1) text) ≡ Some s → step s (get_or text (k + 1) 0)
     ≡ None → IsCharBoundary text (k + 1)

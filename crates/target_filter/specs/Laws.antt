@@ -1,5 +1,5 @@
 -- What the definitions imply, each the contract of a function of src/laws.rt.
-use Rattle.std.specs.Prelude.{◌≡◌, ◌↔◌, ℕ, List, ◌∷◌, ◌++◌, Bool, true, not, ◌&&◌, ◌||◌, Option, Some, None}
+use Rattle.std.specs.Prelude.{◌≡◌, ◌↔◌, ℕ, List, ◌∷◌, ◌++◌, Bool, true, not, ◌&&◌, ◌||◌, Some, None}
 use Rattle.rollout_model.specs.declared.target.Target.{Target}
 use Rattle.target_filter.specs.Grammar.{Field, Value, Tree, Comparison, Equal, NotEqual, OrLevel, AndLevel, AtomLevel, is_at, spelling, IsFilter, IsInGrammar}
 use Rattle.target_filter.specs.Patterns.{Matches, matches}

@@ -1,5 +1,5 @@
 -- The filters that are read: at most 512 bytes, and parentheses at most 16 deep.
-use Rattle.std.specs.Prelude.{◌≡◌, ℕ, ◌+◌, ◌*◌, ◌≤◌, List, length, Bool, ◌&&◌, nat_le, nat_eq, cond, Option, Some, None}
+use Rattle.std.specs.Prelude.{ℕ, ◌+◌, ◌*◌, ◌≤◌, List, length, Bool, ◌&&◌, nat_le, nat_eq, cond, Option, Some, None}
 use Rattle.std.specs.Option.{option_and_then}
 use Rattle.std.specs.Cmp.Lexicographic.{pointwise}
 use Rattle.rollout_model.specs.Limits.{filter_length_limit, filter_depth_limit}

@@ -1,5 +1,4 @@
 -- The scanner's values, as the definitions see them.
-use Rattle.std.specs.Prelude.{ℕ}
 use Rattle.target_filter.specs.declared.scanner.Mode.{Mode}
 use Rattle.target_filter.specs.declared.scanner.Mode.TheVariants as mode
 use Rattle.target_filter.specs.declared.scanner.Move.{Move}

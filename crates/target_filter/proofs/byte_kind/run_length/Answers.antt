@@ -1,4 +1,4 @@
-use Rattle.target_filter.proofs.Common.{◌≡◌, sym, ap, ◌∙◌, arith, true, list_all, take_all, take-length, drop-length, is_byte_of}
+use Rattle.target_filter.proofs.Common.{sym, ap, ◌∙◌, arith, list_all, take_all, take-length, drop-length, is_byte_of}
 use Rattle.target_filter.proofs.ByteRuns.{front_to, behind_to, front_all, behind_all}
 use Rattle.target_filter.proofs.byte_kind.run_length.Goals as goal
 

@@ -1,4 +1,4 @@
-use Rattle.target_filter.proofs.Common.{◌≡◌, ap, sym, ◌∙◌, Some}
+use Rattle.target_filter.proofs.Common.{ap, sym, ◌∙◌, Some}
 use Rattle.target_filter.proofs.GreedyMatching.{after_is}
 use Rattle.target_filter.proofs.pattern.after.Goals as goal
 

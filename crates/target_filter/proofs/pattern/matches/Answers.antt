@@ -1,4 +1,4 @@
-use Rattle.target_filter.proofs.Common.{◌≡◌, ◌+◌, ◌&&◌, ap, sym, ◌∙◌, Some, take, drop, true, false, pieces, greedy}
+use Rattle.target_filter.proofs.Common.{◌+◌, ap, sym, ◌∙◌, drop, true, false, pieces, greedy}
 use Rattle.target_filter.proofs.GreedyMatching.{cut_true, whole_is}
 use Rattle.target_filter.proofs.pattern.matches.Goals as goal
 

@@ -1,4 +1,4 @@
-use Rattle.target_filter.proofs.Common.{◌≡◌, arith, get_or, length, true, sym, ap, ◌∙◌, list_all, take_all, pieces}
+use Rattle.target_filter.proofs.Common.{arith, sym, ap, ◌∙◌, list_all, take_all}
 use Rattle.target_filter.proofs.GreedyMatching.{cut, one_piece, no_star}
 use Rattle.target_filter.proofs.pattern.star_at.Goals as goal
 

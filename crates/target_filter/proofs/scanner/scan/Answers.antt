@@ -1,4 +1,4 @@
-use Rattle.target_filter.proofs.Common.{◌≡◌, ◌≤◌, ◌<◌, length, inl, inr, refl, sym, ap, ◌∙◌, arith, get_or, take, Some, take-length, run, start, state_of}
+use Rattle.target_filter.proofs.Common.{◌≡◌, inl, refl, sym, ap, ◌∙◌, arith, Some, take-length, run, start, state_of}
 use Rattle.target_filter.proofs.LongestBeginnings.{run_more, run_all}
 use Rattle.target_filter.proofs.scanner.scan.Goals as goal
 

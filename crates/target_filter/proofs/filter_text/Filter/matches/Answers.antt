@@ -1,4 +1,4 @@
-use Rattle.target_filter.proofs.Common.{string_bytes, tree_of}
+use Rattle.target_filter.proofs.Common.{tree_of}
 use Rattle.target_filter.proofs.Meanings.{same_text, any_tree, computed_tree}
 use Rattle.target_filter.proofs.filter_text.Filter.matches.Goals as goal
 
