@@ -14,9 +14,9 @@ WRITTEN = "Written by tools/meanings from rows.txt of desk_records. What it make
 STORE = "Rattle.desk_store"
 
 # How a column is read (of the row, at a place, and told as this variant of `Column`), what it says of a field, that it
-# keeps its rule, what breaks it, what is written of a field, the lemma that both are one (with the field that is
-# written, where that can't be seen), whether it stands for something, and whether a read takes memory.
-Kind = collections.namedtuple("Kind", "reads says keeps breaks tells same is_coded memory")
+# keeps its rule, what breaks it, what is written of a field, the lemma that both are one where it stands for something,
+# and whether a read takes memory.
+Kind = collections.namedtuple("Kind", "reads says keeps breaks tells same memory")
 
 
 def coded(reads, meant, same, code="pos %s"):
@@ -27,13 +27,12 @@ def coded(reads, meant, same, code="pos %s"):
         f"is_some ({meant} (%s))",
         f"{meant} (%s) ≡ None",
         f"Int ({code})",
-        f"{same} %s",
-        True,
+        same,
         False,
     )
 
 
-def kept(reads, made, keeps, same, memory=False):
+def kept(reads, made, keeps, memory=False):
     """A value that is there as it is written."""
     alloc = "alloc, " if memory else ""
     return Kind(
@@ -42,35 +41,34 @@ def kept(reads, made, keeps, same, memory=False):
         f"{keeps} (%s)",
         f"{keeps} (%s) ≡ false",
         made,
-        f"{same} _",
-        False,
+        "",
         memory,
     )
 
 
 KINDS = {
-    "number": coded("numbered_at", "number_in", "kept_number is_number"),
+    "number": coded("numbered_at", "number_in", "kept_number"),
     "place": coded("place_at", "place_in", "kept_place"),
-    "feedback_number": coded("feedback_number_at", "feedback_number_in", "kept_number is_feedback_number"),
-    "group_count": coded("group_count_at", "group_count_in", "kept_number is_group_count"),
-    "percentage": coded("percentage_at", "percentage_in", "kept_number is_percentage"),
+    "feedback_number": coded("feedback_number_at", "feedback_number_in", "kept_number"),
+    "group_count": coded("group_count_at", "group_count_in", "kept_number"),
+    "percentage": coded("percentage_at", "percentage_in", "kept_number"),
     "percentage_or_none": coded("percentage_or_none_at", "percentage_or_none_in", "kept_percentage_or_none")._replace(
         tells="or_null (λ n. Int (pos n)) %s"
     ),
     "flag": coded("flag_at", "flag_in", "kept_flag", "pos (flag %s)"),
     "approval": coded("approval_at", "approval_in", "kept_approval", "pos (approval_code %s)"),
     "outcome": coded("outcome_at", "outcome_in", "kept_outcome", "pos (outcome_code %s)"),
-    "size": kept("size_at", "Int (pos %s)", "has_size", "same_int"),
-    "own_number": kept("own_number_at", "Int (pos %s)", "has_number", "same_int"),
-    "text": kept("text_at", "Text %s", "has_text", "same_text", True),
-    "value": kept("value_at", "Text %s", "has_value", "same_text", True),
-    "filter": kept("filter_at", "Text %s", "has_filter", "same_text", True),
-    "id": kept("id_at", "Text %s", "has_word", "same_text"),
-    "word": kept("word_at", "Text %s", "has_word", "same_text"),
-    "filename": kept("filename_at", "Text %s", "has_filename", "same_text"),
-    "digest": kept("digest_at", "Blob %s", "has_digest", "same_blob"),
+    "size": kept("size_at", "Int (pos %s)", "has_size"),
+    "own_number": kept("own_number_at", "Int (pos %s)", "has_number"),
+    "text": kept("text_at", "Text %s", "has_text", True),
+    "value": kept("value_at", "Text %s", "has_value", True),
+    "filter": kept("filter_at", "Text %s", "has_filter", True),
+    "id": kept("id_at", "Text %s", "has_word"),
+    "word": kept("word_at", "Text %s", "has_word"),
+    "filename": kept("filename_at", "Text %s", "has_filename"),
+    "digest": kept("digest_at", "Blob %s", "has_digest"),
     # no row is read of such a column: what breaks it is all that is asked
-    "bytes": kept("", "Blob %s", "has_bytes", ""),
+    "bytes": kept("", "Blob %s", "has_bytes"),
 }
 
 # a column of a reading; its name is the last of the field's
@@ -88,21 +86,6 @@ def wrapped(line, width=160):
         return filled(first, [f"→ {it}" for it in more], width)
     first, mark, rest = line.partition(" ⊎ " if " ⊎ " in line else " = ")
     return [first, f"    ⊎ {rest}"] if mark == " ⊎ " else [f"{first} =", f"    {rest}"]
-
-
-def recorded(head, fields, tail="", width=160):
-    """A record behind the head, on one line or with a line a field."""
-    def flat(fields):
-        return f"record {{ {'; '.join(f'{n} = {t if isinstance(t, str) else flat(t)}' for n, t in fields)} }}"
-
-    line = f"{head}{flat(fields)}{tail}"
-    if len(line) <= width:
-        return [line]
-    lines, indent = [f"{head}record {{"], re.match(" *", head)[0]
-    for name, term in fields:
-        before = f"{indent}  {name} = "
-        lines += [f"{before}{term};"] if isinstance(term, str) else recorded(before, term, ";", width)
-    return [*lines, f"{indent}}}{tail}"]
 
 
 class BadRows(Exception):
@@ -422,63 +405,39 @@ class Rows:
             [f"//! {WRITTEN}", "//! How rows are read.", "", *ghosts, "", *imports, "", body.rstrip("\n"), ""]
         )
 
-    def record(self, made, terms):
-        """The fields of a record whose own go along paths of their names."""
-        own = {}
-        for path, term in terms:
-            first, _, rest = path.partition(".")
-            own.setdefault(first, []).append((rest, term))
-        inner = self.sources.type_of(made)[2]
-        return [(name, self.record(inner[name], its) if its[0][0] else its[0][1]) for name, its in own.items()]
-
-    def both(self, head, r, proves):
-        """Two values are one, where each field is."""
-        terms = [(field, f"{proves(p, field, said)} i") for p, field, said in r.all_parts()]
-        return [*recorded(f"{head} = λ i. ", self.record(r.made, terms)), ""]
+    @staticmethod
+    def closed(head, lemmas=()):
+        """What grind finds of the fields by itself, with lemmas on what stands for something."""
+        return [f"{head} = grind ({', '.join(['arith', *sorted(lemmas)])})" if lemmas else f"{head} = grind arith", ""]
 
     def told_of(self, r):
         """What is written in a row is what is read of it."""
-        def proves(p, field, said):
-            return f"{p.kind.same.replace('%s', f'b.{field}')} _ h.{said}"
-
         return [
             f"pub {r.one} : (a b : {r.made}) → {r.says} ({r.told} b) a → a ≡ b",
-            *self.both(f"{r.one} a b h", r, proves),
+            *self.closed(f"{r.one} a b h", {p.kind.same for p, _, _ in r.all_parts() if p.kind.same}),
         ]
 
     def said_of(self, r):
         """A row says one thing."""
-        def proves(p, field, said):
-            if p.kind.is_coded:
-                return f"one_in _ _ _ is.{said} other.{said}"
-            return f"{p.kind.same} _ (sym other.{said} ∙ is.{said})"
-
         name = f"same_{r.word}"
         return [
             f"pub {name} : (row : Row) (a b : {r.made}) → {r.says} row a → {r.says} row b → a ≡ b",
-            *self.both(f"{name} row a b is other", r, proves),
+            *self.closed(f"{name} row a b is other", {"one_in"}),
         ]
 
     def whole_of(self, r):
         """A row that says something breaks no column, where those keep their rules that say nothing of them."""
+        name, own = f"whole_{r.word}", [(k, p) for k, p in enumerate(r.parts) if not p.kind.same]
+        given, said = f"{r.says} row x", ["says", *(p.name for _, p in own)]
         if r.behind:
             part = r.parts[0]
-            name, given = f"whole_{r.word}", f"({r.behind.broken} row ≡ None)"
             says = part.kind.says % (f"column row {r.first}", f"x.{part.field}")
-            return [
-                f"pub {name} : (row : Row) (x : {r.made}) → {given} → {says} → {r.broken} row ≡ None",
-                f"{name} row x whole {part.name} = rw {part.name} whole",
-                "",
-            ]
-        name = f"whole_{r.word}"
-        own = [(k, p) for k, p in enumerate(r.parts) if not p.kind.is_coded]
+            given = f"({r.behind.broken} row ≡ None) → {says}"
+            own, said = [], ["whole", part.name]
         premises = "".join(f" → {p.kind.keeps % f'column row {k}'} ≡ true" for k, p in own)
-        given = [f"says.{p.name}" if p.kind.is_coded else p.name for p in r.parts]
-        by = f"({', '.join(given)})" if len(given) > 1 else given[0]
         return [
-            f"pub {name} : (row : Row) (x : {r.made}) → {r.says} row x{premises} → {r.broken} row ≡ None",
-            f"{name} row x says {' '.join(p.name for _, p in own)} = rw {by} refl".replace("  ", " "),
-            "",
+            f"pub {name} : (row : Row) (x : {r.made}) → {given}{premises} → {r.broken} row ≡ None",
+            *self.closed(f"{name} row x {' '.join(said)}"),
         ]
 
     def proofs(self):
@@ -493,12 +452,10 @@ class Rows:
             *(it for r in all_of if "whole" in r.lemmas for it in self.whole_of(r)),
         ]
         body = "\n".join(it for line in lines for it in wrapped(line))
-        lemmas = {"one_in", *(p.kind.same.split()[0] for r in self.readings.values() for p in r.parts)}
+        lemmas = {"one_in", *(p.kind.same for r in self.readings.values() for p in r.parts if p.kind.same)}
         kept = sorted(w for w in lemmas if re.search(rf"\b{w}\b", body))
         given = [
-            ("Rattle.std.proofs.Common", "◌≡◌ true [] ◌∷◌ Some None refl sym ◌∙◌ pos"),
-            ("Rattle.std.specs.Option", "is_some option_or"),
-            ("Rattle.sqlite_value.specs.declared.value.Value.TheVariants", "Int Text Blob"),
+            ("Rattle.std.proofs.Common", "◌≡◌ true Some None arith"),
             ("Rattle.sqlite_value.specs.Order", "Row column"),
         ]
         return "\n".join(

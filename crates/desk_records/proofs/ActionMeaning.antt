@@ -1,28 +1,19 @@
 -- Written by tools/meanings. What it makes is proved; the tool is not trusted.
 -- What the texts of src/action_texts.rt mean, wherever their tables stand.
-use Rattle.desk_records.proofs.Common.{refl, List, [], ◌∷◌, ℕ, codes, pos, negsuc, true, false, Null, Int, Binary, Schema, Select, Values, Query, inner, counted, end, Term, lit, col, Stands, Means, simple, by}
+use Rattle.desk_records.proofs.Common.{refl, List, [], ◌∷◌, ℕ, codes, pos, true, false, Null, Int, Binary, Schema, Values, Query, inner, counted, end, Term, lit, col, Stands, Means, simple, by}
 use Rattle.sql_front.proofs.TextsWithin.{QueriesWithin, queries_known_within}
 use Rattle.desk_records.specs.declared.action_texts.TheConstants.{LAST_ACTION, GET_ACTION, LIST_ACTIONS, COUNT_ACTIONS, LIST_TARGET_ACTIONS, LAST_ENDED, PUT_ACTION, SET_ACTION, PUT_FEEDBACK, LIST_ENTRIES, PUT_NUMBER, LAST_NUMBER, LIST_NUMBERS, GET_OFFER, LIST_OFFERS, SET_OFFER, DROP_OFFER, NEXT_OFFER}
 use Rattle.desk_records.specs.Schema.{group_table, action_table, Actions, Feedbacks, Offers, Numbers}
-use Rattle.desk_records.proofs.MeaningWords.{compiling, means_of, Asks, Counts, Puts, Changes, Drops, is_equal, is_more, is_least, is_most, at_key}
+use Rattle.desk_records.proofs.MeaningWords.{compiling, means_of, Asks, Counts, Puts, Changes, Drops, is_equal, is_more, is_least, is_most, at_key, in_order, greatest_number, changing, selects, no_limit, no_offset, first_only}
 
-abbrev pub last_action_query : ℕ → Query
-last_action_query tree = by (simple tree [] (col 1 0 ∷ [])) ((col 1 0, record { descending = true; collation = Binary }) ∷ []) (lit (Int (pos 1))) (lit (Int (pos 0)))
-
-pub last_action_is : Asks Actions LAST_ACTION.now last_action_query (codes "number" ∷ [])
+pub last_action_is : Asks Actions LAST_ACTION.now greatest_number (codes "number" ∷ [])
 last_action_is = unfold compiling in record { queries = λ tree. record { parsed = _; select = _; source = _; page = _; shown = _; read = refl; is = (refl, refl, refl, refl); core = (refl, refl, refl); from = (refl, refl, refl, refl, refl); shows = (tt, tt); filter = tt; sorts = (tt, tt); paged = λ s. refl; named = (refl, refl); becomes = (refl, (refl, refl, refl)) }; shape = λ tree. refl }
-
-abbrev pub action_names : List (List ℕ)
-action_names = codes "rollout" ∷ codes "place" ∷ codes "controller" ∷ codes "canceling" ∷ codes "outcome" ∷ codes "notes" ∷ codes "entries" ∷ []
 
 abbrev pub action_columns : List Term
 action_columns = col 1 2 ∷ col 1 3 ∷ col 1 4 ∷ col 1 5 ∷ col 1 6 ∷ col 1 7 ∷ col 1 8 ∷ []
 
-pub get_action_is : Asks Actions GET_ACTION.now (λ tree. simple tree (at_key 0 0 ∷ []) action_columns) action_names
+pub get_action_is : Asks Actions GET_ACTION.now (λ tree. simple tree (at_key 0 0 ∷ []) action_columns) (codes "rollout" ∷ codes "place" ∷ codes "controller" ∷ codes "canceling" ∷ codes "outcome" ∷ codes "notes" ∷ codes "entries" ∷ [])
 get_action_is = unfold compiling in record { queries = λ tree. record { parsed = _; select = _; source = _; page = _; shown = _; read = refl; is = (refl, refl, refl, refl); core = (refl, refl, refl); from = (refl, refl, refl, refl, refl); shows = (tt, (tt, (tt, (tt, (tt, (tt, (tt, tt))))))); filter = ((refl, λ cx how x y. refl), tt, tt); sorts = tt; paged = λ s. refl; named = (refl, refl); becomes = (refl, (refl, refl, refl)) }; shape = λ tree. refl }
-
-abbrev pub listed_names : List (List ℕ)
-listed_names = codes "rollout" ∷ codes "place" ∷ codes "controller" ∷ codes "canceling" ∷ codes "outcome" ∷ codes "notes" ∷ codes "entries" ∷ codes "number" ∷ []
 
 abbrev pub of_rollout : List Term
 of_rollout = at_key 2 0 ∷ []
@@ -30,10 +21,7 @@ of_rollout = at_key 2 0 ∷ []
 abbrev pub listed_columns : List Term
 listed_columns = col 1 2 ∷ col 1 3 ∷ col 1 4 ∷ col 1 5 ∷ col 1 6 ∷ col 1 7 ∷ col 1 8 ∷ col 1 0 ∷ []
 
-abbrev pub list_actions_query : ℕ → Query
-list_actions_query tree = by (simple tree of_rollout listed_columns) ((col 1 0, record { descending = false; collation = Binary }) ∷ []) (col 0 1) (col 0 2)
-
-pub list_actions_is : Asks Actions LIST_ACTIONS.now list_actions_query listed_names
+pub list_actions_is : Asks Actions LIST_ACTIONS.now (in_order 0 false of_rollout listed_columns (col 0 1) (col 0 2)) (codes "rollout" ∷ codes "place" ∷ codes "controller" ∷ codes "canceling" ∷ codes "outcome" ∷ codes "notes" ∷ codes "entries" ∷ codes "number" ∷ [])
 list_actions_is = unfold compiling in record { queries = λ tree. record { parsed = _; select = _; source = _; page = _; shown = _; read = refl; is = (refl, refl, refl, refl); core = (refl, refl, refl); from = (refl, refl, refl, refl, refl); shows = (tt, (tt, (tt, (tt, (tt, (tt, (tt, (tt, tt)))))))); filter = ((refl, λ cx how x y. refl), tt, tt); sorts = (tt, tt); paged = λ s. refl; named = (refl, refl); becomes = (refl, (refl, refl, refl)) }; shape = λ tree. refl }
 
 pub count_actions_is : Counts Actions COUNT_ACTIONS.now
@@ -42,19 +30,13 @@ count_actions_is = unfold compiling in record { queries = λ tree. record { pars
 abbrev pub of_actor : List Term
 of_actor = at_key 4 0 ∷ []
 
-abbrev pub list_target_actions_query : ℕ → Query
-list_target_actions_query tree = by (simple tree of_actor listed_columns) ((col 1 0, record { descending = false; collation = Binary }) ∷ []) (col 0 1) (col 0 2)
-
-pub list_target_actions_is : Asks Actions LIST_TARGET_ACTIONS.now list_target_actions_query listed_names
+pub list_target_actions_is : Asks Actions LIST_TARGET_ACTIONS.now (in_order 0 false of_actor listed_columns (col 0 1) (col 0 2)) (codes "rollout" ∷ codes "place" ∷ codes "controller" ∷ codes "canceling" ∷ codes "outcome" ∷ codes "notes" ∷ codes "entries" ∷ codes "number" ∷ [])
 list_target_actions_is = unfold compiling in record { queries = λ tree. record { parsed = _; select = _; source = _; page = _; shown = _; read = refl; is = (refl, refl, refl, refl); core = (refl, refl, refl); from = (refl, refl, refl, refl, refl); shows = (tt, (tt, (tt, (tt, (tt, (tt, (tt, (tt, tt)))))))); filter = ((refl, λ cx how x y. refl), tt, tt); sorts = (tt, tt); paged = λ s. refl; named = (refl, refl); becomes = (refl, (refl, refl, refl)) }; shape = λ tree. refl }
 
 abbrev pub ended_of : List Term
 ended_of = at_key 4 0 ∷ is_more (col 1 6) (lit (Int (pos 0))) ∷ []
 
-abbrev pub last_ended_query : ℕ → Query
-last_ended_query tree = by (simple tree ended_of listed_columns) ((col 1 0, record { descending = true; collation = Binary }) ∷ []) (lit (Int (pos 1))) (lit (Int (pos 0)))
-
-pub last_ended_is : Asks Actions LAST_ENDED.now last_ended_query listed_names
+pub last_ended_is : Asks Actions LAST_ENDED.now (in_order 0 true ended_of listed_columns first_only no_offset) (codes "rollout" ∷ codes "place" ∷ codes "controller" ∷ codes "canceling" ∷ codes "outcome" ∷ codes "notes" ∷ codes "entries" ∷ codes "number" ∷ [])
 last_ended_is = unfold compiling in record { queries = λ tree. record { parsed = _; select = _; source = _; page = _; shown = _; read = refl; is = (refl, refl, refl, refl); core = (refl, refl, refl); from = (refl, refl, refl, refl, refl); shows = (tt, (tt, (tt, (tt, (tt, (tt, (tt, (tt, tt)))))))); filter = ((refl, λ cx how x y. refl), ((refl, λ cx how x y. refl), tt, tt), ((refl, λ cx how x y. refl), tt, tt)); sorts = (tt, tt); paged = λ s. refl; named = (refl, refl); becomes = (refl, (refl, refl, refl)) }; shape = λ tree. refl }
 
 abbrev pub action_terms : List Term
@@ -66,10 +48,7 @@ put_action_is = unfold compiling in record { adds = λ tree. record { parsed = _
 abbrev pub action_values : List Term
 action_values = lit Null ∷ col 1 2 ∷ col 1 3 ∷ col 1 4 ∷ col 0 1 ∷ col 0 2 ∷ col 0 3 ∷ col 0 4 ∷ []
 
-abbrev pub set_action_query : ℕ → Query
-set_action_query tree = simple tree (at_key 0 0 ∷ []) (col 1 0 ∷ col 1 0 ∷ action_values)
-
-pub set_action_is : Changes Actions SET_ACTION.now set_action_query
+pub set_action_is : Changes Actions SET_ACTION.now (changing (at_key 0 0 ∷ []) action_values)
 set_action_is = unfold compiling in record { updates = λ tree. record { parsed = _; sets = _; test = _; draft = _; read = refl; is = (refl, refl); values = (tt, (tt, (tt, (tt, tt)))); filter = ((refl, λ cx how x y. refl), tt, tt); known = refl; becomes = (refl, refl, refl) } }
 
 abbrev pub feedback_terms : List Term
@@ -78,19 +57,13 @@ feedback_terms = lit Null ∷ col 0 0 ∷ col 0 1 ∷ col 0 2 ∷ col 0 3 ∷ co
 pub put_feedback_is : Puts Feedbacks PUT_FEEDBACK.now (Values feedback_terms 6)
 put_feedback_is = unfold compiling in record { adds = λ tree. record { parsed = _; columns = _; rows = _; read = refl; statement = refl; formats = refl; fits = λ s. refl }; plain = λ tree. refl }
 
-abbrev pub entry_names : List (List ℕ)
-entry_names = codes "kind" ∷ codes "word" ∷ codes "details" ∷ codes "sequence" ∷ []
-
 abbrev pub of_action : List Term
 of_action = at_key 1 0 ∷ []
 
 abbrev pub entry_columns : List Term
 entry_columns = col 1 3 ∷ col 1 4 ∷ col 1 5 ∷ col 1 2 ∷ []
 
-abbrev pub list_entries_query : ℕ → Query
-list_entries_query tree = by (simple tree of_action entry_columns) ((col 1 2, record { descending = false; collation = Binary }) ∷ []) (col 0 1) (col 0 2)
-
-pub list_entries_is : Asks Feedbacks LIST_ENTRIES.now list_entries_query entry_names
+pub list_entries_is : Asks Feedbacks LIST_ENTRIES.now (in_order 2 false of_action entry_columns (col 0 1) (col 0 2)) (codes "kind" ∷ codes "word" ∷ codes "details" ∷ codes "sequence" ∷ [])
 list_entries_is = unfold compiling in record { queries = λ tree. record { parsed = _; select = _; source = _; page = _; shown = _; read = refl; is = (refl, refl, refl, refl); core = (refl, refl, refl); from = (refl, refl, refl, refl, refl); shows = (tt, (tt, (tt, (tt, tt)))); filter = ((refl, λ cx how x y. refl), tt, tt); sorts = (tt, tt); paged = λ s. refl; named = (refl, refl); becomes = (refl, (refl, refl, refl)) }; shape = λ tree. refl }
 
 abbrev pub number_terms : List Term
@@ -99,28 +72,16 @@ number_terms = lit Null ∷ col 0 0 ∷ col 0 1 ∷ col 0 2 ∷ col 0 3 ∷ []
 pub put_number_is : Puts Numbers PUT_NUMBER.now (Values number_terms 5)
 put_number_is = unfold compiling in record { adds = λ tree. record { parsed = _; columns = _; rows = _; read = refl; statement = refl; formats = refl; fits = λ s. refl }; plain = λ tree. refl }
 
-abbrev pub last_number_names : List (List ℕ)
-last_number_names = codes "sequence" ∷ codes "number" ∷ codes "place" ∷ []
-
 abbrev pub last_number_columns : List Term
 last_number_columns = col 1 3 ∷ col 1 4 ∷ col 1 2 ∷ []
 
-abbrev pub last_number_query : ℕ → Query
-last_number_query tree = by (simple tree of_action last_number_columns) ((col 1 2, record { descending = true; collation = Binary }) ∷ []) (lit (Int (pos 1))) (lit (Int (pos 0)))
-
-pub last_number_is : Asks Numbers LAST_NUMBER.now last_number_query last_number_names
+pub last_number_is : Asks Numbers LAST_NUMBER.now (in_order 2 true of_action last_number_columns first_only no_offset) (codes "sequence" ∷ codes "number" ∷ codes "place" ∷ [])
 last_number_is = unfold compiling in record { queries = λ tree. record { parsed = _; select = _; source = _; page = _; shown = _; read = refl; is = (refl, refl, refl, refl); core = (refl, refl, refl); from = (refl, refl, refl, refl, refl); shows = (tt, (tt, (tt, tt))); filter = ((refl, λ cx how x y. refl), tt, tt); sorts = (tt, tt); paged = λ s. refl; named = (refl, refl); becomes = (refl, (refl, refl, refl)) }; shape = λ tree. refl }
-
-abbrev pub number_names : List (List ℕ)
-number_names = codes "sequence" ∷ codes "number" ∷ []
 
 abbrev pub number_columns : List Term
 number_columns = col 1 3 ∷ col 1 4 ∷ []
 
-abbrev pub list_numbers_query : ℕ → Query
-list_numbers_query tree = by (simple tree of_action number_columns) ((col 1 2, record { descending = false; collation = Binary }) ∷ []) (lit (Int (negsuc 0))) (lit (Int (pos 0)))
-
-pub list_numbers_is : Asks Numbers LIST_NUMBERS.now list_numbers_query number_names
+pub list_numbers_is : Asks Numbers LIST_NUMBERS.now (in_order 2 false of_action number_columns no_limit no_offset) (codes "sequence" ∷ codes "number" ∷ [])
 list_numbers_is = unfold compiling in record { queries = λ tree. record { parsed = _; select = _; source = _; page = _; shown = _; read = refl; is = (refl, refl, refl, refl); core = (refl, refl, refl); from = (refl, refl, refl, refl, refl); shows = (tt, (tt, tt)); filter = ((refl, λ cx how x y. refl), tt, tt); sorts = (tt, tt); paged = λ s. refl; named = (refl, refl); becomes = (refl, (refl, refl, refl)) }; shape = λ tree. refl }
 
 abbrev pub of_controller : List Term
@@ -141,16 +102,10 @@ list_offers_is = unfold compiling in record { queries = λ tree. record { parsed
 abbrev pub offer_values : List Term
 offer_values = col 1 1 ∷ col 0 1 ∷ col 0 2 ∷ []
 
-abbrev pub set_offer_query : ℕ → Query
-set_offer_query tree = simple tree of_controller (col 1 0 ∷ col 1 0 ∷ offer_values)
-
-pub set_offer_is : Changes Offers SET_OFFER.now set_offer_query
+pub set_offer_is : Changes Offers SET_OFFER.now (changing of_controller offer_values)
 set_offer_is = unfold compiling in record { updates = λ tree. record { parsed = _; sets = _; test = _; draft = _; read = refl; is = (refl, refl); values = (tt, (tt, tt)); filter = ((refl, λ cx how x y. refl), tt, tt); known = refl; becomes = (refl, refl, refl) } }
 
-abbrev pub drop_offer_query : ℕ → Query
-drop_offer_query tree = simple tree of_controller (col 1 0 ∷ [])
-
-pub drop_offer_is : Drops Offers DROP_OFFER.now drop_offer_query
+pub drop_offer_is : Drops Offers DROP_OFFER.now (λ tree. simple tree of_controller (col 1 0 ∷ []))
 drop_offer_is = unfold compiling in record { removes = λ tree. record { parsed = _; test = _; draft = _; read = refl; is = (refl, refl); filter = ((refl, λ cx how x y. refl), tt, tt); known = refl; becomes = (refl, refl, refl) } }
 
 abbrev pub next_group : List Term
@@ -166,8 +121,8 @@ abbrev pub next_offer_query : ℕ → ℕ → Query
 next_offer_query tree other = record (by (simple tree next_action next_columns) ((col 1 0, record { descending = false; collation = Binary }) ∷ []) (lit (Int (pos 1))) (lit (Int (pos 0)))) { from = inner tree (counted 1 (inner other end) next_group end) }
 
 next_offer_queries : (tree other : ℕ) → QueriesWithin NEXT_OFFER.now (codes "action") (action_table tree) (codes "rollout_group") (group_table other) (next_offer_query tree other) (codes "number" ∷ codes "canceling" ∷ [])
-next_offer_queries tree other = unfold compiling in record { parsed = _; select = _; page = _; shown = _; read = refl; selects = record { statement = refl; formats = refl; with = refl; others = refl }; one = record { source = _; from = refl; table = refl; alias = refl; on = refl; using = refl; is_inner = refl; group = refl; having = refl; shown = (tt, (tt, tt)); filter = ((refl, λ cx how x y. refl), ((refl, λ cx how x y. refl), ((refl, λ cx how x y. refl), tt, tt), ((refl, λ cx how x y. refl), tt, tt)), record { from = record { source = _; is = refl; table = refl; alias = refl; on = refl; using = refl; is_inner = refl }; show = _; shows = refl; number = (tt, tt); filter = ((refl, λ cx how x y. refl), ((refl, λ cx how x y. refl), ((refl, λ cx how x y. refl), ((refl, λ cx how x y. refl), tt, tt), ((refl, λ cx how x y. refl), tt, tt)), ((refl, λ cx how x y. refl), tt, tt)), ((refl, λ cx how x y. refl), tt, tt)) }); sorts = (tt, tt) }; paged = λ s. refl; named_first = refl; named_second = refl; known = refl; is_body = refl; are_columns = refl; cap = _; test = _; over = refl; tests_fit = refl; fits = refl }
+next_offer_queries tree other = unfold compiling in record { parsed = _; select = _; page = _; shown = _; read = refl; selects = record { statement = refl; formats = refl; with = refl; others = refl }; one = record { from = record { source = _; is = refl; table = refl; alias = refl; on = refl; using = refl; is_inner = refl }; group = refl; having = refl; shown = (tt, (tt, tt)); filter = ((refl, λ cx how x y. refl), ((refl, λ cx how x y. refl), ((refl, λ cx how x y. refl), tt, tt), ((refl, λ cx how x y. refl), tt, tt)), record { from = record { source = _; is = refl; table = refl; alias = refl; on = refl; using = refl; is_inner = refl }; shown = (tt, tt); filter = ((refl, λ cx how x y. refl), ((refl, λ cx how x y. refl), ((refl, λ cx how x y. refl), ((refl, λ cx how x y. refl), tt, tt), ((refl, λ cx how x y. refl), tt, tt)), ((refl, λ cx how x y. refl), tt, tt)), ((refl, λ cx how x y. refl), tt, tt)) }); sorts = (tt, tt) }; paged = λ s. refl; named_first = refl; named_second = refl; known = refl; is_body = refl; are_columns = refl; cap = _; test = _; over = refl; tests_fit = refl; fits = refl }
 
 pub next_offer_is : (s : Schema) (at tree nest other : ℕ) → Stands s (codes "action") at (action_table tree) → Stands s (codes "rollout_group") nest (group_table other)
-    → Means s NEXT_OFFER.now (Select (record { lets = []; body = next_offer_query tree other }) (codes "number" ∷ codes "canceling" ∷ []))
+    → Means s NEXT_OFFER.now (selects (next_offer_query tree other) (codes "number" ∷ codes "canceling" ∷ []))
 next_offer_is s at tree nest other stands stands' = means_of s NEXT_OFFER.now _ (queries_known_within _ _ _ _ _ _ _ (next_offer_queries tree other) s at nest stands stands') refl refl

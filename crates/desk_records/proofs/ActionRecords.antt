@@ -1,22 +1,19 @@
 -- What is read of actions and offers, where a ledger is held.
-use Rattle.std.proofs.lemmas.Option.{slice_get-map}
-use Rattle.desk_records.proofs.Common.{arith, ◌≡◌, ◌≤◌, ℕ, ◌+◌, pos, List, [], ◌∷◌, map, filter, take, drop, length, slice_get, Bool, true, false, Option, Some}
-use Rattle.desk_records.proofs.Common.{None, option_map, refl, ap, ◌∙◌, nat_eq, zip, take-map, drop-map, Value, Null, Int, Text, Row, Binary, Term, col, Select}
-use Rattle.desk_records.proofs.Common.{Database, plain, agree, rows_from, ShowsFirst, on_content, keys_apart, reads_key, numbered_in_order, simple, by, passes}
-use Rattle.desk_records.proofs.Common.{shown_of, item_numbered, same_bytes, Bytes, TargetOffer, offer_to, ActionRecord, Offer, Tally, action_row, actor_of}
-use Rattle.desk_records.proofs.Common.{HoldsLedger, Ledger, IsLastRow, is_to, offer_row, actions_of, actions_for, listed_where, stored_action, Actions, Offers}
-use Rattle.desk_records.proofs.Common.{offer_table, and-true, Outcome, ended_for, first_taken, is_some, last_or, lit, nat_lt, reverse, sym, ◌&&◌, outcome_code}
-use Rattle.sqlite.specs.Effect.{Reads as Shows}
+use Rattle.desk_records.proofs.Common.{arith, ◌≡◌, ◌≤◌, ℕ, ◌+◌, pos, List, [], ◌∷◌, map, filter, take, drop, length, slice_get, Bool, true, false, Option, None}
+use Rattle.desk_records.proofs.Common.{slice_get-map, Shows, shown_stored_action, shown_listed_action, shown_offer, option_map, refl, ap, ◌∙◌, nat_eq, zip}
+use Rattle.desk_records.proofs.Common.{take-map, drop-map, Value, Null, Int, Text, Row, Term, col, Database, plain, agree, rows_from, ShowsFirst, on_content}
+use Rattle.desk_records.proofs.Common.{keys_apart, reads_key, numbered_in_order, simple, passes, shown_of, item_numbered, same_bytes, Bytes, TargetOffer}
+use Rattle.desk_records.proofs.Common.{offer_to, ActionRecord, Offer, Tally, action_row, actor_of, HoldsLedger, Ledger, IsLastRow, is_to, offer_row, actions_of}
+use Rattle.desk_records.proofs.Common.{actions_for, listed_where, stored_action, Actions, Offers, offer_table, and-true, Outcome, ended_for, first_taken}
+use Rattle.desk_records.proofs.Common.{is_some, last_or, nat_lt, reverse, ◌&&◌, outcome_code}
 use Rattle.sqlite_value.specs.Keys.{first_key}
-use Rattle.rollout_machine.specs.declared.outcome.Outcome.TheVariants.{Bad, Gone, Good}
-use Rattle.desk_records.specs.ReadRows.{shown_stored_action, shown_listed_action, shown_offer}
-use Rattle.desk_records.proofs.ActionMeaning.{last_action_query, action_columns, listed_columns, list_actions_query, list_target_actions_query, of_rollout}
-use Rattle.desk_records.proofs.ActionMeaning.{of_actor, of_controller, offer_columns, ended_of, last_ended_query}
+use Rattle.desk_records.proofs.ActionMeaning.{action_columns, listed_columns, of_rollout, of_actor, of_controller, offer_columns, ended_of}
 use Rattle.desk_records.proofs.Comparisons.{numbers_above, numbers_equal, words_equal}
-use Rattle.desk_records.proofs.MeaningWords.{at_key}
+use Rattle.desk_records.proofs.MeaningWords.{at_key, first_only, greatest_number, in_order, no_offset, selects}
 use Rattle.desk_records.proofs.NumberRecords.{first_turned}
-use Rattle.desk_records.proofs.NumberedReads.{gets, lasts, numbered_falling, passes_number}
+use Rattle.desk_records.proofs.NumberedReads.{gets, lasts, passes_number}
 use Rattle.desk_records.proofs.PartReads.{map_reverse}
+use Rattle.sql_calls.proofs.NumberedTables.{numbered_down}
 use Rattle.desk_records.proofs.TargetRecords.{first_row}
 
 module _ (db : Database) (l : Ledger) (holds : HoldsLedger db l) (names : List (List ℕ)) where
@@ -30,14 +27,12 @@ module _ (db : Database) (l : Ledger) (holds : HoldsLedger db l) (names : List (
   row = action_row l.records.rollouts
 
   -- the last number
-  pub lasts_action : (last : Option Row) → ShowsFirst (Select (record { lets = []; body = last_action_query tree }) names) db [] last
-      → IsLastRow (length xs) last
+  pub lasts_action : (last : Option Row) → ShowsFirst (selects (greatest_number tree) names) db [] last → IsLastRow (length xs) last
   lasts_action = lasts row tree db xs (holds.rows Actions) names (λ n x. refl)
 
   -- an action by its number
-  pub gets_action : (number : ℕ) → 1 ≤ number → (found : Option Row)
-      → ShowsFirst (Select (record { lets = []; body = simple tree (at_key 0 0 ∷ []) action_columns }) names) db (Int (pos number) ∷ []) found
-      → found ≡ option_map (λ it. shown_stored_action (stored_action l.records.rollouts it)) (item_numbered xs number)
+  pub gets_action : (number : ℕ) → 1 ≤ number → (found : Option Row) → ShowsFirst (selects (simple tree (at_key 0 0 ∷ []) action_columns) names) db
+      (Int (pos number) ∷ []) found → found ≡ option_map (λ it. shown_stored_action (stored_action l.records.rollouts it)) (item_numbered xs number)
   gets_action = gets row tree db xs (holds.rows Actions) names (λ n x. refl) (at_key 0 0 ∷ []) action_columns (passes_number row (λ n x. refl))
 
   -- those that pass
@@ -54,11 +49,7 @@ module _ (db : Database) (l : Ledger) (holds : HoldsLedger db l) (names : List (
     params = given ∷ Int (pos limit) ∷ Int (pos offset) ∷ []
 
     lists_where : ((n : ℕ) (y : ActionRecord × Tally) → passes test params (row n y) ≡ wanted y) → (rows : List Row)
-        → Shows (Select (record {
-          lets = [];
-          body = by (simple tree test listed_columns) ((col 1 0, record { descending = false; collation = Binary }) ∷ [])
-              (col 0 1) (col 0 2);
-        }) names) db params rows
+        → Shows (selects (in_order 0 false test listed_columns (col 0 1) (col 0 2) tree) names) db params rows
         → rows ≡ map shown_listed_action (take limit (drop offset (listed_where wanted l.records.rollouts 1 xs)))
     lists_where is rows shows =
         let all = listed_where wanted l.records.rollouts 1 xs in
@@ -67,44 +58,39 @@ module _ (db : Database) (l : Ledger) (holds : HoldsLedger db l) (names : List (
         ∙ take-map shown_listed_action limit (drop offset all)
 
   -- those of a rollout
-  pub lists_actions : (rollout limit offset : ℕ) (rows : List Row) → Shows (Select (record { lets = []; body = list_actions_query tree }) names) db
-      (Int (pos rollout) ∷ Int (pos limit) ∷ Int (pos offset) ∷ []) rows
+  pub lists_actions : (rollout limit offset : ℕ) (rows : List Row) → Shows (selects (in_order 0 false of_rollout listed_columns (col 0 1) (col 0 2) tree) names)
+      db (Int (pos rollout) ∷ Int (pos limit) ∷ Int (pos offset) ∷ []) rows
       → rows ≡ map shown_listed_action (take limit (drop offset (actions_of l.records.rollouts rollout 1 xs)))
   lists_actions rollout limit offset = lists_where (Int (pos rollout)) of_rollout (λ it. nat_eq it.0.rollout rollout) limit offset
       (λ n y. and-true _ ∙ numbers_equal y.0.rollout rollout)
 
   -- those of a target
   pub lists_target_actions : (id : Bytes) (limit offset : ℕ) (rows : List Row)
-      → Shows (Select (record { lets = []; body = list_target_actions_query tree }) names) db (Text id ∷ Int (pos limit) ∷ Int (pos offset) ∷ []) rows
+      → Shows (selects (in_order 0 false of_actor listed_columns (col 0 1) (col 0 2) tree) names) db (Text id ∷ Int (pos limit) ∷ Int (pos offset) ∷ []) rows
       → rows ≡ map shown_listed_action (take limit (drop offset (actions_for l.records.rollouts id 1 xs)))
   lists_target_actions id limit offset = lists_where (Text id) of_actor (λ it. same_bytes (actor_of l.records.rollouts it.0) id) limit offset
       (λ n y. and-true _ ∙ words_equal (actor_of l.records.rollouts y.0) id)
 
   -- the last of them that ended
-  pub lasts_ended : (id : Bytes) (found : Option Row) → ShowsFirst (Select (record { lets = []; body = last_ended_query tree }) names) db (Text id ∷ []) found
+  pub lasts_ended : (id : Bytes) (found : Option Row) → ShowsFirst (selects (in_order 0 true ended_of listed_columns first_only no_offset tree) names) db
+      (Text id ∷ []) found
       → found ≡ option_map shown_listed_action (last_or None (ended_for l.records.rollouts id 1 xs))
   lasts_ended id found shown =
       let all = ended_for l.records.rollouts id 1 xs in
-      first_row (Select (record { lets = []; body = last_ended_query tree }) names) db (Text id ∷ []) _
+      let its = its_actions (Text id ∷ []) ended_of (λ it. same_bytes (actor_of l.records.rollouts it.0) id && is_some it.0.outcome) (ended_is id) 1 xs in
+      first_row (selects (in_order 0 true ended_of listed_columns first_only no_offset tree) names) db (Text id ∷ []) _
       (λ rows shows. ap (λ (r : List Row). slice_get r 0)
-      (numbered_falling row (λ n x. refl) tree ended_of listed_columns (lit (Int (pos 1))) (lit (Int (pos 0))) (Text id ∷ []) db.trees xs (holds.rows Actions)
-      rows (shows.answer Null))
-      ∙ first_taken _
-      ∙ ap (λ r. slice_get (reverse r) 0)
-      (its_actions (Text id ∷ []) ended_of (λ it. same_bytes (actor_of l.records.rollouts it.0) id && is_some it.0.outcome) (ended_is id) 1 xs)
-      ∙ ap (λ (r : List Row). slice_get r 0) (sym (map_reverse shown_listed_action all)) ∙ slice_get-map shown_listed_action (reverse all) 0
-      ∙ ap (option_map shown_listed_action) (first_turned all)) found shown
+      (numbered_down row (λ n x. refl) tree ended_of listed_columns first_only no_offset (Text id ∷ []) db.trees xs (holds.rows Actions)
+      rows (shows.answer Null)) ∙ first_taken _ ∙ ap (λ (r : List Row). slice_get r 0)
+      (map_reverse (shown_of listed_columns (Text id ∷ [])) (filter (passes ended_of (Text id ∷ [])) (rows_from row 1 xs)))
+      ∙ grind (arith, its, map_reverse shown_listed_action all, slice_get-map shown_listed_action (reverse all) 0, first_turned all)) found shown
     where
       has_ended : (o : Option Outcome) → nat_lt 0 (outcome_code o) ≡ is_some o
-      has_ended None = refl
-      has_ended (Some Good) = refl
-      has_ended (Some Bad) = refl
-      has_ended (Some Gone) = refl
+      has_ended o = grind arith
 
       ended_is : (id : Bytes) (n : ℕ) (y : ActionRecord × Tally) → passes ended_of (Text id ∷ []) (row n y)
           ≡ (same_bytes (actor_of l.records.rollouts y.0) id && is_some y.0.outcome)
-      ended_is id n y = rw (words_equal (actor_of l.records.rollouts y.0) id, numbers_above (outcome_code y.0.outcome) 0, has_ended y.0.outcome)
-          (ap (λ b. same_bytes (actor_of l.records.rollouts y.0) id && b) (and-true _))
+      ended_is id n y = grind (arith, words_equal, numbers_above, has_ended, and-true)
 
 -- ---- offers
 
@@ -130,14 +116,13 @@ module _ (db : Database) (l : Ledger) (holds : HoldsLedger db l) (names : List (
   first_offer_row o = grind arith
 
   -- the offer of a target
-  pub gets_offer : (found : Option Row) → ShowsFirst (Select (record { lets = []; body = simple (holds.spot Offers).tree of_controller offer_columns }) names)
+  pub gets_offer : (found : Option Row) → ShowsFirst (selects (simple (holds.spot Offers).tree of_controller offer_columns) names)
       db query_params found → found ≡ option_map shown_offer (l.offers id)
   gets_offer found shown =
       let spot = holds.spot Offers in
       let held = holds.rows Offers in
       let table = offer_table spot.tree in
-      first_row (Select (record { lets = []; body = simple spot.tree of_controller offer_columns }) names) db query_params _
-      (λ rows shows. ap (λ (r : List Row). slice_get r 0)
+      first_row (selects (simple spot.tree of_controller offer_columns) names) db query_params _ (λ rows shows. ap (λ (r : List Row). slice_get r 0)
       (reads_key db.schema table (1 ∷ []) of_controller query_params (λ i x. refl) (0 ∷ []) (offer_keyed query_params) offer_columns (λ i x. refl) db.trees
       (map offer_row held.listed)
       (keys_apart db.schema db.trees spot.at table 0 (1 ∷ []) holds.sound (holds.stands Offers).got refl refl) held.held rows (shows.answer Null)

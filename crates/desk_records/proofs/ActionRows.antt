@@ -1,20 +1,20 @@
 -- What LIST_ACTIONS shows where it is asked for all of a rollout, whatever rows the table of actions has.
-use Rattle.desk_records.proofs.Common.{◌≡◌, ℕ, pos, negsuc, List, [], ◌∷◌, filter, filter_map, length, refl, ap, ◌∙◌, Null, Int, Row, Select, Database, Query}
-use Rattle.desk_records.proofs.Common.{Has, passes, has_at, Actions, HoldsTables, Tables}
-use Rattle.sqlite.specs.Effect.{Reads as Shows}
+use Rattle.desk_records.proofs.Common.{◌≡◌, ℕ, pos, negsuc, List, [], ◌∷◌, filter, filter_map, length, refl, ap, ◌∙◌, Null, Int, Row, Database, Query, Has}
+use Rattle.desk_records.proofs.Common.{Shows, passes, has_at, Actions, HoldsTables, Tables, false, col}
 use Rattle.desk_records.specs.CheckedRows.{counted_of}
 use Rattle.desk_records.specs.CountedActions.{CountsAgree, passes_if_there}
 use Rattle.desk_records.specs.declared.checked_rows.CountedAction.{CountedAction}
-use Rattle.desk_records.proofs.ActionMeaning.{list_actions_query, listed_columns, of_rollout}
+use Rattle.desk_records.proofs.ActionMeaning.{listed_columns, of_rollout}
 use Rattle.desk_records.proofs.AnyRows.{tested_shown}
 use Rattle.desk_records.proofs.Membership.{picked_pass}
 use Rattle.desk_records.proofs.TableColumns.{passes_integer}
+use Rattle.desk_records.proofs.MeaningWords.{in_order, selects}
 
 module _ (db : Database) (t : Tables) (holds : HoldsTables db t) (names : List (List ℕ)) (r : ℕ) (shown : List Row)
-    (shows : Shows (Select (record { lets = []; body = list_actions_query (holds.spot Actions).tree }) names) db
+    (shows : Shows (selects (in_order 0 false of_rollout listed_columns (col 0 1) (col 0 2) (holds.spot Actions).tree) names) db
     (Int (pos r) ∷ Int (negsuc 0) ∷ Int (pos 0) ∷ []) shown) where
   abbrev q : Query
-  q = list_actions_query (holds.spot Actions).tree
+  q = in_order 0 false of_rollout listed_columns (col 0 1) (col 0 2) (holds.spot Actions).tree
 
   abbrev params : Row
   params = Int (pos r) ∷ Int (negsuc 0) ∷ Int (pos 0) ∷ []

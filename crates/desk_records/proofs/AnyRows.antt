@@ -1,10 +1,9 @@
 -- What a statement on one table shows, whatever rows the table has: those that pass, in its order.
-use Rattle.desk_records.proofs.Common.{◌≡◌, inl, ◌≤◌, ◌<◌, ℕ, ◌+◌, ◌&&◌, pos, Bool, true, false, List, [], ◌∷◌, map, filter, length, get_or, refl}
-use Rattle.desk_records.proofs.Common.{sym, ap, subst, ◌∙◌, arith, IsPermutation, AllZip, list_all, is_lt, nat_tests, length-map, Contains-get_or}
-use Rattle.desk_records.proofs.Common.{length_permutation, IsPermutation-sym, IsNonDecreasingBy-from_all_adjacent, Int, Row, column, value_cmp-Int}
-use Rattle.desk_records.proofs.Common.{then-Equal, Binary, Query, IsAnswer, Output, output_cmp, page, Term, col, Trees, overlay, Has, has_contained}
-use Rattle.desk_records.proofs.Common.{has_filtered, has_kept, fails_has, simple, by, passes, shown_of, shown_in, ordered_rows, IsOrdered, AreBroken, AreSaid}
-use Rattle.desk_records.proofs.Common.{IsOnly}
+use Rattle.desk_records.proofs.Common.{◌≡◌, inl, ◌≤◌, ◌<◌, ℕ, ◌+◌, ◌&&◌, pos, Bool, true, false, List, [], ◌∷◌, map, filter, length, get_or, refl, sym, ap}
+use Rattle.desk_records.proofs.Common.{subst, ◌∙◌, arith, IsPermutation, AllZip, list_all, is_lt, nat_tests, length-map, Contains-get_or, length_permutation}
+use Rattle.desk_records.proofs.Common.{IsPermutation-sym, IsNonDecreasingBy-from_all_adjacent, Int, Row, column, value_cmp-Int, then-Equal, Binary, Query}
+use Rattle.desk_records.proofs.Common.{IsAnswer, Output, output_cmp, page, Term, col, Trees, overlay, Has, has_contained, has_filtered, has_kept, fails_has}
+use Rattle.desk_records.proofs.Common.{simple, by, passes, shown_of, shown_in, ordered_rows, IsOrdered, AreBroken, AreSaid, IsOnly}
 use Rattle.std.specs.List.Sorted.{IsNonDecreasingBy}
 use Rattle.sqlite_value.specs.declared.keys.Key.{Key}
 use Rattle.desk_records.proofs.Membership.{has_alone, has_mapped, has_permuted, map_has, mapped_at, mapped_pass, both_pass, permuted_pass, same_kept, zip_at}
@@ -63,9 +62,7 @@ module _ (tree : ℕ) (test columns : List Term) (order : List (Term × Key)) (l
 
   -- as many of them pass another test as rows do
   pub tested_shown : (test : Row → Bool) → length (filter test shown) ≡ length (filter (λ row. p row && test (shown_of columns params row)) rows)
-  tested_shown test =
-      ap (λ l. length (filter test l)) shown_is ∙ mapped_pass (λ (o : Output). o.1) test it.ordered ∙ permuted_pass (λ (o : Output). test o.1) _ _ same
-      ∙ mapped_pass (shown_in q params) (λ (o : Output). test o.1) its ∙ both_pass p (λ row. test (shown_of columns params row)) rows
+  tested_shown test = grind (arith, shown_is, mapped_pass, permuted_pass (λ (o : Output). test o.1) _ _ same, both_pass)
 
   -- ---- what is read of the only one
 
@@ -117,8 +114,8 @@ module _ (tree : ℕ) (test columns : List Term) (order : List (Term × Key)) (l
       said_at k d few within =
           let from = from_place k within in
           let first : is (get_or shown k []) (get_or found k d) = zip_at is shown found k [] d reads (omega (arith, few, zip_length is shown found reads)) in
-          let at : get_or shown k [] ≡ (get_or it.ordered k none).1 = ap (λ l. get_or l k []) shown_is ∙ mapped_at (λ (o : Output). o.1) it.ordered k none in
-          means from.row from.among from.passes_it (get_or found k d) (subst (λ y. is y (get_or found k d)) (at ∙ ap (λ (y : Output). y.1) from.shows) first)
+          let at : get_or shown k [] ≡ (get_or it.ordered k none).1 = grind (arith, shown_is, mapped_at (λ (o : Output). o.1) it.ordered k none) in
+          means from.row from.among from.passes_it (get_or found k d) (grind (arith, first, at, from.shows))
 
       adjacent : (k : ℕ) (d : A) → k + 1 < length found → key (get_or found k d) ≤ key (get_or found (k + 1) d)
       adjacent k d few =
@@ -126,9 +123,7 @@ module _ (tree : ℕ) (test columns : List Term) (order : List (Term × Key)) (l
           let high : k + 1 < length it.ordered = omega (arith, few, counts) in
           let up = it.sorted k none (omega arith) high in
           in_order (from_place k low).row (from_place (k + 1) high).row (get_or found k d) (get_or found (k + 1) d) (said_at k d (omega (arith, few)) low)
-          (said_at (k + 1) d few high)
-          (subst (λ (x : Output). is_lt (output_cmp q (shown_in q params (from_place (k + 1) high).row) x) ≡ false) (from_place k low).shows
-          (subst (λ (x : Output). is_lt (output_cmp q x (get_or it.ordered k none)) ≡ false) (from_place (k + 1) high).shows up))
+          (said_at (k + 1) d few high) (grind (arith, up, (from_place k low).shows, (from_place (k + 1) high).shows))
 
       pub rise : IsNonDecreasingBy key found
       rise = IsNonDecreasingBy-from_all_adjacent key found adjacent

@@ -1,20 +1,19 @@
 -- The statements on attributes of targets, in records.
-use Rattle.desk_records.proofs.Common.{map-map, arith, ◌≡◌, ◌∷◌, ◌&&◌, ℕ, pos, negsuc, List, [], true, map, filter, flat_map, Option, Some, None, refl, sym, ap}
-use Rattle.desk_records.proofs.Common.{subst, ◌∙◌, codes, Null, Int, Text, Row, plain, agree, cast_all, lit, col, Select, Insert, Update, Values, Database}
-use Rattle.desk_records.proofs.Common.{State, Writes, IsHeldBy, Rise, strict, on_content, keys_apart, are_whole, changes_key, reads_risen, passes, shown_of}
-use Rattle.desk_records.proofs.Common.{updates, same_bytes, Bytes, Attribute, Records, Target, target_of, TargetAttributes}
-use Rattle.desk_records.proofs.Common.{target_attribute_table, attribute_rows, in_byte_order, ids_of, keys_of, is_sorted, attributes_of}
-use Rattle.desk_records.proofs.Common.{attributed, with_changed, AddsAttribute, SetsAttribute, HoldsRecords, ledger_of, and-true}
+use Rattle.desk_records.proofs.Common.{map-map, arith, ◌≡◌, ◌∷◌, ◌&&◌, ℕ, List, [], true, map, filter, flat_map, Option, Some, None, refl, sym, ap, subst, ◌∙◌}
+use Rattle.desk_records.proofs.Common.{Null, Text, Row, plain, agree, cast_all, col, Insert, Values, Database, State, Writes, IsHeldBy, Rise, on_content}
+use Rattle.desk_records.proofs.Common.{keys_apart, changes_key, reads_risen, passes, shown_of, updates, same_bytes, Bytes, Attribute, Records, Target}
+use Rattle.desk_records.proofs.Common.{target_of, TargetAttributes, false, target_attribute_table, attribute_rows, in_byte_order, ids_of, keys_of, is_sorted}
+use Rattle.desk_records.proofs.Common.{attributes_of, attributed, with_changed, AddsAttribute, SetsAttribute, HoldsRecords, ledger_of, and-true, Shows}
 use Rattle.sqlite_value.specs.Keys.{first_key}
-use Rattle.sqlite.specs.Kind.TheVariants as kind
 use Rattle.sqlite.specs.Effect.{Reads as Shows}
 use Rattle.desk_records.proofs.HoldsAfter.{ChangesOnly, holds_after, puts, records_differ}
-use Rattle.desk_records.proofs.TargetMeaning.{of_target, attributes_query, attribute_terms, of_attribute, new_value, set_attribute_query}
+use Rattle.desk_records.proofs.TargetMeaning.{of_target, attribute_terms, of_attribute, new_value}
 use Rattle.desk_records.proofs.Comparisons.{words_equal}
 use Rattle.desk_records.proofs.ByteOrder.{sorted_from}
 use Rattle.desk_records.proofs.Targets.{keys_rise, changed_map, changed_rows, changed_sorted, rows_of, its_rows}
 use Rattle.desk_records.proofs.Attributes.{in_order_with_attribute, attribute_row, attributes_sorted, attribute_is_more, attribute_is_set}
-use Rattle.desk_records.proofs.TargetRecords.{its_own, first_fixed, is_of, names_it, ids_sorted, each_sorted}
+use Rattle.desk_records.proofs.TargetRecords.{its_own, is_of, names_it, ids_sorted, each_sorted}
+use Rattle.desk_records.proofs.MeaningWords.{changes, in_order, no_limit, no_offset, selects}
 
 -- ---- what is read
 
@@ -33,12 +32,11 @@ module _ (id : Bytes) where
 module _ (db : Database) (now : Records) (holds : HoldsRecords db now) (names : List (List ℕ)) where
   -- the attributes of a target, by their keys in byte order
   pub lists_target_attributes : (id : Bytes) (rows : List Row)
-      → Shows (Select (record { lets = []; body = attributes_query (holds.spot TargetAttributes).tree }) names) db (Text id ∷ []) rows
+      → Shows (selects (in_order 2 false of_target (col 1 2 ∷ col 1 3 ∷ []) no_limit no_offset (holds.spot TargetAttributes).tree) names) db (Text id ∷ []) rows
       → rows ≡ shown_attributes (attributes_of (target_of now id))
   lists_target_attributes id rows shows =
       let spot = holds.spot TargetAttributes in
       let params = Text id ∷ [] in
-      let table = target_attribute_table spot.tree in
       let wanted = flat_map attribute_rows now.targets in
       let found = target_of now id in
       let its : filter (is_of id) wanted ≡ rows_of attribute_rows found =
@@ -46,10 +44,7 @@ module _ (db : Database) (now : Records) (holds : HoldsRecords db now) (names : 
       refl t.attributes) now.targets
       (sorted_from (ids_of now.targets) (ids_sorted db now holds)) in
       let rise = subst (Rise 1) (sym its) (found_rise id found (attributes_sorted id now.targets (each_sorted db now holds))) in
-      reads_risen db.schema table (1 ∷ []) 1 (strict (codes "key") kind.Text true) refl refl refl of_target params (λ i x. refl) (0 ∷ []) (first_fixed params)
-      (col 1 2 ∷ col 1 3 ∷ []) (λ i x. refl) (lit (Int (negsuc 0))) (lit (Int (pos 0)))
-      db.trees wanted (keys_apart db.schema db.trees spot.at table 0 (1 ∷ 2 ∷ []) holds.sound (holds.stands TargetAttributes).got refl refl)
-      (are_whole db.schema db.trees spot.at table holds.sound (holds.stands TargetAttributes).got)
+      reads_risen spot.tree of_target params (λ i x. refl) 1 (col 1 2 ∷ col 1 3 ∷ []) (λ i x. refl) no_limit no_offset db.trees wanted
       (holds.rows TargetAttributes) rise rows (shows.answer Null)
       ∙ ap (map (on_content (shown_of (col 1 2 ∷ col 1 3 ∷ []) params))) its ∙ attributes_shown id found
 
@@ -82,15 +77,13 @@ names_attribute : (id : Bytes) (a : Attribute) (i : Bytes) (b : Attribute) → o
 names_attribute id a i b = rw (words_equal i id, words_equal b.key a.key) (ap (λ k. same_bytes i id && k) (and-true (same_bytes b.key a.key)))
 
 pub sets_attribute : (id : Bytes) (a : Attribute) (old new : State) (text : List ℕ) (count : ℕ) (now next : Records) (holds : HoldsRecords old.now now)
-    → SetsAttribute id a now next
-    → (done : Writes old new None
-    (Update (holds.spot TargetAttributes).at (record { lets = []; body = set_attribute_query (holds.spot TargetAttributes).tree })) text
-    (attribute_row id a) count) → HoldsRecords new.now next
+    → SetsAttribute id a now next → (done : Writes old new None (changes (holds.spot TargetAttributes) of_attribute new_value) text (attribute_row id a) count)
+    → HoldsRecords new.now next
 sets_attribute id a old new text count now next holds change done =
     let spot = holds.spot TargetAttributes in
     let params = attribute_row id a in
     let table = target_attribute_table spot.tree in
-    let made = updates old.now.schema spot.at table (record { lets = []; body = set_attribute_query spot.tree }) (holds.stands TargetAttributes).got
+    let made = updates old.now.schema spot.at table _ (holds.stands TargetAttributes).got
     (holds.stands TargetAttributes).keyless old new refl text params count done in
     let set = changes_key old.now.schema table (1 ∷ 2 ∷ []) of_attribute params (λ i x. refl) (0 ∷ 1 ∷ []) (both_fixed params) new_value (λ i x. refl) old.now
     new.now (flat_map attribute_rows now.targets)

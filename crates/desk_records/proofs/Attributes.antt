@@ -19,8 +19,7 @@ in_order_with_attribute a bs ordered = ap in_byte_order (keys_with a bs) ∙ in_
 pub with_is_more : (a : Attribute) (bs : List Attribute) → contains_word a.key (keys_of bs) ≡ false → IsPermutation (with_attribute a bs) (a ∷ bs)
 with_is_more a [] new = IsPermutation-refl (a ∷ [])
 with_is_more a (b ∷ bs) new =
-    let rest = with_is_more a bs (or_parts (same_bytes a.key b.key) (contains_word a.key (keys_of bs)) new).1 in
-    grind (arith, IsPermutation-refl (a ∷ b ∷ bs), between a (b ∷ []) bs (with_attribute a bs) rest)
+    grind (arith, IsPermutation-refl (a ∷ b ∷ bs), between a (b ∷ []) bs (with_attribute a bs), with_is_more a bs, or_parts)
 
 -- an attribute of the key gets the value
 abbrev pub revalued : Attribute → Attribute → Attribute
@@ -34,9 +33,7 @@ pub revalues : (a : Attribute) (bs : List Attribute) → IsSorted (keys_of bs) �
     ≡ with_attribute a bs
 revalues a [] sorted there = absurd (false≢true there)
 revalues a (b ∷ bs) sorted there =
-    let none = not_above b.key (keys_of bs) sorted.0 in
-    let above = above_more a.key b.key (keys_of bs) in
-    grind (arith, revalues a bs sorted.1, others_stay a bs, same_true a.key b.key, same_sym b.key a.key, none, not_above a.key (keys_of bs), above, sorted.0)
+    grind (arith, revalues a bs sorted.1, others_stay a bs, same_true a.key b.key, same_sym b.key a.key, not_above, above_more a.key b.key, sorted.0)
 
 -- ---- their rows
 
@@ -75,5 +72,4 @@ module _ (id : Bytes) (a : Attribute) (names : Row → Bool) (sets : Row → Row
   attribute_is_set [] sorted all there = absurd (false≢true there)
   attribute_is_set (t ∷ ts) sorted all there =
       let own = of_one t.id (same_bytes t.id id) refl t.attributes in
-      let others = unchanged id (attributed a) ts in
-      grind (arith, attribute_is_set ts sorted.1, own, revalues a t.attributes, sorted_from, none_set ts, none_after id t ts, others, map-append)
+      grind (arith, attribute_is_set ts sorted.1, own, revalues a t.attributes, sorted_from, none_set ts, none_after id t ts, unchanged, map-append)

@@ -1,18 +1,18 @@
 -- Lists of words in byte order.
-use Rattle.desk_records.proofs.Common.{arith, ◌++◌, IsPermutation-append_right, ◌≡◌, true, false, List, [], ◌∷◌, refl, ap, ◌∙◌, nat_cmp, IsPermutation}
-use Rattle.desk_records.proofs.Common.{list_all, is_gt, and_parts, or_parts, false≢true, IsPermutation-refl, IsPermutation-trans, IsPermutation-middle, Text}
-use Rattle.desk_records.proofs.Common.{value_cmp, value_cmp-Text, same_bytes, bytes_below, contains_word, with_word, without_word, Bytes, AllAbove, IsSorted}
+use Rattle.desk_records.proofs.Common.{Less, arith, ◌++◌, IsPermutation-append_right, ◌≡◌, true, false, List, [], ◌∷◌, refl, ◌∙◌, nat_cmp, IsPermutation}
+use Rattle.desk_records.proofs.Common.{list_all, and_parts, or_parts, false≢true, IsPermutation-refl, IsPermutation-trans, IsPermutation-middle, Text}
+use Rattle.desk_records.proofs.Common.{value_cmp, value_cmp-Text, bytes_below, contains_word, with_word, without_word, Bytes, AllAbove, IsSorted}
 use Rattle.desk_records.proofs.Common.{sorted_with, in_byte_order}
 use Rattle.std.specs.Cmp.Lexicographic.{slice_cmp}
 use Rattle.rollout_machine.proofs.Orders.{sorted_without}
 
 -- ---- two words
 
--- a word that is below another doesn't come after it in a column
-pub below_rises : (a b : Bytes) → bytes_below a b ≡ true → is_gt (value_cmp (Text a) (Text b)) ≡ false
-below_rises a b below = ap is_gt (value_cmp-Text a b) ∙ go a b below
+-- a word that is below another comes before it in a column
+pub below_rises : (a b : Bytes) → bytes_below a b ≡ true → value_cmp (Text a) (Text b) ≡ Less
+below_rises a b below = value_cmp-Text a b ∙ go a b below
   where
-    go : (a b : Bytes) → bytes_below a b ≡ true → is_gt (slice_cmp nat_cmp a b) ≡ false
+    go : (a b : Bytes) → bytes_below a b ≡ true → slice_cmp nat_cmp a b ≡ Less
     go a [] below = absurd (false≢true below)
     go [] (y ∷ ys) below = refl
     go (x ∷ xs) (y ∷ ys) below = grind (arith, go xs ys)
@@ -49,5 +49,4 @@ between x xs ys zs same = IsPermutation-trans _ _ _ (IsPermutation-append_right 
 pub with_is_more : (w : Bytes) (ws : List Bytes) → contains_word w ws ≡ false → IsPermutation (with_word w ws) (w ∷ ws)
 with_is_more w [] new = IsPermutation-refl (w ∷ [])
 with_is_more w (v ∷ ws) new =
-    let rest = with_is_more w ws (or_parts (same_bytes w v) (contains_word w ws) new).1 in
-    grind (arith, IsPermutation-refl (w ∷ v ∷ ws), between w (v ∷ []) ws (with_word w ws) rest)
+    grind (arith, IsPermutation-refl (w ∷ v ∷ ws), between w (v ∷ []) ws (with_word w ws), with_is_more w ws, or_parts)

@@ -1,8 +1,8 @@
 -- Texts of details: each line ended by a line feed.
-use Rattle.desk_records.proofs.Common.{◌≡◌, ◌≢◌, ◌≤◌, ◌<◌, ℕ, suc, Bool, true, false, not, nat_eq, List, [], ◌∷◌, ◌++◌, length, get_or, Option, Some}
-use Rattle.desk_records.proofs.Common.{None, IfNone, refl, sym, ap, ap₂, subst, ◌∙◌, arith, append-nil, append_assoc, length-append, if◌then◌else◌, list_all}
-use Rattle.desk_records.proofs.Common.{IsUtf8, is_utf8, and_parts, nat_tests, list_all-append, IsUtf8-append, IsUtf8-from_ascii, IsUtf8-from_is_utf8}
-use Rattle.desk_records.proofs.Common.{IsUtf8-nil, Value, Text, Bytes, are_details, detail_of, details_of, is_detail, is_text_letter, lines_of}
+use Rattle.desk_records.proofs.Common.{◌≡◌, ◌≢◌, ◌≤◌, ◌<◌, ℕ, suc, Bool, true, false, not, nat_eq, List, [], ◌∷◌, ◌++◌, length, get_or, Option, Some, None}
+use Rattle.desk_records.proofs.Common.{IfNone, refl, sym, ap, ap₂, subst, ◌∙◌, arith, append-nil, append_assoc, length-append, if◌then◌else◌, list_all, IsUtf8}
+use Rattle.desk_records.proofs.Common.{and_parts, nat_tests, list_all-append, IsUtf8-append, IsUtf8-from_ascii, IsUtf8-from_is_utf8, IsUtf8-nil, Value, Text}
+use Rattle.desk_records.proofs.Common.{Bytes, are_details, detail_of, details_of, is_detail, is_text_letter, lines_of}
 use Rattle.std.proofs.lemmas.Str.Ascii.{IsAscii-cons, IsAscii-nil}
 use Rattle.desk_records.specs.EntryRow.{HasNoDetails}
 
@@ -14,9 +14,8 @@ pub line_more : (text rest line more : Bytes) (lines : List Bytes) → text ≡ 
 line_more text rest line more lines is next = is ∙ ap (λ r. lines_of lines ++ r) next ∙ go lines
   where
     go : (ls : List Bytes) → lines_of ls ++ (line ++ 10 ∷ more) ≡ lines_of (ls ++ line ∷ []) ++ more
-    go [] = sym (append_assoc line (10 ∷ []) more) ∙ ap (λ l. l ++ more) (sym (append-nil (line ++ 10 ∷ [])))
-    go (l ∷ ls) = append_assoc (l ++ 10 ∷ []) (lines_of ls) (line ++ 10 ∷ more) ∙ ap (λ r. (l ++ 10 ∷ []) ++ r) (go ls)
-        ∙ sym (append_assoc (l ++ 10 ∷ []) (lines_of (ls ++ line ∷ [])) more)
+    go [] = grind (arith, append_assoc, append-nil)
+    go (l ∷ ls) = grind (arith, append_assoc, go ls)
 
 pub detail_is : (line d : Bytes) → detail_of line ≡ Some d → (d ≡ line) × (is_detail d ≡ true)
 detail_is line d is = (grind arith, grind arith)
@@ -57,13 +56,11 @@ feedless line h = letters_no_feed line (and_parts _ (list_all is_text_letter lin
 begins : (ls ms : List Bytes) (rest : Bytes) → list_all is_detail ls ≡ true → list_all is_detail ms ≡ true → lines_of ls ++ rest ≡ lines_of ms
     → (more : List Bytes) × (ms ≡ ls ++ more) × (list_all is_detail more ≡ true) × (rest ≡ lines_of more)
 begins [] ms rest good fine is = (ms, refl, fine, is)
-begins (l ∷ ls) [] rest good fine is =
-    absurd (first_empty l (lines_of ls ++ rest) (sym (append_assoc (l ++ 10 ∷ []) (lines_of ls) rest ∙ append_assoc l (10 ∷ []) (lines_of ls ++ rest)) ∙ is))
+begins (l ∷ ls) [] rest good fine is = grind (arith, first_empty, ls, append_assoc)
 begins (l ∷ ls) (m ∷ ms) rest good fine is =
     let here = and_parts (is_detail l) (list_all is_detail ls) good in
     let there = and_parts (is_detail m) (list_all is_detail ms) fine in
-    let it = one_line l m (lines_of ls ++ rest) (lines_of ms) (feedless l here.0) (feedless m there.0)
-    (sym (append_assoc (l ++ 10 ∷ []) (lines_of ls) rest ∙ append_assoc l (10 ∷ []) (lines_of ls ++ rest)) ∙ is ∙ append_assoc m (10 ∷ []) (lines_of ms)) in
+    let it = one_line l m (lines_of ls ++ rest) (lines_of ms) (feedless l here.0) (feedless m there.0) (grind (arith, is, append_assoc)) in
     let go = begins ls ms rest here.1 there.1 it.1 in
     (go.0, ap₂ ◌∷◌ (sym it.0) go.1, go.2, go.3)
 
@@ -71,7 +68,7 @@ begins (l ∷ ls) (m ∷ ms) rest good fine is =
 same_lines : (ls ms : List Bytes) → list_all is_detail ls ≡ true → list_all is_detail ms ≡ true → lines_of ls ≡ lines_of ms → ls ≡ ms
 same_lines ls ms good fine is =
     let it = begins ls ms [] good fine (append-nil (lines_of ls) ∙ is) in
-    sym (it.1 ∙ ap (λ more. ls ++ more) (no_lines it.0 (sym it.3)) ∙ append-nil ls)
+    grind (arith, it.1, no_lines it.0, it.3, append-nil)
 
 pub same_details : (d e : List Bytes) → are_details d ≡ true → are_details e ≡ true → lines_of d ≡ lines_of e → d ≡ e
 same_details d e good fine is = same_lines d e (and_parts _ (list_all is_detail d) good).1 (and_parts _ (list_all is_detail e) fine).1 is
@@ -98,8 +95,7 @@ pub all_or_none : (text rest : Bytes) (lines : List Bytes) (found : Option (List
     → IfNone found (HasNoDetails (Text text))
 all_or_none text [] lines found is said good few ends = grind (arith, nat_tests)
 all_or_none text (b ∷ rest) lines found is said good few ends =
-    let none : found ≡ None = grind (arith, nat_tests, is) in
-    rw none (holds_none text (b ∷ rest) lines said good (ends (λ e. absurd cc)))
+    grind (arith, nat_tests, is, holds_none text (b ∷ rest) lines said good (ends (λ e. absurd cc)))
 
 -- no line ends in the rest
 pub ends_nowhere : (rest : Bytes) → rest ≢ [] → ((i : ℕ) → i < length rest → get_or rest i 0 ≢ 10) → (more : List Bytes) → rest ≢ lines_of more
@@ -112,9 +108,7 @@ pub begins_badly : (rest line more : Bytes) → rest ≡ line ++ 10 ∷ more →
     → (ms : List Bytes) → list_all is_detail ms ≡ true → rest ≢ lines_of ms
 begins_badly rest line more is none bad [] fine same = first_empty line more (sym is ∙ same)
 begins_badly rest line more is none bad (m ∷ ms) fine same =
-    let there = and_parts (is_detail m) (list_all is_detail ms) fine in
-    let it = one_line line m more (lines_of ms) (no_feed_in line none) (feedless m there.0) (sym is ∙ same ∙ append_assoc m (10 ∷ []) (lines_of ms)) in
-    absurd (let same : is_detail line ≡ true = ap is_detail it.0 ∙ there.0 in cc)
+    grind (arith, one_line line m more (lines_of ms) (no_feed_in line none), feedless m, and_parts, append_assoc)
 
 -- as many lines as there may be, and a rest
 pub goes_too_far : (rest : Bytes) (lines : List Bytes) → length lines ≡ 8 → rest ≢ [] → (more : List Bytes) → length (lines ++ more) ≤ 8 → rest ≢ lines_of more
@@ -125,10 +119,8 @@ goes_too_far rest lines full some (m ∷ ms) few same = absurd (omega (arith, fu
 lines_are_utf8 : (ls : List Bytes) → list_all is_detail ls ≡ true → IsUtf8 (lines_of ls)
 lines_are_utf8 [] good = IsUtf8-nil
 lines_are_utf8 (l ∷ ls) good =
-    let here = and_parts (is_detail l) (list_all is_detail ls) good in
-    IsUtf8-append (l ++ 10 ∷ []) (lines_of ls)
-    (IsUtf8-append l (10 ∷ []) (IsUtf8-from_is_utf8 l (and_parts _ (is_utf8 l) here.0).1)
-    (IsUtf8-from_ascii (10 ∷ []) (IsAscii-cons 10 [] (omega arith) IsAscii-nil))) (lines_are_utf8 ls here.1)
+    let feed = IsUtf8-from_ascii (10 ∷ []) (IsAscii-cons 10 [] (omega arith) IsAscii-nil) in
+    grind (arith, IsUtf8-append, IsUtf8-from_is_utf8 l, feed, and_parts, lines_are_utf8 ls)
 
 -- what is no UTF-8
 pub unread_details : (v : Value) (text : Bytes) → v ≡ Text text → (IsUtf8 text → ⊥) → HasNoDetails v

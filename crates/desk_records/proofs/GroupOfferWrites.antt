@@ -1,16 +1,16 @@
 -- The statement that offers the actions of a group, in ledgers.
-use Rattle.desk_records.proofs.Common.{◌≡◌, ℕ, ◌+◌, pos, false, ◌&&◌, nat_eq, List, [], ◌∷◌, map, filter, length, None, Some}
-use Rattle.desk_records.proofs.Common.{refl, sym, subst, ◌∙◌, arith, Ok, zip, Null, Int, Row, lit, Database, State, Writes, all_from, key_at, rows_from}
-use Rattle.desk_records.proofs.Common.{numbered_in_order, passes, shown_of, PutsEach, each_keeps, uncollated, upserts_from, holds_position, TargetOffer}
-use Rattle.desk_records.proofs.Common.{Records, Bounds, ActionRecord, group_offers, member_of, offers_from, put_offers, Tally, action_row, HoldsLedger, Ledger}
-use Rattle.desk_records.proofs.Common.{OffersGroup, Actions, Offers, offer_table}
-use Rattle.sqlite.specs.Source.TheVariants.{Query as Queried}
+use Rattle.desk_records.proofs.Common.{◌≡◌, ℕ, ◌+◌, pos, false, ◌&&◌, nat_eq, List, [], ◌∷◌, map, filter, length, None, Some, refl, sym, subst, ◌∙◌, arith, Ok}
+use Rattle.desk_records.proofs.Common.{Queried, zip, Null, Int, Row, lit, Database, State, Writes, all_from, key_at, rows_from, numbered_in_order, passes}
+use Rattle.desk_records.proofs.Common.{shown_of, PutsEach, each_keeps, uncollated, upserts_from, holds_position, TargetOffer, Records, Bounds, ActionRecord}
+use Rattle.desk_records.proofs.Common.{group_offers, member_of, offers_from, put_offers, Tally, action_row, HoldsLedger, Ledger, OffersGroup, Actions, Offers}
+use Rattle.desk_records.proofs.Common.{offer_table}
 use Rattle.sql_front.proofs.Upsert.{key_found}
 use Rattle.sql_calls.proofs.KeyConflicts.{HasKeyIndex, key_index, key_only}
 use Rattle.desk_records.proofs.Comparisons.{numbers_at_least, numbers_at_most, numbers_equal}
 use Rattle.desk_records.proofs.GroupOffersMeaning.{in_group, group_columns, group_query, taking_query, put_group_offers_command}
 use Rattle.desk_records.proofs.OfferPuts.{puts_all, source_of}
 use Rattle.desk_records.proofs.OfferWrites.{offers_after}
+use Rattle.desk_records.proofs.MeaningWords.{no_offset}
 
 -- ---- the key
 
@@ -66,9 +66,9 @@ offers_group number bounds old new text count l next holds change w =
     let key = key_only old.now.schema table 1 refl (key_of old.now l holds) holds.keyed in
     let made = upserts_from old.now.schema spot.at table (Queried (record { lets = []; body = group_query from })) (Some (1 ∷ []))
     (Some (record { lets = []; body = taking_query spot.tree })) stands.got stands.keyless old new refl text params count w in
-    let answer = uncollated from in_group group_columns _ (lit (Int _)) (lit (Int (pos 0))) _ _ params made.sources (made.is_source.answer Null) in
+    let answer = uncollated from in_group group_columns _ (lit (Int _)) no_offset _ _ params made.sources (made.is_source.answer Null) in
     let sources : made.sources ≡ map source_of (group_offers l.records number bounds) =
-    numbered_in_order (action_row l.records.rollouts) (λ n x. refl) from in_group group_columns (lit (Int _)) (lit (Int (pos 0))) params old.now.trees zs
+    numbered_in_order (action_row l.records.rollouts) (λ n x. refl) from in_group group_columns (lit (Int _)) no_offset params old.now.trees zs
     (holds.rows Actions) made.sources answer
     ∙ shows_offers l.records number bounds 1 l.records.actions l.tallies change.tallied in
     let held = puts_all old.now.schema spot.tree key _ _ _ (group_offers l.records number bounds) l.offers old.now.trees new.now.trees (holds.rows Offers)

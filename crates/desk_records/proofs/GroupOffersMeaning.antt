@@ -1,8 +1,7 @@
 -- What the text means that offers the actions of a group, wherever its two tables stand.
 use Rattle.desk_records.proofs.Common.{◌≡◌, refl, List, [], ◌∷◌, ℕ, codes, Ok, pos, negsuc, false, Binary, Schema, Command, InsertOr, Query, Term, lit, col}
-use Rattle.desk_records.proofs.Common.{op2, Compare, Lt, key_at, Stands, Means, simple, by, action_table, offer_table}
+use Rattle.desk_records.proofs.Common.{Queried, op2, Compare, Lt, key_at, Stands, Means, simple, by, action_table, offer_table}
 use Rattle.sqlite.specs.declared.types.Value.TheVariants.{Null, Int}
-use Rattle.sqlite.specs.Source.TheVariants.{Query as Queried}
 use Rattle.sqlite_schema.specs.declared.command.Conflict.TheVariants.{Abort}
 use Rattle.sqlite_tied.specs.Compute.{everything}
 use Rattle.sqlite_resolve.specs.Compile.{first}
@@ -47,21 +46,12 @@ put_group_offers_upserts tree from = record {
   columns = _;
   select = _;
   clause = _;
-  is_read = refl;
-  statement = refl;
-  formats = refl;
+  parses = (refl, refl, refl);
   page = _;
   shown = _;
-  with = refl;
-  others = refl;
+  is = (refl, refl);
   one = record {
-    source = _;
-    from = refl;
-    table = refl;
-    alias = refl;
-    on = refl;
-    using = refl;
-    is_inner = refl;
+    from = record { source = _; is = refl; table = refl; alias = refl; on = refl; using = refl; is_inner = refl };
     group = refl;
     having = refl;
     shown = (tt, (tt, (tt, tt)));
@@ -73,26 +63,18 @@ put_group_offers_upserts tree from = record {
     sorts = (tt, tt);
   };
   paged = λ s. refl;
-  named_alone = refl;
-  known = refl;
+  named = (refl, refl);
   at = _;
   terms = _;
   by = _;
-  placed = refl;
-  laid_out = refl;
-  is_body = refl;
-  over = refl;
-  fits = refl;
-  aimed = refl;
-  key_is = refl;
-  sets = refl;
+  placed = (refl, refl);
+  becomes = (refl, refl, refl);
+  aimed = (refl, refl, refl);
   values = (tt, (tt, tt));
   filter = ((refl, λ cx how x y. refl), tt, tt);
   draft = _;
   updated = refl;
-  is_setter = refl;
-  setter_over = refl;
-  setter_fits = refl;
+  sets = (refl, refl, refl);
 }
 
 pub put_group_offers_is : (s : Schema) (at tree there from : ℕ) → Stands s (codes "offer") at (offer_table tree)

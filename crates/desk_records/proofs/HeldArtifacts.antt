@@ -1,15 +1,10 @@
 -- What the tables of artifacts and pieces have where a ledger is held.
-use Rattle.desk_records.proofs.Common.{◌≤◌, ℕ, ◌∷◌, Option, Some, None, option_map, refl, sym, subst, AllZip, option_to_list, Null, Row, Database, Has, Bytes}
-use Rattle.desk_records.proofs.Common.{ArePieces, lies_at, artifact_row, piece_numbered, piece_row, piece_rows_from, HoldsLedger, Ledger, Artifacts, Pieces}
-use Rattle.desk_records.proofs.Common.{IsPiece, HoldsTables, Tables}
+use Rattle.desk_records.proofs.Common.{◌≤◌, ℕ, ◌∷◌, Option, Some, None, option_map, refl, sym, subst, AllZip, option_to_list, Null, Database, Bytes, ArePieces}
+use Rattle.desk_records.proofs.Common.{lies_at, piece_numbered, piece_row, piece_rows_from, HoldsLedger, Ledger, Pieces, IsPiece, HoldsTables, Tables}
 use Rattle.desk_records.proofs.ArtifactRecords.{its_piece}
-use Rattle.desk_records.proofs.HeldTables.{IsNumbered, held_rows, held_said, numbered}
+use Rattle.desk_records.proofs.HeldTables.{held_rows, held_said}
 
 module _ (db : Database) (l : Ledger) (held : HoldsLedger db l) (t : Tables) (holds : HoldsTables db t) where
-  -- each row is that of an artifact
-  pub held_artifact : (row : Row) → Has (t Artifacts) row → IsNumbered artifact_row 1 l.records.artifacts row
-  held_artifact row among = numbered artifact_row 1 l.records.artifacts row (subst (λ rows. Has rows row) (held_rows db l held t holds Artifacts) among)
-
   -- the piece at a place, or none
   pub held_pieces : (number place : ℕ) → 1 ≤ number → ArePieces (t Pieces) number place (option_to_list (piece_numbered l.records.artifacts number place))
   held_pieces number place least =

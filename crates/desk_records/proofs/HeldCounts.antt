@@ -1,7 +1,7 @@
 -- Where the rows of numbered records and of their parts are, and how many are of one record.
-use Rattle.desk_records.proofs.Common.{◌≡◌, inl, inr, ◌<◌, ℕ, zero, suc, ◌+◌, Bool, true, List, [], ◌∷◌, filter, length, slice_get, nat_eq, Some, refl}
-use Rattle.desk_records.proofs.Common.{sym, ap, ◌∙◌, arith, nat_tests, length-map, length_permutation, Row, Has, has_left, has_right, IsHeldBy}
-use Rattle.desk_records.proofs.Common.{rows_from, IsBlind, held_seen, on_content, has_at, part_row, parts_from, parts_of}
+use Rattle.desk_records.proofs.Common.{◌≡◌, inl, inr, ◌<◌, ℕ, zero, suc, ◌+◌, Bool, List, [], ◌∷◌, filter, length, slice_get, Some, refl, sym, ap, ◌∙◌, arith}
+use Rattle.desk_records.proofs.Common.{nat_tests, length-map, length_permutation, Row, Has, has_left, has_right, IsHeldBy, rows_from, IsBlind, held_seen}
+use Rattle.desk_records.proofs.Common.{on_content, has_at, part_row, parts_from, parts_of}
 use Rattle.desk_records.proofs.Parts.{all_pass, its_parts}
 
 -- ---- places in a list
@@ -58,7 +58,5 @@ row_count f k (y ∷ ys) = ap suc (row_count f (k + 1) ys)
 pub own_parts : {X Y : Type 0} (rest : Y → Row) (items : X → List Y) (n r d : ℕ) (xs : List X) (x : X) → r ≡ n + d → slice_get xs d ≡ Some x
     → length (filter (has_at 0 r) (parts_from (part_row rest) items n xs)) ≡ length (items x)
 own_parts rest items n r d xs x number e =
-    let own : nat_eq r r ≡ true = grind (arith, nat_tests) in
-    ap length (its_parts (part_row rest) items (has_at 0 r) r (λ m place y apart. apart) (parts_of items) refl (λ z. refl) n d number xs
-    ∙ ap (λ o. filter (has_at 0 r) (rows_from (part_row rest r) 1 (parts_of items o))) e ∙ all_pass (part_row rest r) (has_at 0 r) (λ place y. own) 1 (items x))
-    ∙ row_count (part_row rest r) 1 (items x)
+    let its = its_parts (part_row rest) items (has_at 0 r) r (λ m place y apart. apart) (parts_of items) refl (λ z. refl) n d number xs in
+    grind (arith, nat_tests, its, e, all_pass (part_row rest r) (has_at 0 r), row_count (part_row rest r) 1 (items x))

@@ -1,9 +1,8 @@
 -- What tables have where a ledger is held, whatever rowids nobody knows.
-use Rattle.desk_records.proofs.Common.{◌≡◌, inl, inr, ◌≤◌, ◌<◌, ℕ, suc, ◌+◌, pos, Bool, List, [], ◌∷◌, filter, length, slice_get}
-use Rattle.desk_records.proofs.Common.{Some, refl, sym, ap, subst, ◌∙◌, arith, AllZip, IsPermutation-sym, Value}
-use Rattle.desk_records.proofs.Common.{Int, Null, Row, Database, Has, has_either, has_filtered, has_kept, AreIn, IsHeldBy}
-use Rattle.desk_records.proofs.Common.{rows_from, IsBlind, on_content, HoldsLedger, IsHeld, Ledger, AreSaid, parts_from, Place}
-use Rattle.desk_records.proofs.Common.{HoldsTables, Tables, same_some}
+use Rattle.desk_records.proofs.Common.{◌≡◌, inl, inr, ◌≤◌, ◌<◌, ℕ, suc, ◌+◌, pos, Bool, List, [], ◌∷◌, filter, length, slice_get, Some, refl, sym, ap, subst}
+use Rattle.desk_records.proofs.Common.{◌∙◌, arith, AllZip, IsPermutation-sym, Value, Int, Null, Row, Database, Has, has_either, has_filtered, has_kept, AreIn}
+use Rattle.desk_records.proofs.Common.{IsHeldBy, rows_from, IsBlind, on_content, HoldsLedger, IsHeld, Ledger, AreSaid, parts_from, Place, HoldsTables, Tables}
+use Rattle.desk_records.proofs.Common.{same_some}
 use Rattle.desk_records.proofs.HeldCounts.{has_got, held_passing, part_among, place_within}
 use Rattle.desk_records.proofs.Membership.{has_permuted, zip_left, zip_length, zip_right}
 
@@ -39,8 +38,7 @@ numbered_at f k [] row among = absurd among
 numbered_at f k (y ∷ ys) row (inl same) = let at : k ≡ k + 0 = omega arith in (0, y, refl, same ∙ ap (λ n. f n y) at)
 numbered_at f k (y ∷ ys) row (inr among) =
     let it = numbered_at f (k + 1) ys row among in
-    let at : k + 1 + it.0 ≡ k + suc it.0 = omega arith in
-    (suc it.0, it.1, it.2, it.3 ∙ ap (λ n. f n it.1) at)
+    (suc it.0, it.1, it.2, grind (arith, it.3))
 
 pub numbered : {Y : Type 0} (f : ℕ → Y → Row) (k : ℕ) (ys : List Y) (row : Row) → Has (rows_from f k ys) row → IsNumbered f k ys row
 numbered f k ys row among = grind (arith, numbered_at, place_within, has_got)

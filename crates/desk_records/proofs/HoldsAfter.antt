@@ -1,13 +1,12 @@
 -- One table changes, and the others keep their rows.
-use Rattle.desk_records.proofs.Common.{◌≡◌, ◌≢◌, inl, inr, ℕ, suc, true, List, [], ◌∷◌, Some, refl, sym, ap, subst, ◌∙◌, find, ◌==◌, map, cond, AllByRecursion}
-use Rattle.desk_records.proofs.Common.{cases_eq, Table, Database, IsDatabase, all-slice_get, Bytes, Records, ActionRecord, Stands, Place, Offers, places}
+use Rattle.desk_records.proofs.Common.{◌≡◌, ◌≢◌, ℕ, suc, true, List, [], ◌∷◌, Some, refl, sym, ap, subst, ◌∙◌, find, ◌==◌, map, cond, AllByRecursion, cases_eq}
+use Rattle.desk_records.proofs.Common.{Chosen, Table, Database, IsDatabase, all-slice_get, Bytes, Records, ActionRecord, Stands, Place, Offers, places}
 use Rattle.desk_records.proofs.Common.{offer_table, table_at, name_of, are_sorted, AreRowsOf, HoldsLedger, HoldsRecords, IsHeld, Ledger, Offered, content_of}
 use Rattle.desk_records.proofs.Common.{ledger_of, Row, Term, Insert, Values, None, Null, State, Writes, IsPermutation, IsPermutation-trans, IsHeldBy, Inserted}
-use Rattle.desk_records.proofs.Common.{given_rows, inserts, adds_row, cast_all, slice_get, Unordered, ◌+◌, ◌++◌, ap₂, arith, length, pos, rowid, rows_from}
-use Rattle.desk_records.proofs.Common.{put_row, put_next, edit_of, Trees, Int, Ordered}
-use Rattle.rollout_machine.specs.Offers.{first_offer, offer}
+use Rattle.desk_records.proofs.Common.{given_rows, inserts, adds_row, cast_all, slice_get, Unordered, ◌+◌, ◌++◌, arith, length, pos, rowid, rows_from, put_row}
+use Rattle.desk_records.proofs.Common.{put_next, edit_of, Trees, Int, Ordered}
+use Rattle.rollout_machine.specs.Offers.{first_offer}
 use Rattle.sql_calls.specs.Apart.{HasNoForeignKey}
-use Rattle.sqlite.specs.Rowids.TheVariants.{Chosen}
 use Rattle.sqlite_rules.specs.Edit.{edited}
 use Rattle.sql_calls.proofs.Inserts.{uncounted}
 use Rattle.sql_calls.specs.KeyIndexes.{ComparesBytes}
@@ -49,11 +48,7 @@ module _ (k : Place) (now next : Ledger) (old new : Database) (was : HoldsLedger
           old.schema.tables (was.spot t).at (table_at t (was.spot t).tree) (was.stands t).got left.others (was.stands t).keyless apart
 
       rows : (t : Place) → IsHeld next t (new.trees (was.spot t).tree)
-      rows t = elim (cases_eq (was.spot t).tree (was.spot k).tree) [
-        | inl is ↦ let here : t ≡ k = one_place t is in subst (λ x. IsHeld next x (new.trees (was.spot x).tree)) (sym here) there
-        | inr apart ↦ subst (IsHeld next t) (sym (kept t apart))
-            (subst (λ c. AreRowsOf c (old.trees (was.spot t).tree)) (sym (same t (λ e. apart (ap (λ x. (was.spot x).tree) e)))) (was.rows t))
-      ]
+      rows t = grind (arith, cases_eq (was.spot t).tree (was.spot k).tree, one_place t, kept t, same t, was.rows t, there)
 
 -- A new row of one place, whose rows come in any order.
 module _ (k : Place) (l next : Ledger) (only : ChangesOnly k l next) (sorted : are_sorted next.records.targets ≡ true) where
@@ -64,8 +59,7 @@ module _ (k : Place) (l next : Ledger) (only : ChangesOnly k l next) (sorted : a
   inserted {old} {new} {text} {params} {count} terms width holds w plain =
       let spot = holds.spot k in
       let got = subst (λ (t : Table). slice_get old.now.schema.tables spot.at ≡ Some t) (plain spot.tree) (holds.stands k).got in
-      subst (λ (t : Table). Inserted old.now.schema t (given_rows t params terms width) old.now new.now) (sym (plain spot.tree))
-      (inserts old.now.schema spot.at (table_at k spot.tree) terms width got old new refl text params count w)
+      grind (arith, plain spot.tree, inserts old.now.schema spot.at (table_at k spot.tree) terms width got old new refl text params count w)
 
   pub puts : {old new : State} {text : List ℕ} {params : Row} {count : ℕ} {had gets : List Row} (terms : List Term) (width : ℕ) (holds : HoldsLedger old.now l)
       → Writes old new None (Insert (holds.spot k).at (Values terms width)) text params count
@@ -78,8 +72,8 @@ module _ (k : Place) (l next : Ledger) (only : ChangesOnly k l next) (sorted : a
       let table = table_at k spot.tree in
       let made = inserted terms width holds w plain in
       let were : IsHeldBy (old.now.trees spot.tree) had = subst (λ c. AreRowsOf c (old.now.trees spot.tree)) before (holds.rows k) in
-      let it = subst (λ (r : Row). IsHeldBy (new.now.trees spot.tree) (r ∷ had)) (cast spot.tree)
-      (adds_row old.now.schema table [] params terms width source (given spot.tree) old.now new.now had were made) in
+      let it : IsHeldBy (new.now.trees spot.tree) (row ∷ had) =
+      grind (arith, cast spot.tree, adds_row old.now.schema table [] params terms width source (given spot.tree) old.now new.now had were made) in
       let held : IsHeldBy (new.now.trees spot.tree) gets =
       record { order = it.order; rising = it.rising; same = IsPermutation-trans _ _ _ more it.same } in
       ledger_after k l next old.now new.now holds (record { schema = made.schema_is; sound = w.sound; others = made.applies.tables })
@@ -98,9 +92,8 @@ module _ (k : Place) (l next : Ledger) (only : ChangesOnly k l next) (sorted : a
       let table = table_at k spot.tree in
       let made = inserted terms width holds w plain in
       let were : old.now.trees spot.tree ≡ rows_from f 1 xs = subst (λ c. AreRowsOf c (old.now.trees spot.tree)) before (holds.rows k) in
-      let here : number ≡ 1 + length xs = omega (arith, at) in
       let held : new.now.trees spot.tree ≡ rows_from f 1 (xs ++ x ∷ []) =
-      made.applies.rows ∙ row old.now.trees spot.tree ∙ ap₂ (λ n rows. put_row (f n x) rows) here were ∙ put_next f ids 1 xs x in
+      made.applies.rows ∙ row old.now.trees spot.tree ∙ grind (arith, at, were, put_next f ids 1 xs x) in
       ledger_after k l next old.now new.now holds (record { schema = made.schema_is; sound = w.sound; others = made.applies.tables })
       (subst (λ c. AreRowsOf c (new.now.trees spot.tree)) (sym after) held) only sorted
 
@@ -117,16 +110,13 @@ same_first : (now next : Records) → next.rollouts ≡ now.rollouts → (id : B
 same_first now next same id k [] = refl
 same_first now next same id k (a ∷ more) = rw (same_first now next same id (suc k) more, same) refl
 
-same_offer : (now next : Records) → next.rollouts ≡ now.rollouts → next.actions ≡ now.actions → (id : Bytes) → offer next id ≡ offer now id
-same_offer now next rollouts actions id = ap (first_offer next id 1) actions ∙ same_first now next rollouts id 1 now.actions
-
 -- they leave the offers too
 pub records_differ : (k : Place) (now next : Records) → next.rollouts ≡ now.rollouts → next.actions ≡ now.actions → (touched : List Place)
     → map (content_of (ledger_of next)) places ≡ map (λ t. cond (is_among (Offers ∷ touched) t) (content_of (ledger_of next) t) (content_of (ledger_of now) t))
     places
     → AllByRecursion (λ t. t ≢ k → content_of (ledger_of next) t ≡ content_of (ledger_of now) t) touched → ChangesOnly k (ledger_of now) (ledger_of next)
 records_differ k now next rollouts actions touched same proved = contents_differ k (ledger_of now) (ledger_of next) (Offers ∷ touched) same
-    ((λ apart. ap Offered (λ i. λ id. same_offer now next rollouts actions id i)), proved)
+    ((λ apart. ap Offered (λ i. λ id. (ap (first_offer next id 1) actions ∙ same_first now next rollouts id 1 now.actions) i)), proved)
 
 -- of records
 pub holds_after : (k : Place) (now next : Records) (old new : Database) (was : HoldsRecords old now) → Leaves old new (was.spot k).tree

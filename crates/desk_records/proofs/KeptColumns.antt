@@ -1,10 +1,8 @@
 -- What is written in a column is what is read of it.
-use Rattle.desk_records.proofs.Common.{◌≡◌, ℕ, pos, List, Bool, Option, Some, None, option_map, sym, ◌∙◌, arith, if◌then◌else◌}
-use Rattle.desk_records.proofs.Common.{Value, Int, Text, Blob, Outcome, outcome_code, approval_code, flag}
-use Rattle.sqlite.specs.Values.{or_null}
-use Rattle.rollout_model.specs.declared.approval.Approval.{Approval}
-use Rattle.desk_records.specs.Codes.{approval_from, approval_in, coded_in, flag_in, flag_of, outcome_from, outcome_in, percentage_or_none_in}
-use Rattle.desk_records.specs.Codes.{place_from, place_in}
+use Rattle.desk_records.proofs.Common.{◌≡◌, ℕ, pos, List, Bool, Option, Some, None, option_map, sym, ◌∙◌, arith, if◌then◌else◌, Value, Int, Text, Blob, Outcome}
+use Rattle.desk_records.proofs.Common.{or_null, Approval, outcome_code, approval_code, flag}
+use Rattle.desk_records.specs.Codes.{approval_from, approval_in, coded_in, flag_in, flag_of, outcome_from, outcome_in, percentage_or_none_in, place_from}
+use Rattle.desk_records.specs.Codes.{place_in}
 use Rattle.desk_records.proofs.NumberColumns.{ranged_is}
 
 pub coded : {A : Type 0} (meant : ℕ → Option A) (n : ℕ) (a : A) → coded_in meant (Int (pos n)) ≡ Some a → meant n ≡ Some a

@@ -1,8 +1,8 @@
 -- Lists in which one changes, and rows that don't tell of the change.
-use Rattle.desk_records.proofs.Common.{◌≡◌, ◌≢◌, ◌++◌, ◌<◌, ℕ, zero, suc, ◌+◌, List, [], ◌∷◌, length, set, slice_get, Some, refl, sym, ap, ap₂, subst}
-use Rattle.desk_records.proofs.Common.{◌∙◌, arith, nat_eq, not, cond, Bool, true, false, ◌&&◌, append_assoc, IsPermutation, list_all, zip}
-use Rattle.desk_records.proofs.Common.{nat_tests, IsPermutation-trans, IsPermutation-middle, IsPermutation-append_right, Row, rows_from, changed}
-use Rattle.desk_records.proofs.Common.{item_numbered, ActionRecord, RolloutRecord, Tally, actor_of, action_row, part_row, parts_from}
+use Rattle.desk_records.proofs.Common.{◌≡◌, ◌≢◌, ◌++◌, ◌<◌, ℕ, zero, suc, ◌+◌, List, [], ◌∷◌, length, set, slice_get, Some, refl, ap, arith, nat_eq, not, cond}
+use Rattle.desk_records.proofs.Common.{Bool, true, false, ◌&&◌, append_assoc, IsPermutation, list_all, zip, nat_tests, IsPermutation-trans}
+use Rattle.desk_records.proofs.Common.{IsPermutation-middle, IsPermutation-append_right, Row, rows_from, changed, item_numbered, ActionRecord, RolloutRecord}
+use Rattle.desk_records.proofs.Common.{Tally, actor_of, action_row, part_row, parts_from}
 use Rattle.rollout_machine.specs.StateWords.{member_at}
 use Rattle.desk_records.proofs.Parts.{next_place}
 
@@ -27,16 +27,7 @@ module _ {X Y : Type 0} (f : ℕ → ℕ → Y → Row) (parts : X → List Y) (
   parts_more : (n k number place : ℕ) (xs : List X) → number ≡ n + k → place ≡ length (parts x) + 1 → slice_get xs k ≡ Some x
       → IsPermutation (parts_from f parts n (set xs k y)) (f number place part ∷ parts_from f parts n xs)
   parts_more n k number place [] at next there = absurd cc
-  parts_more n zero number place (z ∷ xs) at next there =
-      let own = rows_from (f n) 1 (parts x) in
-      let rest = parts_from f parts (n + 1) xs in
-      let new = f number place part in
-      let here : new ≡ f n (1 + length (parts x)) part = ap₂ (λ m k. f m k part) (omega (arith, at)) (omega (arith, next)) in
-      let all : parts_from f parts n (y ∷ xs) ≡ own ++ new ∷ rest = ap (λ ps. rows_from (f n) 1 ps ++ rest) more
-      ∙ ap (λ l. l ++ rest) (next_place (f n) 1 (parts x) part ∙ ap (λ r. own ++ r ∷ []) (sym here)) ∙ append_assoc own (new ∷ []) rest in
-      let had : own ++ rest ≡ parts_from f parts n (z ∷ xs) = let is : x ≡ z = cc in ap (λ w. rows_from (f n) 1 (parts w) ++ rest) is in
-      subst (λ l. IsPermutation l (new ∷ parts_from f parts n (z ∷ xs))) (sym all)
-      (subst (λ l. IsPermutation (own ++ new ∷ rest) (new ∷ l)) had (IsPermutation-middle own new rest))
+  parts_more n zero number place (z ∷ xs) at next there = grind (arith, f, length, next_place, append_assoc, IsPermutation-middle)
   parts_more n (suc k) number place (z ∷ xs) at next there =
       let own = rows_from (f n) 1 (parts z) in
       IsPermutation-trans _ _ _ (IsPermutation-append_right own _ _ (parts_more (n + 1) k number place xs (omega (arith, at)) next there))
@@ -50,8 +41,7 @@ module _ {X Y : Type 0} (f : ℕ → ℕ → Y → Row) (parts : X → List Y) (
   pub last_is_more : (number place : ℕ) (before : List X) → number ≡ length before + 1 → place ≡ length (parts x) + 1
       → IsPermutation (parts_from f parts 1 (before ++ y ∷ [])) (f number place part ∷ parts_from f parts 1 (before ++ x ∷ []))
   last_is_more number place before last next =
-      subst (λ l. IsPermutation (parts_from f parts 1 l) (f number place part ∷ parts_from f parts 1 (before ++ x ∷ []))) (last_set before)
-      (parts_more 1 (length before) number place (before ++ x ∷ []) (omega (arith, last)) next (last_there before))
+      grind (arith, last_set before, parts_more 1 (length before) number place (before ++ x ∷ []) (omega (arith, last)) next (last_there before))
     where
       last_there : (before : List X) → slice_get (before ++ x ∷ []) (length before) ≡ Some x
       last_there [] = refl
@@ -93,9 +83,7 @@ module _ {X Y : Type 0} (rest : Y → Row) (parts : X → List Y) (p : Row → B
       → changed p g (parts_from (part_row rest) parts n xs) ≡ parts_from (part_row rest) parts n (set xs i y)
   part_set n i j [] at spot there part same = absurd cc
   part_set n zero j (z ∷ xs) at spot there part same =
-      let its : changed p g (rows_from (part_row rest number) 1 (parts x)) ≡ rows_from (part_row rest number) 1 (parts y) =
-      row_set 1 j (parts x) spot part ∙ ap (rows_from (part_row rest number) 1) (sym same) in
-      grind (arith, its, changed_append, parts_passed (n + 1) xs)
+      grind (arith, row_set 1 j (parts x) spot part, same, changed_append, parts_passed (n + 1) xs)
   part_set n (suc i) j (z ∷ xs) at spot there part same = grind (arith, nat_tests, changed_append, others_kept n, part_set (n + 1) i j xs)
 
 -- ---- the targets of actions

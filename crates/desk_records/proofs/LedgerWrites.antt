@@ -1,21 +1,20 @@
 -- The statements on rollouts, actions and offers that write, in ledgers.
 use Rattle.desk_records.proofs.Common.{◌≡◌, ◌≢◌, ◌∷◌, ◌++◌, ℕ, zero, suc, ◌+◌, pos, List, [], Bool, set, length, slice_get, Option, Some, None, refl, sym, ap}
-use Rattle.desk_records.proofs.Common.{subst, ◌∙◌, arith, zip, Int, Text, Row, Term, col, Insert, Update, Values, Database, State, Writes, Table, cast_all}
-use Rattle.desk_records.proofs.Common.{rowid, rows_from, cast_int, cast_null, has_number, sets_at, simple, shown_of, updates, Updated, Bytes, RolloutPlan}
-use Rattle.desk_records.proofs.Common.{Outcome, ActionRecord, RolloutRecord, GroupRule, Tally, action_row, entries_of, entry_row, outcome_code, number_row}
-use Rattle.desk_records.proofs.Common.{number_rows, HoldsLedger, Ledger, Ordered, Unordered, AddsRollout, AddsAction, SetsRollout, SetsAction, action_turned}
-use Rattle.desk_records.proofs.Common.{bare_rollout, no_tally, scheduled, turned, with_actions, with_numbers, with_rollouts, with_rules, listed_parts}
-use Rattle.desk_records.proofs.Common.{parts_from, approval_code, flag, group_row, groups_from, member_row, members_from, rollout_row, rule_row, rules_from}
-use Rattle.desk_records.proofs.Common.{Place, Rollouts, Members, Groups, Actions, Feedbacks, Rules, Numbers, action_table, rollout_table, PlacedNumber}
+use Rattle.desk_records.proofs.Common.{Approval, subst, ◌∙◌, arith, zip, Int, Text, Row, Term, col, Insert, Values, Database, State, Writes, Table, cast_all}
+use Rattle.desk_records.proofs.Common.{rowid, rows_from, cast_int, cast_null, sets_at, simple, shown_of, updates, Updated, Bytes, RolloutPlan, Outcome}
+use Rattle.desk_records.proofs.Common.{ActionRecord, RolloutRecord, GroupRule, Tally, action_row, entries_of, entry_row, outcome_code, number_rows, HoldsLedger}
+use Rattle.desk_records.proofs.Common.{Ledger, Ordered, Unordered, AddsRollout, AddsAction, SetsRollout, SetsAction, action_turned, bare_rollout, no_tally}
+use Rattle.desk_records.proofs.Common.{scheduled, turned, with_actions, with_numbers, with_rollouts, with_rules, listed_parts, parts_from, approval_code, flag}
+use Rattle.desk_records.proofs.Common.{groups_from, members_from, rollout_row, rules_from, Place, Rollouts, Members, Groups, Actions, Feedbacks, Rules, Numbers}
+use Rattle.desk_records.proofs.Common.{action_table, rollout_table, PlacedNumber}
 use Rattle.std.proofs.lemmas.Option.{slice_get_within}
-use Rattle.rollout_model.specs.declared.approval.Approval.{Approval}
-use Rattle.desk_records.proofs.ActionMeaning.{action_terms, action_values, set_action_query}
+use Rattle.desk_records.proofs.ActionMeaning.{action_terms, action_values}
 use Rattle.desk_records.proofs.HoldsAfter.{ChangesOnly, contents_differ, ledger_after, puts_next}
 use Rattle.desk_records.proofs.LedgerLists.{actions_stay, actors_of_more, actors_stay, first_of, length_zip, parts_stay, zip_more, zip_set}
-use Rattle.desk_records.proofs.MeaningWords.{at_key}
+use Rattle.desk_records.proofs.MeaningWords.{at_key, changes}
 use Rattle.desk_records.proofs.NumberedReads.{passes_number}
 use Rattle.desk_records.proofs.Parts.{no_parts}
-use Rattle.desk_records.proofs.RolloutMeaning.{rollout_terms, rollout_values, set_rollout_query}
+use Rattle.desk_records.proofs.RolloutMeaning.{rollout_terms, rollout_values}
 
 -- ---- what stays
 
@@ -58,9 +57,8 @@ module _ {X : Type 0} (f : ℕ → X → Row) (ids : (n : ℕ) (x : X) → rowid
       → Updated old.schema table (record { lets = []; body = simple table.tree (at_key 0 0 ∷ []) (col 1 0 ∷ col 1 0 ∷ values) }) (Int (pos (suc k)) ∷ more) old
       new → new.trees table.tree ≡ rows_from f 1 (set xs k y)
   numbered_set k table values more old new xs x y there becomes was made =
-      let next : 1 + k ≡ suc k = omega arith in
       sets_at f ids old.schema table (at_key 0 0 ∷ []) values (Int (pos (suc k)) ∷ more) old new k xs x y there (slice_get_within xs k x there)
-      (λ m z. passes_number f ids (suc k) m z ∙ ap (λ q. has_number f ids q (f m z)) (sym next)) (becomes (1 + k)) was made
+      (λ m z. grind (arith, passes_number f ids (suc k) m z)) (becomes (1 + k)) was made
 
 -- ---- a new rollout
 
@@ -77,21 +75,9 @@ adds_rollout number plan approval old new text count l next holds change w =
     let x = bare_rollout number plan approval in
     let after = with_rollouts l (xs ++ x ∷ []) in
     subst (HoldsLedger new.now) (sym change.next_is)
-    (puts_next Rollouts l (with_rules after (l.rules ++ [] ∷ []))
-    (λ t apart. rules_differ after (l.rules ++ [] ∷ []) Rollouts (λ other. none_listed rule_row l.rules) t apart
-    ∙ rollouts_differ l (xs ++ x ∷ []) Rollouts (λ apart. absurd (apart refl)) (λ apart. no_parts member_row (λ (y : RolloutRecord). y.members) x refl 1 xs)
-    (λ apart. no_parts group_row (λ (y : RolloutRecord). y.groups) x refl 1 xs) (actions_stay xs (xs ++ x ∷ []) (actors_of_more x refl xs) 1 _) t apart)
+    (puts_next Rollouts l (with_rules after (l.rules ++ [] ∷ [])) (grind (arith, contents_differ, none_listed, no_parts, actions_stay, actors_of_more))
     holds.sorted rollout_row (λ n x. refl) xs x number change.number_is rollout_terms 11 holds w (λ tree. refl)
-    (λ db tree. rw (
-      cast_int number,
-      cast_null,
-      cast_int plan.set_number,
-      cast_int plan.groups.count,
-      cast_int plan.success,
-      cast_int plan.error,
-      cast_int (approval_code approval),
-      cast_int 0,
-    ) refl) refl refl)
+    (λ db tree. grind (arith, cast_null, cast_int)) refl refl)
 
 -- ---- a rollout's approval, started and paused
 
@@ -100,7 +86,7 @@ turned_params number approval started paused = Int (pos number) ∷ Int (pos (ap
 
 pub sets_rollout : (number : ℕ) (approval : Approval) (started paused : Bool) (old new : State) (text : List ℕ) (count : ℕ) (l next : Ledger)
     (holds : HoldsLedger old.now l) → SetsRollout number approval started paused l next
-    → (w : Writes old new None (Update (holds.spot Rollouts).at (record { lets = []; body = set_rollout_query (holds.spot Rollouts).tree })) text
+    → (w : Writes old new None (changes (holds.spot Rollouts) (at_key 0 0 ∷ []) rollout_values) text
     (turned_params number approval started paused) count) → HoldsLedger new.now next
 sets_rollout zero approval started paused old new text count l next holds change w = absurd (let none = change.is_there in cc)
 sets_rollout (suc k) approval started paused old new text count l next holds change w =
@@ -109,28 +95,15 @@ sets_rollout (suc k) approval started paused old new text count l next holds cha
     let xs = l.records.rollouts in
     let x = change.rollout in
     let y = turned approval started paused x in
-    let made = updates old.now.schema spot.at (rollout_table spot.tree) (record { lets = []; body = set_rollout_query spot.tree }) stands.got stands.keyless old
+    let made = updates old.now.schema spot.at (rollout_table spot.tree) _ stands.got stands.keyless old
     new refl text (turned_params (suc k) approval started paused) count w in
     let table : new.now.trees spot.tree ≡ rows_from rollout_row 1 (set xs k y) =
     numbered_set rollout_row (λ n x. refl) k (rollout_table spot.tree) rollout_values _ old.now new.now xs x y change.is_there
-    (λ n. rw (
-      cast_null,
-      cast_int x.plan.set_number,
-      cast_int x.plan.groups.count,
-      cast_int x.plan.success,
-      cast_int x.plan.error,
-      cast_int (approval_code approval),
-      cast_int (flag started),
-      cast_int (flag paused),
-    ) refl)
-    (holds.rows Rollouts) made in
+    (λ n. grind (arith, cast_null, cast_int)) (holds.rows Rollouts) made in
     subst (HoldsLedger new.now) (sym change.next_is)
     (ledger_after Rollouts l (with_rollouts l (set xs k y)) old.now new.now holds
     (record { schema = made.schema_is; sound = w.sound; others = made.applies.tables }) table
-    (rollouts_differ l (set xs k y) Rollouts (λ apart. absurd (apart refl))
-    (λ apart. parts_stay x y member_row (λ (z : RolloutRecord). z.members) refl 1 k xs change.is_there)
-    (λ apart. parts_stay x y group_row (λ (z : RolloutRecord). z.groups) refl 1 k xs change.is_there)
-    (actions_stay xs (set xs k y) (actors_stay x y refl k xs change.is_there) 1 _)) holds.sorted)
+    (grind (arith, rollouts_differ, parts_stay, actions_stay, actors_stay, change.is_there)) holds.sorted)
 
 -- ---- a new action
 
@@ -144,13 +117,10 @@ pub adds_action : (number rollout place : ℕ) (id : Bytes) (old new : State) (t
 adds_action number rollout place id old new text count l next holds change w =
     let a = scheduled rollout place in
     let after = with_actions l (l.records.actions ++ a ∷ []) (l.tallies ++ no_tally ∷ []) in
-    let at : number ≡ length (zip l.records.actions l.tallies) + 1 =
-    omega (arith, change.number_is, length_zip l.records.actions l.tallies change.tallied) in
+    let at : number ≡ length (zip l.records.actions l.tallies) + 1 = grind (arith, change.number_is, length_zip, change.tallied) in
     subst (HoldsLedger new.now) (sym change.next_is)
     (puts_next Actions l (with_numbers after (l.numbers ++ [] ∷ []))
-    (λ t apart. numbers_differ after (l.numbers ++ [] ∷ []) Actions (λ other. none_listed number_row l.numbers) t apart
-    ∙ actions_differ l (l.records.actions ++ a ∷ []) (l.tallies ++ no_tally ∷ []) Actions (λ apart. absurd (apart refl))
-    (λ apart. no_parts entry_row entries_of a refl 1 l.records.actions) t apart) holds.sorted (action_row l.records.rollouts) (λ n x. refl)
+    (grind (arith, contents_differ, none_listed, no_parts)) holds.sorted (action_row l.records.rollouts) (λ n x. refl)
     (zip l.records.actions l.tallies) (a, no_tally) number at action_terms 9 holds w (λ tree. refl)
     (λ db tree. rw (cast_int number, cast_null, cast_int rollout, cast_int place, cast_int 0, change.id_is) refl) refl
     (ap (λ zs. Ordered (rows_from (action_row l.records.rollouts) 1 zs)) (zip_more l.records.actions l.tallies a no_tally change.tallied)))
@@ -163,7 +133,7 @@ acted_params number canceling outcome tally = Int (pos number) ∷ Int (pos (fla
 
 pub sets_action : (number : ℕ) (canceling : Bool) (outcome : Option Outcome) (tally : Tally) (old new : State) (text : List ℕ) (count : ℕ) (l next : Ledger)
     (holds : HoldsLedger old.now l) → SetsAction number canceling outcome tally l next
-    → (w : Writes old new None (Update (holds.spot Actions).at (record { lets = []; body = set_action_query (holds.spot Actions).tree })) text
+    → (w : Writes old new None (changes (holds.spot Actions) (at_key 0 0 ∷ []) action_values) text
     (acted_params number canceling outcome tally) count) → HoldsLedger new.now next
 sets_action zero canceling outcome tally old new text count l next holds change w = absurd (let none = change.is_there in cc)
 sets_action (suc k) canceling outcome tally old new text count l next holds change w =
@@ -173,21 +143,11 @@ sets_action (suc k) canceling outcome tally old new text count l next holds chan
     let as' = l.records.actions in
     let it = change.action in
     let a = action_turned canceling outcome it.0 in
-    let made = updates old.now.schema spot.at (action_table spot.tree) (record { lets = []; body = set_action_query spot.tree }) stands.got stands.keyless old
+    let made = updates old.now.schema spot.at (action_table spot.tree) _ stands.got stands.keyless old
     new refl text (acted_params (suc k) canceling outcome tally) count w in
     let table : new.now.trees spot.tree ≡ rows_from row 1 (zip (set as' k a) (set l.tallies k tally)) =
     numbered_set row (λ n x. refl) k (action_table spot.tree) action_values _ old.now new.now (zip as' l.tallies) it (a, tally) change.is_there
-    (λ n. rw (
-      cast_null,
-      cast_int it.0.rollout,
-      cast_int it.0.position,
-      cast_int (flag canceling),
-      cast_int (outcome_code outcome),
-      cast_int tally.notes,
-      cast_int tally.entries,
-    ) refl) (holds.rows Actions) made
-    ∙ ap (rows_from row 1) (sym (zip_set as' l.tallies k a tally)) in
+    (λ n. grind (arith, cast_null, cast_int)) (holds.rows Actions) made ∙ ap (rows_from row 1) (sym (zip_set as' l.tallies k a tally)) in
     subst (HoldsLedger new.now) (sym change.next_is) (ledger_after Actions l (with_actions l (set as' k a) (set l.tallies k tally)) old.now new.now holds
     (record { schema = made.schema_is; sound = w.sound; others = made.applies.tables }) table
-    (actions_differ l (set as' k a) (set l.tallies k tally) Actions (λ apart. absurd (apart refl))
-    (λ apart. parts_stay it.0 a entry_row entries_of refl 1 k as' (first_of as' l.tallies k it change.is_there))) holds.sorted)
+    (grind (arith, actions_differ, parts_stay, first_of as' l.tallies k it change.is_there)) holds.sorted)

@@ -1,9 +1,9 @@
 -- Written by tools/meanings. What it makes is proved; the tool is not trusted.
 -- What the texts of src/texts.rt mean, wherever their tables stand.
-use Rattle.desk_records.proofs.Common.{refl, List, [], ◌∷◌, ℕ, codes, pos, true, Null, Int, Text, Binary, Values, Query, Term, lit, col, simple, by}
+use Rattle.desk_records.proofs.Common.{refl, List, [], ◌∷◌, ℕ, codes, pos, Null, Int, Text, Values, Query, Term, lit, col, simple}
 use Rattle.desk_records.specs.declared.texts.TheConstants.{PUT_DESK, SET_VERSION, GET_DESK, FIND_MODULE, LAST_MODULE, GET_MODULE, PUT_MODULE}
 use Rattle.desk_records.specs.Schema.{Desk, Modules}
-use Rattle.desk_records.proofs.MeaningWords.{compiling, Asks, Puts, Changes, is_equal, at_key}
+use Rattle.desk_records.proofs.MeaningWords.{compiling, Asks, Puts, Changes, is_equal, at_key, greatest_number, changing}
 
 abbrev pub desk_terms : List Term
 desk_terms = lit (Int (pos 1)) ∷ lit Null ∷ lit (Text (codes "fwdesk")) ∷ lit (Int (pos 3)) ∷ col 0 0 ∷ []
@@ -15,7 +15,7 @@ abbrev pub version_values : List Term
 version_values = lit Null ∷ col 1 2 ∷ lit (Int (pos 3)) ∷ col 1 4 ∷ []
 
 abbrev pub set_version_query : ℕ → Query
-set_version_query tree = simple tree (is_equal (col 1 0) (lit (Int (pos 1))) ∷ []) (col 1 0 ∷ col 1 0 ∷ version_values)
+set_version_query tree = changing (is_equal (col 1 0) (lit (Int (pos 1))) ∷ []) version_values tree
 
 pub set_version_is : Changes Desk SET_VERSION.now set_version_query
 set_version_is = unfold compiling in record { updates = λ tree. record { parsed = _; sets = _; test = _; draft = _; read = refl; is = (refl, refl); values = (tt, tt); filter = ((refl, λ cx how x y. refl), tt, tt); known = refl; becomes = (refl, refl, refl) } }
@@ -32,10 +32,7 @@ same_label = at_key 2 0 ∷ at_key 3 1 ∷ at_key 4 2 ∷ []
 pub find_module_is : Asks Modules FIND_MODULE.now (λ tree. simple tree same_label (col 1 0 ∷ [])) (codes "number" ∷ [])
 find_module_is = unfold compiling in record { queries = λ tree. record { parsed = _; select = _; source = _; page = _; shown = _; read = refl; is = (refl, refl, refl, refl); core = (refl, refl, refl); from = (refl, refl, refl, refl, refl); shows = (tt, tt); filter = ((refl, λ cx how x y. refl), ((refl, λ cx how x y. refl), ((refl, λ cx how x y. refl), tt, tt), ((refl, λ cx how x y. refl), tt, tt)), ((refl, λ cx how x y. refl), tt, tt)); sorts = tt; paged = λ s. refl; named = (refl, refl); becomes = (refl, (refl, refl, refl)) }; shape = λ tree. refl }
 
-abbrev pub last_module_query : ℕ → Query
-last_module_query tree = by (simple tree [] (col 1 0 ∷ [])) ((col 1 0, record { descending = true; collation = Binary }) ∷ []) (lit (Int (pos 1))) (lit (Int (pos 0)))
-
-pub last_module_is : Asks Modules LAST_MODULE.now last_module_query (codes "number" ∷ [])
+pub last_module_is : Asks Modules LAST_MODULE.now greatest_number (codes "number" ∷ [])
 last_module_is = unfold compiling in record { queries = λ tree. record { parsed = _; select = _; source = _; page = _; shown = _; read = refl; is = (refl, refl, refl, refl); core = (refl, refl, refl); from = (refl, refl, refl, refl, refl); shows = (tt, tt); filter = tt; sorts = (tt, tt); paged = λ s. refl; named = (refl, refl); becomes = (refl, (refl, refl, refl)) }; shape = λ tree. refl }
 
 abbrev pub label_columns : List Term

@@ -1,6 +1,6 @@
 -- The words in which the meanings of texts are written.
 use Rattle.desk_records.proofs.Common.{◌≡◌, refl, List, [], ◌∷◌, ℕ, codes, Ok, None, Binary, Schema, Command, Select, Insert, Update, Delete, Term, col, op2}
-use Rattle.desk_records.proofs.Common.{Compare, Eq, Le, Ge, Gt, Query, Stands, Means, simple, by, count_query}
+use Rattle.desk_records.proofs.Common.{Compare, Eq, Le, Ge, Gt, Query, Stands, Means, simple, by, count_query, Bool, lit, true, Int, negsuc, pos}
 use Rattle.sqlite.specs.Listing.{understood}
 use Rattle.sqlite_resolve.specs.declared.compiled.Compiled.{Compiled}
 use Rattle.sqlite_resolve.specs.Compile.{compiled, first, new_rows}
@@ -13,7 +13,42 @@ use Rattle.sqlite.specs.Source.{Source}
 use Rattle.sql_front.proofs.Texts.{Queries, queries_known}
 use Rattle.sql_front.proofs.Write.{Adds, adds_known, unstamped}
 use Rattle.desk_records.specs.Schema.{Place, name_of, table_at}
+use Rattle.desk_records.specs.Holds.{Spot}
 use Rattle.sql_front.proofs.Change.{Updates, Removes, updates_known, removes_known}
+
+-- ---- queries
+
+-- a page of the rows that pass, in the order of a column
+abbrev pub in_order : ℕ → Bool → List Term → List Term → Term → Term → ℕ → Query
+in_order place falling test columns limit offset tree =
+    by (simple tree test columns) ((col 1 place, record { descending = falling; collation = Binary }) ∷ []) limit offset
+
+abbrev pub no_limit : Term
+no_limit = lit (Int (negsuc 0))
+
+abbrev pub no_offset : Term
+no_offset = lit (Int (pos 0))
+
+abbrev pub first_only : Term
+first_only = lit (Int (pos 1))
+
+abbrev pub greatest_number : ℕ → Query
+greatest_number = in_order 0 true [] (col 1 0 ∷ []) first_only no_offset
+
+-- of the rows that pass, what they become
+abbrev pub changing : List Term → List Term → ℕ → Query
+changing test values tree = simple tree test (col 1 0 ∷ col 1 0 ∷ values)
+
+-- ---- commands
+
+abbrev pub selects : Query → List (List ℕ) → Command
+selects query names = Select (record { lets = []; body = query }) names
+
+abbrev pub changes : Spot → List Term → List Term → Command
+changes spot test values = Update spot.at (record { lets = []; body = changing test values spot.tree })
+
+abbrev pub drops_those : Spot → List Term → Command
+drops_those spot test = Delete spot.at (record { lets = []; body = simple spot.tree test (col 1 0 ∷ []) })
 
 -- what the compiler of statements computes with
 unfoldable pub compiling : Unit {0}
@@ -49,11 +84,10 @@ module _ (p : Place) (sql : List ℕ) where
     pub removes : (tree : ℕ) → Removes sql (name_of p) (table_at p tree) (query tree)
 
 module _ {p : Place} {sql : List ℕ} where
-  pub asked_at : {query : ℕ → Query} {names : List Name} → Asks p sql query names
-      → MeansAt p sql (λ at tree. Select (record { lets = []; body = query tree }) names)
+  pub asked_at : {query : ℕ → Query} {names : List Name} → Asks p sql query names → MeansAt p sql (λ at tree. selects (query tree) names)
   asked_at text = record { at = λ s at tree stands. means_of s sql _ (queries_known _ _ _ _ _ (text.queries tree) s at stands) refl refl }
 
-  pub counted_at : Counts p sql → MeansAt p sql (λ at tree. Select (record { lets = []; body = count_query tree }) (codes "count(*)" ∷ []))
+  pub counted_at : Counts p sql → MeansAt p sql (λ at tree. selects (count_query tree) (codes "count(*)" ∷ []))
   counted_at text = record { at = λ s at tree stands. means_of s sql _ (queries_known _ _ _ _ _ (text.queries tree) s at stands) refl refl }
 
   pub put_at : {source : Source} → Puts p sql source → MeansAt p sql (λ at tree. Insert at source)

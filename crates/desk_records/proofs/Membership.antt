@@ -1,7 +1,7 @@
 -- Membership in lists that are mapped, zipped or put in another order, and how many pass a test.
-use Rattle.desk_records.proofs.Common.{◌≡◌, inl, inr, ◌≤◌, ℕ, zero, suc, ◌<◌, ◌&&◌, Option, Some, None, filter_map, List, [], ◌∷◌, map, filter, length}
-use Rattle.desk_records.proofs.Common.{Bool, true, false, cond, refl, sym, ap, subst, ◌∙◌, arith, IsPermutation, get_or, AllZip}
-use Rattle.desk_records.proofs.Common.{Contains-permutation, sum_by-IsPermutation, Has, has_contained, contains_had, has_either, flat_map}
+use Rattle.desk_records.proofs.Common.{◌≡◌, inl, inr, ◌≤◌, ℕ, zero, suc, ◌<◌, ◌&&◌, Option, Some, None, filter_map, List, [], ◌∷◌, map, filter, length, Bool}
+use Rattle.desk_records.proofs.Common.{true, false, cond, refl, sym, ap, subst, ◌∙◌, arith, IsPermutation, get_or, AllZip, Contains-permutation}
+use Rattle.desk_records.proofs.Common.{sum_by-IsPermutation, Has, has_contained, contains_had, has_either, flat_map}
 use Rattle.std.proofs.lemmas.List.Sums.{length-filter}
 
 pub has_permuted : {X : Type 0} (xs ys : List X) (x : X) → IsPermutation xs ys → Has xs x → Has ys x

@@ -1,16 +1,16 @@
 -- What is read of the next offer, where a ledger is held.
-use Rattle.desk_records.proofs.Common.{first_taken, ◌≡◌, ◌<◌, ℕ, zero, suc, ◌+◌, pos, List, [], ◌∷◌, map, filter, length, slice_get, Bool, true, false, ◌&&◌}
-use Rattle.desk_records.proofs.Common.{Option, option_map, refl, ap, ◌∙◌, arith, nat_eq, list_any, zip, is_none, nat_tests, list_any-append, Null}
-use Rattle.desk_records.proofs.Common.{Int, Text, Row, lit, eval_all, Select, Database, rows_from, ShowsFirst, on_content, item_numbered, Bytes, Outcome}
-use Rattle.desk_records.proofs.Common.{ActionRecord, GroupRecord, RolloutRecord, Tally, action_row, outcome_code, HoldsLedger, Ledger, parts_from}
-use Rattle.desk_records.proofs.Common.{parts_of, flag, group_row, groups_from, Actions, Groups, and-true, and_assoc}
+use Rattle.desk_records.proofs.Common.{first_taken, ◌≡◌, ◌<◌, ℕ, zero, suc, ◌+◌, List, [], ◌∷◌, map, filter, length, slice_get, Bool, true, false, ◌&&◌, Option}
+use Rattle.desk_records.proofs.Common.{shown_offer, option_map, refl, ap, ◌∙◌, arith, nat_eq, list_any, zip, is_none, nat_tests, list_any-append, Null, Text}
+use Rattle.desk_records.proofs.Common.{Row, eval_all, Database, rows_from, ShowsFirst, on_content, item_numbered, Bytes, Outcome, ActionRecord, GroupRecord}
+use Rattle.desk_records.proofs.Common.{RolloutRecord, Tally, action_row, outcome_code, HoldsLedger, Ledger, parts_from, parts_of, flag, group_row, groups_from}
+use Rattle.desk_records.proofs.Common.{Actions, Groups, and-true, and_assoc}
 use Rattle.std.proofs.Math.Bool.{or-false}
 use Rattle.sql_calls.proofs.NumberedWithin.{counts_any, held_any, is_beside, passes_within, seen, within_in_order}
 use Rattle.desk_records.specs.NextOffers.{any_starts, is_next, next_offer, next_offer_from, starts_at}
-use Rattle.desk_records.specs.ReadRows.{shown_offer}
 use Rattle.desk_records.proofs.Comparisons.{numbers_equal, numbers_at_least, numbers_at_most, words_equal}
 use Rattle.desk_records.proofs.ActionMeaning.{next_action, next_columns, next_group, next_offer_query}
 use Rattle.desk_records.proofs.TargetRecords.{first_row}
+use Rattle.desk_records.proofs.MeaningWords.{first_only, no_offset, selects}
 
 -- ---- whether any part of one numbered record passes
 
@@ -61,7 +61,7 @@ module _ (db : Database) (l : Ledger) (holds : HoldsLedger db l) (names : List (
 
   beside_it : (n : ℕ) (it : ActionRecord × Tally) (m place : ℕ) (g : GroupRecord) → on_content (is_beside next_group params (row n it)) (group_row m place g)
       ≡ (nat_eq m it.0.rollout && starts_at it.0.position g)
-  beside_it n it m place g = grind (arith, numbers_equal, numbers_at_most, numbers_at_least, is_started, and-true, and_assoc)
+  beside_it n it m place g = grind (arith, numbers_equal, numbers_at_most, numbers_at_least, nat_tests, and-true, and_assoc)
 
   any_beside : (n : ℕ) (it : ActionRecord × Tally) → list_any (is_beside next_group params (row n it)) (db.trees other) ≡ any_starts rollouts it.0
   any_beside n it =
@@ -70,11 +70,10 @@ module _ (db : Database) (l : Ledger) (holds : HoldsLedger db l) (names : List (
       (beside_it n it) rollouts
 
   abbrev passes : Row → Bool
-  passes = passes_within row (λ n x. refl) tree other next_group next_action next_columns (lit (Int (pos 1))) (lit (Int (pos 0))) params (db.trees other)
+  passes = passes_within row (λ n x. refl) tree other next_group next_action next_columns first_only no_offset params (db.trees other)
 
   abbrev show : Row → Row
-  show r = eval_all next_columns (seen row (λ n x. refl) tree other next_group next_action next_columns (lit (Int (pos 1))) (lit (Int (pos 0))) params
-      (db.trees other) r)
+  show r = eval_all next_columns (seen row (λ n x. refl) tree other next_group next_action next_columns first_only no_offset params (db.trees other) r)
 
   passes_is : (n : ℕ) (it : ActionRecord × Tally) → passes (row n it) ≡ is_next rollouts id it.0
   passes_is n it = grind (arith, words_equal, numbers_equal, is_open, counts_any, any_beside, and-true)
@@ -86,12 +85,11 @@ module _ (db : Database) (l : Ledger) (holds : HoldsLedger db l) (names : List (
   first_next n (a ∷ as') (t ∷ ts) same = grind (arith, passes_is n (a, t), first_next (n + 1) as' ts)
 
   -- what a target is offered next
-  pub gets_next_offer : length l.tallies ≡ length l.records.actions → (found : Option Row)
-      → ShowsFirst (Select (record { lets = []; body = next_offer_query tree other }) names) db params found
-      → found ≡ option_map shown_offer (next_offer l.records id)
+  pub gets_next_offer : length l.tallies ≡ length l.records.actions → (found : Option Row) → ShowsFirst (selects (next_offer_query tree other) names) db params
+      found → found ≡ option_map shown_offer (next_offer l.records id)
   gets_next_offer tallied found shown =
-      first_row (Select (record { lets = []; body = next_offer_query tree other }) names) db params _ (λ rows shows. ap (λ (r : List Row). slice_get r 0)
-      (within_in_order row (λ n x. refl) tree other next_group next_action next_columns (lit (Int (pos 1))) (lit (Int (pos 0))) params db.trees
+      first_row (selects (next_offer_query tree other) names) db params _ (λ rows shows. ap (λ (r : List Row). slice_get r 0)
+      (within_in_order row (λ n x. refl) tree other next_group next_action next_columns first_only no_offset params db.trees
       (zip l.records.actions l.tallies) (holds.rows Actions) rows (shows.answer Null))
       ∙ first_taken (map show (filter passes (rows_from row 1 (zip l.records.actions l.tallies)))) ∙ first_next 1 l.records.actions l.tallies tallied) found
       shown

@@ -1,7 +1,6 @@
 -- What columns with a number say of it.
-use Rattle.desk_records.proofs.Common.{◌≡◌, ◌<◌, ◌≤◌, ◌^◌, ◌&&◌, [], ◌∷◌, ℕ, ℤ, pos, Bool, true, Some, None, refl}
-use Rattle.desk_records.proofs.Common.{sym, ap, ap₂, ◌∙◌, arith, nat_lt, nat_le, is_eq, if◌then◌else◌, and_parts, nat_tests}
-use Rattle.desk_records.proofs.Common.{ints, Value, Int, Row, column, value_cmp-Int, value_cmp-Null, has_rowid}
+use Rattle.desk_records.proofs.Common.{◌≡◌, ◌<◌, ◌≤◌, ◌^◌, ◌&&◌, [], ◌∷◌, ℕ, ℤ, pos, Bool, true, Some, None, refl, sym, ap, ap₂, ◌∙◌, arith, nat_lt, nat_le}
+use Rattle.desk_records.proofs.Common.{is_eq, if◌then◌else◌, and_parts, nat_tests, ints, Value, Int, Row, column, value_cmp-Int, value_cmp-Null, has_rowid}
 use Rattle.desk_records.proofs.Common.{is_true, Compare, Eq, Binary, passes, number_limit, is_number, has_at, is_number_of, and-true}
 use Rattle.sqlite_sql.specs.Ops.{binary}
 use Rattle.desk_records.specs.Codes.{coded_in, number_in}

@@ -1,6 +1,6 @@
 -- The numbers of a history, one more, and the last of them.
-use Rattle.desk_records.proofs.Common.{◌≡◌, ◌++◌, ℕ, suc, ◌+◌, List, [], ◌∷◌, length, slice_get, Option, Some, None, refl, sym, subst, ◌∙◌, arith}
-use Rattle.desk_records.proofs.Common.{append_assoc, append-nil, last_or, option_or, Reported, bearing, borne_at, numbers_from, PlacedNumber}
+use Rattle.desk_records.proofs.Common.{◌≡◌, ◌++◌, ℕ, suc, ◌+◌, List, [], ◌∷◌, length, slice_get, Option, Some, None, refl, arith, append_assoc, append-nil}
+use Rattle.desk_records.proofs.Common.{last_or, option_or, Reported, bearing, borne_at, numbers_from, PlacedNumber}
 use Rattle.desk_records.proofs.NumberRecords.{last_joined}
 
 -- one more entry
@@ -31,10 +31,8 @@ last_append (x ∷ xs) ys o = last_append xs ys (Some x)
 pub bears_last : (sequence : ℕ) (history : List Reported) → BearsLast sequence history (last_or None (numbers_from sequence history))
 bears_last sequence [] = refl
 bears_last sequence (r ∷ history) =
-    subst (BearsLast sequence (r ∷ history))
-    (sym (last_append (borne_at sequence r.number) (numbers_from (sequence + 1) history) None
-    ∙ last_joined (last_or None (borne_at sequence r.number)) (numbers_from (sequence + 1) history)))
-    (go r.number refl (last_or None (numbers_from (sequence + 1) history)) (bears_last (sequence + 1) history))
+    let later = go r.number refl (last_or None (numbers_from (sequence + 1) history)) (bears_last (sequence + 1) history) in
+    grind (arith, later, last_append, last_joined)
   where
     go : (n : Option ℕ) → r.number ≡ n → (last : Option PlacedNumber) → BearsLast (sequence + 1) history last
         → BearsLast sequence (r ∷ history) (option_or last (last_or None (borne_at sequence n)))

@@ -1,13 +1,12 @@
 -- What is read of the numbers of an action, where a ledger is held.
-use Rattle.desk_records.proofs.Common.{◌≡◌, ◌≤◌, ℕ, ◌+◌, pos, negsuc, true, false, List, [], ◌∷◌, ◌++◌, map, take, length, reverse, slice_get, Option}
-use Rattle.desk_records.proofs.Common.{Some, None, option_map, refl, ap, ◌∙◌, arith, last_or, option_or, reverse_onto, Null, Int, Row, Select, Database}
-use Rattle.desk_records.proofs.Common.{lit, first_taken, rows_from, ShowsFirst, numbers_numbered, told_number, HoldsLedger, Ledger, Numbers, PlacedNumber}
-use Rattle.sqlite.specs.Effect.{Reads as Shows}
+use Rattle.desk_records.proofs.Common.{◌≡◌, ◌≤◌, ℕ, ◌+◌, pos, true, false, List, [], ◌∷◌, ◌++◌, map, take, length, reverse, slice_get, Option, Some, None}
+use Rattle.desk_records.proofs.Common.{Shows, shown_last_number, option_map, refl, ap, ◌∙◌, arith, last_or, option_or, reverse_onto, Null, Int, Row, Database}
+use Rattle.desk_records.proofs.Common.{first_taken, rows_from, ShowsFirst, numbers_numbered, told_number, HoldsLedger, Ledger, Numbers, PlacedNumber}
 use Rattle.desk_records.specs.FeedbackNumbers.{last_number}
-use Rattle.desk_records.specs.ReadRows.{shown_last_number}
-use Rattle.desk_records.proofs.ActionMeaning.{last_number_columns, last_number_query, list_numbers_query, number_columns}
+use Rattle.desk_records.proofs.ActionMeaning.{last_number_columns, number_columns, of_action}
 use Rattle.desk_records.proofs.PartReads.{reads_listed, unplaced}
 use Rattle.desk_records.proofs.TargetRecords.{first_row}
+use Rattle.desk_records.proofs.MeaningWords.{first_only, in_order, no_limit, no_offset, selects}
 
 -- ---- the last of a list
 
@@ -45,19 +44,20 @@ module _ (db : Database) (l : Ledger) (holds : HoldsLedger db l) (names : List (
   tree = (holds.spot Numbers).tree
 
   -- in the order of their places
-  pub lists_numbers : (number : ℕ) → 1 ≤ number → (rows : List Row) → Shows (Select (record { lets = []; body = list_numbers_query tree }) names) db
-      (Int (pos number) ∷ []) rows → rows ≡ map told_number (numbers_numbered l.numbers number)
+  pub lists_numbers : (number : ℕ) → 1 ≤ number → (rows : List Row) → Shows (selects (in_order 2 false of_action number_columns no_limit no_offset tree) names)
+      db (Int (pos number) ∷ []) rows → rows ≡ map told_number (numbers_numbered l.numbers number)
   lists_numbers number least rows shows =
-      reads_listed told_number tree number_columns (lit (Int (negsuc 0))) (lit (Int (pos 0))) number false least (λ id x. refl) (λ place. told_number)
+      reads_listed told_number tree number_columns no_limit no_offset number false least (λ id x. refl) (λ place. told_number)
       (λ place it. refl) db.trees l.numbers (holds.rows Numbers) rows (shows.answer Null)
       ∙ unplaced told_number 1 (numbers_numbered l.numbers number)
 
   -- the last one
-  pub lasts_number : (number : ℕ) → 1 ≤ number → (row : Option Row) → ShowsFirst (Select (record { lets = []; body = last_number_query tree }) names) db
+  pub lasts_number : (number : ℕ) → 1 ≤ number → (row : Option Row)
+      → ShowsFirst (selects (in_order 2 true of_action last_number_columns first_only no_offset tree) names) db
       (Int (pos number) ∷ []) row → row ≡ option_map shown_last_number (last_number (numbers_numbered l.numbers number))
   lasts_number number least row shown =
-      first_row (Select (record { lets = []; body = last_number_query tree }) names) db (Int (pos number) ∷ []) _
+      first_row (selects (in_order 2 true of_action last_number_columns first_only no_offset tree) names) db (Int (pos number) ∷ []) _
       (λ rows shows. ap (λ (r : List Row). slice_get r 0)
-      (reads_listed told_number tree last_number_columns (lit (Int (pos 1))) (lit (Int (pos 0))) number true least (λ id x. refl) told_at (λ place it. refl)
+      (reads_listed told_number tree last_number_columns first_only no_offset number true least (λ id x. refl) told_at (λ place it. refl)
       db.trees l.numbers (holds.rows Numbers) rows (shows.answer Null))
       ∙ last_told (numbers_numbered l.numbers number)) row shown

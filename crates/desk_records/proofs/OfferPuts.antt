@@ -1,15 +1,15 @@
 -- Offers that go in one after the other, as rows: each where its target has none, or else in place of one of a greater action.
 use Rattle.desk_records.proofs.Common.{◌≡◌, ◌⊎◌, inl, inr, ℕ, pos, Bool, true, false, cond, ◌&&◌, nat_lt, List, [], ◌∷◌, ◌++◌, map, filter, drop, Option, Some}
-use Rattle.desk_records.proofs.Common.{None, refl, sym, ap, ap₂, ◌∙◌, subst, arith, IsPermutation, is_eq, cases_Bool, Value, Int, Null, Text, Row, value_cmp}
-use Rattle.desk_records.proofs.Common.{column, Trees, rowid, put_row, without_rowid, Table, Schema, Has, cast, cast_all, cast_row, next_rowid, edit_of}
-use Rattle.desk_records.proofs.Common.{with_rowid, Applies, col, Integer, is_true, Compare, Eq, Lt, Binary, IsHeldBy, IsBlind, on_content, held_added}
-use Rattle.desk_records.proofs.Common.{held_seen, held_changed, next_is, found_id, none_passes, is_among, only_one, one_written, written, cast_int, cast_null}
-use Rattle.desk_records.proofs.Common.{passes, shown_of, simple_rows, PutsEach, same_bytes, Bytes, TargetOffer, offer_to, same_true, Offer, OffersById, lesser}
-use Rattle.desk_records.proofs.Common.{put_offer, put_offers, flag, offer_table, HoldsOffers, offer_row, and-true, short}
+use Rattle.desk_records.proofs.Common.{Chosen, None, refl, sym, ap, ◌∙◌, subst, arith, IsPermutation, is_eq, cases_Bool, Value, Int, Null, Text, Row, value_cmp}
+use Rattle.desk_records.proofs.Common.{column, Trees, rowid, put_row, without_rowid, Table, Schema, Has, cast_all, cast_row, next_rowid, edit_of, with_rowid}
+use Rattle.desk_records.proofs.Common.{Applies, col, is_true, Compare, Eq, Lt, Binary, IsBlind, on_content, held_added, held_seen, held_changed}
+use Rattle.desk_records.proofs.Common.{next_is, found_id, none_passes, is_among, only_one, one_written, written, cast_int, cast_null, passes, shown_of}
+use Rattle.desk_records.proofs.Common.{simple_rows, PutsEach, same_bytes, Bytes, TargetOffer, offer_to, same_true, Offer, OffersById, lesser, put_offer}
+use Rattle.desk_records.proofs.Common.{put_offers, flag, offer_table, HoldsOffers, offer_row, and-true, short}
 use Rattle.sqlite_schema.specs.declared.program.Program.{Program}
 use Rattle.sqlite_schema.specs.declared.schema.Keys.TheVariants.{Enforced}
 use Rattle.sqlite_rules.specs.Keys.{conflicts, AreConflicts}
-use Rattle.sqlite.specs.Rowids.TheVariants.{Chosen, Given}
+use Rattle.sqlite.specs.Rowids.TheVariants.{Given}
 use Rattle.sqlite.specs.Rows.{shown}
 use Rattle.sqlite_sql.specs.Ops.{binary}
 use Rattle.sql_calls.proofs.KeyConflicts.{IsKeyOnly}
@@ -51,26 +51,14 @@ module _ (id : Bytes) where
   finds : (rows : List Row) (offers : OffersById) (h : HoldsOffers rows offers) → Finds rows offers
   finds rows offers h = go (offers id) refl
     where
-      seen : IsPermutation (map (on_content (drop 1)) (filter (on_content p) (map offer_row h.listed))) (map (drop 1) (filter p rows))
-      seen = held_seen p blind (drop 1) (λ i x. refl) rows (map offer_row h.listed) h.held
-
-      its : filter (on_content p) (map offer_row h.listed) ≡ map offer_row (offer_to id (offers id))
-      its = its_offers (on_content p) id (names_offer id []) h.listed ∙ ap (map offer_row) (h.its id)
+      alike : (o : Option Offer) → offers id ≡ o → IsPermutation (map (on_content (drop 1)) (map offer_row (offer_to id o))) (map (drop 1) (filter p rows))
+      alike o e = subst (λ l. IsPermutation (map (on_content (drop 1)) l) (map (drop 1) (filter p rows)))
+          (its_offers (on_content p) id (names_offer id []) h.listed ∙ ap (map offer_row) (h.its id) ∙ ap (λ o. map offer_row (offer_to id o)) e)
+          (held_seen p blind (drop 1) (λ i x. refl) rows (map offer_row h.listed) h.held)
 
       go : (o : Option Offer) → offers id ≡ o → Finds rows offers
-      go None e =
-          let none : filter (on_content p) (map offer_row h.listed) ≡ [] = its ∙ ap (λ o. map offer_row (offer_to id o)) e in
-          inl (
-            map_none (drop 1) _ (short [] _ (subst (λ l. IsPermutation (map (on_content (drop 1)) l) (map (drop 1) (filter p rows))) none seen)
-                (omega arith)),
-            e,
-          )
-      go (Some y) e =
-          let c : Row = offer_row (record { target = id; offer = y }) in
-          let one : filter (on_content p) (map offer_row h.listed) ≡ c ∷ [] = its ∙ ap (λ o. map offer_row (offer_to id o)) e in
-          let it : (r : Row) × (filter p rows ≡ r ∷ []) × (drop 1 r ≡ c) =
-          map_one (drop 1) _ c (short (c ∷ []) _ (subst (λ l. IsPermutation (map (on_content (drop 1)) l) (map (drop 1) (filter p rows))) one seen)
-          (omega arith)) in
+      go None e = inl (map_none (drop 1) _ (short [] _ (alike None e) (omega arith)), e)
+      go (Some y) e = let it = map_one (drop 1) _ (offer_row (record { target = id; offer = y })) (short _ _ (alike (Some y) e) (omega arith)) in
           inr (it.0, y, it.1, e, it.2)
 
 -- ---- the offer of an id
@@ -132,18 +120,13 @@ module _ (schema : Schema) (tree : ℕ) (key : IsKeyOnly schema (offer_table tre
   added next met applies =
       let none : filter its rows ≡ [] = none_passes its rows (λ r there e. met.complete r there (meets r ∙ e)) in
       let id = next_is rows wanted h.held in
-      let whole : cast Integer (Int (next_rowid rows)) ≡ Int (next_rowid rows) = ap (λ z. cast Integer (Int z)) id.1 ∙ cast_int id.0 ∙ ap Int (sym id.1) in
-      let put : next tree ≡ put_row row rows = applies.rows ∙ ap₂ (λ x y. put_row (x ∷ y) rows) whole (settled tree new) in
-      let unoffered : offers new.target ≡ None = nothing none (finds new.target rows offers h) in
+      let put : next tree ≡ put_row row rows = grind (arith, applies.rows, id.1, cast_int, settled tree new) in
+      let unoffered : offers new.target ≡ None = grind (arith, none, finds new.target rows offers h) in
       record {
         listed = new ∷ h.listed;
-        held = subst (λ l. IsHeldBy l (offer_row new ∷ wanted)) (sym put) (held_added rows wanted h.held (offer_row new));
-        its = λ t. its_more new.target t new.offer offers h.listed unoffered (h.its t) ∙ ap (offer_to t) (put_is new offers None unoffered refl t);
+        held = grind (arith, put, held_added rows wanted h.held (offer_row new));
+        its = λ t. grind (arith, its_more, unoffered, h.its t, put_is new offers None unoffered refl t);
       }
-    where
-      nothing : filter its rows ≡ [] → Finds new.target rows offers → offers new.target ≡ None
-      nothing none (inl it) = it.1
-      nothing none (inr it) = absurd (let both : it.0 ∷ [] ≡ [] = sym it.2 ∙ none in cc)
 
   abbrev values_for : Row → Row
   values_for x = column x 0 ∷ Int (pos new.offer.action) ∷ Int (pos (flag new.offer.canceling)) ∷ []
@@ -164,38 +147,32 @@ module _ (schema : Schema) (tree : ℕ) (key : IsKeyOnly schema (offer_table tre
       let alone : filter named rows ≡ found ∷ [] = id.4 named (λ i x. names_it id.0 i) in
       let tested : filter (passes takes_lesser given) rows ≡ cond (less found) (found ∷ []) [] = filter_both less named rows ∙ ap (filter less) alone in
       let its_content : id.2 ≡ offer_row (record { target = new.target; offer = y }) = sym (ap (drop 1) id.3) ∙ content in
-      let lower : less found ≡ nat_lt new.offer.action y.action = ap less id.3 ∙ ap (λ x. less (Int (pos id.0) ∷ x)) its_content
-      ∙ numbers_below new.offer.action y.action in
+      let lower : less found ≡ nat_lt new.offer.action y.action = grind (arith, id.3, its_content, numbers_below) in
       let shows = shown_of (col 1 0 ∷ col 1 0 ∷ taken_columns) given in
       let answer = simple_rows tree takes_lesser (col 1 0 ∷ col 1 0 ∷ taken_columns) given db is.0 (is.1.answer Null) in
+      let rows_are : is.0 ≡ map shows (cond (nat_lt new.offer.action y.action) (found ∷ []) []) =
+      short _ is.0 (subst (λ l. IsPermutation (map shows l) is.0) (tested ∙ ap (λ b. cond b (found ∷ []) []) lower) answer) (grind arith) in
       elim (cases_Bool (nat_lt new.offer.action y.action)) [
         | inl lt ↦
-            let rows_are : is.0 ≡ shows found ∷ [] =
-            short (shows found ∷ []) is.0 (subst (λ l. IsPermutation (map shows l) is.0) (tested ∙ ap (λ b. cond b (found ∷ []) []) (lower ∙ lt)) answer)
-            (omega arith) in
+            let row_is : is.0 ≡ shows found ∷ [] = rows_are ∙ ap (λ b. map shows (cond b (found ∷ []) [])) lt in
             let made = held_changed its (blind new.target) f rows wanted h.held found one in
             let shown_found : shows found ≡ Int (pos made.0) ∷ Int (pos made.0) ∷ values_for made.1 = ap shows made.2 in
             let all : next tree ≡ put_row (Int (pos made.0) ∷ f made.1) (without_rowid (pos made.0) rows) =
-            is.2.rows ∙ ap (written table rows f) (rows_are ∙ ap (λ l. l ∷ []) shown_found) ∙ one_written table rows f made.0 (values_for made.1) in
+            is.2.rows ∙ ap (written table rows f) (row_is ∙ ap (λ l. l ∷ []) shown_found) ∙ one_written table rows f made.0 (values_for made.1) in
             let set = rows_set new.target new.offer (on_content its) f (names_offer new.target []) (λ o. settled tree (record o { offer = new.offer }))
             h.listed in
             let less_is : lesser (Some y) (Some new.offer) ≡ Some new.offer = ap (λ b. Some (cond b new.offer y)) lt in
             record {
               listed = map (other_offer new.target new.offer) h.listed;
-              held = subst (λ l. IsHeldBy l (map offer_row (map (other_offer new.target new.offer) h.listed))) (sym all)
-                  (subst (IsHeldBy (put_row (Int (pos made.0) ∷ f made.1) (without_rowid (pos made.0) rows))) set made.3);
-              its = λ t. its_set new.target t new.offer h.listed ∙ ap (map (other_offer new.target new.offer)) (h.its t)
-                  ∙ offers_set new.target t new.offer y offers some ∙ ap (offer_to t) (put_is new offers (Some y) some less_is t);
+              held = grind (arith, all, set, made.3);
+              its = λ t. grind (arith, its_set, h.its t, offers_set new.target t new.offer y offers, put_is new offers (Some y) some less_is t);
             }
         | inr ge ↦
-            let rows_are : is.0 ≡ [] =
-            short [] is.0 (subst (λ l. IsPermutation (map shows l) is.0) (tested ∙ ap (λ b. cond b (found ∷ []) []) (lower ∙ ge)) answer) (omega arith) in
-            let all : next tree ≡ rows = is.2.rows ∙ ap (written table rows f) rows_are in
+            let all : next tree ≡ rows = is.2.rows ∙ ap (written table rows f) (rows_are ∙ ap (λ b. map shows (cond b (found ∷ []) [])) ge) in
             record {
               listed = h.listed;
-              held = subst (λ l. IsHeldBy l wanted) (sym all) h.held;
-              its = λ t. h.its t
-                  ∙ ap (offer_to t) (sym (kept_is new offers y some ge t));
+              held = grind (arith, all, h.held);
+              its = λ t. grind (arith, h.its t, kept_is new offers y some ge t);
             }
       ]
 
@@ -230,8 +207,4 @@ pub puts_all : (schema : Schema) (tree : ℕ) → IsKeyOnly schema (offer_table 
     → HoldsOffers (next tree) (put_offers offers os)
 puts_all schema tree key a b c [] offers db next h each = subst (λ (d : Trees). HoldsOffers (d tree) offers) (sym each) h
 puts_all schema tree key a b c (o ∷ os) offers db next h each =
-    grind (
-      arith,
-      puts_all schema tree key a b c os (put_offer offers o) each.0 next (puts_one schema tree key a b c o offers db h each.0 each.1) each.2,
-      puts_one,
-    )
+    puts_all schema tree key a b c os (put_offer offers o) each.0 next (puts_one schema tree key a b c o offers db h each.0 each.1) each.2

@@ -1,11 +1,12 @@
 -- The statements on offers that write, in ledgers.
 use Rattle.desk_records.proofs.Common.{arith, ◌≡◌, ℕ, pos, List, [], ◌∷◌, Bool, not, cond, map, filter, Option, Some, None, refl, sym, ap, subst, ◌∙◌, Null}
-use Rattle.desk_records.proofs.Common.{Int, Text, Row, Update, Delete, Database, State, Writes, cast_all, IsHeldBy, on_content, changed, changes_key, drops}
-use Rattle.desk_records.proofs.Common.{keys_apart, cast_int, passes, shown_of, deletes, updates, same_bytes, Bytes, TargetOffer, offer_to, same_sym, same_true}
-use Rattle.desk_records.proofs.Common.{Offer, HoldsLedger, Ledger, SetsOffer, with_offer, HoldsOffers, is_to, offer_row, flag, Offers, offer_table}
-use Rattle.desk_records.proofs.ActionMeaning.{drop_offer_query, of_controller, offer_values, set_offer_query}
+use Rattle.desk_records.proofs.Common.{Int, Text, Row, Database, State, Writes, cast_all, IsHeldBy, on_content, changed, changes_key, drops, keys_apart}
+use Rattle.desk_records.proofs.Common.{cast_int, passes, shown_of, deletes, updates, same_bytes, Bytes, TargetOffer, offer_to, same_sym, same_true, Offer}
+use Rattle.desk_records.proofs.Common.{HoldsLedger, Ledger, SetsOffer, with_offer, HoldsOffers, is_to, offer_row, flag, Offers, offer_table}
+use Rattle.desk_records.proofs.ActionMeaning.{of_controller, offer_values}
 use Rattle.desk_records.proofs.ActionRecords.{names_offer, offer_keyed}
 use Rattle.desk_records.proofs.HoldsAfter.{Leaves, contents_differ, ledger_after}
+use Rattle.desk_records.proofs.MeaningWords.{changes, drops_those}
 
 -- ---- the offers of one id, in lists
 
@@ -61,16 +62,14 @@ abbrev pub offered_params : Bytes → Offer → Row
 offered_params id o = Text id ∷ Int (pos o.action) ∷ Int (pos (flag o.canceling)) ∷ []
 
 pub sets_offer : (id : Bytes) (o : Offer) (old new : State) (text : List ℕ) (count : ℕ) (l next : Ledger) (holds : HoldsLedger old.now l)
-    → SetsOffer id o l next
-    → (w : Writes old new None (Update (holds.spot Offers).at (record { lets = []; body = set_offer_query (holds.spot Offers).tree })) text
-    (offered_params id o) count) → HoldsLedger new.now next
+    → SetsOffer id o l next → (w : Writes old new None (changes (holds.spot Offers) of_controller offer_values) text (offered_params id o) count)
+    → HoldsLedger new.now next
 sets_offer id o old new text count l next holds change w =
     let spot = holds.spot Offers in
     let had = holds.rows Offers in
     let table = offer_table spot.tree in
     let params = offered_params id o in
-    let made = updates old.now.schema spot.at table (record { lets = []; body = set_offer_query spot.tree }) (holds.stands Offers).got
-    (holds.stands Offers).keyless old new refl text params count w in
+    let made = updates old.now.schema spot.at table _ (holds.stands Offers).got (holds.stands Offers).keyless old new refl text params count w in
     let set = changes_key old.now.schema table (1 ∷ []) of_controller params (λ i x. refl) (0 ∷ []) (offer_keyed params) offer_values (λ i x. refl) old.now
     new.now (map offer_row had.listed)
     (keys_apart old.now.schema old.now.trees spot.at table 0 (1 ∷ []) holds.sound (holds.stands Offers).got refl refl) had.held made in
@@ -86,14 +85,12 @@ sets_offer id o old new text count l next holds change w =
     }))
 
 pub drops_offer : (id : Bytes) (old new : State) (text : List ℕ) (count : ℕ) (l : Ledger) (holds : HoldsLedger old.now l)
-    → (w : Writes old new None (Delete (holds.spot Offers).at (record { lets = []; body = drop_offer_query (holds.spot Offers).tree })) text (Text id ∷ [])
-    count) → HoldsLedger new.now (with_offer l id None)
+    → (w : Writes old new None (drops_those (holds.spot Offers) of_controller) text (Text id ∷ []) count) → HoldsLedger new.now (with_offer l id None)
 drops_offer id old new text count l holds w =
     let spot = holds.spot Offers in
     let had = holds.rows Offers in
     let table = offer_table spot.tree in
-    let made = deletes old.now.schema spot.at table (record { lets = []; body = drop_offer_query spot.tree }) (holds.stands Offers).got
-    (holds.stands Offers).keyless old new refl text (Text id ∷ []) count w in
+    let made = deletes old.now.schema spot.at table _ (holds.stands Offers).got (holds.stands Offers).keyless old new refl text (Text id ∷ []) count w in
     let left = drops old.now.schema table (1 ∷ []) of_controller (Text id ∷ []) (λ i x. refl) old.now new.now (map offer_row had.listed) had.held made in
     offers_after l (with_offer l id None).offers old.now new.now holds (record { schema = made.schema_is; sound = w.sound; others = made.applies.tables })
     (record {

@@ -1,10 +1,10 @@
 -- What is read of the parts of one numbered record, in the order of their places.
 use Rattle.desk_records.proofs.Common.{◌≡◌, ◌<◌, ◌≤◌, ℕ, zero, suc, ◌+◌, ◌-◌, pos, List, [], ◌∷◌, map, filter, drop, slice_get, Bool, true, false, cond}
-use Rattle.desk_records.proofs.Common.{reverse, refl, sym, ap, subst, ◌∙◌, arith, Less, IsPermutation, nat_eq, nat_lt, AllByRecursion, ints, nat_tests}
-use Rattle.desk_records.proofs.Common.{reverse_onto, map-append, IsPermutation-reverse, IsPermutation-sym, IsPermutation-trans, Int, Row, value_cmp}
-use Rattle.desk_records.proofs.Common.{value_cmp-Int, IsAscending, Binary, Term, col, Trees, Query, Output, output_cmp, page, IsAnswer, overlay}
-use Rattle.desk_records.proofs.Common.{output_cmp_total, sorted_unique, map-map, rows_from, IsHeldBy, IsBlind, on_content, held_seen, simple, by, passes}
-use Rattle.desk_records.proofs.Common.{shown_of, shown_in, ordered_rows, item_numbered, listed_parts, part_row, parts_from, parts_numbered, parts_of, and-true}
+use Rattle.desk_records.proofs.Common.{reverse, refl, sym, ap, ◌∙◌, arith, Less, IsPermutation, nat_eq, nat_lt, AllByRecursion, ints, nat_tests, reverse_onto}
+use Rattle.desk_records.proofs.Common.{map-append, IsPermutation-reverse, IsPermutation-sym, IsPermutation-trans, Int, Row, value_cmp, value_cmp-Int}
+use Rattle.desk_records.proofs.Common.{IsAscending, Binary, Term, col, Trees, Query, Output, output_cmp, page, IsAnswer, overlay, output_cmp_total}
+use Rattle.desk_records.proofs.Common.{sorted_unique, map-map, rows_from, IsHeldBy, IsBlind, on_content, held_seen, simple, by, passes, shown_of, shown_in}
+use Rattle.desk_records.proofs.Common.{ordered_rows, item_numbered, listed_parts, part_row, parts_from, parts_numbered, parts_of, and-true}
 use Rattle.std.proofs.Math.Seq.{drop-nil}
 use Rattle.sqlite_exec.proofs.ScanLemmas.{ascending-reverse}
 use Rattle.desk_records.proofs.Comparisons.{numbers_equal}
@@ -86,10 +86,8 @@ module _ {X Y : Type 0} (rest : Y → Row) (parts : X → List Y) (tree : ℕ) (
       let kept = filter passing (rows_from (part_row rest (suc k)) 1 (parts_of parts (slice_get xs k))) in
       let it = ordered_rows tree test shows q.order limit offset params db rows answer in
       let seen = held_seen (passes test params) blind (shown_in q params) fair (db tree) (parts_from (part_row rest) parts 1 xs) held in
-      let its : filter passing (parts_from (part_row rest) parts 1 xs) ≡ kept = its_parts (part_row rest) parts passing (suc k) others (parts_of parts) refl
-      (λ x. refl) 1 k (omega arith) xs in
-      let all : IsPermutation (map (shown falling) kept) it.ordered = subst (λ l. IsPermutation (map (shown falling) l) it.ordered) its
-      (IsPermutation-trans _ _ _ seen it.same) in
+      let its = its_parts (part_row rest) parts passing (suc k) others (parts_of parts) refl (λ x. refl) 1 k (omega arith) xs in
+      let all : IsPermutation (map (shown falling) kept) it.ordered = grind (arith, its, IsPermutation-trans _ _ _ seen it.same) in
       let rise = turned_ascends falling _ (in_order (suc k) falling 1 (parts_of parts (slice_get xs k))) in
       it.is ∙ ap (λ l. page q params (map (λ (o : Output). o.1) l))
       (sorted_unique (output_cmp q) (output_cmp_total q) _ it.ordered rise (turned_same falling _ it.ordered all) it.sorted)
@@ -124,9 +122,9 @@ pub later_shown : {Y : Type 0} (rest told : Y → Row) (number : ℕ) (test show
     ≡ map told (drop left ys)
 later_shown rest told number test shows params offset past is before left so_many [] = sym (ap (map told) (drop-nil left))
 later_shown rest told number test shows params offset past is before zero none (y ∷ ys) =
-    grind (arith, later_shown rest told number test shows params offset past is (before + 1) zero (omega (arith, none)) ys, nat_tests)
+    grind (arith, later_shown rest told number test shows params offset past is (before + 1) zero (omega (arith, none)) ys)
 later_shown rest told number test shows params offset past is before (suc left) so_many (y ∷ ys) =
-    grind (arith, later_shown rest told number test shows params offset past is (before + 1) left (omega (arith, so_many)) ys, nat_tests)
+    grind (arith, later_shown rest told number test shows params offset past is (before + 1) left (omega (arith, so_many)) ys, so_many)
 
 -- ---- of a record that is kept as the list of its parts, by its number
 
@@ -150,7 +148,4 @@ module _ {Y : Type 0} (rest : Y → Row) (tree : ℕ) (shows : List Term) (limit
       reads_parts rest (λ (its : List Y). its) tree of_number shows limit offset given falling number least (λ id x. refl) fair
       (λ n place y apart. and-true _ ∙ numbers_equal n number ∙ apart) db all held rows answer
       ∙ ap (λ l. page (asked falling) given (turned falling l))
-      (all_placed rest told number of_number shows given (λ place y. and-true _ ∙ numbers_equal number number ∙ own) is 1 (parts_numbered all number))
-    where
-      own : nat_eq number number ≡ true
-      own = grind (arith, nat_tests)
+      (all_placed rest told number of_number shows given (λ place y. grind (arith, and-true, numbers_equal, nat_tests)) is 1 (parts_numbered all number))

@@ -1,21 +1,21 @@
 -- The statements on members, groups and histories that write, in ledgers.
-use Rattle.desk_records.proofs.Common.{◌≡◌, ◌∷◌, ◌++◌, ◌&&◌, ℕ, zero, suc, ◌+◌, pos, List, [], Bool, true, length, set, slice_get, string_bytes, Option, Some}
-use Rattle.desk_records.proofs.Common.{None, refl, sym, ap, subst, ◌∙◌, arith, nat_eq, length-map, map-append, Int, Text, plain, Row, agree, Insert, Update}
-use Rattle.desk_records.proofs.Common.{Values, State, Writes, Integer, cast, cast_all, IsHeldBy, on_content, changes_key, keys_apart, cast_int, cast_null}
-use Rattle.desk_records.proofs.Common.{passes, shown_of, updates, GroupRule, Bytes, Reported, entries_in, Bounds, GroupRecord, RolloutRecord, entries_of}
-use Rattle.desk_records.proofs.Common.{entry_row, PlacedNumber, number_row, HoldsLedger, Ledger, AddsMember, AddsGroup, AddsRule, AddsNumber, SetsGroup}
-use Rattle.desk_records.proofs.Common.{AddsEntry, and_member, and_group, and_entry, group_counted, cut_group, with_actions, with_groups, with_numbers}
-use Rattle.desk_records.proofs.Common.{with_rollouts, with_rules, flag, group_row, groups_from, member_row, rollout_row, rule_row, told_group, Members, Groups}
-use Rattle.desk_records.proofs.Common.{Feedbacks, Rules, Numbers, group_table, and-true}
+use Rattle.desk_records.proofs.Common.{◌≡◌, ◌∷◌, ◌++◌, ℕ, zero, suc, ◌+◌, pos, List, [], Bool, true, length, set, slice_get, string_bytes, Option, Some, None}
+use Rattle.desk_records.proofs.Common.{or_null, refl, sym, ap, subst, arith, length-map, map-append, Int, Text, plain, Row, agree, Insert, Values, State}
+use Rattle.desk_records.proofs.Common.{Writes, Integer, cast, cast_all, IsHeldBy, on_content, changes_key, keys_apart, cast_int, cast_null, passes, shown_of}
+use Rattle.desk_records.proofs.Common.{updates, GroupRule, Bytes, entries_in, Bounds, GroupRecord, RolloutRecord, entries_of, entry_row, PlacedNumber}
+use Rattle.desk_records.proofs.Common.{number_row, HoldsLedger, Ledger, AddsMember, AddsGroup, AddsRule, AddsNumber, SetsGroup, AddsEntry, and_member}
+use Rattle.desk_records.proofs.Common.{and_group, and_entry, group_counted, cut_group, with_actions, with_groups, with_numbers, with_rollouts, with_rules, flag}
+use Rattle.desk_records.proofs.Common.{group_row, groups_from, member_row, rule_row, told_group, Members, Groups, Feedbacks, Rules, Numbers, group_table}
+use Rattle.desk_records.proofs.Common.{and-true}
 use Rattle.sqlite_value.specs.Keys.{first_key}
-use Rattle.sqlite.specs.Values.{or_null}
 use Rattle.desk_records.specs.declared.new_entry.NewEntry.{NewEntry}
 use Rattle.desk_records.proofs.ActionMeaning.{feedback_terms, number_terms}
 use Rattle.desk_records.proofs.Comparisons.{numbers_equal}
 use Rattle.desk_records.proofs.HoldsAfter.{ChangesOnly, ledger_after, puts}
 use Rattle.desk_records.proofs.LedgerLists.{acts_stay, actions_of_others, actions_stay, actors_stay, part_is_more, part_set, parts_stay, rows_stay}
 use Rattle.desk_records.proofs.LedgerWrites.{actions_differ, numbers_differ, rollouts_differ, rules_differ}
-use Rattle.desk_records.proofs.RolloutMeaning.{group_terms, group_values, member_terms, of_group, rule_terms, set_group_query}
+use Rattle.desk_records.proofs.RolloutMeaning.{group_terms, group_values, member_terms, of_group, rule_terms}
+use Rattle.desk_records.proofs.MeaningWords.{changes}
 
 -- ---- a new member
 
@@ -27,13 +27,10 @@ adds_member (suc k) place id old new text count l next holds change w =
     let xs = l.records.rollouts in
     let x = change.rollout in
     let y = and_member x id in
-    let row = member_row (suc k) place id in
     subst (HoldsLedger new.now) (sym change.next_is)
     (puts Members l (with_rollouts l (set xs k y))
-    (rollouts_differ l (set xs k y) Members (λ apart. rows_stay x y rollout_row (λ n. refl) 1 k xs change.is_there) (λ apart. absurd (apart refl))
-    (λ apart. parts_stay x y group_row (λ (z : RolloutRecord). z.groups) refl 1 k xs change.is_there)
-    (actions_of_others xs k y 1 l.records.actions l.tallies change.unacted)) holds.sorted member_terms 4 holds w (λ tree. refl) row row (λ tree. refl)
-    (λ tree. rw (cast_int (suc k), cast_int place) refl) refl refl
+    (grind (arith, rollouts_differ, rows_stay, parts_stay, actions_of_others, change.is_there, change.unacted)) holds.sorted member_terms 4 holds w
+    (λ tree. refl) _ _ (λ tree. refl) (λ tree. rw (cast_int (suc k), cast_int place) refl) refl refl
     (part_is_more member_row (λ (z : RolloutRecord). z.members) x y id refl k place xs change.is_there change.place_is))
 
 -- ---- groups
@@ -54,11 +51,9 @@ adds_group (suc k) group bounds old new text count l next holds change w =
     let xs = l.records.rollouts in
     let x = change.rollout in
     let g = cut_group group bounds in
-    let row = group_row (suc k) group g in
     subst (HoldsLedger new.now) (sym change.next_is)
     (puts Groups l (with_rollouts l (set xs k (and_group x g))) (groups_differ k (x.groups ++ g ∷ []) l x change.is_there) holds.sorted group_terms 9 holds w
-    (λ tree. refl) row row (λ tree. refl)
-    (λ tree. rw (cast_int (suc k), cast_int group, cast_int bounds.first, cast_int bounds.last, cast_int 0) refl) refl refl
+    (λ tree. refl) _ _ (λ tree. refl) (λ tree. rw (cast_int (suc k), cast_int group, cast_int bounds.first, cast_int bounds.last, cast_int 0) refl) refl refl
     (part_is_more group_row (λ (z : RolloutRecord). z.groups) x (and_group x g) g refl k group xs change.is_there change.group_is))
 
 abbrev pub counted_params : ℕ → ℕ → Bool → ℕ → ℕ → ℕ → Row
@@ -71,7 +66,7 @@ group_keyed given r h = h
 
 pub sets_group : (number group : ℕ) (started : Bool) (ok bad gone : ℕ) (old new : State) (text : List ℕ) (count : ℕ) (l next : Ledger)
     (holds : HoldsLedger old.now l) → SetsGroup number group started ok bad gone l next
-    → (w : Writes old new None (Update (holds.spot Groups).at (record { lets = []; body = set_group_query (holds.spot Groups).tree })) text
+    → (w : Writes old new None (changes (holds.spot Groups) of_group group_values) text
     (counted_params number group started ok bad gone) count) → HoldsLedger new.now next
 sets_group zero group started ok bad gone old new text count l next holds change w = absurd (let none = change.is_there in cc)
 sets_group (suc k) zero started ok bad gone old new text count l next holds change w = absurd (let none = change.is_its in cc)
@@ -85,23 +80,17 @@ sets_group (suc k) (suc j) started ok bad gone old new text count l next holds c
     let after = group_counted started ok bad gone g in
     let params = counted_params (suc k) (suc j) started ok bad gone in
     let values = λ (row : Row). cast_all table.columns (on_content (shown_of group_values params) row) in
-    let made = updates old.now.schema spot.at table (record { lets = []; body = set_group_query spot.tree }) stands.got stands.keyless old new refl text params
-    count w in
+    let made = updates old.now.schema spot.at table _ stands.got stands.keyless old new refl text params count w in
     let changed_rows = changes_key old.now.schema table (1 ∷ 2 ∷ []) of_group params (λ i r. refl) (0 ∷ 1 ∷ []) (group_keyed params) group_values (λ i r. refl)
     old.now new.now (groups_from 1 xs)
     (keys_apart old.now.schema old.now.trees spot.at table 0 (1 ∷ 2 ∷ []) holds.sound stands.got refl refl) (holds.rows Groups) made in
     let is = part_set told_group (λ (z : RolloutRecord). z.groups) (on_content (passes of_group params)) values x (with_groups x (set x.groups j after)) (suc k)
-    (suc j) g after named
-    (λ n m. rw (cast_int n, cast_int m, cast_int g.bounds.first, cast_int g.bounds.last, cast_int (flag started), cast_int ok, cast_int bad, cast_int gone)
-    refl) 1 k j xs (omega arith) (omega arith) change.is_there change.is_its refl in
+    (suc j) g after (λ n m z. grind (arith, numbers_equal, and-true))
+    (λ n m. grind (arith, cast_int)) 1 k j xs (omega arith) (omega arith) change.is_there change.is_its refl in
     subst (HoldsLedger new.now) (sym change.next_is)
     (ledger_after Groups l (with_rollouts l (set xs k (with_groups x (set x.groups j after)))) old.now new.now holds
     (record { schema = made.schema_is; sound = w.sound; others = made.applies.tables }) (subst (IsHeldBy (new.now.trees spot.tree)) is changed_rows)
     (groups_differ k (set x.groups j after) l x change.is_there) holds.sorted)
-  where
-    named : (n m : ℕ) (z : GroupRecord) → on_content (passes of_group (counted_params (suc k) (suc j) started ok bad gone)) (group_row n m z)
-        ≡ (nat_eq n (suc k) && nat_eq m (suc j))
-    named n m z = rw (numbers_equal n (suc k), numbers_equal m (suc j), and-true (nat_eq m (suc j))) refl
 
 -- ---- what is said of groups
 
@@ -114,9 +103,8 @@ pub adds_rule : (number group : ℕ) (rule : GroupRule) (old new : State) (text 
 adds_rule zero group rule old new text count l next holds change w = absurd (let none = change.is_there in cc)
 adds_rule (suc k) group rule old new text count l next holds change w =
     let after = set l.rules k (change.its ++ rule ∷ []) in
-    let row = rule_row (suc k) group rule in
     subst (HoldsLedger new.now) (sym change.next_is)
-    (puts Rules l (with_rules l after) (rules_differ l after Rules (λ apart. absurd (apart refl))) holds.sorted rule_terms 6 holds w (λ tree. refl) row row
+    (puts Rules l (with_rules l after) (rules_differ l after Rules (λ apart. absurd (apart refl))) holds.sorted rule_terms 6 holds w (λ tree. refl) _ _
     (λ tree. refl) (λ tree. rw (cast_int (suc k), cast_int group, cast_or_null rule.percentage, cast_int rule.success, cast_int rule.error) refl) refl refl
     (part_is_more rule_row (λ (its : List GroupRule). its) change.its (change.its ++ rule ∷ []) rule refl k group l.rules change.is_there change.group_is))
 
@@ -128,10 +116,9 @@ pub adds_number : (number place : ℕ) (it : PlacedNumber) (old new : State) (te
 adds_number zero place it old new text count l next holds change w = absurd (let none = change.is_there in cc)
 adds_number (suc k) place it old new text count l next holds change w =
     let after = set l.numbers k (change.its ++ it ∷ []) in
-    let row = number_row (suc k) place it in
     subst (HoldsLedger new.now) (sym change.next_is)
     (puts Numbers l (with_numbers l after) (numbers_differ l after Numbers (λ apart. absurd (apart refl))) holds.sorted number_terms 5 holds w (λ tree. refl)
-    row row (λ tree. refl) (λ tree. rw (cast_int (suc k), cast_int place, cast_int it.sequence, cast_int it.number) refl) refl refl
+    _ _ (λ tree. refl) (λ tree. rw (cast_int (suc k), cast_int place, cast_int it.sequence, cast_int it.number) refl) refl refl
     (part_is_more number_row (λ (its : List PlacedNumber). its) change.its (change.its ++ it ∷ []) it refl k place l.numbers change.is_there change.place_is))
 
 -- ---- histories
@@ -149,15 +136,13 @@ adds_entry (suc k) sequence entry old new text count l next holds change w =
     let as' = l.records.actions in
     let a = change.action in
     let after = and_entry a change.reported in
-    let entries : entries_in (a.history ++ change.reported ∷ []) ≡ entries_in a.history ++ change.reported.entry ∷ [] =
-    map-append (λ (it : Reported). it.entry) a.history (change.reported ∷ []) in
-    let at : sequence ≡ length (entries_in a.history) + 1 = change.sequence_is ∙ ap (λ n. n + 1) (sym (length-map a.history (λ (it : Reported). it.entry))) in
+    let entries : entries_in (a.history ++ change.reported ∷ []) ≡ entries_in a.history ++ change.reported.entry ∷ [] = grind (arith, map-append) in
+    let at : sequence ≡ length (entries_in a.history) + 1 = grind (arith, change.sequence_is, length-map) in
     let given = entry_params (suc k) sequence entry in
     subst (HoldsLedger new.now) (sym change.next_is)
     (puts Feedbacks l (with_actions l (set as' k after) l.tallies)
-    (actions_differ l (set as' k after) l.tallies Feedbacks (λ apart. acts_stay l.records.rollouts a after (λ n t. refl) 1 k as' l.tallies change.is_there)
-    (λ apart. absurd (apart refl))) holds.sorted feedback_terms 6 holds w (λ tree. refl) given (entry_row (suc k) sequence change.reported.entry)
-    (λ tree. refl)
+    (grind (arith, actions_differ, acts_stay, change.is_there)) holds.sorted feedback_terms 6 holds w (λ tree. refl) given
+    (entry_row (suc k) sequence change.reported.entry) (λ tree. refl)
     (λ tree. rw (cast_int (suc k), cast_int sequence, cast_int entry.kind, cast_int entry.word)
     (ap (λ told. Int (pos (suc k)) ∷ Int (pos sequence) ∷ told) (sym change.told.row))) refl refl
     (part_is_more entry_row entries_of a after change.reported.entry entries k sequence as' change.is_there at))

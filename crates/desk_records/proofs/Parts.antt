@@ -1,8 +1,7 @@
 -- The rows of the parts of numbered records, in lists alone.
 use Rattle.desk_records.proofs.Common.{◌≡◌, ◌<◌, ◌++◌, ℕ, zero, suc, ◌+◌, List, [], ◌∷◌, filter, length, slice_get, Bool, true, false, Option, Some, None}
-use Rattle.desk_records.proofs.Common.{option_map, refl, sym, ap, ap₂, subst, ◌∙◌, arith, IsPermutation, nat_eq, append_assoc, append-nil, option_to_list}
-use Rattle.desk_records.proofs.Common.{nat_tests, filter-append, IsPermutation-trans, IsPermutation-to_front, Int, Row, put_row, next_rowid, rows_from}
-use Rattle.desk_records.proofs.Common.{IsHeldBy, held_added, parts_from}
+use Rattle.desk_records.proofs.Common.{option_map, refl, sym, ap, arith, nat_eq, append-nil, option_to_list, nat_tests, filter-append, Row, rows_from}
+use Rattle.desk_records.proofs.Common.{parts_from}
 
 -- a changed last record whose row is the same
 pub same_rows : {X : Type 0} (f : ℕ → X → Row) (x y : X) → ((n : ℕ) → f n y ≡ f n x) → (n : ℕ) (before : List X) → rows_from f n (before ++ y ∷ [])
@@ -58,26 +57,3 @@ module _ {X Y : Type 0} (f : ℕ → ℕ → Y → Row) (parts : X → List Y) w
       its_parts n k at [] = ap (λ ys. filter p (rows_from (f number) 1 ys)) (sym none)
       its_parts n zero at (x ∷ xs) = grind (arith, filter-append, none_later, append-nil)
       its_parts n (suc k) at (x ∷ xs) = grind (arith, its_parts (n + 1) k, nat_tests, filter-append, none_pass)
-
-  -- ---- a further part of the last record
-
-  module _ (x changed : X) (y : Y) (more : parts changed ≡ parts x ++ y ∷ []) where
-    last_part : (n : ℕ) (before : List X) → parts_from f parts n (before ++ changed ∷ []) ≡ parts_from f parts n (before ++ x ∷ []) ++ f (n + length before)
-        (1 + length (parts x)) y ∷ []
-    last_part n [] = grind (arith, append-nil, next_place)
-    last_part n (first ∷ before) = grind (arith, last_part (n + 1) before, append_assoc)
-
-    pub part_added : (number place : ℕ) (before : List X) (rows : List Row) → IsHeldBy rows (parts_from f parts 1 (before ++ x ∷ [])) → number
-        ≡ length before + 1 → place ≡ length (parts x) + 1
-        → IsHeldBy (put_row (Int (next_rowid rows) ∷ f number place y) rows) (parts_from f parts 1 (before ++ changed ∷ []))
-    part_added number place before rows held last next =
-        let wanted = parts_from f parts 1 (before ++ x ∷ []) in
-        let new = f number place y in
-        let it : IsHeldBy (put_row (Int (next_rowid rows) ∷ new) rows) (new ∷ wanted) = held_added rows wanted held new in
-        let here : new ≡ f (1 + length before) (1 + length (parts x)) y = ap₂ (λ n k. f n k y) (omega (arith, last)) (omega (arith, next)) in
-        let all : parts_from f parts 1 (before ++ changed ∷ []) ≡ wanted ++ new ∷ [] = last_part 1 before ∙ ap (λ r. wanted ++ r ∷ []) (sym here) in
-        record {
-          order = it.order;
-          rising = it.rising;
-          same = IsPermutation-trans _ _ _ (subst (λ l. IsPermutation l (new ∷ wanted)) (sym all) (IsPermutation-to_front wanted new)) it.same;
-        }

@@ -1,10 +1,9 @@
 -- Contents in pieces, and what one more piece makes of them.
-use Rattle.desk_records.proofs.Common.{◌≡◌, ◌≤◌, ◌++◌, ℕ, zero, suc, ◌+◌, ◌*◌, List, [], ◌∷◌, map, take, drop, length, Some, refl, sym, ap, ap₂}
-use Rattle.desk_records.proofs.Common.{◌∙◌, arith, length-append, slice_get, flat_map, range_with_len, option_map, div_ceil_times, length-drop, take_all}
-use Rattle.desk_records.proofs.Common.{take-append-le, drop-append-le, map-map, map_same, Bytes, piece_length, pieces_in}
+use Rattle.desk_records.proofs.Common.{◌≡◌, ◌≤◌, ◌++◌, ℕ, zero, suc, ◌+◌, ◌*◌, List, [], ◌∷◌, map, take, drop, length, Some, refl, sym, ap, ◌∙◌, arith}
+use Rattle.desk_records.proofs.Common.{slice_get-map, length-append, slice_get, flat_map, range_with_len, div_ceil_times, length-drop, take_all, take-append-le}
+use Rattle.desk_records.proofs.Common.{drop-append-le, map-map, map_same, Bytes, piece_length, pieces_in}
 use Rattle.std.proofs.Math.Nat.{sub-zero}
 use Rattle.std.proofs.Math.Seq.{drop-append_seam}
-use Rattle.std.proofs.lemmas.Option.{slice_get-map}
 use Rattle.std.proofs.lemmas.List.FromFn.{length-map-range_with_len, map-range_with_len_more}
 use Rattle.artifact_pieces.specs.Pieces.{piece_bytes, piece_count, pieces_of}
 use Rattle.artifact_pieces.proofs.PieceLemmas.{one_piece, pieces_make_the_whole}
@@ -40,8 +39,7 @@ last_piece contents bytes k whole limit = ap (λ n. take piece_length (drop n (c
 
 -- how many there are
 pub count_pieces : (contents : Bytes) → length (pieces_in contents) ≡ piece_count (length contents)
-count_pieces contents = ap length (by_place contents (piece_count (length contents)) refl)
-    ∙ length-map-range_with_len (piece contents) 0 (piece_count (length contents))
+count_pieces contents = grind (arith, by_place contents (piece_count (length contents)) refl, length-map-range_with_len)
 
 nth_in_row : (a n k x : ℕ) → slice_get (range_with_len a n) k ≡ Some x → x ≡ a + k
 nth_in_row a zero k x is = absurd cc
@@ -51,10 +49,7 @@ nth_in_row a (suc n) (suc k) x is = omega (arith, nth_in_row (a + 1) n k x is)
 -- the piece at a place
 pub nth_piece : (contents bytes : Bytes) (k : ℕ) → slice_get (pieces_in contents) k ≡ Some bytes → bytes ≡ piece contents k
 nth_piece contents bytes k is =
-    let row = range_with_len 0 (piece_count (length contents)) in
-    let at : option_map (piece contents) (slice_get row k) ≡ Some bytes = sym (slice_get-map (piece contents) row k)
-    ∙ ap (λ l. slice_get l k) (sym (by_place contents (piece_count (length contents)) refl)) ∙ is in
-    grind (arith, at, nth_in_row 0 (piece_count (length contents)) k)
+    grind (arith, is, by_place contents (piece_count (length contents)) refl, slice_get-map, nth_in_row 0 (piece_count (length contents)) k)
 
 -- contents of the same pieces are the same
 joined : {X : Type 0} (f : X → Bytes) (xs : List X) → flat_map (λ (b : Bytes). b) (map f xs) ≡ flat_map f xs
@@ -76,7 +71,15 @@ pub one_more : (contents bytes : Bytes) (k : ℕ) → length contents ≡ k * pi
     → pieces_in (contents ++ bytes) ≡ pieces_in contents ++ bytes ∷ []
 one_more contents bytes k whole least limit =
     let total : length (contents ++ bytes) ≡ k * piece_length + length bytes = omega (arith, length-append contents bytes, whole) in
-    by_place (contents ++ bytes) (k + 1) (next_count (length (contents ++ bytes)) k (length bytes) total least limit)
-    ∙ map-range_with_len_more (piece (contents ++ bytes)) 0 k k (omega arith)
-    ∙ ap₂ ◌++◌ (same_pieces contents bytes 0 k (omega (arith, whole)) ∙ sym (by_place contents k (whole_count (length contents) k whole)))
-    (ap (λ b. b ∷ []) (last_piece contents bytes k whole limit))
+    let all = by_place (contents ++ bytes) (k + 1) (next_count (length (contents ++ bytes)) k (length bytes) total least limit) in
+    let had = by_place contents k (whole_count (length contents) k whole) in
+    grind (
+      arith,
+      all,
+      had,
+      map-range_with_len_more (piece (contents ++ bytes)) 0 k k,
+      same_pieces contents bytes 0 k,
+      last_piece contents bytes k,
+      whole,
+      limit,
+    )

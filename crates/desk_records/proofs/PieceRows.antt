@@ -1,18 +1,16 @@
 -- What GET_PIECE shows, whatever rows the table of pieces has.
-use native.Mathlib.Omega.{arith}
-use Rattle.desk_records.proofs.Common.{◌≡◌, ℕ, pos, true, List, [], ◌∷◌, refl, AllZip, and_parts, Null, Int, Row, column, Select, Database, Query, col, Has}
-use Rattle.desk_records.proofs.Common.{passes, simple, Bytes, ArePieces, lies_at, Pieces, IsPiece, HoldsTables, Tables}
-use Rattle.sqlite.specs.Effect.{Reads as Shows}
+use Rattle.desk_records.proofs.Common.{◌≡◌, ℕ, pos, true, List, [], ◌∷◌, refl, AllZip, and_parts, Null, Int, Row, column, Database, Query, col, Has, passes}
+use Rattle.desk_records.proofs.Common.{arith, Shows, simple, Bytes, ArePieces, lies_at, Pieces, IsPiece, HoldsTables, Tables}
 use Rattle.desk_records.specs.Columns.{StoredBytes}
 use Rattle.desk_records.proofs.AnyRows.{are_said}
 use Rattle.desk_records.proofs.ArtifactMeaning.{at_piece}
 use Rattle.desk_records.proofs.NumberColumns.{number_is}
 use Rattle.desk_records.proofs.TableColumns.{passes_part}
+use Rattle.desk_records.proofs.MeaningWords.{selects}
 
 module _ (db : Database) (t : Tables) (holds : HoldsTables db t) (names : List (List ℕ)) where
   module _ (number place : ℕ) (shown : List Row)
-      (shows : Shows (Select (record { lets = []; body = simple (holds.spot Pieces).tree at_piece (col 1 3 ∷ []) }) names) db
-      (Int (pos number) ∷ Int (pos place) ∷ []) shown) where
+      (shows : Shows (selects (simple (holds.spot Pieces).tree at_piece (col 1 3 ∷ [])) names) db (Int (pos number) ∷ Int (pos place) ∷ []) shown) where
     abbrev its : Query
     its = simple (holds.spot Pieces).tree at_piece (col 1 3 ∷ [])
 

@@ -1,8 +1,7 @@
 -- What LIST_PLACES shows, whatever rows the table of members has.
-use native.Mathlib.Omega.{arith}
-use Rattle.desk_records.proofs.Common.{◌≡◌, ◌≤◌, ℕ, pos, true, false, List, [], ◌∷◌, length, filter, Option, Some, None, refl, Null, Int, Row, column, Select}
-use Rattle.desk_records.proofs.Common.{Database, Query, output_cmp, is_lt, Has, passes, shown_in, shown_of, is_number, AreRead, Members, HoldsTables, Tables}
-use Rattle.sqlite.specs.Effect.{Reads as Shows}
+use Rattle.desk_records.proofs.Common.{◌≡◌, ◌≤◌, ℕ, pos, true, false, List, [], ◌∷◌, length, filter, Option, Some, None, refl, Null, Int, Row, column, Database}
+use Rattle.desk_records.proofs.Common.{arith, Shows, Query, output_cmp, is_lt, Has, passes, shown_in, shown_of, is_number, AreRead, Members, HoldsTables}
+use Rattle.desk_records.proofs.Common.{Tables}
 use Rattle.desk_records.specs.MemberRow.{IsPlacedRow, keeps_member_rules}
 use Rattle.desk_records.specs.PlaceLists.{ListsPlaces, SaysMember, is_of}
 use Rattle.desk_records.specs.declared.member_row.PlacedMember.{PlacedMember}
@@ -10,9 +9,10 @@ use Rattle.desk_records.proofs.AnyRows.{are_said, broken, count_shown, number_or
 use Rattle.desk_records.proofs.NumberColumns.{is_number_in, number_is, small_is}
 use Rattle.desk_records.proofs.RolloutMeaning.{of_rollout, placed_columns, places_query}
 use Rattle.desk_records.proofs.TableColumns.{passes_integer}
+use Rattle.desk_records.proofs.MeaningWords.{selects}
 
 module _ (db : Database) (t : Tables) (holds : HoldsTables db t) (names : List (List ℕ)) (r : ℕ) (good : is_number r ≡ true) (shown : List Row)
-    (shows : Shows (Select (record { lets = []; body = places_query (holds.spot Members).tree }) names) db (Int (pos r) ∷ []) shown) where
+    (shows : Shows (selects (places_query (holds.spot Members).tree) names) db (Int (pos r) ∷ []) shown) where
   abbrev q : Query
   q = places_query (holds.spot Members).tree
 

@@ -1,11 +1,10 @@
 -- A part by the number of its record and by its place.
-use Rattle.desk_records.proofs.Common.{◌≡◌, ◌≤◌, ◌&&◌, ℕ, zero, suc, ◌+◌, pos, List, [], ◌∷◌, map, filter, slice_get, Bool, true, Option, Some, None}
-use Rattle.desk_records.proofs.Common.{option_map, refl, sym, ap, subst, ◌∙◌, arith, IsPermutation, nat_eq, option_to_list, nat_tests, IsPermutation-trans}
-use Rattle.desk_records.proofs.Common.{Null, Int, Row, Term, Select, Database, rows_from, IsHeldBy, ShowsFirst, IsBlind, on_content, held_seen, simple, passes}
-use Rattle.desk_records.proofs.Common.{shown_of, simple_rows, item_numbered, part_row, parts_from, and-true}
-use Rattle.sqlite.specs.Effect.{Reads as Shows}
+use Rattle.desk_records.proofs.Common.{◌≡◌, ◌≤◌, ◌&&◌, ℕ, zero, suc, pos, List, [], ◌∷◌, map, filter, slice_get, Bool, true, Option, Some, None, option_map}
+use Rattle.desk_records.proofs.Common.{Shows, refl, ◌∙◌, arith, IsPermutation, nat_eq, option_to_list, nat_tests, IsPermutation-trans, Null, Int, Row}
+use Rattle.desk_records.proofs.Common.{Term, Database, rows_from, IsHeldBy, ShowsFirst, IsBlind, on_content, held_seen, simple, passes, shown_of, simple_rows}
+use Rattle.desk_records.proofs.Common.{item_numbered, part_row, parts_from, and-true}
 use Rattle.desk_records.proofs.Comparisons.{numbers_equal}
-use Rattle.desk_records.proofs.MeaningWords.{at_key}
+use Rattle.desk_records.proofs.MeaningWords.{at_key, selects}
 use Rattle.desk_records.proofs.NumberedReads.{first_found}
 use Rattle.desk_records.proofs.Parts.{at_place, its_parts, none_after}
 
@@ -24,10 +23,7 @@ module _ {X Y : Type 0} (rest : Y → Row) (parts : X → List Y) (all : Option 
   found_in : (number place : ℕ) (p : Row → Bool) → Names number place p → (ys : List Y) → filter p (rows_from (part_row rest number) 1 ys)
       ≡ option_to_list (option_map (part_row rest number place) (item_numbered ys place))
   found_in number zero p names ys = none_after (part_row rest number) p zero (of_record number zero p names) 1 ys (omega arith)
-  found_in number (suc k) p names ys =
-      let next : 1 + k ≡ suc k = omega arith in
-      at_place (part_row rest number) p 1 k (λ place y. of_record number (suc k) p names place y ∙ ap (nat_eq place) (sym next)) ys
-      ∙ ap (λ n. option_to_list (option_map (part_row rest number n) (slice_get ys k))) next
+  found_in number (suc k) p names ys = grind (arith, at_place (part_row rest number) p 1 k, of_record number (suc k) p names)
 
   pub its_part : (xs : List X) (number place : ℕ) (p : Row → Bool) → Names number place p → 1 ≤ number
       → filter p (parts_from (part_row rest) parts 1 xs)
@@ -48,19 +44,17 @@ module _ {X Y : Type 0} (rest : Y → Row) (parts : X → List Y) (all : Option 
     names_it : Names number place (on_content (passes at_part params))
     names_it n k y = rw (numbers_equal n number, numbers_equal k place, and-true (nat_eq k place)) refl
 
-    part_shown : 1 ≤ number → IsBlind (shown_of shows params) → (rows : List Row)
-        → Shows (Select (record { lets = []; body = simple tree at_part shows }) names) db params rows
+    part_shown : 1 ≤ number → IsBlind (shown_of shows params) → (rows : List Row) → Shows (selects (simple tree at_part shows) names) db params rows
         → IsPermutation (map (on_content (shown_of shows params)) (option_to_list (option_map (part_row rest number place) found))) rows
     part_shown least fair rows shown =
         let f = shown_of shows params in
         let seen = held_seen (passes at_part params) (λ id x. refl) f fair (db.trees tree) (parts_from (part_row rest) parts 1 xs) held in
-        subst (λ l. IsPermutation (map (on_content f) l) rows) (its_part xs number place (on_content (passes at_part params)) names_it least)
-        (IsPermutation-trans _ _ _ seen (simple_rows tree at_part shows params db.trees rows (shown.answer Null)))
+        let all = IsPermutation-trans _ _ _ seen (simple_rows tree at_part shows params db.trees rows (shown.answer Null)) in
+        grind (arith, all, its_part xs number place (on_content (passes at_part params)) names_it)
 
     -- the part at the place, where it is there
-    pub gets_part : 1 ≤ number → IsBlind (shown_of shows params) → (row : Option Row)
-        → ShowsFirst (Select (record { lets = []; body = simple tree at_part shows }) names) db params row
+    pub gets_part : 1 ≤ number → IsBlind (shown_of shows params) → (row : Option Row) → ShowsFirst (selects (simple tree at_part shows) names) db params row
         → row ≡ option_map (λ y. on_content (shown_of shows params) (part_row rest number place y)) found
     gets_part least fair row shown =
-        first_found (on_content (shown_of shows params)) (part_row rest number place) (Select (record { lets = []; body = simple tree at_part shows }) names) db
+        first_found (on_content (shown_of shows params)) (part_row rest number place) (selects (simple tree at_part shows) names) db
         params found (part_shown least fair) row shown

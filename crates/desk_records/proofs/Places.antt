@@ -1,7 +1,6 @@
 -- What is known of every place at once.
-use native.Mathlib.Omega.{arith}
-use Rattle.desk_records.proofs.Common.{◌≡◌, ◌≢◌, ◌⊎◌, inl, inr, ℕ, Bool, true, false, cond, List, [], ◌∷◌, map, Option, Some, find, bytes_eq, refl, sym}
-use Rattle.desk_records.proofs.Common.{subst, ◌∙◌, AllByRecursion, list_any, or_cases, cases_Bool, true≢false, Place, places, name_of}
+use Rattle.desk_records.proofs.Common.{◌≡◌, ◌≢◌, ◌⊎◌, ℕ, Bool, true, false, cond, List, [], ◌∷◌, map, Option, Some, find, bytes_eq, refl, sym, ◌∙◌, arith}
+use Rattle.desk_records.proofs.Common.{AllByRecursion, list_any, or_cases, cases_Bool, true≢false, Place, places, name_of}
 use Rattle.std.proofs.lemmas.Slice.Eq.{bytes_eq-Decides}
 use Rattle.desk_records.proofs.EachPlace.{each_place}
 
@@ -35,10 +34,7 @@ is_among ks t = list_any (λ k. bytes_eq (name_of t) (name_of k)) ks
 
 pub among : (Q : Place → Type 0) (ks : List Place) (t : Place) → AllByRecursion Q ks → is_among ks t ≡ true → Q t
 among Q [] t all here = absurd (true≢false (sym here))
-among Q (k ∷ ks) t all there = elim (or_cases (bytes_eq (name_of t) (name_of k)) (is_among ks t) there) [
-  | inl here ↦ subst Q (sym (one_named t k here)) all.0
-  | inr later ↦ among Q ks t all.1 later
-]
+among Q (k ∷ ks) t all there = grind (arith, or_cases (bytes_eq (name_of t) (name_of k)) (is_among ks t) there, one_named t k, among Q ks t all.1, all.0)
 
 -- What computes to the same at each place but some, and is proved to be the same at those, is the same at every place.
 pub same_elsewhere : {X : Type 0} (f g : Place → X) (P : Place → Type 0) (some : List Place) → map f places

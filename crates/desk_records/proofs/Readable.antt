@@ -1,6 +1,6 @@
 -- The tables of the newest version hold records as the program keeps them.
-use Rattle.desk_records.proofs.Common.{◌≡◌, ◌≤◌, ℕ, List, [], ◌∷◌, Option, Some, if◌then◌else◌, nat_eq, sym, ap, ◌∙◌, arith, AllByRecursion, Database}
-use Rattle.desk_records.proofs.Common.{Records, Place, Desk, HoldsRecords, newest, version_number, places_at}
+use Rattle.desk_records.proofs.Common.{◌≡◌, ◌≤◌, ℕ, List, [], ◌∷◌, Option, Some, if◌then◌else◌, nat_eq, sym, ap, ◌∙◌, arith, AllByRecursion, Database, Records}
+use Rattle.desk_records.proofs.Common.{Place, Desk, HoldsRecords, newest, version_number, places_at}
 use Rattle.desk_records.specs.Readable.{HoldsAt, HoldsPlace, HoldsReadable}
 use Rattle.desk_records.specs.declared.version.Version.{Version}
 use Rattle.desk_records.specs.declared.version.Version.TheVariants.{One, Two, Three}

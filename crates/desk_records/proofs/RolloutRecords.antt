@@ -1,26 +1,20 @@
 -- What is read of rollouts and groups, where a ledger is held.
-use Rattle.desk_records.proofs.Common.{all_of, filter_all, sym, IsAnswer, IsBlind, overlay, page, ◌≡◌, ◌≤◌, ◌&&◌, ℕ, ◌+◌, pos, negsuc, List, [], ◌∷◌, map}
-use Rattle.desk_records.proofs.Common.{filter, take, drop, find, length, slice_get, Bool, true, false, Option, option_map, refl, ap, ◌∙◌, arith, nat_eq, nat_le}
-use Rattle.desk_records.proofs.Common.{nat_lt, list_any, is_some, take-map, nat_tests, Null, Int, Text, Row, Term, lit, col, Select, Database, rows_from}
-use Rattle.desk_records.proofs.Common.{ShowsFirst, on_content, simple, passes, shown_of, GroupRule, item_numbered, Bytes, holds_position, GroupRecord}
-use Rattle.desk_records.proofs.Common.{RolloutRecord, IsLastRow, Rollouts, Groups, Members, Rules, parts_of, is_called, rollout_row, told_rollout, group_row}
-use Rattle.desk_records.proofs.Common.{told_group, numbered_from, groups_of, member_row, members_of, rule_numbered, rules_numbered, that_reach, told_rule}
-use Rattle.desk_records.proofs.Common.{HoldsLedger, Ledger, and-true}
-use Rattle.sqlite.specs.Effect.{Reads as Shows}
+use Rattle.desk_records.proofs.Common.{all_of, filter_all, sym, IsAnswer, IsBlind, overlay, page, ◌≡◌, ◌≤◌, ◌&&◌, ℕ, ◌+◌, pos, List, [], ◌∷◌, map, filter, take}
+use Rattle.desk_records.proofs.Common.{Shows, shown_group, drop, find, length, slice_get, Bool, true, false, Option, option_map, refl, ap, ◌∙◌, arith, nat_eq}
+use Rattle.desk_records.proofs.Common.{nat_le, list_any, is_some, take-map, nat_tests, Null, Int, Text, Row, Term, lit, col, Database, rows_from, ShowsFirst}
+use Rattle.desk_records.proofs.Common.{on_content, simple, passes, shown_of, GroupRule, item_numbered, Bytes, holds_position, GroupRecord, RolloutRecord}
+use Rattle.desk_records.proofs.Common.{IsLastRow, Rollouts, Groups, Members, Rules, parts_of, is_called, rollout_row, told_rollout, group_row, told_group}
+use Rattle.desk_records.proofs.Common.{numbered_from, groups_of, members_of, rule_numbered, rules_numbered, that_reach, told_rule, HoldsLedger, Ledger}
+use Rattle.desk_records.proofs.Common.{and-true}
 use Rattle.rollout_machine.specs.StateWords.{group_numbered, group_holding}
 use Rattle.desk_records.proofs.Comparisons.{numbers_above, numbers_equal, numbers_at_least, numbers_at_most, words_equal}
-use Rattle.desk_records.proofs.MeaningWords.{at_key}
-use Rattle.desk_records.proofs.RolloutMeaning.{same_name, last_rollout_query, rollout_columns, of_rollout, group_columns, list_groups_query, of_group}
-use Rattle.desk_records.proofs.RolloutMeaning.{get_group_query, holding, holding_group_query, reaching, group_and_next_query, after_place, list_members_query}
-use Rattle.desk_records.proofs.RolloutMeaning.{list_rules_query, member_columns, rule_columns}
+use Rattle.desk_records.proofs.MeaningWords.{at_key, greatest_number, in_order, no_limit, no_offset, selects}
+use Rattle.desk_records.proofs.RolloutMeaning.{same_name, rollout_columns, of_rollout, group_columns, of_group, holding, reaching, after_place, member_columns}
+use Rattle.desk_records.proofs.RolloutMeaning.{rule_columns}
 use Rattle.desk_records.proofs.NumberedReads.{finds, gets, lasts, passes_number}
 use Rattle.desk_records.proofs.PartReads.{later_shown, place_query, reads_listed, reads_parts, unplaced}
 use Rattle.desk_records.proofs.PlacedParts.{gets_part}
 use Rattle.desk_records.proofs.TargetRecords.{first_row}
-use Rattle.desk_records.specs.ReadRows.{shown_group}
-
-same : (n : ℕ) → nat_eq n n ≡ true
-same n = grind (arith, nat_tests)
 
 module _ (db : Database) (l : Ledger) (holds : HoldsLedger db l) (names : List (List ℕ)) where
   abbrev tree : ℕ
@@ -30,20 +24,18 @@ module _ (db : Database) (l : Ledger) (holds : HoldsLedger db l) (names : List (
   xs = l.records.rollouts
 
   -- whether a name is taken
-  pub finds_rollout : (name : Bytes) (row : Option Row) → ShowsFirst (Select (record { lets = []; body = simple tree same_name (col 1 0 ∷ []) }) names) db
+  pub finds_rollout : (name : Bytes) (row : Option Row) → ShowsFirst (selects (simple tree same_name (col 1 0 ∷ [])) names) db
       (Text name ∷ []) row → is_some row ≡ list_any (is_called name) xs
   finds_rollout name = finds rollout_row tree db xs (holds.rows Rollouts) names same_name (col 1 0 ∷ []) (Text name ∷ []) (is_called name)
       (λ n x. and-true _ ∙ words_equal x.plan.name name)
 
   -- the last number
-  pub lasts_rollout : (row : Option Row) → ShowsFirst (Select (record { lets = []; body = last_rollout_query tree }) names) db [] row
-      → IsLastRow (length xs) row
+  pub lasts_rollout : (row : Option Row) → ShowsFirst (selects (greatest_number tree) names) db [] row → IsLastRow (length xs) row
   lasts_rollout = lasts rollout_row tree db xs (holds.rows Rollouts) names (λ n x. refl)
 
   -- a rollout by its number
-  pub gets_rollout : (number : ℕ) → 1 ≤ number → (row : Option Row)
-      → ShowsFirst (Select (record { lets = []; body = simple tree (at_key 0 0 ∷ []) rollout_columns }) names) db (Int (pos number) ∷ []) row
-      → row ≡ option_map told_rollout (item_numbered xs number)
+  pub gets_rollout : (number : ℕ) → 1 ≤ number → (row : Option Row) → ShowsFirst (selects (simple tree (at_key 0 0 ∷ []) rollout_columns) names) db
+      (Int (pos number) ∷ []) row → row ≡ option_map told_rollout (item_numbered xs number)
   gets_rollout = gets rollout_row tree db xs (holds.rows Rollouts) names (λ n x. refl) (at_key 0 0 ∷ []) rollout_columns
       (passes_number rollout_row (λ n x. refl))
 
@@ -79,50 +71,46 @@ module _ (db : Database) (l : Ledger) (holds : HoldsLedger db l) (names : List (
   groups_where test limit offset params number least blind wanted is rows answer =
       reads_parts told_group (λ (x : RolloutRecord). x.groups) at test group_columns limit offset params false number least blind (λ id x. refl)
       (λ n k g apart. is n k g ∙ ap (λ b. b && wanted (record g { number = k })) apart) db.trees l.records.rollouts (holds.rows Groups) rows answer
-      ∙ ap (page (place_query told_group (λ (x : RolloutRecord). x.groups) at test group_columns limit offset params false) params)
-      (shown_groups number test params wanted (λ k g. is number k g ∙ ap (λ b. b && wanted (record g { number = k })) (same number)) 1
-      (parts_of (λ (x : RolloutRecord). x.groups) (item_numbered l.records.rollouts number)))
+      ∙ grind (arith, shown_groups number test params wanted (λ k g. grind (arith, is number k g, nat_tests)) 1)
 
-  pub lists_groups : (number : ℕ) → 1 ≤ number → (rows : List Row) → Shows (Select (record { lets = []; body = list_groups_query at }) names) db
+  pub lists_groups : (number : ℕ) → 1 ≤ number → (rows : List Row) → Shows (selects (in_order 2 false of_rollout group_columns no_limit no_offset at) names) db
       (Int (pos number) ∷ []) rows → rows ≡ map shown_group (found number)
   lists_groups number least rows shows =
-      groups_where of_rollout (lit (Int (negsuc 0))) (lit (Int (pos 0))) (Int (pos number) ∷ []) number least (λ id x. refl) (λ g. true)
+      groups_where of_rollout no_limit no_offset (Int (pos number) ∷ []) number least (λ id x. refl) (λ g. true)
       (λ n k g. and-true _ ∙ numbers_equal n number ∙ sym (and-true _)) rows (shows.answer Null)
       ∙ ap (map shown_group) (filter_all _ _ (all_of _ (λ g. refl) (found number)))
 
   -- the group of a number
-  pub gets_group : (number place : ℕ) → 1 ≤ number → (row : Option Row) → ShowsFirst (Select (record { lets = []; body = get_group_query at }) names) db
+  pub gets_group : (number place : ℕ) → 1 ≤ number → (row : Option Row)
+      → ShowsFirst (selects (in_order 2 false of_group group_columns no_limit no_offset at) names) db
       (Int (pos number) ∷ Int (pos place) ∷ []) row
       → row ≡ option_map shown_group (group_numbered place (found number))
   gets_group number place least row shown =
       let params = Int (pos number) ∷ Int (pos place) ∷ [] in
-      first_row (Select (record { lets = []; body = get_group_query at }) names) db params _ (λ rows shows. ap (λ (l : List Row). slice_get l 0)
-      (groups_where of_group (lit (Int (negsuc 0))) (lit (Int (pos 0))) params number least (λ id x. refl) (λ g. nat_eq g.number place)
+      first_row (selects (in_order 2 false of_group group_columns no_limit no_offset at) names) db params _ (λ rows shows. ap (λ (l : List Row). slice_get l 0)
+      (groups_where of_group no_limit no_offset params number least (λ id x. refl) (λ g. nat_eq g.number place)
       (λ n k g. rw (numbers_equal n number, numbers_equal k place, and-true (nat_eq k place)) refl) rows (shows.answer Null))
       ∙ first_kept (λ g. nat_eq g.number place) (found number)) row shown
 
   -- the group that has a place
-  pub holds_group : (number place : ℕ) → 1 ≤ number → (row : Option Row) → ShowsFirst (Select (record { lets = []; body = holding_group_query at }) names) db
+  pub holds_group : (number place : ℕ) → 1 ≤ number → (row : Option Row)
+      → ShowsFirst (selects (in_order 2 false holding group_columns no_limit no_offset at) names) db
       (Int (pos number) ∷ Int (pos place) ∷ []) row
       → row ≡ option_map shown_group (group_holding place (found number))
   holds_group number place least row shown =
       let params = Int (pos number) ∷ Int (pos place) ∷ [] in
-      first_row (Select (record { lets = []; body = holding_group_query at }) names) db params _ (λ rows shows. ap (λ (l : List Row). slice_get l 0)
-      (groups_where holding (lit (Int (negsuc 0))) (lit (Int (pos 0))) params number least (λ id x. refl) (λ g. holds_position place g.bounds)
-      (λ n k g. rw (
-        numbers_equal n number,
-        numbers_at_most g.bounds.first place,
-        numbers_at_least g.bounds.last place,
-        and-true (nat_le place g.bounds.last),
-      ) refl) rows (shows.answer Null))
+      first_row (selects (in_order 2 false holding group_columns no_limit no_offset at) names) db params _ (λ rows shows. ap (λ (l : List Row). slice_get l 0)
+      (groups_where holding no_limit no_offset params number least (λ id x. refl) (λ g. holds_position place g.bounds)
+      (λ n k g. grind (arith, numbers_equal, numbers_at_most, numbers_at_least, and-true)) rows (shows.answer Null))
       ∙ first_kept (λ g. holds_position place g.bounds) (found number)) row shown
 
   -- the first two groups that reach a place
-  pub gets_group_and_next : (number place : ℕ) → 1 ≤ number → (rows : List Row) → Shows (Select (record { lets = []; body = group_and_next_query at }) names) db
+  pub gets_group_and_next : (number place : ℕ) → 1 ≤ number → (rows : List Row)
+      → Shows (selects (in_order 2 false reaching group_columns (lit (Int (pos 2))) no_offset at) names) db
       (Int (pos number) ∷ Int (pos place) ∷ []) rows
       → rows ≡ map shown_group (take 2 (that_reach place (found number)))
   gets_group_and_next number place least rows shows =
-      groups_where reaching (lit (Int (pos 2))) (lit (Int (pos 0))) (Int (pos number) ∷ Int (pos place) ∷ []) number least (λ id x. refl)
+      groups_where reaching (lit (Int (pos 2))) no_offset (Int (pos number) ∷ Int (pos place) ∷ []) number least (λ id x. refl)
       (λ g. nat_le place g.bounds.last)
       (λ n k g. rw (numbers_equal n number, numbers_at_least g.bounds.last place, and-true (nat_le place g.bounds.last)) refl) rows (shows.answer Null)
       ∙ take-map shown_group 2 (that_reach place (found number))
@@ -132,39 +120,34 @@ module _ (db : Database) (l : Ledger) (holds : HoldsLedger db l) (names : List (
 module _ (db : Database) (l : Ledger) (holds : HoldsLedger db l) (names : List (List ℕ)) where
   -- a page of them in the order of their places
   pub lists_members : (number offset limit : ℕ) → 1 ≤ number → (rows : List Row)
-      → Shows (Select (record { lets = []; body = list_members_query (holds.spot Members).tree }) names) db
+      → Shows (selects (in_order 2 false after_place member_columns (col 0 2) no_offset (holds.spot Members).tree) names) db
       (Int (pos number) ∷ Int (pos offset) ∷ Int (pos limit) ∷ []) rows
       → rows ≡ map (λ (id : Bytes). Text id ∷ []) (take limit (drop offset (members_of (item_numbered l.records.rollouts number))))
   lists_members number offset limit least rows shows =
       let params = Int (pos number) ∷ Int (pos offset) ∷ Int (pos limit) ∷ [] in
       let told = λ (id : Bytes). Text id ∷ [] in
       let all = members_of (item_numbered l.records.rollouts number) in
-      reads_parts told (λ (x : RolloutRecord). x.members) (holds.spot Members).tree after_place member_columns (col 0 2) (lit (Int (pos 0))) params false number
-      least (λ id x. refl) (λ id x. refl) (λ n place id apart. is_after n place id ∙ ap (λ b. b && nat_lt offset place) apart)
+      reads_parts told (λ (x : RolloutRecord). x.members) (holds.spot Members).tree after_place member_columns (col 0 2) no_offset params false number
+      least (λ id x. refl) (λ id x. refl) (λ n place id apart. grind (arith, numbers_equal, numbers_above, apart))
       db.trees l.records.rollouts (holds.rows Members) rows (shows.answer Null)
       ∙ ap (take limit) (later_shown told told number after_place member_columns params offset
-      (λ place id. is_after number place id ∙ ap (λ b. b && nat_lt offset place) (same number)) (λ place id. refl) 0 offset (omega arith) all)
+      (λ place id. grind (arith, numbers_equal, numbers_above, and-true, nat_tests)) (λ place id. refl) 0 offset (omega arith) all)
       ∙ take-map told limit (drop offset all)
-    where
-      is_after : (n place : ℕ) (id : Bytes) → on_content (passes after_place (Int (pos number) ∷ Int (pos offset) ∷ Int (pos limit) ∷ []))
-          (member_row n place id) ≡ (nat_eq n number && nat_lt offset place)
-      is_after n place id = rw (numbers_equal n number, numbers_above place offset, and-true (nat_lt offset place)) refl
 
 -- ---- what is said of groups
 
 module _ (db : Database) (l : Ledger) (holds : HoldsLedger db l) (names : List (List ℕ)) where
   -- of the group of a number
-  pub gets_rule : (number group : ℕ) → 1 ≤ number → (row : Option Row)
-      → ShowsFirst (Select (record { lets = []; body = simple (holds.spot Rules).tree of_group rule_columns }) names) db
-      (Int (pos number) ∷ Int (pos group) ∷ []) row
-      → row ≡ option_map told_rule (rule_numbered l.rules number group)
+  pub gets_rule : (number group : ℕ) → 1 ≤ number → (row : Option Row) → ShowsFirst (selects (simple (holds.spot Rules).tree of_group rule_columns) names) db
+      (Int (pos number) ∷ Int (pos group) ∷ []) row → row ≡ option_map told_rule (rule_numbered l.rules number group)
   gets_rule number group least = gets_part told_rule (λ (its : List GroupRule). its) (parts_of (λ (its : List GroupRule). its)) refl (λ its. refl)
       (holds.spot Rules).tree db l.rules (holds.rows Rules) names rule_columns number group least (λ id x. refl)
 
   -- in the order of their numbers
-  pub lists_rules : (number : ℕ) → 1 ≤ number → (rows : List Row) → Shows (Select (record { lets = []; body = list_rules_query (holds.spot Rules).tree }) names)
+  pub lists_rules : (number : ℕ) → 1 ≤ number → (rows : List Row)
+      → Shows (selects (in_order 2 false of_rollout rule_columns no_limit no_offset (holds.spot Rules).tree) names)
       db (Int (pos number) ∷ []) rows → rows ≡ map told_rule (rules_numbered l.rules number)
   lists_rules number least rows shows =
-      reads_listed told_rule (holds.spot Rules).tree rule_columns (lit (Int (negsuc 0))) (lit (Int (pos 0))) number false least (λ id x. refl)
+      reads_listed told_rule (holds.spot Rules).tree rule_columns no_limit no_offset number false least (λ id x. refl)
       (λ place. told_rule) (λ place rule. refl) db.trees l.rules (holds.rows Rules) rows (shows.answer Null)
       ∙ unplaced told_rule 1 (rules_numbered l.rules number)

@@ -1,14 +1,12 @@
 -- What LAST_ROLLOUT shows, whatever rows the table of rollouts has.
-use Rattle.desk_records.proofs.Common.{all_of, filter_all, ◌≡◌, ◌≤◌, inl, inr, ℕ, pos, true, false, List, [], ◌∷◌, map, filter, get_or, take, Option, Some}
-use Rattle.desk_records.proofs.Common.{None, refl, sym, ap, subst, ◌∙◌, arith, Ordering, Equal, int_cmp, is_eq, IsPermutation, is_lt}
-use Rattle.desk_records.proofs.Common.{ordering_reverse, ints, nat_tests, IsPermutation-sym, ranks_by, sorted_far, Value, Null, Int, Row, column, value_cmp}
-use Rattle.desk_records.proofs.Common.{value_cmp-Int, value_cmp_total, then-Equal, rowid, Select, Database, Query, Output, output_cmp, col, output_cmp_total}
-use Rattle.desk_records.proofs.Common.{Has, contains_had, ShowsFirst, IsOrdered, ordered_rows, passes, shown_in, IsLastNumber, IsLastRow, Rollouts, HoldsTables}
-use Rattle.desk_records.proofs.Common.{Tables}
-use Rattle.sqlite.specs.Effect.{Reads as Shows}
+use Rattle.desk_records.proofs.Common.{all_of, filter_all, ◌≡◌, ◌≤◌, inl, inr, ℕ, pos, true, false, List, [], ◌∷◌, map, filter, take, Option, Some, None, refl}
+use Rattle.desk_records.proofs.Common.{Shows, sym, ap, subst, ◌∙◌, arith, Ordering, Equal, is_eq, IsPermutation, is_lt, ints, nat_tests, IsPermutation-sym}
+use Rattle.desk_records.proofs.Common.{ranks_by, sorted_far, Value, Null, Int, Row, column, value_cmp, value_cmp-Int, value_cmp_total, then-Equal, rowid}
+use Rattle.desk_records.proofs.Common.{Database, Query, Output, output_cmp, col, output_cmp_total, Has, contains_had, ShowsFirst, IsOrdered, ordered_rows}
+use Rattle.desk_records.proofs.Common.{passes, shown_in, IsLastNumber, IsLastRow, Rollouts, HoldsTables, Tables}
 use Rattle.desk_records.proofs.Membership.{has_mapped, has_permuted, map_has}
 use Rattle.desk_records.proofs.NumberColumns.{has_own_number}
-use Rattle.desk_records.proofs.RolloutMeaning.{last_rollout_query}
+use Rattle.desk_records.proofs.MeaningWords.{selects, greatest_number}
 
 -- ---- the greatest number
 
@@ -18,20 +16,17 @@ equal o h = grind arith
 -- a value that is below no row's number is at least the number
 at_least : (v : Value) (n last : ℕ) → is_eq (value_cmp v (Int (pos n))) ≡ true → is_lt (value_cmp (Int (pos last)) v) ≡ false → n ≤ last
 at_least v n last numbered least =
-    let turned : value_cmp (Int (pos last)) v ≡ value_cmp (Int (pos last)) (Int (pos n)) =
-    value_cmp_total.antisymm (Int (pos last)) v ∙ ap ordering_reverse (value_cmp_total.congr v (Int (pos n)) (Int (pos last)) (equal _ numbered))
-    ∙ sym (value_cmp_total.antisymm (Int (pos last)) (Int (pos n))) in
-    let h : is_lt (int_cmp (pos last) (pos n)) ≡ false = ap is_lt (sym (value_cmp-Int (pos last) (pos n))) ∙ ap is_lt (sym turned) ∙ least in
-    grind (arith, ints, nat_tests, h)
+    let turned = value_cmp_total.congr v (Int (pos n)) (Int (pos last)) (equal _ numbered) in
+    grind (arith, ints, nat_tests, value_cmp_total.antisymm, turned, value_cmp-Int, least)
 
 module _ (db : Database) (t : Tables) (holds : HoldsTables db t) (names : List (List ℕ)) where
   abbrev tree : ℕ
   tree = (holds.spot Rollouts).tree
 
   abbrev q : Query
-  q = last_rollout_query tree
+  q = greatest_number tree
 
-  module _ (shown : List Row) (shows : Shows (Select (record { lets = []; body = q }) names) db [] shown) where
+  module _ (shown : List Row) (shows : Shows (selects (q) names) db [] shown) where
     it : IsOrdered q [] (filter (passes [] []) (db.trees tree)) shown
     it = ordered_rows tree [] (col 1 0 ∷ []) q.order q.limit q.offset [] db.trees shown (shows.answer Null)
 
@@ -52,9 +47,7 @@ module _ (db : Database) (t : Tables) (holds : HoldsTables db t) (names : List (
         let at = contains_had it.ordered (shown_in q [] row) (is_ordered row among) in
         let far = sorted_far (λ a b. is_lt (output_cmp q a b)) (ranks_by (output_cmp_total q) (λ o. o)) it.ordered it.sorted 0 at.0 (shown_in q [] row)
         (omega arith) at.1 in
-        let head : get_or it.ordered 0 (shown_in q [] row) ≡ first = ap (λ l. get_or l 0 (shown_in q [] row)) is in
-        subst (λ o. is_lt (output_cmp q (shown_in q [] row) o) ≡ false) head
-        (subst (λ o. is_lt (output_cmp q o (get_or it.ordered 0 (shown_in q [] row))) ≡ false) at.2 far)
+        grind (arith, far, at.2, is)
 
     pub shown_last : (row : Row) (tail : List Row) → shown ≡ row ∷ tail → (n : ℕ) → column row 0 ≡ Int (pos n) → IsLastNumber (t Rollouts) n
     shown_last row tail is n number = go it.ordered refl (sym is ∙ it.is)
@@ -64,10 +57,9 @@ module _ (db : Database) (t : Tables) (holds : HoldsTables db t) (names : List (
         go (o ∷ rest) ordered e =
             let source = from_ordered o (subst (λ l. Has l o) (sym ordered) (inl refl)) in
             let head : row ≡ o.1 = cc in
-            let its : rowid source.0 ≡ Int (pos n) = ap (λ (p : Output). column p.1 0) (sym source.2) ∙ ap (λ r. column r 0) (sym head) ∙ number in
+            let its : rowid source.0 ≡ Int (pos n) = grind (arith, source.2, head, number, column) in
             let above : (other : Row) → Has (t Rollouts) other → is_lt (value_cmp (Int (pos n)) (rowid other)) ≡ false = λ other among.
-            let h = subst (λ p. is_lt (output_cmp q (shown_in q [] other) p) ≡ false) source.2 (least o rest ordered other among) in
-            let told : is_lt (value_cmp (rowid source.0) (rowid other)) ≡ false = ap is_lt (sym (then-Equal (value_cmp (rowid source.0) (rowid other)))) ∙ h in
+            let told : is_lt (value_cmp (rowid source.0) (rowid other)) ≡ false = grind (arith, source.2, least o rest ordered other among, then-Equal) in
             rw its at told in
             record {
               greatest = λ k has. at_least (rowid has.row) k n has.numbered (above has.row has.among);
@@ -81,7 +73,6 @@ module _ (db : Database) (t : Tables) (holds : HoldsTables db t) (names : List (
         go [] ordered e o among = subst (λ l. Has l o) ordered among
         go (p ∷ rest) ordered e o among = absurd cc
 
-  pub lasts_any : (row : Option Row) → ShowsFirst (Select (record { lets = []; body = q }) names) db [] row → (n : ℕ) → IsLastRow n row
-      → IsLastNumber (t Rollouts) n
+  pub lasts_any : (row : Option Row) → ShowsFirst (selects (q) names) db [] row → (n : ℕ) → IsLastRow n row → IsLastNumber (t Rollouts) n
   lasts_any None shows n is = subst (IsLastNumber (t Rollouts)) (sym is) (shown_none [] shows refl)
   lasts_any (Some row) shows n is = shown_last (row ∷ shows.0) shows.1 row shows.0 refl n is

@@ -1,6 +1,6 @@
 -- A column that is not read breaks its rule.
-use Rattle.desk_records.proofs.Common.{◌≡◌, ◌≢◌, ◌⊎◌, ◌<◌, ℕ, Bool, true, false, List, length, arith, IsUtf8, cases_Bool}
-use Rattle.desk_records.proofs.Common.{and_parts, IsUtf8-from_is_utf8, nat_tests, get_or_past, Value, Text, Row, column, is_text, is_value, fault_at}
+use Rattle.desk_records.proofs.Common.{◌≡◌, ◌≢◌, ◌⊎◌, ◌<◌, ℕ, Bool, true, false, List, length, arith, IsUtf8, cases_Bool, and_parts, IsUtf8-from_is_utf8}
+use Rattle.desk_records.proofs.Common.{nat_tests, get_or_past, Value, Text, Row, column, is_text, is_value, fault_at}
 use Rattle.desk_records.specs.Columns.{has_text_of}
 use Rattle.sqlite.specs.declared.error.Error.{Error}
 use Rattle.sqlite.specs.declared.error.Error.TheVariants.{SqliteFailure}

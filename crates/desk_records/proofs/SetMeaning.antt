@@ -1,9 +1,9 @@
 -- Written by tools/meanings. What it makes is proved; the tool is not trusted.
 -- What the texts of src/set_texts.rt mean, wherever their tables stand.
-use Rattle.desk_records.proofs.Common.{refl, List, [], ◌∷◌, ℕ, codes, pos, negsuc, true, false, Null, Int, Binary, Values, Query, Term, lit, col, simple, by}
+use Rattle.desk_records.proofs.Common.{refl, List, [], ◌∷◌, ℕ, codes, pos, false, Null, Int, Values, Query, Term, lit, col, simple, by}
 use Rattle.desk_records.specs.declared.set_texts.TheConstants.{FIND_SET, LAST_SET, GET_SET, LIST_SET_MODULES, MODULE_LOCKED, PUT_SET, PUT_SET_MODULE}
 use Rattle.desk_records.specs.Schema.{Sets, SetModules}
-use Rattle.desk_records.proofs.MeaningWords.{compiling, Asks, Puts, at_key}
+use Rattle.desk_records.proofs.MeaningWords.{compiling, Asks, Puts, at_key, in_order, greatest_number, no_limit, no_offset}
 
 abbrev pub same_names : List Term
 same_names = at_key 2 0 ∷ at_key 3 1 ∷ []
@@ -11,10 +11,7 @@ same_names = at_key 2 0 ∷ at_key 3 1 ∷ []
 pub find_set_is : Asks Sets FIND_SET.now (λ tree. simple tree same_names (col 1 0 ∷ [])) (codes "number" ∷ [])
 find_set_is = unfold compiling in record { queries = λ tree. record { parsed = _; select = _; source = _; page = _; shown = _; read = refl; is = (refl, refl, refl, refl); core = (refl, refl, refl); from = (refl, refl, refl, refl, refl); shows = (tt, tt); filter = ((refl, λ cx how x y. refl), ((refl, λ cx how x y. refl), tt, tt), ((refl, λ cx how x y. refl), tt, tt)); sorts = tt; paged = λ s. refl; named = (refl, refl); becomes = (refl, (refl, refl, refl)) }; shape = λ tree. refl }
 
-abbrev pub last_set_query : ℕ → Query
-last_set_query tree = by (simple tree [] (col 1 0 ∷ [])) ((col 1 0, record { descending = true; collation = Binary }) ∷ []) (lit (Int (pos 1))) (lit (Int (pos 0)))
-
-pub last_set_is : Asks Sets LAST_SET.now last_set_query (codes "number" ∷ [])
+pub last_set_is : Asks Sets LAST_SET.now greatest_number (codes "number" ∷ [])
 last_set_is = unfold compiling in record { queries = λ tree. record { parsed = _; select = _; source = _; page = _; shown = _; read = refl; is = (refl, refl, refl, refl); core = (refl, refl, refl); from = (refl, refl, refl, refl, refl); shows = (tt, tt); filter = tt; sorts = (tt, tt); paged = λ s. refl; named = (refl, refl); becomes = (refl, (refl, refl, refl)) }; shape = λ tree. refl }
 
 abbrev pub name_columns : List Term
@@ -23,10 +20,7 @@ name_columns = col 1 2 ∷ col 1 3 ∷ []
 pub get_set_is : Asks Sets GET_SET.now (λ tree. simple tree (at_key 0 0 ∷ []) name_columns) (codes "name" ∷ codes "version" ∷ [])
 get_set_is = unfold compiling in record { queries = λ tree. record { parsed = _; select = _; source = _; page = _; shown = _; read = refl; is = (refl, refl, refl, refl); core = (refl, refl, refl); from = (refl, refl, refl, refl, refl); shows = (tt, (tt, tt)); filter = ((refl, λ cx how x y. refl), tt, tt); sorts = tt; paged = λ s. refl; named = (refl, refl); becomes = (refl, (refl, refl, refl)) }; shape = λ tree. refl }
 
-abbrev pub set_modules_query : ℕ → Query
-set_modules_query tree = by (simple tree (at_key 1 0 ∷ []) (col 1 3 ∷ [])) ((col 1 2, record { descending = false; collation = Binary }) ∷ []) (lit (Int (negsuc 0))) (lit (Int (pos 0)))
-
-pub list_set_modules_is : Asks SetModules LIST_SET_MODULES.now set_modules_query (codes "module" ∷ [])
+pub list_set_modules_is : Asks SetModules LIST_SET_MODULES.now (in_order 2 false (at_key 1 0 ∷ []) (col 1 3 ∷ []) no_limit no_offset) (codes "module" ∷ [])
 list_set_modules_is = unfold compiling in record { queries = λ tree. record { parsed = _; select = _; source = _; page = _; shown = _; read = refl; is = (refl, refl, refl, refl); core = (refl, refl, refl); from = (refl, refl, refl, refl, refl); shows = (tt, tt); filter = ((refl, λ cx how x y. refl), tt, tt); sorts = (tt, tt); paged = λ s. refl; named = (refl, refl); becomes = (refl, (refl, refl, refl)) }; shape = λ tree. refl }
 
 abbrev pub locked_query : ℕ → Query

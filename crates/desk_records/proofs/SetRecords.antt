@@ -1,20 +1,19 @@
 -- The statements on distribution sets, in records.
-use Rattle.desk_records.proofs.Common.{◌≡◌, ◌≤◌, ◌==◌, ◌||◌, ◌++◌, ℕ, ◌+◌, pos, negsuc, List, [], ◌∷◌, map, filter, take, length, Bool, not, true, false}
-use Rattle.desk_records.proofs.Common.{Option, Some, None, option_map, refl, sym, ap, ap₂, subst, ◌∙◌, arith, nat_eq, list_any, is_some, nat_tests, length-map}
-use Rattle.desk_records.proofs.Common.{list_any-append, IsPermutation, IsPermutation-trans, length_permutation, Null, Int, Row, lit, col, Output, Select}
-use Rattle.desk_records.proofs.Common.{Insert, Values, Database, State, Writes, rows_from, ShowsFirst, simple, passes, shown_in, ordered_rows, cast_int}
-use Rattle.desk_records.proofs.Common.{cast_null, on_content, held_seen, Bytes, SetLabel, same_bytes, item_numbered, modules_of_set, Records, is_named_by_set}
-use Rattle.desk_records.proofs.Common.{IsLastRow, parts_of, Sets, SetModules, set_row, place_row, place_rows_from, is_same_set, names_of, module_rows}
-use Rattle.desk_records.proofs.Common.{set_named, with_set, and_module, AddsSetModule, HoldsRecords, ledger_of, Ordered, Unordered, and-true}
-use Rattle.sqlite.specs.Effect.{Reads as Shows}
+use Rattle.desk_records.proofs.Common.{◌≡◌, ◌≤◌, ◌==◌, ◌||◌, ◌++◌, ℕ, ◌+◌, pos, List, [], ◌∷◌, take, length, Bool, not, false, Option, Some, None, option_map}
+use Rattle.desk_records.proofs.Common.{Shows, refl, sym, ap₂, subst, ◌∙◌, arith, nat_eq, list_any, is_some, nat_tests, length-map, list_any-append}
+use Rattle.desk_records.proofs.Common.{IsPermutation, IsPermutation-trans, length_permutation, Null, Int, Row, col, Insert, Values, Database, State, Writes}
+use Rattle.desk_records.proofs.Common.{rows_from, ShowsFirst, simple, passes, shown_in, ordered_rows, cast_int, cast_null, on_content, held_seen, Bytes}
+use Rattle.desk_records.proofs.Common.{SetLabel, same_bytes, item_numbered, modules_of_set, Records, is_named_by_set, IsLastRow, parts_of, Sets, SetModules}
+use Rattle.desk_records.proofs.Common.{set_row, place_row, place_rows_from, is_same_set, names_of, module_rows, set_named, with_set, and_module, AddsSetModule}
+use Rattle.desk_records.proofs.Common.{HoldsRecords, ledger_of, and-true}
 use Rattle.desk_records.proofs.Comparisons.{words_equal, numbers_equal}
-use Rattle.desk_records.proofs.HoldsAfter.{ChangesOnly, puts, puts_next, records_differ}
+use Rattle.desk_records.proofs.HoldsAfter.{puts, puts_next, records_differ}
 use Rattle.desk_records.proofs.LedgerLists.{last_is_more}
-use Rattle.desk_records.proofs.MeaningWords.{at_key}
+use Rattle.desk_records.proofs.MeaningWords.{at_key, greatest_number, in_order, no_limit, no_offset, selects}
 use Rattle.desk_records.proofs.NumberedReads.{finds, lasts, gets, passes_number, some_pass, some_row}
 use Rattle.desk_records.proofs.PartReads.{all_shown, reads_parts}
 use Rattle.desk_records.proofs.Parts.{same_rows, no_parts}
-use Rattle.desk_records.proofs.SetMeaning.{same_names, last_set_query, name_columns, set_terms, set_modules_query, locked_query, set_module_terms}
+use Rattle.desk_records.proofs.SetMeaning.{same_names, name_columns, set_terms, locked_query, set_module_terms}
 
 abbrev modules : SetLabel → List ℕ
 modules set = set.modules
@@ -27,38 +26,33 @@ its_modules found = grind arith
 
 module _ (db : Database) (now : Records) (holds : HoldsRecords db now) (names : List (List ℕ)) where
   -- whether a set is there
-  pub finds_set : (name version : Bytes) (row : Option Row)
-      → ShowsFirst (Select (record { lets = []; body = simple (holds.spot Sets).tree same_names (col 1 0 ∷ []) }) names) db (names_of name version) row
-      → is_some row ≡ list_any (is_same_set name version) now.sets
+  pub finds_set : (name version : Bytes) (row : Option Row) → ShowsFirst (selects (simple (holds.spot Sets).tree same_names (col 1 0 ∷ [])) names) db
+      (names_of name version) row → is_some row ≡ list_any (is_same_set name version) now.sets
   finds_set name version = finds set_row (holds.spot Sets).tree db now.sets (holds.rows Sets) names same_names (col 1 0 ∷ []) (names_of name version)
       (is_same_set name version) (λ n set. rw (words_equal set.name name, words_equal set.version version, and-true (same_bytes set.version version)) refl)
 
   -- the last number
-  pub lasts_set : (row : Option Row) → ShowsFirst (Select (record { lets = []; body = last_set_query (holds.spot Sets).tree }) names) db [] row
-      → IsLastRow (length now.sets) row
+  pub lasts_set : (row : Option Row) → ShowsFirst (selects (greatest_number (holds.spot Sets).tree) names) db [] row → IsLastRow (length now.sets) row
   lasts_set = lasts set_row (holds.spot Sets).tree db now.sets (holds.rows Sets) names (λ n x. refl)
 
   -- a set's names by its number
-  pub gets_set : (number : ℕ) → 1 ≤ number → (row : Option Row)
-      → ShowsFirst (Select (record { lets = []; body = simple (holds.spot Sets).tree (at_key 0 0 ∷ []) name_columns }) names) db (Int (pos number) ∷ []) row
-      → row ≡ option_map (λ (set : SetLabel). names_of set.name set.version) (item_numbered now.sets number)
+  pub gets_set : (number : ℕ) → 1 ≤ number → (row : Option Row) → ShowsFirst (selects (simple (holds.spot Sets).tree (at_key 0 0 ∷ []) name_columns) names) db
+      (Int (pos number) ∷ []) row → row ≡ option_map (λ (set : SetLabel). names_of set.name set.version) (item_numbered now.sets number)
   gets_set = gets set_row (holds.spot Sets).tree db now.sets (holds.rows Sets) names (λ n x. refl) (at_key 0 0 ∷ []) name_columns
       (passes_number set_row (λ n x. refl))
 
   -- its modules
   pub lists_set_modules : (number : ℕ) → 1 ≤ number → (rows : List Row)
-      → Shows (Select (record { lets = []; body = set_modules_query (holds.spot SetModules).tree }) names) db (Int (pos number) ∷ []) rows
+      → Shows (selects (in_order 2 false (at_key 1 0 ∷ []) (col 1 3 ∷ []) no_limit no_offset (holds.spot SetModules).tree) names) db (Int (pos number) ∷ [])
+      rows
       → rows ≡ module_rows (modules_of_set (item_numbered now.sets number))
   lists_set_modules number least rows shows =
       let test = at_key 1 0 ∷ [] in
       let params = Int (pos number) ∷ [] in
-      let same : nat_eq number number ≡ true = grind (arith, nat_tests) in
-      reads_parts told_place modules (holds.spot SetModules).tree test (col 1 3 ∷ []) (lit (Int (negsuc 0))) (lit (Int (pos 0))) params false number least
+      let all = all_shown told_place told_place number test (col 1 3 ∷ []) params (λ place m. grind (arith, numbers_equal, nat_tests)) (λ place m. refl) 1 in
+      reads_parts told_place modules (holds.spot SetModules).tree test (col 1 3 ∷ []) no_limit no_offset params false number least
       (λ id x. refl) (λ id x. refl) (λ n place m apart. and-true _ ∙ numbers_equal n number ∙ apart) db.trees now.sets (holds.rows SetModules) rows
-      (shows.answer Null)
-      ∙ all_shown told_place told_place number test (col 1 3 ∷ []) params (λ place m. and-true _ ∙ numbers_equal number number ∙ same) (λ place m. refl) 1
-      (parts_of modules (item_numbered now.sets number))
-      ∙ ap module_rows (its_modules (item_numbered now.sets number))
+      (shows.answer Null) ∙ grind (arith, its_modules, all)
 
   -- ---- whether a set names a module
 
@@ -79,7 +73,7 @@ module _ (db : Database) (now : Records) (holds : HoldsRecords db now) (names : 
   first_left : {X : Type 0} (xs : List X) → not (length (take 1 xs) == 0) ≡ not (length xs == 0)
   first_left xs = grind (arith, nat_tests)
 
-  searched : (m : ℕ) (rows : List Row) → Shows (Select (record { lets = []; body = locked_query tree }) names) db (Int (pos m) ∷ []) rows
+  searched : (m : ℕ) (rows : List Row) → Shows (selects (locked_query tree) names) db (Int (pos m) ∷ []) rows
       → not (length rows == 0) ≡ is_named_by_set now.sets m
   searched m rows shows =
       let params = Int (pos m) ∷ [] in
@@ -88,14 +82,11 @@ module _ (db : Database) (now : Records) (holds : HoldsRecords db now) (names : 
       let f = shown_in query params in
       let it = ordered_rows tree test (col 1 1 ∷ []) query.order query.limit query.offset params db.trees rows (shows.answer Null) in
       let seen = held_seen (passes test params) (λ id x. refl) f (λ id x. refl) (db.trees tree) (place_rows_from 1 now.sets) (holds.rows SetModules) in
-      let found = filter (is_at m) (place_rows_from 1 now.sets) in
-      let count : length (map (λ (o : Output). o.1) it.ordered) ≡ length found =
-      length-map it.ordered (λ (o : Output). o.1) ∙ length_permutation _ _ (IsPermutation-trans _ _ _ seen it.same) ∙ length-map found (on_content f) in
-      ap (λ (l : List Row). not (length l == 0)) it.is ∙ first_left (map (λ (o : Output). o.1) it.ordered) ∙ ap (λ n. not (n == 0)) count
-      ∙ some_pass (is_at m) (place_rows_from 1 now.sets) ∙ any_set m 1 now.sets
+      let same = length_permutation _ _ (IsPermutation-trans _ _ _ seen it.same) in
+      grind (arith, it.is, first_left, length-map, same, some_pass (is_at m) (place_rows_from 1 now.sets), any_set m 1 now.sets)
 
   -- whether a set names a module
-  pub finds_lock : (m : ℕ) (row : Option Row) → ShowsFirst (Select (record { lets = []; body = locked_query tree }) names) db (Int (pos m) ∷ []) row
+  pub finds_lock : (m : ℕ) (row : Option Row) → ShowsFirst (selects (locked_query tree) names) db (Int (pos m) ∷ []) row
       → is_some row ≡ is_named_by_set now.sets m
   finds_lock m None shows = searched m [] shows
   finds_lock m (Some row) shows = sym (some_row row shows.0) ∙ searched m (row ∷ shows.0) shows.1
@@ -105,9 +96,7 @@ pub adds_set : (name version : Bytes) (number : ℕ) (old new : State) (text : L
     → (w : Writes old new None (Insert (holds.spot Sets).at (Values set_terms 4)) text (Int (pos number) ∷ names_of name version) count)
     → HoldsRecords new.now (with_set now name version)
 adds_set name version number old new text count now holds next w =
-    puts_next Sets (ledger_of now) (ledger_of (with_set now name version))
-    (records_differ Sets now (with_set now name version) refl refl (Sets ∷ SetModules ∷ []) refl
-    ((λ apart. absurd (apart refl)), ((λ apart. ap Unordered (no_parts place_row modules (set_named name version) refl 1 now.sets)), tt))) holds.sorted set_row
+    puts_next Sets (ledger_of now) (ledger_of (with_set now name version)) (grind (arith, records_differ, no_parts)) holds.sorted set_row
     (λ n x. refl) now.sets (set_named name version) number next set_terms 4 holds w (λ tree. refl) (λ db tree. rw (cast_int number, cast_null) refl) refl refl
 
 pub adds_set_module : (number place m : ℕ) (old new : State) (text : List ℕ) (count : ℕ) (now next : Records) (holds : HoldsRecords old.now now)
@@ -116,15 +105,8 @@ pub adds_set_module : (number place m : ℕ) (old new : State) (text : List ℕ)
     → HoldsRecords new.now next
 adds_set_module number place m old new text count now next holds change w =
     let after = record now { sets = change.before ++ and_module change.set m ∷ [] } in
-    let row = place_row number place m in
     subst (HoldsRecords new.now) (sym change.next_is)
-    (puts SetModules (ledger_of now) (ledger_of after) only holds.sorted set_module_terms 4 holds w (λ tree. refl) row row (λ tree. refl)
-    (λ tree. rw (cast_int number, cast_int place, cast_int m) refl) refl refl
-    (subst (λ sets. IsPermutation (place_rows_from 1 after.sets) (row ∷ place_rows_from 1 sets)) (sym change.last)
+    (puts SetModules (ledger_of now) (ledger_of after) (grind (arith, records_differ, same_rows, change.last)) holds.sorted set_module_terms 4 holds w
+    (λ tree. refl) _ _ (λ tree. refl) (λ tree. rw (cast_int number, cast_int place, cast_int m) refl) refl refl
+    (subst (λ sets. IsPermutation (place_rows_from 1 after.sets) (place_row number place m ∷ place_rows_from 1 sets)) (sym change.last)
     (last_is_more place_row modules change.set (and_module change.set m) m refl number place change.before change.number_is change.place_is)))
-  where
-    only : ChangesOnly SetModules (ledger_of now) (ledger_of (record now { sets = change.before ++ and_module change.set m ∷ [] }))
-    only = records_differ SetModules now (record now { sets = change.before ++ and_module change.set m ∷ [] }) refl refl (Sets ∷ SetModules ∷ []) refl (
-      (λ apart. ap Ordered (same_rows set_row change.set (and_module change.set m) (λ n. refl) 1 change.before ∙ ap (rows_from set_row 1) (sym change.last))),
-      ((λ apart. absurd (apart refl)), tt),
-    )

@@ -1,8 +1,7 @@
 -- The columns of the tables of a desk are of their kinds, in each sound database.
-use Rattle.desk_records.proofs.Common.{◌≡◌, ℕ, zero, suc, ◌+◌, ℤ, true, false, pos, List, [], ◌∷◌, drop, slice_get, Option, Some, refl, sym, ap}
-use Rattle.desk_records.proofs.Common.{subst, ◌∙◌, arith, and_parts, Value, Int, Row, column, is_null, is_of}
-use Rattle.desk_records.proofs.Common.{are_typed, are_present, Has, all_has, all-slice_get, Database, passes, lies_at, has_at, Place, table_at, table_by}
-use Rattle.desk_records.proofs.Common.{HoldsTables, Tables}
+use Rattle.desk_records.proofs.Common.{◌≡◌, ℕ, zero, suc, ◌+◌, ℤ, true, false, pos, List, [], ◌∷◌, drop, slice_get, Option, Some, refl, subst, arith, and_parts}
+use Rattle.desk_records.proofs.Common.{Value, Int, Row, column, is_null, is_of, are_typed, are_present, Has, all_has, all-slice_get, Database, passes, lies_at}
+use Rattle.desk_records.proofs.Common.{has_at, Place, table_at, table_by, HoldsTables, Tables}
 use Rattle.sqlite_schema.specs.declared.schema.Kind.TheVariants as kind
 use Rattle.sqlite_schema.specs.declared.schema.Column.{Column}
 use Rattle.sqlite_schema.specs.declared.schema.Constraint.TheVariants.{Datatype, NotNull}
@@ -18,10 +17,10 @@ typed_from : (key : Option ℕ) (at : ℕ) (columns : List Column) (vs : Row) (k
 typed_from key at [] vs k c there strict apart typed = absurd cc
 typed_from key at (x ∷ columns) [] zero c there strict apart typed = refl
 typed_from key at (x ∷ columns) [] (suc k) c there strict apart typed =
-    grind (arith, typed_from key (at + 1) columns [] k c there strict, is_key, and_parts, typed)
+    grind (arith, typed_from key (at + 1) columns [] k c there strict, strict, is_key, and_parts, typed)
 typed_from key at (x ∷ columns) (v ∷ vs) zero c there strict apart typed = grind (arith, there, strict, apart, typed)
 typed_from key at (x ∷ columns) (v ∷ vs) (suc k) c there strict apart typed =
-    grind (arith, typed_from key (at + 1) columns vs k c there strict, is_key, and_parts, typed)
+    grind (arith, typed_from key (at + 1) columns vs k c there strict, strict, is_key, and_parts, typed)
 
 present_from : (key : Option ℕ) (at : ℕ) (columns : List Column) (row : Row) (k : ℕ) (c : Column) → slice_get columns k ≡ Some c → c.not_null ≡ true
     → is_key key (at + k) ≡ false
@@ -62,12 +61,9 @@ module _ (db : Database) (t : Tables) (holds : HoldsTables db t) (p : Place) (ro
   pub integer_at : (k : ℕ) → IsInteger p k → (n : ℤ) × (column row (suc k) ≡ Int n)
   integer_at k it =
       let apart : is_key (table_by p).key (0 + k) ≡ false = subst (λ n. is_key (table_by p).key n ≡ false) {x = k} (omega arith) it.apart in
-      let next : 0 + k + 1 ≡ suc k = omega arith in
-      let kept : is_of it.c.kind (column row (suc k)) ≡ true = ap (is_of it.c.kind) (sym (behind row k))
-      ∙ typed_from (table_by p).key 0 (table_by p).columns (drop 1 row) k it.c it.there it.strict apart typed in
-      let given : is_null (column row (suc k)) ≡ false = ap (λ n. is_null (column row n)) (sym next)
-      ∙ present_from (table_by p).key 0 (table_by p).columns row k it.c it.there it.filled apart present in
-      number_there (column row (suc k)) given (ap (λ kind. is_of kind (column row (suc k))) (sym it.kind_is) ∙ kept)
+      let kept = typed_from (table_by p).key 0 (table_by p).columns (drop 1 row) k it.c it.there it.strict apart typed in
+      let given = present_from (table_by p).key 0 (table_by p).columns row k it.c it.there it.filled apart present in
+      number_there (column row (suc k)) (grind (arith, given)) (grind (arith, kept, behind row k, it.kind_is))
 
   -- WHERE column = ?1, whatever parameters follow
   pub passes_integer : (k : ℕ) → IsInteger p k → (n : ℕ) (more : Row) → passes (at_key (suc k) 0 ∷ []) (Int (pos n) ∷ more) row ≡ has_at (suc k) n row

@@ -1,9 +1,9 @@
 -- Written by tools/meanings. What it makes is proved; the tool is not trusted.
 -- What the texts of src/target_texts.rt mean, wherever their tables stand.
-use Rattle.desk_records.proofs.Common.{refl, List, [], ◌∷◌, ℕ, codes, pos, negsuc, false, Null, Int, Binary, Values, Query, Term, lit, col, simple, by}
+use Rattle.desk_records.proofs.Common.{refl, List, [], ◌∷◌, codes, false, Null, Values, Term, lit, col, simple}
 use Rattle.desk_records.specs.declared.target_texts.TheConstants.{GET_TARGET, COUNT_TARGETS, LIST_TARGETS, LIST_TARGET_TAGS, PUT_TARGET, SET_TARGET, PUT_TARGET_TAG, DROP_TARGET_TAG, LIST_TARGET_ATTRIBUTES, PUT_TARGET_ATTRIBUTE, SET_TARGET_ATTRIBUTE}
 use Rattle.desk_records.specs.Schema.{Targets, TargetTags, TargetAttributes}
-use Rattle.desk_records.proofs.MeaningWords.{compiling, Asks, Counts, Puts, Changes, Drops, at_key}
+use Rattle.desk_records.proofs.MeaningWords.{compiling, Asks, Counts, Puts, Changes, Drops, at_key, in_order, changing, no_limit, no_offset}
 
 abbrev pub of_target : List Term
 of_target = at_key 1 0 ∷ []
@@ -17,16 +17,10 @@ get_target_is = unfold compiling in record { queries = λ tree. record { parsed 
 pub count_targets_is : Counts Targets COUNT_TARGETS.now
 count_targets_is = unfold compiling in record { queries = λ tree. record { parsed = _; select = _; source = _; page = _; shown = _; read = refl; is = (refl, refl, refl, refl); core = (refl, refl, refl); from = (refl, refl, refl, refl, refl); shows = (tt, tt); filter = tt; sorts = tt; paged = λ s. refl; named = (refl, refl); becomes = (refl, (refl, refl, refl)) } }
 
-abbrev pub targets_query : ℕ → Query
-targets_query tree = by (simple tree [] (col 1 1 ∷ col 1 2 ∷ [])) ((col 1 1, record { descending = false; collation = Binary }) ∷ []) (col 0 0) (col 0 1)
-
-pub list_targets_is : Asks Targets LIST_TARGETS.now targets_query (codes "controller" ∷ codes "name" ∷ [])
+pub list_targets_is : Asks Targets LIST_TARGETS.now (in_order 1 false [] (col 1 1 ∷ col 1 2 ∷ []) (col 0 0) (col 0 1)) (codes "controller" ∷ codes "name" ∷ [])
 list_targets_is = unfold compiling in record { queries = λ tree. record { parsed = _; select = _; source = _; page = _; shown = _; read = refl; is = (refl, refl, refl, refl); core = (refl, refl, refl); from = (refl, refl, refl, refl, refl); shows = (tt, (tt, tt)); filter = tt; sorts = (tt, tt); paged = λ s. refl; named = (refl, refl); becomes = (refl, (refl, refl, refl)) }; shape = λ tree. refl }
 
-abbrev pub tags_query : ℕ → Query
-tags_query tree = by (simple tree of_target (col 1 2 ∷ [])) ((col 1 2, record { descending = false; collation = Binary }) ∷ []) (lit (Int (negsuc 0))) (lit (Int (pos 0)))
-
-pub list_target_tags_is : Asks TargetTags LIST_TARGET_TAGS.now tags_query (codes "tag" ∷ [])
+pub list_target_tags_is : Asks TargetTags LIST_TARGET_TAGS.now (in_order 2 false of_target (col 1 2 ∷ []) no_limit no_offset) (codes "tag" ∷ [])
 list_target_tags_is = unfold compiling in record { queries = λ tree. record { parsed = _; select = _; source = _; page = _; shown = _; read = refl; is = (refl, refl, refl, refl); core = (refl, refl, refl); from = (refl, refl, refl, refl, refl); shows = (tt, tt); filter = ((refl, λ cx how x y. refl), tt, tt); sorts = (tt, tt); paged = λ s. refl; named = (refl, refl); becomes = (refl, (refl, refl, refl)) }; shape = λ tree. refl }
 
 abbrev pub target_terms : List Term
@@ -38,10 +32,7 @@ put_target_is = unfold compiling in record { adds = λ tree. record { parsed = _
 abbrev pub new_values : List Term
 new_values = col 1 1 ∷ col 0 1 ∷ col 0 2 ∷ []
 
-abbrev pub set_target_query : ℕ → Query
-set_target_query tree = simple tree of_target (col 1 0 ∷ col 1 0 ∷ new_values)
-
-pub set_target_is : Changes Targets SET_TARGET.now set_target_query
+pub set_target_is : Changes Targets SET_TARGET.now (changing of_target new_values)
 set_target_is = unfold compiling in record { updates = λ tree. record { parsed = _; sets = _; test = _; draft = _; read = refl; is = (refl, refl); values = (tt, (tt, tt)); filter = ((refl, λ cx how x y. refl), tt, tt); known = refl; becomes = (refl, refl, refl) } }
 
 abbrev pub tag_terms : List Term
@@ -53,16 +44,10 @@ put_target_tag_is = unfold compiling in record { adds = λ tree. record { parsed
 abbrev pub of_tag : List Term
 of_tag = at_key 1 0 ∷ at_key 2 1 ∷ []
 
-abbrev pub drop_tag_query : ℕ → Query
-drop_tag_query tree = simple tree of_tag (col 1 0 ∷ [])
-
-pub drop_target_tag_is : Drops TargetTags DROP_TARGET_TAG.now drop_tag_query
+pub drop_target_tag_is : Drops TargetTags DROP_TARGET_TAG.now (λ tree. simple tree of_tag (col 1 0 ∷ []))
 drop_target_tag_is = unfold compiling in record { removes = λ tree. record { parsed = _; test = _; draft = _; read = refl; is = (refl, refl); filter = ((refl, λ cx how x y. refl), ((refl, λ cx how x y. refl), tt, tt), ((refl, λ cx how x y. refl), tt, tt)); known = refl; becomes = (refl, refl, refl) } }
 
-abbrev pub attributes_query : ℕ → Query
-attributes_query tree = by (simple tree of_target (col 1 2 ∷ col 1 3 ∷ [])) ((col 1 2, record { descending = false; collation = Binary }) ∷ []) (lit (Int (negsuc 0))) (lit (Int (pos 0)))
-
-pub list_target_attributes_is : Asks TargetAttributes LIST_TARGET_ATTRIBUTES.now attributes_query (codes "key" ∷ codes "value" ∷ [])
+pub list_target_attributes_is : Asks TargetAttributes LIST_TARGET_ATTRIBUTES.now (in_order 2 false of_target (col 1 2 ∷ col 1 3 ∷ []) no_limit no_offset) (codes "key" ∷ codes "value" ∷ [])
 list_target_attributes_is = unfold compiling in record { queries = λ tree. record { parsed = _; select = _; source = _; page = _; shown = _; read = refl; is = (refl, refl, refl, refl); core = (refl, refl, refl); from = (refl, refl, refl, refl, refl); shows = (tt, (tt, tt)); filter = ((refl, λ cx how x y. refl), tt, tt); sorts = (tt, tt); paged = λ s. refl; named = (refl, refl); becomes = (refl, (refl, refl, refl)) }; shape = λ tree. refl }
 
 abbrev pub attribute_terms : List Term
@@ -77,8 +62,5 @@ of_attribute = at_key 1 0 ∷ at_key 2 1 ∷ []
 abbrev pub new_value : List Term
 new_value = col 1 1 ∷ col 1 2 ∷ col 0 2 ∷ []
 
-abbrev pub set_attribute_query : ℕ → Query
-set_attribute_query tree = simple tree of_attribute (col 1 0 ∷ col 1 0 ∷ new_value)
-
-pub set_target_attribute_is : Changes TargetAttributes SET_TARGET_ATTRIBUTE.now set_attribute_query
+pub set_target_attribute_is : Changes TargetAttributes SET_TARGET_ATTRIBUTE.now (changing of_attribute new_value)
 set_target_attribute_is = unfold compiling in record { updates = λ tree. record { parsed = _; sets = _; test = _; draft = _; read = refl; is = (refl, refl); values = (tt, tt); filter = ((refl, λ cx how x y. refl), ((refl, λ cx how x y. refl), tt, tt), ((refl, λ cx how x y. refl), tt, tt)); known = refl; becomes = (refl, refl, refl) } }

@@ -1,25 +1,23 @@
 -- The statements on targets and their tags, in records.
-use Rattle.desk_records.proofs.Common.{arith, ◌≡◌, ◌∷◌, ◌&&◌, ℕ, min, pos, negsuc, List, [], Bool, true, cond, not, map, filter, take, drop, flat_map, length}
-use Rattle.desk_records.proofs.Common.{slice_get, Option, Some, None, option_map, refl, sym, ap, subst, ◌∙◌, codes, list_all, and_parts, length-map, take-map}
-use Rattle.desk_records.proofs.Common.{drop-map, IsPermutation-map, Null, Int, Text, Blob, Row, plain, agree, filter_all, all_of, map-map, cast_all, lit, col}
-use Rattle.desk_records.proofs.Common.{Command, Select, Insert, Update, Delete, Values, Database, State, Writes, IsHeldBy, Rise, strict, ShowsFirst, on_content}
-use Rattle.desk_records.proofs.Common.{changed, keys_apart, are_whole, reads_key, changes_key, drops, reads_risen, simple, passes, shown_of, updates, deletes}
-use Rattle.desk_records.proofs.Common.{same_bytes, with_word, without_word, Bytes, TargetRow, change_target, Records, Target, tags_of, target_of, Targets}
-use Rattle.desk_records.proofs.Common.{TargetTags, TargetAttributes, target_table, target_tag_table, target_row, tag_rows, attribute_rows, in_byte_order}
-use Rattle.desk_records.proofs.Common.{ids_of, is_sorted, renamed, tagged, untagged, with_target, with_changed, AddsTarget, AddsTag, HoldsRecords, ledger_of}
-use Rattle.desk_records.proofs.Common.{Unordered, and-true}
+use Rattle.desk_records.proofs.Common.{arith, ◌≡◌, ◌∷◌, ◌&&◌, ℕ, min, pos, List, [], Bool, true, cond, not, map, filter, take, drop, flat_map, length}
+use Rattle.desk_records.proofs.Common.{slice_get, Option, Some, None, option_map, refl, sym, ap, subst, ◌∙◌, list_all, and_parts, length-map, take-map}
+use Rattle.desk_records.proofs.Common.{drop-map, IsPermutation-map, Null, Int, Text, Blob, Row, plain, agree, filter_all, all_of, map-map, cast_all, col}
+use Rattle.desk_records.proofs.Common.{Command, Insert, Values, Database, State, Writes, IsHeldBy, Rise, ShowsFirst, on_content, changed, keys_apart, reads_key}
+use Rattle.desk_records.proofs.Common.{changes_key, drops, reads_risen, simple, passes, shown_of, updates, deletes, same_bytes, with_word, without_word, Bytes}
+use Rattle.desk_records.proofs.Common.{TargetRow, change_target, Records, Target, tags_of, target_of, Targets, TargetTags, target_table}
+use Rattle.desk_records.proofs.Common.{target_tag_table, target_row, tag_rows, in_byte_order, ids_of, is_sorted, renamed, tagged, untagged}
+use Rattle.desk_records.proofs.Common.{with_target, with_changed, AddsTarget, AddsTag, HoldsRecords, ledger_of, and-true, false, Shows}
 use Rattle.sqlite_value.specs.Keys.{first_key}
-use Rattle.sqlite.specs.Kind.TheVariants as kind
 use Rattle.sqlite.specs.Effect.{Reads as Shows}
 use Rattle.sql_calls.proofs.Counts.{count_query, count_rows, length_held}
 use Rattle.desk_records.proofs.HoldsAfter.{ChangesOnly, holds_after, puts, records_differ}
-use Rattle.desk_records.proofs.TargetMeaning.{of_target, target_columns, target_terms, new_values, set_target_query, targets_query, tags_query, tag_terms}
-use Rattle.desk_records.proofs.TargetMeaning.{of_tag, drop_tag_query}
+use Rattle.desk_records.proofs.TargetMeaning.{of_target, target_columns, target_terms, new_values, tag_terms, of_tag}
 use Rattle.desk_records.proofs.Comparisons.{words_equal}
 use Rattle.desk_records.proofs.ByteOrder.{sorted_from, in_order_with, in_order_without}
 use Rattle.desk_records.proofs.Targets.{has_id, first_found, changed_map, changed_rows, changed_sorted, rows_of, its_rows, put_is_more, put_rows, put_sorted}
-use Rattle.std.proofs.lemmas.List.{map-id}
 use Rattle.desk_records.proofs.Targets.{keys_rise, tag_row, tags_sorted, tag_is_more, tag_is_less}
+use Rattle.std.proofs.lemmas.List.{map-id}
+use Rattle.desk_records.proofs.MeaningWords.{changes, drops_those, in_order, no_limit, no_offset, selects}
 
 -- ---- which rows a statement names
 
@@ -74,15 +72,13 @@ module _ (id : Bytes) where
 
 module _ (db : Database) (now : Records) (holds : HoldsRecords db now) (names : List (List ℕ)) where
   -- a target by its id
-  pub gets_target : (id : Bytes) (row : Option Row)
-      → ShowsFirst (Select (record { lets = []; body = simple (holds.spot Targets).tree of_target target_columns }) names) db (Text id ∷ []) row
-      → row ≡ option_map told_target (target_of now id)
+  pub gets_target : (id : Bytes) (row : Option Row) → ShowsFirst (selects (simple (holds.spot Targets).tree of_target target_columns) names) db (Text id ∷ [])
+      row → row ≡ option_map told_target (target_of now id)
   gets_target id row shown =
       let spot = holds.spot Targets in
       let params = Text id ∷ [] in
       let table = target_table spot.tree in
-      first_row (Select (record { lets = []; body = simple spot.tree of_target target_columns }) names) db params _ (λ rows shows.
-      ap (λ (l : List Row). slice_get l 0)
+      first_row (selects (simple spot.tree of_target target_columns) names) db params _ (λ rows shows. ap (λ (l : List Row). slice_get l 0)
       (reads_key db.schema table (1 ∷ []) of_target params (λ i x. refl) (0 ∷ []) (first_fixed params) target_columns (λ i x. refl) db.trees
       (map target_row now.targets)
       (keys_apart db.schema db.trees spot.at table 0 (1 ∷ []) holds.sound (holds.stands Targets).got refl refl) (holds.rows Targets) rows (shows.answer Null))
@@ -90,54 +86,42 @@ module _ (db : Database) (now : Records) (holds : HoldsRecords db now) (names : 
       (λ t. names_it id t.id (Text t.name ∷ Blob t.digest ∷ []) []) now.targets) row shown
 
   -- how many there are
-  pub counts_targets : (row : Option Row) → ShowsFirst (Select (record { lets = []; body = count_query (holds.spot Targets).tree }) names) db [] row
+  pub counts_targets : (row : Option Row) → ShowsFirst (selects (count_query (holds.spot Targets).tree) names) db [] row
       → row ≡ Some (Int (pos (min (length now.targets) 9223372036854775807)) ∷ [])
   counts_targets row shown =
       let spot = holds.spot Targets in
-      let size : length (db.trees spot.tree) ≡ length now.targets = length_held _ _ (holds.rows Targets) ∙ length-map now.targets target_row in
-      first_row (Select (record { lets = []; body = count_query spot.tree }) names) db [] _ (λ rows shows.
-      ap (λ (l : List Row). slice_get l 0) (count_rows spot.tree [] db.trees rows (shows.answer Null))
-      ∙ ap (λ n. Some (Int (pos (min n 9223372036854775807)) ∷ [])) size) row shown
+      first_row (selects (count_query spot.tree) names) db [] _ (λ rows shows.
+      grind (arith, count_rows spot.tree [] db.trees rows (shows.answer Null), length_held _ _ (holds.rows Targets), length-map)) row shown
 
   -- the targets of a page, in byte order of their ids
-  pub lists_targets : (limit offset : ℕ) (rows : List Row) → Shows (Select (record { lets = []; body = targets_query (holds.spot Targets).tree }) names) db
+  pub lists_targets : (limit offset : ℕ) (rows : List Row)
+      → Shows (selects (in_order 1 false [] (col 1 1 ∷ col 1 2 ∷ []) (col 0 0) (col 0 1) (holds.spot Targets).tree) names) db
       (Int (pos limit) ∷ Int (pos offset) ∷ []) rows
       → rows ≡ map listed_row (take limit (drop offset now.targets))
   lists_targets limit offset rows shows =
       let spot = holds.spot Targets in
       let params = Int (pos limit) ∷ Int (pos offset) ∷ [] in
-      let table = target_table spot.tree in
       let ts = now.targets in
       let all : filter (on_content (passes [] params)) (map target_row ts) ≡ map target_row ts = filter_all _ _ (all_of _ (λ x. refl) _) in
       let rise = subst (Rise 0) (sym all) (keys_rise (λ (t : Target). t.id) target_row 0 (λ a b. refl) ts (ids_sorted db now holds)) in
-      reads_risen db.schema table [] 0 (strict (codes "controller") kind.Text true) refl refl refl [] params (λ i x. refl) [] (λ r h. refl)
-      (col 1 1 ∷ col 1 2 ∷ []) (λ i x. refl) (col 0 0) (col 0 1)
-      db.trees (map target_row ts) (keys_apart db.schema db.trees spot.at table 0 (1 ∷ []) holds.sound (holds.stands Targets).got refl refl)
-      (are_whole db.schema db.trees spot.at table holds.sound (holds.stands Targets).got) (holds.rows Targets) rise
-      rows (shows.answer Null)
-      ∙ ap (λ l. take limit (drop offset (map (on_content (shown_of (col 1 1 ∷ col 1 2 ∷ []) params)) l))) all
-      ∙ ap (λ l. take limit (drop offset l)) (map-map (on_content (shown_of (col 1 1 ∷ col 1 2 ∷ []) params)) target_row ts)
-      ∙ ap (take limit) (drop-map listed_row offset ts) ∙ take-map listed_row limit (drop offset ts)
+      reads_risen spot.tree [] params (λ i x. refl) 0 (col 1 1 ∷ col 1 2 ∷ []) (λ i x. refl) (col 0 0) (col 0 1) db.trees (map target_row ts)
+      (holds.rows Targets) rise rows (shows.answer Null) ∙ grind (arith, all, map-map, drop-map, take-map)
 
   -- the tags of a target, in byte order
-  pub lists_target_tags : (id : Bytes) (rows : List Row) → Shows (Select (record { lets = []; body = tags_query (holds.spot TargetTags).tree }) names) db
+  pub lists_target_tags : (id : Bytes) (rows : List Row)
+      → Shows (selects (in_order 2 false of_target (col 1 2 ∷ []) no_limit no_offset (holds.spot TargetTags).tree) names) db
       (Text id ∷ []) rows → rows ≡ shown_tags (tags_of (target_of now id))
   lists_target_tags id rows shows =
       let spot = holds.spot TargetTags in
       let params = Text id ∷ [] in
-      let table = target_tag_table spot.tree in
       let wanted = flat_map tag_rows now.targets in
       let found = target_of now id in
       let its : filter (is_of id) wanted ≡ rows_of tag_rows found =
       its_rows tag_rows (is_of id) id (λ t. its_own tag_row id (λ i w. names_it id i (Text w ∷ []) []) t.id (same_bytes t.id id) refl t.tags) now.targets
       (sorted_from (ids_of now.targets) (ids_sorted db now holds)) in
       let rise = subst (Rise 1) (sym its) (found_rise id found (tags_sorted id now.targets (each_sorted db now holds))) in
-      reads_risen db.schema table (1 ∷ []) 1 (strict (codes "tag") kind.Text true) refl refl refl of_target params (λ i x. refl) (0 ∷ []) (first_fixed params)
-      (col 1 2 ∷ []) (λ i x. refl) (lit (Int (negsuc 0))) (lit (Int (pos 0)))
-      db.trees wanted (keys_apart db.schema db.trees spot.at table 0 (1 ∷ 2 ∷ []) holds.sound (holds.stands TargetTags).got refl refl)
-      (are_whole db.schema db.trees spot.at table holds.sound (holds.stands TargetTags).got) (holds.rows TargetTags) rise
-      rows (shows.answer Null)
-      ∙ ap (map (on_content (shown_of (col 1 2 ∷ []) params))) its ∙ tags_shown id found
+      reads_risen spot.tree of_target params (λ i x. refl) 1 (col 1 2 ∷ []) (λ i x. refl) no_limit no_offset db.trees wanted (holds.rows TargetTags) rise rows
+      (shows.answer Null) ∙ grind (arith, its, tags_shown id found)
 
 -- ---- a new target
 
@@ -147,21 +131,11 @@ pub adds_target : (id name digest : Bytes) (old new : State) (text : List ℕ) (
     → HoldsRecords new.now next
 adds_target id name digest old new text count now next holds change w =
     let given = Text id ∷ Text name ∷ Blob digest ∷ [] in
+    let row : TargetRow = record { id = id; name = name; digest = digest; tags = [] } in
     subst (HoldsRecords new.now) (sym change.next_is)
-    (puts Targets (ledger_of now) (ledger_of (with_target now id name digest)) only (put_sorted row refl now.targets change.is_new holds.sorted) target_terms 4
+    (puts Targets (ledger_of now) (ledger_of (with_target now id name digest)) (grind (arith, records_differ, put_rows, change.is_new))
+    (put_sorted row refl now.targets change.is_new holds.sorted) target_terms 4
     holds w (λ tree. refl) given given (λ tree. refl) (λ tree. refl) refl refl (IsPermutation-map target_row _ _ (put_is_more row now.targets change.is_new)))
-  where
-    row : TargetRow
-    row = record { id = id; name = name; digest = digest; tags = [] }
-
-    only : ChangesOnly Targets (ledger_of now) (ledger_of (with_target now id name digest))
-    only = records_differ Targets now (with_target now id name digest) refl refl (Targets ∷ TargetTags ∷ TargetAttributes ∷ []) refl (
-      (λ apart. absurd (apart refl)),
-      (
-        (λ apart. ap Unordered (put_rows row tag_rows refl now.targets change.is_new)),
-        ((λ apart. ap Unordered (put_rows row attribute_rows refl now.targets change.is_new)), tt),
-      ),
-    )
 
 -- ---- another name and digest
 
@@ -172,32 +146,21 @@ changed_targets p g id f same becomes [] = refl
 changed_targets p g id f same becomes (t ∷ ts) = grind (arith, changed_targets p g id f same becomes ts, same t, becomes t)
 
 pub sets_target : (id name digest : Bytes) (old new : State) (text : List ℕ) (count : ℕ) (now : Records) (holds : HoldsRecords old.now now)
-    → (w : Writes old new None (Update (holds.spot Targets).at (record { lets = []; body = set_target_query (holds.spot Targets).tree })) text
-    (Text id ∷ Text name ∷ Blob digest ∷ []) count)
+    → (w : Writes old new None (changes (holds.spot Targets) of_target new_values) text (Text id ∷ Text name ∷ Blob digest ∷ []) count)
     → HoldsRecords new.now (with_changed now id (renamed name digest))
 sets_target id name digest old new text count now holds w =
     let spot = holds.spot Targets in
     let params = Text id ∷ Text name ∷ Blob digest ∷ [] in
     let table = target_table spot.tree in
-    let made = updates old.now.schema spot.at table (record { lets = []; body = set_target_query spot.tree }) (holds.stands Targets).got
-    (holds.stands Targets).keyless old new refl text params count w in
+    let made = updates old.now.schema spot.at table _ (holds.stands Targets).got (holds.stands Targets).keyless old new refl text params count w in
     let set = changes_key old.now.schema table (1 ∷ []) of_target params (λ i x. refl) (0 ∷ []) (first_fixed params) new_values (λ i x. refl) old.now new.now
     (map target_row now.targets)
     (keys_apart old.now.schema old.now.trees spot.at table 0 (1 ∷ []) holds.sound (holds.stands Targets).got refl refl) (holds.rows Targets) made in
     let is = changed_targets (on_content (passes of_target params)) (λ x. cast_all table.columns (on_content (shown_of new_values params) x)) id
     (renamed name digest) (λ t. names_it id t.id (Text t.name ∷ Blob t.digest ∷ []) (Text name ∷ Blob digest ∷ [])) (λ t. refl) now.targets in
     holds_after Targets now (with_changed now id (renamed name digest)) old.now new.now holds
-    (record { schema = made.schema_is; sound = w.sound; others = made.applies.tables }) (subst (IsHeldBy (new.now.trees spot.tree)) is set) only
-    (changed_sorted id (renamed name digest) (λ t. refl) (λ t sorted. sorted) now.targets holds.sorted)
-  where
-    only : ChangesOnly Targets (ledger_of now) (ledger_of (with_changed now id (renamed name digest)))
-    only = records_differ Targets now (with_changed now id (renamed name digest)) refl refl (Targets ∷ TargetTags ∷ TargetAttributes ∷ []) refl (
-      (λ apart. absurd (apart refl)),
-      (
-        (λ apart. ap Unordered (changed_rows id (renamed name digest) tag_rows (λ t. refl) now.targets)),
-        ((λ apart. ap Unordered (changed_rows id (renamed name digest) attribute_rows (λ t. refl) now.targets)), tt),
-      ),
-    )
+    (record { schema = made.schema_is; sound = w.sound; others = made.applies.tables }) (subst (IsHeldBy (new.now.trees spot.tree)) is set)
+    (grind (arith, records_differ, changed_rows)) (changed_sorted id (renamed name digest) (λ t. refl) (λ t sorted. sorted) now.targets holds.sorted)
 
 -- ---- tags
 
@@ -223,12 +186,12 @@ names_tag : (id w i v : Bytes) → not (passes of_tag (tag_row id w) (Null ∷ t
 names_tag id w i v = ap not (rw (words_equal i id, words_equal v w) (ap (λ b. same_bytes i id && b) (and-true (same_bytes v w))))
 
 pub drops_tag : (id w : Bytes) (old new : State) (text : List ℕ) (count : ℕ) (now : Records) (holds : HoldsRecords old.now now)
-    → (done : Writes old new None (Delete (holds.spot TargetTags).at (record { lets = []; body = drop_tag_query (holds.spot TargetTags).tree })) text
+    → (done : Writes old new None (drops_those (holds.spot TargetTags) of_tag) text
     (tag_row id w) count) → HoldsRecords new.now (with_changed now id (untagged w))
 drops_tag id w old new text count now holds done =
     let spot = holds.spot TargetTags in
     let table = target_tag_table spot.tree in
-    let made = deletes old.now.schema spot.at table (record { lets = []; body = drop_tag_query spot.tree }) (holds.stands TargetTags).got
+    let made = deletes old.now.schema spot.at table _ (holds.stands TargetTags).got
     (holds.stands TargetTags).keyless old new refl text (tag_row id w) count done in
     let left = drops old.now.schema table (1 ∷ 2 ∷ []) of_tag (tag_row id w) (λ i x. refl) old.now new.now (flat_map tag_rows now.targets)
     (holds.rows TargetTags) made in

@@ -1,7 +1,7 @@
 -- Targets and their rows, in lists alone.
-use Rattle.desk_records.proofs.Common.{common_steps, arith, ℕ, value_cmp, ◌≡◌, ◌++◌, Bool, true, false, cond, not, ◌&&◌, List, [], ◌∷◌, map, filter, slice_get}
-use Rattle.desk_records.proofs.Common.{Option, Some, None, option_map, refl, sym, ap, ap₂, ◌∙◌, IsPermutation, flat_map, find, list_all, AllByRecursion}
-use Rattle.desk_records.proofs.Common.{is_gt, is_some, and_parts, or_parts, filter-append, IsPermutation-refl, IsPermutation-map}
+use Rattle.desk_records.proofs.Common.{Less, common_steps, arith, ℕ, value_cmp, ◌≡◌, ◌++◌, Bool, true, false, cond, not, ◌&&◌, List, [], ◌∷◌, map, filter}
+use Rattle.desk_records.proofs.Common.{slice_get, Option, Some, None, option_map, refl, sym, ap, ap₂, ◌∙◌, IsPermutation, flat_map, find, list_all}
+use Rattle.desk_records.proofs.Common.{AllByRecursion, is_some, and_parts, or_parts, filter-append, IsPermutation-refl, IsPermutation-map}
 use Rattle.desk_records.proofs.Common.{IsPermutation-append_left, Text, Row, by_column, Rise, same_bytes, bytes_below, contains_word, with_word, without_word}
 use Rattle.desk_records.proofs.Common.{Bytes, TargetRow, new_target, put_target, change_target, Target, tags_of, AllAbove, IsSorted, not_above, same_sym}
 use Rattle.desk_records.proofs.Common.{same_true, tag_rows, in_byte_order, ids_of, is_sorted, are_sorted, tagged, untagged}
@@ -101,8 +101,7 @@ module _ (row : TargetRow) where
   pub put_is_more : (ts : List Target) → find (has_id row.id) ts ≡ None → IsPermutation (put_target row ts) (new_target row ∷ ts)
   put_is_more [] none = IsPermutation-refl (new_target row ∷ [])
   put_is_more (t ∷ ts) none =
-      let rest = put_is_more ts (apart t ts none).1 in
-      grind (arith, (apart t ts none).0, IsPermutation-refl (new_target row ∷ t ∷ ts), between (new_target row) (t ∷ []) ts (put_target row ts) rest)
+      grind (arith, apart t ts none, IsPermutation-refl (new_target row ∷ t ∷ ts), between (new_target row) (t ∷ []) ts (put_target row ts), put_is_more ts)
 
   -- with no parts it adds no rows of parts
   pub put_rows : (rows : Target → List Row) → rows (new_target row) ≡ [] → (ts : List Target) → find (has_id row.id) ts ≡ None
@@ -125,14 +124,11 @@ module _ (row : TargetRow) where
 pub keys_rise : {A : Type 0} (key : A → Bytes) (row : A → Row) (c : ℕ) → ((a b : A) → by_column c (row a) (row b) ≡ value_cmp (Text (key a)) (Text (key b)))
     → (all : List A) → in_byte_order (map key all) ≡ true → Rise c (map row all)
 keys_rise key row c is [] ordered = tt
-keys_rise {A} key row c is (a ∷ more) ordered =
-    let parts = and_parts (list_all (bytes_below (key a)) (map key more)) (in_byte_order (map key more)) ordered in
-    (go more parts.0, keys_rise key row c is more parts.1)
+keys_rise {A} key row c is (a ∷ more) ordered = grind (arith, go more, keys_rise key row c is more, and_parts)
   where
-    go : (bs : List A) → list_all (bytes_below (key a)) (map key bs) ≡ true → AllByRecursion (λ r. is_gt (by_column c (row a) r) ≡ false) (map row bs)
+    go : (bs : List A) → list_all (bytes_below (key a)) (map key bs) ≡ true → AllByRecursion (λ r. by_column c (row a) r ≡ Less) (map row bs)
     go [] all = tt
-    go (b ∷ bs) all = let parts = and_parts (bytes_below (key a) (key b)) (list_all (bytes_below (key a)) (map key bs)) all in
-        (ap is_gt (is a b) ∙ below_rises (key a) (key b) parts.0, go bs parts.1)
+    go (b ∷ bs) all = grind (arith, is a b, below_rises (key a) (key b), go bs, and_parts)
 
 -- ---- tags
 

@@ -1,7 +1,6 @@
 -- What columns with a text say of it.
-use native.Mathlib.Omega.{arith}
-use Rattle.desk_records.proofs.Common.{◌≡◌, [], ◌∷◌, ℕ, true, true≢false, sym, ap, Value, Text, Row, column, value_cmp-apart}
-use Rattle.desk_records.proofs.Common.{is_true, passes, Bytes, same_true, has_text_at, is_text_of, and-true}
+use Rattle.desk_records.proofs.Common.{◌≡◌, [], ◌∷◌, ℕ, true, true≢false, sym, ap, Value, Text, Row, column, value_cmp-apart, is_true, passes, Bytes, same_true}
+use Rattle.desk_records.proofs.Common.{arith, has_text_at, is_text_of, and-true}
 use Rattle.sqlite_sql.specs.Ops.{binary}
 use Rattle.desk_records.proofs.Comparisons.{words_equal}
 use Rattle.desk_records.proofs.MeaningWords.{at_key}

@@ -1,7 +1,7 @@
 -- What the artifacts of a list of accepted commands have: the size and the digest of their contents, and columns that keep their rules.
-use Rattle.desk_records.proofs.Common.{◌≡◌, ◌≤◌, ◌++◌, ℕ, zero, suc, ◌*◌, ◌/◌, ◌%◌, ◌^◌, true, List, [], ◌∷◌, length, All, refl, ap, arith}
-use Rattle.desk_records.proofs.Common.{length-append, slice_index, list_all, le-leb, nat_tests, All-append, All-nil, artifact_size_limit}
-use Rattle.desk_records.proofs.Common.{is_byte, is_digest, is_filename, is_number, ArtifactRecord, added_artifacts, artifacts}
+use Rattle.desk_records.proofs.Common.{◌≡◌, ◌≤◌, ◌++◌, ℕ, zero, suc, ◌*◌, ◌/◌, ◌%◌, ◌^◌, true, List, [], ◌∷◌, length, All, refl, ap, arith, length-append}
+use Rattle.desk_records.proofs.Common.{slice_index, list_all, le-leb, nat_tests, All-append, All-nil, artifact_size_limit, is_byte, is_digest, is_filename}
+use Rattle.desk_records.proofs.Common.{is_number, ArtifactRecord, added_artifacts, artifacts}
 use Rattle.std.specs.Int.{bytes_high_first}
 use Rattle.sha2.specs.Sha256.{digest_bytes, sha256}
 use Rattle.rollout_machine.specs.CommandList.{CommandList, Make, ◌▸◌}
