@@ -1,12 +1,9 @@
 -- What broken rows are blamed on, by what was read before.
-use native.Mathlib.Omega.{arith}
-use Rattle.desk_store.proofs.Common.{◌≡◌, Result, IfErr, Ok, Ghosts, Fault, Tables, BlamesGiven, FindsTables, HoldsTables, IfRowsBroken, IsUnreadable}
-use Rattle.desk_store.proofs.Common.{HasUnreadable, OpenChange, Reading, ReadsOf, seen_in}
-use Rattle.sqlite.specs.State.{State}
-use Rattle.sql_calls.specs.Standing.{Finds, Sees}
+use Rattle.desk_store.proofs.Common.{arith, ◌≡◌, Result, IfErr, Ok, Ghosts, Fault, Tables, BlamesGiven, FindsTables, HoldsTables, IfRowsBroken, IsUnreadable}
+use Rattle.desk_store.proofs.Common.{HasUnreadable, OpenChange, Reading, ReadsOf, seen_in, State, Finds, Sees, NeverBreaks}
 use Rattle.desk_store.specs.Blaming.{HoldsReading}
-use Rattle.desk_store.specs.Breaking.{NeverBreaks}
 use Rattle.desk_store.specs.Unreadable.{place_of}
+use Rattle.desk_store.proofs.ReadLemmas.{first_sees, ask_sees, few_sees, first_keeps, ask_keeps, few_keeps}
 use Rattle.desk_store.proofs.FailLemmas.{breaks_by, call_breaks}
 
 -- what can't be read of a table that is read
@@ -16,11 +13,14 @@ unread reading what given = record { what = what; there = given.is_read }
 -- ---- what is read stands in the tables
 
 module _ {s : State} (reading : Reading) where
-  to_tables : Sees HoldsReading s reading → Sees HoldsTables s reading.tables
+  pub to_tables : Sees HoldsReading s reading → Sees HoldsTables s reading.tables
   to_tables seen = record { sees = λ clean. (let it = seen.sees clean in record { mode = it.mode; is_open = it.is_open; now_holds = it.now_holds }) }
 
   pub of_tables : Sees HoldsTables s reading.tables → Sees HoldsReading s reading
   of_tables seen = record { sees = λ clean. (let it = seen.sees clean in record { mode = it.mode; is_open = it.is_open; now_holds = it.now_holds }) }
+
+-- by which the check finds what each statement leaves
+pub ruleset statement_keeps = (first_sees, ask_sees, few_sees, first_keeps, ask_keeps, few_keeps, to_tables, of_tables)
 
 pub found_reading : {A : Type 0} {a b : State} {x : A} {P : Tables → A → Type 0} → Finds HoldsTables (λ (t : Tables). t) {E = Fault} a b (Ok x) P
     → Finds HoldsReading (λ (r : Reading). r) {E = Fault} a b (Ok x) (λ reading y. P reading.tables y)

@@ -1,6 +1,5 @@
 -- The ends of a change, where each failure is a failed store.
-use native.Mathlib.Omega.{arith}
-use Rattle.desk_store.proofs.Common.{◌≡◌, Result, errors_in, State, Fault, Commits, GivesUp, HoldsLedger}
+use Rattle.desk_store.proofs.Common.{arith, ◌≡◌, Result, errors_in, State, Fault, Commits, GivesUp, HoldsLedger}
 use Rattle.desk_store.specs.Faults.{as_store}
 
 module _ (old new : State) where

@@ -1,32 +1,19 @@
 -- Why a call over a ledger that can be read is no failed store by itself.
-use native.Mathlib.Omega.{arith}
-use Rattle.desk_store.proofs.Common.{Place, ◌≡◌, ℕ, zero, suc, inl, inr, List, [], ◌∷◌, take, drop, filter, map, Option, Some, None, Ok, Result, IfErr}
-use Rattle.desk_store.proofs.Common.{Vec, refl, sym, ap, subst, ◌∙◌, Global, Row, Query, Output, page, Database, Ghosts, Has, has_filtered, Fault}
-use Rattle.desk_store.proofs.Common.{AsksFew, AsksText, TakesFirst, ShowsFirst, first_finds, ask_finds, few_finds, IsOrdered, by, ordered_rows, passes}
-use Rattle.desk_store.proofs.Common.{shown_in, shown_of, simple, HoldsLedger, Ledger, HoldsTables, Tables, IfRowsBroken, HasBroken, seen_in, OpenChange}
+use Rattle.desk_store.proofs.Common.{take-append-drop, arith, Place, ◌≡◌, ℕ, inl, List, ◌∷◌, take, drop, map, Option, Some, None, Ok, Result, IfErr, Vec, refl}
+use Rattle.desk_store.proofs.Common.{sym, ap, subst, ◌∙◌, Global, Row, Query, Output, page, Database, Ghosts, Has, has_filtered, Fault, AsksText, TakesFirst}
+use Rattle.desk_store.proofs.Common.{ShowsFirst, first_finds, ask_finds, ordered_rows, passes, shown_in, shown_of, HoldsLedger, Ledger, HoldsTables, Tables}
+use Rattle.desk_store.proofs.Common.{IfRowsBroken, HasBroken, seen_in, OpenChange, Finds, Sees, Broken, NeverBreaks, rows_of, has_mapped, FindsLedger, FailsIn}
+use Rattle.desk_store.proofs.Common.{IsReadable, IsBroken, BreaksColumn, Asks}
+use Rattle.sqlite_rules.proofs.ListLemmas.{has_right, has_front}
+use Rattle.desk_store.specs.Breaking.{BreaksFirst, BreaksOnly}
+use Rattle.desk_store.proofs.Known.{over, answer_of, in_ledgers, known}
 use Rattle.std.specs.Prelude.{◌≢◌}
 use Rattle.sqlite.specs.Effect.{Reads as Shows}
-use Rattle.sql_calls.specs.Standing.{Finds, Sees}
-use Rattle.sql_calls.specs.declared.fault.Fault.TheVariants.{Broken}
-use Rattle.desk_store.specs.Breaking.{BreaksOnly, NeverBreaks}
 use Rattle.std.proofs.lemmas.List.Sorted.{IsPermutation-sym}
-use Rattle.sqlite.specs.Query.{limited}
 use Rattle.sqlite.specs.Term.{eval}
-use Rattle.desk_records.proofs.HeldTables.{rows_of}
-use Rattle.desk_records.proofs.Membership.{has_mapped, has_permuted}
-use Rattle.desk_store.specs.Changing.{FindsLedger}
-use Rattle.desk_store.specs.Failing.{FailsIn}
-use Rattle.desk_store.specs.Readable.{IsReadable}
-use Rattle.desk_store.specs.Rows.{IsBroken}
-use Rattle.desk_store.proofs.Known.{answer_of, in_ledgers, known}
-use Rattle.desk_store.specs.BrokenRows.{BreaksColumn}
-use Rattle.desk_records.proofs.MeaningWords.{Asks}
+use Rattle.desk_records.proofs.Membership.{has_permuted}
 
 -- ---- one call
-
--- a call of the database tells no broken rows
-pub never_breaks : {S A : Type 0} {g : Ghosts S} {new : OpenChange S} (out : Result A Fault) → IfErr out (λ fault. fault ≢ Broken) → NeverBreaks g new out
-never_breaks out sound = grind arith
 
 module _ {S : Type 0} {g : Ghosts S} {old new : OpenChange S} where
   module _ {R : Type 0} {Holds : Database → R → Type 0} {Given Why : R → Type 0} where
@@ -42,6 +29,15 @@ module _ {S A B R : Type 0} {g : Ghosts S} {Holds : Database → R → Type 0} {
   pub breaks_by : Finds Holds (λ (r : R). r) {E = Fault} (seen_in g old) (seen_in g new) (Ok x) P → (out : Result B Fault)
       → IfErr out (λ fault. IfRowsBroken fault ((r : R) → P r x → Given r → Why r)) → BreaksOnly g Holds Given Why old new out
   breaks_by read out why = grind arith
+
+  pub breaks_first_by : Finds Holds (λ (r : R). r) {E = Fault} (seen_in g old) (seen_in g new) (Ok x) P → (out : Result B Fault)
+      → IfErr out (λ fault. IfRowsBroken fault ((r : R) → P r x → Given r → Why r)) → BreaksFirst g Holds Given Why old new out
+  breaks_first_by read out why = grind arith
+
+-- .. where it was told of nothing else
+pub told_alone : {B : Type 0} (Spoiled : Type 0) (out : Result B Fault) → IfErr out (λ fault. (fault ≡ Broken) × Spoiled)
+    → IfErr out (λ fault. IfRowsBroken fault Spoiled)
+told_alone Spoiled out is = grind arith
 
 -- the same, where it was told for something that bears it out
 pub broken_so : {B : Type 0} {Spoiled Why : Type 0} → (Spoiled → Why) → (out : Result B Fault) → IfErr out (λ fault. IfRowsBroken fault Spoiled)
@@ -60,21 +56,13 @@ abbrev pub tables_of : (db : Database) (l : Ledger) (holds : HoldsLedger db l) �
 tables_of db l holds = record { sound = holds.sound; spot = holds.spot; stands = holds.stands; rows = λ p. refl }
 
 pub has_dropped : {X : Type 0} (n : ℕ) (xs : List X) (x : X) → Has (drop n xs) x → Has xs x
-has_dropped zero xs x among = among
-has_dropped (suc n) [] x among = among
-has_dropped (suc n) (y ∷ xs) x among = inr (has_dropped n xs x among)
+has_dropped n xs x among = subst (λ l. Has l x) (take-append-drop n xs) (has_right (take n xs) (drop n xs) x among)
 
 pub has_taken : {X : Type 0} (n : ℕ) (xs : List X) (x : X) → Has (take n xs) x → Has xs x
-has_taken zero xs x among = absurd among
-has_taken (suc n) [] x among = among
-has_taken (suc n) (y ∷ xs) x (inl same) = inl same
-has_taken (suc n) (y ∷ xs) x (inr among) = inr (has_taken n xs x among)
-
-has_limited : {X : Type 0} (limit : Option ℕ) (xs : List X) (x : X) → Has (limited limit xs) x → Has xs x
-has_limited limit xs x among = grind (arith, has_taken)
+has_taken n xs x among = has_front xs (take n xs) (drop n xs) x (sym (take-append-drop n xs)) among
 
 has_page : {X : Type 0} (q : Query) (params : Row) (xs : List X) (x : X) → Has (page q params xs) x → Has xs x
-has_page q params xs x among = grind (arith, eval, has_dropped, has_limited)
+has_page q params xs x among = grind (arith, eval, has_dropped, has_taken)
 
 module _ {p : Place} {sql : List ℕ} {query : ℕ → Query} {names : List (List ℕ)} (text : Asks p sql query names) where
   -- each row that is shown is one of the table
@@ -82,24 +70,14 @@ module _ {p : Place} {sql : List ℕ} {query : ℕ → Query} {names : List (Lis
       → Shows (known text db t holds).command db params shown → (x : Row) → Has shown x
       → (row : Row) × Has (t p) row × (x ≡ shown_of (query 0).project params row)
   from_table params db t holds shown shows x among =
+      let it = ordered_rows (holds.spot p).tree (query 0).filter (query 0).project (query 0).order (query 0).limit (query 0).offset params db.trees shown
+      (answer_of text holds shows) in
+      let q = over query (holds.spot p).tree in
       let output = has_mapped (λ (o : Output). o.1) it.ordered x
       (has_page q params (map (λ (o : Output). o.1) it.ordered) x (subst (λ l. Has l x) it.is among)) in
-      let source = has_mapped (shown_in q params) _ output.0 (has_permuted _ _ output.0 (IsPermutation-sym _ _ it.same) output.1) in (
-        source.0,
-        subst (λ l. Has l source.0) (sym (holds.rows p)) (has_filtered (passes q.filter params) (db.trees tree) source.0 source.1).0,
-        output.2
-            ∙ ap (λ (o : Output). o.1) source.2,
-      )
-    where
-      tree : ℕ
-      tree = (holds.spot p).tree
-
-      q : Query
-      q = by (simple tree (query 0).filter (query 0).project) (query 0).order (query 0).limit (query 0).offset
-
-      it : IsOrdered q params (filter (passes (query 0).filter params) (db.trees tree)) shown
-      it = ordered_rows tree (query 0).filter (query 0).project (query 0).order (query 0).limit (query 0).offset params db.trees shown
-          (answer_of text holds shows)
+      let source = has_mapped (shown_in q params) _ output.0 (has_permuted _ _ output.0 (IsPermutation-sym _ _ it.same) output.1) in
+      let its = has_filtered (passes (query 0).filter params) (db.trees (holds.spot p).tree) source.0 source.1 in
+      (source.0, subst (λ l. Has l source.0) (sym (holds.rows p)) its.0, output.2 ∙ ap (λ (o : Output). o.1) source.2)
 
   -- .. which can be read
   module _ (is_broken : Row → Type 0) {params : Row} (rule : (row : Row) → is_broken (shown_of (query 0).project params row) → BreaksColumn p row) where
@@ -128,10 +106,3 @@ module _ {p : Place} {sql : List ℕ} {query : ℕ → Query} {names : List (Lis
       all_fails {rows} h = never_by {Spoiled = HasBroken is_broken rows.items}
           (ask_finds HoldsLedger (λ (l : Ledger). l) sql params (seen_in g old) (seen_in g new) _ (in_ledgers (known text)) rows h
           (Ok (tt {0})) (λ db l holds shown readable b. kept db l holds rows.items shown readable b.row b.among b.broken))
-
-      pub few_fails : {rows : Vec Row Global} {most : ℕ} → AsksFew (seen_in g old) (seen_in g new) sql params most (Ok rows) → (out : Result B Fault)
-          → IfErr out (λ fault. IfRowsBroken fault (HasBroken is_broken rows.items)) → FailsIn g old new out
-      few_fails {rows} {most} h =
-          never_by {Spoiled = HasBroken is_broken rows.items}
-          (few_finds HoldsLedger (λ (l : Ledger). l) sql params (seen_in g old) (seen_in g new) _ (in_ledgers (known text))
-          most rows h (Ok (tt {0})) (λ db l holds shown readable b. kept db l holds rows.items shown readable b.row b.among b.broken))

@@ -1,8 +1,6 @@
 -- The groups of a rollout that reach a member's place: the one that holds it, and all behind it.
-use Rattle.std.proofs.lemmas.Bool.Decides.{nat_tests}
-use Rattle.desk_store.proofs.Common.{◌≡◌, ◌≤◌, ℕ, zero, suc, ◌+◌, ◌-◌, List, [], ◌∷◌, drop, slice_get, refl, sym, ap, ◌∙◌, arith, le-leb, lt-leb}
-use Rattle.desk_store.proofs.Common.{item_numbered, group_in, rollout_in, group_holding, number_of_group, GroupRecord, that_reach, group_and_next}
-use Rattle.desk_store.proofs.Common.{GroupAndNext}
+use Rattle.desk_store.proofs.Common.{nat_tests, ◌≡◌, ◌≤◌, ℕ, zero, suc, ◌+◌, ◌-◌, List, [], ◌∷◌, drop, slice_get, refl, sym, ap, ◌∙◌, arith, le-leb, lt-leb}
+use Rattle.desk_store.proofs.Common.{item_numbered, group_in, rollout_in, group_holding, number_of_group, GroupRecord, that_reach, group_and_next, GroupAndNext}
 use Rattle.rollout_machine.proofs.Cuts.{group_of, in_its_group}
 use Rattle.rollout_machine.proofs.Ties.{find_holding}
 use Rattle.rollout_machine.specs.CommandList.{CommandList}
@@ -10,7 +8,7 @@ use Rattle.rollout_machine.specs.Effects.{HasSoundPlan, IsInGroup}
 use Rattle.rollout_machine.specs.Ranges.{each_from}
 use Rattle.rollout_machine.specs.Rollouts.{Rollout, last_of, size_of}
 
-at_drop : {X : Type 0} (d i : ℕ) (xs : List X) (n : ℕ) → d + i ≡ n → slice_get (drop d xs) i ≡ slice_get xs n
+pub at_drop : {X : Type 0} (d i : ℕ) (xs : List X) (n : ℕ) → d + i ≡ n → slice_get (drop d xs) i ≡ slice_get xs n
 at_drop zero i xs n at = let same : i ≡ n = omega (arith, at) in ap (slice_get xs) same
 at_drop (suc d) i [] n at = refl
 at_drop (suc d) i (x ∷ xs) zero at = absurd (omega (arith, at))

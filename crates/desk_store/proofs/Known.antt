@@ -1,11 +1,10 @@
 -- What a text on one table means where tables are held, whatever rows they have, and so where a ledger is.
 use Rattle.desk_store.proofs.Common.{◌≡◌, ℕ, true, List, [], refl, subst, Null, Row, Database, Command, Query, simple, by, Knows, KnowsWrite, writes_rows}
-use Rattle.desk_store.proofs.Common.{Place, HoldsLedger, HoldsTables, Tables}
+use Rattle.desk_store.proofs.Common.{Place, HoldsLedger, HoldsTables, Tables, rows_of, Asks}
 use Rattle.sqlite.specs.Effect.{Reads as Shows}
 use Rattle.sqlite.specs.Program.{overlay}
 use Rattle.sqlite.specs.Query.{IsAnswer}
-use Rattle.desk_records.proofs.HeldTables.{rows_of}
-use Rattle.desk_records.proofs.MeaningWords.{Asks, MeansAt, asked_at}
+use Rattle.desk_records.proofs.MeaningWords.{MeansAt, asked_at}
 
 -- where a ledger is held, tables are
 abbrev pub in_ledgers : {sql : List ℕ} → Knows HoldsTables sql → Knows HoldsLedger sql
@@ -21,13 +20,15 @@ module _ {p : Place} {sql : List ℕ} {command : ℕ → ℕ → Command} (means
   abbrev pub ledger_writes : ((at tree : ℕ) → writes_rows (command at tree) ≡ true) → KnowsWrite HoldsLedger sql
   ledger_writes rows = record { knows = in_ledgers tables_know; rows = λ db l holds. rows (holds.spot p).at (holds.spot p).tree }
 
--- a query over one table
+-- a query over one table, where that stands
+abbrev pub over : (ℕ → Query) → ℕ → Query
+over query tree = by (simple tree (query 0).filter (query 0).project) (query 0).order (query 0).limit (query 0).offset
+
 module _ {p : Place} {sql : List ℕ} {query : ℕ → Query} {names : List (List ℕ)} (text : Asks p sql query names) where
   abbrev pub known : Knows HoldsTables sql
   known = tables_know (asked_at text)
 
   -- what it shows is an answer to the query over the rows there
   pub answer_of : {db : Database} {t : Tables} (holds : HoldsTables db t) {params : Row} {shown : List Row} → Shows (known db t holds).command db params shown
-      → IsAnswer (by (simple (holds.spot p).tree (query 0).filter (query 0).project) (query 0).order (query 0).limit (query 0).offset) (overlay db.trees [])
-      params shown
+      → IsAnswer (over query (holds.spot p).tree) (overlay db.trees []) params shown
   answer_of {db} holds {params} {shown} shows = subst (λ b. IsAnswer b (overlay db.trees []) params shown) (text.shape (holds.spot p).tree) (shows.answer Null)

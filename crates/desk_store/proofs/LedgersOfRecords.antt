@@ -1,6 +1,5 @@
 -- Calls on ledgers, said of records: the tables hold the ledger of the records before a command and after it.
-use native.Mathlib.Omega.{arith}
-use Rattle.desk_store.proofs.Common.{◌≡◌, Result, State, Finds, Makes, Bytes, HoldsLedger, Ledger, ledger_of}
+use Rattle.desk_store.proofs.Common.{arith, ◌≡◌, Result, State, Finds, Makes, Bytes, HoldsLedger, Ledger, ledger_of}
 use Rattle.sql_calls.proofs.Composing.{found_of, made_of}
 
 module _ {A E : Type 0} {old new : State} where

@@ -12,9 +12,9 @@ pub mod WriteCalls
 pub mod LedgersOfRecords
 mod NextOfferCalls
 pub mod GroupOfferCalls
+mod Texts
 mod RawCalls
 mod RawLists
-mod RawFinds
 pub mod BlameLemmas
 pub mod FailLemmas
 mod RowFails

@@ -1,26 +1,23 @@
 -- What a failed read of a table is blamed on.
+use Rattle.desk_store.proofs.FailLemmas.{told_alone, broken_so, from_table}
 use Rattle.std.specs.Prelude.{◌&&◌}
-use Rattle.desk_store.proofs.Common.{◌≡◌, ◌≤◌, ◌<◌, ◌⊎◌, ◌^◌, inl, inr, ℕ, min, pos, negsuc, Bool, true, false, not, List, [], ◌∷◌, length}
-use Rattle.desk_store.proofs.Common.{Option, Some, None, Ok, Err, Result, IfErr, Vec, refl, subst, arith, and_parts, nat_tests, number_in_good, number_in_is}
-use Rattle.desk_store.proofs.Common.{Global, Value, Null, Int, Row, column, Database, Query, Ghosts, lit, Has, Fault, Memory, Store, AsksFew, AsksText}
-use Rattle.desk_store.proofs.Common.{TakesFirst, ShowsFirst, passes, shown_of, Members, Place, Rollouts, HoldsTables, Tables, are_entries, is_too_long}
-use Rattle.desk_store.proofs.Common.{is_wide, first_broken, number_in, broken_stored_action_column, broken_offer_column, Offer, Column, StoredAction}
-use Rattle.desk_store.proofs.Common.{LAST_ROLLOUT, LIST_PLACES, count_shown, list_places_is, of_rollout, placed_columns, places_query, BlamesGiven}
-use Rattle.desk_store.proofs.Common.{FindsTables, seen_in, HasBroken, HasNoNumber, IfRowsBroken, large_number, many_rows, OpenChange, last_rollout_is}
-use Rattle.desk_store.proofs.Common.{HasUnreadable, Reading, ReadsOf}
-use Rattle.sql_calls.specs.declared.fault.Fault.TheVariants.{Broken}
+use Rattle.desk_store.proofs.Common.{◌≡◌, ◌≤◌, ◌<◌, ◌⊎◌, ◌^◌, inl, inr, ℕ, min, pos, negsuc, Bool, true, false, not, List, [], ◌∷◌, length, Option, Some, None}
+use Rattle.desk_store.proofs.Common.{Ok, Result, IfErr, Vec, refl, subst, arith, and_parts, nat_tests, number_in_good, number_in_is, Global, Value, Null, Int}
+use Rattle.desk_store.proofs.Common.{Row, column, Database, Query, Ghosts, lit, Has, Fault, AsksText, TakesFirst, ShowsFirst, passes, shown_of, Members, Place}
+use Rattle.desk_store.proofs.Common.{Rollouts, HoldsTables, Tables, are_entries, is_too_long, is_wide, first_broken, number_in, broken_stored_action_column}
+use Rattle.desk_store.proofs.Common.{broken_offer_column, Offer, Column, StoredAction, LAST_ROLLOUT, LIST_PLACES, count_shown, list_places_is, of_rollout}
+use Rattle.desk_store.proofs.Common.{placed_columns, places_query, BlamesGiven, seen_in, HasBroken, HasNoNumber, IfRowsBroken, large_number, many_rows}
+use Rattle.desk_store.proofs.Common.{OpenChange, last_rollout_is, HasUnreadable, Reading, ReadsOf, Broken, Asks, Counts, counted_at, columns_of_stored_action}
 use Rattle.std.proofs.lemmas.List.Filters.{length-filter_both}
 use Rattle.sqlite.specs.Effect.{Reads as Shows}
 use Rattle.desk_records.specs.TableRows.{IsAction, IsOffer}
 use Rattle.desk_store.proofs.BlameLemmas.{blamed, unread}
-use Rattle.desk_records.proofs.MeaningWords.{Asks, Counts, counted_at}
-use Rattle.desk_records.specs.ReadRows.{columns_of_stored_action, columns_of_offer}
-use Rattle.desk_records.specs.declared.table_columns.Column.TheVariants as rule
-use Rattle.desk_store.proofs.FailLemmas.{broken_so, from_table}
+use Rattle.desk_records.specs.ReadRows.{columns_of_offer}
 use Rattle.desk_store.proofs.Known.{known, tables_know}
 use Rattle.desk_store.proofs.RawCalls.{count_shown as row_of_count}
-use Rattle.desk_store.proofs.ReadLemmas.{all_tell, few_tell, first_tells}
+use Rattle.desk_store.proofs.ReadLemmas.{all_tell, first_tells}
 use Rattle.desk_store.proofs.RawLists.{small_or_wide}
+use Rattle.desk_records.specs.declared.table_columns.Column.TheVariants as rule
 
 -- ---- any read of one table
 
@@ -30,24 +27,14 @@ module _ {p : Place} {sql : List ℕ} {query : ℕ → Query} {names : List (Lis
   AreOf params rows t = (shown : Row) → Has rows shown → (row : Row) × Has (t p) row × (shown ≡ shown_of (query 0).project params row)
 
   module _ {S B : Type 0} {g : Ghosts S} {Given : Reading → Type 0} (is_broken : Row → Type 0) {old new : OpenChange S} where
-    told : (params : Row) (rows : List Row) → FindsTables g {E = Fault} old new (Ok (tt {0})) (λ t u. AreOf params rows t) → (out : Result B Fault)
-        → IfErr out (λ fault. IfRowsBroken fault (HasBroken is_broken rows)) → ((reading : Reading) (row : Row) → Has (reading.tables p) row
-        → is_broken (shown_of (query 0).project params row) → Given reading → HasUnreadable reading) → BlamesGiven g Given old new out
-    told params rows read out is blames = blamed read out (broken_so {Spoiled = HasBroken is_broken rows}
-        (λ it reading of given. let its = of it.row it.among in blames reading its.0 its.1 (subst is_broken its.2 it.broken) given) out is)
-
     pub all_blamed : {params : Row} {rows : Vec Row Global} → AsksText (seen_in g old) (seen_in g new) sql params (Ok rows) → (out : Result B Fault)
         → IfErr out (λ fault. IfRowsBroken fault (HasBroken is_broken rows.items)) → ((reading : Reading) (row : Row) → Has (reading.tables p) row
         → is_broken (shown_of (query 0).project params row) → Given reading → HasUnreadable reading) → BlamesGiven g Given old new out
-    all_blamed {params} {rows} h = told params rows.items (all_tell (known text) {Answer = λ t u. AreOf params rows.items t} {Read = λ u. Unit {0}}
-        (λ db t holds shows u is. from_table text params db t holds rows.items shows) h (Ok (tt {0})) tt)
-
-    pub few_blamed : {params : Row} {rows : Vec Row Global} {most : ℕ} → AsksFew (seen_in g old) (seen_in g new) sql params most (Ok rows)
-        → (out : Result B Fault)
-        → IfErr out (λ fault. IfRowsBroken fault (HasBroken is_broken rows.items)) → ((reading : Reading) (row : Row) → Has (reading.tables p) row
-        → is_broken (shown_of (query 0).project params row) → Given reading → HasUnreadable reading) → BlamesGiven g Given old new out
-    few_blamed {params} {rows} h = told params rows.items (few_tell (known text) {Answer = λ t u. AreOf params rows.items t} {Read = λ u. Unit {0}}
-        (λ db t holds shows u is. from_table text params db t holds rows.items shows) h (Ok (tt {0})) tt)
+    all_blamed {params} {rows} h out is blames = blamed
+        (all_tell (known text) {Answer = λ t u. AreOf params rows.items t} {Read = λ u. Unit {0}}
+        (λ db t holds shows u is. from_table text params db t holds rows.items shows) h (Ok (tt {0})) tt) out
+        (broken_so {Spoiled = HasBroken is_broken rows.items}
+        (λ it reading of given. let its = of it.row it.among in blames reading its.0 its.1 (subst is_broken its.2 it.broken) given) out is)
 
 -- ---- rows of tables that were judged
 
@@ -86,7 +73,8 @@ module _ {S : Type 0} {g : Ghosts S} {old new : OpenChange S} where
       → (out : Result ℕ Fault) → IfErr out (λ fault. (fault ≡ Broken) × (2 ^ 32 ≤ length rows.items)) → BlamesGiven g (ReadsOf Members) old new out
   place_count_blamed {r} {rows} h out large =
       blamed (all_tell (known list_places_is) {Answer = λ t u. length rows.items ≤ length (t Members)} {Read = λ u. Unit {0}}
-      (λ db t holds shows u is. counts db t holds shows) h (Ok (tt {0})) tt) out (go out large)
+      (λ db t holds shows u is. counts db t holds shows) h (Ok (tt {0})) tt) out
+      (broken_so (λ many reading fewer given. unread reading (many_rows Members (omega (arith, many, fewer))) given) out (told_alone _ out large))
     where
       counts : (db : Database) (t : Tables) (holds : HoldsTables db t) → Shows (known list_places_is db t holds).command db (Int (pos r) ∷ []) rows.items
           → length rows.items ≤ length (t Members)
@@ -100,14 +88,6 @@ module _ {S : Type 0} {g : Ghosts S} {old new : OpenChange S} where
             length-filter_both (passes of_rollout (Int (pos r) ∷ [])) (λ row. not (passes of_rollout (Int (pos r) ∷ []) row)) (λ row. refl)
                 (t Members),
           )
-
-      go : (out : Result ℕ Fault) → IfErr out (λ fault. (fault ≡ Broken) × (2 ^ 32 ≤ length rows.items)) → IfErr out
-          (λ fault. IfRowsBroken fault ((reading : Reading) → length rows.items ≤ length (reading.tables Members) → ReadsOf Members reading
-          → HasUnreadable reading))
-      go (Ok found) is = tt
-      go (Err Memory) is = tt
-      go (Err Store) is = absurd (let same = is.0 in cc)
-      go (Err Broken) is = λ reading fewer given. unread reading (many_rows Members (omega (arith, is.1, fewer))) given
 
   pub count_blamed : {p : Place} {sql : List ℕ} (text : Counts p sql) {row : Option Row} → TakesFirst (seen_in g old) (seen_in g new) sql [] (Ok row)
       → (out : Result ℕ Fault) → IfErr out (λ fault. IfRowsBroken fault ((row ≡ None) ⊎ HasNoNumber row)) → BlamesGiven g (ReadsOf p) old new out

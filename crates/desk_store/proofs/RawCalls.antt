@@ -1,7 +1,6 @@
 -- Counts of rows, whatever rows the tables have.
 use Rattle.desk_store.proofs.Common.{◌≡◌, ◌<◌, ◌^◌, ℕ, min, pos, List, [], ◌∷◌, length, Option, Some, None, Ok, Result, IfOk, sym, ap, ◌∙◌, Null, Int, Row}
-use Rattle.desk_store.proofs.Common.{Database, State, Fault, TakesFirst, Finds, count_rows, ShowsFirst, Place, HoldsTables, Tables, IsCount}
-use Rattle.desk_records.proofs.MeaningWords.{Counts, counted_at}
+use Rattle.desk_store.proofs.Common.{Database, State, Fault, TakesFirst, Finds, count_rows, ShowsFirst, Place, HoldsTables, Tables, IsCount, Counts, counted_at}
 use Rattle.desk_store.proofs.Known.{tables_know}
 use Rattle.desk_store.proofs.ReadLemmas.{first_tells}
 use Rattle.desk_store.proofs.TargetCalls.{same_count}

@@ -1,13 +1,21 @@
 -- The lists of tables with whatever rows they have.
-use native.Mathlib.Omega.{arith}
-use Rattle.desk_store.proofs.Common.{Finds, ◌≡◌, ◌≤◌, ℕ, pos, negsuc, Bool, true, false, not, List, [], ◌∷◌, Option, Some, None, Ok, Result}
-use Rattle.desk_store.proofs.Common.{IfOk, option_map, Vec, vec_items, refl, is_none, is_some, option_or, Global, Value, Int, Row, column}
-use Rattle.desk_store.proofs.Common.{Database, output_cmp, page, State, Has, Fault, AsksText, by, passes, shown_in, shown_of, simple, GroupRecord, is_number}
-use Rattle.desk_store.proofs.Common.{has_size, small_number, IsCheckedArtifactRow, IsOwnedOfferRow, is_wide, keeps_action_rules}
-use Rattle.desk_store.proofs.Common.{keeps_artifact_rules, keeps_offer_rules, first_broken, flag_in, number_in, outcome_in, AreRead, AreSaid, IsSequencedRow}
-use Rattle.desk_store.proofs.Common.{broken_group_column, broken_listed_action_column, Actions, Artifacts, Feedbacks, Groups, Numbers, Place, HoldsTables}
-use Rattle.desk_store.proofs.Common.{Tables, has_word, Column, ListedAction, entry_columns, listed_columns, of_action, owned_columns, are_said, broken, rise}
-use Rattle.desk_store.proofs.Common.{all_columns, is_number_in, number_in_good, number_in_is, number_is, group_columns, of_rollout, AreReadAs, Query}
+use Rattle.desk_store.proofs.Common.{Text, inl, length, slice_get, IfSome, sym, subst, nat_tests, AsksFew, TakesFirst, few_of, ShowsFirst, Bytes, is_word}
+use Rattle.desk_store.proofs.Common.{Offer, FindsOne, IsSaid, has_text_at, IsStoredActionRow, IsStoredArtifactRow, IsOfferRow, StoredArtifact, StoredAction}
+use Rattle.desk_store.proofs.Common.{action_columns, offer_columns, from_shown, is_only, none_passes, IsReadAs, suc, arith, Finds, ◌≡◌, ◌≤◌, ℕ, pos, negsuc}
+use Rattle.desk_store.proofs.Common.{Bool, true, false, not, List, [], ◌∷◌, Option, Some, None, Ok, Result, IfOk, option_map, Vec, vec_items, refl, is_none}
+use Rattle.desk_store.proofs.Common.{is_some, option_or, Global, Value, Int, Row, column, Database, output_cmp, page, State, Has, Fault, AsksText, passes}
+use Rattle.desk_store.proofs.Common.{shown_in, shown_of, GroupRecord, is_number, has_size, small_number, IsCheckedArtifactRow, IsOwnedOfferRow, is_wide}
+use Rattle.desk_store.proofs.Common.{keeps_action_rules, keeps_artifact_rules, keeps_offer_rules, first_broken, number_in, AreRead}
+use Rattle.desk_store.proofs.Common.{AreSaid, IsSequencedRow, broken_group_column, broken_listed_action_column, Actions, Artifacts, Feedbacks, Groups, Numbers}
+use Rattle.desk_store.proofs.Common.{Place, HoldsTables, Tables, has_word, ListedAction, entry_columns, listed_columns, owned_columns, are_said, broken}
+use Rattle.desk_store.proofs.Common.{rise, all_columns, is_number_in, number_in_good, number_in_is, number_is, group_columns, AreReadAs, Query, Asks}
+use Rattle.desk_records.proofs.ArtifactMeaning.{told_columns}
+use Rattle.desk_records.proofs.TextColumns.{text_is}
+use Rattle.desk_store.specs.RawLists.{FindsFirst, SaysNumbered, SaysOfferOf, SaysStored, IsFoundInOrder, IsKeptActionRow, IsKeptGroupRow, ListsRows, SaysAction}
+use Rattle.desk_store.specs.RawLists.{SaysArtifact, SaysEntry, SaysGroup, SaysOffer, any_row}
+use Rattle.desk_store.proofs.ReadLemmas.{first_tells, few_asks, all_tell}
+use Rattle.desk_store.proofs.Known.{over, answer_of, known}
+use Rattle.desk_records.proofs.TableColumns.{IsInteger, passes_integer}
 use Rattle.std.specs.List.Sorted.{IsNonDecreasingBy}
 use Rattle.std.specs.Ordering.{is_lt}
 use Rattle.sqlite.specs.Effect.{Reads as Shows}
@@ -15,30 +23,25 @@ use Rattle.desk_records.specs.Listings.{has_at}
 use Rattle.desk_records.specs.declared.checked_rows.CheckedArtifact.{CheckedArtifact}
 use Rattle.desk_records.specs.declared.checked_rows.OwnedOffer.{OwnedOffer}
 use Rattle.desk_records.specs.declared.entry_row.SequencedEntry.{SequencedEntry}
-use Rattle.desk_records.proofs.ActionMeaning.{of_rollout as of_its_rollout}
-use Rattle.desk_records.proofs.TableColumns.{passes_integer}
-use Rattle.desk_store.specs.RawLists.{IsFoundInOrder, IsKeptActionRow, IsKeptGroupRow, ListsRows, SaysAction, SaysArtifact, SaysEntry, SaysGroup, SaysOffer}
-use Rattle.desk_store.specs.RawLists.{any_row}
-use Rattle.desk_records.proofs.MeaningWords.{Asks, at_key}
+use Rattle.desk_records.proofs.MeaningWords.{at_key}
 use Rattle.desk_records.specs.Columns.{has_number}
 use Rattle.desk_records.specs.declared.table_columns.Column.TheVariants as rule
-use Rattle.desk_store.proofs.Known.{answer_of, known}
-use Rattle.desk_store.proofs.ReadLemmas.{all_tell}
 
--- ---- any list of one table
+-- ---- any read of one table
+
+one_at_most : (rows : Vec Row Global) (answer : Result (Vec Row Global) Fault) → Ok rows ≡ few_of 1 answer → length rows.items ≤ 1
+one_at_most rows answer e = grind (arith, nat_tests)
 
 module _ {p : Place} {sql : List ℕ} {query : ℕ → Query} {names : List (List ℕ)} (text : Asks p sql query names) {params : Row}
-    (whole : (tree : ℕ) (xs : List Row) → page (by (simple tree (query 0).filter (query 0).project) (query 0).order (query 0).limit (query 0).offset) params xs
-    ≡ xs)
-    {passing : Row → Bool} (judged : (db : Database) (t : Tables) → HoldsTables db t → (row : Row) → Has (t p) row → passes (query 0).filter params row
-    ≡ passing row)
-    {A : Type 0} (is : Row → A → Type 0) {says : Row → A → Type 0} (means_so : (row : Row) → passing row ≡ true → (a : A)
-    → is (shown_of (query 0).project params row) a → says row a) where
+    (whole : (tree : ℕ) (xs : List Row) → page (over query tree) params xs ≡ xs) {passing : Row → Bool}
+    (judged : (db : Database) (t : Tables) → HoldsTables db t → (row : Row) → Has (t p) row → passes (query 0).filter params row ≡ passing row)
+    {A : Type 0} (is : Row → A → Type 0) {says : Row → A → Type 0}
+    (means_so : (row : Row) → passing row ≡ true → (a : A) → is (shown_of (query 0).project params row) a → says row a) where
   said : (db : Database) (t : Tables) (holds : HoldsTables db t) (shown : List Row) → Shows (known text db t holds).command db params shown → (found : List A)
       → AreReadAs is shown found → AreSaid (t p) passing says found
-  said db t holds shown shows found read =
-      are_said (holds.spot p).tree (query 0).filter (query 0).project (query 0).order (query 0).limit (query 0).offset params db.trees (t p) (holds.rows p)
-      (whole (holds.spot p).tree) passing (judged db t holds) shown (answer_of text holds shows) is says (λ row among. means_so row) found read
+  said db t holds shown shows found read = are_said _ _ _ _ _ _ params db.trees (t p) (holds.rows p) (whole (holds.spot p).tree) passing (judged db t holds)
+      shown
+      (answer_of text holds shows) is says (λ row among. means_so row) found read
 
   -- where each row is read
   pub each_read : {old new : State} {rows : Vec Row Global} → AsksText old new sql params (Ok rows) → (out : Result (Vec A Global) Fault)
@@ -56,20 +59,16 @@ module _ {p : Place} {sql : List ℕ} {query : ℕ → Query} {names : List (Lis
       lists : (db : Database) (t : Tables) (holds : HoldsTables db t) → Shows (known text db t holds).command db params rows.items
           → (found : Option (List A)) → AreRead is keeps rows.items found → ListsRows (t p) passing says found
       lists db t holds shows (Some found) read = said db t holds rows.items shows found read
-      lists db t holds shows None fails =
-          broken (holds.spot p).tree (query 0).filter (query 0).project (query 0).order (query 0).limit (query 0).offset params db.trees (t p) (holds.rows p)
-          (whole (holds.spot p).tree) passing (judged db t holds) rows.items (answer_of text holds shows) says keeps (λ row among. kept_by row) fails
+      lists db t holds shows None fails = broken _ _ _ _ _ _ params db.trees (t p) (holds.rows p) (whole (holds.spot p).tree) passing (judged db t holds)
+          rows.items (answer_of text holds shows) says keeps (λ row among. kept_by row) fails
 
   -- in the order of a number
   module _ (key : A → ℕ) (rising : (tree : ℕ) (low high : Row) (a b : A) → says low a → says high b
-      → (let q = by (simple tree (query 0).filter (query 0).project) (query 0).order (query 0).limit (query 0).offset in
-      is_lt (output_cmp q (shown_in q params high) (shown_in q params low)) ≡ false) → key a ≤ key b) where
+      → is_lt (output_cmp (over query tree) (shown_in (over query tree) params high) (shown_in (over query tree) params low)) ≡ false → key a ≤ key b) where
     in_order : (db : Database) (t : Tables) (holds : HoldsTables db t) (shown : List Row) → Shows (known text db t holds).command db params shown
         → (found : List A) → AreReadAs is shown found → IsNonDecreasingBy key found
-    in_order db t holds shown shows found read =
-        rise (holds.spot p).tree (query 0).filter (query 0).project (query 0).order (query 0).limit (query 0).offset params db.trees (t p) (holds.rows p)
-        (whole (holds.spot p).tree) passing (judged db t holds) shown (answer_of text holds shows) is says (λ row among. means_so row) found read key
-        (rising (holds.spot p).tree)
+    in_order db t holds shown shows found read = rise _ _ _ _ _ _ params db.trees (t p) (holds.rows p) (whole (holds.spot p).tree) passing (judged db t holds)
+        shown (answer_of text holds shows) is says (λ row among. means_so row) found read key (rising (holds.spot p).tree)
 
     pub each_in_order : {old new : State} {rows : Vec Row Global} → AsksText old new sql params (Ok rows) → (out : Result (Vec A Global) Fault)
         → IfOk out (λ found. AreReadAs is rows.items found.items)
@@ -86,6 +85,54 @@ module _ {p : Place} {sql : List ℕ} {query : ℕ → Query} {names : List (Lis
         go db t holds shows (Some found) read = in_order db t holds rows.items shows found read
         go db t holds shows None read = tt
 
+  -- the only one that passes, or none does
+  pub finds_one : {old new : State} {rows : Vec Row Global} → AsksFew old new sql params 1 (Ok rows) → (out : Result (Option A) Fault)
+      → IfOk out (λ found. IsReadAs is found (slice_get rows.items 0))
+      → Finds HoldsTables (λ (t : Tables). t) old new out (λ t found. FindsOne (t p) passing says found)
+  finds_one {rows = rows} h = all_tell (known text)
+      (λ db t holds shows found read. finds db t holds rows.items (one_at_most rows h.answer h.few) shows found read) (few_asks h)
+    where
+      finds : (db : Database) (t : Tables) (holds : HoldsTables db t) (shown : List Row) → length shown ≤ 1
+          → Shows (known text db t holds).command db params shown → (found : Option A) → IsReadAs is found (slice_get shown 0)
+          → FindsOne (t p) passing says found
+      finds db t holds [] few shows found read = subst (FindsOne (t p) passing says) (sym read) (none_passes _ _ _ _ _ _ params db.trees (t p) (holds.rows p)
+          (whole (holds.spot p).tree) passing (judged db t holds) [] (answer_of text holds shows) refl)
+      finds db t holds (x ∷ []) few shows found read =
+          subst (FindsOne (t p) passing says) (sym read.1) (is_only _ _ _ _ _ _ params db.trees (t p) (holds.rows p)
+          (whole (holds.spot p).tree) passing (judged db t holds) (x ∷ []) (answer_of text holds shows) is says (λ row among. means_so row) x refl read.0
+          read.2)
+      finds db t holds (x ∷ y ∷ more) few shows found read = absurd (omega (arith, few))
+
+  -- what the first row says, or none passes
+  pub finds_first : {old new : State} {row : Option Row} {Answer : Tables → Option A → Type 0}
+      → ((t : Tables) (found : Option A) → FindsFirst (t p) passing says found → Answer t found)
+      → TakesFirst old new sql params (Ok row) → (out : Result (Option A) Fault) → IfOk out (λ found. IsReadAs is found row)
+      → Finds HoldsTables (λ (t : Tables). t) old new out Answer
+  finds_first {row = row} so = first_tells (known text) (λ db t holds at given. tt)
+      (λ db t holds shown found read. so t found (says_first db t holds row shown found read))
+    where
+      says_first : (db : Database) (t : Tables) (holds : HoldsTables db t) (row : Option Row) → ShowsFirst (known text db t holds).command db params row
+          → (found : Option A) → IsReadAs is found row → FindsFirst (t p) passing says found
+      says_first db t holds None shows found read = subst (FindsFirst (t p) passing says) (sym read) (none_passes _ _ _ _ _ _ params db.trees (t p)
+          (holds.rows p) (whole (holds.spot p).tree) passing (judged db t holds) [] (answer_of text holds shows) refl)
+      says_first db t holds (Some x) shows found read =
+          let from = from_shown _ _ _ _ _ _ params db.trees (t p) (holds.rows p) (whole (holds.spot p).tree) passing (judged db t holds) (x ∷ shows.0)
+          (answer_of text holds shows.1) x (inl refl) in
+          subst (FindsFirst (t p) passing says) (sym read.1)
+          (record { row = from.0; among = from.1; passes = from.2; is = means_so from.0 from.2 read.0 (subst (λ y. is y read.0) from.3 read.2) })
+
+pub said_if_found : {A : Type 0} (rows : List Row) (test : Row → Bool) (says : Row → A → Type 0) (found : Option A) → FindsFirst rows test says found
+    → IfSome found (IsSaid rows test says)
+said_if_found rows test says found first = grind arith
+
+-- a column of whole numbers that is asked for is judged by the number in it
+abbrev Judges : Place → ℕ → ℕ → Row → Type 0
+Judges p k n more = (db : Database) (t : Tables) → HoldsTables db t → (row : Row) → Has (t p) row
+    → passes (at_key (suc k) 0 ∷ []) (Int (pos n) ∷ more) row ≡ has_at (suc k) n row
+
+judges : {p : Place} {k : ℕ} → IsInteger p k → (n : ℕ) (more : Row) → Judges p k n more
+judges it n more db t holds row among = passes_integer db t holds _ row among _ it n more
+
 -- ---- artifacts
 
 good_in : (v : Value) (n : ℕ) → number_in v ≡ Some n → has_number v ≡ true
@@ -97,10 +144,8 @@ says_artifact row any a is = grind (arith, number_is, is_number_in)
 pub kept_artifact : (row : Row) (a : CheckedArtifact) → SaysArtifact row a → keeps_artifact_rules (shown_of all_columns [] row) ≡ true
 kept_artifact row a says = rw (says.kept, good_in (column row 0) a.number says.number_is) refl
 
-pub judges_artifact : (m : ℕ) (db : Database) (t : Tables) → HoldsTables db t → (row : Row) → Has (t Artifacts) row
-    → passes (at_key 2 0 ∷ []) (Int (pos m) ∷ []) row ≡ has_at 2 m row
-judges_artifact m db t holds row among =
-    passes_integer db t holds Artifacts row among 1 (record { c = _; there = refl; kind_is = refl; strict = refl; filled = refl; apart = refl }) m []
+pub judges_artifact : (m : ℕ) → Judges Artifacts 1 m []
+judges_artifact m = judges (record { c = _; there = refl; kind_is = refl; strict = refl; filled = refl; apart = refl }) m []
 
 -- ---- offers
 
@@ -113,10 +158,8 @@ kept_offer row o says = rw (says.shows.action, says.shows.canceling, says.word) 
 -- ---- groups
 
 module _ (r : ℕ) where
-  pub judges_group : (db : Database) (t : Tables) → HoldsTables db t → (row : Row) → Has (t Groups) row → passes of_rollout (Int (pos r) ∷ []) row
-      ≡ has_at 1 r row
-  judges_group db t holds row among =
-      passes_integer db t holds Groups row among 0 (record { c = _; there = refl; kind_is = refl; strict = refl; filled = refl; apart = refl }) r []
+  pub judges_group : Judges Groups 0 r []
+  judges_group = judges (record { c = _; there = refl; kind_is = refl; strict = refl; filled = refl; apart = refl }) r []
 
   pub says_group : is_number r ≡ true → (row : Row) → has_at 1 r row ≡ true → (g : GroupRecord)
       → IsKeptGroupRow (shown_of group_columns (Int (pos r) ∷ []) row) g → SaysGroup r row g
@@ -131,42 +174,24 @@ module _ (r : ℕ) where
 abbrev pub all_of : ℕ → Row
 all_of n = Int (pos n) ∷ Int (negsuc 0) ∷ Int (pos 0) ∷ []
 
--- where no column breaks its rule, the first doesn't, nor do the others
-kept_first : (kept : Bool) (c : Column) (more : Option Column) → option_or (first_broken ((kept, c) ∷ [])) more ≡ None → (kept ≡ true) × (more ≡ None)
-kept_first kept c more h = grind arith
+-- where no column of an action breaks its rule, place, id and notes keep theirs
+three_kept : (number rollout place word canceling outcome notes entries : Bool) → option_or (first_broken ((number, rule.ActionNumber) ∷ []))
+    (first_broken ((rollout, rule.ActionRollout) ∷ (place, rule.ActionPlace) ∷ (word, rule.TargetId) ∷ (canceling, rule.ActionCanceling)
+    ∷ (outcome, rule.ActionOutcome) ∷ (notes, rule.ActionNotes) ∷ (entries, rule.ActionEntries) ∷ [])) ≡ None
+    → (place ≡ true) × (word ≡ true) × (notes ≡ true)
+three_kept number rollout place word canceling outcome notes entries h = grind arith
 
--- .. and place, id and notes keep theirs
-record KeepsRules (row : Row) : Type 0 where
-  place : has_size (column row 1) ≡ true
-  word : has_word (column row 2) ≡ true
-  notes : has_size (column row 5) ≡ true
-
-rules_kept : (row : Row) → broken_listed_action_column row ≡ None → KeepsRules row
-rules_kept row h = go (is_some (number_in (column row 0))) (has_size (column row 1)) (has_word (column row 2)) (is_some (flag_in (column row 3)))
-    (is_some (outcome_in (column row 4))) (has_size (column row 5)) refl refl refl (kept_first (is_some (number_in (column row 7))) rule.ActionNumber _ h).1
-  where
-    go : (rollout place word canceling outcome notes : Bool) → has_size (column row 1) ≡ place → has_word (column row 2) ≡ word
-        → has_size (column row 5) ≡ notes
-        → first_broken ((rollout, rule.ActionRollout) ∷ (place, rule.ActionPlace) ∷ (word, rule.TargetId) ∷ (canceling, rule.ActionCanceling)
-        ∷ (outcome, rule.ActionOutcome) ∷ (notes, rule.ActionNotes) ∷ (has_size (column row 6), rule.ActionEntries) ∷ []) ≡ None → KeepsRules row
-    go true true true true true true d e f h = record { place = d; word = e; notes = f }
-    go false place word canceling outcome notes d e f h = absurd cc
-    go true false word canceling outcome notes d e f h = absurd cc
-    go true true false canceling outcome notes d e f h = absurd cc
-    go true true true false outcome notes d e f h = absurd cc
-    go true true true true false notes d e f h = absurd cc
-    go true true true true true false d e f h = absurd cc
+rules_kept : (row : Row) → broken_listed_action_column row ≡ None
+    → (has_size (column row 1) ≡ true) × (has_word (column row 2) ≡ true) × (has_size (column row 5) ≡ true)
+rules_kept row h = grind (arith, three_kept, is_some, column)
 
 -- a count is small, or too large to be read
 pub small_or_wide : (n : ℕ) → is_some (small_number (Int (pos n))) ≡ not (is_wide (Int (pos n)))
 small_or_wide n = grind (arith, is_some)
 
 module _ (n : ℕ) where
-  pub judges_action : (db : Database) (t : Tables) → HoldsTables db t → (row : Row) → Has (t Actions) row → passes of_its_rollout (all_of n) row
-      ≡ has_at 2 n row
-  judges_action db t holds row among =
-      passes_integer db t holds Actions row among 1 (record { c = _; there = refl; kind_is = refl; strict = refl; filled = refl; apart = refl }) n
-      (Int (negsuc 0) ∷ Int (pos 0) ∷ [])
+  pub judges_action : Judges Actions 1 n (Int (negsuc 0) ∷ Int (pos 0) ∷ [])
+  judges_action = judges (record { c = _; there = refl; kind_is = refl; strict = refl; filled = refl; apart = refl }) n (Int (negsuc 0) ∷ Int (pos 0) ∷ [])
 
   pub says_action : (row : Row) → has_at 2 n row ≡ true → (a : ListedAction) → IsKeptActionRow (shown_of listed_columns (all_of n) row) a → SaysAction row a
   says_action row of a is = grind (arith, rules_kept, number_is)
@@ -174,17 +199,25 @@ module _ (n : ℕ) where
   pub kept_action : (row : Row) (a : ListedAction) → SaysAction row a → keeps_action_rules (shown_of listed_columns (all_of n) row) ≡ true
   kept_action row a says = grind (arith, small_or_wide, is_none)
 
-  pub judges_entry : (db : Database) (t : Tables) → HoldsTables db t → (row : Row) → Has (t Feedbacks) row → passes of_action (all_of n) row ≡ has_at 1 n row
-  judges_entry db t holds row among =
-      passes_integer db t holds Feedbacks row among 0 (record { c = _; there = refl; kind_is = refl; strict = refl; filled = refl; apart = refl }) n
-      (Int (negsuc 0) ∷ Int (pos 0) ∷ [])
+  pub judges_entry : Judges Feedbacks 0 n (Int (negsuc 0) ∷ Int (pos 0) ∷ [])
+  judges_entry = judges (record { c = _; there = refl; kind_is = refl; strict = refl; filled = refl; apart = refl }) n (Int (negsuc 0) ∷ Int (pos 0) ∷ [])
 
   pub says_entry : (row : Row) → has_at 1 n row ≡ true → (e : SequencedEntry) → IsSequencedRow (shown_of entry_columns (all_of n) row) e → SaysEntry row e
   says_entry row of e is = record { sequence_is = is.sequence; shows = is.entry }
 
   -- ---- the numbers of an action
 
-  pub judges_number : (db : Database) (t : Tables) → HoldsTables db t → (row : Row) → Has (t Numbers) row → passes of_action (Int (pos n) ∷ []) row
-      ≡ has_at 1 n row
-  judges_number db t holds row among =
-      passes_integer db t holds Numbers row among 0 (record { c = _; there = refl; kind_is = refl; strict = refl; filled = refl; apart = refl }) n []
+  pub judges_number : Judges Numbers 0 n []
+  judges_number = judges (record { c = _; there = refl; kind_is = refl; strict = refl; filled = refl; apart = refl }) n []
+
+-- ---- what the row of a number says, and that of an id
+
+pub says_stored : (params row : Row) (a : StoredArtifact) → IsStoredArtifactRow (shown_of told_columns params row) a → SaysStored row a
+says_stored params row a is = record { module_number = is.module_number; filename = is.filename; size = is.size; digest = is.digest }
+
+pub says_numbered : (params row : Row) (a : StoredAction) → IsStoredActionRow (shown_of action_columns params row) a → SaysNumbered row a
+says_numbered params row a is = grind arith
+
+pub says_offer_of : (id : Bytes) → is_word id ≡ true → (row : Row) → has_text_at 1 id row ≡ true → (o : Offer)
+    → IsOfferRow (shown_of offer_columns (Text id ∷ []) row) o → SaysOfferOf id row o
+says_offer_of id word row of o is = grind (arith, text_is, column)

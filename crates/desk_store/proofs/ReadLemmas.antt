@@ -1,16 +1,16 @@
 -- Rows that are read, whatever they are read as.
-use Rattle.desk_store.proofs.Common.{◌≡◌, ◌<◌, ◌++◌, ◌+◌, ℕ, get_or, take, List, [], ◌∷◌, length, map, Option, Some, None, option_map, Ok, Err, Result, IfErr}
-use Rattle.desk_store.proofs.Common.{IfOk, Vec, refl, sym, ap₂, subst, filter_map, ap, ◌∙◌, arith, cons_option, Global, Row, IsLastRow, Database}
-use Rattle.desk_store.proofs.Common.{HasCleanDisk, IsUnchanged, State, Fault, AsksFew, AsksText, TakesFirst, Finds, Sees, Wears, Known, Knows, ShowsFirst}
-use Rattle.desk_store.proofs.Common.{ask_finds, few_finds, first_finds, HoldsLedger, Ledger, HoldsTables, Has, KeepsSeenTables, AreReadAs}
-use Rattle.desk_store.proofs.Common.{HasBroken, Bool, is_some, Place, Query, IfRowsBroken, IsReadAs}
+use Rattle.desk_store.proofs.Common.{slice_get, Command, few_of, has_at, nat_tests, ◌≡◌, ◌<◌, ◌++◌, ◌+◌, ℕ, get_or, take, List, [], ◌∷◌, length, map, Option}
+use Rattle.desk_store.proofs.Common.{Some, None, option_map, Ok, Result, IfErr, IfOk, Vec, refl, sym, ap₂, subst, filter_map, ap, ◌∙◌, arith, cons_option}
+use Rattle.desk_store.proofs.Common.{Global, Row, IsLastRow, Database, HasCleanDisk, IsUnchanged, State, Fault, AsksFew, AsksText, TakesFirst, Finds, Sees}
+use Rattle.desk_store.proofs.Common.{Wears, Known, Knows, ShowsFirst, ask_finds, first_finds, HoldsLedger, Ledger, HoldsTables, AreReadAs, HasBroken, Bool}
+use Rattle.desk_store.proofs.Common.{is_some, Place, Query, IfRowsBroken, IsReadAs, Asks}
+use Rattle.std.specs.Prelude.{IsErrAnd}
 use Rattle.std.proofs.lemmas.List.{take_more}
 use Rattle.std.proofs.lemmas.Slice.Zip.{all_zipped_more}
 use Rattle.sqlite.specs.Effect.{Reads as Shows}
 use Rattle.sqlite.proofs.Callers.{EndsIn}
 use Rattle.sql_calls.proofs.Framing.{took}
 use Rattle.sql_calls.proofs.Leavings.{unchanged_by}
-use Rattle.desk_records.proofs.MeaningWords.{Asks}
 use Rattle.desk_store.proofs.Known.{in_ledgers, known}
 
 -- a further row, and what it is read as
@@ -23,17 +23,15 @@ read_more is rows found at row one within same so_far has = grind (arith, take_m
 pub read_mapped : {A B : Type 0} (f : A → B) (is : Row → B → Type 0) (rows : List Row) (found : List A) → AreReadAs (λ row a. is row (f a)) rows found
     → AreReadAs is rows (map f found)
 read_mapped f is [] [] h = h
-read_mapped f is [] (a ∷ found) h = absurd h
-read_mapped f is (row ∷ rows) [] h = absurd h
 read_mapped f is (row ∷ rows) (a ∷ found) h = (h.0, read_mapped f is rows found h.1)
+read_mapped f is rows found h = absurd h
 
 -- what is read of each row by a part of it
 pub read_parts : {A : Type 0} (part : Row → Row) (is : Row → A → Type 0) (rows : List Row) (found : List A) → AreReadAs (λ row a. is (part row) a) rows found
     → AreReadAs is (map part rows) found
 read_parts part is [] [] h = h
-read_parts part is [] (a ∷ found) h = absurd h
-read_parts part is (row ∷ rows) [] h = absurd h
 read_parts part is (row ∷ rows) (a ∷ found) h = (h.0, read_parts part is rows found h.1)
+read_parts part is rows found h = absurd h
 
 -- a further row, and what is picked of it
 module _ {X A : Type 0} (pick : X → Option A) where
@@ -57,35 +55,45 @@ module _ {A B : Type 0} (is : Row → A → Type 0) (row_of : B → Row) where
 module _ {A : Type 0} (is : Row → A → Type 0) (row_of : A → Row) (one : (a b : A) → is (row_of b) a → a ≡ b) where
   pub all_read : (found wanted : List A) → AreReadAs is (map row_of wanted) found → found ≡ wanted
   all_read [] [] h = refl
-  all_read [] (b ∷ bs) h = absurd h
-  all_read (a ∷ as_are) [] h = absurd h
   all_read (a ∷ as_are) (b ∷ bs) h = ap₂ ◌∷◌ (one a b h.0) (all_read as_are bs h.1)
+  all_read found wanted h = absurd h
+
+-- rows of which the first is shown, if there is one
+pub rows_of_first : (command : Command) (db : Database) (params : Row) (row : Option Row) → ShowsFirst command db params row
+    → (rows : List Row) × (slice_get rows 0 ≡ row) × Shows command db params rows
+rows_of_first command db params None shown = ([], refl, shown)
+rows_of_first command db params (Some row) shown = (row ∷ shown.0, refl, shown.1)
 
 -- ---- what is found by the rows that a text shows
+
+few_kept : (most : ℕ) (rows : Vec Row Global) (answer : Result (Vec Row Global) Fault) → Ok rows ≡ few_of most answer → answer ≡ Ok rows
+few_kept most rows answer e = grind (arith, nat_tests)
+
+module _ {old new : State} {sql : List ℕ} {given params : Row} where
+  -- where what was given comes to these parameters
+  pub first_at : {row : Option Row} → TakesFirst old new sql given (Ok row) → given ≡ params → TakesFirst old new sql params (Ok row)
+  first_at {row} h same = subst (λ its. TakesFirst old new sql its (Ok row)) same h
+
+  pub all_at : {rows : Vec Row Global} → AsksText old new sql given (Ok rows) → given ≡ params → AsksText old new sql params (Ok rows)
+  all_at {rows} h same = subst (λ its. AsksText old new sql its (Ok rows)) same h
+
+-- few rows are all of them
+pub few_asks : {old new : State} {sql : List ℕ} {params : Row} {rows : Vec Row Global} {most : ℕ} → AsksFew old new sql params most (Ok rows)
+    → AsksText old new sql params (Ok rows)
+few_asks {rows = rows} {most = most} h = subst (AsksText _ _ _ _) (few_kept most rows h.answer h.few) h.asks
 
 module _ {R Q : Type 0} {Holds : Database → R → Type 0} {of : Q → R} {sql : List ℕ} {params : Row} {old new : State} (knows : Knows Holds sql)
     {A : Type 0} {Answer : Q → A → Type 0} {Read : A → Type 0} where
   pub all_tell : {rows : Vec Row Global} → ((db : Database) (now : Q) (holds : Holds db (of now))
       → Shows (knows db (of now) holds).command db params rows.items → (found : A) → Read found → Answer now found)
       → AsksText old new sql params (Ok rows) → (out : Result A Fault) → IfOk out Read → Finds Holds of old new out Answer
-  all_tell {rows} means h (Ok found) read =
-      ask_finds Holds of sql params old new Answer knows rows h (Ok found) (λ db now holds shown. means db now holds shown found read)
-  all_tell {rows} means h (Err e) read = ask_finds Holds of sql params old new Answer knows rows h (Err e) tt
-
-  pub few_tell : {rows : Vec Row Global} {most : ℕ} → ((db : Database) (now : Q) (holds : Holds db (of now))
-      → Shows (knows db (of now) holds).command db params rows.items → (found : A) → Read found → Answer now found)
-      → AsksFew old new sql params most (Ok rows) → (out : Result A Fault) → IfOk out Read → Finds Holds of old new out Answer
-  few_tell {rows} {most} means h (Ok found) read =
-      few_finds Holds of sql params old new Answer knows most rows h (Ok found) (λ db now holds shown. means db now holds shown found read)
-  few_tell {rows} {most} means h (Err e) read = few_finds Holds of sql params old new Answer knows most rows h (Err e) tt
+  all_tell {rows} means h out read = ask_finds Holds of sql params old new Answer knows rows h out (grind arith)
 
   pub first_tells : ((db : Database) (r : R) (holds : Holds db r) (at : Database) (given : Row) → EndsIn (knows db r holds).command at given)
       → {row : Option Row} → ((db : Database) (now : Q) (holds : Holds db (of now)) → ShowsFirst (knows db (of now) holds).command db params row
       → (found : A) → Read found → Answer now found)
       → TakesFirst old new sql params (Ok row) → (out : Result A Fault) → IfOk out Read → Finds Holds of old new out Answer
-  first_tells ends {row} means h (Ok found) read =
-      first_finds Holds of sql params old new Answer knows ends row h (Ok found) (λ db now holds shown. means db now holds shown found read)
-  first_tells ends {row} means h (Err e) read = first_finds Holds of sql params old new Answer knows ends row h (Err e) tt
+  first_tells ends {row} means h out read = first_finds Holds of sql params old new Answer knows ends row h out (grind arith)
 
 -- ---- reads of one table of a ledger
 
@@ -130,10 +138,9 @@ module _ {p : Place} {sql : List ℕ} {query : ℕ → Query} {names : List (Lis
       (Ok (is_some row)) (λ db now holds. shows db now holds row)
 
 -- one that is broken among all
-pub told_broken : {A : Type 0} (broken : Row → Type 0) (rows : List Row) (row : Row) → Has rows row → (fault : Fault) → IfRowsBroken fault (broken row)
-    → (out : Result A Fault) → out ≡ Err fault
-    → IfErr out (λ fault. IfRowsBroken fault (HasBroken broken rows))
-told_broken broken rows row among fault told out is = grind arith
+pub told_broken : {A : Type 0} (broken : Row → Type 0) (rows : List Row) (at : ℕ) (row : Row) → at < length rows → row ≡ get_or rows at row → (fault : Fault)
+    → IfRowsBroken fault (broken row) → (out : Result A Fault) → IsErrAnd out (λ e. e ≡ fault) → IfErr out (λ fault. IfRowsBroken fault (HasBroken broken rows))
+told_broken broken rows at row within is fault told out same = let among = has_at rows at row within is in grind arith
 
 -- ---- what a read leaves
 
@@ -148,13 +155,16 @@ module _ {R : Type 0} (Holds : Database → R → Type 0) {sql : List ℕ} (para
   ask_sees rows h = still_seen h.survives.clean (λ k clean. unchanged_by sql k.command params old new k.means rows.items (h.answers clean))
 
   pub few_sees : (most : ℕ) (rows : Vec Row Global) → AsksFew old new sql params most (Ok rows) → (r : R) → Sees Holds old r → Sees Holds new r
-  few_sees most rows h r was =
-      ((few_finds Holds (λ (r : R). r) sql params old new {A = Unit {0}} {E = Fault} (λ r u. Unit {0}) knows most rows h (Ok tt)
-      (λ db now holds shown. tt)).finds r was).0
+  few_sees most rows h = ask_sees rows (few_asks h)
 
+-- .. of a ledger, by what is known of tables
 module _ {sql : List ℕ} (params : Row) (old new : State) (knows : Knows HoldsTables sql) where
-  pub first_keeps : (out : Result (Option Row) Fault) → TakesFirst old new sql params out → KeepsSeenTables old new out
-  first_keeps out h = grind (arith, first_sees)
+  pub first_keeps : (row : Option Row) → TakesFirst old new sql params (Ok row) → (l : Ledger) → Sees HoldsLedger old l → Sees HoldsLedger new l
+  first_keeps = first_sees HoldsLedger params old new (in_ledgers knows)
 
-  pub ask_keeps : (out : Result (Vec Row Global) Fault) → AsksText old new sql params out → KeepsSeenTables old new out
-  ask_keeps out h = grind (arith, ask_sees)
+  pub ask_keeps : (rows : Vec Row Global) → AsksText old new sql params (Ok rows) → (l : Ledger) → Sees HoldsLedger old l → Sees HoldsLedger new l
+  ask_keeps = ask_sees HoldsLedger params old new (in_ledgers knows)
+
+  pub few_keeps : (most : ℕ) (rows : Vec Row Global) → AsksFew old new sql params most (Ok rows) → (l : Ledger) → Sees HoldsLedger old l
+      → Sees HoldsLedger new l
+  few_keeps = few_sees HoldsLedger params old new (in_ledgers knows)

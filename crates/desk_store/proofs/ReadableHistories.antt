@@ -1,29 +1,16 @@
 -- A ledger that can be read has no history longer than its action says.
-use Rattle.std.proofs.Common.{◌≡◌, ◌≤◌, ◌^◌, ◌+◌, ℕ, pos, zero, suc, Bool, true, false, nat_lt, List, [], ◌∷◌, ◌++◌, length, slice_get, Option, Some, None}
-use Rattle.std.proofs.Common.{inl, inr, map, refl, sym, ap, arith}
+use Rattle.desk_store.proofs.Common.{◌≡◌, ◌≤◌, ◌^◌, ◌+◌, ℕ, pos, zero, suc, Bool, true, false, List, [], ◌∷◌, ◌++◌, length, slice_get, Option, Some, None, inl}
+use Rattle.desk_store.proofs.Common.{inr, map, refl, sym, ap, arith, is_some, length-map, nat_tests, Int, Row, column, Has, item_numbered, Records}
+use Rattle.desk_store.proofs.Common.{ActionRecord, history_of, has_size, has_word, first_broken, flag_in, number_in, outcome_in, ledger_of}
+use Rattle.desk_store.proofs.Common.{broken_stored_action_column, columns_of_stored_action, Actions, Column, IsReadable}
+use Rattle.std.proofs.Common.{nat_lt}
 use Rattle.std.specs.List.{zip}
-use Rattle.std.specs.Option.{is_some}
-use Rattle.std.proofs.lemmas.List.{length-map}
-use Rattle.std.proofs.lemmas.Bool.Decides.{nat_tests}
-use Rattle.sqlite_value.specs.declared.value.Value.TheVariants.{Int}
-use Rattle.sqlite_value.specs.Order.{Row, column}
-use Rattle.sqlite_rules.specs.Lists.{Has}
 use Rattle.sql_calls.specs.Keyed.{rows_from}
-use Rattle.rollout_machine.specs.ByteStrings.{item_numbered}
-use Rattle.rollout_machine.specs.Records.{Records}
 use Rattle.rollout_machine.specs.Reports.{Reported}
-use Rattle.rollout_machine.specs.declared.records.ActionRecord.{ActionRecord}
-use Rattle.desk_records.specs.Actions.{Tally, action_row, history_of, tally_of}
-use Rattle.desk_records.specs.Columns.{has_size, has_word}
-use Rattle.desk_records.specs.Codes.{first_broken, flag_in, number_in, outcome_in}
-use Rattle.desk_records.specs.Holds.{ledger_of}
-use Rattle.desk_records.specs.ReadRows.{broken_stored_action_column, columns_of_stored_action}
+use Rattle.desk_records.specs.Actions.{Tally, action_row, tally_of}
 use Rattle.desk_records.specs.RowFaults.{BreaksRule}
-use Rattle.desk_records.specs.Schema.{Actions}
-use Rattle.desk_records.specs.declared.table_columns.Column.{Column}
-use Rattle.desk_records.specs.declared.table_columns.Column.TheVariants.{ActionCanceling, ActionEntries, ActionNotes, ActionOutcome, ActionPlace}
-use Rattle.desk_records.specs.declared.table_columns.Column.TheVariants.{ActionRollout, TargetId}
-use Rattle.desk_store.specs.Readable.{IsReadable}
+use Rattle.desk_records.specs.declared.table_columns.Column.TheVariants.{ActionCanceling, ActionEntries, ActionNotes, ActionOutcome, ActionPlace, ActionRollout}
+use Rattle.desk_records.specs.declared.table_columns.Column.TheVariants.{TargetId}
 
 tallied_at : (as' : List ActionRecord) (i : ℕ) (a : ActionRecord) → slice_get as' i ≡ Some a → slice_get (zip as' (map tally_of as')) i ≡ Some (a, tally_of a)
 tallied_at [] i a is = absurd cc

@@ -1,29 +1,19 @@
 -- A ledger can be read with other targets too, where these keep their rules.
-use Rattle.std.proofs.Common.{◌≡◌, ◌<◌, ◌^◌, ℕ, pos, true, Option, None, Some, List, [], ◌∷◌, length, sym, ap, subst, ◌∙◌, arith, true≢false}
-use Rattle.std.specs.List.{list_all}
-use Rattle.std.proofs.lemmas.Bool.{and_parts}
-use Rattle.std.proofs.lemmas.List.{length-map}
-use Rattle.sqlite_value.specs.Order.{Row}
-use Rattle.sqlite_value.specs.declared.value.Value.TheVariants.{Int, Text}
-use Rattle.sqlite_rules.proofs.ListLemmas.{test_has}
-use Rattle.sqlite_rules.specs.Lists.{Has}
+use Rattle.desk_store.proofs.Common.{◌≡◌, ◌<◌, ◌^◌, ℕ, pos, true, Option, None, Some, List, [], ◌∷◌, length, sym, ap, subst, ◌∙◌, arith, list_all, and_parts}
+use Rattle.desk_store.proofs.Common.{length-map, Row, Int, Text, test_has, Has, is_word, Bytes, Records, Target, ledger_of, Actions, Artifacts, Feedbacks}
+use Rattle.desk_store.proofs.Common.{Groups, Members, Numbers, Offers, Place, Rollouts, Targets, Column, has_mapped, BreaksColumn, IsReadable}
+use Rattle.std.proofs.Common.{true≢false}
 use Rattle.sql_calls.proofs.Counts.{length_held}
 use Rattle.rollout_model.specs.Pairs.{is_attribute}
-use Rattle.rollout_model.specs.Rules.{is_digest, is_text, is_word}
-use Rattle.rollout_machine.specs.Commands.{Attribute, Bytes}
-use Rattle.rollout_machine.specs.Records.{Records}
-use Rattle.rollout_machine.specs.Targets.{Target}
-use Rattle.desk_records.specs.Holds.{IsHeld, ledger_of}
+use Rattle.rollout_model.specs.Rules.{is_digest, is_text}
+use Rattle.rollout_machine.specs.Commands.{Attribute}
+use Rattle.desk_records.specs.Holds.{IsHeld}
 use Rattle.desk_records.specs.RowFaults.{BreaksRule}
-use Rattle.desk_records.specs.Schema.{Actions, Artifacts, Desk, Feedbacks, Groups, Members, Modules, Numbers, Offers, Pieces, Place, Rollouts, Rules}
-use Rattle.desk_records.specs.Schema.{SetModules, Sets, TargetAttributes, TargetTags, Targets}
+use Rattle.desk_records.specs.Schema.{Desk, Modules, Pieces, Rules, SetModules, Sets, TargetAttributes, TargetTags}
 use Rattle.desk_records.specs.Targets.{attribute_rows, tag_rows, target_row}
-use Rattle.desk_records.specs.declared.table_columns.Column.{Column}
 use Rattle.desk_records.proofs.EachPlace.{by_place}
 use Rattle.desk_records.proofs.HeldTables.{wanted_of}
-use Rattle.desk_records.proofs.Membership.{has_flat, has_mapped}
-use Rattle.desk_store.specs.BrokenRows.{BreaksColumn}
-use Rattle.desk_store.specs.Readable.{IsReadable}
+use Rattle.desk_records.proofs.Membership.{has_flat}
 
 -- its own words and texts, and those of its tags and attributes, are such
 pub record KeepsTarget (x : Target) : Type 0 where

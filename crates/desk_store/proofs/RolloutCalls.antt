@@ -1,19 +1,17 @@
 -- The calls on rollouts and groups.
+use Rattle.desk_store.proofs.ReadLemmas.{all_tell, first_tells, one_read, reads_last, reads_one}
 use Rattle.desk_store.proofs.Common.{◌≡◌, ◌<◌, ◌≤◌, ℕ, Bool, pos, take, List, slice_get, arith, [], ◌∷◌, length, map, Option, Some, Ok, Result, IfOk}
-use Rattle.desk_store.proofs.Common.{option_map, refl, ap, ◌∙◌, Global, Vec, Int, Row, column, State, slice_get-map, Fault, AsksFew, TakesFirst, Finds}
+use Rattle.desk_store.proofs.Common.{option_map, refl, ap, ◌∙◌, Global, Vec, Int, Row, column, State, slice_get-map, Fault, AsksText, TakesFirst, Finds}
 use Rattle.desk_store.proofs.Common.{item_numbered, GroupRecord, GET_DESK, LAST_ROLLOUT, GET_ROLLOUT, GROUP_AND_NEXT, StoredRollout, HoldsLedger, Ledger}
-use Rattle.desk_store.proofs.Common.{IsLastRow, IsStoredRolloutRow, IsGroupRow, stored_rollout, groups_of, that_reach, last_rollout_is}
-use Rattle.desk_store.proofs.Common.{get_rollout_is, group_and_next_is, lasts_rollout, gets_rollout, shown_group, gets_group_and_next, group_and_next}
-use Rattle.desk_store.proofs.Common.{GroupAndNext, IsApproval, IsReadAs}
+use Rattle.desk_store.proofs.Common.{IsLastRow, IsStoredRolloutRow, IsGroupRow, stored_rollout, groups_of, that_reach, last_rollout_is, get_rollout_is}
+use Rattle.desk_store.proofs.Common.{group_and_next_is, lasts_rollout, gets_rollout, shown_group, gets_group_and_next, group_and_next, GroupAndNext, IsApproval}
+use Rattle.desk_store.proofs.Common.{IsReadAs, gets_desk, told_desk, get_desk_is}
 use Rattle.sqlite.proofs.MarkLemmas.{slice_get-take}
-use Rattle.desk_records.proofs.DeskRecords.{gets_desk, told_desk}
 use Rattle.desk_records.proofs.KeptColumns.{kept_flag}
-use Rattle.desk_records.proofs.Meaning.{get_desk_is}
 use Rattle.desk_records.proofs.RowsTold.{one_group, one_stored_rollout}
 use Rattle.desk_records.specs.ReadRows.{shown_stored_rollout}
 use Rattle.desk_store.proofs.Known.{in_ledgers, known}
 use Rattle.desk_store.proofs.LedgerReads.{both_mapped}
-use Rattle.desk_store.proofs.ReadLemmas.{few_tell, first_tells, one_read, reads_last, reads_one}
 
 -- ---- the desk
 
@@ -42,10 +40,10 @@ rollout_read number least old new row h out read = reads_one get_rollout_is _
 
 -- the rows are those of the first two groups that reach the place
 pub group_and_next_read : (number place : ℕ) → 1 ≤ number → {old new : State} {rows : Vec Row Global}
-    → AsksFew old new GROUP_AND_NEXT.now (Int (pos number) ∷ Int (pos place) ∷ []) 2 (Ok rows) → (out : Result GroupAndNext Fault)
+    → AsksText old new GROUP_AND_NEXT.now (Int (pos number) ∷ Int (pos place) ∷ []) (Ok rows) → (out : Result GroupAndNext Fault)
     → IfOk out (λ both. IsReadAs IsGroupRow both.group (slice_get rows.items 0) × IsReadAs IsGroupRow both.next (slice_get rows.items 1))
     → Finds HoldsLedger (λ (l : Ledger). l) old new out (λ l found. found ≡ group_and_next place (groups_of (item_numbered l.records.rollouts number)))
-group_and_next_read number place least {rows = rows} = few_tell (in_ledgers (known group_and_next_is)) (λ db l holds shown both are.
+group_and_next_read number place least {rows = rows} = all_tell (in_ledgers (known group_and_next_is)) (λ db l holds shown both are.
     let all = gets_group_and_next db l holds [] number place least rows.items shown in
     let its = that_reach place (groups_of (item_numbered l.records.rollouts number)) in
     λ i. record { group = at its 0 both.group (omega arith) all are.0 i; next = at its 1 both.next (omega arith) all are.1 i })

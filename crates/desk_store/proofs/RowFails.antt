@@ -1,31 +1,21 @@
 -- Why the rows of numbers, of the desk and of the next offer are no failed store by themselves.
-use Rattle.desk_store.proofs.Common.{◌≡◌, ◌⊎◌, ◌≤◌, ◌<◌, ◌^◌, ◌+◌, ℕ, suc, min, length, pos, Bool, true, false, List, [], ◌∷◌, Option}
-use Rattle.desk_store.proofs.Common.{Some, None, option_map, Ok, Err, Result, IfErr, arith, is_some, Value, Int, Text, Row, column, has_size}
-use Rattle.desk_store.proofs.Common.{Fault, Memory, Store, TakesFirst, first_finds, shown_of, Ghosts, HoldsLedger}
-use Rattle.desk_store.proofs.Common.{Ledger, IfRowsBroken, HasNoNumber, BreaksRule, broken_offer_column, is_number, seen_in, OpenChange, COUNT_TARGETS}
-use Rattle.desk_store.proofs.Common.{GET_DESK, NEXT_OFFER, Targets, get_desk_is, count_targets_is, counted_at, Place, Query, shown_offer}
-use Rattle.sql_calls.specs.declared.fault.Fault.TheVariants.{Broken}
-use Rattle.std.proofs.lemmas.Bool.Decides.{nat_tests}
+use Rattle.desk_store.proofs.FailLemmas.{breaks_first_by, told_alone, broken_so, first_fails, never_by, tables_of}
+use Rattle.desk_store.proofs.Common.{◌≡◌, ◌⊎◌, ◌≤◌, ◌<◌, ◌^◌, ◌+◌, ℕ, suc, min, length, pos, Bool, true, false, List, [], ◌∷◌, Option, Some, None, option_map}
+use Rattle.desk_store.proofs.Common.{Ok, Result, IfErr, arith, is_some, Value, Int, Text, Row, column, has_size, Fault, TakesFirst, first_finds, shown_of}
+use Rattle.desk_store.proofs.Common.{Ghosts, HoldsLedger, Ledger, IfRowsBroken, HasNoNumber, BreaksRule, broken_offer_column, is_number, seen_in, OpenChange}
+use Rattle.desk_store.proofs.Common.{COUNT_TARGETS, GET_DESK, NEXT_OFFER, Targets, get_desk_is, count_targets_is, counted_at, Place, Query, shown_offer, Broken}
+use Rattle.desk_store.proofs.Common.{nat_tests, Offer, Bytes, ActionRecord, next_offer, gets_desk, told_desk, rows_of, gets_next_offer, is_number_in}
+use Rattle.desk_store.proofs.Common.{FindsLedger, FailsIn, IsBroken, Asks, BreaksColumn}
 use Rattle.rollout_machine.specs.declared.records.RolloutRecord.{RolloutRecord}
 use Rattle.rollout_model.specs.Limits.{number_limit}
-use Rattle.rollout_model.specs.declared.rollout.Offer.{Offer}
-use Rattle.rollout_machine.specs.Commands.{Bytes}
-use Rattle.rollout_machine.specs.declared.records.ActionRecord.{ActionRecord}
-use Rattle.desk_records.specs.NextOffers.{next_offer, next_offer_from}
-use Rattle.desk_records.proofs.DeskRecords.{gets_desk, told_desk}
-use Rattle.desk_records.proofs.HeldTables.{rows_of}
-use Rattle.desk_records.proofs.NextOfferRecords.{gets_next_offer}
-use Rattle.desk_records.proofs.NumberColumns.{is_in_range, is_number_in, small_is}
-use Rattle.desk_records.proofs.TargetMeaning.{count_targets_is}
-use Rattle.desk_store.specs.Changing.{FindsLedger}
-use Rattle.desk_store.specs.Failing.{FailsIn, FailsSeeing, AreActionsNumbered}
-use Rattle.desk_store.specs.Rows.{HasNoApproval, IsBroken}
-use Rattle.desk_store.proofs.FailLemmas.{broken_so, first_fails, never_by, tables_of}
+use Rattle.desk_records.specs.NextOffers.{next_offer_from}
+use Rattle.desk_records.proofs.NumberColumns.{is_in_range, small_is}
+use Rattle.desk_store.specs.Failing.{FailsSeeing, AreActionsNumbered}
+use Rattle.desk_store.specs.Rows.{HasNoApproval}
 use Rattle.desk_store.proofs.Known.{in_ledgers, known, tables_know}
-use Rattle.desk_records.proofs.MeaningWords.{Asks}
 use Rattle.desk_store.proofs.NextOfferCalls.{next}
 use Rattle.desk_store.proofs.RawCalls.{count_shown}
-use Rattle.desk_store.specs.BrokenRows.{BreaksColumn, HasNoKey}
+use Rattle.desk_store.specs.BrokenRows.{HasNoKey}
 
 -- a value that is no number of 32 bits
 no_size : (v : Value) → ((n : ℕ) → n < 2 ^ 32 → v ≡ Int (pos n) → ⊥) → has_size v ≡ false
@@ -39,11 +29,8 @@ pub last_fails : {p : Place} {sql : List ℕ} {query : ℕ → Query} {names : L
     → ((row : Row) → HasNoNumber (Some (shown_of (query 0).project params row)) → BreaksColumn p row)
     → {S : Type 0} {g : Ghosts S} {old new : OpenChange S} {row : Option Row} → TakesFirst (seen_in g old) (seen_in g new) sql params (Ok row)
     → (out : Result ℕ Fault) → IfErr out (λ fault. IfRowsBroken fault (HasNoNumber row)) → FailsIn g old new out
-last_fails text rule {row = row} h out broken = first_fails text (λ r. HasNoNumber (Some r)) rule h out (broken_so (as_broken row) out broken)
-  where
-    as_broken : (row : Option Row) → HasNoNumber row → IsBroken (λ r. HasNoNumber (Some r)) row
-    as_broken None is = is
-    as_broken (Some x) is = is
+last_fails text rule {row = row} h out broken = first_fails text (λ r. HasNoNumber (Some r)) rule h out
+    (broken_so {Spoiled = HasNoNumber row} {Why = IsBroken (λ r. HasNoNumber (Some r)) row} (λ is. grind arith) out broken)
 
 -- as the row of a count of targets
 never_many : (size : ℕ) (row : Option Row) → row ≡ Some (Int (pos (min size 9223372036854775807)) ∷ []) → size < 2 ^ 32 → (row ≡ None) ⊎ HasNoNumber row → ⊥
@@ -84,30 +71,15 @@ module _ {S : Type 0} {g : Ghosts S} {old new : OpenChange S} {row : Option Row}
       → IfErr out (λ fault. (fault ≡ Broken) × HasNoApproval row) → FailsIn g old new out
   approval_fails h out broken = never_by (first_finds HoldsLedger (λ (l : Ledger). l) GET_DESK.now [] (seen_in g old) (seen_in g new) _
       (in_ledgers (known get_desk_is)) (λ db l holds at given. tt) row h (Ok (tt {0}))
-      (λ db l holds shown readable. never_untold l.records.approval row (gets_desk db l holds [] row shown))) out (as_store out broken)
-    where
-      as_store : (out : Result Bool Fault) → IfErr out (λ fault. (fault ≡ Broken) × HasNoApproval row)
-          → IfErr out (λ fault. IfRowsBroken fault (HasNoApproval row))
-      as_store (Ok b) is = tt
-      as_store (Err Memory) is = tt
-      as_store (Err Store) is = absurd (let same = is.0 in cc)
-      as_store (Err Broken) is = is.1
+      (λ db l holds shown readable. never_untold l.records.approval row (gets_desk db l holds [] row shown))) out (told_alone _ out broken)
 
   -- the next offer
   pub next_fails : (id : Bytes) → TakesFirst (seen_in g old) (seen_in g new) NEXT_OFFER.now (Text id ∷ []) (Ok row) → (out : Result (Option Offer) Fault)
       → IfErr out (λ fault. IfRowsBroken fault (IsBroken (λ r. BreaksRule (broken_offer_column r)) row))
       → FailsSeeing g AreActionsNumbered old new out
-  next_fails id h out broken = go out broken
-    where
-      found : FindsLedger g {E = Fault} old new (Ok (tt {0})) (λ l u. AreActionsNumbered l → IsBroken (λ r. BreaksRule (broken_offer_column r)) row → ⊥)
-      found = first_finds HoldsLedger (λ (l : Ledger). l) NEXT_OFFER.now (Text id ∷ []) (seen_in g old) (seen_in g new) _ (in_ledgers next)
-          (λ db l holds at given. tt) row h (Ok (tt {0})) (λ db l holds shown numbers. never_next (next_offer l.records id) row
-          (gets_next_offer db l holds [] id numbers.tallied row shown)
-          (λ o is. next_in_range l.records.rollouts id l.records.actions numbers.few o is))
-
-      go : (out : Result (Option Offer) Fault) → IfErr out (λ fault. IfRowsBroken fault (IsBroken (λ r. BreaksRule (broken_offer_column r)) row))
-          → FailsSeeing g AreActionsNumbered old new out
-      go (Ok o) is = record { to = tt }
-      go (Err Memory) is = record { to = λ l seen numbers. record { reason = λ e clean. absurd cc } }
-      go (Err Store) is = absurd is
-      go (Err Broken) is = record { to = λ l seen numbers. record { reason = λ e clean. absurd ((found.finds l seen).1 clean numbers is) } }
+  next_fails id h out broken =
+      let found : FindsLedger g {E = Fault} old new (Ok (tt {0})) (λ l u. AreActionsNumbered l → IsBroken (λ r. BreaksRule (broken_offer_column r)) row → ⊥) =
+      first_finds HoldsLedger (λ (l : Ledger). l) NEXT_OFFER.now (Text id ∷ []) (seen_in g old) (seen_in g new) _ (in_ledgers next)
+      (λ db l holds at given. tt) row h (Ok (tt {0})) (λ db l holds shown numbers. never_next (next_offer l.records id) row
+      (gets_next_offer db l holds [] id numbers.tallied row shown) (λ o is. next_in_range l.records.rollouts id l.records.actions numbers.few o is)) in
+      breaks_first_by found out (broken_so (λ is l never numbers. never numbers is) out broken)

@@ -1,9 +1,8 @@
 -- The calls on targets.
-use Rattle.desk_store.proofs.Common.{◌≡◌, ◌<◌, ◌^◌, ℕ, min, pos, List, [], ◌∷◌, length, map, Option, Some, Ok, Result, IfOk, refl, ap, arith}
-use Rattle.desk_store.proofs.Common.{Int, Row, column, State, Fault, TakesFirst, Finds, COUNT_TARGETS, HoldsLedger, ledger_of, listed_target, IsCount}
-use Rattle.desk_store.proofs.Common.{count_targets_is, counted_at}
+use Rattle.desk_store.proofs.Common.{◌≡◌, ◌<◌, ◌^◌, ℕ, min, pos, List, [], ◌∷◌, length, map, Option, Some, Ok, Result, IfOk, refl, ap, arith, Int, Row, column}
+use Rattle.desk_store.proofs.Common.{State, Fault, TakesFirst, Finds, COUNT_TARGETS, HoldsLedger, ledger_of, listed_target, IsCount, count_targets_is}
+use Rattle.desk_store.proofs.Common.{counted_at, Target}
 use Rattle.desk_records.specs.ReadRows.{shown_listed_target}
-use Rattle.rollout_machine.specs.Targets.{Target}
 use Rattle.desk_records.proofs.TargetRecords.{listed_row, counts_targets}
 use Rattle.desk_store.proofs.ReadLemmas.{first_tells}
 use Rattle.desk_store.proofs.Known.{in_ledgers, tables_know}

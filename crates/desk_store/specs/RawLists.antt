@@ -11,10 +11,8 @@ use Rattle.rollout_model.specs.declared.group_rule.GroupRule.{GroupRule}
 use Rattle.rollout_model.specs.declared.rollout.Offer.{Offer}
 use Rattle.desk_records.specs.Listings.{AreBroken, AreSaid, IsSaid, has_at}
 use Rattle.desk_records.specs.ReadRows.{IsStoredActionRow, IsArtifactRow, IsGroupRow, IsListedActionRow, IsNumberRow, IsRuleRow, IsStoredArtifactRow}
-use Rattle.desk_records.specs.ReadRows.{broken_group_column}
-use Rattle.desk_records.specs.ReadRows.{broken_listed_action_column, columns_of_artifact, columns_of_stored_action, columns_of_stored_artifact}
-use Rattle.desk_records.specs.ReadRows.{columns_of_number}
-use Rattle.desk_records.specs.ReadRows.{columns_of_rule}
+use Rattle.desk_records.specs.ReadRows.{broken_group_column, broken_listed_action_column, columns_of_artifact, columns_of_stored_action}
+use Rattle.desk_records.specs.ReadRows.{columns_of_stored_artifact, columns_of_number, columns_of_rule}
 use Rattle.desk_records.specs.Schema.{Actions, Artifacts, Offers}
 use Rattle.desk_records.specs.Tables.{Tables}
 use Rattle.desk_records.specs.TableRows.{IsAction, IsArtifact, IsEntry, IsGroup, IsOffer}

@@ -105,6 +105,7 @@ impl FromCheckedRow for ListedAction {
 }
 
 /// What each row is read as, in order; `None` where one of them breaks a rule.
+#[tactic(auto, using(crate::proofs::ReadLemmas::read_more))]
 pub(crate) fn read_checked<T: FromCheckedRow>(
     alloc: Global,
     rows: &[Row],

@@ -1,5 +1,5 @@
 //! The store of a desk: typed reads and writes of records in one change at a time, which is kept whole or not at all.
-#![tactic(auto)]
+#![tactic(auto, using(crate::proofs::Texts::read, crate::proofs::Texts::written))]
 
 mod actions;
 mod artifacts;

@@ -56,6 +56,7 @@ pub(crate) fn read_at<T: FromRow>(
 }
 
 /// What each row is read as, in order.
+#[tactic(auto, using(crate::proofs::ReadLemmas::read_more))]
 pub(crate) fn read_all<T: FromRow>(alloc: Global, rows: &[Row]) -> Result<Vec<T>, Fault>
     ensures ok { IfOk result (λ found. AreReadAs T.is_row rows.now found.items) }
     ensures err { IfErr result (λ fault. IfRowsBroken fault (HasBroken T.is_broken rows.now)) }
@@ -69,6 +70,7 @@ pub(crate) fn read_all<T: FromRow>(alloc: Global, rows: &[Row]) -> Result<Vec<T>
 }
 
 /// The attributes in rows of key and value.
+#[tactic(auto, using(crate::proofs::ReadLemmas::read_more))]
 pub(crate) fn read_attributes(alloc: Global, rows: &[Row]) -> Result<Attributes, Fault>
     ensures ok { IfOk result (AreReadAs IsAttributeRow rows.now) }
     ensures err { IfErr result (λ fault. IfRowsBroken fault (HasBroken (λ row. BreaksRule (broken_attribute_column row)) rows.now)) }

@@ -17,6 +17,7 @@ use sql_calls::Fault;
 use sqlite::types::ValueRef;
 use sqlite::{Alter, Row};
 
+#[tactic(auto, using(crate::proofs::BlameLemmas::statement_keeps))]
 impl<'a, S: Alter> OpenChange<'a, S> {
     /// Runs one query, and takes its first row, if there is one.
     pub(crate) fn first(&mut self, sql: &str, params: &[ValueRef<'_>]) -> Result<Option<Row>, Fault>

@@ -1,12 +1,11 @@
-use Rattle.desk_store.proofs.Answering.{Err, ap, err_from_is_err_and, has_at, refl, slice_get_read, told_broken, ◌∙◌}
+use Rattle.desk_store.proofs.Answering.{refl, slice_get_read, told_broken}
 use Rattle.desk_store.proofs.reading.read_at.Goals as goal
 
 pub returns-in_err-found-clause-err : goal.returns-in_err-found-clause-err
 returns-in_err-found-clause-err g c =
     let is = c.in-Some.ensures.lookup in
-    let out = err_from_is_err_and c.from_residual.result c.from_residual.ensures.1 in
-    told_broken g.T.FromRow.is_broken c.args.rows.now c.in-Some.row.now (has_at c.args.rows.now c.args.at c.in-Some.row.now is.3.0 is.1)
-    c.in_err-found.field-0.0 c.in_err-found.ensures.err c.from_residual.result (out.1 ∙ ap Err out.2)
+    told_broken g.T.FromRow.is_broken c.args.rows.now c.args.at c.in-Some.row.now is.3.0 is.1 c.in_err-found.field-0.0 c.in_err-found.ensures.err
+    c.from_residual.result c.from_residual.ensures.1
 
 pub returns-clause-ok : goal.returns-clause-ok
 returns-clause-ok g c =

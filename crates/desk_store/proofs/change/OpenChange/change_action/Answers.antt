@@ -2,9 +2,5 @@ use Rattle.desk_store.proofs.Answering.{arith, changes, set_action_is, sets_acti
 use Rattle.desk_store.proofs.change.OpenChange.change_action.Goals as goal
 
 pub returns-clause-writes : goal.returns-clause-writes
-returns-clause-writes g c =
-    writes (changes set_action_is) (sets_action c.args.number c.args.canceling c.args.outcome (record { notes = c.args.notes; entries = c.args.entries }) _ _ _)
-    c.run.ensures.runs (grind arith)
-
-pub run-requires : goal.run-requires
-run-requires g c = changes set_action_is
+returns-clause-writes g c = writes (changes set_action_is) (sets_action c.args.number c.args.canceling c.args.outcome
+    (record { notes = c.args.notes; entries = c.args.entries }) _ _ _) c.run.ensures.runs (grind arith)

@@ -4,6 +4,3 @@ use Rattle.desk_store.proofs.change.OpenChange.change_group.Goals as goal
 pub returns-clause-writes : goal.returns-clause-writes
 returns-clause-writes g c = writes (changes set_group_is) (sets_group c.args.number c.args.group c.args.started c.args.ok c.args.bad c.args.gone _ _ _)
     c.run.ensures.runs (grind arith)
-
-pub run-requires : goal.run-requires
-run-requires g c = changes set_group_is

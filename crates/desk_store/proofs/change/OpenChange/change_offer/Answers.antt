@@ -3,6 +3,3 @@ use Rattle.desk_store.proofs.change.OpenChange.change_offer.Goals as goal
 
 pub returns-clause-writes : goal.returns-clause-writes
 returns-clause-writes g c = writes (changes set_offer_is) (sets_offer c.args.id.now c.args.offer _ _ _) c.run.ensures.runs (grind arith)
-
-pub run-requires : goal.run-requires
-run-requires g c = changes set_offer_is

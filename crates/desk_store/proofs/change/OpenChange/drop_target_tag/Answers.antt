@@ -2,10 +2,5 @@ use Rattle.desk_store.proofs.Answering.{HoldsRecords, arith, drop_target_tag_is,
 use Rattle.desk_store.proofs.change.OpenChange.drop_target_tag.Goals as goal
 
 pub returns-clause-writes : goal.returns-clause-writes
-returns-clause-writes g c =
-    writes (drops drop_target_tag_is)
-    (λ count now next holds change w. subst (HoldsRecords _) (sym change) (drops_tag c.args.id.now c.args.tag.now _ _ _ count now holds w)) c.run.ensures.runs
-    (grind arith)
-
-pub run-requires : goal.run-requires
-run-requires g c = drops drop_target_tag_is
+returns-clause-writes g c = writes (drops drop_target_tag_is) (λ count now next holds change w. subst (HoldsRecords _) (sym change)
+    (drops_tag c.args.id.now c.args.tag.now _ _ _ count now holds w)) c.run.ensures.runs (grind arith)

@@ -1,15 +1,10 @@
-use Rattle.desk_store.proofs.Answering.{[], few_blamed, finds_one, get_action_is, known, large_count, long_action, passes_rowid, refl, says_numbered, unread}
+use Rattle.desk_store.proofs.Answering.{[], all_blamed, few_asks, finds_one, get_action_is, large_count, long_action, passes_rowid, refl, says_numbered, unread}
 use Rattle.desk_store.proofs.change.OpenChange.find_action.Goals as goal
 
 pub returns-clause-reads : goal.returns-clause-reads
-returns-clause-reads g c = finds_one get_action_is (λ tree xs. refl) (λ db t holds row among. passes_rowid row c.args.number) _
-    (λ row numbered. says_numbered [] row) (rw (c.params-to_sql.ensures, c.get.ensures.value) at c.in_ok-rows.ensures.asks) _
-    (rw c.deref.ensures.value at c.read_at.ensures.ok)
+returns-clause-reads g c = finds_one get_action_is (λ tree xs. refl) (λ db t holds row among. passes_rowid row c.args.number) _ (λ row numbered. says_numbered
+    [] row) (rw (c.params-to_sql.ensures, c.get.ensures.value) at c.in_ok-rows.ensures.asks) _ (rw c.deref.ensures.value at c.read_at.ensures.ok)
 
 pub returns-clause-blames : goal.returns-clause-blames
-returns-clause-blames g c = few_blamed get_action_is _ (rw (c.params-to_sql.ensures, c.get.ensures.value) at c.in_ok-rows.ensures.asks) _
-    (rw c.deref.ensures.value at c.read_at.ensures.err) (λ reading row among is given. let it = given.0 row among in
-    unread reading (large_count row among (long_action row it.0 it.1 it.2 is.first is.is)) given.1)
-
-pub few-requires : goal.few-requires
-few-requires g c = known get_action_is
+returns-clause-blames g c = all_blamed get_action_is _ (few_asks c.in_ok-rows.ensures.asks) _ (rw c.deref.ensures.value at c.read_at.ensures.err)
+    (λ reading row among is given. let it = given.0 row among in unread reading (large_count row among (long_action row it.0 it.1 it.2 is.first is.is)) given.1)

@@ -1,4 +1,4 @@
-use Rattle.desk_store.proofs.Answering.{few_blamed, finds_one, get_offer_is, is_word, known, no_offer, passes_text, refl, says_offer_of, subst, true, ◌≡◌}
+use Rattle.desk_store.proofs.Answering.{all_blamed, few_asks, finds_one, get_offer_is, is_word, no_offer, passes_text, refl, says_offer_of, subst, true, ◌≡◌}
 use Rattle.desk_store.proofs.change.OpenChange.find_offer.Goals as goal
 
 pub returns-clause-reads : goal.returns-clause-reads
@@ -7,9 +7,5 @@ returns-clause-reads g c = finds_one get_offer_is (λ tree xs. refl) (λ db t ho
     (rw (c.params-to_sql.ensures, c.as_str.ensures.value) at c.in_ok-rows.ensures.asks) _ (rw c.deref.ensures.value at c.read_at.ensures.ok)
 
 pub returns-clause-blames : goal.returns-clause-blames
-returns-clause-blames g c = few_blamed get_offer_is _ (rw (c.params-to_sql.ensures, c.as_str.ensures.value) at c.in_ok-rows.ensures.asks) _
-    (rw c.deref.ensures.value at c.read_at.ensures.err) (λ reading row among is given. let it = given row among in
-    absurd (no_offer row it.0 it.1 it.2 is.first is.is))
-
-pub few-requires : goal.few-requires
-few-requires g c = known get_offer_is
+returns-clause-blames g c = all_blamed get_offer_is _ (few_asks c.in_ok-rows.ensures.asks) _ (rw c.deref.ensures.value at c.read_at.ensures.err)
+    (λ reading row among is given. let it = given row among in absurd (no_offer row it.0 it.1 it.2 is.first is.is))

@@ -1,4 +1,4 @@
-use Rattle.desk_store.proofs.Answering.{all_blamed, kept_artifact, known, list_all_artifacts_is, refl, rows_read, says_artifact}
+use Rattle.desk_store.proofs.Answering.{all_blamed, kept_artifact, list_all_artifacts_is, refl, rows_read, says_artifact}
 use Rattle.desk_store.proofs.change.OpenChange.list_all_artifacts.Goals as goal
 
 pub returns-clause-reads : goal.returns-clause-reads
@@ -8,6 +8,3 @@ returns-clause-reads g c = rows_read list_all_artifacts_is (λ tree xs. refl) (�
 pub returns-clause-blames : goal.returns-clause-blames
 returns-clause-blames g c = all_blamed list_all_artifacts_is _ c.in_ok-rows.ensures.asks _ (rw c.deref.ensures.value at c.read_checked.ensures.err)
     (λ reading row among is given. absurd is)
-
-pub ask-requires : goal.ask-requires
-ask-requires g c = known list_all_artifacts_is

@@ -1,4 +1,4 @@
-use Rattle.desk_store.proofs.Answering.{all_blamed, is_number, judges_group, kept_group, known, list_groups_is, refl, rows_read, says_group, subst, true, ◌≡◌}
+use Rattle.desk_store.proofs.Answering.{all_blamed, is_number, judges_group, kept_group, list_groups_is, refl, rows_read, says_group, subst, true, ◌≡◌}
 use Rattle.desk_store.proofs.change.OpenChange.list_groups.Goals as goal
 
 pub returns-clause-reads : goal.returns-clause-reads
@@ -7,8 +7,5 @@ returns-clause-reads g c = rows_read list_groups_is (λ tree xs. refl) (judges_g
     (rw (c.params-to_sql.ensures, c.get.ensures.value) at c.in_ok-rows.ensures.asks) _ (rw c.deref.ensures.value at c.read_checked.ensures.ok)
 
 pub returns-clause-blames : goal.returns-clause-blames
-returns-clause-blames g c = all_blamed list_groups_is _ (rw (c.params-to_sql.ensures, c.get.ensures.value) at c.in_ok-rows.ensures.asks) _
-    (rw c.deref.ensures.value at c.read_checked.ensures.err) (λ reading row among is given. absurd is)
-
-pub ask-requires : goal.ask-requires
-ask-requires g c = known list_groups_is
+returns-clause-blames g c = all_blamed list_groups_is _ c.in_ok-rows.ensures.asks _ (rw c.deref.ensures.value at c.read_checked.ensures.err)
+    (λ reading row among is given. absurd is)

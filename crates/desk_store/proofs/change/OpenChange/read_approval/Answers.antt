@@ -1,4 +1,4 @@
-use Rattle.desk_store.proofs.Answering.{approval_fails, approval_read, get_desk_is, known}
+use Rattle.desk_store.proofs.Answering.{approval_fails, approval_read}
 use Rattle.desk_store.proofs.change.OpenChange.read_approval.Goals as goal
 
 pub returns-clause-reads : goal.returns-clause-reads
@@ -6,6 +6,3 @@ returns-clause-reads g c = approval_read c.in_ok-row.ensures.takes _ c.approval_
 
 pub returns-clause-fails : goal.returns-clause-fails
 returns-clause-fails g c = approval_fails c.in_ok-row.ensures.takes _ c.approval_in.ensures.err
-
-pub first-requires : goal.first-requires
-first-requires g c = known get_desk_is

@@ -1,5 +1,4 @@
-use Rattle.desk_store.proofs.Answering.{Int, Ok, TakesFirst, [], arith, entry_read, first_fails, known, list_entries_is, nat_tests, pos, state, suc, ◌-◌, ◌∷◌}
-use Rattle.desk_store.proofs.Answering.{◌≡◌}
+use Rattle.desk_store.proofs.Answering.{Int, Ok, TakesFirst, [], arith, entry_read, first_fails, list_entries_is, nat_tests, pos, state, suc, ◌-◌, ◌∷◌, ◌≡◌}
 use Rattle.desk_records.specs.declared.action_texts.TheConstants.{LIST_ENTRIES}
 use Rattle.desk_store.proofs.change.OpenChange.read_entry.Goals as goal
 
@@ -13,6 +12,3 @@ returns-clause-reads g c =
 
 pub returns-clause-fails : goal.returns-clause-fails
 returns-clause-fails g c = first_fails list_entries_is _ (λ row is. is) c.in_ok-row.ensures.takes _ c.read_optional.ensures.err
-
-pub first-requires : goal.first-requires
-first-requires g c = known list_entries_is

@@ -1,12 +1,9 @@
-use Rattle.desk_store.proofs.Answering.{[], arith, first_fails, get_group_is, gets_group, known, one_group, reads_one}
+use Rattle.desk_store.proofs.Answering.{[], arith, first_at, first_fails, get_group_is, gets_group, one_group, reads_one}
 use Rattle.desk_store.proofs.change.OpenChange.read_group.Goals as goal
 
 pub returns-clause-reads : goal.returns-clause-reads
 returns-clause-reads g c = reads_one get_group_is _ (λ db l holds. gets_group db l holds [] c.args.number c.args.group (omega arith))
-    (rw (c.params-to_sql.ensures, c.params-to_sql-2.ensures, c.get.ensures.value) at c.in_ok-row.ensures.takes) _ c.read_optional.ensures.ok one_group
+    (first_at c.in_ok-row.ensures.takes (grind arith)) _ c.read_optional.ensures.ok one_group
 
 pub returns-clause-fails : goal.returns-clause-fails
 returns-clause-fails g c = first_fails get_group_is _ (λ row is. is) c.in_ok-row.ensures.takes _ c.read_optional.ensures.err
-
-pub first-requires : goal.first-requires
-first-requires g c = known get_group_is

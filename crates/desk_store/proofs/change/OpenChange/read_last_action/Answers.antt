@@ -1,4 +1,4 @@
-use Rattle.desk_store.proofs.Answering.{[], inl, known, last_action_is, last_fails, lasts_action, no_key, reads_last}
+use Rattle.desk_store.proofs.Answering.{[], inl, last_action_is, last_fails, lasts_action, no_key, reads_last}
 use Rattle.desk_store.proofs.change.OpenChange.read_last_action.Goals as goal
 
 pub returns-clause-reads : goal.returns-clause-reads
@@ -6,6 +6,3 @@ returns-clause-reads g c = reads_last last_action_is (λ db l holds. lasts_actio
 
 pub returns-clause-fails : goal.returns-clause-fails
 returns-clause-fails g c = last_fails last_action_is (λ row is. inl (no_key row is)) c.in_ok-row.ensures.takes _ c.last_number.ensures.err
-
-pub first-requires : goal.first-requires
-first-requires g c = known last_action_is

@@ -1,8 +1,8 @@
-use Rattle.desk_store.proofs.Answering.{[], first_tells, inl, known, last_blamed, last_fails, last_rollout_is, lasts_any, lasts_rollout, no_key, reads_last}
+use Rattle.desk_store.proofs.Answering.{[], first_tells, inl, known, last_blamed, last_fails, last_read, last_rollout_is, lasts_any, no_key}
 use Rattle.desk_store.proofs.change.OpenChange.read_last_rollout.Goals as goal
 
 pub returns-clause-reads : goal.returns-clause-reads
-returns-clause-reads g c = reads_last last_rollout_is (λ db l holds. lasts_rollout db l holds []) c.in_ok-row.ensures.takes _ c.last_number.ensures.ok
+returns-clause-reads g c = last_read _ _ _ c.in_ok-row.ensures.takes _ c.last_number.ensures.ok
 
 pub returns-clause-fails : goal.returns-clause-fails
 returns-clause-fails g c = last_fails last_rollout_is (λ row is. inl (no_key row is)) c.in_ok-row.ensures.takes _ c.last_number.ensures.err
@@ -13,6 +13,3 @@ returns-clause-tells g c = first_tells (known last_rollout_is) (λ db t holds at
 
 pub returns-clause-blames : goal.returns-clause-blames
 returns-clause-blames g c = last_blamed c.in_ok-row.ensures.takes _ c.last_number.ensures.err
-
-pub first-requires : goal.first-requires
-first-requires g c = known last_rollout_is

@@ -1,4 +1,4 @@
-use Rattle.desk_store.proofs.Answering.{[], inl, known, last_fails, last_set_is, lasts_set, no_key, reads_last}
+use Rattle.desk_store.proofs.Answering.{[], inl, last_fails, last_set_is, lasts_set, no_key, reads_last}
 use Rattle.desk_store.proofs.change.OpenChange.read_last_set.Goals as goal
 
 pub returns-clause-reads : goal.returns-clause-reads
@@ -6,6 +6,3 @@ returns-clause-reads g c = reads_last last_set_is (λ db r holds. lasts_set db r
 
 pub returns-clause-fails : goal.returns-clause-fails
 returns-clause-fails g c = last_fails last_set_is (λ row is. inl (no_key row is)) c.in_ok-row.ensures.takes _ c.last_number.ensures.err
-
-pub first-requires : goal.first-requires
-first-requires g c = known last_set_is

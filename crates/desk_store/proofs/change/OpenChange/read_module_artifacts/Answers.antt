@@ -1,10 +1,10 @@
-use Rattle.desk_store.proofs.Answering.{IsArtifactRow, SaysListed, [], all_fails, each_read, inr, judges_artifact, known, list_artifacts_is, lists_artifacts}
-use Rattle.desk_store.proofs.Answering.{one_artifact, reads_all, refl}
+use Rattle.desk_store.proofs.Answering.{IsArtifactRow, SaysListed, [], all_at, all_fails, arith, each_read, inr, judges_artifact, list_artifacts_is}
+use Rattle.desk_store.proofs.Answering.{lists_artifacts, one_artifact, reads_all, refl}
 use Rattle.desk_store.proofs.change.OpenChange.read_module_artifacts.Goals as goal
 
 pub returns-clause-reads : goal.returns-clause-reads
 returns-clause-reads g c = reads_all list_artifacts_is _ (λ db r holds. lists_artifacts db r holds [] c.args.module_number)
-    (rw (c.params-to_sql.ensures, c.get.ensures.value) at c.in_ok-rows.ensures.asks) _ (rw c.deref.ensures.value at c.read_all.ensures.ok) one_artifact
+    (all_at c.in_ok-rows.ensures.asks (grind arith)) _ (rw c.deref.ensures.value at c.read_all.ensures.ok) one_artifact
 
 pub returns-clause-tells : goal.returns-clause-tells
 returns-clause-tells g c = each_read list_artifacts_is (λ tree xs. refl) (judges_artifact c.args.module_number) IsArtifactRow {says = SaysListed}
@@ -14,6 +14,3 @@ returns-clause-tells g c = each_read list_artifacts_is (λ tree xs. refl) (judge
 pub returns-clause-fails : goal.returns-clause-fails
 returns-clause-fails g c = all_fails list_artifacts_is _ (λ row is. inr (inr is)) c.in_ok-rows.ensures.asks _
     (rw c.deref.ensures.value at c.read_all.ensures.err)
-
-pub ask-requires : goal.ask-requires
-ask-requires g c = known list_artifacts_is

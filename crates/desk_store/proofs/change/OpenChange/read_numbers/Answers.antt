@@ -1,10 +1,10 @@
-use Rattle.desk_store.proofs.Answering.{SaysNumber, [], all_blamed, all_fails, arith, broken_number, each_read, inl, judges_number, known, list_numbers_is}
+use Rattle.desk_store.proofs.Answering.{SaysNumber, [], all_at, all_blamed, all_fails, arith, broken_number, each_read, inl, judges_number, list_numbers_is}
 use Rattle.desk_store.proofs.Answering.{lists_numbers, one_number, reads_all, refl, unread}
 use Rattle.desk_store.proofs.change.OpenChange.read_numbers.Goals as goal
 
 pub returns-clause-reads : goal.returns-clause-reads
 returns-clause-reads g c = reads_all list_numbers_is _ (λ db l holds. lists_numbers db l holds [] c.args.action (omega arith))
-    (rw (c.params-to_sql.ensures, c.get.ensures.value) at c.in_ok-rows.ensures.asks) _ (rw c.deref.ensures.value at c.read_all.ensures.ok) one_number
+    (all_at c.in_ok-rows.ensures.asks (grind arith)) _ (rw c.deref.ensures.value at c.read_all.ensures.ok) one_number
 
 pub returns-clause-fails : goal.returns-clause-fails
 returns-clause-fails g c = all_fails list_numbers_is _ (λ row is. inl is) c.in_ok-rows.ensures.asks _ (rw c.deref.ensures.value at c.read_all.ensures.err)
@@ -14,8 +14,5 @@ returns-clause-tells g c = each_read list_numbers_is (λ tree xs. refl) (judges_
     (rw (c.params-to_sql.ensures, c.get.ensures.value) at c.in_ok-rows.ensures.asks) _ (rw c.deref.ensures.value at c.read_all.ensures.ok)
 
 pub returns-clause-blames : goal.returns-clause-blames
-returns-clause-blames g c = all_blamed list_numbers_is _ (rw (c.params-to_sql.ensures, c.get.ensures.value) at c.in_ok-rows.ensures.asks) _
-    (rw c.deref.ensures.value at c.read_all.ensures.err) (λ reading row among is given. unread reading (broken_number row among is) given)
-
-pub ask-requires : goal.ask-requires
-ask-requires g c = known list_numbers_is
+returns-clause-blames g c = all_blamed list_numbers_is _ c.in_ok-rows.ensures.asks _ (rw c.deref.ensures.value at c.read_all.ensures.err)
+    (λ reading row among is given. unread reading (broken_number row among is) given)

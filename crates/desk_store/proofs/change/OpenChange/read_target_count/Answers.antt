@@ -1,4 +1,4 @@
-use Rattle.desk_store.proofs.Answering.{count_fails, count_targets_is, counted_at, tables_know}
+use Rattle.desk_store.proofs.Answering.{count_fails}
 use Rattle.desk_store.proofs.TargetCalls.{count_read}
 use Rattle.desk_store.proofs.change.OpenChange.read_target_count.Goals as goal
 
@@ -7,6 +7,3 @@ returns-clause-reads g c = count_read c.in_ok-row.ensures.takes _ c.counted_in.e
 
 pub returns-clause-fails : goal.returns-clause-fails
 returns-clause-fails g c = count_fails c.in_ok-row.ensures.takes _ c.counted_in.ensures.err
-
-pub first-requires : goal.first-requires
-first-requires g c = tables_know (counted_at count_targets_is)

@@ -2,11 +2,5 @@ use Rattle.desk_store.proofs.Answering.{HoldsRecords, adds_artifact, arith, put_
 use Rattle.desk_store.proofs.change.OpenChange.write_artifact.Goals as goal
 
 pub returns-clause-writes : goal.returns-clause-writes
-returns-clause-writes g c =
-    writes (puts put_artifact_is)
-    (λ count now next holds change w. subst (HoldsRecords _) (sym change.1)
-    (adds_artifact c.args.module_number c.args.filename.now c.args.size c.args.digest.now c.args.number _ _ _ count now holds change.0 w)) c.run.ensures.runs
-    (grind arith)
-
-pub run-requires : goal.run-requires
-run-requires g c = puts put_artifact_is
+returns-clause-writes g c = writes (puts put_artifact_is) (λ count now next holds change w. subst (HoldsRecords _) (sym change.1) (adds_artifact
+    c.args.module_number c.args.filename.now c.args.size c.args.digest.now c.args.number _ _ _ count now holds change.0 w)) c.run.ensures.runs (grind arith)

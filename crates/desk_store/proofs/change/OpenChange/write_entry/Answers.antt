@@ -3,6 +3,3 @@ use Rattle.desk_store.proofs.change.OpenChange.write_entry.Goals as goal
 
 pub returns-clause-writes : goal.returns-clause-writes
 returns-clause-writes g c = writes (puts put_feedback_is) (adds_entry c.args.number c.args.sequence c.args.entry.now _ _ _) c.run.ensures.runs (grind arith)
-
-pub run-requires : goal.run-requires
-run-requires g c = puts put_feedback_is

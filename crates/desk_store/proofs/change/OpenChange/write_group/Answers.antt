@@ -3,6 +3,3 @@ use Rattle.desk_store.proofs.change.OpenChange.write_group.Goals as goal
 
 pub returns-clause-writes : goal.returns-clause-writes
 returns-clause-writes g c = writes (puts put_group_is) (adds_group c.args.number c.args.group c.args.bounds _ _ _) c.run.ensures.runs (grind arith)
-
-pub run-requires : goal.run-requires
-run-requires g c = puts put_group_is

@@ -3,6 +3,3 @@ use Rattle.desk_store.proofs.change.OpenChange.write_number.Goals as goal
 
 pub returns-clause-writes : goal.returns-clause-writes
 returns-clause-writes g c = writes (puts put_number_is) (adds_number c.args.action c.args.place c.args.it.now _ _ _) c.run.ensures.runs (grind arith)
-
-pub run-requires : goal.run-requires
-run-requires g c = puts put_number_is

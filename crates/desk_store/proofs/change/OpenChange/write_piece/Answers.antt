@@ -3,6 +3,3 @@ use Rattle.desk_store.proofs.change.OpenChange.write_piece.Goals as goal
 
 pub returns-clause-writes : goal.returns-clause-writes
 returns-clause-writes g c = writes (puts put_piece_is) (adds_piece c.args.number c.args.sequence c.args.bytes.now _ _ _) c.run.ensures.runs (grind arith)
-
-pub run-requires : goal.run-requires
-run-requires g c = puts put_piece_is

@@ -3,6 +3,3 @@ use Rattle.desk_store.proofs.change.OpenChange.write_rollout.Goals as goal
 
 pub returns-clause-writes : goal.returns-clause-writes
 returns-clause-writes g c = writes (puts put_rollout_is) (adds_rollout c.args.number c.args.plan.now c.args.approval _ _ _) c.run.ensures.runs (grind arith)
-
-pub run-requires : goal.run-requires
-run-requires g c = puts put_rollout_is

@@ -2,8 +2,4 @@ use Rattle.desk_store.proofs.Answering.{adds_rule, arith, put_rule_is, puts, wri
 use Rattle.desk_store.proofs.change.OpenChange.write_rule.Goals as goal
 
 pub returns-clause-writes : goal.returns-clause-writes
-returns-clause-writes g c =
-    writes (puts put_rule_is) (adds_rule c.args.number c.args.group c.args.rule.now _ _ _) c.run.ensures.runs (grind arith)
-
-pub run-requires : goal.run-requires
-run-requires g c = puts put_rule_is
+returns-clause-writes g c = writes (puts put_rule_is) (adds_rule c.args.number c.args.group c.args.rule.now _ _ _) c.run.ensures.runs (grind arith)

@@ -3,6 +3,3 @@ use Rattle.desk_store.proofs.change.OpenChange.write_target.Goals as goal
 
 pub returns-clause-writes : goal.returns-clause-writes
 returns-clause-writes g c = writes (puts put_target_is) (adds_target c.args.id.now c.args.name.now c.args.digest.now _ _ _) c.run.ensures.runs (grind arith)
-
-pub run-requires : goal.run-requires
-run-requires g c = puts put_target_is

@@ -3,6 +3,3 @@ use Rattle.desk_store.proofs.change.OpenChange.write_target_attribute.Goals as g
 
 pub returns-clause-writes : goal.returns-clause-writes
 returns-clause-writes g c = writes (puts put_target_attribute_is) (adds_attribute c.args.id.now c.args.attribute.now _ _ _) c.run.ensures.runs (grind arith)
-
-pub run-requires : goal.run-requires
-run-requires g c = puts put_target_attribute_is
