@@ -1,25 +1,24 @@
 -- The names of other modules that the proofs here cite, passed on from one place. Declares nothing.
-pub use Rattle.std.proofs.Common.{◌≡◌, ℕ, zero, suc, ◌+◌, ◌-◌, ◌<◌, ◌≤◌, Bool, true, false, cond, not, ◌&&◌, ◌||◌, ◌⊎◌, List, [], ◌∷◌, map, length, take, drop}
-pub use Rattle.std.proofs.Common.{is_none, nat_eq, nat_le, slice_get, Some, None, Ok, Err, filter, Option, Result, find, sym, refl, ap, ◌∙◌, subst, inl, inr}
-pub use Rattle.std.proofs.Common.{true≢false, add-one, arith}
+pub use Rattle.std.proofs.Common.{◌≡◌, ℕ, zero, suc, ◌+◌, ◌-◌, ◌<◌, ◌≤◌, Bool, true, false, ◌&&◌, ◌⊎◌, List, [], ◌∷◌, map, length, take, drop, nat_eq, Some}
+pub use Rattle.std.proofs.Common.{None, Ok, Option, Result, find, sym, refl, ap, ◌∙◌, subst, inl, inr, true≢false, add-one, arith}
 pub use Rattle.std.proofs.lemmas.Bool.{and_from, and_parts, le-leb, leb-false, leb-true, or_parts}
 pub use Rattle.std.specs.Cmp.Lexicographic.{pointwise}
 pub use Rattle.std.specs.List.{list_all, list_any}
-pub use Rattle.std.specs.Option.{is_some, option_map, option_or, unwrap_or}
+pub use Rattle.std.specs.Option.{is_some, option_map}
 pub use Rattle.sqlite_rules.proofs.ListLemmas.{has_either, has_filtered, test_has}
 pub use Rattle.sqlite_rules.specs.Lists.{Has}
 pub use Rattle.rollout_model.specs.Rows.{is_target_row}
-pub use Rattle.rollout_model.specs.Rules.{are_details, are_distinct_words, is_digest, is_number, is_tag_list, is_text, is_word, number_of}
+pub use Rattle.rollout_model.specs.Rules.{are_details, are_distinct_words, is_number, is_tag_list, is_text, is_word, number_of}
 pub use Rattle.rollout_machine.proofs.Imports.{AllAbove, IsSorted, below_apart, not_above, sorted_with, with_there}
 pub use Rattle.rollout_machine.proofs.Lists.{each_there, length_each, numbered_each}
 pub use Rattle.rollout_machine.proofs.TargetTies.{same_by, same_pointwise, same_refl, same_sym, same_true}
-pub use Rattle.rollout_machine.proofs.Valid.{NoneHolds, none_holds}
-pub use Rattle.rollout_machine.specs.ByteStrings.{bytes_below, contains_word, item_numbered, same_bytes, sorted_words, with_word, with_words, without_word}
+pub use Rattle.rollout_machine.proofs.Valid.{none_holds}
+pub use Rattle.rollout_machine.specs.ByteStrings.{contains_word, item_numbered, same_bytes, sorted_words, with_word, with_words, without_word}
 pub use Rattle.rollout_machine.specs.CommandList.{CommandList, Make, ◌▸◌}
 pub use Rattle.rollout_machine.specs.CommandRules.{IsWellFormed, is_credential, is_device_feedback, is_set_label}
-pub use Rattle.rollout_machine.specs.Commands.{AddModule, AddSet, Attribute, Bytes, CancelFeedback, Command, CreateRollout, Credential, DeviceFeedback}
-pub use Rattle.rollout_machine.specs.Commands.{Feedback, ModuleLabel, PutAttributes, PutTargets, RolloutPlan, SetLabel, Tag, TargetRow, Untag}
-pub use Rattle.rollout_machine.specs.Records.{Records, action_in, added_modules, added_sets, group_in, modules, records, rollout_in, rollouts_in, sets}
+pub use Rattle.rollout_machine.specs.Commands.{Attribute, Bytes, Command, Credential, DeviceFeedback, ModuleLabel, PutAttributes, PutTargets, RolloutPlan}
+pub use Rattle.rollout_machine.specs.Commands.{SetLabel, Tag, TargetRow, Untag}
+pub use Rattle.rollout_machine.specs.Records.{Records, added_modules, added_sets, group_in, modules, records, rollout_in, rollouts_in, sets}
 pub use Rattle.rollout_machine.specs.Rollouts.{Rollout, chosen, created, first_of, rollout_at, rollouts, size_in, size_of}
 pub use Rattle.rollout_machine.specs.Targets.{Target, attributes_in, import_rows_of, last_row_for, last_row_of, tags_by_row, tags_in, target_ids, target_in}
 pub use Rattle.rollout_machine.specs.Targets.{targets, with_attribute, with_attributes}
@@ -37,4 +36,3 @@ pub use Rattle.desk_records.specs.Targets.{are_sorted, attributes_of, ids_of, in
 pub use Rattle.desk_store.proofs.LedgersOfRecords.{ledger_found}
 pub use Rattle.desk_reads.specs.AtLists.{AreOfList, FailsAtListsIn}
 pub use Rattle.desk_reads.specs.Rollouts.{IsSeenOf, last_in, last_place}
-pub use Rattle.std.proofs.Math.Bool.{or-false}

@@ -1,9 +1,8 @@
 -- The details in the histories of accepted commands keep their rule.
 use Rattle.std.proofs.lemmas.Bool.Decides.{nat_tests}
-use native.Mathlib.Omega.{arith}
-use Rattle.desk_reads.proofs.Common.{◌≡◌, ℕ, true, refl, ap, ◌∙◌, list_all, option_map, and_parts, item_numbered}
-use Rattle.desk_reads.proofs.Common.{CommandList, Make, ◌▸◌, Records, IsValid, AreOfList, IsWellFormed, is_credential, is_device_feedback, Command}
-use Rattle.desk_reads.proofs.Common.{DeviceFeedback, are_details, is_number}
+use Rattle.desk_reads.proofs.Common.{arith, ◌≡◌, ℕ, true, refl, list_all, option_map, and_parts, item_numbered, CommandList, Make, ◌▸◌, Records, IsValid}
+use Rattle.desk_reads.proofs.Common.{AreOfList}
+use Rattle.desk_reads.proofs.Common.{IsWellFormed, is_credential, is_device_feedback, Command, DeviceFeedback, are_details, is_number}
 use Rattle.rollout_machine.specs.Records.{records}
 use Rattle.std.proofs.lemmas.List.Folds.{list_all-append}
 use Rattle.rollout_machine.specs.Actions.{history}
@@ -23,9 +22,6 @@ history_keeps : (h : CommandList) → IsValid h → (r j : ℕ) → list_all kee
 history_keeps (Make approval) valid r j = refl
 history_keeps (h ▸ c) valid r j = grind (arith, nat_tests, history_keeps h valid.0 r j, entries_both, list_all-append, one_keeps)
 
-kept_at : (h : CommandList) → IsValid h → (k : ℕ) → list_all keeps_details (history_of (item_numbered (records h).actions k)) ≡ true
-unfolding records
-kept_at h valid k = grind (arith, numbered_map, option_map, history_keeps)
-
 pub details_kept : (r : Records) → AreOfList r → (k : ℕ) → list_all keeps_details (history_of (item_numbered r.actions k)) ≡ true
-details_kept r of k = ap (λ (rs : Records). list_all keeps_details (history_of (item_numbered rs.actions k))) of.are ∙ kept_at of.list of.valid k
+unfolding records
+details_kept r of k = grind (arith, of.are, numbered_map, option_map, history_keeps of.list of.valid)

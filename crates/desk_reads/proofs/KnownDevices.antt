@@ -1,9 +1,7 @@
 -- Whether a device is known, by the target of its id.
-use native.Mathlib.Omega.{arith}
-use Rattle.desk_reads.proofs.Common.{◌≡◌, Bool, true, false, cond, ◌&&◌, ◌||◌, nat_eq, List, [], ◌∷◌, find, Some, None, refl, sym, ap, ◌∙◌, or_parts}
+use Rattle.desk_reads.proofs.Common.{arith, ◌≡◌, Bool, true, false, ◌&&◌, nat_eq, List, [], ◌∷◌, find, Some, None, refl, ◌∙◌, or_parts}
 use Rattle.desk_reads.proofs.Common.{and_parts, option_map, sorted_from, has_id, are_sorted, ids_of, in_byte_order, IsSorted, not_above, contains_word}
 use Rattle.desk_reads.proofs.Common.{same_bytes, Records, Target, is_known, target_of, pointwise, list_any, same_pointwise, same_sym, same_true, Credential}
-use Rattle.desk_reads.proofs.Common.{or-false}
 use Rattle.desk_records.specs.TargetRow.{stored_target}
 use Rattle.desk_records.specs.declared.target_row.StoredTarget.{StoredTarget}
 
@@ -25,24 +23,11 @@ module _ (device : Credential) where
         go : (ts : List Target) → IsSorted (ids_of ts) → Some stored ≡ option_map stored_target (find (has_id device.id) ts)
             → same_bytes stored.digest device.digest ≡ list_any (is_of device) ts
         go [] order is = absurd cc
-        go (t ∷ ts) order is = first (same_bytes t.id device.id) refl is (go ts order.1) where
-          first : (s : Bool) → same_bytes t.id device.id ≡ s → Some stored ≡ option_map stored_target (cond s (Some t) (find (has_id device.id) ts))
-              → (Some stored ≡ option_map stored_target (find (has_id device.id) ts) → same_bytes stored.digest device.digest ≡ list_any (is_of device) ts)
-              → same_bytes stored.digest device.digest ≡ ((s && same_bytes t.digest device.digest) || list_any (is_of device) ts)
-          first true same here rest =
-              let this : stored ≡ stored_target t = cc in
-              let none = none_known ts (ap (λ k. contains_word k (ids_of ts)) (sym (same_true t.id device.id same)) ∙ not_above t.id (ids_of ts) order.0) in
-              ap (λ (s : StoredTarget). same_bytes s.digest device.digest) this ∙ sym (or-false (same_bytes t.digest device.digest))
-              ∙ ap (λ b. same_bytes t.digest device.digest || b) (sym none)
-          first false apart later rest = rest later
+        go (t ∷ ts) order is = grind (arith, go ts order.1, option_map, none_known ts, same_true t.id device.id, not_above t.id (ids_of ts) order.0)
+
+  none_there : (ts : List Target) → None ≡ option_map stored_target (find (has_id device.id) ts) → false ≡ list_any (is_of device) ts
+  none_there [] is = refl
+  none_there (t ∷ ts) is = grind (arith, none_there ts, option_map)
 
   pub unknown : (r : Records) → None ≡ option_map stored_target (target_of r device.id) → false ≡ is_known r device
-  unknown r read = go r.targets read where
-    go : (ts : List Target) → None ≡ option_map stored_target (find (has_id device.id) ts) → false ≡ list_any (is_of device) ts
-    go [] is = refl
-    go (t ∷ ts) is = first (same_bytes t.id device.id) is (go ts) where
-      first : (s : Bool) → None ≡ option_map stored_target (cond s (Some t) (find (has_id device.id) ts))
-          → (None ≡ option_map stored_target (find (has_id device.id) ts) → false ≡ list_any (is_of device) ts)
-          → false ≡ ((s && same_bytes t.digest device.digest) || list_any (is_of device) ts)
-      first true here rest = absurd cc
-      first false later rest = rest later
+  unknown r read = none_there r.targets read

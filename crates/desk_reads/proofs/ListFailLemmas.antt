@@ -1,6 +1,5 @@
 -- Why a read at a list of accepted commands is no failed store by itself.
-use native.Mathlib.Omega.{arith}
-use Rattle.desk_reads.proofs.Common.{Result, Ok, CommandList, IsValid, Records, records, FailsAtListsIn}
+use Rattle.desk_reads.proofs.Common.{arith, Result, Ok, CommandList, IsValid, Records, records, FailsAtListsIn}
 use Rattle.std.specs.Result.{IsErr}
 use Rattle.sqlite.specs.Store.{Ghosts}
 use Rattle.sql_calls.specs.declared.fault.Fault.{Fault}

@@ -51,10 +51,11 @@ same_numbers y r h a (suc n) = grind (arith, same_numbers y r h (suc a) n, add-o
 -- their numbers are their places
 pub groups_are : (rs : Records) → AreOfList rs → (r : ℕ) → groups_of (item_numbered rs.rollouts r)
     ≡ parts_of (λ (x : RolloutRecord). x.groups) (item_numbered rs.rollouts r)
-groups_are rs of r = go (item_numbered rs.rollouts r) refl where
-  go : (o : Option RolloutRecord) → item_numbered rs.rollouts r ≡ o → groups_of o ≡ parts_of (λ (x : RolloutRecord). x.groups) o
-  go None e = refl
-  go (Some x) e = let it = made rs of r x e in rw it.is (same_numbers it.made r of.list 1 it.made.plan.groups.count)
+groups_are rs of r = elim (item_numbered rs.rollouts r) as (λ o. item_numbered rs.rollouts r ≡ o → groups_of o
+    ≡ parts_of (λ (x : RolloutRecord). x.groups) o) [
+      | None ↦ λ e. refl
+      | Some x ↦ λ e. (let it = made rs of r x e in rw it.is (same_numbers it.made r of.list 1 it.made.plan.groups.count))
+    ] refl
 
 -- a group that is found is one of them
 found_each : (f : ℕ → GroupRecord) (i a n : ℕ) (g : GroupRecord) → Some g ≡ group_numbered i (each_from f a n) → (k : ℕ) × (a ≤ k) × (k < a + n) × (g ≡ f k)
@@ -71,8 +72,7 @@ pub group_within : (rs : Records) → AreOfList rs → (r : ℕ) (x : RolloutRec
 group_within rs of r x e i g is =
     let it = made rs of r x e in
     let found = found_each (group_in it.made r of.list) i 1 it.made.plan.groups.count g (is ∙ ap (λ (q : RolloutRecord). group_numbered i q.groups) it.is) in
-    subst (λ (q : RolloutRecord). (g.bounds.first - 1) + size_of_group g ≤ length q.members) (sym it.is)
-    (subst (λ (q : GroupRecord). (q.bounds.first - 1) + size_of_group q ≤ size_of it.made) (sym found.3) (within it.made found.0 it.sound found.1 found.2))
+    grind (arith, it.is, found.3, within it.made found.0 it.sound found.1 found.2)
 
 -- ---- its members
 

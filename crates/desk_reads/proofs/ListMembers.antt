@@ -1,10 +1,8 @@
 -- The members of the rollouts of a list of accepted commands are ids.
-use native.Mathlib.Omega.{arith}
-use Rattle.desk_reads.proofs.Common.{◌≡◌, ◌⊎◌, inl, inr, ℕ, suc, true, List, [], ◌∷◌, map, Option, refl, sym, subst}
-use Rattle.desk_reads.proofs.Common.{and_parts, with_word, with_words, CommandList, Make, ◌▸◌, rollouts_in, IsValid}
-use Rattle.desk_reads.proofs.Common.{RolloutRecord, import_rows_of, target_ids, targets, has_either, has_filtered, test_has, Has}
-use Rattle.desk_reads.proofs.Common.{is_word, IsWellFormed, Bytes, Command, TargetRow, Rollout, chosen, created}
-use Rattle.desk_reads.proofs.Common.{rollouts, has_mapped}
+use Rattle.desk_reads.proofs.Common.{arith, ◌≡◌, ◌⊎◌, inl, inr, ℕ, suc, true, List, [], ◌∷◌, map, Option, refl, and_parts, with_word, with_words, CommandList}
+use Rattle.desk_reads.proofs.Common.{Make}
+use Rattle.desk_reads.proofs.Common.{◌▸◌, rollouts_in, IsValid, RolloutRecord, import_rows_of, target_ids, targets, has_either, has_filtered, test_has, Has}
+use Rattle.desk_reads.proofs.Common.{is_word, IsWellFormed, Bytes, Command, TargetRow, Rollout, chosen, created, rollouts, has_mapped}
 use Rattle.rollout_machine.specs.Records.{records}
 use Rattle.target_filter.specs.Grammar.{Tree}
 
@@ -24,10 +22,12 @@ new_words c good id among = grind (arith, has_mapped, and_parts, test_has)
 
 pub target_words : (h : CommandList) → IsValid h → (id : Bytes) → Has (target_ids h) id → is_word id ≡ true
 target_words (Make approval) valid id among = absurd among
-target_words (h ▸ c) valid id among = elim (with_words_has (map (λ (row : TargetRow). row.id) (import_rows_of c)) (target_ids h) id among) [
-  | inl it ↦ new_words c valid.1 id it
-  | inr it ↦ target_words h valid.0 id it
-]
+target_words (h ▸ c) valid id among = grind (
+  arith,
+  target_words h valid.0 id,
+  new_words c valid.1 id,
+  with_words_has (map (λ (row : TargetRow). row.id) (import_rows_of c)) (target_ids h) id among,
+)
 
 -- ---- rollouts
 
@@ -43,16 +43,13 @@ new_ids h c valid x among = grind (arith, are_chosen)
 
 rollout_ids : (h : CommandList) → IsValid h → (x : Rollout) → Has (rollouts h) x → AreIds x.members
 rollout_ids (Make approval) valid x among = absurd among
-rollout_ids (h ▸ c) valid x among = elim (has_either (rollouts h) (created h c) x among) [
-  | inl it ↦ rollout_ids h valid.0 x it
-  | inr it ↦ new_ids h c valid.0 x it
-]
+rollout_ids (h ▸ c) valid x among = grind (arith, rollout_ids h valid.0 x, new_ids h c valid.0 x, has_either (rollouts h) (created h c) x among)
+
+records_ids : (h : CommandList) (r : ℕ) (xs : List Rollout) → ((y : Rollout) → Has xs y → AreIds y.members) → (x : RolloutRecord) → Has (rollouts_in h r xs) x
+    → AreIds x.members
+records_ids h r [] each x among = absurd among
+records_ids h r (y ∷ xs) each x among = grind (arith, each y (inl refl), records_ids h (suc r) xs (λ z its. each z (inr its)) x)
 
 pub member_ids : (h : CommandList) → IsValid h → (x : RolloutRecord) → Has (records h).rollouts x → AreIds x.members
 unfolding records
-member_ids h valid x among = go 1 (rollouts h) (λ y its. rollout_ids h valid y its) x among
-  where
-    go : (r : ℕ) (xs : List Rollout) → ((y : Rollout) → Has xs y → AreIds y.members) → (x : RolloutRecord) → Has (rollouts_in h r xs) x → AreIds x.members
-    go r [] each x among = absurd among
-    go r (y ∷ xs) each x (inl same) = subst (λ (z : RolloutRecord). AreIds z.members) (sym same) (each y (inl refl))
-    go r (y ∷ xs) each x (inr among) = go (suc r) xs (λ z its. each z (inr its)) x among
+member_ids h valid x among = records_ids h 1 (rollouts h) (rollout_ids h valid) x among

@@ -1,6 +1,6 @@
 -- Targets as they are listed, and then read by their ids.
-use native.Mathlib.Omega.{arith}
-use Rattle.desk_reads.proofs.Common.{◌≡◌, ℕ, true, false, List, [], ◌∷◌, map, find, take, drop, Option, Some, None, refl, sym, ap, ◌∙◌, and_parts, or_parts}
+use Rattle.desk_reads.proofs.Common.{arith, ◌≡◌, ℕ, true, false, List, [], ◌∷◌, map, find, take, drop, Option, Some, None, refl, sym, ap, ◌∙◌, and_parts}
+use Rattle.desk_reads.proofs.Common.{or_parts}
 use Rattle.desk_reads.proofs.Common.{contains_word, Records, Target, IsSorted, not_above, are_sorted, ids_of, in_byte_order, attributes_of}
 use Rattle.desk_reads.proofs.Common.{sorted_from, has_id, tags_of, target_of, Bytes, Attribute, same_refl}
 use Rattle.std.proofs.IntoIterSteps.{All-taken}
@@ -46,11 +46,10 @@ module _ (r : Records) where
   pub part_seen : are_sorted r.targets ≡ true → (n m : ℕ) → map (target_listed r) (map listed_target (take n (drop m r.targets)))
       ≡ map seen (take n (drop m r.targets))
   part_seen sorted n m =
-      let ordered = (and_parts (in_byte_order (ids_of r.targets)) _ sorted).0 in
-      let all = finds_all r.targets (sorted_from (ids_of r.targets) ordered) in
-      all_seen (take n (drop m r.targets))
-      (sym (take-map (found r.targets) n (drop m r.targets))
-      ∙ ap (take n) (sym (drop-map (found r.targets) m r.targets) ∙ ap (drop m) all ∙ drop-map Some m r.targets) ∙ take-map Some n (drop m r.targets))
+      let all = finds_all r.targets (sorted_from (ids_of r.targets) (and_parts (in_byte_order (ids_of r.targets)) _ sorted).0) in
+      let ts = drop m r.targets in
+      all_seen (take n ts) (sym (take-map (found r.targets) n ts) ∙ ap (take n) (sym (drop-map (found r.targets) m r.targets) ∙ ap (drop m) all
+      ∙ drop-map Some m r.targets) ∙ take-map Some n ts)
 
 -- a target that was listed, with what was read of its id
 pub listed_is : (r : Records) (listed : ListedTarget) (tags : List Bytes) (attributes : List Attribute) → tags ≡ tags_of (target_of r listed.id) → attributes

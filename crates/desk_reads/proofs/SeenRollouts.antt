@@ -1,8 +1,5 @@
 -- Rollouts as they are read.
-use native.Mathlib.Omega.{arith}
-use Rattle.desk_reads.proofs.Common.{◌≡◌, ℕ, Option, Some, None, option_map, item_numbered, Records, RolloutRecord, groups_of}
-use Rattle.desk_reads.proofs.Common.{IsSeenOf, AreOfList}
-use Rattle.campaign_core.specs.RolloutChecks.{BothOrNone}
+use Rattle.desk_reads.proofs.Common.{arith, ◌≡◌, ℕ, Some, item_numbered, Records, RolloutRecord, groups_of, IsSeenOf, AreOfList}
 use Rattle.desk_records.specs.RolloutRow.{stored_rollout}
 use Rattle.desk_records.specs.declared.rollout_row.StoredRollout.{StoredRollout}
 use Rattle.desk_reads.specs.declared.rollouts.SeenRollout.{SeenRollout}
@@ -16,10 +13,3 @@ pub seen_is : (rs : Records) (of : AreOfList rs) (r : ℕ) (seen : SeenRollout) 
     → seen.groups.items ≡ groups_of (item_numbered rs.rollouts r) → (x : RolloutRecord) → item_numbered rs.rollouts r ≡ Some x → stored ≡ stored_rollout x
     → IsSeenOf seen x
 seen_is rs of r seen stored number plan approval started paused groups x there is = grind (arith, numbered_so, groups_are, last_is_count)
-
-pub none_seen : (o : Option RolloutRecord) → None ≡ option_map stored_rollout o → BothOrNone IsSeenOf None o
-none_seen o is = grind arith
-
-pub one_seen : (seen : SeenRollout) (stored : StoredRollout) (o : Option RolloutRecord) → Some stored ≡ option_map stored_rollout o
-    → ((x : RolloutRecord) → o ≡ Some x → stored ≡ stored_rollout x → IsSeenOf seen x) → BothOrNone IsSeenOf (Some seen) o
-one_seen seen stored o is so = grind arith

@@ -1,12 +1,11 @@
 -- The targets of accepted commands keep their rules: of their tags, that they are few words and none stands twice.
-use Rattle.desk_reads.proofs.Common.{◌≡◌, ◌⊎◌, inl, inr, ◌≤◌, ◌<◌, suc, Bool, true, false, cond, ◌&&◌, not, nat_eq, nat_le, List, [], ◌∷◌, length, map}
-use Rattle.desk_reads.proofs.Common.{find, is_none, Option, Some, None, refl, sym, ap, subst, ◌∙◌, arith, true≢false, and_parts, and_from, le-leb, leb-false}
-use Rattle.desk_reads.proofs.Common.{leb-true, contains_word, same_bytes, sorted_words, with_word, without_word, CommandList, Make, ◌▸◌, Target}
-use Rattle.desk_reads.proofs.Common.{attributes_in, import_rows_of, last_row_for, last_row_of, tags_by_row, tags_in, target_ids, target_in, with_attribute}
-use Rattle.desk_reads.proofs.Common.{with_attributes, IsSorted, AllAbove, below_apart, sorted_with, with_there, IsValid, tags_of, target_of, verdict}
-use Rattle.desk_reads.proofs.Common.{verdict_row, pointwise, list_all, list_any, is_some, unwrap_or, Has, same_by, same_pointwise, same_sym}
-use Rattle.desk_reads.proofs.Common.{same_true, NoneHolds, none_holds, IsWellFormed, Attribute, Bytes, Command, PutAttributes, PutTargets, Tag}
-use Rattle.desk_reads.proofs.Common.{TargetRow, Untag, is_target_row, are_distinct_words, is_digest, is_tag_list, is_text, is_word, has_mapped}
+use Rattle.desk_reads.proofs.Common.{◌≡◌, ◌⊎◌, inl, ◌≤◌, ◌<◌, suc, true, false, nat_eq, List, [], ◌∷◌, length, map, find, Option, Some, None, refl, arith}
+use Rattle.desk_reads.proofs.Common.{and_parts, and_from, le-leb, leb-false, leb-true, contains_word, same_bytes, sorted_words, with_word, without_word}
+use Rattle.desk_reads.proofs.Common.{CommandList, Make, ◌▸◌, Target, attributes_in, last_row_for, last_row_of, tags_by_row, tags_in, target_ids, target_in}
+use Rattle.desk_reads.proofs.Common.{with_attribute, with_attributes, IsSorted, AllAbove, below_apart, sorted_with, with_there, IsValid, tags_of, target_of}
+use Rattle.desk_reads.proofs.Common.{verdict, verdict_row, pointwise, list_all, list_any, is_some, Has, same_by, same_pointwise, same_sym, same_true}
+use Rattle.desk_reads.proofs.Common.{none_holds, Attribute, Bytes, PutAttributes, PutTargets, Tag, TargetRow, Untag, is_target_row, are_distinct_words}
+use Rattle.desk_reads.proofs.Common.{is_tag_list, is_word, has_mapped}
 use Rattle.rollout_machine.proofs.Orders.{sorted_all, sorted_without}
 use Rattle.rollout_machine.proofs.TargetMeanings.{targets_are_named}
 use Rattle.rollout_machine.specs.Records.{records}
@@ -19,7 +18,7 @@ use Rattle.desk_reads.proofs.ListMembers.{target_words}
 
 none_again : (w : Bytes) (vs : List Bytes) → AllAbove w vs → list_any (λ v. pointwise nat_eq v w) vs ≡ false
 none_again w [] above = refl
-none_again w (v ∷ vs) above = rw (same_pointwise v w ∙ same_sym v w ∙ below_apart w v above.0) (none_again w vs above.1)
+none_again w (v ∷ vs) above = grind (arith, none_again w vs above.1, same_pointwise v w, same_sym v w, below_apart w v above.0)
 
 distinct : (ws : List Bytes) → IsSorted ws → are_distinct_words ws ≡ true
 distinct [] sorted = refl
@@ -35,7 +34,7 @@ words_without w (v ∷ vs) all = grind (arith, words_without w vs, and_parts, an
 
 words_sorted : (ws : List Bytes) → list_all is_word ws ≡ true → list_all is_word (sorted_words ws) ≡ true
 words_sorted [] all = refl
-words_sorted (w ∷ ws) all = let parts = and_parts (is_word w) (list_all is_word ws) all in words_with w (sorted_words ws) parts.0 (words_sorted ws parts.1)
+words_sorted (w ∷ ws) all = grind (arith, words_sorted ws, and_parts, words_with)
 
 length_with : (w : Bytes) (vs : List Bytes) → length (with_word w vs) ≤ suc (length vs)
 length_with w [] = omega arith
@@ -77,30 +76,12 @@ with_tag x ws keeps word room = grind (arith, with_there, room, length_with, wor
 pub found_target : (h : CommandList) (t : Bytes) (ids : List Bytes) → (find (λ (x : Target). same_bytes x.id t) (map (target_in h) ids) ≡ None)
     ⊎ (find (λ (x : Target). same_bytes x.id t) (map (target_in h) ids) ≡ Some (target_in h t))
 found_target h t [] = inl refl
-found_target h t (u ∷ ids) = go (same_bytes u t) refl (found_target h t ids)
-  where
-    rest : Option Target
-    rest = find (λ (x : Target). same_bytes x.id t) (map (target_in h) ids)
-
-    go : (same : Bool) → same_bytes u t ≡ same → (rest ≡ None) ⊎ (rest ≡ Some (target_in h t)) → (cond same (Some (target_in h u)) rest ≡ None)
-        ⊎ (cond same (Some (target_in h u)) rest ≡ Some (target_in h t))
-    go true is later = inr (ap (λ (w : Bytes). Some (target_in h w)) (same_true u t is))
-    go false is later = later
+found_target h t (u ∷ ids) = grind (arith, found_target h t ids, same_true u t)
 
 -- an accepted tag has room
 room : (h : CommandList) (u x : Bytes) → verdict h (Tag u x) ≡ None → contains_word x (tags_in u h) ≡ false → length (tags_in u h) < tag_limit
 unfolding records
-room h u x accepted new =
-    let row : NoneHolds (verdict_row (records h) (Tag u x)) = none_holds (verdict_row (records h) (Tag u x)) accepted in
-    elim (found_target h u (target_ids h)) [
-      | inl none ↦ absurd (true≢false (sym (ap is_none none) ∙ row.0))
-      | inr some ↦ (
-          let there : (not (contains_word x (tags_in u h)) && nat_le tag_limit (length (tags_in u h))) ≡ false =
-          sym (ap (λ o. not (contains_word x (tags_of o)) && nat_le tag_limit (length (tags_of o))) some) ∙ row.1.0 in
-          let full : nat_le tag_limit (length (tags_in u h)) ≡ false = ap (λ b. not b && nat_le tag_limit (length (tags_in u h))) (sym new) ∙ there in
-          leb-false tag_limit (length (tags_in u h)) full
-          )
-    ]
+room h u x accepted new = grind (arith, found_target h u (target_ids h), none_holds (verdict_row (records h) (Tag u x)) accepted, leb-false)
 
 -- ---- the law
 
@@ -112,45 +93,25 @@ by_row (Some row) ws good keeps = row_tags row (good row refl)
 pub keeps_tags : (h : CommandList) → IsValid h → (t : Bytes) → KeepsTags (tags_in t h)
 keeps_tags (Make approval) valid t = record { few = omega arith; words = refl; sorted = tt }
 keeps_tags (h ▸ PutTargets rows) valid t = by_row (last_row_for t rows) (tags_in t h) (row_for t rows valid.1) (keeps_tags h valid.0 t)
-keeps_tags (h ▸ Tag u x) valid t = go (same_bytes t u) refl (keeps_tags h valid.0 t)
-  where
-    word : is_word x ≡ true
-    word = (and_parts (is_word u) (is_word x) valid.1).1
-
-    go : (same : Bool) → same_bytes t u ≡ same → KeepsTags (tags_in t h) → KeepsTags (cond same (with_word x (tags_in t h)) (tags_in t h))
-    go false is keeps = keeps
-    go true is keeps = with_tag x (tags_in t h) keeps word
-        (subst (λ w. contains_word x (tags_in w h) ≡ false → length (tags_in w h) < tag_limit) (sym (same_true t u is)) (room h u x valid.2))
-keeps_tags (h ▸ Untag u x) valid t = go (same_bytes t u) (keeps_tags h valid.0 t)
-  where
-    go : (same : Bool) → KeepsTags (tags_in t h) → KeepsTags (cond same (without_word x (tags_in t h)) (tags_in t h))
-    go false keeps = keeps
-    go true keeps =
-        let fewer = length_without x (tags_in t h) in
-        let few = keeps.few in
-        record { few = omega (arith, fewer, few); words = words_without x (tags_in t h) keeps.words; sorted = sorted_without x (tags_in t h) keeps.sorted }
+keeps_tags (h ▸ Tag u x) valid t =
+    grind (arith, keeps_tags h valid.0 t, with_tag x (tags_in t h), and_parts (is_word u) (is_word x) valid.1, same_true t u, room h u x valid.2)
+keeps_tags (h ▸ Untag u x) valid t =
+    grind (arith, keeps_tags h valid.0 t, length_without x (tags_in t h), words_without x (tags_in t h), sorted_without x (tags_in t h))
 keeps_tags (h ▸ _) valid t = keeps_tags h valid.0 t
 
 pub tags_keep : (h : CommandList) → IsValid h → (t : Bytes) → is_tag_list (tags_of (target_of (records h) t)) ≡ true
 unfolding records
-tags_keep h valid t = elim (found_target h t (target_ids h)) [
-  | inl none ↦ ap (λ o. is_tag_list (tags_of o)) none
-  | inr some ↦ ap (λ o. is_tag_list (tags_of o)) some ∙ tags_are_list (tags_in t h) (keeps_tags h valid t)
-]
+tags_keep h valid t = grind (arith, found_target h t (target_ids h), tags_are_list, keeps_tags h valid t)
 
 -- ---- the row and the attributes of a target
 
-row_in : (c : Command) → IsWellFormed c → (t : Bytes) (row : TargetRow) → last_row_for t (import_rows_of c) ≡ Some row → is_target_row row ≡ true
-row_in c good t row is = grind (arith, row_for)
-
 last_keeps : (h : CommandList) → IsValid h → (t : Bytes) (row : TargetRow) → last_row_of t h ≡ Some row → is_target_row row ≡ true
 last_keeps (Make approval) valid t row is = absurd cc
-last_keeps (h ▸ c) valid t row is = grind (arith, last_keeps h valid.0 t row, row_in)
+last_keeps (h ▸ c) valid t row is = grind (arith, last_keeps h valid.0 t row, row_for)
 
 contains_it : (t : Bytes) (ws : List Bytes) → Has ws t → contains_word t ws ≡ true
 contains_it t [] among = absurd among
-contains_it t (w ∷ ws) (inl same) = rw (same_by t w same) refl
-contains_it t (w ∷ ws) (inr among) = grind (arith, contains_it t ws among)
+contains_it t (w ∷ ws) among = grind (arith, contains_it t ws, same_by)
 
 -- a target that is there has one
 has_last : (h : CommandList) (t : Bytes) → Has (target_ids h) t → (row : TargetRow) × (last_row_of t h ≡ Some row)
@@ -174,17 +135,7 @@ attributes_keep (h ▸ _) valid t = attributes_keep h valid.0 t
 target_keeps : (h : CommandList) → IsValid h → (t : Bytes) → Has (target_ids h) t → KeepsTarget (target_in h t)
 target_keeps h valid t among =
     let last = has_last h t among in
-    let parts = and_parts (is_word last.0.id) (is_text last.0.name && (is_digest last.0.digest && is_tag_list last.0.tags))
-    (last_keeps h valid t last.0 last.1) in
-    let rest = and_parts (is_text last.0.name) (is_digest last.0.digest && is_tag_list last.0.tags) parts.1 in
-    record {
-      id = target_words h valid t among;
-      name = ap (λ (o : Option TargetRow). is_text (unwrap_or (elim o [ None ↦ None | Some row ↦ Some row.name ]) [])) last.1 ∙ rest.0;
-      digest = ap (λ (o : Option TargetRow). is_digest (unwrap_or (elim o [ None ↦ None | Some row ↦ Some row.digest ]) [])) last.1
-          ∙ (and_parts (is_digest last.0.digest) (is_tag_list last.0.tags) rest.1).0;
-      tags = (keeps_tags h valid t).words;
-      attributes = attributes_keep h valid t;
-    }
+    grind (arith, and_parts, target_words h valid t among, last_keeps h valid t last.0 last.1, last.1, keeps_tags h valid t, attributes_keep h valid t)
 
 pub targets_keep : (h : CommandList) → IsValid h → (x : Target) → Has (records h).targets x → KeepsTarget x
 unfolding records

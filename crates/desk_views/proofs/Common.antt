@@ -1,79 +1,67 @@
 -- The names of other modules that the proofs here cite, passed on from one place. Declares nothing.
 pub use Rattle.std.proofs.Common.{All, Bool, Err, IfErr, IfOk, List, None, Ok, Option, Result, Some, Vec, [], add-one, ap, append-nil, append_assoc, arith}
 pub use Rattle.std.proofs.Common.{cond, drop, false, filter, find, get_or, inl, inr, is_none, length, map, min, nat_eq, nat_le, nat_lt, not, refl, rules}
-pub use Rattle.std.proofs.Common.{slice_get, subst, suc, sym, take, true, vec_len, zero, ℕ, ◌%◌, ◌&&◌, ◌*◌, ◌++◌, ◌+◌, ◌-◌, ◌/◌, ◌<◌, ◌^◌, ◌||◌, ◌∙◌, ◌∷◌}
-pub use Rattle.std.proofs.Common.{◌≡◌, ◌≢◌, ◌≤◌, ◌⊎◌}
+pub use Rattle.std.proofs.Common.{slice_get, subst, suc, sym, take, true, zero, ℕ, ◌%◌, ◌&&◌, ◌*◌, ◌++◌, ◌+◌, ◌-◌, ◌/◌, ◌<◌, ◌^◌, ◌∙◌, ◌∷◌, ◌≡◌, ◌≢◌, ◌≤◌, ◌⊎◌}
 pub use Rattle.std.proofs.Math.Seq.{take-add, take-nil}
-pub use Rattle.std.proofs.lemmas.Bool.{and_parts, cases_lt, cases_order, false≢true, leb-false, leb-true, or_parts}
+pub use Rattle.std.proofs.lemmas.Bool.{and_parts, cases_lt, false≢true, leb-true}
 pub use Rattle.std.proofs.lemmas.Bool.Decides.{nat_tests}
 pub use Rattle.std.proofs.lemmas.Grind.{div_ceil_times, flat_map-append}
 pub use Rattle.std.proofs.lemmas.List.{drop-append-le, drop-drop, drop-map, drop-take, drop_all, length-append, length-drop, length-map, length-take}
 pub use Rattle.std.proofs.lemmas.List.{length-take-le, map-append, nil_from_length, take-append-le, take-map, take-take, take_all, take_more}
-pub use Rattle.std.proofs.lemmas.Result.{err_from_is_err_and}
 pub use Rattle.std.specs.List.{flat_map, list_all, list_any, zip}
-pub use Rattle.std.specs.Option.{IsSome, IsSomeAnd, is_some, option_map, unwrap_or}
+pub use Rattle.std.specs.Option.{IsSome, is_some, option_map, unwrap_or}
 pub use Rattle.std.specs.Result.{IsErrAnd}
 pub use Rattle.std.specs.declared.alloc.Global.{Global}
 pub use Rattle.sqlite_rules.specs.Lists.{Has}
 pub use Rattle.rollout_model.specs.Limits.{artifact_size_limit, piece_length}
-pub use Rattle.rollout_model.specs.Rules.{is_byte, is_contents, is_filename, is_module_list, is_number, is_text, number_of}
-pub use Rattle.rollout_model.specs.declared.refusal.Refusal.TheVariants.{NotFound, Unauthorized}
-pub use Rattle.rollout_model.specs.declared.request.Reply.{Reply}
+pub use Rattle.rollout_model.specs.Rules.{is_byte, is_contents, is_module_list, number_of}
+pub use Rattle.rollout_model.specs.declared.refusal.Refusal.TheVariants.{NotFound}
 pub use Rattle.rollout_model.specs.declared.shown_target.ShownTarget.{ShownTarget}
 pub use Rattle.target_filter.specs.Grammar.{Tree}
 pub use Rattle.target_filter.specs.Profile.{filter_of}
 pub use Rattle.artifact_pieces.specs.Pieces.{piece_at, piece_bytes, piece_count, pieces_of}
 pub use Rattle.rollout_machine.proofs.TargetTies.{same_pointwise, same_refl, same_sym, same_true}
 pub use Rattle.rollout_machine.proofs.WithinLimits.{limits_hold}
-pub use Rattle.rollout_machine.specs.Answers.{action_if, action_of_target, artifact_if, artifact_named, artifact_of_module, for_device, group_reply, if_found}
-pub use Rattle.rollout_machine.specs.Answers.{is_offer_of, modules_offered, query_reply, target_if, targets_matching, targets_of}
-pub use Rattle.rollout_machine.specs.ByteStrings.{bytes_below, contains_word, item_numbered, same_bytes, with_words}
+pub use Rattle.rollout_machine.specs.Answers.{action_if, action_of_target, artifact_named, group_reply, if_found, is_offer_of, modules_offered, query_reply}
+pub use Rattle.rollout_machine.specs.Answers.{target_if, targets_matching, targets_of}
+pub use Rattle.rollout_machine.specs.ByteStrings.{contains_word, item_numbered, same_bytes}
 pub use Rattle.rollout_machine.specs.CommandList.{CommandList, Make, ◌▸◌}
-pub use Rattle.rollout_machine.specs.Commands.{AddArtifact, Bytes, Command, CreateRollout, Credential, ModuleLabel, SetLabel, TargetRow}
+pub use Rattle.rollout_machine.specs.Commands.{Bytes, Command, CreateRollout, Credential, ModuleLabel, SetLabel}
 pub use Rattle.rollout_machine.specs.Filters.{matches, seen}
 pub use Rattle.rollout_machine.specs.GroupRules.{GroupRule, rule_at, rules_of}
-pub use Rattle.rollout_machine.specs.Objects.{action_shown, actions_of_rollout, actions_of_target, actions_where, artifact_shown, artifacts_shown, chunks_of}
-pub use Rattle.rollout_machine.specs.Objects.{chunks_of_module, entry_shown, group_of_action, group_shown, groups_shown, members_in, module_shown}
-pub use Rattle.rollout_machine.specs.Objects.{modules_of_action, modules_of_rollout, modules_of_set, numbered, page_of, report_of, rollout_shown}
-pub use Rattle.rollout_machine.specs.Objects.{rollouts_shown, set_shown, target_shown, targets_shown}
+pub use Rattle.rollout_machine.specs.Objects.{action_shown, actions_of_rollout, actions_of_target, actions_where, artifacts_shown, chunks_of, entry_shown}
+pub use Rattle.rollout_machine.specs.Objects.{group_shown, groups_shown, members_in, numbered, page_of, report_of, rollout_shown, rollouts_shown, target_shown}
+pub use Rattle.rollout_machine.specs.Objects.{targets_shown}
 pub use Rattle.rollout_machine.specs.Offers.{Offer, first_offer, offer}
-pub use Rattle.rollout_machine.specs.Records.{ArtifactRecord, Records, added_artifacts, artifacts, group_in, modules, records, sets}
-pub use Rattle.rollout_machine.specs.Replies.{ActionShown, ActionsShown, ActionsTableShown, Artifact, ArtifactShown, ArtifactsShown, Chunk, ContentsShown}
-pub use Rattle.rollout_machine.specs.Replies.{DeploymentShown, GroupShown, GroupsShown, HistoryShown, ModuleShown, ModulesShown, PageOf, PollShown, Refused}
-pub use Rattle.rollout_machine.specs.Replies.{ReportShown, RolloutShown, RolloutsShown, SetShown, SetsShown, ShownAction, ShownGroup, ShownRollout}
-pub use Rattle.rollout_machine.specs.Replies.{TargetShown, TargetsShown, ShownEntry}
+pub use Rattle.rollout_machine.specs.Records.{ArtifactRecord, Records, added_artifacts, artifacts, group_in, records}
+pub use Rattle.rollout_machine.specs.Replies.{ActionShown, ActionsShown, ActionsTableShown, Artifact, ArtifactsShown, ContentsShown, GroupShown, GroupsShown}
+pub use Rattle.rollout_machine.specs.Replies.{HistoryShown, ModulesShown, PageOf, Refused, ReportShown, RolloutsShown, SetsShown, ShownAction, ShownGroup}
+pub use Rattle.rollout_machine.specs.Replies.{ShownRollout, TargetsShown, ShownEntry}
 pub use Rattle.rollout_machine.specs.Reports.{HistoryEntry, Reported, entries_in}
-pub use Rattle.rollout_machine.specs.Requests.{Download, Page, ShowArtifact, ShowTarget, ShowTargets}
+pub use Rattle.rollout_machine.specs.Requests.{Download, Page, ShowTargets}
 pub use Rattle.rollout_machine.specs.Rollouts.{Rollout, chosen, created, rollouts, size_in, size_of}
 pub use Rattle.rollout_machine.specs.StateWords.{InError, InSync, Pending, TargetWord, Unknown, group_holding, group_is_started, group_numbered, has_started}
-pub use Rattle.rollout_machine.specs.StateWords.{is_for, is_started_in, member_at, number_of_group, size_of_group, started_actions_of, target_word}
-pub use Rattle.rollout_machine.specs.StateWords.{word_by_last}
-pub use Rattle.rollout_machine.specs.Targets.{Target, import_rows_of, target_ids, target_in}
+pub use Rattle.rollout_machine.specs.StateWords.{is_for, size_of_group, started_actions_of, target_word, word_by_last}
+pub use Rattle.rollout_machine.specs.Targets.{Target, target_ids, target_in}
 pub use Rattle.rollout_machine.specs.Validity.{IsValid}
-pub use Rattle.rollout_machine.specs.Verdicts.{is_known, tags_of, target_of}
-pub use Rattle.rollout_machine.specs.Views.{chunk, listed, listed_targets, reply_of, shown_target}
+pub use Rattle.rollout_machine.specs.Verdicts.{target_of}
+pub use Rattle.rollout_machine.specs.Views.{chunk, listed, reply_of, shown_target}
 pub use Rattle.rollout_machine.specs.declared.records.ActionRecord.{ActionRecord}
 pub use Rattle.rollout_machine.specs.declared.records.GroupRecord.{GroupRecord}
 pub use Rattle.rollout_machine.specs.declared.records.RolloutRecord.{RolloutRecord}
 pub use Rattle.campaign_core.specs.RolloutChecks.{BothOrNone}
 pub use Rattle.sql_calls.proofs.Composing.{both_found, finds_as, found_held, found_if, found_then, known}
 pub use Rattle.sql_calls.specs.declared.fault.Fault.{Fault}
-pub use Rattle.sql_calls.specs.declared.fault.Fault.TheVariants.{Broken, Memory, Store}
+pub use Rattle.sql_calls.specs.declared.fault.Fault.TheVariants.{Broken}
 pub use Rattle.desk_records.specs.Actions.{Tally, actor_of, history_of, tally_of}
-pub use Rattle.desk_records.specs.ArtifactRow.{stored}
-pub use Rattle.desk_records.specs.Artifacts.{piece_numbered, pieces_of_artifact}
-pub use Rattle.desk_records.specs.Columns.{has_size, has_word}
+pub use Rattle.desk_records.specs.Artifacts.{pieces_of_artifact}
 pub use Rattle.desk_records.specs.Holds.{HoldsLedger, Ledger, ledger_of}
 pub use Rattle.desk_records.specs.Parts.{parts_of}
-pub use Rattle.desk_records.specs.ReadRows.{broken_stored_action_column}
 pub use Rattle.desk_records.specs.RolloutRow.{actions_for, actions_of, listed_where, stored_action, stored_rollout}
 pub use Rattle.desk_records.specs.Rollouts.{groups_of, members_of, numbered_from, rule_numbered, rules_numbered}
-pub use Rattle.desk_records.specs.SetRow.{called}
 pub use Rattle.desk_records.specs.TargetRow.{listed_target, stored_target}
-pub use Rattle.desk_records.specs.declared.artifact_row.StoredArtifact.{StoredArtifact}
 pub use Rattle.desk_records.specs.declared.rollout_row.ListedAction.{ListedAction}
 pub use Rattle.desk_records.specs.declared.rollout_row.StoredAction.{StoredAction}
-pub use Rattle.desk_records.specs.declared.set_row.SetName.{SetName}
 pub use Rattle.desk_records.specs.declared.target_row.ListedTarget.{ListedTarget}
 pub use Rattle.desk_store.proofs.LedgersOfRecords.{ledger_found}
 pub use Rattle.desk_store.specs.Changing.{FindsIn, StaysIn, seen_in}

@@ -1,5 +1,5 @@
 -- Why the actions of a list and their histories can be counted.
-use Rattle.desk_views.proofs.Common.{◌≡◌, ◌≤◌, ◌^◌, ◌+◌, ℕ, Bool, List, [], ◌∷◌, length, map, take, drop, sym, subst, arith, zip}
+use Rattle.desk_views.proofs.Common.{◌≡◌, ◌≤◌, ◌^◌, ◌+◌, ℕ, Bool, List, [], ◌∷◌, length, map, take, drop, arith, zip}
 use Rattle.desk_views.proofs.Common.{length-drop, length-take, HistoryEntry, limits_hold, Tally, history_of, tally_of, ledger_of, listed_where}
 use Rattle.desk_views.proofs.Common.{ListedAction, IsReadable, item_numbered, Records, ActionRecord, RolloutRecord, AreOfList}
 use Rattle.desk_store.proofs.ReadableHistories.{history_few}
@@ -16,13 +16,10 @@ zip_few [] ys = omega arith
 zip_few (x ∷ xs) [] = omega arith
 zip_few (x ∷ xs) (y ∷ ys) = let few = zip_few xs ys in omega (arith, few)
 
-few_actions : (r : Records) → AreOfList r → length r.actions ≤ 10000000
-few_actions r of = subst (λ (q : Records). length q.actions ≤ 10000000) (sym of.are) ((limits_hold of.list of.valid).actions)
-
 -- fewer than a statement lists
 pub listed_few : (r : Records) → AreOfList r → (test : ActionRecord × Tally → Bool) (limit offset : ℕ) (found : List ListedAction)
     → found ≡ take limit (drop offset (listed_where test r.rollouts 1 (zip r.actions (map tally_of r.actions)))) → 4294967295 ≤ length found → ⊥
-listed_few r of test limit offset found is many = grind (arith, length-take, length-drop, few_listed, zip_few, few_actions)
+listed_few r of test limit offset found is many = grind (arith, length-take, length-drop, few_listed, zip_few, of.are, (limits_hold of.list of.valid).actions)
 
 -- ---- histories
 

@@ -15,7 +15,7 @@ has_each f a zero g among = absurd among
 has_each f a (suc n) g (inl same) = (a, omega arith, omega arith, same)
 has_each f a (suc n) g (inr among) = let it = has_each f (suc a) n g among in (it.0, omega (arith, it.1), omega (arith, it.2), it.3)
 
-numbered_has : (i : ℕ) (gs : List GroupRecord) (g : GroupRecord) → Some g ≡ group_numbered i gs → Has gs g
+pub numbered_has : (i : ℕ) (gs : List GroupRecord) (g : GroupRecord) → Some g ≡ group_numbered i gs → Has gs g
 numbered_has i [] g is = absurd cc
 numbered_has i (y ∷ gs) g is = grind (arith, numbered_has i gs g)
 
@@ -31,10 +31,7 @@ module _ (r : Records) (of : AreOfList r) (number : ℕ) (x : RolloutRecord) (th
   few_groups : length x.groups ≤ 50
   few_groups =
       let it = made r of number x there in
-      let plan : x.plan.groups.count ≡ it.made.plan.groups.count = ap (λ (q : RolloutRecord). q.plan.groups.count) it.is in
-      let all : length x.groups ≡ it.made.plan.groups.count = ap (λ (q : RolloutRecord). length q.groups) it.is
-      ∙ length_each (group_in it.made number of.list) 1 it.made.plan.groups.count in
-      omega (arith, limits.groups, plan, all)
+      grind (arith, it.is, limits.groups, length_each (group_in it.made number of.list) 1 it.made.plan.groups.count)
 
   -- something is said of each, and it has no more members than are counted
   pub each_showable : (group : GroupRecord) → Has x.groups group → (item_numbered (rules_of x.plan) group.number ≡ None) ⊎ (2 ^ 32 ≤ size_of_group group) → ⊥
@@ -42,28 +39,13 @@ module _ (r : Records) (of : AreOfList r) (number : ℕ) (x : RolloutRecord) (th
       let it = made r of number x there in
       let found = has_each (group_in it.made number of.list) 1 it.made.plan.groups.count group
       (subst (λ (q : RolloutRecord). Has q.groups group) it.is among) in
-      let at : group.number ≡ found.0 = ap (λ (q : GroupRecord). q.number) found.3 in
-      let plan : x.plan.groups.count ≡ it.made.plan.groups.count = ap (λ (q : RolloutRecord). q.plan.groups.count) it.is in
-      let size : size_of_group group ≡ size_in it.made found.0 = ap size_of_group found.3 in
-      let members : length x.members ≡ size_of it.made = ap (λ (q : RolloutRecord). length q.members) it.is in
       let few = size_few it.made found.0 it.sound found.1 (omega (arith, found.2)) in
-      go (rule_there x.plan group.number (omega (arith, at, found.1)) (omega (arith, at, plan, found.2))) (omega (arith, size, members, few, limits.members))
-      why
-    where
-      go : {rule : GroupRule} → item_numbered (rules_of x.plan) group.number ≡ Some rule → size_of_group group ≤ 10000
-          → (item_numbered (rules_of x.plan) group.number ≡ None) ⊎ (2 ^ 32 ≤ size_of_group group) → ⊥
-      go said small (inl none) = cc
-      go said small (inr large) = omega (arith, small, large)
+      let said = rule_there x.plan group.number in
+      grind (arith, it.is, found.1, found.2, found.3, few, said, limits.members)
 
   all_showable : (rules : List GroupRule) (groups : List GroupRecord) → rules ≡ rules_numbered (ledger_of r).rules number
       → ((group : GroupRecord) → Has groups group → Has x.groups group) → HasUnshown rules groups → ⊥
   all_showable rules groups are within bad = grind (arith, each_showable, rules_there)
-
-  part_showable : (rules : List GroupRule) (groups : List GroupRecord) (limit offset : ℕ) → groups ≡ x.groups
-      → rules ≡ rules_numbered (ledger_of r).rules number → (2 ^ 32 ≤ length groups) ⊎ HasUnshown rules (take limit (drop offset groups)) → ⊥
-  part_showable rules groups limit offset its are (inl many) = omega (arith, many, few_groups, ap length its)
-  part_showable rules groups limit offset its are (inr bad) = all_showable rules (take limit (drop offset groups)) are
-      (λ group among. subst (λ gs. Has gs group) its (has_dropped offset groups group (has_taken limit (drop offset groups) group among))) bad
 
 -- ---- of a rollout that was seen
 
@@ -78,7 +60,14 @@ module _ (r : Records) (of : AreOfList r) (number : ℕ) (seen : SeenRollout) (r
       (λ x there its. all_showable r of number x there rules seen.groups.items are (λ group among. subst (λ gs. Has gs group) its among))
 
   pub page_showable : (limit offset : ℕ) → (2 ^ 32 ≤ length seen.groups.items) ⊎ HasUnshown rules (take limit (drop offset seen.groups.items)) → ⊥
-  page_showable limit offset = seen_there _ (λ x there its. part_showable r of number x there rules seen.groups.items limit offset its are)
+  page_showable limit offset = seen_there _ (λ x there its bad.
+      grind (
+        arith,
+        few_groups r of number x there,
+        all_showable r of number x there rules (take limit (drop offset seen.groups.items)) are,
+        has_dropped,
+        has_taken,
+      ))
 
 -- ---- one group
 

@@ -1,7 +1,7 @@
 -- Why a view of a list of accepted commands is no failed store by itself.
-use Rattle.desk_views.proofs.Common.{◌≡◌, ◌≤◌, ◌<◌, ℕ, zero, suc, List, [], ◌∷◌, length, slice_get, None, Result, Ok, Err, IfErr, ap}
-use Rattle.desk_views.proofs.Common.{arith, Broken, number_of, Records, HoldsLedger, Ledger, ledger_of}
-use Rattle.desk_views.proofs.Common.{seen_in, FindsIn, IsReadable, IfRowsBroken, IsOfList, AreOfList, item_numbered, Fault, IsOfListWith}
+use Rattle.desk_views.proofs.Common.{◌≡◌, ◌≤◌, ℕ, List, length, None, Result, Ok, Err, IfErr, ap, arith, Broken, number_of, Records, HoldsLedger, Ledger}
+use Rattle.desk_views.proofs.Common.{ledger_of, seen_in, FindsIn, IsReadable, IfRowsBroken, IsOfList, AreOfList, item_numbered, Fault, IsOfListWith, IsErrAnd}
+use Rattle.std.proofs.lemmas.Option.{slice_get_cases}
 use Rattle.sqlite.specs.Store.{Ghosts}
 use Rattle.sql_calls.specs.Standing.{Wears}
 use Rattle.desk_records.proofs.NumberColumns.{is_in_range}
@@ -22,52 +22,25 @@ told fault why = grind arith
 module _ {S A : Type 0} {g : Ghosts S} {Given : Ledger → Type 0} (at : (l : Ledger) → Given l → IsOfList l) {old : OpenChange S} {x : A} {P : Records → A
     → Type 0} where
   -- what was read leaves no such fault
-  pub never_given : {B : Type 0} {Why : Type 0} {new : OpenChange S} → FindsIn g {E = Fault} old new (Ok x) P → (fault : Fault) → IfRowsBroken fault Why
-      → ((r : Records) → P r x → AreOfList r → Given (ledger_of r) → IsReadable (ledger_of r) → Why → ⊥)
-      → (out : Result B Fault) → out ≡ Err fault → FailsGiven g Given old new out
-  never_given read fault why reason out is = grind arith
-
-  -- what is given to a call is known by what was read before it
-  pub when_given : {B C : Type 0} {G : Ledger → Type 0} {mid new : OpenChange S} → FindsIn g {E = Fault} old mid (Ok x) P
-      → Wears (seen_in g mid) (seen_in g new)
-      → (fault : Fault) → FailsGiven g G {A = C} mid new (Err fault) → ((r : Records) → P r x → AreOfList r → Given (ledger_of r) → G (ledger_of r))
-      → (out : Result B Fault) → out ≡ Err fault → FailsGiven g Given old new out
-  when_given read wears fault fails means out is = grind arith
-
--- ---- at lists
-
-module _ {S A : Type 0} {g : Ghosts S} {old : OpenChange S} {x : A} {P : Records → A → Type 0} where
   pub never_fails : {B : Type 0} {Why : Type 0} {new : OpenChange S} → FindsIn g {E = Fault} old new (Ok x) P → (fault : Fault) → IfRowsBroken fault Why
-      → ((r : Records) → P r x → AreOfList r → IsReadable (ledger_of r) → Why → ⊥)
-      → (out : Result B Fault) → out ≡ Err fault → FailsGiven g IsOfList old new out
-  never_fails read fault why reason = never_given (λ l of. of) read fault why (λ r is of given readable. reason r is of readable)
+      → ((r : Records) → P r x → AreOfList r → Given (ledger_of r) → IsReadable (ledger_of r) → Why → ⊥)
+      → (out : Result B Fault) → IsErrAnd out (λ other. other ≡ fault) → FailsGiven g Given old new out
+  never_fails read fault why reason out is = grind arith
 
-  pub fails_when : {B C : Type 0} {G : Ledger → Type 0} {mid new : OpenChange S} → FindsIn g {E = Fault} old mid (Ok x) P
+  -- what is wanted of a call's records is known by what was read before it
+  pub fails_when : {B C : Type 0} {Want : Records → Type 0} {mid new : OpenChange S} → FindsIn g {E = Fault} old mid (Ok x) P
       → Wears (seen_in g mid) (seen_in g new)
-      → (fault : Fault) → FailsGiven g G {A = C} mid new (Err fault) → ((r : Records) → P r x → AreOfList r → G (ledger_of r)) → (out : Result B Fault)
-      → out ≡ Err fault → FailsGiven g IsOfList old new out
-  fails_when read wears fault fails means = when_given (λ l of. of) read wears fault fails (λ r is of given. means r is of)
-
--- ---- .. whose records are as wanted
-
-module _ {S A : Type 0} {g : Ghosts S} {Want : Records → Type 0} {old : OpenChange S} {x : A} {P : Records → A → Type 0} where
-  pub never_with : {B : Type 0} {Why : Type 0} {new : OpenChange S} → FindsIn g {E = Fault} old new (Ok x) P → (fault : Fault) → IfRowsBroken fault Why
-      → ((r : Records) → P r x → AreOfList r → Want r → IsReadable (ledger_of r) → Why → ⊥)
-      → (out : Result B Fault) → out ≡ Err fault → FailsGiven g (IsOfListWith Want) old new out
-  never_with read fault why reason = never_given (λ l given. given.of_list) read fault why (λ r is of given readable. reason r is of given.wanted readable)
-
-  pub with_when : {B C : Type 0} {G : Ledger → Type 0} {mid new : OpenChange S} → FindsIn g {E = Fault} old mid (Ok x) P
-      → Wears (seen_in g mid) (seen_in g new)
-      → (fault : Fault) → FailsGiven g G {A = C} mid new (Err fault) → ((r : Records) → P r x → AreOfList r → Want r → G (ledger_of r)) → (out : Result B Fault)
-      → out ≡ Err fault → FailsGiven g (IsOfListWith Want) old new out
-  with_when read wears fault fails means = grind (arith, when_given)
+      → (fault : Fault) → FailsGiven g (IsOfListWith Want) {A = C} mid new (Err fault)
+      → ((r : Records) → P r x → AreOfList r → Given (ledger_of r) → Want r) → (out : Result B Fault) → IsErrAnd out (λ other. other ≡ fault)
+      → FailsGiven g Given old new out
+  fails_when read wears fault fails means out is = grind (arith, listed)
 
 -- ---- where the answer is a call's
 
 -- of values alone: at Ok what was seen is seen
 pub never_answers : {S B C : Type 0} {g : Ghosts S} {Given G : Ledger → Type 0} {old new : OpenChange S} {y : C} {Why : Fault → Type 0}
     → BreaksOnly g HoldsLedger G nothing old new (Ok y) → (out : Result B Fault) → IfErr out Why
-    → ((fault : Fault) → Why fault → out ≡ Err fault → FailsGiven g Given old new out)
+    → ((fault : Fault) → Why fault → IsErrAnd out (λ other. other ≡ fault) → FailsGiven g Given old new out)
     → FailsGiven g Given old new out
 never_answers kept out why failed = grind arith
 
@@ -79,10 +52,4 @@ numbered_so n most none low high few = grind (arith, is_in_range)
 
 -- .. of which there is one
 pub entry_there : {X : Type 0} (xs : List X) (n : ℕ) → 1 ≤ n → n ≤ length xs → item_numbered xs n ≡ None → ⊥
-entry_there xs zero low high none = omega (arith, low)
-entry_there xs (suc i) low high none = go xs i (omega (arith, high)) none
-  where
-    go : {X : Type 0} (xs : List X) (i : ℕ) → i < length xs → slice_get xs i ≡ None → ⊥
-    go [] i within none = omega (arith, within)
-    go (x ∷ xs) zero within none = cc
-    go (x ∷ xs) (suc i) within none = go xs i (omega (arith, within)) none
+entry_there xs n low high none = grind (arith, slice_get_cases)

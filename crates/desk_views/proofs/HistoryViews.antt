@@ -1,9 +1,9 @@
 -- From entries of histories that were read to what is shown of them.
-use Rattle.desk_views.proofs.Common.{◌≡◌, ◌<◌, ℕ, zero, suc, ◌+◌, nat_eq, false, List, [], ◌∷◌, ◌++◌, length, slice_get, take, drop, Option}
-use Rattle.desk_views.proofs.Common.{Some, None, refl, sym, ap, ◌∙◌, arith, option_map, nat_tests, action_if, if_found, item_numbered, Bytes, entry_shown}
+use Rattle.desk_views.proofs.Common.{◌≡◌, ◌<◌, ℕ, zero, suc, ◌+◌, List, [], ◌∷◌, ◌++◌, length, slice_get, take, drop, Option}
+use Rattle.desk_views.proofs.Common.{Some, None, refl, ap, arith, option_map, nat_tests, action_if, if_found, item_numbered, Bytes, entry_shown}
 use Rattle.desk_views.proofs.Common.{numbered, page_of, Records, HistoryShown, ShownEntry, Page, ActionRecord, history_of, StoredAction}
-use Rattle.desk_views.proofs.Common.{entry_by, number_at, reports_of, stored_in, HistoryEntry, Reported, entries_in, ledger_of, nil_from_length}
-use Rattle.desk_records.specs.FeedbackNumbers.{borne_at, numbers_from, numbers_numbered}
+use Rattle.desk_views.proofs.Common.{entry_by, number_at, reports_of, stored_in, HistoryEntry, Reported, entries_in, ledger_of}
+use Rattle.desk_records.specs.FeedbackNumbers.{numbers_from, numbers_numbered}
 use Rattle.desk_records.specs.declared.number_row.PlacedNumber.{PlacedNumber}
 use Rattle.rollout_machine.proofs.Actions.{numbered_map}
 use Rattle.desk_views.proofs.PageLemmas.{numbered_length}
@@ -26,61 +26,41 @@ numbered_more f k number (y ∷ ys) x at = ap (λ l. f k y ∷ l) (numbered_more
 
 -- ---- the numbers of entries
 
--- one further on bears no number of a place before it
-passed : (place sequence : ℕ) (n : Option ℕ) (rest : List PlacedNumber) → place < sequence → number_at place (borne_at sequence n ++ rest)
-    ≡ number_at place rest
-passed place sequence n rest less = grind (arith, nat_tests)
-
 none_before : (place sequence : ℕ) (history : List Reported) → place < sequence → number_at place (numbers_from sequence history) ≡ None
 none_before place sequence [] less = refl
-none_before place sequence (r ∷ history) less = passed place sequence r.number _ less ∙ none_before place (sequence + 1) history (omega (arith, less))
-
-own_number : (place : ℕ) (n : Option ℕ) (rest : List PlacedNumber) → number_at place rest ≡ None → number_at place (borne_at place n ++ rest) ≡ n
-own_number place n rest none = grind (arith, nat_tests)
+none_before place sequence (r ∷ history) less = grind (arith, nat_tests, none_before place (sequence + 1) history)
 
 -- the entry at a place bears the number that is found there
 number_there : (sequence index place : ℕ) (history : List Reported) (r : Reported) → slice_get history index ≡ Some r → place ≡ sequence + index
     → number_at place (numbers_from sequence history) ≡ r.number
 number_there sequence index place [] r got at = absurd cc
-number_there sequence zero place (x ∷ history) r got at =
-    let here : place ≡ sequence = omega (arith, at) in
-    let same : x.number ≡ r.number = ap (λ o. elim o [ None ↦ x.number | Some y ↦ y.number ]) got in
-    rw here (own_number sequence x.number _ (none_before sequence (sequence + 1) history (omega arith)) ∙ same)
-number_there sequence (suc index) place (x ∷ history) r got at =
-    later x.number (number_there (sequence + 1) index place history r got (omega (arith, at)))
-  where
-    later : (n : Option ℕ) → number_at place (numbers_from (sequence + 1) history) ≡ r.number
-        → number_at place (borne_at sequence n ++ numbers_from (sequence + 1) history) ≡ r.number
-    later None is = is
-    later (Some m) is = let other : nat_eq sequence place ≡ false = grind (arith, nat_tests, at) in rw other is
+number_there sequence zero place (x ∷ history) r got at = grind (arith, nat_tests, none_before sequence (sequence + 1) history)
+number_there sequence (suc index) place (x ∷ history) r got at = grind (arith, nat_tests, number_there (sequence + 1) index place history r got)
 
 -- so each is shown with its own
 each_shown : (numbers : List PlacedNumber) (k : ℕ) (history : List Reported)
-    → ((i : ℕ) (r : Reported) → slice_get history i ≡ Some r → number_at (k + i) numbers ≡ r.number) → numbered (entry_by numbers) k (entries_in history)
-    ≡ numbered entry_shown k history
+    → ((i place : ℕ) (r : Reported) → slice_get history i ≡ Some r → place ≡ k + i → number_at place numbers ≡ r.number)
+    → numbered (entry_by numbers) k (entries_in history) ≡ numbered entry_shown k history
 each_shown numbers k [] own = refl
 each_shown numbers k (r ∷ history) own =
-    let at : k + 0 ≡ k = omega arith in
-    let number : number_at k numbers ≡ r.number = ap (λ n. number_at n numbers) (sym at) ∙ own 0 r refl in
-    let further : (i : ℕ) (x : Reported) → slice_get history i ≡ Some x → number_at (suc k + i) numbers ≡ x.number =
-    (λ i x got. let next : suc k + i ≡ k + suc i = omega arith in ap (λ n. number_at n numbers) next ∙ own (suc i) x got) in
-    λ j. entry_shown k (record { entry = r.entry; number = number j }) ∷ each_shown numbers (suc k) history further j
+    λ j. entry_shown k (record { entry = r.entry; number = own 0 k r refl (omega arith) j })
+    ∷ each_shown numbers (suc k) history (λ i place x got at. own (suc i) place x got (omega (arith, at))) j
 
-all_shown : (history : List Reported) → numbered (entry_by (numbers_from 1 history)) 1 (entries_in history) ≡ numbered entry_shown 1 history
-all_shown history = each_shown (numbers_from 1 history) 1 history (λ i r got. number_there 1 i (1 + i) history r got refl)
+pub all_shown : (history : List Reported) → numbered (entry_by (numbers_from 1 history)) 1 (entries_in history) ≡ numbered entry_shown 1 history
+all_shown history = each_shown (numbers_from 1 history) 1 history (λ i place r got at. number_there 1 i place history r got at)
 
 -- ---- the page
 
 -- of these entries, of any function of place and entry
-part_numbered : {X Y : Type 0} (f : ℕ → X → Y) (page : Page) (xs entries : List X) → entries ≡ take page.limit (drop page.offset xs)
+pub part_numbered : {X Y : Type 0} (f : ℕ → X → Y) (page : Page) (xs entries : List X) → entries ≡ take page.limit (drop page.offset xs)
     → numbered f (page.offset + 1) entries ≡ take page.limit (drop page.offset (numbered f 1 xs))
 part_numbered f page xs entries read = grind (arith, numbered_taken, numbered_dropped)
 
 -- the numbers of an action are those of its history
-numbers_read : (r : Records) (k : ℕ) → numbers_numbered (ledger_of r).numbers k ≡ numbers_from 1 (reports_of (item_numbered r.actions k))
+pub numbers_read : (r : Records) (k : ℕ) → numbers_numbered (ledger_of r).numbers k ≡ numbers_from 1 (reports_of (item_numbered r.actions k))
 numbers_read r k = grind (arith, numbered_map, option_map)
 
-entries_read : (o : Option ActionRecord) → history_of o ≡ entries_in (reports_of o)
+pub entries_read : (o : Option ActionRecord) → history_of o ≡ entries_in (reports_of o)
 entries_read o = grind arith
 
 -- a page with the numbers that were read
@@ -90,19 +70,9 @@ pub page_numbered : (r : Records) (k : ℕ) (page : Page) (entries : List Histor
     ≡ take page.limit (drop page.offset (numbered entry_shown 1 (reports_of (item_numbered r.actions k))))
 page_numbered r k page entries numbers content read borne shown = grind (arith, numbers_read, part_numbered, entries_read, all_shown)
 
-pub none_numbered : (r : Records) (k : ℕ) (page : Page) (entries : List HistoryEntry) → entries
-    ≡ take page.limit (drop page.offset (history_of (item_numbered r.actions k))) → length entries ≡ 0
-    → [] ≡ take page.limit (drop page.offset (numbered entry_shown 1 (reports_of (item_numbered r.actions k))))
-none_numbered r k page entries read none = grind (arith, page_numbered, nil_from_length)
-
-history_page : (page : Page) (history : List Reported) (content : List ShownEntry) (total : ℕ) → content
-    ≡ take page.limit (drop page.offset (numbered entry_shown 1 history)) → total ≡ length history
-    → record { content = content; total = total } ≡ page_of page (numbered entry_shown 1 history)
-history_page page history content total shown count = grind (arith, numbered_length)
-
 pub history_replied : (r : Records) (id : Bytes) (page : Page) (o : Option ActionRecord) (action : StoredAction) (content : List ShownEntry) → Some action
     ≡ option_map (stored_in r) (action_if r id o)
     → content ≡ take page.limit (drop page.offset (numbered entry_shown 1 (reports_of o)))
     → HistoryShown (record { content = content; total = action.entries })
     ≡ if_found (λ (a : ActionRecord). HistoryShown (page_of page (numbered entry_shown 1 a.history))) (action_if r id o)
-history_replied r id page o action content is shown = grind (arith, option_map, history_page)
+history_replied r id page o action content is shown = grind (arith, option_map, numbered_length)

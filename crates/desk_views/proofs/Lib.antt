@@ -11,7 +11,6 @@ pub mod GroupViews
 pub mod MemberLemmas
 pub mod RolloutViews
 pub mod PageLemmas
-pub mod SetViews
 pub mod ArtifactViews
 pub mod WordViews
 pub mod EndedActions

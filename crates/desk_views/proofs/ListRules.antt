@@ -1,15 +1,12 @@
 -- What accepted commands keep: few modules and sets, the rule of the modules of each set, and that of the contents of each artifact.
-use Rattle.desk_views.proofs.Common.{◌≡◌, ◌≤◌, ◌<◌, ◌+◌, ◌-◌, ◌*◌, ℕ, zero, suc, true, List, length, All, Option, Some, None, refl, sym, subst, ◌∙◌}
-use Rattle.desk_views.proofs.Common.{arith, nat_le, and_parts, leb-true, list_all, length-map, pieces_of_artifact, item_numbered, ArtifactRecord, Records}
-use Rattle.desk_views.proofs.Common.{added_artifacts, artifacts, Command, SetLabel, AreOfList, contents_found, div_ceil_times}
-use Rattle.desk_views.proofs.Common.{piece_at, piece_bytes, piece_count, pieces_of, artifact_size_limit, piece_length, is_byte, is_contents}
-use Rattle.desk_views.proofs.Common.{is_module_list, is_text, CommandList, Make, ◌▸◌, IsValid, limits_hold}
+use Rattle.desk_views.proofs.Common.{◌≡◌, ◌≤◌, ◌+◌, ◌-◌, ◌*◌, ℕ, zero, suc, true, List, length, All, Option, Some, None, sym, subst, arith, nat_le, and_parts}
+use Rattle.desk_views.proofs.Common.{leb-true, list_all, length-map, pieces_of_artifact, item_numbered, ArtifactRecord, Records, added_artifacts, artifacts}
+use Rattle.desk_views.proofs.Common.{SetLabel, AreOfList, contents_found, div_ceil_times, piece_at, piece_bytes, piece_count, pieces_of, artifact_size_limit}
+use Rattle.desk_views.proofs.Common.{piece_length, is_byte, is_contents, is_module_list, CommandList, Make, ◌▸◌, IsValid, limits_hold}
 use Rattle.rollout_machine.specs.Records.{records}
 use Rattle.std.proofs.lemmas.List.Elements.{All-append, All-get_or, All-nil}
 use Rattle.std.proofs.lemmas.List.FromFn.{length-map-range_with_len}
-use Rattle.std.proofs.lemmas.Option.{slice_get-get_or, slice_get_within}
-use Rattle.std.proofs.Math.ListN.{get_or}
-use Rattle.rollout_machine.specs.CommandRules.{IsWellFormed}
+use Rattle.std.proofs.lemmas.Option.{get_or_from_slice_get, slice_get_within}
 use Rattle.sqlite_rules.proofs.ListLemmas.{has_got}
 use Rattle.desk_records.proofs.WholeArtifacts.{IsWhole, all_whole}
 use Rattle.desk_reads.proofs.LabelRules.{sets_keep}
@@ -21,11 +18,7 @@ at_list P so r of = subst P (sym of.are) (so of.list of.valid)
 -- what is so of all is so of the one of a number
 each_numbered : {X : Type 0} (P : X → Type 0) (xs : List X) → All P xs → (k : ℕ) (x : X) → item_numbered xs k ≡ Some x → P x
 each_numbered P xs all zero x is = absurd cc
-each_numbered P xs all (suc i) x is =
-    let within : i < length xs = slice_get_within xs i x is in
-    let both : Some (get_or xs i x) ≡ Some x = sym (slice_get-get_or xs i x within) ∙ is in
-    let same : get_or xs i x ≡ x = cc in
-    subst P same (All-get_or P xs i x within all)
+each_numbered P xs all (suc i) x is = subst P (get_or_from_slice_get xs i x x is) (All-get_or P xs i x (slice_get_within xs i x is) all)
 
 -- ---- how many
 
@@ -38,34 +31,22 @@ few_targets = at_list (λ r. length r.targets ≤ 10000) (λ h valid. (limits_ho
 -- ---- the modules of a set
 
 pub keeps_list : (r : Records) → AreOfList r → (k : ℕ) (s : SetLabel) → item_numbered r.sets k ≡ Some s → is_module_list s.modules ≡ true
-keeps_list = at_list (λ r. (k : ℕ) (s : SetLabel) → item_numbered r.sets k ≡ Some s → is_module_list s.modules ≡ true) (λ h valid. go h valid)
-  where
-    go : (h : CommandList) → IsValid h → (k : ℕ) (s : SetLabel) → item_numbered (records h).sets k ≡ Some s → is_module_list s.modules ≡ true
-    go h valid zero s is = absurd cc
-    go h valid (suc i) s is =
-        (and_parts (is_text s.version) (is_module_list s.modules) (and_parts (is_text s.name) _ (sets_keep h valid s (has_got (records h).sets i s is))).1).1
+keeps_list = at_list (λ r. (k : ℕ) (s : SetLabel) → item_numbered r.sets k ≡ Some s → is_module_list s.modules ≡ true)
+    (λ h valid k s is. grind (arith, and_parts, sets_keep h valid s, has_got (records h).sets))
 
 -- ---- the contents of an artifact
 
 abbrev KeepsContents : ArtifactRecord → Type 0
 KeepsContents a = is_contents a.contents ≡ true
 
-added_contents : (c : Command) → IsWellFormed c → All KeepsContents (added_artifacts c)
-added_contents c good = grind (arith, and_parts)
-
 contents_keep : (h : CommandList) → IsValid h → All KeepsContents (artifacts h)
 contents_keep (Make approval) valid = All-nil KeepsContents
-contents_keep (h ▸ c) valid = All-append KeepsContents (artifacts h) (added_artifacts c) (contents_keep h valid.0) (added_contents c valid.1)
+contents_keep (h ▸ c) valid = All-append KeepsContents (artifacts h) (added_artifacts c) (contents_keep h valid.0) (grind (arith, and_parts))
 
 pub keeps_contents : (r : Records) → AreOfList r → (k : ℕ) → is_contents (contents_found (item_numbered r.artifacts k)) ≡ true
 unfolding records
 keeps_contents = at_list (λ r. (k : ℕ) → is_contents (contents_found (item_numbered r.artifacts k)) ≡ true)
-    (λ h valid k. go h valid k (item_numbered (artifacts h) k) refl)
-  where
-    go : (h : CommandList) → IsValid h → (k : ℕ) (found : Option ArtifactRecord) → item_numbered (artifacts h) k ≡ found → is_contents (contents_found found)
-        ≡ true
-    go h valid k None is = refl
-    go h valid k (Some a) is = each_numbered KeepsContents (artifacts h) (contents_keep h valid) k a is
+    (λ h valid k. grind (arith, each_numbered KeepsContents (artifacts h) (contents_keep h valid) k))
 
 pub keeps_size : (r : Records) → AreOfList r → (k : ℕ) (a : ArtifactRecord) → item_numbered r.artifacts k ≡ Some a → a.size ≡ length a.contents
 keeps_size = at_list (λ r. (k : ℕ) (a : ArtifactRecord) → item_numbered r.artifacts k ≡ Some a → a.size ≡ length a.contents)
@@ -74,14 +55,14 @@ keeps_size = at_list (λ r. (k : ℕ) (a : ArtifactRecord) → item_numbered r.a
 -- so it has no piece behind as many as contents may have
 pieces_few : (found : Option ArtifactRecord) → is_contents (contents_found found) ≡ true → length (pieces_of_artifact found) ≤ 64
 pieces_few None kept = omega arith
-pieces_few (Some a) kept =
-    let few : length a.contents ≤ artifact_size_limit =
-    leb-true _ _ (and_parts (nat_le (length a.contents) artifact_size_limit) (list_all is_byte a.contents) kept).0 in
-    let bounds = div_ceil_times (length a.contents) piece_length (omega arith) in
-    let count : length (pieces_of_artifact (Some a)) ≡ piece_count (length a.contents) - 0 =
-    length-map (pieces_of (length a.contents)) (piece_bytes a.contents)
-    ∙ length-map-range_with_len (piece_at (length a.contents)) 0 (piece_count (length a.contents) - 0) in
-    omega (arith, few, bounds.1, count)
+pieces_few (Some a) kept = grind (
+  arith,
+  and_parts (nat_le (length a.contents) artifact_size_limit) (list_all is_byte a.contents),
+  leb-true,
+  div_ceil_times (length a.contents) piece_length,
+  length-map (pieces_of (length a.contents)) (piece_bytes a.contents),
+  length-map-range_with_len (piece_at (length a.contents)) 0 (piece_count (length a.contents) - 0),
+)
 
 pub no_piece : (r : Records) → AreOfList r → (k before : ℕ) (piece : List ℕ) → Some piece ≡ item_numbered (pieces_of_artifact (item_numbered r.artifacts k))
     (before + 1) → artifact_size_limit ≤ before * piece_length → ⊥

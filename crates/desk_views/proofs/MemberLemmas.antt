@@ -1,13 +1,12 @@
 -- The members of a rollout of a list of accepted commands are targets.
-use native.Mathlib.Omega.{arith}
-use Rattle.desk_views.proofs.Common.{◌≡◌, ℕ, zero, suc, Bool, true, List, [], ◌∷◌, ◌++◌, map, filter, find, take, drop, Option, Some, None}
-use Rattle.desk_views.proofs.Common.{refl, sym, ap, ◌∙◌, slice_get, list_all, is_some, unwrap_or, and_parts, false≢true, filter_of, Tree, target_if}
-use Rattle.desk_views.proofs.Common.{targets_of, contains_word, item_numbered, same_bytes, with_words, Bytes, Command, CreateRollout, matches}
+use Rattle.desk_views.proofs.Common.{arith, ◌≡◌, ℕ, zero, suc, Bool, true, List, [], ◌∷◌, map, filter, find, take, drop, Option, Some, None}
+use Rattle.desk_views.proofs.Common.{refl, ap, ◌∙◌, list_all, is_some, unwrap_or, and_parts, filter_of, Tree}
+use Rattle.desk_views.proofs.Common.{targets_of, contains_word, item_numbered, same_bytes, Bytes, Command, CreateRollout, matches}
 use Rattle.desk_views.proofs.Common.{target_shown, targets_shown, Records, Target, target_ids, target_in, target_of, RolloutRecord, same_refl}
 use Rattle.desk_views.proofs.Common.{same_sym, AreOfList, made, CommandList, Make, ◌▸◌, Rollout, chosen, created, rollouts, kept_to, kept_from, or-true}
 use Rattle.rollout_machine.specs.Records.{records}
 use Rattle.std.proofs.lemmas.List.Folds.{list_all-append}
-use Rattle.rollout_machine.specs.Replies.{ShownTarget}
+use Rattle.sqlite_rules.proofs.ListLemmas.{has_got, test_has}
 use Rattle.rollout_machine.proofs.Imports.{never_with}
 
 -- ---- tests of lists
@@ -16,25 +15,15 @@ all_so : {X : Type 0} (p q : X → Bool) → ((x : X) → p x ≡ true → q x �
 all_so p q so [] all = refl
 all_so p q so (x ∷ xs) all = let parts = and_parts _ _ all in rw (so x parts.0, all_so p q so xs parts.1) refl
 
-all_at : {X : Type 0} (p : X → Bool) (xs : List X) (i : ℕ) (x : X) → list_all p xs ≡ true → slice_get xs i ≡ Some x → p x ≡ true
-all_at p [] i x all at = absurd cc
-all_at p (y ∷ ys) zero x all at = let same : y ≡ x = cc in sym (ap p same) ∙ (and_parts _ _ all).0
-all_at p (y ∷ ys) (suc i) x all at = all_at p ys i x (and_parts _ _ all).1 at
-
 -- ---- whom a list has chosen
 
 abbrev AllIn : List Bytes → List Bytes → Type 0
 AllIn ids ms = list_all (λ m. contains_word m ids) ms ≡ true
 
-stays_in : (m : Bytes) (ids news : List Bytes) → contains_word m ids ≡ true → contains_word m (with_words news ids) ≡ true
-stays_in m ids news is = grind (arith, never_with)
-
-later_in : (u m : Bytes) (ids : List Bytes) → contains_word m ids ≡ true → contains_word m (u ∷ ids) ≡ true
-later_in u m ids is = rw is (or-true (same_bytes m u))
-
 all_are_in : (ids : List Bytes) → AllIn ids ids
 all_are_in [] = refl
-all_are_in (u ∷ ids) = rw (same_refl u) (all_so (λ m. contains_word m ids) (λ m. contains_word m (u ∷ ids)) (λ m. later_in u m ids) ids (all_are_in ids))
+all_are_in (u ∷ ids) = rw (same_refl u) (all_so (λ m. contains_word m ids) (λ m. contains_word m (u ∷ ids)) (λ m is. rw is (or-true (same_bytes m u))) ids
+    (all_are_in ids))
 
 chosen_in : (h : CommandList) (ids : List Bytes) (f : Tree) (us : List Bytes) → AllIn ids us
     → AllIn ids (map (λ (t : Target). t.id) (filter (matches f) (map (target_in h) us)))
@@ -53,7 +42,7 @@ created_in h _ = refl
 
 rollouts_in_list : (h : CommandList) → list_all (members_in_list (target_ids h)) (rollouts h) ≡ true
 rollouts_in_list (Make approval) = refl
-rollouts_in_list (h ▸ c) = grind (arith, rollouts_in_list h, all_so, stays_in, list_all-append, created_in)
+rollouts_in_list (h ▸ c) = grind (arith, rollouts_in_list h, all_so, never_with, list_all-append, created_in)
 
 -- ---- who is there
 
@@ -71,7 +60,7 @@ there_at h m is = found_in h m (target_ids h) ∙ is
 rollout_there : (h : CommandList) (r : ℕ) (y : Rollout) → item_numbered (rollouts h) r ≡ Some y → list_all (is_there (records h)) y.members ≡ true
 rollout_there h zero y at = absurd cc
 rollout_there h (suc i) y at = all_so (λ m. contains_word m (target_ids h)) (is_there (records h)) (there_at h) y.members
-    (all_at (members_in_list (target_ids h)) (rollouts h) i y (rollouts_in_list h) at)
+    (test_has (members_in_list (target_ids h)) (rollouts h) y (rollouts_in_list h) (has_got (rollouts h) i y at))
 
 pub members_there : (rs : Records) → AreOfList rs → (r : ℕ) (x : RolloutRecord) → item_numbered rs.rollouts r ≡ Some x → list_all (is_there rs) x.members ≡ true
 members_there rs of r x e =
@@ -88,13 +77,7 @@ target_at rs m = unwrap_or (target_of rs m) (record { id = []; name = []; digest
 pub targets_there : (rs : Records) (ms : List Bytes) → list_all (is_there rs) ms ≡ true → targets_shown rs (targets_of rs ms)
     ≡ map (λ m. target_shown rs (target_at rs m)) ms
 targets_there rs [] all = refl
-targets_there rs (m ∷ ms) all = let parts = and_parts _ _ all in go (target_of rs m) parts.0 (targets_there rs ms parts.1) where
-  go : (o : Option Target) → is_some o ≡ true → targets_shown rs (targets_of rs ms) ≡ map (λ m. target_shown rs (target_at rs m)) ms
-      → targets_shown rs (target_if o ++ targets_of rs ms)
-      ≡ target_shown rs (unwrap_or o (record { id = []; name = []; digest = []; tags = []; attributes = [] })) ∷ map (λ m. target_shown rs (target_at rs m))
-      ms
-  go None bad rest = absurd (false≢true bad)
-  go (Some t) there rest = ap (λ (l : List ShownTarget). target_shown rs t ∷ l) rest
+targets_there rs (m ∷ ms) all = grind (arith, targets_there rs ms, and_parts)
 
 pub part_there : (rs : Records) (n k : ℕ) (ms : List Bytes) → list_all (is_there rs) ms ≡ true → list_all (is_there rs) (take n (drop k ms)) ≡ true
 part_there rs n k ms all = kept_to (is_there rs) n (drop k ms) (kept_from (is_there rs) k ms all)

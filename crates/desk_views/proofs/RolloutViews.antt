@@ -1,23 +1,15 @@
 -- From typed reads of rollouts to what is seen of them.
-use native.Mathlib.Omega.{arith}
-use Rattle.desk_views.proofs.Common.{◌≡◌, ℕ, suc, List, [], ◌∷◌, Option, Some, None, refl, ap, option_map, if_found, numbered, rollout_shown, rollouts_shown}
-use Rattle.desk_views.proofs.Common.{Refused, ShownRollout, RolloutRecord, NotFound, BothOrNone, IsSeenOf, SeenRollout}
+use Rattle.desk_views.proofs.Common.{arith, ◌≡◌, ℕ, suc, List, [], ◌∷◌, Option, Some, refl, ap, option_map, if_found, numbered, rollout_shown, rollouts_shown}
+use Rattle.desk_views.proofs.Common.{ShownRollout, RolloutRecord, BothOrNone, IsSeenOf, SeenRollout}
 use Rattle.rollout_machine.specs.Replies.{Reply}
 
 -- ---- what is replied
-
--- of what isn't there
-pub none_replied : (reply : RolloutRecord → Reply) (o : Option RolloutRecord) → BothOrNone IsSeenOf None o → Refused NotFound ≡ if_found reply o
-none_replied reply o it = grind arith
 
 pub one_replied : (reply : RolloutRecord → Reply) (o : Option RolloutRecord) (seen : SeenRollout) (made : Reply) → BothOrNone IsSeenOf (Some seen) o
     → ((x : RolloutRecord) → o ≡ Some x → IsSeenOf seen x → made ≡ reply x) → made ≡ if_found reply o
 one_replied reply o seen made it so = grind arith
 
 -- ---- as they are shown
-
-pub none_seen : (o : Option RolloutRecord) → BothOrNone IsSeenOf None o → None ≡ option_map rollout_shown o
-none_seen o it = grind arith
 
 pub one_seen : (o : Option RolloutRecord) (seen : SeenRollout) (shown : ShownRollout) → BothOrNone IsSeenOf (Some seen) o
     → ((x : RolloutRecord) → IsSeenOf seen x → shown ≡ rollout_shown x) → Some shown ≡ option_map rollout_shown o

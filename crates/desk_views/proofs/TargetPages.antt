@@ -1,10 +1,11 @@
 -- From typed reads of targets to pages of them.
-use Rattle.desk_views.proofs.Common.{◌≡◌, ℕ, suc, ◌+◌, ◌-◌, ◌&&◌, nat_le, nat_lt, ◌*◌, ◌/◌, ◌%◌, min, Bool, true, false, cond, List, [], ◌∷◌, ◌++◌, map, filter}
-use Rattle.desk_views.proofs.Common.{length, take, drop, Some, None, refl, sym, ap, ◌∙◌, append-nil, append_assoc, arith, length-drop, Vec, take-add, leb-false}
-use Rattle.desk_views.proofs.Common.{leb-true, drop-append-le, drop-map, drop_all, length-append, length-map, map-append, take-append-le, take-map, take_all}
-use Rattle.desk_views.proofs.Common.{IsSomeAnd, Global, query_reply, targets_matching, Bytes, matches, seen, page_of, target_shown, targets_shown, Records}
-use Rattle.desk_views.proofs.Common.{PageOf, TargetsShown, Page, ShowTargets, Target, listed, listed_targets, reply_of, shown_target, ShownTarget, Tree}
-use Rattle.desk_views.proofs.Common.{filter_of, listed_target, matching_shown, worded, target_listed, part_seen, div_ceil_times, ListedTarget}
+use Rattle.desk_views.proofs.Common.{◌≡◌, ℕ, ◌+◌, ◌-◌, ◌&&◌, nat_le, nat_lt, ◌*◌, ◌/◌, ◌%◌, min, Bool, true, cond, List, [], ◌∷◌, ◌++◌, map, filter, length}
+use Rattle.desk_views.proofs.Common.{take, drop, Some, None, refl, sym, ap, ◌∙◌, append_assoc, arith, length-drop, Vec, take-add, drop-append-le, drop_all}
+use Rattle.desk_views.proofs.Common.{length-append, map-append, take-append-le, take_all, Global, query_reply, targets_matching, Bytes, matches, seen, page_of}
+use Rattle.desk_views.proofs.Common.{target_shown, targets_shown, Records, PageOf, TargetsShown, Page, ShowTargets, Target, listed, reply_of, shown_target}
+use Rattle.desk_views.proofs.Common.{ShownTarget, Tree, filter_of, listed_target, matching_shown, worded, target_listed, part_seen, div_ceil_times}
+use Rattle.desk_views.proofs.Common.{ListedTarget, cases_lt, inl, inr, nat_tests}
+use Rattle.desk_views.proofs.PageLemmas.{page_mapped}
 use Rattle.std.proofs.lemmas.List.Elements.{filter-append}
 use Rattle.rollout_model.specs.declared.page.PageOf.{PageOf as RustPageOf}
 use Rattle.rollout_model.specs.declared.request.Reply.TheVariants as reply
@@ -25,43 +26,25 @@ module _ (r : Records) where
   shown_map [] = refl
   shown_map (t ∷ ts) = ap (λ l. target_shown r t ∷ l) (shown_map ts)
 
-  shown_part : (n m : ℕ) (ts : List Target) → targets_shown r (take n (drop m ts)) ≡ take n (drop m (targets_shown r ts))
-  shown_part n m ts = grind (arith, shown_map, take-map, drop-map)
-
   -- ---- all targets
-
-  pub entries_grow : (items more : List ShownTarget) (entries : List ListedTarget) (entry : ListedTarget) (target : SeenTarget) (shown : ShownTarget)
-      → items ≡ map (worded r) (map (target_listed r) entries) → target ≡ target_listed r entry
-      → shown ≡ worded r target → more ≡ items ++ shown ∷ [] → more ≡ map (worded r) (map (target_listed r) (entries ++ entry ∷ []))
-  entries_grow items more entries entry target shown is read said one = grind (arith, map-append)
 
   pub all_replied : (page : Page) (entries : List ListedTarget) (items : Vec ShownTarget Global) (total : ℕ) → are_sorted r.targets ≡ true
       → total ≡ length r.targets
       → entries ≡ map listed_target (take page.limit (drop page.offset r.targets)) → items.items ≡ map (worded r) (map (target_listed r) entries)
       → reply_of (reply.Targets (record { content = items; total = total })) ≡ query_reply r (ShowTargets None page)
-  all_replied page entries items total sorted count listed is =
-      let part = take page.limit (drop page.offset r.targets) in
-      let here = ap (map shown_target) (is ∙ ap (λ l. map (worded r) (map (target_listed r) l)) listed
-      ∙ ap (map (worded r)) (part_seen r sorted page.limit page.offset)) ∙ all_shown part ∙ shown_part page.limit page.offset r.targets in
-      let all = count ∙ sym (ap length (shown_map r.targets) ∙ length-map r.targets (target_shown r)) in
-      λ i. TargetsShown (record { content = here i; total = all i })
+  all_replied page entries items total sorted count listed is = ap TargetsShown (page_mapped (target_shown r) page r.targets
+      (take page.limit (drop page.offset r.targets)) _ _ total (sym (shown_map r.targets)) refl (grind (arith, part_seen, all_shown, shown_map)) count)
 
   -- ---- those that match
 
   module _ (f : Tree) where
-    matching_join : (ts us : List SeenTarget) → matching_shown r f (ts ++ us) ≡ matching_shown r f ts ++ matching_shown r f us
+    pub matching_join : (ts us : List SeenTarget) → matching_shown r f (ts ++ us) ≡ matching_shown r f ts ++ matching_shown r f us
     matching_join ts us = ap (map (worded r)) (filter-append (holds f) ts us) ∙ map-append (worded r) (filter (holds f) ts) (filter (holds f) us)
 
     pub matching_grow : (all : List ShownTarget) (entries : List ListedTarget) (entry : ListedTarget)
         → (all ++ matching_shown r f (map (target_listed r) entries)) ++ matching_shown r f (target_listed r entry ∷ [])
         ≡ all ++ matching_shown r f (map (target_listed r) (entries ++ entry ∷ []))
     matching_grow all entries entry = grind (arith, append_assoc, map-append, matching_join)
-
-    pub one_matches : (all : List ShownTarget) (t u : SeenTarget) → t ≡ u → holds f t ≡ true → all ++ worded r t ∷ [] ≡ all ++ matching_shown r f (u ∷ [])
-    one_matches all t u is on = rw (sym is, on) refl
-
-    pub one_does_not : (all : List ShownTarget) (t u : SeenTarget) → t ≡ u → holds f t ≡ false → all ≡ all ++ matching_shown r f (u ∷ [])
-    one_does_not all t u is off = rw (sym is, off) (sym (append-nil all))
 
     -- those of a chunk after those before it
     pub chunk_matched : are_sorted r.targets ≡ true → (offset n : ℕ) (entries : List ListedTarget) → entries
@@ -77,21 +60,12 @@ module _ (r : Records) where
     matching_is : map shown_target (matching_shown r f (map seen r.targets)) ≡ targets_shown r (filter (matches f) r.targets)
     matching_is = ap (λ l. map shown_target (map (worded r) l)) (filter_seen r.targets) ∙ all_shown (filter (matches f) r.targets)
 
-    page_is : (page : Page) (shown : RustPageOf ShownTarget) → listed shown ≡ page_of page (matching_shown r f (map seen r.targets)) → listed_targets shown
-        ≡ page_of page (targets_shown r (filter (matches f) r.targets))
-    page_is page shown is =
-        let all = matching_shown r f (map seen r.targets) in
-        let content : shown.content.items ≡ take page.limit (drop page.offset all) = ap (λ (p : PageOf ShownTarget). p.content) is in
-        let total : shown.total ≡ length all = ap (λ (p : PageOf ShownTarget). p.total) is in
-        let here = ap (map shown_target) content ∙ sym (take-map shown_target page.limit (drop page.offset all))
-        ∙ ap (take page.limit) (sym (drop-map shown_target page.offset all)) ∙ ap (λ l. take page.limit (drop page.offset l)) matching_is in
-        let count = total ∙ sym (length-map all shown_target) ∙ ap length matching_is in
-        λ i. record { content = here i; total = count i }
-
     pub matching_replied : (page : Page) (shown : RustPageOf ShownTarget) (text : Bytes) → filter_of text ≡ Some f → listed shown
         ≡ page_of page (matching_shown r f (map seen r.targets))
         → reply_of (reply.Targets shown) ≡ query_reply r (ShowTargets (Some text) page)
-    matching_replied page shown text tree is = ap TargetsShown (page_is page shown is) ∙ sym (ap (targets_matching r page) tree)
+    matching_replied page shown text tree is = ap TargetsShown (page_mapped shown_target page (matching_shown r f (map seen r.targets))
+        shown.content.items _ _ shown.total matching_is (ap (λ (p : PageOf ShownTarget). p.content) is) refl (ap (λ (p : PageOf ShownTarget). p.total) is))
+        ∙ sym (ap (targets_matching r page) tree)
 
 -- the page of nothing
 pub nothing_yet : {X : Type 0} (page : Page) (items : Vec X Global) → items.items ≡ [] → listed (record { content = items; total = 0 }) ≡ page_of page []
@@ -100,41 +74,29 @@ nothing_yet page items empty = grind (arith, drop_all)
 -- ---- one target more
 
 -- a list with one more entry has it on the page at its place
-next_on : {X : Type 0} (limit offset : ℕ) (all : List X) (x : X)
+pub next_on : {X : Type 0} (limit offset : ℕ) (all : List X) (x : X)
     → take limit (drop offset (all ++ x ∷ [])) ≡ cond (nat_le offset (length all) && nat_lt (length all - offset) limit)
     (take limit (drop offset all) ++ x ∷ []) (take limit (drop offset all))
-next_on limit offset all x = go (nat_le offset (length all)) (nat_lt (length all - offset) limit) refl refl where
-  go : (p q : Bool) → nat_le offset (length all) ≡ p → nat_lt (length all - offset) limit ≡ q → take limit (drop offset (all ++ x ∷ []))
-      ≡ cond (p && q) (take limit (drop offset all) ++ x ∷ []) (take limit (drop offset all))
-  go false q before within =
-      let far = leb-false offset (length all) before in
-      ap (take limit) (drop_all offset (all ++ x ∷ []) (omega (arith, far, length-append all (x ∷ []))) ∙ sym (drop_all offset all (omega (arith, far))))
-  go true false before within =
-      ap (take limit) (drop-append-le offset all (x ∷ []) (leb-true offset (length all) before))
-      ∙ take-append-le limit (drop offset all) (x ∷ []) (omega (arith, leb-false (suc (length all - offset)) limit within, length-drop offset all))
-  go true true before within =
-      let room = leb-true (suc (length all - offset)) limit within in
-      ap (take limit) (drop-append-le offset all (x ∷ []) (leb-true offset (length all) before))
-      ∙ take_all limit (drop offset all ++ x ∷ []) (omega (arith, room, length-append (drop offset all) (x ∷ []), length-drop offset all))
-      ∙ ap (λ l. l ++ x ∷ []) (sym (take_all limit (drop offset all) (omega (arith, room, length-drop offset all))))
+next_on limit offset all x = elim (cases_lt (length all) offset) [
+  | inl far ↦ grind (arith, nat_tests, drop_all offset all, drop_all offset (all ++ x ∷ []), length-append all (x ∷ []), far)
+  | inr near ↦ grind (
+    arith,
+    nat_tests,
+    near,
+    drop-append-le offset all (x ∷ []),
+    take-append-le limit (drop offset all) (x ∷ []),
+    take_all limit (drop offset all),
+    take_all limit (drop offset all ++ x ∷ []),
+    length-append (drop offset all) (x ∷ []),
+    length-drop offset all,
+  )
+]
 
 module _ (page : Page) (old : RustPageOf ShownTarget) (items : Vec ShownTarget Global) (all : List ShownTarget) (x : ShownTarget)
     (was : listed old ≡ page_of page all) (on : Bool) (asked : on ≡ (nat_le page.offset old.total && nat_lt (old.total - page.offset) page.limit)) where
   pub page_with : (total : ℕ) → total ≡ old.total + 1 → items.items ≡ cond on (old.content.items ++ x ∷ []) old.content.items
       → listed (record { content = items; total = total }) ≡ page_of page (all ++ x ∷ [])
   page_with total one is = grind (arith, next_on, length-append)
-
-module _ (r : Records) (f : Tree) (text : Bytes) (t : SeenTarget) (entry : ListedTarget) (is_match : Bool)
-    (computed : IsSomeAnd (filter_of text) (λ tree. is_match ≡ holds tree t)) (tree : filter_of text ≡ Some f) (read : t ≡ target_listed r entry)
-    (all : List ShownTarget) where
-  by_tree : is_match ≡ holds f t
-  by_tree = rw tree at computed
-
-  pub match_added : is_match ≡ true → all ++ worded r t ∷ [] ≡ all ++ matching_shown r f (target_listed r entry ∷ [])
-  match_added on = one_matches r f all t (target_listed r entry) read (sym by_tree ∙ on)
-
-  pub match_left : is_match ≡ false → all ≡ all ++ matching_shown r f (target_listed r entry ∷ [])
-  match_left off = one_does_not r f all t (target_listed r entry) read (sym by_tree ∙ off)
 
 -- ---- chunk by chunk
 

@@ -1,9 +1,9 @@
-use Rattle.desk_views.proofs.Answering.{both_found, finds_as, action_of_target, action_shown, ActionShown, stored_in, action_replied, not_found}
+use Rattle.desk_views.proofs.ActionViews.{action_replied}
+use Rattle.desk_views.proofs.Answering.{arith, both_found, finds_as, action_of_target}
 use Rattle.desk_views.proofs.actions.show_action.Goals as goal
 
 pub returns-in-None-clause-shows : goal.returns-in-None-clause-shows
-returns-in-None-clause-shows g c = finds_as (rw c.in-None.is at c.in_ok-action.ensures.reads)
-    (λ r is of. not_found (stored_in r) (action_of_target r c.args.id c.args.number) (λ a. ActionShown (action_shown r c.args.number a)) is)
+returns-in-None-clause-shows g c = finds_as (rw c.in-None.is at c.in_ok-action.ensures.reads) (λ r is of. grind arith)
 
 pub returns-clause-shows : goal.returns-clause-shows
 returns-clause-shows g c =

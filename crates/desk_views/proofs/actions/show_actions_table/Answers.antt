@@ -1,4 +1,4 @@
-use Rattle.desk_views.proofs.Answering.{Err, arith, nat_eq, sym, ap, ◌∙◌, not, map, length, err_from_is_err_and, is_some, both_found, finds_as, stored_rollout}
+use Rattle.desk_views.proofs.Answering.{arith, nat_eq, sym, ap, ◌∙◌, not, map, length, is_some, both_found, finds_as, stored_rollout}
 use Rattle.desk_views.proofs.Answering.{item_numbered, actions_of_rollout, ActionsTableShown, ledger_found, shown_among, groups_are, all_listed, none_there}
 use Rattle.desk_views.proofs.Answering.{of_rollout_is, one_there, listed_few, never_fails, told}
 use Rattle.desk_views.proofs.actions.show_actions_table.Goals as goal
@@ -25,9 +25,7 @@ returns-clause-shows g c =
 
 pub returns-in_err-count_of-clause-fails : goal.returns-in_err-count_of-clause-fails
 returns-in_err-count_of-clause-fails g c =
-    let out = err_from_is_err_and c.from_residual-in_err-count_of.result c.from_residual-in_err-count_of.ensures.1 in
-    never_fails (both_found (ledger_found _ c.in_ok-read_rollout.ensures.reads) (ledger_found _ c.in_ok-all.ensures.reads)) c.in_err-count_of.field-0.0
-    (told c.in_err-count_of.field-0.0 c.in_err-count_of.ensures)
-    (λ r is of readable many. listed_few r of (λ it. nat_eq it.0.rollout c.args.number) 4294967295 0 c.in_ok-all.all.items is.1
-    (omega (arith, many, ap length c.deref.ensures.value)))
-    c.from_residual-in_err-count_of.result (out.1 ∙ ap Err out.2)
+    never_fails (λ l it. it) (both_found (ledger_found _ c.in_ok-read_rollout.ensures.reads) (ledger_found _ c.in_ok-all.ensures.reads)) _
+    (told _ c.in_err-count_of.ensures)
+    (λ r is of _ readable many. listed_few r of (λ it. nat_eq it.0.rollout c.args.number) 4294967295 0 c.in_ok-all.all.items is.1
+    (omega (arith, many, ap length c.deref.ensures.value))) _ c.from_residual-in_err-count_of.ensures.1

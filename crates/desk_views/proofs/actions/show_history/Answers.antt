@@ -1,11 +1,9 @@
-use Rattle.desk_views.proofs.Answering.{both_found, finds_as, action_of_target, item_numbered, entry_shown, numbered, page_of, HistoryShown, stored_in}
-use Rattle.desk_views.proofs.Answering.{not_found, history_replied}
+use Rattle.desk_views.proofs.HistoryViews.{history_replied}
+use Rattle.desk_views.proofs.Answering.{arith, both_found, finds_as, item_numbered}
 use Rattle.desk_views.proofs.actions.show_history.Goals as goal
 
 pub returns-in-None-clause-shows : goal.returns-in-None-clause-shows
-returns-in-None-clause-shows g c = finds_as (rw c.in-None.is at c.in_ok-action.ensures.reads)
-    (λ r is of. not_found (stored_in r) (action_of_target r c.args.id c.args.number)
-    (λ a. HistoryShown (page_of c.args.page (numbered entry_shown 1 a.history))) is)
+returns-in-None-clause-shows g c = finds_as (rw c.in-None.is at c.in_ok-action.ensures.reads) (λ r is of. grind arith)
 
 pub returns-clause-shows : goal.returns-clause-shows
 returns-clause-shows g c =

@@ -1,6 +1,7 @@
-use Rattle.desk_views.proofs.Answering.{Err, arith, sym, ap, ◌∙◌, not, map, take, drop, length, err_from_is_err_and, same_bytes, actor_of, is_some, both_found}
+use Rattle.desk_views.proofs.Answering.{arith, sym, ap, ◌∙◌, not, map, take, drop, length, same_bytes, actor_of, is_some, both_found}
 use Rattle.desk_views.proofs.Answering.{finds_as, stored_target, actions_of_target, page_of, ActionsShown, target_of, ledger_found, listed_shown, all_listed}
-use Rattle.desk_views.proofs.Answering.{none_there, of_target_is, one_there, page_is, listed_few, never_fails, told, id_found}
+use Rattle.desk_views.proofs.Answering.{none_there, of_target_is, one_there, listed_few, never_fails, told, id_found}
+use Rattle.desk_views.proofs.PageLemmas.{page_mapped}
 use Rattle.desk_views.proofs.actions.show_target_actions.Goals as goal
 
 pub returns-then-is_none-clause-shows : goal.returns-then-is_none-clause-shows
@@ -19,16 +20,12 @@ returns-clause-shows g c =
     let listed = all_listed 4294967295 c.in_ok-total.total _ c.in_ok-all.all.items is.0.1 (c.in_ok-total.ensures.0 ∙ ap length c.deref.ensures.value)
     c.in_ok-total.ensures.1 in
     let all = ap (map (listed_shown r)) listed ∙ of_target_is r c.args.id ∙ ap (actions_of_target r) (sym (id_found c.args.id x r.targets there)) in
-    ap ActionsShown (page_is r c.args.page (actions_of_target r x.id) c.in_ok-all.all.items c.part_on.result.now c.in_ok-content.content.items
-    c.in_ok-total.total all
+    ap ActionsShown (page_mapped (listed_shown r) c.args.page c.in_ok-all.all.items _ (actions_of_target r x.id) _ c.in_ok-total.total all
     (c.part_on.ensures ∙ ap (λ l. take c.args.page.limit (drop c.args.page.offset l)) c.deref-2.ensures.value) (is.1 of)
     (c.in_ok-total.ensures.0 ∙ ap length c.deref.ensures.value))))
 
 pub returns-in_err-total-clause-fails : goal.returns-in_err-total-clause-fails
 returns-in_err-total-clause-fails g c =
-    let out = err_from_is_err_and c.from_residual-in_err-total.result c.from_residual-in_err-total.ensures.1 in
-    never_fails (both_found c.in_ok-read_target.ensures.reads (ledger_found _ c.in_ok-all.ensures.reads)) c.in_err-total.field-0.0
-    (told c.in_err-total.field-0.0 c.in_err-total.ensures)
-    (λ r is of readable many. listed_few r of (λ it. same_bytes (actor_of r.rollouts it.0) c.args.id) 4294967295 0 c.in_ok-all.all.items is.1
-    (omega (arith, many, ap length c.deref.ensures.value)))
-    c.from_residual-in_err-total.result (out.1 ∙ ap Err out.2)
+    never_fails (λ l it. it) (both_found c.in_ok-read_target.ensures.reads (ledger_found _ c.in_ok-all.ensures.reads)) _ (told _ c.in_err-total.ensures)
+    (λ r is of _ readable many. listed_few r of (λ it. same_bytes (actor_of r.rollouts it.0) c.args.id) 4294967295 0 c.in_ok-all.all.items is.1
+    (omega (arith, many, ap length c.deref.ensures.value))) _ c.from_residual-in_err-total.ensures.1

@@ -1,12 +1,13 @@
+use Rattle.desk_views.proofs.ArtifactViews.{all_taken, together_is}
+use Rattle.desk_views.proofs.ListRules.{no_piece}
 use Rattle.desk_views.proofs.Answering.{◌≤◌, ◌*◌, ◌++◌, sym, ap, ◌∙◌, arith, rules, IsSome, artifact_size_limit, piece_length, both_found, finds_as}
-use Rattle.desk_views.proofs.Answering.{pieces_of_artifact, item_numbered, pieces_end, pieces_grow, none_behind, passed, never_fails, told}
-use Rattle.std.specs.Vec.{vec_items}
+use Rattle.desk_views.proofs.Answering.{pieces_of_artifact, item_numbered, pieces_grow, never_fails, told}
 use Rattle.desk_views.proofs.artifacts.read_pieces.Goals as goal
 
 pub returns-in-None-clause-reads : goal.returns-in-None-clause-reads
 returns-in-None-clause-reads g c =
     finds_as (both_found c.loop-bytes.invariant.reads (rw (sym c.in_ok-piece.ensures.same ∙ c.in-None.is) at c.in_ok-found.ensures.reads))
-    (λ r is. pieces_end (item_numbered r.artifacts c.args.number) _ c.loop-bytes.pieces _ is.0 is.1 (omega arith))
+    (λ r is. grind (arith, all_taken, together_is))
 
 pub loop-bytes-preserved : goal.loop-bytes-preserved
 loop-bytes-preserved g c = record {
@@ -19,10 +20,8 @@ loop-bytes-preserved g c = record {
 }
 
 pub returns-in_err-piece-clause-fails : goal.returns-in_err-piece-clause-fails
-returns-in_err-piece-clause-fails g c =
-    let full : IsSome c.in_ok-found.found × (artifact_size_limit ≤ c.loop-bytes.pieces * piece_length) =
+returns-in_err-piece-clause-fails g c = let full : IsSome c.in_ok-found.found × (artifact_size_limit ≤ c.loop-bytes.pieces * piece_length) =
     (c.in_err-piece.ensures.err.1, c.in_err-piece.ensures.err.2) in
-    never_fails (both_found c.loop-bytes.invariant.reads c.in_ok-found.ensures.reads) _
+    never_fails (λ l it. it) (both_found c.loop-bytes.invariant.reads c.in_ok-found.ensures.reads) _
     (told {Why = IsSome c.in_ok-found.found × (artifact_size_limit ≤ c.loop-bytes.pieces * piece_length)} _ (c.in_err-piece.ensures.err.0, full))
-    (λ r is of readable full. none_behind vec_items r of c.args.number c.loop-bytes.pieces c.in_ok-found.found is.1 full.0 full.1) _
-    (passed _ _ c.from_residual-in_err-piece.ensures.1)
+    (λ r is of _ readable full. grind (arith, no_piece)) _ c.from_residual-in_err-piece.ensures.1

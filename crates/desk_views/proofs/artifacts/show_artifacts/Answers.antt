@@ -1,10 +1,10 @@
-use Rattle.desk_views.proofs.Answering.{sym, ap, ◌∙◌, not, drop, length, take, both_found, finds_as, artifacts_shown, no_module, page_shown, artifacts_counted}
-use Rattle.desk_views.proofs.Answering.{passed, never_fails}
+use Rattle.desk_views.proofs.FailingReads.{artifacts_counted}
+use Rattle.desk_views.proofs.ArtifactViews.{page_shown}
+use Rattle.desk_views.proofs.Answering.{arith, sym, ap, ◌∙◌, not, drop, length, take, both_found, finds_as, artifacts_shown, never_fails}
 use Rattle.desk_views.proofs.artifacts.show_artifacts.Goals as goal
 
 pub returns-then-is_none-clause-reads : goal.returns-then-is_none-clause-reads
-returns-then-is_none-clause-reads g c =
-    finds_as c.in_ok-read_module.ensures.reads (λ r is. rw (sym is) (no_module c.in_ok-read_module.field-0 _ (c.is_none.ensures ∙ ap not c.if-is_none.true)))
+returns-then-is_none-clause-reads g c = finds_as c.in_ok-read_module.ensures.reads (λ r is. grind (arith, c.is_none.ensures, c.if-is_none.true))
 
 pub returns-clause-reads : goal.returns-clause-reads
 returns-clause-reads g c =
@@ -18,6 +18,6 @@ returns-clause-reads g c =
 
 pub returns-in_err-shown-clause-fails : goal.returns-in_err-shown-clause-fails
 returns-in_err-shown-clause-fails g c =
-    never_fails (both_found c.in_ok-read_module.ensures.reads c.in_ok-artifacts.ensures.reads) _ c.in_err-shown.ensures.err
-    (λ r is of readable large. artifacts_counted r of c.args.module_number _ (c.deref.ensures.value ∙ is.1) large) _
-    (passed _ _ c.from_residual-in_err-shown.ensures.1)
+    never_fails (λ l it. it) (both_found c.in_ok-read_module.ensures.reads c.in_ok-artifacts.ensures.reads) _ c.in_err-shown.ensures.err
+    (λ r is of _ readable large. artifacts_counted r of c.args.module_number _ (c.deref.ensures.value ∙ is.1) large) _
+    c.from_residual-in_err-shown.ensures.1

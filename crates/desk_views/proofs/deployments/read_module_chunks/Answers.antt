@@ -1,4 +1,6 @@
-use Rattle.desk_views.proofs.Answering.{ap, ◌∙◌, rules, both_found, finds_as, chunks_of, all_given, chunks_grow}
+use Rattle.desk_views.proofs.Common.{arith, append-nil}
+use Rattle.desk_views.proofs.DeviceViews.{chunks_join}
+use Rattle.desk_views.proofs.Answering.{ap, ◌∙◌, rules, both_found, finds_as, chunks_of, all_given}
 use Rattle.desk_views.proofs.deployments.read_module_chunks.Goals as goal
 
 pub loop-module_number-preserved : goal.loop-module_number-preserved
@@ -6,7 +8,7 @@ loop-module_number-preserved g c = record {
   stays = search rules;
   fails = search rules;
   reads = finds_as (both_found c.loop-module_number.invariant.reads c.in_ok-add_chunk.ensures.reads)
-      (λ r is. chunks_grow r _ _ c.loop-module_number.yielded c.in-Some.module_number is.0 is.1);
+      (λ r is. grind (arith, append-nil, chunks_join));
 }
 
 pub returns-clause-reads : goal.returns-clause-reads

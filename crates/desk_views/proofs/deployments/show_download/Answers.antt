@@ -1,5 +1,4 @@
-use Rattle.desk_views.proofs.Answering.{Ok, sym, arith, both_found, finds_as, answered_by, downloaded, passed, size_of_numbered, fails_when}
-use Rattle.desk_views.proofs.FailingViews.{listed}
+use Rattle.desk_views.proofs.Answering.{Ok, sym, arith, both_found, finds_as, answered_by, downloaded, size_of_numbered, fails_when}
 use Rattle.desk_views.proofs.deployments.show_download.Goals as goal
 
 pub returns-in_ok-contents-in-Ok-clause-reads : goal.returns-in_ok-contents-in-Ok-clause-reads
@@ -19,12 +18,11 @@ returns-in_ok-contents-in-Ok-clause-sized g c = record {
 
 pub returns-in_err-contents-in-Ok-clause-fails : goal.returns-in_err-contents-in-Ok-clause-fails
 returns-in_err-contents-in-Ok-clause-fails g c =
-    fails_when (rw c.in-Ok.is at c.in_ok-artifact.ensures.reads) c.in_err-contents-in-Ok.ensures.reads.wears _
+    fails_when (λ l it. it) (rw c.in-Ok.is at c.in_ok-artifact.ensures.reads) c.in_err-contents-in-Ok.ensures.reads.wears _
     c.in_err-contents-in-Ok.ensures.fails
-    (λ r is of.
+    (λ r is of _.
     let it = answered_by c.args.module_number c.args.filename.now r c.args.device.now (Ok c.in-Ok.artifact) is in
-    record { of_list = listed of; wanted = size_of_numbered r of c.in-Ok.artifact.number c.in-Ok.artifact.size it.0 it.2 it.3 }) _
-    (passed _ _ c.from_residual-in_err-contents-in-Ok.ensures.1)
+    size_of_numbered r of c.in-Ok.artifact.number c.in-Ok.artifact.size it.0 it.2 it.3) _ c.from_residual-in_err-contents-in-Ok.ensures.1
 
 pub returns-in_ok-contents-in-Ok-clause-kept : goal.returns-in_ok-contents-in-Ok-clause-kept
 returns-in_ok-contents-in-Ok-clause-kept g c = record {

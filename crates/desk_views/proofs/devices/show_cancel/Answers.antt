@@ -1,19 +1,18 @@
-use Rattle.desk_views.proofs.Answering.{true, both_found, finds_as, ledger_found, not_offered, offered, turned_away}
+use Rattle.desk_views.proofs.Answering.{arith, true, both_found, finds_as, ledger_found}
 use Rattle.desk_views.proofs.KeptViews.{kept_offer}
 use Rattle.desk_views.proofs.devices.show_cancel.Goals as goal
 
 pub returns-then-not-branch-clause-reads : goal.returns-then-not-branch-clause-reads
-returns-then-not-branch-clause-reads g c = finds_as (rw c.if-not-branch.true at c.in_ok-knows_device.ensures.reads)
-    (λ r is. turned_away c.args.device.now r is _)
+returns-then-not-branch-clause-reads g c = finds_as (rw c.if-not-branch.true at c.in_ok-knows_device.ensures.reads) (λ r is. grind arith)
 
 pub returns-then-not-is_offer_of-clause-reads : goal.returns-then-not-is_offer_of-clause-reads
 returns-then-not-is_offer_of-clause-reads g c =
     finds_as (both_found (rw c.if-not-branch.false at c.in_ok-knows_device.ensures.reads) (ledger_found _ c.in_ok-offer.ensures.reads))
-    (λ r is. not_offered c.args.device.now r is.0 c.args.number true _ _ c.is_offer_of.ensures is.1 _ c.if-not-is_offer_of.true)
+    (λ r is. grind (arith, c.is_offer_of.ensures, c.if-not-is_offer_of.true))
 
 pub returns-clause-reads : goal.returns-clause-reads
 returns-clause-reads g c = finds_as (both_found (rw c.if-not-branch.false at c.in_ok-knows_device.ensures.reads) (ledger_found _ c.in_ok-offer.ensures.reads))
-    (λ r is. offered c.args.device.now r is.0 c.args.number true _ _ c.is_offer_of.ensures is.1 _ c.if-not-is_offer_of.false)
+    (λ r is. grind (arith, c.is_offer_of.ensures, c.if-not-is_offer_of.false))
 
 pub returns-clause-kept : goal.returns-clause-kept
 returns-clause-kept g c = record {

@@ -1,13 +1,12 @@
-use Rattle.desk_views.proofs.Answering.{ap, ◌∙◌, both_found, finds_as, ledger_found, PollShown, answered, turned_away}
+use Rattle.desk_views.proofs.Answering.{arith, both_found, finds_as, ledger_found}
 use Rattle.desk_views.proofs.devices.show_poll.Goals as goal
 
 pub returns-then-not-branch-clause-reads : goal.returns-then-not-branch-clause-reads
-returns-then-not-branch-clause-reads g c = finds_as (rw c.if-not-branch.true at c.in_ok-knows_device.ensures.reads)
-    (λ r is. turned_away c.args.device.now r is _)
+returns-then-not-branch-clause-reads g c = finds_as (rw c.if-not-branch.true at c.in_ok-knows_device.ensures.reads) (λ r is. grind arith)
 
 pub returns-clause-reads : goal.returns-clause-reads
 returns-clause-reads g c = finds_as (both_found (rw c.if-not-branch.false at c.in_ok-knows_device.ensures.reads) (ledger_found _ c.in_ok-offer.ensures.reads))
-    (λ r is. ap (PollShown c.args.device.now.id) is.1 ∙ answered c.args.device.now r is.0 _)
+    (λ r is. grind arith)
 
 pub returns-clause-kept : goal.returns-clause-kept
 returns-clause-kept g c = record { agrees = λ t was clean. (c.in_ok-offer.ensures.tells.finds t (c.in_ok-knows_device.ensures.keeps.to t was)).1 clean }

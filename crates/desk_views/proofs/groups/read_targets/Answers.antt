@@ -1,4 +1,5 @@
-use Rattle.desk_views.proofs.Answering.{ap, ◌∙◌, rules, both_found, finds_as, targets_of, targets_shown, all_given, targets_grow}
+use Rattle.desk_views.proofs.MemberViews.{one_more}
+use Rattle.desk_views.proofs.Answering.{arith, ap, ◌∙◌, rules, both_found, finds_as, targets_of, targets_shown, all_given}
 use Rattle.desk_views.proofs.groups.read_targets.Goals as goal
 
 pub loop-id-preserved : goal.loop-id-preserved
@@ -6,7 +7,7 @@ loop-id-preserved g c = record {
   stays = search rules;
   fails = search rules;
   reads = finds_as (both_found c.loop-id.invariant.reads c.in_ok-add_target.ensures.reads)
-      (λ r is. targets_grow r c.loop-id.yielded c.in-Some.id _ _ is.0 is.1);
+      (λ r is. grind (arith, one_more));
 }
 
 pub returns-clause-reads : goal.returns-clause-reads

@@ -1,11 +1,9 @@
-use Rattle.desk_views.proofs.Answering.{Err, ap, ◌∙◌, err_from_is_err_and, both_found, finds_as, item_numbered, groups_shown, page_of, GroupsShown}
-use Rattle.desk_views.proofs.Answering.{ledger_found, rules_there, page_showable, never_fails, groups_paged, none_replied, one_replied}
+use Rattle.desk_views.proofs.Answering.{arith, ap, ◌∙◌, both_found, finds_as, item_numbered, groups_shown, page_of, GroupsShown}
+use Rattle.desk_views.proofs.Answering.{ledger_found, rules_there, page_showable, never_fails, groups_paged, one_replied}
 use Rattle.desk_views.proofs.groups.show_groups.Goals as goal
 
 pub returns-in-None-clause-shows : goal.returns-in-None-clause-shows
-returns-in-None-clause-shows g c =
-    finds_as (rw c.in-None.is at c.in_ok-seen.ensures.reads)
-    (λ r is of. none_replied (λ x. GroupsShown (page_of c.args.page (groups_shown x x.groups))) (item_numbered r.rollouts c.args.number) (is of))
+returns-in-None-clause-shows g c = finds_as (rw c.in-None.is at c.in_ok-seen.ensures.reads) (λ r is of. grind arith)
 
 pub returns-clause-shows : goal.returns-clause-shows
 returns-clause-shows g c =
@@ -17,9 +15,7 @@ returns-clause-shows g c =
 
 pub returns-in_err-shown-clause-fails : goal.returns-in_err-shown-clause-fails
 returns-in_err-shown-clause-fails g c =
-    let out = err_from_is_err_and c.from_residual-in_err-shown.result c.from_residual-in_err-shown.ensures.1 in
-    never_fails (both_found (rw c.in-Some.is at c.in_ok-seen.ensures.reads) (ledger_found _ c.in_ok-rules.ensures.reads)) c.in_err-shown.field-0.0
+    never_fails (λ l it. it) (both_found (rw c.in-Some.is at c.in_ok-seen.ensures.reads) (ledger_found _ c.in_ok-rules.ensures.reads)) _
     c.in_err-shown.ensures.err
-    (λ r is of readable bad. page_showable r of c.args.number c.in-Some.seen c.deref.result.now (c.deref.ensures.value ∙ is.1) (is.0 of) c.args.page.limit
-    c.args.page.offset bad)
-    c.from_residual-in_err-shown.result (out.1 ∙ ap Err out.2)
+    (λ r is of _ readable bad. page_showable r of c.args.number c.in-Some.seen c.deref.result.now (c.deref.ensures.value ∙ is.1) (is.0 of) c.args.page.limit
+    c.args.page.offset bad) _ c.from_residual-in_err-shown.ensures.1

@@ -1,5 +1,4 @@
-use Rattle.desk_views.proofs.Answering.{sym, ◌∙◌, arith, rules, both_found, finds_as, numbered, numbered_length, page_ends, page_grows, passed, fails_when}
-use Rattle.desk_views.proofs.FailingViews.{listed}
+use Rattle.desk_views.proofs.Answering.{sym, ◌∙◌, arith, rules, both_found, finds_as, numbered, numbered_length, page_ends, page_grows, fails_when}
 use Rattle.desk_views.proofs.pages.read_page.Goals as goal
 
 pub loop-place-preserved : goal.loop-place-preserved
@@ -19,9 +18,9 @@ returns-clause-reads g c =
 
 pub returns-in_err-entry-clause-fails : goal.returns-in_err-entry-clause-fails
 returns-in_err-entry-clause-fails g c =
-    fails_when (both_found c.in_ok-total.ensures.reads c.loop-place.invariant.reads) c.in_err-entry.ensures.reads.wears _ c.in_err-entry.ensures.fails
-    (λ r is of. record { of_list = listed of; wanted = (omega arith, omega (arith, is.0, c.count_on-place-end.ensures, c.loop-place-test.true)) }) _
-    (passed _ _ c.from_residual-in_err-entry.ensures.1)
+    fails_when (λ l it. it) (both_found c.in_ok-total.ensures.reads c.loop-place.invariant.reads) c.in_err-entry.ensures.reads.wears _
+    c.in_err-entry.ensures.fails (λ r is of _. (omega arith, omega (arith, is.0, c.count_on-place-end.ensures, c.loop-place-test.true))) _
+    c.from_residual-in_err-entry.ensures.1
 
 pub returns-in_err-entry-clause-stays : goal.returns-in_err-entry-clause-stays
 returns-in_err-entry-clause-stays g c = search (c.loop-place.invariant.stays, c.in_err-entry.ensures.stays, rules)

@@ -1,10 +1,10 @@
-use Rattle.desk_views.proofs.Answering.{◌++◌, ◌∷◌, [], false, true, ap, ◌∙◌, refl, rules, sym, finds_as, known, worded, page_with}
+use Rattle.desk_views.proofs.TargetPages.{next_on}
+use Rattle.desk_views.proofs.Common.{arith, length-append}
+use Rattle.desk_views.proofs.Answering.{◌++◌, ◌∷◌, [], true, ap, ◌∙◌, rules, sym, finds_as, known, worded, page_with}
 use Rattle.desk_views.proofs.target_pages.add.Goals as goal
 
 pub returns-then-not-is_on-clause-reads : goal.returns-then-not-is_on-clause-reads
-returns-then-not-is_on-clause-reads g c =
-    known (λ r all was. page_with c.args.page c.args.shown.now c.args.shown.now.content all (worded r c.args.target) was false
-    (sym c.if-not-is_on.true ∙ c.is_on.ensures) c.in-Some.total (search rules) refl)
+returns-then-not-is_on-clause-reads g c = known (λ r all was. grind (arith, next_on, length-append, worded, c.if-not-is_on.true, c.is_on.ensures))
 
 pub returns-clause-reads : goal.returns-clause-reads
 returns-clause-reads g c =

@@ -1,5 +1,6 @@
-use Rattle.desk_views.proofs.Answering.{ap, ◌∙◌, arith, both_found, finds_as, found_held, page_of, chunk_matched, chunk_few, passed, with_when}
-use Rattle.desk_views.proofs.FailingViews.{listed}
+use Rattle.desk_views.proofs.TargetPages.{chunk_matched}
+use Rattle.desk_views.proofs.FailingViews.{fails_when}
+use Rattle.desk_views.proofs.Answering.{ap, ◌∙◌, arith, both_found, finds_as, found_held, page_of, chunk_few}
 use Rattle.desk_views.proofs.target_pages.add_chunk.Goals as goal
 
 pub returns-clause-reads : goal.returns-clause-reads
@@ -9,7 +10,5 @@ returns-clause-reads g c =
 
 pub returns-in_err-add_matching-clause-fails : goal.returns-in_err-add_matching-clause-fails
 returns-in_err-add_matching-clause-fails g c =
-    with_when c.in_ok-entries.ensures.reads c.in_err-add_matching.ensures.reads.wears _
-    c.in_err-add_matching.ensures.fails
-    (λ r is of room. record { of_list = listed of; wanted = (let few = chunk_few c.args.offset r.targets _ is in omega (arith, few, room)) }) _
-    (passed _ _ c.from_residual-in_err-add_matching.ensures.1)
+    fails_when (λ l it. it.of_list) c.in_ok-entries.ensures.reads c.in_err-add_matching.ensures.reads.wears _ c.in_err-add_matching.ensures.fails
+    (λ r is of room. omega (arith, chunk_few c.args.offset r.targets _ is, room.wanted)) _ c.from_residual-in_err-add_matching.ensures.1

@@ -1,6 +1,6 @@
+use Rattle.desk_views.proofs.FailingViews.{fails_when}
 use Rattle.desk_views.proofs.Answering.{◌++◌, [], ◌∷◌, map, ap, ◌∙◌, arith, rules, length-append, both_found, finds_as, page_of, matching_shown, target_listed}
-use Rattle.desk_views.proofs.Answering.{all_given, matching_grow, passed, some_left, with_when}
-use Rattle.desk_views.proofs.FailingViews.{listed}
+use Rattle.desk_views.proofs.Answering.{all_given, matching_grow, some_left}
 use Rattle.desk_views.proofs.target_pages.add_matching.Goals as goal
 
 pub loop-entry-preserved : goal.loop-entry-preserved
@@ -23,6 +23,5 @@ pub returns-in_err-add_if_match-clause-fails : goal.returns-in_err-add_if_match-
 returns-in_err-add_if_match-clause-fails g c =
     let more = some_left c.into_iter-entry-iterator.result _ c.next.new.self _ _ c.in-Some.entry c.into_iter-entry-iterator.ensures.into_iter_gives.0
     c.loop-entry.yielded_by c.in-Some.ensures.steps in
-    with_when c.loop-entry.invariant.reads c.in_err-add_if_match.ensures.reads.wears _
-    c.in_err-add_if_match.ensures.fails
-    (λ r is of room. record { of_list = listed of; wanted = omega (arith, more, room, c.loop-entry.invariant.counts) }) _ (passed _ _ c.from_residual.ensures.1)
+    fails_when (λ l it. it.of_list) c.loop-entry.invariant.reads c.in_err-add_if_match.ensures.reads.wears _ c.in_err-add_if_match.ensures.fails
+    (λ r is of room. omega (arith, more, room.wanted, c.loop-entry.invariant.counts)) _ c.from_residual.ensures.1

@@ -1,4 +1,5 @@
-use Rattle.desk_views.proofs.Answering.{map, ap, ◌∙◌, rules, both_found, finds_as, target_listed, worded, all_given, entries_grow}
+use Rattle.desk_views.proofs.Common.{arith, map-append}
+use Rattle.desk_views.proofs.Answering.{map, ap, ◌∙◌, rules, both_found, finds_as, target_listed, worded, all_given}
 use Rattle.std.specs.Result.{is_ok}
 use Rattle.desk_views.proofs.target_pages.read_entries.Goals as goal
 
@@ -8,8 +9,7 @@ loop-entry-preserved g c = record {
   fails = search rules;
   reads = finds_as
       (both_found (both_found c.loop-entry.invariant.reads c.in_ok-target.ensures.reads) c.in_ok-shown.ensures.reads)
-      (λ r is. entries_grow r _ _ c.loop-entry.yielded c.in-Some.entry c.in_ok-target.target c.in_ok-shown.shown is.0.0 is.0.1 is.1
-      (rw (ap is_ok c.in-Ok.is) at c.push.ensures.items));
+      (λ r is. grind (arith, map-append, rw (ap is_ok c.in-Ok.is) at c.push.ensures.items));
 }
 
 pub returns-clause-reads : goal.returns-clause-reads

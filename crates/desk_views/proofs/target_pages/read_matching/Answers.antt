@@ -1,6 +1,5 @@
-use Rattle.desk_views.proofs.Answering.{refl, arith, rules, both_found, finds_as, last_chunk, next_chunk, nothing_yet, passed, fails_when}
+use Rattle.desk_views.proofs.Answering.{refl, arith, rules, both_found, finds_as, last_chunk, next_chunk, nothing_yet, fails_when}
 use Rattle.desk_views.proofs.FailingReads.{one_chunk}
-use Rattle.desk_views.proofs.FailingViews.{listed}
 use Rattle.desk_views.proofs.target_pages.read_matching.Goals as goal
 
 pub loop-chunk-init : goal.loop-chunk-init
@@ -32,8 +31,7 @@ returns-clause-reads g c =
 
 pub returns-in_err-add_chunk-clause-fails : goal.returns-in_err-add_chunk-clause-fails
 returns-in_err-add_chunk-clause-fails g c =
-    fails_when c.loop-chunk.invariant.reads c.in_err-add_chunk.ensures.reads.wears _
-    c.in_err-add_chunk.ensures.fails
-    (λ r is of.
+    fails_when (λ l it. it) c.loop-chunk.invariant.reads c.in_err-add_chunk.ensures.reads.wears _ c.in_err-add_chunk.ensures.fails
+    (λ r is of _.
     let first = one_chunk r of c.in_ok-count.count c.loop-chunk.chunk _ is.0 c.div_ceil-chunk-end.ensures c.loop-chunk-test.true in
-    record { of_list = listed of; wanted = omega (arith, c.loop-chunk.invariant.begins first) }) _ (passed _ _ c.from_residual-in_err-add_chunk.ensures.1)
+    omega (arith, c.loop-chunk.invariant.begins first)) _ c.from_residual-in_err-add_chunk.ensures.1

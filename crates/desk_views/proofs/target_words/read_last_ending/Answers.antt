@@ -14,6 +14,6 @@ returns-clause-reads g c =
 
 pub returns-then-not-branch-clause-fails : goal.returns-then-not-branch-clause-fails
 returns-then-not-branch-clause-fails g c =
-    never_fails (both_found (ledger_found _ (rw c.in-Some.is at c.in_ok-listed.ensures.reads)) (rw c.if-not-branch.true at c.in_ok-read_is_begun.ensures.reads))
-    Broken (tt {0})
-    (λ r is of readable _. not_waiting r c.args.id.now of c.in-Some.listed is.0 is.1) (Err Broken) refl
+    never_fails (λ l it. it)
+    (both_found (ledger_found _ (rw c.in-Some.is at c.in_ok-listed.ensures.reads)) (rw c.if-not-branch.true at c.in_ok-read_is_begun.ensures.reads)) Broken
+    (tt {0}) (λ r is of _ readable _. not_waiting r c.args.id.now of c.in-Some.listed is.0 is.1) (Err Broken) refl

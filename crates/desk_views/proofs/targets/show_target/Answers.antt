@@ -1,9 +1,9 @@
-use Rattle.desk_views.proofs.Answering.{Some, None, finds_as}
-use Rattle.desk_views.proofs.TargetViews.{replied}
+use Rattle.desk_views.proofs.Common.{arith, option_map}
+use Rattle.desk_views.proofs.Answering.{finds_as}
 use Rattle.desk_views.proofs.targets.show_target.Goals as goal
 
 pub returns-in-Some-clause-reads : goal.returns-in-Some-clause-reads
-returns-in-Some-clause-reads g c = finds_as (rw c.in-Some.is at c.in_ok-shown.ensures.reads) (λ r is. replied r c.args.id (Some c.in-Some.shown) is)
+returns-in-Some-clause-reads g c = finds_as (rw c.in-Some.is at c.in_ok-shown.ensures.reads) (λ r is. grind (arith, option_map))
 
 pub returns-in-None-clause-reads : goal.returns-in-None-clause-reads
-returns-in-None-clause-reads g c = finds_as (rw c.in-None.is at c.in_ok-shown.ensures.reads) (λ r is. replied r c.args.id None is)
+returns-in-None-clause-reads g c = finds_as (rw c.in-None.is at c.in_ok-shown.ensures.reads) (λ r is. grind (arith, option_map))
