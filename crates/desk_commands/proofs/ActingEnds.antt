@@ -1,10 +1,10 @@
 -- A command on an action, to its end: what is written makes the ledger of the records after it.
-use Rattle.desk_commands.proofs.Common.{◌≡◌, ℕ, ◌+◌, Bool, true, false, cond, not, List, [], ◌∷◌, ◌++◌, map, filter, length, Option, Some, None}
+use Rattle.desk_commands.proofs.Common.{◌≡◌, ℕ, ◌+◌, Bool, true, cond, List, [], ◌∷◌, ◌++◌, map, filter, length, Option, Some, None}
 use Rattle.desk_commands.proofs.Common.{option_map, refl, sym, ap, ◌∙◌, arith, inl, inr, and_parts, cases_Bool, eq-eqb, append-nil, not-true, length-append}
 use Rattle.desk_commands.proofs.Common.{length-map, map-append, HistoryEntry, Reported, entries_in, item_numbered, same_bytes, CommandList, IsWellFormed, Bytes}
 use Rattle.desk_commands.proofs.Common.{Command, Offer, offer, is_none, counted, start_group, step_records, Records, records, IsValid, check, is_note, Outcome}
 use Rattle.desk_commands.proofs.Common.{ActionRecord, GroupRecord, RolloutRecord, numbered_map, records_step, same_refl, same_true, effects_by}
-use Rattle.desk_commands.proofs.Common.{following, waits, ChangesAction, action_with, change_by, ended_by, moved_by, rollout_with, OwnView, ActionChange}
+use Rattle.desk_commands.proofs.Common.{following, waits, ChangesAction, action_with, change_by, ended_by, moved_by, rollout_with, ActionChange}
 use Rattle.desk_commands.proofs.Common.{StaysOpen, Ends, Tally, tally_of, numbers_from, numbers_of, Ledger, ledger_of, set_numbered, with_groups}
 use Rattle.desk_commands.proofs.Common.{with_offer, with_rollouts, next_offer, actor, offers_before_start, with_actor, Acts, FollowsChange, stays_offered}
 use Rattle.desk_commands.proofs.Common.{FollowsSo, StartsGroupOf, change_numbered, with_outcome, Reoffers, with_rollout, started, MayReoffer, action_view_seen}
@@ -40,12 +40,6 @@ numbers_grow : (reports : List Reported) (told : Option Told) (hs : List Reporte
     ≡ numbers_by (entries_by told (length hs)) told (numbers_from 1 hs)
 numbers_grow reports told hs tells = grind (arith, append-nil, numbers_more)
 
--- ---- the next group
-
--- where the next group starts it waits
-starts_waiting : (v : OwnView) (o : Outcome) → following v o ≡ so.StartsNext → v.next_waits ≡ true
-starts_waiting v o is = grind arith
-
 -- ---- of a list of accepted commands
 
 module _ (h : CommandList) (c : Command) (valid : IsValid h) (formed : IsWellFormed c) (accepted : check (records h) c ≡ None) (k : ℕ)
@@ -73,9 +67,6 @@ module _ (h : CommandList) (c : Command) (valid : IsValid h) (formed : IsWellFor
   before_start o is t = ap (λ p. cond (same_bytes id t) p (offer rs t)) is ∙ sym (ap (λ a. with_actor a (offer rs) (offer (acted_records h c)) t) by)
 
   module _ (after : ActionChange) (leads : ChangesAction after reports k rs (step_records rs c)) where
-    abbrev one : ActionRecord
-    one = with_reports reports (action_with after w.action)
-
     abbrev acted : Ledger
     acted = with_changed_action s after told reports (w.action, tally_of w.action) (numbers_of w.action) (ledger_of rs)
 
@@ -83,7 +74,7 @@ module _ (h : CommandList) (c : Command) (valid : IsValid h) (formed : IsWellFor
     mid = with_offer acted id (next_offer acted.records id)
 
     actions_are : change_numbered k (λ (a : ActionRecord). record (action_with after a) { history = a.history ++ reports }) rs.actions
-        ≡ set_numbered rs.actions k one
+        ≡ set_numbered rs.actions k (with_reports reports (action_with after w.action))
     actions_are =
         set_is_change (λ (a : ActionRecord). record (action_with after a) { history = a.history ++ reports }) k rs.actions w.action w.at
         ∙ ap (λ (hs : List Reported). set_numbered rs.actions k (record (action_with after w.action) { history = hs ++ reports }))
@@ -130,37 +121,25 @@ module _ (h : CommandList) (c : Command) (valid : IsValid h) (formed : IsWellFor
 
   -- it stays open
   module _ (canceling : Bool) (leads : ChangesAction (StaysOpen canceling) reports k rs (step_records rs c)) where
-    abbrev then : Ledger
-    then = acted (StaysOpen canceling) leads
-
     still : (offers : Bytes → Option Offer) → ((t : Bytes) → offers t ≡ offers_before_start h c t)
-        → ledger_of (step_records rs c) ≡ record then { offers = offers }
-    still offers are = ends_with_none h c valid formed accepted (record then { offers = offers })
+        → ledger_of (step_records rs c) ≡ record (acted (StaysOpen canceling) leads) { offers = offers }
+    still offers are = ends_with_none h c valid formed accepted (record (acted (StaysOpen canceling) leads) { offers = offers })
         (leads ∙ ap (λ (as' : List ActionRecord). record rs { actions = as' }) (actions_are (StaysOpen canceling) leads))
         (follows_with (StaysOpen canceling) leads offers) are (ap (λ (q : Records). map starts_of q.rollouts) leads)
 
     -- canceling or not as it was
     offers_stay : stays_offered w.action.canceling (StaysOpen canceling) ≡ true → (t : Bytes) → offer rs t ≡ offers_before_start h c t
-    offers_stay same t = go (same_bytes id t) refl ∙ before_start (offer rs id) its t
-      where
-        as_it_was : (b had : Bool) → cond b had (not had) ≡ true → b ≡ had
-        as_it_was true had is = sym is
-        as_it_was false had is = sym (not-true had is)
-
-        its : offer rs id ≡ offer (acted_records h c) id
-        its =
-            sym (offer_stays rs k w.action (w.action.history ++ reports) id w.at)
-            ∙ ap (λ b. offer (record rs { actions = set_numbered rs.actions k (record w.action { canceling = b; history = w.action.history ++ reports }) }) id)
-            (sym (as_it_was canceling w.action.canceling same))
-            ∙ ap (λ q. offer q id) (acted_are (StaysOpen canceling) leads)
-
-        go : (b : Bool) → same_bytes id t ≡ b → offer rs t ≡ cond b (offer rs id) (offer rs t)
-        go true is = ap (offer rs) (sym (same_true id t is))
-        go false is = refl
+    offers_stay same t =
+        let as_it_was : w.action.canceling ≡ canceling = grind (arith, not-true, same) in
+        let its = sym (offer_stays rs k w.action (w.action.history ++ reports) id w.at)
+        ∙ ap (λ b. offer (record rs { actions = set_numbered rs.actions k (record w.action { canceling = b; history = w.action.history ++ reports }) }) id)
+        as_it_was
+        ∙ ap (λ q. offer q id) (acted_are (StaysOpen canceling) leads) in
+        grind (arith, same_true id t, before_start (offer rs id) its t)
 
     stays_open : Acts s (StaysOpen canceling) told (ledger_of rs) (ledger_of (step_records rs c))
     stays_open = elim (cases_Bool (stays_offered w.action.canceling (StaysOpen canceling))) [
-      | inl same ↦ acts_so (StaysOpen canceling) leads then (rw same refl) (still (offer rs) (offers_stay same))
+      | inl same ↦ acts_so (StaysOpen canceling) leads (acted (StaysOpen canceling) leads) (rw same refl) (still (offer rs) (offers_stay same))
       | inr changes ↦ acts_so (StaysOpen canceling) leads (mid (StaysOpen canceling) leads) (rw changes (reoffers (StaysOpen canceling) leads))
           (still (mid (StaysOpen canceling) leads).offers (offers_are (StaysOpen canceling) leads))
     ]
@@ -187,26 +166,22 @@ module _ (h : CommandList) (c : Command) (valid : IsValid h) (formed : IsWellFor
     numbered : Numbered w.rollout.groups
     numbered = numbered_groups h r w.rollout w.its
 
-    flags_stay : starts_of x2 ≡ starts_of w.rollout
-    flags_stay = same_but_for (λ (g : GroupRecord). g.started) w.rollout.groups w.own.number w.own own w.own_at own_stays.1
-
     -- with what follows
     steps : (f : Following) → following s.rollout o ≡ f → (y : RolloutRecord) → moved_by (effects_by w.own.number f) x2 ≡ y → step_records rs c
-        ≡ record rs { rollouts = set_numbered rs.rollouts r y; actions = set_numbered rs.actions k (one e leads) }
-    steps f is y moved = leads ∙ (λ i. record rs { rollouts = rollouts_are i; actions = actions_are e leads i })
-      where
-        rollouts_are : change_numbered r (rollout_with (ended_by (action_view_seen s) o)) rs.rollouts ≡ set_numbered rs.rollouts r y
-        rollouts_are =
-            set_is_change (rollout_with (ended_by (action_view_seen s) o)) r rs.rollouts w.rollout w.its
-            ∙ ap (λ (gs : List GroupRecord). set_numbered rs.rollouts r (moved_by (effects_by w.own.number (following s.rollout o)) (with_groups w.rollout gs)))
-            (only_at (counted o w.own.number) w.own.number w.rollout.groups w.own numbered w.own_at (λ g other. rw other refl))
-            ∙ ap (λ f. set_numbered rs.rollouts r (moved_by (effects_by w.own.number f) x2)) is ∙ ap (set_numbered rs.rollouts r) moved
+        ≡ record rs { rollouts = set_numbered rs.rollouts r y; actions = set_numbered rs.actions k (with_reports reports (action_with e w.action)) }
+    steps f is y moved =
+        let rollouts_are = set_is_change (rollout_with (ended_by (action_view_seen s) o)) r rs.rollouts w.rollout w.its
+        ∙ ap (λ (gs : List GroupRecord). set_numbered rs.rollouts r (moved_by (effects_by w.own.number (following s.rollout o)) (with_groups w.rollout gs)))
+        (only_at (counted o w.own.number) w.own.number w.rollout.groups w.own numbered w.own_at (λ g other. rw other refl))
+        ∙ ap (λ f. set_numbered rs.rollouts r (moved_by (effects_by w.own.number f) x2)) is ∙ ap (set_numbered rs.rollouts r) moved in
+        leads ∙ (λ i. record rs { rollouts = rollouts_are i; actions = actions_are e leads i })
 
     -- no group starts
     alone : (f : Following) → following s.rollout o ≡ f → (y : RolloutRecord) → moved_by (effects_by w.own.number f) x2 ≡ y → y.plan ≡ w.rollout.plan
         → starts_of y ≡ starts_of x2 → ledger_of (step_records rs c) ≡ with_rollout then_offered r y
     alone f is y moved planned same = sets_alone h c valid formed accepted then_offered (follows_with e leads then_offered.offers) (offers_are e leads) refl r
-        w.rollout y w.its (steps f is y moved) planned (same ∙ flags_stay)
+        w.rollout y w.its (steps f is y moved) planned
+        (same ∙ same_but_for (λ (g : GroupRecord). g.started) w.rollout.groups w.own.number w.own own w.own_at own_stays.1)
 
     pausing : (b : Bool) → record x2 { paused = b; groups = map (start_group None) x2.groups } ≡ record x2 { paused = b }
     pausing b = ap (λ gs. record x2 { paused = b; groups = gs }) (starts_none x2.groups)
@@ -221,30 +196,22 @@ module _ (h : CommandList) (c : Command) (valid : IsValid h) (formed : IsWellFor
       next_is = alone so.Pauses is (record x2 { paused = true }) (pausing true) refl refl
           ∙ ap (with_rollouts then_offered) (sym (set_twice r rs.rollouts x2 (record x2 { paused = true })));
     }
-    ends_by so.StartsNext is = starts (item_numbered w.rollout.groups n) refl (and_parts _ _ (starts_waiting s.rollout o is)).1
+    ends_by so.StartsNext is = starts (item_numbered w.rollout.groups (w.own.number + 1)) refl (grind (arith, is, and_parts))
       where
-        n : ℕ
-        n = w.own.number + 1
-
         -- the group behind it
-        starts : (next : Option GroupRecord) → item_numbered w.rollout.groups n ≡ next → waits next ≡ true
+        starts : (next : Option GroupRecord) → item_numbered w.rollout.groups (w.own.number + 1) ≡ next → waits next ≡ true
             → StartsGroupOf r next (with_rollout then_offered r x2) (ledger_of (step_records rs c))
         starts None its waiting = cc
         starts (Some g) its waiting =
+            let number = numbered (w.own.number + 1) g its in
+            let still = set_numbered_still w.rollout.groups w.own.number w.own own numbered w.own_at own_stays.0 in
+            let its2 = set_elsewhere w.own.number (w.own.number + 1) w.rollout.groups own (λ same. absurd (omega (arith, same))) ∙ its in
             starts_last h c valid formed accepted then_offered (follows_with e leads then_offered.offers) (offers_are e leads) refl r w.rollout
             (then_started x2 g) w.its
             (steps so.StartsNext is (then_started x2 g)
-            (ap (with_groups x2) (started_one n x2.groups g still its2 ∙ ap (λ m. set_numbered x2.groups m (started g)) (sym number)))) refl x2 g
+            (ap (with_groups x2) (started_one (w.own.number + 1) x2.groups g still its2 ∙ ap (λ m. set_numbered x2.groups m (started g)) (sym number)))) refl x2
+            g
             (ap (item_numbered w.rollout.groups) number ∙ its) (not-true _ waiting) (ap (item_numbered x2.groups) number ∙ its2) refl
-          where
-            number : g.number ≡ n
-            number = numbered n g its
-
-            still : Numbered x2.groups
-            still = set_numbered_still w.rollout.groups w.own.number w.own own numbered w.own_at own_stays.0
-
-            its2 : item_numbered x2.groups n ≡ Some g
-            its2 = set_elsewhere w.own.number n w.rollout.groups own (λ same. absurd (omega (arith, same))) ∙ its
 
     ends : Acts s e told (ledger_of rs) (ledger_of (step_records rs c))
     ends = acts_so e leads then_offered (reoffers e leads)

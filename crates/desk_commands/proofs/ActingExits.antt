@@ -1,11 +1,10 @@
 -- What a command on an action counts has room, and what it rests on is there.
-use Rattle.desk_commands.proofs.Common.{◌≡◌, ◌≤◌, ◌<◌, ◌^◌, ℕ, ◌+◌, List, [], ◌∷◌, length, Option, Some}
-use Rattle.desk_commands.proofs.Common.{option_map, sym, ap, ◌∙◌, subst, arith, is_some, length-map, length-set, zip, item_numbered}
-use Rattle.desk_commands.proofs.Common.{CommandList, Reported, entries_in, is_note, notes_of, IsValid, Records, records, Outcome, Good, Bad, Gone}
-use Rattle.desk_commands.proofs.Common.{ActionRecord, GroupRecord, RolloutRecord, numbered_map, ActionChange, Tally, tally_of, numbers_from}
-use Rattle.desk_commands.proofs.Common.{numbers_of, Ledger, ledger_of, set_numbered, PlacedNumber, Acts, TellsAction, FollowsSo}
-use Rattle.desk_commands.proofs.Common.{outcomes_in, SeenAction, Told, Has, limits_hold}
-use Rattle.desk_commands.proofs.Common.{Following, CanEndBy, CanFollow, CanTell, Leads, TakesSteps, AreActionsNumbered}
+use Rattle.desk_commands.proofs.Common.{◌≡◌, ◌≤◌, ◌<◌, ◌^◌, ℕ, ◌+◌, List, [], ◌∷◌, length, Option, Some, option_map, sym, ap, ◌∙◌, subst, arith, is_some}
+use Rattle.desk_commands.proofs.Common.{length-map, length-set, zip, item_numbered, CommandList, Reported, entries_in, is_note, notes_of, IsValid, Records}
+use Rattle.desk_commands.proofs.Common.{records, Outcome, Good, Bad, Gone, ActionRecord, GroupRecord, RolloutRecord, numbered_map, ActionChange, Tally}
+use Rattle.desk_commands.proofs.Common.{tally_of, numbers_from, numbers_of, Ledger, ledger_of, set_numbered, PlacedNumber, Acts, TellsAction, FollowsSo}
+use Rattle.desk_commands.proofs.Common.{outcomes_in, SeenAction, Told, Has, limits_hold, Following, CanEndBy, CanFollow, CanTell, Leads, TakesSteps}
+use Rattle.desk_commands.proofs.Common.{AreActionsNumbered}
 use Rattle.std.proofs.lemmas.List.Sums.{count_by-le-length, length-filter}
 use Rattle.std.proofs.lemmas.Option.{same_Some}
 use Rattle.sqlite_rules.proofs.ListLemmas.{has_got}
@@ -68,18 +67,15 @@ module _ (seen : SeenAction) (after : ActionChange) (told : Option Told) (l : Le
 
   -- the actions keep their numbers
   pub numbers_stay : AreActionsNumbered w.changes.acted
-  numbers_stay = subst AreActionsNumbered (sym t.next_is) (record {
-    tallied = same_length l.tallies seen.number _ ∙ of ∙ sym (same_length l.records.actions seen.number _);
-    few = subst (λ n. n ≤ 2147483647) (sym (same_length l.records.actions seen.number _)) (omega (arith, limit));
-  })
-    where
-      of : length l.tallies ≡ length l.records.actions
-      of = subst (λ (m : Ledger). length m.tallies ≡ length m.records.actions) (sym w.takes.of_list.is)
-          (length-map (records w.takes.of_list.list).actions tally_of)
-
-      limit : length l.records.actions ≤ 10000000
-      limit = subst (λ (m : Ledger). length m.records.actions ≤ 10000000) (sym w.takes.of_list.is)
-          (limits_hold w.takes.of_list.list w.takes.of_list.valid).actions
+  numbers_stay =
+      let of = subst (λ (m : Ledger). length m.tallies ≡ length m.records.actions) (sym w.takes.of_list.is)
+      (length-map (records w.takes.of_list.list).actions tally_of) in
+      let limit = subst (λ (m : Ledger). length m.records.actions ≤ 10000000) (sym w.takes.of_list.is)
+      (limits_hold w.takes.of_list.list w.takes.of_list.valid).actions in
+      subst AreActionsNumbered (sym t.next_is) (record {
+        tallied = same_length l.tallies seen.number _ ∙ of ∙ sym (same_length l.records.actions seen.number _);
+        few = subst (λ n. n ≤ 2147483647) (sym (same_length l.records.actions seen.number _)) (omega (arith, limit));
+      })
 
 -- ---- what follows
 
@@ -91,12 +87,11 @@ few_outcomes : (h : CommandList) → IsValid h → (r : ℕ) (x : RolloutRecord)
 few_outcomes h valid r x i g at its o =
     let limits = (limits_hold h valid).each r x at in
     let counts = limits.counts i g its in
-    go counts.ok counts.bad counts.gone limits.members o
-  where
-    go : g.ok ≤ length x.members → g.bad ≤ length x.members → g.gone ≤ length x.members → length x.members ≤ 10000 → (o : Outcome) → outcomes_in o g ≤ 10000
-    go ok bad gone few Good = omega (arith, ok, few)
-    go ok bad gone few Bad = omega (arith, bad, few)
-    go ok bad gone few Gone = omega (arith, gone, few)
+    elim o as (λ o. outcomes_in o g ≤ 10000) [
+      | Good ↦ omega (arith, counts.ok, limits.members)
+      | Bad ↦ omega (arith, counts.bad, limits.members)
+      | Gone ↦ omega (arith, counts.gone, limits.members)
+    ]
 
 pub can_end : (seen : SeenAction) (after : ActionChange) (told : Option Told) (l : Ledger) → Leads (Acts seen after told) l → CanEndBy seen after
 can_end seen after told l w = grind (arith, few, few_outcomes, follows_there)

@@ -1,13 +1,12 @@
 -- Commands on actions, by what was seen of the action and what the rule of the command made of it.
-use native.Mathlib.Omega.{arith}
-use Rattle.desk_commands.proofs.Common.{◌≡◌, ℕ, Bool, true, false, cond, ◌||◌, not, List, [], ◌∷◌, Option, Some, None, option_map, Ok, refl, sym, ap, ◌∙◌}
-use Rattle.desk_commands.proofs.Common.{subst, is_some, is_none, and_parts, item_numbered, same_bytes, CommandList, IsWellFormed, Bytes, Cancel, Command}
-use Rattle.desk_commands.proofs.Common.{Credential, step_records, Records, records, Reported, IsValid, check, first_refusal, target_of, Outcome, AreSound}
-use Rattle.desk_commands.proofs.Common.{DecidesAs, JudgesCancel, of_device, ActionRecord, same_true, Refusal, ClosedAction, WrongState, ChangesAction}
-use Rattle.desk_commands.proofs.Common.{IsFeedbackView, MayChangeAction, cancel_refusal, change_by, change_if_fresh, is_fresh, outcome_forced, says_fresh}
-use Rattle.desk_commands.proofs.Common.{ActionChange, records_are_sound, numbers_of, ledger_of, actor, Acts, WritesFeedback, CountsNumbers, TellsReports}
-use Rattle.desk_commands.proofs.Common.{IsSeen, MaySee, SeesFeedback, SeesTarget, action_view_seen, cancel_view_seen, only_of, only_started, device_action_seen}
-use Rattle.desk_commands.proofs.Common.{seen_if, Told, SeenAction, SeenFeedback}
+use Rattle.desk_commands.proofs.Common.{arith, ◌≡◌, ℕ, Bool, true, false, cond, List, [], ◌∷◌, Option, Some, None, option_map, Ok, refl, sym, ap, ◌∙◌, subst}
+use Rattle.desk_commands.proofs.Common.{is_some}
+use Rattle.desk_commands.proofs.Common.{is_none, and_parts, item_numbered, CommandList, IsWellFormed, Bytes, Cancel, Command, Credential, step_records, Records}
+use Rattle.desk_commands.proofs.Common.{records, Reported, IsValid, check, Outcome, AreSound, DecidesAs, JudgesCancel, of_device, ActionRecord, same_true}
+use Rattle.desk_commands.proofs.Common.{ChangesAction, IsFeedbackView, MayChangeAction, cancel_refusal, change_by, change_if_fresh, is_fresh, outcome_forced}
+use Rattle.desk_commands.proofs.Common.{says_fresh, ActionChange, records_are_sound, numbers_of, ledger_of, actor, Acts, WritesFeedback, CountsNumbers}
+use Rattle.desk_commands.proofs.Common.{TellsReports, IsSeen, MaySee, SeesFeedback, SeesTarget, action_view_seen, cancel_view_seen, only_of, only_started}
+use Rattle.desk_commands.proofs.Common.{device_action_seen, Told, SeenAction, SeenFeedback}
 use Rattle.std.proofs.lemmas.Option.{same_Some}
 use Rattle.campaign_core.specs.declared.rollout_checks.RolloutChange.TheVariants as change
 use Rattle.campaign_core.specs.declared.rollout_checks.RolloutCommandView.TheVariants as view
@@ -18,38 +17,25 @@ use Rattle.desk_commands.proofs.KnownActions.{cancel_viewed, feedback_viewed, he
 
 -- ---- which action was seen
 
-passed : (b : Bool) (t s : SeenAction) → seen_if b t ≡ Some s → (b ≡ true) × (t ≡ s)
-passed b t s is = grind (arith, same_Some)
-
 -- it was found, and is of the target
 of_target : (id : Bytes) (found : Option SeenAction) (s : SeenAction) → only_of id found ≡ Some s → (found ≡ Some s) × (s.action.target ≡ id)
-of_target id None s is = cc
-of_target id (Some t) s is =
-    let it = passed (same_bytes t.action.target id) t s is in
-    (ap (λ u. Some u) it.1, ap (λ (u : SeenAction). u.action.target) (sym it.1) ∙ same_true t.action.target id it.0)
+of_target id found s is = grind (arith, same_Some, same_true)
 
 started_too : (found : Option SeenAction) (s : SeenAction) → only_started found ≡ Some s → (found ≡ Some s) × (s.own.started ≡ true)
-started_too None s is = cc
-started_too (Some t) s is = let it = passed t.own.started t s is in (ap (λ u. Some u) it.1, ap (λ (u : SeenAction). u.own.started) (sym it.1) ∙ it.0)
+started_too found s is = grind (arith, same_Some)
 
 -- ---- what is made of it
 
-none_of : {X : Type 0} (o : Option X) → is_none o ≡ true → o ≡ None
-none_of o is = grind arith
-
 module _ (h : CommandList) (c : Command) (valid : IsValid h) (formed : IsWellFormed c) (accepted : check (records h) c ≡ None) (k : ℕ) (told : Option Told)
     (reports : List Reported) (tells : TellsReports reports told) where
-  -- the numbers of the action are counted
-  abbrev Counted : Type 0
-  Counted = (a : ActionRecord) → item_numbered (records h).actions k ≡ Some a → CountsNumbers told (numbers_of a)
-
   -- what is made of it
   abbrev ActsOn : SeenAction → Type 0
   ActsOn s = actor c ≡ Some s.action.target → is_none s.action.outcome ≡ true → s.own.started ≡ true → (gives : Option Outcome) (canceling : Bool)
       → ChangesAction (change_by (action_view_seen s) gives canceling) reports k (records h) (step_records (records h) c)
       → Acts s (change_by (action_view_seen s) gives canceling) told (ledger_of (records h)) (ledger_of (step_records (records h) c))
 
-  acts_on : (s : SeenAction) → IsSeen (ledger_of (records h)) k s → Counted → ActsOn s
+  acts_on : (s : SeenAction) → IsSeen (ledger_of (records h)) k s
+      → ((a : ActionRecord) → item_numbered (records h).actions k ≡ Some a → CountsNumbers told (numbers_of a)) → ActsOn s
   acts_on s sees counted =
       let it = known h valid k s sees in
       subst ActsOn (sym it.is) (acts h c valid formed accepted k it.placed told reports tells (counted it.placed.action it.placed.at))
@@ -88,7 +74,7 @@ module _ {seen : SeenFeedback} {s : SeenAction} (own : (seen.misses_device ≡ f
             subst Writes (sym is) (λ told tells numbers. acts_on h c valid formed it.0 k (Some told) (new ∷ []) tells s
             (subst (λ o. MaySee k (ledger_of (records h)) o) its.0 w.sees)
             (λ r there bears. numbers
-            ∙ (heard_whole h valid k device new seen w s own.1 (none_of s.action.outcome unended) r there).numbers (sym (ap is_some tells.number) ∙ bears))
+            ∙ (heard_whole h valid k device new seen w s own.1 (grind (arith, unended)) r there).numbers (sym (ap is_some tells.number) ∙ bears))
             (by ∙ ap (λ t. Some t) (sym its.1)) unended on.1 gives canceling (changes _ is))
         writes false at is = subst Writes (sym is) (ap ledger_of (changes _ is))
 
@@ -102,15 +88,9 @@ acts_on_fresh v gives canceling judged some = grind (arith, and_parts, is_none, 
 
 -- ---- cancels
 
-abbrev first_of : Bool → Bool → Bool → Option Refusal
-first_of closed on standing = first_refusal ((closed, ClosedAction) ∷ (not on || standing, WrongState) ∷ [])
-
 -- what is canceled is open, and its group is started
 cancels : (v : CancelView) (force : Bool) → cancel_refusal (Some v) force ≡ None → (is_none v.action.outcome ≡ true) × (v.started ≡ true)
 cancels v force none = grind (arith, is_some, is_none)
-
-there : (gone : Bool) (o : Option SeenAction) (s : SeenAction) → Some s ≡ cond gone None o → o ≡ Some s
-there gone o s is = grind arith
 
 module _ (id : Bytes) (k : ℕ) (force : Bool) {s : SeenAction} {after : ActionChange} (formed : IsWellFormed (Cancel id k force))
     (decides : DecidesAs change.Cancel (view.Cancel (Some (cancel_view_seen s))) (Cancel id k force) (Ok after))
@@ -119,7 +99,7 @@ module _ (id : Bytes) (k : ℕ) (force : Bool) {s : SeenAction} {after : ActionC
       × Acts s after None (ledger_of (records h)) (ledger_of (step_records (records h) (Cancel id k force)))
   cancel_taken h valid w =
       let it = decides (records h) (records_are_sound h valid) (cancel_viewed h valid k id (Some s) w) in
-      let its = of_target id w.found s (there (is_none (target_of (records h) id)) (only_of id w.found) s w.action) in
+      let its = of_target id w.found s (grind (arith, w.action)) in
       let may = cancels (cancel_view_seen s) force judged.0 in (
         it.0,
         subst (λ o. Acts s o None (ledger_of (records h)) (ledger_of (step_records (records h) (Cancel id k force)))) (sym judged.1)

@@ -2,11 +2,11 @@
 use Rattle.desk_commands.proofs.Common.{◌≡◌, ◌≤◌, ℕ, Option, Some, length, option_map, sym, ap, ◌∙◌, subst, arith, zip, item_numbered, CommandList}
 use Rattle.desk_commands.proofs.Common.{IsValid, GroupRule, rule_at, rollout_in, group_in, records, group_holding, number_of_group, ActionRecord, GroupRecord}
 use Rattle.desk_commands.proofs.Common.{RolloutRecord, tally_of, Ledger, ledger_of, stored_action, stored_rollout, group_and_next, GroupAndNext, StoredAction}
-use Rattle.desk_commands.proofs.Common.{has_place, of_group, of_rollout, recorded, invariant_of, limits_hold, last_of, size_of, groups_of, rule_numbered}
+use Rattle.desk_commands.proofs.Common.{has_place, of_rollout, recorded, invariant_of, limits_hold, last_of, size_of, groups_of, rule_numbered}
 use Rattle.desk_commands.proofs.Common.{StoredRollout, rule_there, rules_there, IsActionOf, EndsBeyond}
 use Rattle.rollout_machine.proofs.Cuts.{group_of, in_its_group}
 use Rattle.rollout_machine.proofs.Ties.{find_holding}
-use Rattle.desk_commands.proofs.GroupNumbers.{held_stands, numbered_groups, same_groups}
+use Rattle.desk_commands.proofs.GroupNumbers.{group_there, held_stands, numbered_groups, same_groups}
 use Rattle.desk_commands.proofs.ItemSteps.{own_pair, shown}
 use Rattle.desk_commands.proofs.KnownActions.{both_read}
 
@@ -17,7 +17,7 @@ module _ (h : CommandList) (valid : IsValid h) (r : ℕ) (y : RolloutRecord) (at
   pub group_ends : g.bounds.last ≤ 10000
   group_ends =
       let of = of_rollout h r y at in
-      let one = of_group h r of.rollout i g (subst (λ (z : RolloutRecord). item_numbered z.groups i ≡ Some g) of.is its) in
+      let one = group_there h r y at i g its in
       let cut = ((invariant_of h valid).follows r of.rollout of.there).sound.cut in
       let last : g.bounds.last ≡ last_of of.rollout i = ap (λ (b : GroupRecord). b.bounds.last) one.is in
       let size : length y.members ≡ size_of of.rollout = ap (λ (z : RolloutRecord). length z.members) of.is in
@@ -27,7 +27,7 @@ module _ (h : CommandList) (valid : IsValid h) (r : ℕ) (y : RolloutRecord) (at
   pub group_ruled : rule_numbered (ledger_of (records h)).rules r i ≡ Some (rule_at y.plan i)
   group_ruled =
       let of = of_rollout h r y at in
-      let one = of_group h r of.rollout i g (subst (λ (z : RolloutRecord). item_numbered z.groups i ≡ Some g) of.is its) in
+      let one = group_there h r y at i g its in
       let count : y.plan.groups.count ≡ of.rollout.plan.groups.count = ap (λ (z : RolloutRecord). z.plan.groups.count) of.is in
       ap (λ rules. item_numbered rules i) (rules_there (records h) r y at) ∙ rule_there y.plan i one.low (omega (arith, count, one.high))
 

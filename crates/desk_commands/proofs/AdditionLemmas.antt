@@ -4,7 +4,6 @@ use Rattle.desk_commands.proofs.Common.{append_assoc, append-nil, nat_tests, len
 use Rattle.desk_commands.proofs.Common.{ModuleLabel, SetLabel, AddModule, AddSet, Records, step_records, is_named_by_set, reply_of, is_module_list, is_number}
 use Rattle.desk_commands.proofs.Common.{AddsModules, AddsWhole, LacksModule, and_parts}
 use Rattle.std.proofs.lemmas.Option.{slice_get_cases}
-use Rattle.desk_records.specs.Modules.{with_module}
 use Rattle.desk_records.specs.Sets.{with_set, and_module, AddsSetModule}
 use Rattle.rollout_model.specs.declared.request.Reply.TheVariants as reply
 
@@ -37,16 +36,14 @@ set_added r label shown number next same = grind (arith, length-append)
 
 -- ---- the modules of a set, one by one
 
-with_sets : Records → List SetLabel → Records
+abbrev with_sets : Records → List SetLabel → Records
 with_sets r sets = record r { sets = sets }
 
 pub adds_none : (number before : ℕ) (r next : Records) → AddsModules number before [] r next → next ≡ r
-unfolding with_sets
-adds_none number before r next h = grind (arith, append-nil, with_sets)
+adds_none number before r next h = grind (arith, append-nil)
 
 pub adds_first : (number before m : ℕ) (ms : List ℕ) (r next : Records) → AddsModules number before (m ∷ ms) r next
     → (mid : Records) × AddsSetModule number (before + 1) m r mid × AddsModules number (before + 1) ms mid next
-unfolding with_sets
 adds_first number before m ms r next h =
     let mid = with_sets r (h.others ++ and_module h.set m ∷ []) in (
       mid,
@@ -65,13 +62,6 @@ adds_first number before m ms r next h =
 pub adds_whole : (number : ℕ) (label : SetLabel) (r next : Records) → AddsWhole number label r next
     → (mid : Records) × ((number ≡ length r.sets + 1) × (mid ≡ with_set r label.name label.version)) × AddsModules number 0 label.modules mid next
 adds_whole number label r next h = grind arith
-
-pub whole_is_step : (number : ℕ) (label : SetLabel) (r : Records) → number ≡ length r.sets + 1 → AddsWhole number label r (step_records r (AddSet label))
-whole_is_step number label r next = (next, refl)
-
-pub module_is_step : (number : ℕ) (label : ModuleLabel) (r : Records) → number ≡ length r.modules + 1 → (number ≡ length r.modules + 1)
-    × (step_records r (AddModule label) ≡ with_module r label)
-module_is_step number label r next = (next, refl)
 
 pub lacks : (r : Records) (numbers : List ℕ) (last : ℕ) (found : Bool) → is_module_list numbers ≡ true → found ≡ list_any (λ m. nat_lt last m) numbers
     → last ≡ length r.modules → LacksModule numbers r found

@@ -27,22 +27,19 @@ is_another u named digest is same = rw is (ap not (same_pointwise named digest) 
 
 -- ---- the contents, piece by piece
 
-with_artifacts : Records → List ArtifactRecord → Records
+abbrev with_artifacts : Records → List ArtifactRecord → Records
 with_artifacts r artifacts = record r { artifacts = artifacts }
 
 pub adds_no_bytes : (number before : ℕ) (bytes : Bytes) → length bytes ≡ 0 → (r next : Records) → AddsContents number before bytes r next → next ≡ r
-unfolding with_artifacts
-adds_no_bytes number before [] none r next h = grind (arith, append-nil, with_artifacts)
+adds_no_bytes number before [] none r next h = grind (arith, append-nil)
 adds_no_bytes number before (b ∷ bytes) none r next h = absurd (omega (arith, none))
 
 pub adds_first_piece : (number before n : ℕ) (bytes : Bytes) → 1 ≤ length bytes → n ≡ min 65536 (length bytes) → (r next : Records)
     → AddsContents number before bytes r next
     → (mid : Records) × AddsPiece number (before + 1) (take n bytes) r mid × AddsContents number (before + 1) (drop n bytes) mid next
-unfolding with_artifacts
 adds_first_piece number before n bytes some is r next h =
     let front = length-take n bytes in
     let back = length-drop n bytes in
-    let whole = h.so_far some in
     let place : before ≡ (before + 1) - 1 = omega arith in
     let mid = with_artifacts r (h.others ++ and_piece h.artifact (take n bytes) ∷ []) in (
       mid,
@@ -52,7 +49,7 @@ adds_first_piece number before n bytes some is r next h =
         last = h.last;
         number_is = h.number_is;
         sequence_least = omega arith;
-        so_far = whole ∙ ap (λ k. k * piece_length) place;
+        so_far = h.so_far some ∙ ap (λ k. k * piece_length) place;
         bytes_least = omega (arith, front, is, some);
         bytes_limit = omega (arith, front, is);
         next_is = refl;
@@ -62,7 +59,8 @@ adds_first_piece number before n bytes some is r next h =
         artifact = and_piece h.artifact (take n bytes);
         last = refl;
         number_is = h.number_is;
-        so_far = λ more. (let long = length-append h.artifact.contents (take n bytes) in omega (arith, long, whole, front, back, is, more));
+        so_far = λ more. (let whole = h.so_far some in let long = length-append h.artifact.contents (take n bytes) in
+            omega (arith, long, whole, front, back, is, more));
         next_is = h.next_is
             ∙ ap (λ (c : Bytes). with_artifacts r (h.others ++ (record h.artifact { contents = c }) ∷ []))
             (ap (λ b. h.artifact.contents ++ b) (sym (take-append-drop n bytes)) ∙ sym (append_assoc h.artifact.contents (take n bytes) (drop n bytes)));

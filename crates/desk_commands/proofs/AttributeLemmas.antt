@@ -1,11 +1,10 @@
 -- What the attributes that a device gives come to.
 use Rattle.desk_commands.proofs.Common.{◌≡◌, ◌<◌, ◌+◌, ℕ, Bool, true, false, cond, ◌||◌, ◌&&◌, not, nat_eq, List, [], ◌∷◌, ◌++◌, length, get_or, take, Option}
-use Rattle.desk_commands.proofs.Common.{None, option_map, refl, sym, ap, ◌∙◌, arith, is_some, list_any, pointwise, and_parts, map-append, length-map}
-use Rattle.desk_commands.proofs.Common.{AddsAttribute, SetsAttribute, are_sorted, attributed, attributes_of, in_byte_order, keys_of, with_changed, same_bytes}
-use Rattle.desk_commands.proofs.Common.{contains_word, with_word, with_words, Bytes, Attribute, Credential, PutAttributes, Records, step_records, Target}
-use Rattle.desk_commands.proofs.Common.{with_attribute, with_attributes, target_of, IsSorted, above_more, not_above, sorted_with_all, with_there}
-use Rattle.desk_commands.proofs.Common.{same_pointwise, same_refl, same_sym, same_true, GivesAttribute, GivesAttributes, attributed_with, has_attribute}
-use Rattle.desk_commands.proofs.Common.{keys_after, not-true, or_parts}
+use Rattle.desk_commands.proofs.Common.{None, option_map, refl, sym, ap, ◌∙◌, arith, is_some, list_any, pointwise, and_parts, map-append, AddsAttribute}
+use Rattle.desk_commands.proofs.Common.{SetsAttribute, are_sorted, attributed, attributes_of, in_byte_order, keys_of, with_changed, same_bytes, contains_word}
+use Rattle.desk_commands.proofs.Common.{with_word, with_words, Bytes, Attribute, Credential, PutAttributes, Records, step_records, Target, with_attribute}
+use Rattle.desk_commands.proofs.Common.{with_attributes, target_of, IsSorted, above_more, not_above, sorted_with_all, with_there, same_pointwise, same_refl}
+use Rattle.desk_commands.proofs.Common.{same_sym, same_true, GivesAttribute, GivesAttributes, attributed_with, has_attribute, keys_after, not-true, or_parts}
 use Rattle.std.proofs.lemmas.Bool.{not-false}
 use Rattle.rollout_machine.specs.Verdicts.{target_keys as keys_there}
 use Rattle.rollout_model.specs.Pairs.{is_same_attribute}
@@ -17,7 +16,7 @@ use Rattle.campaign_core.specs.declared.checks.targets.AttributesView.{Attribute
 use Rattle.desk_commands.proofs.ByteOrderLemmas.{count_with}
 use Rattle.desk_commands.proofs.PutLemmas.{one_more}
 use Rattle.desk_commands.proofs.TagLemmas.{has_all, pointwise_is}
-use Rattle.desk_commands.proofs.TargetLemmas.{change_twice, find_changed, found, keys_sorted, no_change, there, unchanged}
+use Rattle.desk_commands.proofs.TargetLemmas.{change_twice, find_changed, found, keys_sorted, there, unchanged}
 
 -- ---- keys
 
@@ -37,11 +36,7 @@ keys_given (a ∷ more) had = keys_given more (with_attribute a had) ∙ ap (wit
 -- ---- values
 
 same_attribute : (b a : Attribute) → is_same_attribute b a ≡ true → b ≡ a
-same_attribute b a it =
-    let parts = and_parts _ _ it in
-    let key = pointwise_is b.key a.key parts.0 in
-    let value = pointwise_is b.value a.value (and_parts _ _ parts.1).0 in
-    λ i. record { key = key i; value = value i }
+same_attribute b a it = grind (arith, and_parts, pointwise_is b.key a.key, pointwise_is b.value a.value)
 
 -- an attribute is among others with another key
 among_with : (a e : Attribute) (bs : List Attribute) → same_bytes a.key e.key ≡ false → has_attribute a bs ≡ true → has_attribute a (with_attribute e bs) ≡ true
@@ -90,9 +85,6 @@ give_more : (given : List Attribute) (a : Attribute) (bs : List Attribute) → w
 give_more [] a bs = refl
 give_more (x ∷ given) a bs = give_more given a (with_attribute x bs)
 
-pub no_attributes : (id : Bytes) (had : List Attribute) (r next : Records) → GivesAttributes id had [] r next → next ≡ r
-no_attributes id had r next h = h.next_is ∙ no_change r id
-
 pub more_attributes : (id : Bytes) (had given : List Attribute) (a : Attribute) (r next : Records) → GivesAttributes id had (given ++ a ∷ []) r next
     → (mid : Records) × GivesAttributes id had given r mid × GivesAttribute id had given a mid next
 more_attributes id had given a r next h =
@@ -117,9 +109,6 @@ last_word (u ∷ us) w vs = last_word us w (with_word u vs)
 
 keys_more : (earlier : List Attribute) (a : Attribute) (had : List Attribute) → keys_after (earlier ++ a ∷ []) had ≡ with_word a.key (keys_after earlier had)
 keys_more earlier a had = grind (arith, map-append, last_word)
-
-pub none_counted : (had : List Attribute) → length had + 0 ≡ length (keys_after [] had)
-none_counted had = omega (arith, length-map had (λ (a : Attribute). a.key))
 
 -- so many are new once this one is counted
 pub counted_key : (given had : List Attribute) (a : Attribute) (i : ℕ) → i < length given → a ≡ get_or given i a → (has : Bool)

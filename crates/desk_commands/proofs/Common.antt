@@ -1,58 +1,53 @@
 -- The names of other modules that the proofs here cite, passed on from one place. Declares nothing.
 pub use Rattle.std.proofs.Common.{Bool, Err, IsErrAnd, List, MatchResult, None, Ok, Option, Result, Some, [], ap, append-nil, append_assoc, arith, cond, drop}
-pub use Rattle.std.proofs.Common.{false, filter, get_or, inl, inr, is_some, le_trans, length, map, min, nat_eq, nat_le, nat_lt, not, pos, refl, rules, set}
-pub use Rattle.std.proofs.Common.{slice_get, subst, suc, sym, take, true, true≢false, zero, ℕ, ◌&&◌, ◌*◌, ◌++◌, ◌+◌, ◌-◌, ◌<◌, ◌^◌, ◌||◌, ◌∙◌, ◌∷◌, ◌≡◌, ◌≢◌}
-pub use Rattle.std.proofs.Common.{◌≤◌, ◌⊎◌}
-pub use Rattle.std.proofs.Math.Bool.{and-false, and_assoc, and_comm, or-false, or-true, or_assoc, or_comm}
-pub use Rattle.std.proofs.lemmas.Bool.{and_parts, cases_Bool, eq-eqb, eqb-true, false≢true, ltb-true, not-true, or_parts, or_right}
+pub use Rattle.std.proofs.Common.{false, filter, get_or, inl, inr, is_some, length, map, min, nat_eq, nat_le, nat_lt, not, refl, rules, set, slice_get, subst}
+pub use Rattle.std.proofs.Common.{suc, sym, take, true, zero, ℕ, ◌&&◌, ◌*◌, ◌++◌, ◌+◌, ◌-◌, ◌<◌, ◌^◌, ◌||◌, ◌∙◌, ◌∷◌, ◌≡◌, ◌≢◌, ◌≤◌}
+pub use Rattle.std.proofs.Math.Bool.{and_assoc, and_comm, or-false, or-true}
+pub use Rattle.std.proofs.lemmas.Bool.{and_parts, cases_Bool, eq-eqb, eqb-true, ltb-true, not-true, or_parts}
 pub use Rattle.std.proofs.lemmas.Bool.Decides.{nat_tests}
 pub use Rattle.std.proofs.lemmas.List.{length-append, length-drop, length-map, length-set, length-take, length-take-le, map-append, take-append-drop, take_all}
 pub use Rattle.std.proofs.lemmas.List.{take_more}
 pub use Rattle.std.specs.Cmp.Lexicographic.{pointwise}
 pub use Rattle.std.specs.List.{find, last_or, list_all, list_any, zip}
-pub use Rattle.std.specs.Option.{IsSomeAnd, is_none, ok_or, option_map, unwrap_or}
+pub use Rattle.std.specs.Option.{IsSomeAnd, is_none, ok_or, option_map}
 pub use Rattle.sqlite.specs.State.{HasCleanDisk, State}
 pub use Rattle.sqlite.specs.Store.{Ghosts}
 pub use Rattle.sqlite_rules.specs.Lists.{Has}
-pub use Rattle.rollout_model.specs.Rules.{are_distinct_words, is_between, is_digest, is_module_list, is_number, is_tag_list, is_text, is_value, is_word}
+pub use Rattle.rollout_model.specs.Rules.{are_distinct_words, is_digest, is_module_list, is_number, is_tag_list, is_text, is_word}
 pub use Rattle.rollout_model.specs.declared.artifact.Artifact.{Artifact}
 pub use Rattle.rollout_model.specs.declared.refusal.Refusal.{Refusal}
-pub use Rattle.rollout_model.specs.declared.refusal.Refusal.TheVariants.{ClosedAction, Exists, Locked, NotFound, Quota, Unauthorized, WrongDigest, WrongState}
+pub use Rattle.rollout_model.specs.declared.refusal.Refusal.TheVariants.{NotFound, Quota}
 pub use Rattle.target_filter.specs.Grammar.{Tree}
 pub use Rattle.target_filter.specs.Profile.{filter_of}
 pub use Rattle.rollout_machine.proofs.Actions.{numbered_map}
 pub use Rattle.rollout_machine.proofs.AtNumbers.{has_place, of_group, of_rollout, recorded}
 pub use Rattle.rollout_machine.proofs.Imports.{AllAbove, IsSorted, above_more, below_apart, below_other, not_above, sorted_with_all, with_there}
-pub use Rattle.rollout_machine.proofs.Induction.{invariant_of, never_started, no_record}
+pub use Rattle.rollout_machine.proofs.Induction.{invariant_of, never_started}
 pub use Rattle.rollout_machine.proofs.Lists.{each_from_more, length_each, numbered_each}
 pub use Rattle.rollout_machine.proofs.Main.{records_step}
 pub use Rattle.rollout_machine.proofs.TargetTies.{has_sorted, has_with, has_without, same_pointwise, same_refl, same_sym, same_true}
 pub use Rattle.rollout_machine.proofs.WithinLimits.{limits_hold}
-pub use Rattle.rollout_machine.specs.Answers.{added_artifact, added_rollout, command_reply}
-pub use Rattle.rollout_machine.specs.ByteStrings.{bytes_below, contains_word, item_numbered, same_bytes, sorted_words, with_word, with_words, without_word}
+pub use Rattle.rollout_machine.specs.Answers.{added_artifact, command_reply}
+pub use Rattle.rollout_machine.specs.ByteStrings.{contains_word, item_numbered, same_bytes, sorted_words, with_word, with_words, without_word}
 pub use Rattle.rollout_machine.specs.CommandList.{CommandList, ◌▸◌}
 pub use Rattle.rollout_machine.specs.CommandRules.{IsWellFormed}
 pub use Rattle.rollout_machine.specs.Commands.{AddArtifact, AddModule, AddSet, Approve, Attribute, Bytes, Cancel, CancelFeedback, Command, CreateRollout}
 pub use Rattle.rollout_machine.specs.Commands.{Credential, Deny, Feedback, ModuleLabel, Pause, PutAttributes, PutTargets, Resume, RolloutPlan, SetLabel, Start}
-pub use Rattle.rollout_machine.specs.Commands.{Tag, TargetRow, TriggerNext, Untag, Upload}
-pub use Rattle.rollout_machine.specs.Counts.{is_outcome}
+pub use Rattle.rollout_machine.specs.Commands.{Tag, TargetRow, TriggerNext, Upload}
 pub use Rattle.rollout_machine.specs.GroupRules.{GroupRule, rule_at, rules_of}
 pub use Rattle.rollout_machine.specs.Offers.{Offer, first_offer, offer}
 pub use Rattle.rollout_machine.specs.Ranges.{each_from}
-pub use Rattle.rollout_machine.specs.RecordSteps.{begin_rollout, change_rollout, change_target, counted, group_view, last_started, new_action, new_actions}
-pub use Rattle.rollout_machine.specs.RecordSteps.{new_group, new_rollout, new_target, put_target, put_targets, resumed, start_group, step_records, triggered}
-pub use Rattle.rollout_machine.specs.RecordSteps.{view_from_group, view_of}
-pub use Rattle.rollout_machine.specs.Records.{Approval, ArtifactRecord, Denied, Given, Records, Waiting, action_in, artifact_from, group_in, records}
-pub use Rattle.rollout_machine.specs.Records.{rollout_in, rollouts_in}
-pub use Rattle.rollout_machine.specs.Replies.{ArtifactAdded, Done, RolloutAdded, TargetsPut}
-pub use Rattle.rollout_machine.specs.Reports.{HistoryEntry, OfCancel, OfDeployment, Reported, against, entries_in, reported, same_entry, standing_of}
-pub use Rattle.rollout_machine.specs.Rollouts.{Rollout, bounds_at, chosen, last_of, rollout_at, rollouts, size_of}
-pub use Rattle.rollout_machine.specs.StateWords.{RolloutWord, group_holding, group_is_started, group_number_of, group_numbered, has_started, is_finished}
-pub use Rattle.rollout_machine.specs.StateWords.{is_for, is_started_in, number_of_group, rollout_word, word_from}
+pub use Rattle.rollout_machine.specs.RecordSteps.{begin_rollout, change_rollout, change_target, counted, last_started, new_action, new_actions, new_group}
+pub use Rattle.rollout_machine.specs.RecordSteps.{new_rollout, new_target, put_target, put_targets, resumed, start_group, step_records, triggered, view_of}
+pub use Rattle.rollout_machine.specs.Records.{ArtifactRecord, Records, action_in, artifact_from, group_in, records, rollout_in, rollouts_in}
+pub use Rattle.rollout_machine.specs.Replies.{ArtifactAdded, Done}
+pub use Rattle.rollout_machine.specs.Reports.{HistoryEntry, Reported, against, entries_in, same_entry, standing_of}
+pub use Rattle.rollout_machine.specs.Rollouts.{Rollout, bounds_at, chosen, last_of, rollouts, size_of}
+pub use Rattle.rollout_machine.specs.StateWords.{RolloutWord, group_holding, group_is_started, group_number_of, group_numbered, has_started, is_for}
+pub use Rattle.rollout_machine.specs.StateWords.{is_started_in, number_of_group, rollout_word}
 pub use Rattle.rollout_machine.specs.Targets.{Target, with_attribute, with_attributes}
 pub use Rattle.rollout_machine.specs.Validity.{IsValid}
-pub use Rattle.rollout_machine.specs.Verdicts.{check, first_refusal, is_known, is_named_by_set, is_note, is_ready, notes_of, tags_of, target_of, verdict_row}
-pub use Rattle.rollout_machine.specs.Verdicts.{wrong_digest}
+pub use Rattle.rollout_machine.specs.Verdicts.{check, is_named_by_set, is_note, notes_of, tags_of, target_of, wrong_digest}
 pub use Rattle.rollout_machine.specs.Views.{reply_of}
 pub use Rattle.rollout_machine.specs.declared.bounds.Bounds.{Bounds}
 pub use Rattle.rollout_machine.specs.declared.outcome.Outcome.{Outcome}
@@ -63,49 +58,44 @@ pub use Rattle.rollout_machine.specs.declared.records.RolloutRecord.{RolloutReco
 pub use Rattle.rollout_machine.specs.declared.standing.Standing.{Standing}
 pub use Rattle.offer_laws.specs.GroupOffers.{GroupStarts, acted, actor, group_offers, offers_before_start, put_offers, with_actor}
 pub use Rattle.campaign_core.proofs.SoundLemmas.{records_are_sound}
-pub use Rattle.campaign_core.specs.OwnGroups.{effects_by, following, own_view_of, waits}
+pub use Rattle.campaign_core.specs.OwnGroups.{effects_by, following, waits}
 pub use Rattle.campaign_core.specs.RolloutChecks.{AreSound, BothOrNone, ChangesAction, Decides, DecidesAs, IsActionView, IsCancelView, IsDeviceAction}
-pub use Rattle.campaign_core.specs.RolloutChecks.{IsFeedbackView, IsPlanView, IsResumeView, IsStandingView, IsTriggerView, IsViewOf, JudgesCancel, of_device}
-pub use Rattle.campaign_core.specs.RolloutChecks.{MayChangeAction, action_for, action_with, approval_at, cancel_refusal, change_by, change_if_fresh}
-pub use Rattle.campaign_core.specs.RolloutChecks.{change_numbered, device_action, ended_by, is_fresh, moved_by, only_if, outcome_forced, plan_refusal}
-pub use Rattle.campaign_core.specs.RolloutChecks.{rollout_with, says_fresh}
+pub use Rattle.campaign_core.specs.RolloutChecks.{IsFeedbackView, IsPlanView, IsStandingView, IsViewOf, JudgesCancel, of_device, MayChangeAction, action_for}
+pub use Rattle.campaign_core.specs.RolloutChecks.{action_with, approval_at, cancel_refusal, change_by, change_if_fresh, change_numbered, device_action}
+pub use Rattle.campaign_core.specs.RolloutChecks.{ended_by, is_fresh, moved_by, only_if, outcome_forced, plan_refusal, rollout_with, says_fresh}
 pub use Rattle.campaign_core.specs.declared.own_group.Following.{Following}
-pub use Rattle.campaign_core.specs.declared.own_group.OwnView.{OwnView}
 pub use Rattle.campaign_core.specs.declared.rollout_checks.RolloutChange.{RolloutChange}
 pub use Rattle.campaign_core.specs.declared.rollout_checks.RolloutCommandView.{RolloutCommandView}
 pub use Rattle.campaign_core.specs.declared.rollout_checks.actions.ActionChange.{ActionChange}
 pub use Rattle.campaign_core.specs.declared.rollout_checks.actions.ActionChange.TheVariants.{Ends, StaysOpen}
-pub use Rattle.campaign_core.specs.declared.rollout_checks.actions.Ending.{Ending}
 pub use Rattle.sql_calls.proofs.Composing.{Then, both_found, finds_as, found_held, found_then_makes, known, makes_as, makes_nothing, makes_then, makes_three}
 pub use Rattle.sql_calls.specs.Standing.{Finds, Makes, Sees, Wears}
 pub use Rattle.sql_calls.specs.declared.fault.Fault.{Fault}
 pub use Rattle.desk_records.proofs.ByteOrder.{sorted_from}
 pub use Rattle.desk_records.proofs.HeldCounts.{at_place}
 pub use Rattle.desk_records.specs.Actions.{Tally, actor_of, history_of, tally_of}
-pub use Rattle.desk_records.specs.FeedbackNumbers.{borne_at, last_number, numbers_from, numbers_numbered, numbers_of}
-pub use Rattle.desk_records.specs.Holds.{HoldsLedger, IsHeld, Ledger, ledger_of}
-pub use Rattle.desk_records.specs.LedgerSteps.{AddsAction, AddsEntry, AddsGroup, AddsMember, AddsNumber, AddsRollout, AddsRule, SetsAction, SetsGroup}
-pub use Rattle.desk_records.specs.LedgerSteps.{SetsOffer, SetsRollout, and_entry, cut_group, scheduled, set_numbered, turned, with_actions, with_groups}
-pub use Rattle.desk_records.specs.LedgerSteps.{with_numbers, with_offer, with_rollouts, with_rules}
+pub use Rattle.desk_records.specs.FeedbackNumbers.{last_number, numbers_from, numbers_numbered, numbers_of}
+pub use Rattle.desk_records.specs.Holds.{HoldsLedger, Ledger, ledger_of}
+pub use Rattle.desk_records.specs.LedgerSteps.{AddsAction, AddsEntry, AddsGroup, AddsMember, AddsNumber, AddsRule, SetsAction, SetsGroup, SetsOffer, and_entry}
+pub use Rattle.desk_records.specs.LedgerSteps.{cut_group, scheduled, set_numbered, turned, with_actions, with_groups, with_numbers, with_offer, with_rollouts}
+pub use Rattle.desk_records.specs.LedgerSteps.{with_rules}
 pub use Rattle.desk_records.specs.NextOffers.{any_starts, next_offer, next_offer_from, starts_at}
 pub use Rattle.desk_records.specs.Parts.{parts_of}
 pub use Rattle.desk_records.specs.RolloutRow.{stored_action, stored_rollout, told_plan}
 pub use Rattle.desk_records.specs.Rollouts.{groups_of, members_of, numbered_from, rule_numbered}
 pub use Rattle.desk_records.specs.TargetRow.{listed_target, stored_target}
-pub use Rattle.desk_records.specs.ReadRows.{broken_attribute_column, broken_listed_target_column, broken_stored_target_column, columns_of_listed_target}
-pub use Rattle.desk_records.specs.Targets.{AddsAttribute, AddsTag, AddsTarget, SetsAttribute, are_sorted, attribute_rows, attributed, attributes_of, ids_of}
-pub use Rattle.desk_records.specs.Targets.{in_byte_order, is_sorted, keys_of, renamed, tag_rows, tagged, target_row, untagged, with_changed, with_target}
+pub use Rattle.desk_records.specs.Targets.{AddsAttribute, AddsTag, AddsTarget, SetsAttribute, are_sorted, attributed, attributes_of, ids_of, in_byte_order}
+pub use Rattle.desk_records.specs.Targets.{keys_of, renamed, tagged, untagged, with_changed, with_target}
 pub use Rattle.desk_records.specs.declared.number_row.PlacedNumber.{PlacedNumber}
 pub use Rattle.desk_records.specs.declared.rollout_row.StoredAction.{StoredAction}
 pub use Rattle.desk_records.specs.declared.rollout_row.StoredRollout.{StoredRollout}
 pub use Rattle.desk_records.specs.declared.target_row.StoredTarget.{StoredTarget}
 pub use Rattle.desk_store.proofs.LedgersOfRecords.{ledger_found, ledger_made, same_ledger}
-pub use Rattle.desk_store.specs.Changing.{FindsIn, FindsLedger, MakesIn, MakesLedger, StaysIn, seen_in}
+pub use Rattle.desk_store.specs.Changing.{FindsIn, MakesIn, MakesLedger, StaysIn, seen_in}
 pub use Rattle.desk_store.specs.Failing.{FailsGiven, AreActionsNumbered, ReadableAs, WritesIn}
 pub use Rattle.desk_store.specs.Breaking.{HasReason}
 pub use Rattle.desk_store.specs.GroupPairs.{group_and_next}
 pub use Rattle.desk_store.specs.Readable.{IsReadable}
-pub use Rattle.desk_store.specs.BrokenRows.{BreaksColumn}
 pub use Rattle.desk_store.specs.declared.change.OpenChange.{OpenChange}
 pub use Rattle.desk_store.specs.declared.groups.GroupAndNext.{GroupAndNext}
 pub use Rattle.desk_reads.proofs.HistoryKept.{details_kept}
@@ -115,20 +105,20 @@ pub use Rattle.desk_reads.specs.Rollouts.{IsSeenOf}
 pub use Rattle.desk_reads.specs.Targets.{target_listed}
 pub use Rattle.desk_reads.specs.declared.rollouts.SeenRollout.{SeenRollout}
 pub use Rattle.desk_commands.specs.ActionSteps.{Acts, FollowsChange, TellsAction, WritesFeedback, canceling_by, outcome_by, stays_offered}
-pub use Rattle.desk_commands.specs.Additions.{AddsArtifact, AddsContents, AddsModules, AddsWhole, LacksModule, and_modules}
+pub use Rattle.desk_commands.specs.Additions.{AddsArtifact, AddsContents, AddsModules, AddsWhole, LacksModule}
 pub use Rattle.desk_commands.specs.Attributes.{GivesAttribute, GivesAttributes, attributed_with, has_attribute, keys_after}
 pub use Rattle.desk_commands.specs.Creations.{CreatesRollout, IsChosen, IsWordOf, and_rollout, first_rules, ids_matching, in_part, shown_new}
-pub use Rattle.desk_commands.specs.Endings.{CountsOutcome, FollowsEnding, FollowsSo, Pauses, StartsGroupOf, outcomes_in, with_outcome, with_rollout}
-pub use Rattle.desk_commands.specs.Failures.{CanEnd, CanEndBy, CanFollow, CanStart, CanTell, ChangesRow, CountsIf, FailsWriting, HasItem, HasNext, IsActionOf}
-pub use Rattle.desk_commands.specs.Failures.{IsLastOf, IsSeenFrom, IsSeenIn, Leads, TakesRow, TakesRows, TakesSteps}
+pub use Rattle.desk_commands.specs.Endings.{CountsOutcome, FollowsSo, StartsGroupOf, outcomes_in, with_outcome, with_rollout}
+pub use Rattle.desk_commands.specs.Failures.{CanEndBy, CanFollow, CanStart, CanTell, CountsIf, FailsWriting, IsActionOf, IsLastOf, IsSeenFrom, IsSeenIn, Leads}
+pub use Rattle.desk_commands.specs.Failures.{TakesRow, TakesRows, TakesSteps}
 pub use Rattle.desk_commands.specs.GroupStarts.{StartsAndOffers, started, with_group}
 pub use Rattle.desk_commands.specs.GroupViews.{EndsBeyond, view_by}
-pub use Rattle.desk_commands.specs.Imports.{AddsTags, CountsTargets, DropsTags, HasCounted, IsTooMany, PutsAll, PutsOver, PutsRow, PutsRows, Renames, Retags}
-pub use Rattle.desk_commands.specs.Imports.{lacking, retagged, row_ids, tagged_with, untagged_from, with_row, without_words}
+pub use Rattle.desk_commands.specs.Imports.{AddsTags, DropsTags, HasCounted, IsTooMany, PutsAll, PutsOver, PutsRow, PutsRows, Renames, Retags, lacking}
+pub use Rattle.desk_commands.specs.Imports.{retagged, row_ids, tagged_with, untagged_from, with_row, without_words}
 pub use Rattle.desk_commands.specs.Offering.{MayReoffer, Reoffers}
 pub use Rattle.desk_commands.specs.SeenActions.{IsSeen, MaySee, SeesFeedback, SeesIn, SeesTarget, action_seen, action_view_seen, cancel_view_seen}
-pub use Rattle.desk_commands.specs.SeenActions.{device_action_seen, feedback_view_seen, only_of, only_started, own_seen, seen_if}
-pub use Rattle.desk_commands.specs.SeenReports.{StandsAgainst, StandsAmong, StandsAt, asked, more_reads, number_asked, reads_for, with_number}
+pub use Rattle.desk_commands.specs.SeenActions.{device_action_seen, feedback_view_seen, only_of, only_started, seen_if}
+pub use Rattle.desk_commands.specs.SeenReports.{StandsAgainst, StandsAmong, StandsAt, asked, more_reads, reads_for, with_number}
 pub use Rattle.desk_commands.specs.Standings.{GoesOn, IsSeenAt, StartsIf, WritesSaid, approval_after, gone_by, pause_left, paused_after, command_said}
 pub use Rattle.desk_commands.specs.Standings.{starts_by}
 pub use Rattle.desk_commands.specs.Starts.{AddsActions, ReadsMembers, StartsWhole, and_actions, new_for}
@@ -137,5 +127,4 @@ pub use Rattle.desk_commands.specs.Telling.{with_reports}
 pub use Rattle.desk_commands.specs.declared.seen_actions.SeenAction.{SeenAction}
 pub use Rattle.desk_commands.specs.declared.seen_actions.SeenFeedback.{SeenFeedback}
 pub use Rattle.desk_commands.specs.declared.telling.Told.{Told}
-pub use Rattle.desk_records.proofs.Membership.{has_flat}
 pub use Rattle.desk_store.proofs.ActionCalls.{kept_to}

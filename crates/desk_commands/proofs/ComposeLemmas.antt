@@ -1,7 +1,6 @@
 -- A command inside a change, from what was read and what was written.
-use Rattle.desk_commands.proofs.Common.{◌≡◌, true, Some, None, Result, Ok, arith, State, HasCleanDisk, Finds, Makes, Wears, Sees, command_reply}
-use Rattle.desk_commands.proofs.Common.{CommandList, Command, Records, records, step_records, IsValid, check, reply_of, Refusal, HoldsLedger, ledger_of}
-use Rattle.desk_commands.proofs.Common.{are_sorted}
+use Rattle.desk_commands.proofs.Common.{◌≡◌, true, Some, None, Result, Ok, arith, State, HasCleanDisk, Finds, Makes, Wears, Sees, command_reply, CommandList}
+use Rattle.desk_commands.proofs.Common.{Command, Records, records, step_records, IsValid, check, reply_of, Refusal, HoldsLedger, ledger_of, are_sorted}
 use Rattle.rollout_model.specs.declared.request.Reply.{Reply}
 use Rattle.desk_commands.specs.Steps.{Steps}
 use Rattle.desk_commands.specs.declared.step.Step.TheVariants as step

@@ -1,14 +1,13 @@
 -- The creation of a rollout, from what is read to what is written.
-use Rattle.desk_commands.proofs.Common.{◌≡◌, ◌≤◌, ◌<◌, ℕ, zero, suc, ◌+◌, Bool, true, false, not, cond, nat_eq, List, [], ◌∷◌, ◌++◌, map, get_or, take}
-use Rattle.desk_commands.proofs.Common.{drop, length, set, slice_get, Some, None, is_none, refl, sym, ap, subst, ◌∙◌, arith, list_all, IsSomeAnd, and_parts}
-use Rattle.desk_commands.proofs.Common.{nat_tests, length-append, length-map, length-take-le, map-append, take_all, command_reply, item_numbered}
-use Rattle.desk_commands.proofs.Common.{CommandList, Bytes, CreateRollout, RolloutPlan, GroupRule, rule_at, rules_of, first_offer, Records}
-use Rattle.desk_commands.proofs.Common.{action_in, rollouts_in, new_group, new_rollout, step_records, bounds_at, chosen, rollouts, RolloutWord}
-use Rattle.desk_commands.proofs.Common.{Target, IsValid, check, reply_of, Bounds, ActionRecord, RolloutRecord, each_from_more, length_each}
-use Rattle.desk_commands.proofs.Common.{numbered_each, Tree, filter_of, IsPlanView, approval_at, plan_refusal, Ledger, ledger_of, AddsGroup, AddsMember}
-use Rattle.desk_commands.proofs.Common.{AddsRollout, AddsRule, cut_group, set_numbered, with_rollouts, with_rules, listed_target, are_sorted, same_ledger}
-use Rattle.desk_commands.proofs.Common.{target_listed, CreatesRollout, IsChosen, IsWordOf, and_rollout, first_rules, ids_matching, in_part, shown_new}
-use Rattle.desk_commands.proofs.Common.{invariant_of, not-true}
+use Rattle.desk_commands.proofs.Common.{◌≡◌, ◌<◌, ℕ, zero, suc, ◌+◌, Bool, true, false, not, cond, nat_eq, List, [], ◌∷◌, ◌++◌, map, get_or, take, drop, length}
+use Rattle.desk_commands.proofs.Common.{set, slice_get, Some, None, refl, sym, ap, subst, ◌∙◌, arith, list_all, IsSomeAnd, and_parts, nat_tests, length-append}
+use Rattle.desk_commands.proofs.Common.{length-map, length-take-le, map-append, take_all, command_reply, item_numbered, CommandList, Bytes, CreateRollout}
+use Rattle.desk_commands.proofs.Common.{RolloutPlan, GroupRule, rule_at, rules_of, first_offer, Records, action_in, rollouts_in, new_group, new_rollout}
+use Rattle.desk_commands.proofs.Common.{step_records, bounds_at, chosen, rollouts, RolloutWord, Target, IsValid, check, reply_of, Bounds, ActionRecord}
+use Rattle.desk_commands.proofs.Common.{RolloutRecord, each_from_more, length_each, numbered_each, Tree, filter_of, IsPlanView, approval_at, plan_refusal}
+use Rattle.desk_commands.proofs.Common.{Ledger, ledger_of, AddsGroup, AddsMember, AddsRule, cut_group, set_numbered, with_rollouts, with_rules, listed_target}
+use Rattle.desk_commands.proofs.Common.{are_sorted, same_ledger, target_listed, CreatesRollout, IsChosen, IsWordOf, and_rollout, first_rules, ids_matching}
+use Rattle.desk_commands.proofs.Common.{in_part, shown_new, invariant_of, not-true}
 use Rattle.rollout_machine.specs.Records.{records}
 use Rattle.std.proofs.lemmas.Option.{slice_get-get_or, slice_get_within}
 use Rattle.std.proofs.lemmas.List.Elements.{filter-append}
@@ -32,12 +31,9 @@ use Rattle.desk_commands.proofs.PutLemmas.{one_more}
 
 module _ (r : Records) (f : Tree) (text : Bytes) (t : SeenTarget) (entry : ListedTarget) (is_match : Bool)
     (computed : IsSomeAnd (filter_of text) (λ tree. is_match ≡ holds tree t)) (tree : filter_of text ≡ Some f) (read : t ≡ target_listed r entry) where
-  by_tree : is_match ≡ holds f t
-  by_tree = rw tree at computed
-
   -- its id is added where it matches
   pub id_matched : ids_matching f (target_listed r entry ∷ []) ≡ cond is_match (entry.id ∷ []) []
-  id_matched = let is : holds f (target_listed r entry) ≡ is_match = ap (holds f) (sym read) ∙ sym by_tree in grind (arith, is)
+  id_matched = let is : holds f (target_listed r entry) ≡ is_match = ap (holds f) (sym read) ∙ sym (rw tree at computed) in grind (arith, is)
 
 ids_grow : (f : Tree) (ts us : List SeenTarget) → ids_matching f (ts ++ us) ≡ ids_matching f ts ++ ids_matching f us
 ids_grow f ts us = grind (arith, filter-append, map-append)
@@ -62,10 +58,6 @@ all_chosen r sorted f count entries size listed ids is =
 
 -- ---- the verdict
 
-pub by_filter : (text : Bytes) (r : Records) (f : Tree) (found : Chosen) → filter_of text ≡ Some f → found.bad_filter ≡ false → found.members.items
-    ≡ chosen (Some f) r.targets → IsChosen text r found
-by_filter text r f found tree good members = record { bad_filter = good ∙ sym (ap is_none tree); members = members ∙ sym (ap (λ o. chosen o r.targets) tree) }
-
 -- the verdict is that of the view
 pub judged : (r : Records) (plan : RolloutPlan) (view : PlanView) → IsPlanView view plan r → check r (CreateRollout plan) ≡ plan_refusal view plan.groups
 judged r plan view is = rw (is.bad_filter, is.misses_set, is.same_name, is.members, is.count) refl
@@ -87,29 +79,24 @@ pub within : (plan : RolloutPlan) (size : ℕ) (cuts : List Bounds) → cuts ≡
 within plan size cuts are k below = subst (λ n. k < n) (sym (ap length are ∙ length_each (bounds_by plan.groups size) 1 plan.groups.count)) below
 
 module _ (n : NewRollout) (plan : RolloutPlan) (size : ℕ) where
-  pub begins : (l next : Ledger) → CreatesRollout (in_part n plan size 0 []) [] l next → AddsRollout n.number plan n.approval l next
-  begins l next h = record { number_is = h.number_is; next_is = h.next_is }
-
   -- the groups before an index, and the one there, of which nothing is said yet
-  pub one_group : (cuts : List Bounds) → cuts ≡ cut_by plan.groups size → (k : ℕ) (d : Bounds) → k < length cuts → (l next : Ledger)
+  pub one_group : (cuts : List Bounds) → cuts ≡ cut_by plan.groups size → (k : ℕ) (d : Bounds) → k < plan.groups.count → (l next : Ledger)
       → CreatesRollout (in_part n plan size (k + 1) []) (first_rules plan k) l next
       → (mid : Ledger) × CreatesRollout (in_part n plan size k []) (first_rules plan k) l mid × AddsGroup n.number (k + 1) (get_or cuts k d) mid next
-  one_group cuts are k d within l next h =
+  one_group cuts are k d below l next h =
       let was = in_part n plan size k [] in
-      let xs = l.records.rollouts in
-      let bounds = get_or cuts k d in
-      let there : slice_get (cut_by plan.groups size) k ≡ Some bounds = ap (λ bs. slice_get bs k) (sym are) ∙ slice_get-get_or cuts k d within in
-      let its : bounds ≡ bounds_at plan size (k + 1) = (numbered_each (bounds_by plan.groups size) plan.groups.count (suc k) bounds there).2
-      ∙ ap (bounds_at plan size) (omega arith) in (
+      let there = ap (λ bs. slice_get bs k) (sym are) ∙ slice_get-get_or cuts k d (within plan size cuts are k below) in
+      let its : get_or cuts k d ≡ bounds_at plan size (k + 1) =
+      (numbered_each (bounds_by plan.groups size) plan.groups.count (suc k) (get_or cuts k d) there).2 ∙ ap (bounds_at plan size) (omega arith) in (
         and_rollout was (first_rules plan k) l,
         record { number_is = h.number_is; ruled = h.ruled; unacted = h.unacted; next_is = refl },
         record {
           rollout = was;
-          is_there = numbered_last xs was n.number h.number_is;
+          is_there = numbered_last l.records.rollouts was n.number h.number_is;
           group_is = ap (λ m. m + 1) (sym (length_each (new_group plan size) 1 k));
           next_is = h.next_is ∙ ap (λ gs. and_rollout (record was { groups = gs }) (first_rules plan k) l)
-              (each_from_more (new_group plan size) 1 k (k + 1) (cut_group (k + 1) bounds) (omega arith) (ap (cut_group (k + 1)) its))
-              ∙ ap (with_rollouts (and_rollout was (first_rules plan k) l)) (sym (set_last xs was _ n.number h.number_is));
+              (each_from_more (new_group plan size) 1 k (k + 1) (cut_group (k + 1) (get_or cuts k d)) (omega arith) (ap (cut_group (k + 1)) its))
+              ∙ ap (with_rollouts (and_rollout was (first_rules plan k) l)) (sym (set_last l.records.rollouts was _ n.number h.number_is));
         },
       )
 
@@ -136,17 +123,16 @@ module _ (n : NewRollout) (plan : RolloutPlan) (size : ℕ) where
       → CreatesRollout (in_part n plan size k (take (j + 1) all)) rules l next
       → (mid : Ledger) × CreatesRollout (in_part n plan size k (take j all)) rules l mid × AddsMember n.number (j + 1) id mid next
   one_member k rules all id j within is l next h =
-      let was = in_part n plan size k (take j all) in
-      let xs = l.records.rollouts in (
+      let was = in_part n plan size k (take j all) in (
         and_rollout was rules l,
         record { number_is = h.number_is; ruled = h.ruled; unacted = h.unacted; next_is = refl },
         record {
           rollout = was;
-          is_there = numbered_last xs was n.number h.number_is;
+          is_there = numbered_last l.records.rollouts was n.number h.number_is;
           place_is = ap (λ m. m + 1) (sym (length-take-le j all (omega (arith, within))));
           unacted = h.unacted;
           next_is = h.next_is ∙ ap (λ ids. and_rollout (record was { members = ids }) rules l) (one_more all id j within is)
-              ∙ ap (with_rollouts (and_rollout was rules l)) (sym (set_last xs was _ n.number h.number_is));
+              ∙ ap (with_rollouts (and_rollout was rules l)) (sym (set_last l.records.rollouts was _ n.number h.number_is));
         },
       )
 
@@ -171,9 +157,6 @@ at_lists : (h : CommandList) (n : ℕ) (ps : List ActionPlace) → ((i : ℕ) (p
 at_lists h n [] none = refl
 at_lists h n (p ∷ ps) none = rw (none 0 p refl) (at_lists h n ps (λ i q at. none (suc i) q at))
 
-below : {X : Type 0} (xs : List X) (n : ℕ) (x : X) → item_numbered xs n ≡ Some x → n ≤ length xs
-below xs n x at = grind (arith, slice_get_within)
-
 as_many : (h : CommandList) (a : ℕ) (xs : List MadeRollout) → length (rollouts_in h a xs) ≡ length xs
 as_many h a [] = refl
 as_many h a (x ∷ xs) = ap suc (as_many h (suc a) xs)
@@ -182,9 +165,8 @@ none_acts : (h : CommandList) → IsValid h → list_all (λ (a : ActionRecord).
 unfolding records
 none_acts h valid = at_lists h (length (records h).rollouts + 1) (action_places h) (λ i p at.
     let place = (invariant_of h valid).placed (suc i) p at in
-    let low = below (rollouts h) p.rollout place.rollout place.there in
-    let size = as_many h 1 (rollouts h) in
-    let apart : nat_eq p.rollout (length (rollouts_in h 1 (rollouts h)) + 1) ≡ false = grind (arith, nat_tests, low, size) in
+    let apart : nat_eq p.rollout (length (rollouts_in h 1 (rollouts h)) + 1) ≡ false =
+    grind (arith, nat_tests, slice_get_within, place.there, as_many h 1 (rollouts h)) in
     apart)
 
 -- ---- a command
@@ -200,22 +182,20 @@ abbrev made : RolloutPlan → Records → RolloutRecord
 made plan r = new_rollout r.approval (suc (length r.rollouts)) plan (chosen (filter_of plan.filter_text) r.targets)
 
 module _ (plan : RolloutPlan) (n : NewRollout) (members : List Bytes) where
-  same_rollout : (r : Records) → IsReady plan n members r → made plan r ≡ in_part n plan (length members) plan.groups.count members
-  same_rollout r is = grind arith
-
   -- the ledger of the records after it is the one that is written
   pub creates : (h : CommandList) → IsValid h → IsReady plan n members (records h)
       → CreatesRollout (in_part n plan (length members) plan.groups.count members) (rules_of plan) (ledger_of (records h))
       (ledger_of (step_records (records h) (CreateRollout plan)))
   creates h valid is =
       let r = records h in
-      let none = none_acts h valid in
+      let same : made plan r ≡ in_part n plan (length members) plan.groups.count members = grind (arith, is) in
       record {
         number_is = is.number_is;
         ruled = length-map r.rollouts (λ (x : RolloutRecord). rules_of x.plan);
-        unacted = ap (λ k. list_all (λ (a : ActionRecord). not (nat_eq a.rollout k)) r.actions) is.number_is ∙ none;
-        next_is = same_ledger _ _ (ap (λ x. record r { rollouts = r.rollouts ++ x ∷ [] }) (same_rollout r is)) refl
-            (λ t. same_offers r (made plan r) t 1 r.actions none) (map-append (λ (x : RolloutRecord). rules_of x.plan) r.rollouts (made plan r ∷ [])) refl;
+        unacted = ap (λ k. list_all (λ (a : ActionRecord). not (nat_eq a.rollout k)) r.actions) is.number_is ∙ none_acts h valid;
+        next_is = same_ledger _ _ (ap (λ x. record r { rollouts = r.rollouts ++ x ∷ [] }) same) refl
+            (λ t. same_offers r (made plan r) t 1 r.actions (none_acts h valid))
+            (map-append (λ (x : RolloutRecord). rules_of x.plan) r.rollouts (made plan r ∷ [])) refl;
       }
 
   pub shown_added : (r : Records) → IsReady plan n members r → (count : ℕ) → count ≡ length members → (shown : Rollout) → (word : RolloutWord)

@@ -1,7 +1,5 @@
 -- What follows from the outcome of an action, write by write.
-use native.Mathlib.Omega.{arith}
-use Rattle.desk_commands.proofs.Common.{◌≡◌, true, eq-eqb, refl, counted, Outcome, GroupRecord, Ledger, SetsGroup}
-use Rattle.desk_commands.proofs.Common.{SetsRollout, CountsOutcome, Pauses, SeenAction}
+use Rattle.desk_commands.proofs.Common.{arith, ◌≡◌, eq-eqb, refl, counted, Outcome, GroupRecord, Ledger, SetsGroup, CountsOutcome, SeenAction}
 use Rattle.desk_records.specs.LedgerSteps.{group_counted as set_counts}
 
 -- ---- the counts
@@ -14,8 +12,3 @@ counts_own o g = rw (eq-eqb g.number g.number refl) (refl, refl)
 pub outcome_set : (seen : SeenAction) (o : Outcome) (g : GroupRecord) (l next : Ledger) → g ≡ counted o seen.own.number seen.own → CountsOutcome seen o l next
     → SetsGroup seen.action.rollout g.number g.started g.ok g.bad g.gone l next
 outcome_set seen o g l next is w = grind (arith, counts_own)
-
--- ---- what follows
-
-pub pause_set : (seen : SeenAction) (l next : Ledger) → Pauses seen l next → SetsRollout seen.action.rollout seen.approval seen.started true l next
-pause_set seen l next w = grind arith

@@ -1,5 +1,5 @@
 -- When a command tells broken rows, by what was read before.
-use Rattle.desk_commands.proofs.Common.{◌≡◌, Option, Some, Ok, Err, Result, ap, ◌∙◌, arith, IsErrAnd, ok_or, Sees, Wears, CommandList, IsValid}
+use Rattle.desk_commands.proofs.Common.{◌≡◌, Option, Some, Ok, Err, Result, arith, IsErrAnd, ok_or, Sees, Wears, CommandList, IsValid}
 use Rattle.desk_commands.proofs.Common.{Records, records, HoldsLedger, Ledger, ledger_of, seen_in, Fault, Ghosts, FailsGiven, HasReason, ReadableAs}
 use Rattle.desk_commands.proofs.Common.{IsReadable, OpenChange, IsOfList, CountsIf, FailsWriting}
 use Rattle.desk_commands.specs.Failures.{FailsWritingIn}
@@ -7,8 +7,8 @@ use Rattle.sqlite.specs.State.{State}
 use Rattle.sql_calls.specs.Standing.{Finds}
 
 -- what is there isn't missing
-pub never_missing : {A E : Type 0} (o : Option A) (e f : E) (x : A) → Err f ≡ ok_or o e → o ≡ Some x → ⊥
-never_missing o e f x missing is = let both : Err f ≡ ok_or (Some x) e = missing ∙ ap (λ o. ok_or o e) is in cc
+pub never_missing : {A E : Type 0} {o : Option A} (e : E) {f : E} {x : A} → Err f ≡ ok_or o e → o ≡ Some x → ⊥
+never_missing e missing is = grind (arith, missing, is)
 
 -- at the exit with this fault, what both words say
 abbrev pub Exits : {S : Type 0} → Ghosts S → (Ledger → Type 0) → State → OpenChange S → Fault → Type 0
@@ -18,14 +18,14 @@ Exits g Given was new fault = (l : Ledger) → Sees HoldsLedger was l → Readab
 
 module _ {S B : Type 0} {g : Ghosts S} {Given : Ledger → Type 0} {old new : OpenChange S} where
   -- .. where it reads
-  pub reads_end : {fault : Fault} → Exits g Given (seen_in g old) new fault → (out : Result B Fault) → IsErrAnd out (λ e. e ≡ fault)
+  pub reads_end : {fault : Fault} → Exits g Given (seen_in g old) new fault → {out : Result B Fault} → IsErrAnd out (λ e. e ≡ fault)
       → FailsGiven g Given old new out
-  reads_end exits out is = grind arith
+  reads_end exits is = grind arith
 
   -- .. and where it writes
-  pub writes_end : {fault : Fault} → Exits g Given (seen_in g old) new fault → (out : Result B Fault) → IsErrAnd out (λ e. e ≡ fault)
+  pub writes_end : {fault : Fault} → Exits g Given (seen_in g old) new fault → {out : Result B Fault} → IsErrAnd out (λ e. e ≡ fault)
       → FailsWriting g Given old new out
-  writes_end exits out is = grind arith
+  writes_end exits is = grind arith
 
   -- a step asks less than what is known before it
   pub writes_as : {Asked : Ledger → Type 0} → ((l : Ledger) → Given l → Asked l) → (out : Result B Fault) → FailsWriting g Asked old new out
@@ -61,15 +61,15 @@ module _ {S A : Type 0} {g : Ghosts S} {Given : Ledger → Type 0} {was : State}
     asked read wears means exits = grind arith
 
     pub asked_at : ((l : Ledger) → Given l → IsOfList l) → {P : Records → A → Type 0} → Finds HoldsLedger ledger_of {E = Fault} was seen (Ok x) P
-        → (Asked : Ledger → Type 0) → Wears seen (seen_in g new)
+        → {Asked : Ledger → Type 0} → Wears seen (seen_in g new)
         → ((h : CommandList) → IsValid h → P (records h) x → Given (ledger_of (records h)) → Asked (ledger_of (records h))) → Exits g Asked seen new fault
         → Exits g Given was new fault
-    asked_at listed read h2 wears means exits = grind arith
+    asked_at listed read wears means exits = grind arith
 
   -- .. of the records of a list
   pub never_at : ((l : Ledger) → Given l → IsOfList l) → {P : Records → A → Type 0} → Finds HoldsLedger ledger_of {E = Fault} was (seen_in g new) (Ok x) P
       → ((h : CommandList) → IsValid h → P (records h) x → Given (ledger_of (records h)) → ⊥) → Exits g Given was new fault
-  never_at listed read why = asked_at listed read (λ l. ⊥) (omega arith) why (never_given (λ l none. none))
+  never_at listed read why = asked_at listed read {Asked = λ l. ⊥} (omega arith) why (never_given (λ l none. none))
 
 -- ---- writes that ask for no ledger
 

@@ -1,5 +1,5 @@
 -- The groups of a rollout stand at their numbers.
-use Rattle.desk_commands.proofs.Common.{◌≡◌, ℕ, suc, ◌+◌, Bool, true, false, cond, ◌||◌, List, [], ◌∷◌, map, Some, refl, sym, ap, ◌∙◌, arith, nat_eq}
+use Rattle.desk_commands.proofs.Common.{◌≡◌, ℕ, suc, ◌+◌, true, false, cond, ◌||◌, List, [], ◌∷◌, map, Some, refl, sym, ap, ◌∙◌, arith, nat_eq}
 use Rattle.desk_commands.proofs.Common.{slice_get, eq-eqb, eqb-true, nat_tests, or-false, or-true, item_numbered, CommandList, records, group_holding}
 use Rattle.desk_commands.proofs.Common.{GroupRecord, RolloutRecord, set_numbered, numbered_from, of_group, of_rollout, start_group, started, None}
 use Rattle.std.proofs.lemmas.List.Folds.{find_at}
@@ -7,6 +7,7 @@ use Rattle.std.proofs.lemmas.Bool.{cases_eq}
 use Rattle.std.proofs.lemmas.Option.{same_Some}
 use Rattle.std.specs.List.{position_or_len}
 use Rattle.rollout_machine.proofs.Actions.{map_same}
+use Rattle.rollout_machine.proofs.AtNumbers.{IsOfGroup}
 use Rattle.rollout_machine.specs.Groups.{holds_position}
 use Rattle.campaign_core.proofs.ItemLemmas.{picked}
 use Rattle.desk_commands.proofs.ItemSteps.{set_elsewhere, set_is_change, set_is_there}
@@ -15,11 +16,15 @@ use Rattle.desk_commands.proofs.ItemSteps.{set_elsewhere, set_is_change, set_is_
 abbrev pub Numbered : List GroupRecord → Type 0
 Numbered gs = (j : ℕ) (g : GroupRecord) → item_numbered gs j ≡ Some g → g.number ≡ j
 
+-- one of a rollout of accepted commands
+pub group_there : (h : CommandList) (r : ℕ) (x : RolloutRecord) (at : item_numbered (records h).rollouts r ≡ Some x) (j : ℕ) (g : GroupRecord)
+    → item_numbered x.groups j ≡ Some g → IsOfGroup h r (of_rollout h r x at).rollout j g
+group_there h r x at j g its =
+    let of = of_rollout h r x at in of_group h r of.rollout j g (ap (λ (z : RolloutRecord). item_numbered z.groups j) (sym of.is) ∙ its)
+
 -- so it is of a list of accepted commands
 pub numbered_groups : (h : CommandList) (r : ℕ) (x : RolloutRecord) → item_numbered (records h).rollouts r ≡ Some x → Numbered x.groups
-numbered_groups h r x at j g its =
-    let of = of_rollout h r x at in
-    ap (λ (z : GroupRecord). z.number) (of_group h r of.rollout j g (ap (λ (z : RolloutRecord). item_numbered z.groups j) (sym of.is) ∙ its)).is
+numbered_groups h r x at j g its = ap (λ (z : GroupRecord). z.number) (group_there h r x at j g its).is
 
 -- the one that holds a place stands at its number
 pub held_stands : (gs : List GroupRecord) → Numbered gs → (p : ℕ) (g : GroupRecord) → group_holding p gs ≡ Some g → item_numbered gs g.number ≡ Some g
@@ -45,26 +50,18 @@ same_groups gs numbered = renumbered 1 gs (λ j g at. let it = numbered (suc j) 
 pub only_at : (f : GroupRecord → GroupRecord) (k : ℕ) (gs : List GroupRecord) (g : GroupRecord) → Numbered gs → item_numbered gs k ≡ Some g
     → ((x : GroupRecord) → nat_eq x.number k ≡ false → f x ≡ x) → map f gs ≡ set_numbered gs k (f g)
 only_at f k gs g numbered at still =
-    map_same f (λ (x : GroupRecord). cond (nat_eq x.number k) (f x) x) (λ x. go x (nat_eq x.number k) refl) gs
+    map_same f (λ (x : GroupRecord). cond (nat_eq x.number k) (f x) x) (λ x. grind (arith, still x)) gs
     ∙ picked (λ (x : GroupRecord). nat_eq x.number k) f k gs (record {
       only = λ j x its same. sym (numbered j x its) ∙ eqb-true x.number k same;
       here = λ x its. eq-eqb x.number k (numbered k x its);
     }) ∙ set_is_change f k gs g at
-  where
-    go : (x : GroupRecord) (b : Bool) → nat_eq x.number k ≡ b → f x ≡ cond b (f x) x
-    go x true is = refl
-    go x false is = still x is
 
 pub started_one : (n : ℕ) (gs : List GroupRecord) (g : GroupRecord) → Numbered gs → item_numbered gs n ≡ Some g → map (start_group (Some n)) gs
     ≡ set_numbered gs n (started g)
 started_one n gs g numbered at =
     let on : (g.started || nat_eq n g.number) ≡ true = ap (λ b. g.started || b) (eq-eqb n g.number (sym (numbered n g at))) ∙ or-true g.started in
-    only_at (start_group (Some n)) n gs g numbered at still ∙ ap (set_numbered gs n) (λ i. record g { started = on i })
-  where
-    still : (x : GroupRecord) → nat_eq x.number n ≡ false → start_group (Some n) x ≡ x
-    still x other =
-        let off : nat_eq n x.number ≡ false = grind (arith, nat_tests, other) in
-        λ i. record x { started = (ap (λ b. x.started || b) off ∙ or-false x.started) i }
+    only_at (start_group (Some n)) n gs g numbered at (λ x other. grind (arith, nat_tests, or-false x.started, other))
+    ∙ ap (set_numbered gs n) (λ i. record g { started = on i })
 
 pub starts_none : (gs : List GroupRecord) → map (start_group None) gs ≡ gs
 starts_none [] = refl

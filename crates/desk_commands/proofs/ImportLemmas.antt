@@ -6,7 +6,7 @@ use Rattle.desk_records.proofs.Targets.{id_found}
 use Rattle.desk_commands.proofs.TagLemmas.{retag_words}
 use Rattle.desk_commands.proofs.TargetLemmas.{change_twice, find_changed, found_new, ids_sorted, put_new, put_there, there, unchanged}
 
-with_targets : Records → List Target → Records
+abbrev with_targets : Records → List Target → Records
 with_targets r ts = record r { targets = ts }
 
 -- the row without its tags
@@ -21,7 +21,6 @@ stored_there r id stored read = let it = there (target_of r id) (grind (arith, r
 pub adds_row_parts : (row : TargetRow) → are_distinct_words row.tags ≡ true → (r next : Records) → None ≡ option_map stored_target (target_of r row.id)
     → PutsRows (row ∷ []) r next
     → (mid : Records) × AddsTarget row.id row.name row.digest r mid × AddsTags row.id row.tags [] mid next
-unfolding with_targets
 adds_row_parts row distinct r next read h =
     let none : target_of r row.id ≡ None = grind (arith, read) in
     let mid = with_target r row.id row.name row.digest in
@@ -45,7 +44,6 @@ renames_nothing row stored name digest r next sorted h = grind (arith, stored_th
 pub changes_row_parts : (row : TargetRow) (stored : StoredTarget) (r next : Records) → are_sorted r.targets ≡ true → Some stored
     ≡ option_map stored_target (target_of r row.id) → PutsRows (row ∷ []) r next
     → (mid : Records) × Renames row stored r mid × Retags row.id row.tags mid next
-unfolding with_targets
 changes_row_parts row stored r next sorted read h =
     let it = stored_there r row.id stored read in
     let t = it.0 in

@@ -1,14 +1,12 @@
 -- An action that was seen in the tables of a list of accepted commands, and the views of it.
-use native.Mathlib.Omega.{arith}
-use Rattle.desk_commands.proofs.Common.{◌≡◌, ◌+◌, ℕ, Bool, true, false, cond, ◌&&◌, List, Option, Some, None, option_map, sym, ap, ◌∙◌, subst, is_some}
-use Rattle.desk_commands.proofs.Common.{is_none, item_numbered, CommandList, Bytes, Credential, rule_at, Records, action_in, records}
-use Rattle.desk_commands.proofs.Common.{rollout_in, Reported, standing_of, Standing, group_holding, group_is_started, group_number_of, group_numbered}
-use Rattle.desk_commands.proofs.Common.{has_started, is_started_in, number_of_group, Target, IsValid, target_of, ActionRecord, GroupRecord}
-use Rattle.desk_commands.proofs.Common.{RolloutRecord, BothOrNone, IsActionView, IsCancelView, IsFeedbackView, IsDeviceAction, action_for}
-use Rattle.desk_commands.proofs.Common.{device_action, only_if, Tally, tally_of, ledger_of, said_of, group_and_next, GroupAndNext, stored_action}
-use Rattle.desk_commands.proofs.Common.{stored_rollout, IsSeen, MaySee, SeesIn, SeesFeedback, SeesTarget, action_seen, action_view_seen, cancel_view_seen}
-use Rattle.desk_commands.proofs.Common.{only_of, only_started, feedback_view_seen, device_action_seen, seen_if, StandsAt, asked, with_number, SeenAction}
-use Rattle.desk_commands.proofs.Common.{SeenFeedback}
+use Rattle.desk_commands.proofs.Common.{arith, ◌≡◌, ◌+◌, ℕ, Bool, true, cond, List, Option, Some, None, option_map, sym, ap, ◌∙◌, subst, is_some, is_none}
+use Rattle.desk_commands.proofs.Common.{item_numbered, CommandList, Bytes, Credential, rule_at, Records, action_in, records, rollout_in, Reported, standing_of}
+use Rattle.desk_commands.proofs.Common.{Standing, group_holding, group_is_started, group_number_of, group_numbered, has_started, is_started_in, number_of_group}
+use Rattle.desk_commands.proofs.Common.{IsValid, target_of, ActionRecord, GroupRecord, RolloutRecord, BothOrNone, IsActionView, IsCancelView, IsFeedbackView}
+use Rattle.desk_commands.proofs.Common.{IsDeviceAction, action_for, device_action, only_if, Tally, tally_of, ledger_of, said_of, group_and_next, GroupAndNext}
+use Rattle.desk_commands.proofs.Common.{stored_action, stored_rollout, IsSeen, MaySee, SeesIn, SeesFeedback, SeesTarget, action_seen, action_view_seen}
+use Rattle.desk_commands.proofs.Common.{cancel_view_seen, only_of, only_started, feedback_view_seen, device_action_seen, seen_if, StandsAt, asked, with_number}
+use Rattle.desk_commands.proofs.Common.{SeenAction, SeenFeedback}
 use Rattle.campaign_core.proofs.PlacedActions.{is_members}
 use Rattle.desk_store.proofs.GroupPlaces.{group_and_next_at}
 use Rattle.desk_commands.proofs.GroupNumbers.{Numbered, held_stands, numbered_groups, same_groups}
@@ -35,9 +33,6 @@ seen_at rs k w = action_seen k (stored_action rs.rollouts (w.action, tally_of w.
 pub record IsKnown (rs : Records) (k : ℕ) (s : SeenAction) : Type 0 where
   pub placed : IsPlaced rs k
   pub is : s ≡ seen_at rs k placed
-
-abbrev paired : ActionRecord → ActionRecord × Tally
-paired a = (a, tally_of a)
 
 -- the first group of two that are read is the one that holds the place
 own_held : (gs : List GroupRecord) → Numbered gs → (j : ℕ) (own : GroupRecord) → item_numbered gs (number_of_group (group_holding j gs)) ≡ Some own
@@ -90,7 +85,7 @@ module _ (h : CommandList) (valid : IsValid h) where
       }
 
   pub none_known : (k : ℕ) → MaySee k (ledger_of (records h)) None → item_numbered (records h).actions k ≡ None
-  none_known k none = none_shown paired (item_numbered (records h).actions k) (sym (zip_map tally_of k (records h).actions) ∙ none)
+  none_known k none = none_shown (λ a. (a, tally_of a)) (item_numbered (records h).actions k) (sym (zip_map tally_of k (records h).actions) ∙ none)
 
 -- ---- what rules ask of it
 
@@ -154,13 +149,8 @@ module _ (h : CommandList) (valid : IsValid h) (k : ℕ) where
   cancel_viewed id seen w = subst (λ o. BothOrNone (λ v a. IsCancelView v a (records h)) (option_map cancel_view_seen o) (action_for (records h) id k))
       (sym w.action) (go w.found w.sees)
     where
-      lacking : (o : Option Target) → BothOrNone (λ v a. IsCancelView v a (records h)) (option_map cancel_view_seen (cond (is_none o) None (only_of id None)))
-          (only_if (is_some o && false) None)
-      lacking None = tt
-      lacking (Some x) = tt
-
       go : (found : Option SeenAction) → MaySee k (ledger_of (records h)) found
           → BothOrNone (λ v a. IsCancelView v a (records h)) (option_map cancel_view_seen (cond (is_none (target_of (records h) id)) None (only_of id found)))
           (action_for (records h) id k)
-      go None none = rw (none_known h valid k none) (lacking (target_of (records h) id))
+      go None none = rw (none_known h valid k none) (grind (arith, is_none, is_some, option_map))
       go (Some s) sees = let it = known h valid k s sees in rw it.is (its_cancel (records h) k it.placed id)

@@ -115,27 +115,10 @@ module _ (h : CommandList) (c : Command) (valid : IsValid h) (formed : IsWellFor
     pub starts_last : (z : RolloutRecord) (g : GroupRecord) → item_numbered x.groups g.number ≡ Some g → g.started ≡ false
         → item_numbered z.groups g.number ≡ Some g → y ≡ then_started z g
         → StartsAndOffers r g (with_rollouts l (set_numbered l.records.rollouts r z)) (ledger_of after)
-    starts_last z g was waits its is = record {
-      tallied = ap length follows.tallies ∙ length-map l.records.actions tally_of;
-      rollout = z;
-      is_there = set_is_there l.records.rollouts r x z there;
-      is_its = its;
-      next_is =
-          is_ledger (with_offers made r g) step (follows_so (with_offers made r g).offers)
-          (λ t. offers_after_group h c r g.number g.bounds t (valid, formed, accepted) starts
-          ∙ (λ i. put_offers (λ u. sym (offers u) i) (group_offers ((is_step ∙ step) i) r g.bounds) t))
-          ∙ ap (λ xs. with_offers (with_rollouts l xs) r g)
-          (ap (set_numbered l.records.rollouts r) is ∙ sym (set_twice r l.records.rollouts z (then_started z g)));
-    }
-      where
-        first : item_numbered (records h).rollouts r ≡ Some x
-        first = ap (λ xs. item_numbered xs r) (sym same) ∙ there
-
-        still : item_numbered (records (h ▸ c)).rollouts r ≡ Some y
-        still = ap (λ (rs : Records). item_numbered rs.rollouts r) (is_step ∙ step) ∙ set_is_there l.records.rollouts r x y there
-
-        starts : GroupStarts (records h) (records (h ▸ c)) r g.number g.bounds
-        starts = record {
+    starts_last z g was waits its is =
+        let first = ap (λ (xs : List RolloutRecord). item_numbered xs r) (sym same) ∙ there in
+        let still = ap (λ (rs : Records). item_numbered rs.rollouts r) (is_step ∙ step) ∙ set_is_there l.records.rollouts r x y there in
+        let starts : GroupStarts (records h) (records (h ▸ c)) r g.number g.bounds = record {
           rollout = x;
           there = first;
           group = g;
@@ -148,6 +131,18 @@ module _ (h : CommandList) (c : Command) (valid : IsValid h) (formed : IsWellFor
           still_numbered = groups_stand (h ▸ c) r y still g.number ∙ ap (λ (w : RolloutRecord). item_numbered w.groups g.number) is
               ∙ set_is_there z.groups g.number g (started g) its;
           starts = refl;
+        } in
+        record {
+          tallied = ap length follows.tallies ∙ length-map l.records.actions tally_of;
+          rollout = z;
+          is_there = set_is_there l.records.rollouts r x z there;
+          is_its = its;
+          next_is =
+              is_ledger (with_offers made r g) step (follows_so (with_offers made r g).offers)
+              (λ t. offers_after_group h c r g.number g.bounds t (valid, formed, accepted) starts
+              ∙ (λ i. put_offers (λ u. sym (offers u) i) (group_offers ((is_step ∙ step) i) r g.bounds) t))
+              ∙ ap (λ xs. with_offers (with_rollouts l xs) r g)
+              (ap (set_numbered l.records.rollouts r) is ∙ sym (set_twice r l.records.rollouts z (then_started z g)));
         }
 
 -- what is done to the rollout of a number is done where it stands

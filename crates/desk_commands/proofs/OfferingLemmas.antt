@@ -1,6 +1,6 @@
 -- What a target is offered, looked up among its actions.
-use native.Mathlib.Omega.{arith}
-use Rattle.desk_commands.proofs.Common.{◌≡◌, ℕ, zero, suc, true, cond, ◌&&◌, List, [], ◌∷◌, length, map, Option, Some, None, refl, sym, ap, ◌∙◌, slice_get}
+use Rattle.desk_commands.proofs.Common.{arith, ◌≡◌, ℕ, zero, suc, true, cond, ◌&&◌, List, [], ◌∷◌, length, map, Option, Some, None, refl, sym, ap, ◌∙◌}
+use Rattle.desk_commands.proofs.Common.{slice_get}
 use Rattle.desk_commands.proofs.Common.{list_any, is_none, item_numbered, same_bytes, CommandList, ◌▸◌, Bytes, Command, Offer, first_offer, offer, has_started}
 use Rattle.desk_commands.proofs.Common.{is_for, is_started_in, Reported, Records, IsValid, ActionRecord, RolloutRecord, acted, actor_of, Ledger, SetsOffer}
 use Rattle.desk_commands.proofs.Common.{set_numbered, with_offer, any_starts, next_offer, next_offer_from, starts_at, parts_of, Reoffers, and_assoc, and_comm}
@@ -13,12 +13,11 @@ use Rattle.offer_laws.proofs.AnyGroup.{started_by_any_then}
 -- of a list of accepted commands, before the last starts a group
 module _ (h : CommandList) (c : Command) (valid : IsValid (h ▸ c)) (t : Bytes) where
   any_is_its : (k : ℕ) (a : ActionRecord) → item_numbered (acted h c).actions k ≡ Some a → any_starts (acted h c).rollouts a ≡ has_started (acted h c) a
-  any_is_its k a at = go (item_numbered (acted h c).rollouts a.rollout) refl
-    where
-      go : (o : Option RolloutRecord) → item_numbered (acted h c).rollouts a.rollout ≡ o
-          → list_any (starts_at a.position) (parts_of (λ (x : RolloutRecord). x.groups) o) ≡ is_started_in o a
-      go None is = refl
-      go (Some x) is = sym (started_by_any_then h c k a x valid at is) ∙ ap (λ o. is_started_in o a) is
+  any_is_its k a at = elim (item_numbered (acted h c).rollouts a.rollout) as (λ o. item_numbered (acted h c).rollouts a.rollout ≡ o
+      → list_any (starts_at a.position) (parts_of (λ (x : RolloutRecord). x.groups) o) ≡ is_started_in o a) [
+        | None ↦ λ is. refl
+        | Some x ↦ λ is. sym (started_by_any_then h c k a x valid at is) ∙ ap (λ o. is_started_in o a) is
+      ] refl
 
   next_from : (n : ℕ) (as' : List ActionRecord)
       → ((j : ℕ) (a : ActionRecord) → slice_get as' j ≡ Some a → any_starts (acted h c).rollouts a ≡ has_started (acted h c) a)
@@ -49,12 +48,7 @@ module _ (id : Bytes) (l next : Ledger) (w : Reoffers id l next) where
 first_there : (rs : Records) (t : Bytes) (n j : ℕ) (xs : List ActionRecord) (a : ActionRecord) → slice_get xs j ≡ Some a
     → (is_none a.outcome && (is_for rs t a && has_started rs a)) ≡ true → (o : Offer) × (first_offer rs t n xs ≡ Some o)
 first_there rs t n j [] a at is = cc
-first_there rs t n zero (x ∷ xs) a at is =
-    let same : a ≡ x = cc in (
-      record { action = n; canceling = x.canceling },
-      ap (λ b. cond b (Some (record { action = n; canceling = x.canceling })) (first_offer rs t (suc n) xs))
-          (ap (λ (v : ActionRecord). is_none v.outcome && (is_for rs t v && has_started rs v)) (sym same) ∙ is),
-    )
+first_there rs t n zero (x ∷ xs) a at is = let same : a ≡ x = cc in (record { action = n; canceling = x.canceling }, grind (arith, same, is))
 first_there rs t n (suc j) (x ∷ xs) a at is = elim (cases_Bool (is_none x.outcome && (is_for rs t x && has_started rs x))) [
   | inl this ↦ (record { action = n; canceling = x.canceling }, rw this refl)
   | inr other ↦ rw other (first_there rs t (suc n) j xs a at is)

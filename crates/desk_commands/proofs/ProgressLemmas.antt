@@ -1,22 +1,21 @@
 -- How a rollout goes on.
-use Rattle.desk_commands.proofs.Common.{◌≡◌, ◌<◌, ℕ, suc, ◌+◌, Bool, true, false, cond, List, [], ◌∷◌, ◌++◌, map, length, get_or, Option, Some, None}
-use Rattle.desk_commands.proofs.Common.{refl, sym, ap, ◌∙◌, subst, arith, nat_eq, not, take, list_any, ltb-true, take_more, item_numbered, IsValid}
-use Rattle.desk_commands.proofs.Common.{CommandList, RolloutPlan, GroupRule, rule_at, group_in, records, last_started, resumed, start_group}
-use Rattle.desk_commands.proofs.Common.{step_records, triggered, view_from_group, view_of, RolloutWord, rollout_word, check, GroupRecord}
-use Rattle.desk_commands.proofs.Common.{RolloutRecord, length_each, BothOrNone, IsResumeView, IsTriggerView, Ledger, ledger_of, set_numbered, turned}
-use Rattle.desk_commands.proofs.Common.{with_groups, with_rollouts, told_plan, IsSeenOf, SeenRollout, StartsAndOffers, started, GoesOn, IsSeenAt, StartsIf}
-use Rattle.desk_commands.proofs.Common.{gone_by, pause_left, starts_by, view_by, at_place, and_parts, invariant_of, of_group, of_rollout}
+use Rattle.desk_commands.proofs.Common.{◌≡◌, ◌<◌, ℕ, suc, ◌+◌, Bool, false, cond, List, [], ◌∷◌, ◌++◌, map, length, get_or, Option, Some, None, refl, sym, ap}
+use Rattle.desk_commands.proofs.Common.{◌∙◌, subst, arith, nat_eq, take, ltb-true, take_more, item_numbered, IsValid, CommandList, RolloutPlan, GroupRule}
+use Rattle.desk_commands.proofs.Common.{rule_at, group_in, records, last_started, resumed, start_group, step_records, triggered, view_of, check, GroupRecord}
+use Rattle.desk_commands.proofs.Common.{RolloutRecord, length_each, Ledger, ledger_of, set_numbered, turned, with_groups, with_rollouts, told_plan, SeenRollout}
+use Rattle.desk_commands.proofs.Common.{StartsAndOffers, started, GoesOn, IsSeenAt, StartsIf, gone_by, pause_left, starts_by, view_by, at_place, and_parts}
+use Rattle.desk_commands.proofs.Common.{invariant_of, of_rollout}
 use Rattle.std.proofs.Math.Dec.{eqb-suc-zero}
 use Rattle.std.proofs.lemmas.Option.{same_Some}
 use Rattle.rollout_machine.proofs.Ties.{last_is}
-use Rattle.rollout_machine.specs.Effects.{IsLast, next_if}
+use Rattle.rollout_machine.specs.Effects.{IsLast}
 use Rattle.rollout_machine.specs.declared.view.GroupView.{GroupView}
 use Rattle.rollout_machine.specs.declared.view.RolloutView.{RolloutView}
 use Rattle.campaign_core.proofs.RolloutLemmas.{number_is}
 use Rattle.desk_records.specs.declared.rollout_row.ToldPlan.{ToldPlan}
 use Rattle.desk_commands.specs.declared.progress.Going.{Going}
 use Rattle.desk_commands.specs.declared.progress.Going.TheVariants.{Resumed, Triggered}
-use Rattle.desk_commands.proofs.GroupNumbers.{numbered_groups, started_one, starts_none}
+use Rattle.desk_commands.proofs.GroupNumbers.{group_there, numbered_groups, started_one, starts_none}
 use Rattle.desk_commands.proofs.LedgerEnds.{groups_stand, then_started}
 use Rattle.desk_commands.proofs.StandingLemmas.{Found, IsOnRollout, set_so, started_so}
 
@@ -40,9 +39,7 @@ last_at h valid r x at =
 waits_after : (h : CommandList) → IsValid h → (r : ℕ) (x : RolloutRecord) → item_numbered (records h).rollouts r ≡ Some x → (i : ℕ) (g : GroupRecord)
     → item_numbered x.groups i ≡ Some g → last_started x.groups < i → g.started ≡ false
 waits_after h valid r x at i g its past =
-    let of = of_rollout h r x at in
-    let one = of_group h r of.rollout i g (ap (λ (z : RolloutRecord). item_numbered z.groups i) (sym of.is) ∙ its) in
-    ap (λ (b : GroupRecord). b.started) one.is ∙ (last_at h valid r x at).beyond i past
+    ap (λ (b : GroupRecord). b.started) (group_there h r x at i g its).is ∙ (last_at h valid r x at).beyond i past
 
 -- ---- what is seen from the last one
 
@@ -50,12 +47,9 @@ pub groups_count : (h : CommandList) (r : ℕ) (x : RolloutRecord) → item_numb
 groups_count h r x there = let of = of_rollout h r x there in subst (λ (z : RolloutRecord). length z.groups ≡ z.plan.groups.count) (sym of.is)
     (length_each (group_in of.rollout r h) 1 of.rollout.plan.groups.count)
 
-next_is : (b : Bool) (l i : ℕ) → next_if b l ≡ Some i → (b ≡ true) × (i ≡ l + 1)
-next_is b l i is = grind arith
-
 -- a group that starts is the one after the last, and there is one
 next_group : (going : Going) (v : RolloutView) (i : ℕ) → starts_by going v ≡ Some i → (i ≡ v.last.number + 1) × (v.last.number < v.groups)
-next_group going v i is = grind (arith, next_is, ltb-true, and_parts)
+next_group going v i is = grind (arith, ltb-true, and_parts)
 
 -- ---- the step
 
@@ -115,17 +109,6 @@ module _ (going : Going) (h : CommandList) (r : ℕ) (seen : SeenRollout) (found
 
 -- ---- the view
 
-pub resume_view : (h : CommandList) (r : ℕ) (seen : SeenRollout) (x : RolloutRecord) (word : RolloutWord) (rollout : RolloutView)
-    → ((x : RolloutRecord) → IsSeenOf seen x → word ≡ rollout_word x) → rollout ≡ view_of x (last_started x.groups) → IsSeenAt h r seen x
-    → BothOrNone IsResumeView (Some (record { word = word; rollout = rollout })) (item_numbered (records h).rollouts r)
-resume_view h r seen x word rollout is so at = rw at.is_there (record { word = is x at.is_seen; rollout = so })
-
-pub trigger_view : (h : CommandList) (r : ℕ) (seen : SeenRollout) (x : RolloutRecord) (word : RolloutWord) (next : Bool) (rollout : RolloutView)
-    → ((x : RolloutRecord) → IsSeenOf seen x → word ≡ rollout_word x)
-    → next ≡ list_any (λ (g : GroupRecord). not g.started) seen.groups.items → rollout ≡ view_of x (last_started x.groups) → IsSeenAt h r seen x
-    → BothOrNone IsTriggerView (Some (record { word = word; has_next = next; rollout = rollout })) (item_numbered (records h).rollouts r)
-trigger_view h r seen x word next rollout is some so at = grind arith
-
 -- the group that starts is the one that was looked for
 pub the_group : (r : ℕ) (groups : List GroupRecord) (i : ℕ) (g : GroupRecord) (l next : Ledger) → item_numbered groups i ≡ Some g
     → StartsIf r groups (Some i) l next → StartsAndOffers r g l next
@@ -134,23 +117,18 @@ the_group r groups i g l next at h = subst (λ (it : GroupRecord). StartsAndOffe
 -- after one more group
 pub last_step : (gs : List GroupRecord) (d : GroupRecord) (i last next : ℕ) → i < length gs → last ≡ last_started (take i gs)
     → next ≡ cond (nat_eq (last_started (get_or gs i d ∷ [])) 0) last (last_started (get_or gs i d ∷ [])) → next ≡ last_started (take (i + 1) gs)
-last_step gs d i last next below so_far then =
-    let own = last_started (get_or gs i d ∷ []) in
-    then ∙ ap (λ n. cond (nat_eq own 0) n own) so_far ∙ sym (last_joined (take i gs) (get_or gs i d ∷ [])) ∙ sym (ap last_started (take_more gs i d below))
+last_step gs d i last next below so_far then = grind (arith, last_joined (take i gs) (get_or gs i d ∷ []), take_more gs i d)
 
 -- where no group is started
 pub none_said : (told : ToldPlan) (plan : RolloutPlan) (rule : GroupRule) → rule ≡ record { percentage = None; success = told.success; error = told.error }
     → told ≡ told_plan plan → rule ≡ rule_at plan 0
 none_said told plan rule is seen = is ∙ (λ i. record { percentage = None; success = (seen i).success; error = (seen i).error })
 
-by_plan : (plan : RolloutPlan) (n : ℕ) (found : Option GroupRecord) → view_by (rule_at plan n) n found ≡ view_from_group plan n found
-by_plan plan n found = grind arith
-
 pub seen_view : (h : CommandList) (r : ℕ) (seen : SeenRollout) (x : RolloutRecord) → IsSeenAt h r seen x
     → (n groups : ℕ) (rule : GroupRule) (found : Option GroupRecord) (v : GroupView) → n ≡ last_started seen.groups.items → rule ≡ rule_at x.plan n
     → found ≡ item_numbered seen.groups.items n → v ≡ view_by rule n found → groups ≡ seen.plan.groups
     → record { paused = seen.paused; groups = groups; own = v; last = v } ≡ view_of x (last_started x.groups)
-seen_view h r seen x at n groups rule found v last said is view count = grind (arith, groups_stand, by_plan)
+seen_view h r seen x at n groups rule found v last said is view count = grind (arith, groups_stand)
 
 -- what is written is the step
 pub gone_on : (going : Going) (h : CommandList) (r : ℕ) (seen : SeenRollout) (found : Found h r seen) → (v : RolloutView)

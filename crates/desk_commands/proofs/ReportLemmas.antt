@@ -1,9 +1,8 @@
 -- How a report stands among what its action has heard, by the last number.
-use Rattle.desk_commands.proofs.Common.{◌≡◌, ℕ, Bool, true, cond, List, [], ◌∷◌, length, Option, Some, None, option_map, refl, sym, ap, ◌∙◌}
-use Rattle.desk_commands.proofs.Common.{◌≤◌, arith, is_none, last_or, list_all, nat_tests, item_numbered, Records, HistoryEntry}
-use Rattle.desk_commands.proofs.Common.{Reported, against, entries_in, same_entry, Standing, ActionRecord, numbered_map, history_of, last_number}
-use Rattle.desk_commands.proofs.Common.{numbers_numbered, numbers_of, Ledger, ledger_of, parts_of, PlacedNumber, StandsAgainst, StandsAmong, StandsAt}
-use Rattle.desk_commands.proofs.Common.{number_asked, SeenAction, details_kept, IsLastOf}
+use Rattle.desk_commands.proofs.Common.{◌≡◌, ℕ, Bool, true, cond, List, [], ◌∷◌, length, Option, Some, None, option_map, refl, sym, ap, ◌∙◌, ◌≤◌, arith}
+use Rattle.desk_commands.proofs.Common.{last_or, list_all, nat_tests, item_numbered, Records, HistoryEntry, Reported, against, entries_in, same_entry, Standing}
+use Rattle.desk_commands.proofs.Common.{ActionRecord, numbered_map, history_of, last_number, numbers_numbered, numbers_of, Ledger, ledger_of, parts_of}
+use Rattle.desk_commands.proofs.Common.{PlacedNumber, StandsAgainst, StandsAmong, StandsAt, details_kept, IsLastOf}
 use Rattle.rollout_machine.specs.declared.standing.Standing.TheVariants.{Fresh, Again, Old}
 use Rattle.desk_records.specs.declared.number_row.LastNumber.{LastNumber}
 use Rattle.desk_records.proofs.NumberLists.{IsBearer, bears_last}
@@ -12,13 +11,9 @@ use Rattle.desk_commands.proofs.ItemSteps.{none_shown}
 
 -- ---- the last number
 
-some_last : {X : Type 0} (x : X) (xs : List X) → last_or (Some x) xs ≡ None → ⊥
-some_last x [] is = cc
-some_last x (y ∷ ys) is = some_last y ys is
-
-none_last : {X : Type 0} (xs : List X) → last_or None xs ≡ None → length xs ≡ 0
-none_last [] is = refl
-none_last (x ∷ xs) is = absurd (some_last x xs is)
+none_last : {X : Type 0} (o : Option X) (xs : List X) → last_or o xs ≡ None → (o ≡ None) × (length xs ≡ 0)
+none_last o [] is = (is, refl)
+none_last o (x ∷ xs) is = let none = (none_last (Some x) xs is).0 in cc
 
 numbers_at : (r : Records) (k : ℕ) (a : ActionRecord) → item_numbered r.actions k ≡ Some a → numbers_numbered (ledger_of r).numbers k ≡ numbers_of a
 numbers_at r k a at = ap (parts_of (λ (its : List PlacedNumber). its)) (numbered_map numbers_of r.actions k ∙ ap (option_map numbers_of) at)
@@ -45,7 +40,7 @@ module _ (a : ActionRecord) (entry : HistoryEntry) (n : ℕ) where
       record { standing = means it.0.reported.entry (bearer_in a last.it it.0) ∙ ap (λ o. against o n entry) (sym it.0.bears); numbers = λ bears. it.1 }
 
   stands_alone : last_number (numbers_of a) ≡ None → StandsAmong a.history new (record { standing = Fresh; numbers = 0 })
-  stands_alone is = grind (arith, none_shown, bears_last, none_last)
+  stands_alone is = grind (arith, none_shown, bears_last, none_last None (numbers_of a))
 
 module _ (r : Records) (k n : ℕ) (entry : HistoryEntry) where
   pub stands_at : (last : LastNumber) (standing : Standing) → Some last ≡ last_number (numbers_numbered (ledger_of r).numbers k)
@@ -58,9 +53,6 @@ module _ (r : Records) (k n : ℕ) (entry : HistoryEntry) where
   pub none_at : None ≡ last_number (numbers_numbered (ledger_of r).numbers k)
       → StandsAt k (record { entry = entry; number = Some n }) r (record { standing = Fresh; numbers = 0 })
   none_at is a at = stands_alone a entry n (ap last_number (sym (numbers_at r k a at)) ∙ sym is)
-
-pub number_given : (o : Option SeenAction) (number : Option ℕ) (n : ℕ) → number_asked o number ≡ Some n → number ≡ Some n
-number_given o number n is = grind (arith, is_none)
 
 -- ---- the entry that bears it
 

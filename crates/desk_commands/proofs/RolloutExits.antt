@@ -1,5 +1,5 @@
 -- What a step on a rollout that is seen rests on is there.
-use Rattle.desk_commands.proofs.Common.{◌≡◌, ◌≤◌, ◌≢◌, ℕ, ◌+◌, Bool, List, Option, Some, length, slice_get, sym, ap, ◌∙◌, subst, arith, zip}
+use Rattle.desk_commands.proofs.Common.{◌≡◌, ◌≤◌, ◌≢◌, ℕ, ◌+◌, Bool, List, Option, Some, length, slice_get, sym, ap, ◌∙◌, arith, zip}
 use Rattle.desk_commands.proofs.Common.{item_numbered, CommandList, IsValid, GroupRule, rule_at, records, Bytes, last_started, GroupRecord, RolloutRecord}
 use Rattle.desk_commands.proofs.Common.{Ledger, ledger_of, SeenRollout, GoesOn, ReadsMembers, of_rollout, limits_hold, at_place}
 use Rattle.desk_commands.proofs.Common.{members_of, rule_numbered, rule_there, rules_there, CanStart, IsSeenFrom, IsSeenIn, EndsBeyond}
@@ -18,23 +18,19 @@ there_in r seen l w = ap (λ (m : Ledger). item_numbered m.records.rollouts r) (
 -- ---- going on
 
 -- something is said of the last started group
-last_ruled : (h : CommandList) → IsValid h → (r : ℕ) (y : RolloutRecord) → item_numbered (records h).rollouts r ≡ Some y → last_started y.groups ≢ 0
-    → rule_numbered (ledger_of (records h)).rules r (last_started y.groups) ≡ Some (rule_at y.plan (last_started y.groups))
-last_ruled h valid r y at some =
-    let of = of_rollout h r y at in
-    let count : y.plan.groups.count ≡ of.rollout.plan.groups.count = ap (λ (z : RolloutRecord). z.plan.groups.count) of.is in
-    ap (λ rules. item_numbered rules (last_started y.groups)) (rules_there (records h) r y at) ∙ rule_there y.plan (last_started y.groups) (omega (arith, some))
-    (omega (arith, count, (last_at h valid r y at).within))
-
 pub last_said : (r : ℕ) (seen : SeenRollout) (last : ℕ) (l : Ledger) → IsSeenFrom r seen last l → last ≢ 0 → (rule : GroupRule)
     × (rule_numbered l.rules r last ≡ Some rule)
 last_said r seen last l w some =
     let y = w.sees.rollout in
+    let h = w.sees.of_list.list in
+    let at = there_in r seen l w.sees in
     let number : last ≡ last_started y.groups = w.last_is ∙ ap last_started w.sees.is_seen.groups in
-    let said = last_ruled w.sees.of_list.list w.sees.of_list.valid r y (there_in r seen l w.sees) (subst (λ n. n ≢ 0) number some) in (
+    let of = of_rollout h r y at in
+    let count : y.plan.groups.count ≡ of.rollout.plan.groups.count = ap (λ (z : RolloutRecord). z.plan.groups.count) of.is in (
       rule_at y.plan (last_started y.groups),
-      ap (λ n. rule_numbered l.rules r n) number ∙ ap (λ (m : Ledger). rule_numbered m.rules r (last_started y.groups))
-          w.sees.of_list.is ∙ said,
+      ap (λ n. rule_numbered l.rules r n) number ∙ ap (λ (m : Ledger). rule_numbered m.rules r (last_started y.groups)) w.sees.of_list.is
+          ∙ ap (λ rules. item_numbered rules (last_started y.groups)) (rules_there (records h) r y at)
+          ∙ rule_there y.plan (last_started y.groups) (omega (arith, some, number)) (omega (arith, count, (last_at h w.sees.of_list.valid r y at).within)),
     )
 
 -- no group that is seen ends beyond 32 bits
@@ -64,6 +60,4 @@ pub numbers_left : (h : CommandList) → IsValid h → (r : ℕ) (seen : SeenRol
 numbers_left h valid r seen w last count members size many read =
     let limits = limits_hold h valid in
     let all : members ≡ w.rollout.members = read (ap (λ o. length (members_of o)) w.at.is_there ∙ sym many) ∙ ap members_of w.at.is_there in
-    let of : length members ≡ length w.rollout.members = ap length all in
-    let actions : length (zip (records h).actions (ledger_of (records h)).tallies) ≡ length (records h).actions = all_pairs (records h) in
-    omega (arith, size, of, actions, limits.actions, (limits.each r w.rollout w.at.is_there).members)
+    omega (arith, size, ap length all, all_pairs (records h), limits.actions, (limits.each r w.rollout w.at.is_there).members)

@@ -1,29 +1,18 @@
 -- The start of a rollout, from what is read to what is written.
-use Rattle.desk_commands.proofs.Common.{◌≡◌, ◌<◌, ℕ, zero, suc, ◌+◌, true, false, List, [], ◌∷◌, ◌++◌, map, get_or, take, drop, length}
-use Rattle.desk_commands.proofs.Common.{slice_get, Option, Some, None, refl, sym, ap, ◌∙◌, arith, append-nil, append_assoc, zip, unwrap_or, length-append}
-use Rattle.desk_commands.proofs.Common.{length-map, map-append, take_all, item_numbered, CommandList, Bytes, Start, each_from}
-use Rattle.desk_commands.proofs.Common.{Records, records, begin_rollout, change_rollout, new_action, new_actions, step_records, IsValid}
-use Rattle.desk_commands.proofs.Common.{check, ActionRecord, GroupRecord, RolloutRecord, each_from_more, length_each, records_are_sound}
-use Rattle.desk_commands.proofs.Common.{actor_of, tally_of, numbers_of, Ledger, ledger_of, AddsAction, scheduled, set_numbered, turned, with_actions}
-use Rattle.desk_commands.proofs.Common.{with_numbers, with_rollouts, SeenRollout, started, AddsActions, ReadsMembers, StartsWhole, and_actions, new_for}
-use Rattle.desk_commands.proofs.Common.{never_started, members_of, of_group, of_rollout}
+use Rattle.desk_commands.proofs.Common.{◌≡◌, ◌<◌, ℕ, zero, suc, ◌+◌, true, false, List, [], ◌∷◌, ◌++◌, map, get_or, length, slice_get, Some, None, refl, sym}
+use Rattle.desk_commands.proofs.Common.{ap, ◌∙◌, arith, append_assoc, zip, length-append, length-map, map-append, item_numbered, CommandList, Bytes, Start}
+use Rattle.desk_commands.proofs.Common.{each_from, Records, records, begin_rollout, new_action, new_actions, step_records, IsValid, check, ActionRecord}
+use Rattle.desk_commands.proofs.Common.{GroupRecord, RolloutRecord, each_from_more, length_each, records_are_sound, actor_of, tally_of, numbers_of, Ledger}
+use Rattle.desk_commands.proofs.Common.{ledger_of, AddsAction, scheduled, set_numbered, turned, with_actions, with_numbers, with_rollouts, SeenRollout, started}
+use Rattle.desk_commands.proofs.Common.{AddsActions, ReadsMembers, StartsWhole, and_actions, new_for, never_started, members_of, of_rollout}
 use Rattle.std.proofs.lemmas.Option.{slice_get_read}
 use Rattle.rollout_machine.specs.Actions.{places_from}
-use Rattle.desk_commands.proofs.GroupNumbers.{numbered_groups, started_one}
+use Rattle.desk_commands.proofs.GroupNumbers.{group_there, numbered_groups, started_one}
 use Rattle.desk_commands.proofs.ItemSteps.{set_is_there, zip_own}
 use Rattle.desk_commands.proofs.LedgerEnds.{changed_at, starts_last, then_started}
 use Rattle.desk_commands.proofs.StandingLemmas.{Found, is_numbered}
 
--- ---- what is read
-
-pub all_members : (r count : ℕ) (l : Ledger) (members : List Bytes) → members ≡ take count (drop 0 (members_of (item_numbered l.records.rollouts r)))
-    → ReadsMembers r count l members
-all_members r count l members is size = is ∙ take_all count (members_of (item_numbered l.records.rollouts r)) (omega (arith, size))
-
 -- ---- the actions, one by one
-
-pub no_action : (r last : ℕ) (members : List Bytes) (l next : Ledger) → AddsActions r last members 0 l next → next ≡ l
-no_action r last members l next h = grind (arith, append-nil)
 
 one_behind : {X : Type 0} (f : ActionRecord → X) (xs : List X) (as' : List ActionRecord) (a : ActionRecord) → xs ++ map f (as' ++ a ∷ [])
     ≡ (xs ++ map f as') ++ f a ∷ []
@@ -39,18 +28,13 @@ one_action r last members id i number within is numbered l next h =
     let there : slice_get members i ≡ Some id = slice_get_read members (length members) i id refl within is in
     let place : i + 1 ≡ suc i = omega arith in
     let actor : actor_of l.records.rollouts (scheduled r (i + 1)) ≡ id =
-    ap (λ o. member_in o (i + 1)) h.is_there ∙ ap (λ ids. unwrap_or (item_numbered ids (i + 1)) []) (sym h.members_are)
-    ∙ ap (λ k. unwrap_or (item_numbered members k) []) place ∙ ap (λ o. unwrap_or o []) there in (
+    grind (arith, h.is_there, h.members_are, place, there) in (
       and_actions l new,
       record { tallied = h.tallied; last_is = h.last_is; rollout = h.rollout; is_there = h.is_there; members_are = h.members_are; next_is = refl },
       record {
         tallied = length-append l.tallies (map tally_of new) ∙ ap (λ k. length l.tallies + k) (length-map new tally_of) ∙ ap (λ k. k + length new) h.tallied
             ∙ sym (length-append as' new);
-        number_is =
-            let size = length-append as' new in
-            let count = length_each (scheduled r) 1 i in
-            let before = h.last_is in
-            omega (arith, numbered, size, count, before);
+        number_is = omega (arith, numbered, length-append as' new, length_each (scheduled r) 1 i, h.last_is);
         id_is = sym actor;
         next_is =
             h.next_is ∙ ap (and_actions l) more
@@ -58,10 +42,6 @@ one_action r last members id i number within is numbered l next h =
             (one_behind tally_of l.tallies new (scheduled r (i + 1)) j)) (one_behind numbers_of l.numbers new (scheduled r (i + 1)) j));
       },
     )
-  where
-    member_in : Option RolloutRecord → ℕ → Bytes
-    member_in None j = []
-    member_in (Some x) j = unwrap_or (item_numbered x.members j) []
 
 -- ---- the first group
 
@@ -70,8 +50,8 @@ first_waits : (h : CommandList) (r : ℕ) (x : RolloutRecord) → item_numbered 
     → item_numbered x.groups 1 ≡ Some g → g.started ≡ false
 first_waits h r x there off g its =
     let of = of_rollout h r x there in
-    let one = of_group h r of.rollout 1 g (ap (λ (z : RolloutRecord). item_numbered z.groups 1) (sym of.is) ∙ its) in
-    ap (λ (b : GroupRecord). b.started) one.is ∙ never_started of.rollout r 1 h (ap (λ (z : RolloutRecord). z.started) (sym of.is) ∙ off)
+    ap (λ (b : GroupRecord). b.started) (group_there h r x there 1 g its).is
+    ∙ never_started of.rollout r 1 h (ap (λ (z : RolloutRecord). z.started) (sym of.is) ∙ off)
 
 -- ---- the command
 
@@ -91,71 +71,42 @@ pub starts_whole : (h : CommandList) → IsValid h → (r : ℕ) (seen : SeenRol
     → slice_get seen.groups.items 0 ≡ Some g → last ≡ length (zip (records h).actions (map tally_of (records h).actions)) → count ≡ length found.rollout.members
     → ReadsMembers r count (ledger_of (records h)) members
     → StartsWhole r seen g last members (ledger_of (records h)) (ledger_of (step_records (records h) (Start r)))
-starts_whole h valid r seen g last count members found accepted first size many read = record {
-  begun = turned_ledger;
-  sets = record { rollout = x; is_there = there; next_is = refl };
-  acting = acting_ledger;
-  adds = record {
-    tallied = length-map rs.actions tally_of;
-    last_is = size ∙ all_pairs rs;
-    rollout = y;
-    is_there = set_is_there rs.rollouts r x y there;
-    members_are = all;
-    next_is = refl;
-  };
-  starts =
-      starts_last h (Start r) valid (is_numbered h r seen found) accepted (and_actions (ledger_of rs) new)
-      (record {
-        tallies = sym (map-append tally_of rs.actions new);
-        rules = refl;
-        numbers = sym (map-append numbers_of rs.actions new);
-      }) (λ t. refl) refl r x (then_started y g) there (λ i. record rs { rollouts = rolls i; actions = acts i }) refl y g own
-      (first_waits h r x there (unstarted rs r x there accepted) g its) own refl;
-}
-  where
-    rs : Records
-    rs = records h
-
-    x : RolloutRecord
-    x = found.rollout
-
-    there : item_numbered rs.rollouts r ≡ Some x
-    there = found.at.is_there
-
-    y : RolloutRecord
-    y = turned seen.approval true seen.paused x
-
-    its : item_numbered x.groups 1 ≡ Some g
-    its = ap (λ gs. slice_get gs 0) (sym found.at.is_seen.groups) ∙ first
-
-    named : g.number ≡ 1
-    named = numbered_groups h r x there 1 g its
-
-    own : item_numbered x.groups g.number ≡ Some g
-    own = ap (item_numbered x.groups) named ∙ its
-
-    all : members ≡ x.members
-    all = read (ap (λ o. length (members_of o)) there ∙ sym many) ∙ ap members_of there
-
-    new : List ActionRecord
-    new = new_for r (length members)
-
-    turned_ledger : Ledger
-    turned_ledger = with_rollouts (ledger_of rs) (set_numbered rs.rollouts r y)
-
-    acting_ledger : Ledger
-    acting_ledger = and_actions turned_ledger new
-
-    begins : begin_rollout x ≡ then_started y g
-    begins =
-        let gs = started_one 1 x.groups g (numbered_groups h r x there) its ∙ ap (λ k. set_numbered x.groups k (started g)) (sym named) in
-        λ i. record x { approval = sym found.at.is_seen.approval i; started = true; paused = sym found.at.is_seen.paused i; groups = gs i }
-
-    rolls : change_rollout r begin_rollout rs.rollouts ≡ set_numbered rs.rollouts r (then_started y g)
-    rolls = changed_at h valid r begin_rollout x (then_started y g) there begins
-
-    acts : rs.actions ++ new_actions (item_numbered rs.rollouts r) ≡ rs.actions ++ new_for r (length members)
-    acts =
-        let number : x.number ≡ r = (records_are_sound h valid).numbered r x there in
-        ap (λ l. rs.actions ++ l) (ap new_actions there ∙ new_placed x.number 1 (length x.members)
-        ∙ (λ i. each_from (scheduled (number i)) 1 (length (sym all i))))
+starts_whole h valid r seen g last count members found accepted first size many read =
+    let rs = records h in
+    let x = found.rollout in
+    let there = found.at.is_there in
+    let y = turned seen.approval true seen.paused x in
+    let its : item_numbered x.groups 1 ≡ Some g = ap (λ gs. slice_get gs 0) (sym found.at.is_seen.groups) ∙ first in
+    let named = numbered_groups h r x there 1 g its in
+    let own : item_numbered x.groups g.number ≡ Some g = ap (item_numbered x.groups) named ∙ its in
+    let all : members ≡ x.members = read (ap (λ o. length (members_of o)) there ∙ sym many) ∙ ap members_of there in
+    let new = new_for r (length members) in
+    let begun = with_rollouts (ledger_of rs) (set_numbered rs.rollouts r y) in
+    let groups = started_one 1 x.groups g (numbered_groups h r x there) its ∙ ap (λ k. set_numbered x.groups k (started g)) (sym named) in
+    let begins : begin_rollout x ≡ then_started y g =
+    λ i. record x { approval = sym found.at.is_seen.approval i; started = true; paused = sym found.at.is_seen.paused i; groups = groups i } in
+    let rolls = changed_at h valid r begin_rollout x (then_started y g) there begins in
+    let number : x.number ≡ r = (records_are_sound h valid).numbered r x there in
+    let acts : rs.actions ++ new_actions (item_numbered rs.rollouts r) ≡ rs.actions ++ new = ap (λ l. rs.actions ++ l)
+    (ap new_actions there ∙ new_placed x.number 1 (length x.members) ∙ (λ i. each_from (scheduled (number i)) 1 (length (sym all i)))) in
+    record {
+      begun = begun;
+      sets = record { rollout = x; is_there = there; next_is = refl };
+      acting = and_actions begun new;
+      adds = record {
+        tallied = length-map rs.actions tally_of;
+        last_is = size ∙ all_pairs rs;
+        rollout = y;
+        is_there = set_is_there rs.rollouts r x y there;
+        members_are = all;
+        next_is = refl;
+      };
+      starts =
+          starts_last h (Start r) valid (is_numbered h r seen found) accepted (and_actions (ledger_of rs) new)
+          (record {
+            tallies = sym (map-append tally_of rs.actions new);
+            rules = refl;
+            numbers = sym (map-append numbers_of rs.actions new);
+          }) (λ t. refl) refl r x (then_started y g) there (λ i. record rs { rollouts = rolls i; actions = acts i }) refl y g own
+          (first_waits h r x there (unstarted rs r x there accepted) g its) own refl;
+    }

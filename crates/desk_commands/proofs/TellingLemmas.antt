@@ -1,26 +1,19 @@
 -- What is told of an action and what becomes of it, write by write.
-use native.Mathlib.Omega.{arith}
-use Rattle.desk_commands.proofs.Common.{◌≡◌, ℕ, ◌+◌, append-nil, List, [], ◌∷◌, Option, Some, None, refl, sym, ap, subst, ◌∙◌, is_some, Then}
-use Rattle.desk_commands.proofs.Common.{item_numbered, Reported, ActionRecord, action_with, ActionChange, Ledger}
-use Rattle.desk_commands.proofs.Common.{AddsEntry, AddsNumber, SetsAction, and_entry, set_numbered, with_actions, with_numbers, PlacedNumber, StoredAction}
-use Rattle.desk_commands.proofs.Common.{TellsAction, canceling_by, outcome_by, TellsReports}
-use Rattle.desk_commands.proofs.Common.{WritesNumber, WritesTold, entries_by, notes_by, numbers_by, tally_by, with_reports, SeenAction, Told}
+use Rattle.desk_commands.proofs.Common.{arith, ◌≡◌, ℕ, ◌+◌, append-nil, List, [], ◌∷◌, Option, Some, None, refl, sym, ap, subst, ◌∙◌, is_some, Then, Reported}
+use Rattle.desk_commands.proofs.Common.{ActionRecord, action_with, ActionChange, Ledger, AddsEntry, AddsNumber, SetsAction, and_entry, set_numbered}
+use Rattle.desk_commands.proofs.Common.{with_actions, with_numbers, StoredAction, TellsAction, canceling_by, outcome_by, TellsReports, WritesNumber, WritesTold}
+use Rattle.desk_commands.proofs.Common.{entries_by, notes_by, numbers_by, tally_by, with_reports, SeenAction, Told}
 use Rattle.desk_records.specs.LedgerSteps.{action_turned}
 use Rattle.desk_commands.proofs.ItemSteps.{set_same, set_twice, zip_at, zip_set}
 
 -- ---- the history and its numbers
-
--- these numbers of an action stay
-numbers_stay : (k : ℕ) (l : Ledger) (numbers : List PlacedNumber) → item_numbered l.numbers k ≡ Some numbers → with_numbers l (set_numbered l.numbers k numbers)
-    ≡ l
-numbers_stay k l numbers at = ap (with_numbers l) (set_same k l.numbers numbers at)
 
 module _ (k place : ℕ) (told : Told) (l next : Ledger) (w : WritesNumber k place told l next) where
   pub number_adds : (number : ℕ) → told.entry.number ≡ Some number → AddsNumber k (told.numbers + 1) (record { sequence = place; number = number }) l next
   number_adds number bears = grind (arith, is_some)
 
   pub no_number : told.entry.number ≡ None → next ≡ l
-  no_number none = grind (arith, append-nil, numbers_stay)
+  no_number none = grind (arith, append-nil, set_same)
 
 -- the entry, and then its number
 pub told_parts : (k place : ℕ) (told : Told) (l next : Ledger) → WritesTold k place (Some told) l next
@@ -40,7 +33,7 @@ told_parts k place told l next w = go w.reports w.tells w.next_is
     go (it ∷ other ∷ more) tells is = absurd tells
 
 pub none_told : (k place : ℕ) (l next : Ledger) → WritesTold k place None l next → next ≡ l
-none_told k place l next w = grind (arith, append-nil, set_same, numbers_stay)
+none_told k place l next w = grind (arith, append-nil, set_same)
 
 -- ---- the action
 
@@ -52,7 +45,7 @@ pub telling_parts : (seen : SeenAction) (after : ActionChange) (told : Option To
     → Then (WritesTold seen.number (entries_by told seen.action.entries) told)
     (SetsAction seen.number (canceling_by after) (outcome_by seen.action.outcome after)
     (record { notes = notes_by told seen.action.notes; entries = entries_by told seen.action.entries })) l next
-telling_parts seen after told l next w = subst
+telling_parts seen after told l next w = let heard = with_reports w.reports w.action.0 in subst
     (λ (a : StoredAction). Then (WritesTold seen.number (entries_by told a.entries) told)
     (SetsAction seen.number (canceling_by after) (outcome_by a.outcome after) (tally_by told (record { notes = a.notes; entries = a.entries }))) l next)
     (sym w.seen_as) (
@@ -79,6 +72,3 @@ telling_parts seen after told l next w = subst
             ∙ sym (set_twice seen.number l.records.actions heard (action_turned (canceling_by after) (outcome_by w.action.0.outcome after) heard)));
       },
     )
-  where
-    heard : ActionRecord
-    heard = with_reports w.reports w.action.0

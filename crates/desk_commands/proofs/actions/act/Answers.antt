@@ -8,16 +8,14 @@ returns-clause-writes g c =
 
 pub returns-in_err-tell_action-clause-fails : goal.returns-in_err-tell_action-clause-fails
 returns-in_err-tell_action-clause-fails g c =
-    writes_end (λ l sees it. c.in_err-tell_action.ensures.counts.to (can_tell c.args.seen.now c.args.after.now c.args.told.now l it.given)) _
-    c.from_residual.ensures.1
+    writes_end (λ l sees it. c.in_err-tell_action.ensures.counts.to (can_tell _ _ _ l it.given)) c.from_residual.ensures.1
 
 pub returns-in_err-offer_next-clause-fails : goal.returns-in_err-offer_next-clause-fails
 returns-in_err-offer_next-clause-fails g c =
     writes_end (λ l sees it.
     c.in_err-offer_next.ensures.fails.to it.given.changes.acted
     (c.in_ok-tell_action.ensures.writes.makes l it.given.changes.acted sees (λ clean. it.given.changes.tells))
-    (numbers_stay c.args.seen.now c.args.after.now c.args.told.now l it.given)) _ c.from_residual-in_err-offer_next.ensures.1
+    (numbers_stay _ _ _ l it.given)) c.from_residual-in_err-offer_next.ensures.1
 
 pub returns-clause-fails : goal.returns-clause-fails
-returns-clause-fails g c =
-    writes_last (can_end c.args.seen.now c.args.after.now c.args.told.now) _ c.follow.ensures.counts
+returns-clause-fails g c = writes_last (can_end _ _ _) _ c.follow.ensures.counts

@@ -1,8 +1,5 @@
-use Rattle.desk_commands.proofs.Answering.{refl, makes_as, makes_nothing, writes_as}
+use Rattle.desk_commands.proofs.Answering.{refl, makes_as, writes_as}
 use Rattle.desk_commands.proofs.actions.write_feedback.Goals as goal
-
-pub returns-in_default-clause-writes : goal.returns-in_default-clause-writes
-returns-in_default-clause-writes g c = rw c.in_default.is (makes_nothing (λ l next w. w))
 
 pub returns-clause-writes : goal.returns-clause-writes
 returns-clause-writes g c =

@@ -1,4 +1,4 @@
-use Rattle.desk_commands.proofs.Answering.{◌≤◌, ◌∙◌, ap, length, nat_lt, subst, both_found, finds_as, missing, shown_count}
+use Rattle.desk_commands.proofs.Answering.{◌∙◌, ap, length, both_found, finds_as, missing, shown_count}
 use Rattle.desk_commands.proofs.artifacts.read_view.Goals as goal
 
 pub returns-clause-reads : goal.returns-clause-reads
@@ -10,9 +10,7 @@ returns-clause-reads g c =
     c.in_ok-of_module.ensures.reads)
     c.in_ok-count.ensures.reads)
     (λ r is. record {
-      misses_module = ap (λ n. nat_lt c.in_ok-last_module.last_module n) c.get.ensures.value
-          ∙ missing r.modules c.args.upload.now.module_number c.in_ok-last_module.last_module (subst (λ n. 1 ≤ n) c.get.ensures.value c.get.ensures.least)
-          is.0.0.0.0;
+      misses_module = rw c.get.ensures.value (missing r.modules _ _ (rw c.get.ensures.value at c.get.ensures.least) is.0.0.0.0);
       locked = is.0.0.0.1;
       same = is.0.0.1;
       module_count = c.len.ensures ∙ c.in_ok-of_module.of_module.ok.0 ∙ ap length is.0.1 ∙ shown_count c.args.upload.now.module_number 1 r.artifacts;

@@ -1,9 +1,6 @@
-use Rattle.desk_commands.proofs.Answering.{◌≡◌, ◌+◌, cond, sym, ap, ◌∙◌, arith, sorted_from, counted_key, none_counted}
+use Rattle.desk_commands.proofs.Answering.{◌≡◌, ◌+◌, cond, sym, ap, ◌∙◌, arith, sorted_from, counted_key}
 use Rattle.desk_commands.proofs.attributes.count_new.Goals as goal
 use Rattle.desk_commands.proofs.attributes.count_new.Goals.{then-not-has_key_since, else-not-has_key_since}
-
-pub loop-i-init : goal.loop-i-init
-loop-i-init c = record { few = omega arith; all = λ ordered. none_counted c.args.had.now }
 
 pub loop-i-preserved : goal.loop-i-preserved
 loop-i-preserved c =

@@ -1,5 +1,4 @@
-use Rattle.desk_commands.proofs.Answering.{ap, sym, finds_as}
-use Rattle.desk_commands.proofs.Common.{append-nil}
+use Rattle.desk_commands.proofs.Answering.{ap, sym, finds_as, append-nil}
 use Rattle.std.specs.Result.{is_ok}
 use Rattle.desk_commands.proofs.CreationLemmas.{id_matched}
 use Rattle.desk_commands.proofs.creation.add_if_match.Goals as goal

@@ -9,16 +9,10 @@ returns-in-Err-clause-steps g c =
 
 pub returns-clause-steps : goal.returns-clause-steps
 returns-clause-steps g c =
-    let passes = c.in-Ok.ensures.0 in
-    let members = c.in_ok-chosen.chosen.members.items in
     let plan = c.args.plan.now in
     accepted_at (both_found c.in_ok-chosen.ensures.reads c.in_ok-view.ensures.reads) _
-    (λ h valid is. creates plan c.in-Ok.created members h valid
-    (ready plan c.in-Ok.created c.in_ok-chosen.chosen c.in_ok-view.view _ is.0 is.1 passes c.in-Ok.ensures.1))
+    (λ h valid is. creates plan _ _ h valid (ready plan _ _ c.in_ok-view.view _ is.0 is.1 c.in-Ok.ensures.0 c.in-Ok.ensures.1))
     (ledger_made _ (rw c.deref-3.ensures.value at c.in_ok-write_whole.ensures.writes)) _
     (λ h valid is.
-    let it = ready plan c.in-Ok.created c.in_ok-chosen.chosen c.in_ok-view.view _ is.0 is.1 passes c.in-Ok.ensures.1 in (
-      it.accepted,
-      shown_added plan c.in-Ok.created members _ it c.in-Some.count (c.in-Some.ensures ∙ ap length c.deref.ensures.value) c.in-Ok-show_new.shown
-          c.in-Ok-show_new.ensures,
-    ))
+    let it = ready plan _ c.in_ok-chosen.chosen c.in_ok-view.view _ is.0 is.1 c.in-Ok.ensures.0 c.in-Ok.ensures.1 in
+    (it.accepted, shown_added plan _ _ _ it _ (c.in-Some.ensures ∙ ap length c.deref.ensures.value) c.in-Ok-show_new.shown c.in-Ok-show_new.ensures))

@@ -1,4 +1,4 @@
-use Rattle.desk_commands.proofs.Answering.{◌∙◌, subst, ◌≤◌, ap, length, nat_lt, both_found, finds_as, ledger_found, missing}
+use Rattle.desk_commands.proofs.Answering.{◌∙◌, ap, length, both_found, finds_as, ledger_found, missing}
 use Rattle.desk_commands.proofs.creation.read_view.Goals as goal
 
 pub returns-clause-reads : goal.returns-clause-reads
@@ -9,8 +9,7 @@ returns-clause-reads g c =
     (ledger_found _ c.in_ok-approval.ensures.reads))
     (λ r is chosen. record {
       bad_filter = chosen.bad_filter;
-      misses_set = ap (λ n. nat_lt c.in_ok-last_set.last_set n) c.get.ensures.value ∙ missing r.sets c.args.plan.now.set_number c.in_ok-last_set.last_set
-          (subst (λ n. 1 ≤ n) c.get.ensures.value c.get.ensures.least) is.0.0.0;
+      misses_set = rw c.get.ensures.value (missing r.sets _ _ (rw c.get.ensures.value at c.get.ensures.least) is.0.0.0);
       same_name = is.0.0.1;
       members = c.requires ∙ ap length chosen.members;
       count = is.0.1;

@@ -4,10 +4,9 @@ use Rattle.desk_commands.proofs.endings.follow_ending.Goals as goal
 
 pub returns-clause-writes : goal.returns-clause-writes
 returns-clause-writes g c =
-    let seen = c.args.seen.now in
     makes_then c.in_ok-count_outcome.ensures.writes
     (λ l next w. (
-      with_rollout l seen.action.rollout (with_outcome seen c.args.ending.now.outcome w.rollout),
+      with_rollout l c.args.seen.now.action.rollout (with_outcome c.args.seen.now c.args.ending.now.outcome w.rollout),
       record { rollout = w.rollout; is_its = w.is_its; own = w.own; next_is = refl },
       w.follows,
     ))

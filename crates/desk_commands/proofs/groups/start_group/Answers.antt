@@ -3,11 +3,10 @@ use Rattle.desk_commands.proofs.groups.start_group.Goals as goal
 
 pub returns-clause-writes : goal.returns-clause-writes
 returns-clause-writes g c =
-    let it = c.args.group.now in
     makes_then c.in_ok-change_group.ensures.writes
     (λ l next h. (
-      with_group l c.args.number h.rollout (started it),
-      record { rollout = h.rollout; is_there = h.is_there; was = it; is_its = h.is_its; next_is = refl },
+      with_group l c.args.number h.rollout (started c.args.group.now),
+      record { rollout = h.rollout; is_there = h.is_there; was = c.args.group.now; is_its = h.is_its; next_is = refl },
       record { tallied = h.tallied; next_is = h.next_is },
     ))
     _ c.write_group_offers.ensures.writes

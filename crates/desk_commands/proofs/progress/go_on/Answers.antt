@@ -1,4 +1,4 @@
-use Rattle.desk_commands.proofs.Answering.{Ok, rules, ◌∙◌, both_found, ledger_made, ledger_of, records, GoesOn, CanStart, IsSeenIn, accepted_at, refused_at}
+use Rattle.desk_commands.proofs.Answering.{Ok, rules, ◌∙◌, both_found, ledger_made, ledger_of, records, GoesOn, CanStart, accepted_at, refused_at}
 use Rattle.desk_commands.proofs.Answering.{asked_at, counted, writes_end, can_start, found_in, gone_on, none_there, of_list, seen_there}
 use Rattle.desk_commands.proofs.ProgressLemmas.{is_gone}
 use Rattle.desk_commands.proofs.progress.go_on.Goals as goal
@@ -13,11 +13,10 @@ returns-in-Some-refusal_of-clause-steps g c =
     refused_at (both_found (rw c.in-Some.is at c.in_ok-found.ensures.reads) c.in_ok-rollout.ensures.reads)
     (λ h valid sees.
     let it = seen_there h valid c.args.number c.in-Some.seen sees.0 in
-    c.refusal_of.ensures h c.args.number it.rollout it.at (sees.1 (of_list h valid) it.rollout it.at.is_there it.at.is_seen) ∙ c.in-Some-refusal_of.is)
+    c.refusal_of.ensures h _ _ it.at (sees.1 (of_list h valid) _ it.at.is_there it.at.is_seen) ∙ c.in-Some-refusal_of.is)
 
 pub returns-clause-steps : goal.returns-clause-steps
 returns-clause-steps g c =
-    let going = c.args.going in
     let number = c.args.number in
     let seen = c.in-Some.seen in
     accepted_at (both_found (rw c.in-Some.is at c.in_ok-found.ensures.reads) c.in_ok-rollout.ensures.reads)
@@ -25,39 +24,32 @@ returns-clause-steps g c =
     (λ h valid sees.
     let it = seen_there h valid number seen sees.0 in
     let view = sees.1 (of_list h valid) it.rollout it.at.is_there it.at.is_seen in
-    gone_on going h number seen it c.in_ok-rollout.rollout view _ c.pause_of-paused.ensures _ c.start_of-starts.ensures
+    gone_on c.args.going h number seen it c.in_ok-rollout.rollout view _ c.pause_of-paused.ensures _ c.start_of-starts.ensures
     (c.refusal_of.ensures h number it.rollout it.at view ∙ c.in_default-refusal_of.is))
     (ledger_made (Ok tt) c.in_ok-write_going.ensures.writes)
     _ (λ h valid sees.
-    let it = seen_there h valid number seen sees.0 in (
-      c.refusal_of.ensures h number it.rollout it.at (sees.1 (of_list h valid) it.rollout it.at.is_there it.at.is_seen) ∙ c.in_default-refusal_of.is,
-      (is_gone going).reply _ number,
-    ))
+    let at = (seen_there h valid number seen sees.0).at in
+    (c.refusal_of.ensures h _ _ at (sees.1 (of_list h valid) _ at.is_there at.is_seen) ∙ c.in_default-refusal_of.is, (is_gone c.args.going).reply _ number))
 
 pub returns-in_err-rollout-clause-fails : goal.returns-in_err-rollout-clause-fails
 returns-in_err-rollout-clause-fails g c =
-    let number = c.args.number in
-    let seen = c.in-Some.seen in
-    writes_end (asked_at (λ l given. given.of_list) (rw c.in-Some.is at c.in_ok-found.ensures.reads) (IsSeenIn number seen) c.in_err-rollout.ensures.reads.wears
-    (λ h valid sees given. found_in h number seen (seen_there h valid number seen sees)) c.in_err-rollout.ensures.fails.to) _
+    writes_end (asked_at (λ l given. given.of_list) (rw c.in-Some.is at c.in_ok-found.ensures.reads) c.in_err-rollout.ensures.reads.wears
+    (λ h valid sees given. found_in h _ _ (seen_there h valid c.args.number c.in-Some.seen sees)) c.in_err-rollout.ensures.fails.to)
     c.from_residual-in_err-rollout.ensures.1
 
 pub returns-in_err-write_going-clause-fails : goal.returns-in_err-write_going-clause-fails
 returns-in_err-write_going-clause-fails g c =
-    let going = c.args.going in
     let number = c.args.number in
     let seen = c.in-Some.seen in
-    let starts = c.start_of-starts.result in
     writes_end (asked_at (λ l given. given.of_list) (both_found (rw c.in-Some.is at c.in_ok-found.ensures.reads) c.in_ok-rollout.ensures.reads)
-    (λ l. CanStart seen.groups.items starts)
-    c.in_err-write_going.ensures.writes.wears
+    {Asked = λ l. CanStart seen.groups.items c.start_of-starts.result} c.in_err-write_going.ensures.writes.wears
     (λ h valid sees given.
     let it = seen_there h valid number seen sees.0 in
     let view = sees.1 (of_list h valid) it.rollout it.at.is_there it.at.is_seen in
-    can_start number seen c.pause_of-paused.result starts _ _
-    (gone_on going h number seen it c.in_ok-rollout.rollout view _ c.pause_of-paused.ensures _ c.start_of-starts.ensures
+    can_start number seen _ _ _ _
+    (gone_on c.args.going h number seen it c.in_ok-rollout.rollout view _ c.pause_of-paused.ensures _ c.start_of-starts.ensures
     (c.refusal_of.ensures h number it.rollout it.at view ∙ c.in_default-refusal_of.is)))
-    (counted c.in_err-write_going.ensures.counts)) _ c.from_residual-in_err-write_going.ensures.1
+    (counted c.in_err-write_going.ensures.counts)) c.from_residual-in_err-write_going.ensures.1
 
 pub returns-in_err-write_going-clause-stays : goal.returns-in_err-write_going-clause-stays
 returns-in_err-write_going-clause-stays g c =

@@ -9,10 +9,10 @@ returns-then-last-eq0-clause-reads g c =
 pub returns-clause-reads : goal.returns-clause-reads
 returns-clause-reads g c =
     finds_as (ledger_found _ c.in_ok-read_rule.ensures.reads)
-    (λ r is x there seen. said_of r c.args.number c.args.last x c.in_ok-rule.rule there (sym (ok_or_some _ _ _ c.in_ok-rule.ensures.value) ∙ is))
+    (λ r is x there seen. said_of r c.args.number c.args.last x c.in_ok-rule.rule there (sym (ok_or_some _ c.in_ok-rule.ensures.value) ∙ is))
 
 pub returns-in_err-rule-clause-fails : goal.returns-in_err-rule-clause-fails
 returns-in_err-rule-clause-fails g c =
     reads_end (never c.in_ok-read_rule.ensures.reads
     (λ l is given. let it = last_said c.args.number c.args.seen.now c.args.last l given c.if-last-eq0.false in
-    never_missing _ _ _ it.0 c.in_err-rule.ensures.value (is ∙ it.1))) _ c.from_residual-in_err-rule.ensures.1
+    never_missing _ c.in_err-rule.ensures.value (is ∙ it.1))) c.from_residual-in_err-rule.ensures.1

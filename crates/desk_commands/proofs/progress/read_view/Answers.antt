@@ -5,22 +5,13 @@ pub returns-clause-reads : goal.returns-clause-reads
 returns-clause-reads g c =
     finds_as c.in_ok-rule.ensures.reads
     (λ r is of x there seen.
-    seen_view of.list c.args.number c.args.seen.now x
+    seen_view of.list c.args.number _ x
     (record { valid = of.valid; is_there = ap (λ (rs : Records). item_numbered rs.rollouts c.args.number) (sym of.are) ∙ there; is_seen = seen })
-    c.last_started-started.result c.get.result c.in_ok-rule.rule c.group_at.result c.in_ok-last.last
-    (c.last_started-started.ensures ∙ ap last_started c.deref.ensures.value) (is x there seen)
+    _ _ _ _ _ (c.last_started-started.ensures ∙ ap last_started c.deref.ensures.value) (is x there seen)
     (c.group_at.ensures ∙ ap (λ gs. item_numbered gs c.last_started-started.result) c.deref-2.ensures.value) c.in_ok-last.ensures c.get.ensures.value)
-
-pub returns-in_err-rule-clause-fails : goal.returns-in_err-rule-clause-fails
-returns-in_err-rule-clause-fails g c =
-    reads_end (λ l sees it. c.in_err-rule.ensures.fails.to l sees
-    (record {
-      readable = it.readable;
-      given = record { sees = it.given; last_is = c.last_started-started.ensures ∙ ap last_started c.deref.ensures.value };
-    })) _ c.from_residual.ensures.1
 
 pub returns-in_err-last-clause-fails : goal.returns-in_err-last-clause-fails
 returns-in_err-last-clause-fails g c =
     reads_end (never_given (λ l given. ends_in c.args.number c.args.seen.now l given c.last_started-started.result _
-    (c.group_at.ensures ∙ ap (λ gs. item_numbered gs c.last_started-started.result) c.deref-2.ensures.value) c.in_err-last.ensures.1)) _
+    (c.group_at.ensures ∙ ap (λ gs. item_numbered gs c.last_started-started.result) c.deref-2.ensures.value) c.in_err-last.ensures.1))
     c.from_residual-in_err-last.ensures.1

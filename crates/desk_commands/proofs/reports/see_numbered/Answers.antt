@@ -13,5 +13,5 @@ returns-in-None-clause-reads g c =
 pub returns-in_err-standing-in-Some-clause-fails : goal.returns-in_err-standing-in-Some-clause-fails
 returns-in_err-standing-in-Some-clause-fails g c =
     reads_end (asked (rw c.in-Some.is at c.in_ok-found.ensures.reads) c.in_err-standing-in-Some.ensures.reads.wears
-    (λ l is of. record { of_list = of; place = c.in-Some.last.place; is_last = is }) c.in_err-standing-in-Some.ensures.fails.to) _
+    (λ l is of. record { of_list = of; place = c.in-Some.last.place; is_last = is }) c.in_err-standing-in-Some.ensures.fails.to)
     c.from_residual-in_err-standing-in-Some.ensures.1

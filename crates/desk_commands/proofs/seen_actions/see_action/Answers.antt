@@ -14,4 +14,4 @@ returns-in-None-clause-reads g c = finds_as (rw c.in-None.is at c.in_ok-found.en
 pub returns-in_err-seen-in-Some-clause-fails : goal.returns-in_err-seen-in-Some-clause-fails
 returns-in_err-seen-in-Some-clause-fails g c =
     reads_end (asked (rw c.in-Some.is at c.in_ok-found.ensures.reads) c.in_err-seen-in-Some.ensures.reads.wears
-    (λ l is of. record { of_list = of; is_there = is }) c.in_err-seen-in-Some.ensures.fails.to) _ c.from_residual-in_err-seen-in-Some.ensures.1
+    (λ l is of. record { of_list = of; is_there = is }) c.in_err-seen-in-Some.ensures.fails.to) c.from_residual-in_err-seen-in-Some.ensures.1

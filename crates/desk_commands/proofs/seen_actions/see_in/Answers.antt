@@ -16,35 +16,30 @@ returns-in_err-view-clause-stays g c =
 pub returns-clause-reads : goal.returns-clause-reads
 returns-clause-reads g c =
     finds_as (both_found (both_found c.in_ok-read_rollout.ensures.reads c.in_ok-found.ensures.reads) c.in_ok-read_rule.ensures.reads)
-    (λ l is. rw c.in_ok-view.ensures (sees l c.args.number c.args.action.now _ _ c.in_ok-rollout.rollout c.in_ok-own.own c.in_ok-rule.rule
-    is.0.0 (ok_or_some _ _ _ c.in_ok-rollout.ensures.value) is.0.1 (ok_or_some _ _ _ c.in_ok-own.ensures.value)
-    (sym is.1 ∙ ok_or_some _ _ _ c.in_ok-rule.ensures.value)))
+    (λ l is. rw c.in_ok-view.ensures (sees l _ _ _ _ _ _ _ is.0.0 (ok_or_some _ c.in_ok-rollout.ensures.value) is.0.1 (ok_or_some _ c.in_ok-own.ensures.value)
+    (sym is.1 ∙ ok_or_some _ c.in_ok-rule.ensures.value)))
 
 pub returns-in_err-rollout-clause-fails : goal.returns-in_err-rollout-clause-fails
 returns-in_err-rollout-clause-fails g c =
-    let action = c.args.action.now in
     reads_end (never c.in_ok-read_rollout.ensures.reads
-    (λ l is given. never_missing _ _ _ _ c.in_err-rollout.ensures.value (rollout_is l action (has_group c.args.number action l given) _ is))) _
+    (λ l is given. never_missing _ c.in_err-rollout.ensures.value (rollout_is l _ (has_group _ _ l given) _ is)))
     c.from_residual-in_err-rollout.ensures.1
 
 pub returns-in_err-own-clause-fails : goal.returns-in_err-own-clause-fails
 returns-in_err-own-clause-fails g c =
-    let action = c.args.action.now in
     reads_end (never (both_found c.in_ok-read_rollout.ensures.reads c.in_ok-found.ensures.reads)
-    (λ l is given. never_missing _ _ _ _ c.in_err-own.ensures.value (own_is l action (has_group c.args.number action l given) _ is.1))) _
+    (λ l is given. never_missing _ c.in_err-own.ensures.value (own_is l _ (has_group _ _ l given) _ is.1)))
     c.from_residual-in_err-own.ensures.1
 
 pub returns-in_err-rule-clause-fails : goal.returns-in_err-rule-clause-fails
 returns-in_err-rule-clause-fails g c =
-    let action = c.args.action.now in
     reads_end (never (both_found (both_found c.in_ok-read_rollout.ensures.reads c.in_ok-found.ensures.reads) c.in_ok-read_rule.ensures.reads)
-    (λ l is given. never_missing _ _ _ _ c.in_err-rule.ensures.value
-    (is.1 ∙ rule_is_there l action (has_group c.args.number action l given) _ is.0.1 _ (ok_or_some _ _ _ c.in_ok-own.ensures.value)))) _
+    (λ l is given. never_missing _ c.in_err-rule.ensures.value
+    (is.1 ∙ rule_is_there l _ (has_group _ _ l given) _ is.0.1 _ (ok_or_some _ c.in_ok-own.ensures.value))))
     c.from_residual-in_err-rule.ensures.1
 
 pub returns-in_err-view-clause-fails : goal.returns-in_err-view-clause-fails
 returns-in_err-view-clause-fails g c =
-    let action = c.args.action.now in
     reads_end (never (both_found (both_found c.in_ok-read_rollout.ensures.reads c.in_ok-found.ensures.reads) c.in_ok-read_rule.ensures.reads)
-    (λ l is given. never_beyond l action (has_group c.args.number action l given) _ is.0.1 _ (ok_or_some _ _ _ c.in_ok-own.ensures.value)
-    c.in_err-view.ensures.1)) _ c.from_residual-in_err-view.ensures.1
+    (λ l is given. never_beyond l _ (has_group _ _ l given) _ is.0.1 _ (ok_or_some _ c.in_ok-own.ensures.value)
+    c.in_err-view.ensures.1)) c.from_residual-in_err-view.ensures.1

@@ -10,5 +10,5 @@ returns-in-empty-clause-writes g t c =
 pub returns-in_ok-write_set_module-in-len1-up-clause-writes : goal.returns-in_ok-write_set_module-in-len1-up-clause-writes
 returns-in_ok-write_set_module-in-len1-up-clause-writes g t c =
     makes_then c.in_ok-write_set_module-in-len1-up.ensures.writes
-    (λ r next h. adds_first c.args.number c.args.before c.first-item.result _ r next
+    (λ r next h. adds_first _ _ _ _ r next
     (rw (front c.args.modules.now c.first-item.result c.in-len1-up.len_at_least c.first-item.is) at h)) _ c.write_modules.ensures.writes

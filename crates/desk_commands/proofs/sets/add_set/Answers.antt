@@ -1,4 +1,4 @@
-use Rattle.desk_commands.proofs.Answering.{◌+◌, ◌∙◌, ap, accepted, refused, set_added, set_row, whole_is_step}
+use Rattle.desk_commands.proofs.Answering.{arith, ◌+◌, ◌∙◌, ap, accepted, refused, set_added, set_row}
 use Rattle.desk_commands.proofs.sets.add_set.Goals as goal
 
 pub returns-in-Err-clause-steps : goal.returns-in-Err-clause-steps
@@ -8,8 +8,8 @@ pub returns-clause-steps : goal.returns-clause-steps
 returns-clause-steps g c =
     let label = c.args.label.now in
     accepted c.in_ok-view.ensures.reads
-    _ (λ r is. whole_is_step c.in-Ok.added.number label r (c.in-Ok.ensures.1 ∙ ap (λ n. n + 1) is.count)) c.in_ok-write_whole.ensures.writes
+    _ (λ r is. (c.in-Ok.ensures.1 ∙ ap (λ n. n + 1) is.count, grind arith)) c.in_ok-write_whole.ensures.writes
     _ (λ r is. (
-      set_row r label c.in_ok-view.view is ∙ c.in-Ok.ensures.0,
-      set_added r label c.in-Ok-copy.shown c.in-Ok.added.number (c.in-Ok.ensures.1 ∙ ap (λ n. n + 1) is.count) c.in-Ok-copy.ensures,
+      set_row r label _ is ∙ c.in-Ok.ensures.0,
+      set_added r label _ _ (c.in-Ok.ensures.1 ∙ ap (λ n. n + 1) is.count) c.in-Ok-copy.ensures,
     ))

@@ -1,4 +1,4 @@
-use Rattle.desk_commands.proofs.Answering.{Ok, refl, ◌∙◌, arith, rules, both_found, ledger_found, ledger_made, records, ledger_of, StartsWhole, accepted_at}
+use Rattle.desk_commands.proofs.Answering.{Ok, refl, ◌∙◌, arith, both_found, ledger_found, ledger_made, ledger_of, StartsWhole, accepted_at}
 use Rattle.desk_commands.proofs.Answering.{refused_at, none_there, seen_there, never_at, never_missing, writes_end, first_there, found_in, numbers_left}
 use Rattle.desk_commands.proofs.Answering.{starts_whole, ok_or_some}
 use Rattle.desk_commands.proofs.starting.start_rollout.Goals as goal
@@ -10,64 +10,39 @@ returns-in_default-clause-steps g c =
 pub returns-in-Some-start_refusal-clause-steps : goal.returns-in-Some-start_refusal-clause-steps
 returns-in-Some-start_refusal-clause-steps g c =
     refused_at (rw c.in-Some.is at c.in_ok-found.ensures.reads)
-    (λ h valid sees. let it = seen_there h valid c.args.number c.in-Some.seen sees in c.start_refusal.ensures h c.args.number it.rollout it.at
-    ∙ c.in-Some-start_refusal.is)
+    (λ h valid sees. c.start_refusal.ensures h _ _ (seen_there h valid c.args.number c.in-Some.seen sees).at ∙ c.in-Some-start_refusal.is)
 
 pub returns-clause-steps : goal.returns-clause-steps
 returns-clause-steps g c =
     let number = c.args.number in
     let seen = c.in-Some.seen in
-    let first = c.in_ok-first.first in
-    let last = c.in_ok-last.last in
-    let members = c.in_ok-members.members.items in
     accepted_at
     (both_found (both_found (rw c.in-Some.is at c.in_ok-found.ensures.reads) (ledger_found _ c.in_ok-last.ensures.reads))
     (ledger_found _ c.in_ok-members.ensures.reads))
-    (λ r next. StartsWhole number seen first last members (ledger_of r) (ledger_of next))
+    (λ r next. StartsWhole number seen c.in_ok-first.first c.in_ok-last.last c.in_ok-members.members.items (ledger_of r) (ledger_of next))
     (λ h valid is.
     let it = seen_there h valid number seen is.0.0 in
-    starts_whole h valid number seen first last c.members.result members it (c.start_refusal.ensures h number it.rollout it.at
-    ∙ c.in_default-start_refusal.is)
-    (ok_or_some _ _ _ c.in_ok-first.ensures) is.0.1 (c.members.ensures it.rollout it.at.is_seen) is.1)
+    starts_whole h valid number seen _ _ _ _ it (c.start_refusal.ensures h number it.rollout it.at ∙ c.in_default-start_refusal.is)
+    (ok_or_some _ c.in_ok-first.ensures) is.0.1 (c.members.ensures it.rollout it.at.is_seen) is.1)
     (ledger_made (Ok tt) (rw c.deref-2.ensures.value at c.in_ok-write_start.ensures.writes)) _
-    (λ h valid is. let it = seen_there h valid number seen is.0.0 in (c.start_refusal.ensures h number it.rollout it.at ∙ c.in_default-start_refusal.is, refl))
+    (λ h valid is. (c.start_refusal.ensures h _ _ (seen_there h valid number seen is.0.0).at ∙ c.in_default-start_refusal.is, refl))
 
 pub returns-in_err-first-clause-fails : goal.returns-in_err-first-clause-fails
 returns-in_err-first-clause-fails g c =
-    let number = c.args.number in
-    let seen = c.in-Some.seen in
     writes_end (never_at (λ l given. given.of_list)
     (both_found (both_found (rw c.in-Some.is at c.in_ok-found.ensures.reads) (ledger_found _ c.in_ok-last.ensures.reads))
     (ledger_found _ c.in_ok-members.ensures.reads))
     (λ h valid is given.
-    let it = first_there number seen (ledger_of (records h)) (found_in h number seen (seen_there h valid number seen is.0.0)) in
-    never_missing _ _ _ it.0 c.in_err-first.ensures it.1)) _ c.from_residual-in_err-first.ensures.1
+    never_missing _ c.in_err-first.ensures (first_there _ _ _ (found_in h _ _ (seen_there h valid c.args.number c.in-Some.seen is.0.0))).1))
+    c.from_residual-in_err-first.ensures.1
 
 pub returns-in_err-check_numbers-clause-fails : goal.returns-in_err-check_numbers-clause-fails
 returns-in_err-check_numbers-clause-fails g c =
-    let number = c.args.number in
-    let seen = c.in-Some.seen in
     writes_end (never_at (λ l given. given.of_list)
     (both_found (both_found (rw c.in-Some.is at c.in_ok-found.ensures.reads) (ledger_found _ c.in_ok-last.ensures.reads))
     (ledger_found _ c.in_ok-members.ensures.reads))
     (λ h valid is given.
-    let it = seen_there h valid number seen is.0.0 in
+    let it = seen_there h valid c.args.number c.in-Some.seen is.0.0 in
+    let left = numbers_left h valid _ _ it _ _ _ is.0.1 (c.members.ensures it.rollout it.at.is_seen) is.1 in
     let many = rw c.deref.ensures.value at c.in_err-check_numbers.ensures.1 in
-    omega (
-      arith,
-      many,
-      numbers_left h valid number seen it c.in_ok-last.last c.members.result c.in_ok-members.members.items is.0.1
-          (c.members.ensures it.rollout it.at.is_seen) is.1,
-    )))
-    _ c.from_residual-in_err-check_numbers.ensures.1
-
-pub returns-in_err-write_start-clause-stays : goal.returns-in_err-write_start-clause-stays
-returns-in_err-write_start-clause-stays g c =
-    search (
-      c.in_ok-found.ensures.stays,
-      c.in_ok-last.ensures.stays,
-      c.in_ok-members.ensures.stays,
-      c.in_err-write_start.ensures.stays,
-      c.from_residual-in_err-write_start.ensures,
-      rules,
-    )
+    omega (arith, many, left))) c.from_residual-in_err-check_numbers.ensures.1

@@ -1,8 +1,5 @@
-use Rattle.desk_commands.proofs.Answering.{◌∙◌, sym, rules, makes_nothing, makes_then, same_number, no_action, one_action}
+use Rattle.desk_commands.proofs.Answering.{◌∙◌, sym, rules, makes_then, same_number, one_action}
 use Rattle.desk_commands.proofs.starting.write_actions.Goals as goal
-
-pub loop-i-init : goal.loop-i-init
-loop-i-init g c = record { stays = search rules; writes = makes_nothing (no_action c.args.number c.args.last c.args.members.now) }
 
 pub loop-i-preserved : goal.loop-i-preserved
 loop-i-preserved g c =

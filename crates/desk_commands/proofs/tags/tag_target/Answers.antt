@@ -7,18 +7,12 @@ returns-in-Err-clause-steps g c =
 
 pub returns-then-view-clause-steps : goal.returns-then-view-clause-steps
 returns-then-view-clause-steps g c =
-    let id = c.args.id.now in
-    let tag = c.args.tag.now in
-    let view = c.in_ok-view.view in
     accepted (found_held (λ db r holds. holds.sorted) c.in_ok-view.ensures.reads)
-    (λ r next. next ≡ r) (λ r is. had_is_step r id tag view is.1 c.in-Ok.ensures c.if-view.true is.0) (makes_nothing {E = Fault} (λ r next same. same))
-    _ (λ r is. (tag_row r id tag view is.1 ∙ c.in-Ok.ensures, refl))
+    (λ r next. next ≡ r) (λ r is. had_is_step r _ _ _ is.1 c.in-Ok.ensures c.if-view.true is.0) (makes_nothing {E = Fault} (λ r next same. same))
+    _ (λ r is. (tag_row r _ _ _ is.1 ∙ c.in-Ok.ensures, refl))
 
 pub returns-clause-steps : goal.returns-clause-steps
 returns-clause-steps g c =
-    let id = c.args.id.now in
-    let tag = c.args.tag.now in
-    let view = c.in_ok-view.view in
     accepted c.in_ok-view.ensures.reads
-    _ (λ r is. tag_is_step r id tag view is c.in-Ok.ensures c.if-view.false) c.in_ok-write_target_tag.ensures.writes
-    _ (λ r is. (tag_row r id tag view is ∙ c.in-Ok.ensures, refl))
+    _ (λ r is. tag_is_step r _ _ _ is c.in-Ok.ensures c.if-view.false) c.in_ok-write_target_tag.ensures.writes
+    _ (λ r is. (tag_row r _ _ _ is ∙ c.in-Ok.ensures, refl))

@@ -1,7 +1,6 @@
-use Rattle.desk_commands.proofs.Answering.{sym, ◌∙◌, refl, makes_as, makes_nothing, makes_then, any_word, none_left}
-use Rattle.desk_commands.proofs.Common.{untagged, with_changed}
+use Rattle.desk_commands.proofs.Answering.{sym, ◌∙◌, refl, makes_as, makes_nothing, makes_then, any_word, none_left, untagged, with_changed}
+use Rattle.desk_commands.proofs.Answering.{change_twice, no_change}
 use Rattle.desk_commands.proofs.TagLemmas.{front}
-use Rattle.desk_commands.proofs.TargetLemmas.{change_twice, no_change}
 use Rattle.desk_commands.proofs.targets.+drop_tags.Goals as goal
 
 pub returns-in-empty-clause-writes : goal.returns-in-empty-clause-writes

@@ -3,7 +3,6 @@ use Rattle.desk_commands.proofs.targets.add_row.Goals as goal
 
 pub returns-clause-writes : goal.returns-clause-writes
 returns-clause-writes g c =
-    let row = c.args.row.now in
     makes_then c.in_ok-write_target.ensures.writes
-    (λ r next h. adds_row_parts row (tags_distinct c.as_slice.result.now row.tags c.as_slice.ensures.list c.as_slice.ensures.value) r next h.0 h.1) _
+    (λ r next h. adds_row_parts c.args.row.now (tags_distinct _ _ c.as_slice.ensures.list c.as_slice.ensures.value) r next h.0 h.1) _
     (rw c.as_slice.ensures.value at c.add_tags.ensures.writes)

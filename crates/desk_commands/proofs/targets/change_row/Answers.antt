@@ -1,6 +1,5 @@
-use Rattle.desk_commands.proofs.Answering.{◌≡◌, Some, option_map, refl, subst, makes_then, records, ledger_of, HoldsLedger, Ledger, renamed, with_changed}
-use Rattle.desk_commands.proofs.Answering.{seen_in, stored_target, target_of, PutsOver, Sees, IsReadable, in_order, writes_behind, renamed_readable}
-use Rattle.desk_commands.proofs.Answering.{changes_row_parts}
+use Rattle.desk_commands.proofs.Answering.{Some, refl, makes_then, records, ledger_of, renamed, with_changed, PutsOver, in_order, writes_behind}
+use Rattle.desk_commands.proofs.Answering.{renamed_readable, changes_row_parts}
 use Rattle.desk_commands.proofs.targets.change_row.Goals as goal
 
 pub returns-clause-writes : goal.returns-clause-writes
@@ -12,14 +11,9 @@ returns-clause-writes g c =
 pub returns-clause-fails : goal.returns-clause-fails
 returns-clause-fails g c =
     let row = c.args.row.now in
-    let stored = c.args.stored.now in
     writes_behind (λ l sees it.
-    let given = it.given in
-    let of = given.takes.of_list in
-    let r = records of.list in
-    let next = with_changed r row.id (renamed row.name row.digest) in (
-      ledger_of next,
-      renamed_readable of.list of.valid row given.takes.row_keeps (subst IsReadable of.is it.readable),
-      c.in_ok-rename.ensures.writes.makes r next (subst (Sees HoldsLedger (seen_in g.S.Store c.args.change.now)) of.is sees)
-          (λ clean. (subst (λ (m : Ledger). Some stored ≡ option_map stored_target (target_of m.records row.id)) of.is given.stored_is, refl)),
+    let of = it.given.takes.of_list in (
+      ledger_of (with_changed (records of.list) row.id (renamed row.name row.digest)),
+      renamed_readable of.list of.valid row it.given.takes.row_keeps (rw of.is at it.readable),
+      c.in_ok-rename.ensures.writes.makes (records of.list) _ (rw of.is at sees) (λ clean. (rw of.is at it.given.stored_is, refl)),
     )) _ c.retag.ensures.fails

@@ -23,4 +23,4 @@ pub returns-in_err-then-clause-fails : goal.returns-in_err-then-clause-fails
 returns-in_err-then-clause-fails g c =
     writes_end (rows_end c.args.rows.now c.row-item.result c.loop-row.row-index c.loop-row-test.true c.row-item.is c.loop-row.counted c.loop-row.invariant.puts
     c.in_err-then.ensures.puts.wears c.in_err-then.ensures.fails)
-    _ c.from_residual.ensures.1
+    c.from_residual.ensures.1
