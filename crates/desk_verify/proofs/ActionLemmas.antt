@@ -1,17 +1,15 @@
 -- What the reads of the tables of actions, members and rollouts come to.
-use native.Mathlib.Omega.{arith}
 use Rattle.desk_records.proofs.KeptColumns.{one_in, one_text}
-use Rattle.desk_verify.proofs.Common.{◌≡◌, ℕ, true, false, true≢false, List, [], ◌∷◌, length, nat_eq, pos, Some, None, inl, refl, sym, ap, subst, ◌∙◌}
+use Rattle.desk_verify.proofs.Common.{arith, ◌≡◌, ℕ, true, false, true≢false, List, [], ◌∷◌, length, nat_eq, pos, Some, None, inl, refl, sym, ap, subst, ◌∙◌}
 use Rattle.desk_verify.proofs.Common.{AllByRecursion, Int, Row, column, Has, all_from, all_has, Bytes, has_at, Actions, IsAction, Tables, PlacedMember}
 use Rattle.desk_verify.proofs.Common.{ListedAction, StoredAction, StoredRollout, is_at, number_in_is, number_in_least, number_is, one_number, AreActionsInTurn}
 use Rattle.desk_verify.proofs.Common.{AreMembersInTurn, AreActionsWhole, FitsItsEntries, ListsActions, PassesHistory, are_for, count_none, is_for_member}
-use Rattle.desk_verify.proofs.Common.{AgreesActions, AreInOrder, HasActions, HasMember, IsRightAction, IsStarted, KeepsNumbers, PassesActions, Settles}
+use Rattle.desk_verify.proofs.Common.{AgreesActions, HasMember, IsRightAction, IsStarted, PassesActions, Settles}
 use Rattle.desk_verify.proofs.Common.{AreAllChecked, HasRollout, IsChecked, JudgesOne, IsThere, Bool}
 use Rattle.desk_records.proofs.RowsTold.{same_stored_action}
 use Rattle.desk_verify.proofs.RolloutLemmas.{decided}
 use Rattle.desk_verify.proofs.TurnLemmas.{AreOrdered, IsFor, following, is_own, one_place, ordered, own_is, paired}
 use Rattle.std.specs.Bool.{then_some}
-use Rattle.std.specs.List.{AllZip}
 use Rattle.desk_records.proofs.Membership.{zip_left, zip_right}
 
 -- ---- a row is one action
@@ -55,9 +53,7 @@ module _ {t : Tables} {r : ℕ} {rollout : StoredRollout} (there : HasRollout t 
       numbers = λ row number a among is same. absurd (listed.said.complete row among (of_rollout is same)).among;
     };
   }
-  waiting waits (x ∷ actions) listed = λ agree.
-      let said = listed.said.sound x (inl refl) in
-      let it = agree.each said.row said.among in
+  waiting waits (x ∷ actions) listed = λ agree. let said = listed.said.sound x (inl refl) in let it = agree.each said.row said.among in
       true≢false (sym (said_started (subst (IsStarted t) (own_rollout it.is said.passes) it.started)) ∙ waits)
 
   -- ---- that is started
@@ -72,87 +68,51 @@ module _ {t : Tables} {r : ℕ} {rollout : StoredRollout} (there : HasRollout t 
         let it = placed.said.complete has.row has.among (is_at has.row 1 r (number_in_is _ _ has.is.rollout_is)) in
         let at = one_in _ it.one.place place it.is.place_is has.is.place_is in
         let own = one_text _ it.one.id id it.is.id_is has.is.id_is in
-        let same : it.one ≡ record { id = id; place = place } = λ i. record { id = own i; place = at i } in
-        subst (Has members) same it.among
+        subst (Has members) (λ i. record { id = own i; place = at i }) it.among
 
     fits : are_for members actions ≡ true → AllByRecursion (PassesHistory t) actions → (many : ℕ) → many ≡ length actions
         → IsChecked Actions 2 IsRightAction AreActionsWhole t r many
-    fits are histories many is = record {
-      rows = record { each = each; all = is ∙ listed.said.count };
-      whole = record { all = λ begun. all; in_order = in_order; numbers = numbers };
-    }
-      where
-        pairs : AllZip IsFor members actions
-        pairs = paired members actions are
-
-        each : (row : Row) → Has (t Actions) row → has_at 2 r row ≡ true → IsRightAction t row
-        each row among of =
-            let it = listed.said.complete row among of in
-            let own = own_rollout it.is of in
-            let m = zip_right IsFor members actions it.one pairs it.among in
-            let at = is_own m.0 it.one m.2 in
-            record {
-              number = it.one.number;
-              action = it.one.action;
-              is = it.is;
-              started = subst (IsStarted t) (sym own) (is_started started);
-              member = subst (λ n. HasMember t n it.one.action.position it.one.action.target) (sym own)
-                  (subst (λ p. HasMember t r p it.one.action.target) (sym at.0) (subst (HasMember t r m.0.place) (sym at.1) (has_member m.0 m.1)));
-              fits = (all_has (PassesHistory t) actions it.one histories it.among).fits;
-            }
-
-        all : HasActions t r
-        all place id has =
-            let m : PlacedMember = record { id = id; place = place } in
-            let a = zip_left IsFor members actions m pairs (member_has place id has) in
-            let it = listed.said.sound a.0 a.1 in
-            record {
-              row = it.row;
-              among = it.among;
-              number = a.0.number;
-              action = a.0.action;
-              is = it.is;
-              rollout_is = own_rollout it.is it.passes;
-              place_is = (is_own m a.0 a.2).0;
-            }
-
-        in_order : (row other : Row) (j k : ℕ) (a b : StoredAction) → Has (t Actions) row → Has (t Actions) other → IsAction row j a → IsAction other k b
-            → a.rollout ≡ r → b.rollout ≡ r → AreInOrder j k a b
-        in_order row other j k a b among others is other_is of other_of =
-            let c = listed.said.complete row among (of_rollout is of) in
-            let d = listed.said.complete other others (of_rollout other_is other_of) in
-            let order = ordered members actions placed.turn listed.turn pairs c.one d.one c.among d.among in
-            let one = same_action c.is is in
-            let two = same_action d.is other_is in
-            subst (λ x. AreInOrder j k x b) one.action (subst (AreInOrder j k c.one.action) two.action (subst (λ n. AreInOrder n k c.one.action d.one.action)
-            one.number (subst (λ n. AreInOrder c.one.number n c.one.action d.one.action) two.number (record { apart = order.0; order = order.1 }))))
-
-        numbers : (row : Row) (number : ℕ) (a : StoredAction) → Has (t Actions) row → IsAction row number a → a.rollout ≡ r → KeepsNumbers t number
-        numbers row number a among is of =
-            let it = listed.said.complete row among (of_rollout is of) in
-            subst (KeepsNumbers t) (same_action it.is is).number (all_has (PassesHistory t) actions it.one histories it.among).numbers
+    fits are histories many is =
+        let pairs = paired members actions are in
+        record {
+          rows = record {
+            each = λ row among of.
+                let it = listed.said.complete row among of in
+                let m = zip_right IsFor members actions it.one pairs it.among in
+                let passes = all_has (PassesHistory t) actions it.one histories it.among in
+                grind (arith, is_own m.0 it.one m.2, own_rollout it.is of, is_started started, has_member m.0 m.1);
+            all = is ∙ listed.said.count;
+          };
+          whole = record {
+            all = λ begun place id has.
+                let a = zip_left IsFor members actions (record { id = id; place = place }) pairs (member_has place id has) in
+                let it = listed.said.sound a.0 a.1 in
+                grind (arith, it.is, own_rollout it.is it.passes, (is_own _ a.0 a.2).0);
+            in_order = λ row other j k a b among others is other_is of other_of.
+                let c = listed.said.complete row among (of_rollout is of) in
+                let d = listed.said.complete other others (of_rollout other_is other_of) in
+                let order = ordered members actions placed.turn listed.turn pairs c.one d.one c.among d.among in
+                grind (arith, order, same_action c.is is, same_action d.is other_is);
+            numbers = λ row number a among is of. let it = listed.said.complete row among (of_rollout is of) in
+                grind (arith, same_action it.is is, all_has (PassesHistory t) actions it.one histories it.among);
+          };
+        }
 
     agreeing : AgreesActions t → are_for members actions ≡ true
     agreeing agree = following members actions placed.turn listed.turn all own order
       where
         own : (a : ListedAction) → Has actions a → (m : PlacedMember) × Has members m × (is_for_member m a ≡ true)
-        own a among =
-            let said = listed.said.sound a among in
-            let it = agree.each said.row said.among in
+        own a among = let said = listed.said.sound a among in let it = agree.each said.row said.among in
             let same = (same_action it.is said.is).action in
-            let m : PlacedMember = record { id = a.action.target; place = a.action.position } in
-            let has = subst (λ n. HasMember t n m.place m.id) (own_rollout said.is said.passes)
-            (subst (λ (x : StoredAction). HasMember t x.rollout x.position x.target) same it.member) in
-            (m, member_has m.place m.id has, own_is m a refl refl)
+            let has : HasMember t r a.action.position a.action.target = grind (arith, it.member, own_rollout said.is said.passes, same) in
+            (record { id = a.action.target; place = a.action.position }, member_has a.action.position a.action.target has, own_is _ a refl refl)
 
         all : (m : PlacedMember) → Has members m → (a : ListedAction) × Has actions a × (is_for_member m a ≡ true)
         all m among =
             let has = agree.all r (is_started started) m.place m.id (has_member m among) in
             let it = listed.said.complete has.row has.among (of_rollout has.is has.rollout_is) in
-            let at = ap (λ (x : StoredAction). x.position) (same_action it.is has.is).action ∙ has.place_is in
             let its = own it.one it.among in
-            let same : its.0 ≡ m = one_place members placed.turn its.0 m its.1 among (sym (is_own its.0 it.one its.2).0 ∙ at) in
-            (it.one, it.among, subst (λ (n : PlacedMember). is_for_member n it.one ≡ true) same its.2)
+            grind (arith, same_action it.is has.is, one_place members placed.turn its.0 m its.1 among, is_own its.0 it.one its.2)
 
         order : (a b : ListedAction) → Has actions a → Has actions b → AreOrdered a b
         order a b among others =
@@ -162,9 +122,6 @@ module _ {t : Tables} {r : ℕ} {rollout : StoredRollout} (there : HasRollout t 
             (own_rollout p.is p.passes ∙ sym (own_rollout q.is q.passes)) in
             (it.apart, it.order)
 
-    fails_history : (AllByRecursion (FitsItsEntries t) actions → ⊥) → AgreesActions t → ⊥
-    fails_history other agree = grind (arith, all_from, same_action)
-
     pub fails : are_for members actions ≡ false → AgreesActions t → ⊥
     fails other agree = true≢false (sym (agreeing agree) ∙ other)
 
@@ -172,7 +129,7 @@ module _ {t : Tables} {r : ℕ} {rollout : StoredRollout} (there : HasRollout t 
         → Settles (AllByRecursion (PassesHistory t) actions) (AllByRecursion (FitsItsEntries t) actions) fit → (many : ℕ) → many ≡ length actions
         → JudgesOne Actions 2 IsRightAction AreActionsWhole AgreesActions t r (then_some fit many)
     judged_started are true histories many is = fits are histories many is
-    judged_started are false other many is = fails_history other
+    judged_started are false other many is = grind (arith, all_from, same_action, other)
 
 -- ---- all of them
 
@@ -199,11 +156,5 @@ agrees t listed all checked is = decided PassesActions AgreesActions listed all 
       };
       numbers = λ row number action among says. (at row number action among says).numbers row number action among says refl;
     }))
-    (λ agree row among.
-    let it = agree.each row among in
-    record {
-      rollout = it.action.rollout;
-      low = number_in_least (column row 2) it.action.rollout it.is.shows.rollout;
-      there = is_there t it.action.rollout it.started;
-      of = of_rollout it.is refl;
-    })
+    (λ agree row among. let it = agree.each row among in
+    grind (arith, number_in_least (column row 2) it.action.rollout it.is.shows.rollout, is_there t it.action.rollout it.started, of_rollout it.is refl))

@@ -44,12 +44,10 @@ artifacts_agree h valid db t held holds row among = record {
     contents = it.one.contents;
     size = sym (is_whole h it.d it.got).0;
     digest = sym (is_whole h it.d it.got).1;
-    pieces = λ k piece is. subst (ArePieces (t Pieces) (suc it.d) (k + 1)) (its_pieces (records h).artifacts (suc it.d) k it.one it.got ∙ ap option_to_list is)
-        (pieces (k + 1));
-    end =
-        let last = length (pieces_in it.one.contents) in
-        subst (ArePieces (t Pieces) (suc it.d) (last + 1)) (its_pieces (records h).artifacts (suc it.d) last it.one it.got
-        ∙ ap option_to_list (slice_get_past (pieces_in it.one.contents) last (omega arith))) (pieces (last + 1));
+    pieces = λ k piece is. grind (arith, its_pieces (records h).artifacts (suc it.d) k it.one it.got, is, pieces (k + 1));
+    end = let last = length (pieces_in it.one.contents) in
+        let past = slice_get_past (pieces_in it.one.contents) last (omega arith) in
+        grind (arith, its_pieces (records h).artifacts (suc it.d) last it.one it.got, past, pieces (last + 1));
   };
 }
   where

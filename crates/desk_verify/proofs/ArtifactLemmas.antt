@@ -1,7 +1,7 @@
 -- What the reads of the tables of artifacts and pieces come to.
 use Rattle.desk_verify.proofs.Common.{◌≡◌, ℕ, suc, ◌+◌, Bool, true, false, not, true≢false, List, [], ◌∷◌, map, length, nat_eq, Vec, vec_items, Some, None}
 use Rattle.desk_verify.proofs.Common.{refl, sym, ap, subst, ◌∙◌, arith, AllByRecursion, pointwise, Global, Decides-eqb, nat_tests, slice_eq-Decides, Row}
-use Rattle.desk_verify.proofs.Common.{column, all_from, all_has, digest_of, piece_count, Bytes, ArePieces, pieces_in, Artifacts, Pieces, Tables, number_in_is}
+use Rattle.desk_verify.proofs.Common.{column, all_from, all_has, piece_count, Bytes, ArePieces, pieces_in, Artifacts, Pieces, Tables, number_in_is}
 use Rattle.desk_verify.proofs.Common.{one_number, count_pieces, ListsRows, SaysArtifact, any_row, SettlesWhether, HashesPieces, AgreesArtifacts, not-false}
 use Rattle.desk_verify.specs.Artifacts.{IsWhole}
 use Rattle.desk_records.specs.declared.checked_rows.CheckedArtifact.{CheckedArtifact}
@@ -15,14 +15,9 @@ are_other xs ys r is told same = true≢false (sym told ∙ is ∙ ap not ((slic
 pub are_same : (xs ys : Bytes) (r : Bool) → r ≡ not (pointwise nat_eq xs ys) → r ≡ false → xs ≡ ys
 are_same xs ys r is told = (slice_eq-Decides Decides-eqb xs ys (pointwise nat_eq xs ys) refl).0 (not-false (pointwise nat_eq xs ys) (sym is ∙ told))
 
-pub no_contents : (t : Tables) (a : CheckedArtifact) → HashesPieces t a.number a.artifact.size None → SettlesWhether (IsWhole t a) false
-no_contents t a none whole = none whole.contents whole.size whole.pieces
-
 pub other_digest : (t : Tables) (a : CheckedArtifact) (digest : Bytes) → HashesPieces t a.number a.artifact.size (Some digest)
     → (digest ≡ a.artifact.digest → ⊥) → SettlesWhether (IsWhole t a) false
-other_digest t a digest has other whole =
-    let same = one_whole t a.number has.contents whole.contents (has.long ∙ sym whole.size) has.pieces whole.pieces in
-    other (has.is ∙ ap digest_of same ∙ whole.digest)
+other_digest t a digest has other whole = grind (arith, one_whole t a.number has.contents whole.contents)
 
 -- what lies behind the last piece decides
 pub by_end : (t : Tables) (a : CheckedArtifact) (digest : Bytes) (behind : List (Vec ℕ Global)) (count place : ℕ) (none : Bool)
@@ -37,17 +32,8 @@ by_end t a digest behind count place none has is so_many at lies is_none = subst
     some n = grind (arith, nat_tests)
 
     go : (behind : List (Vec ℕ Global)) → ArePieces (t Pieces) a.number place (map vec_items behind) → SettlesWhether (IsWhole t a) (nat_eq (length behind) 0)
-    go [] lies = record {
-      contents = has.contents;
-      size = has.long;
-      digest = sym has.is ∙ is;
-      pieces = has.pieces;
-      end = subst (λ n. ArePieces (t Pieces) a.number n []) (here has.contents has.long) lies;
-    }
-    go (piece ∷ more) lies = subst (SettlesWhether (IsWhole t a)) (sym (some (length more))) (λ whole.
-        let none = none_found (t Pieces) a.number place (piece.items ∷ map vec_items more)
-        (subst (λ n. ArePieces (t Pieces) a.number n []) (sym (here whole.contents whole.size)) whole.end) lies in
-        omega (arith, none))
+    go [] lies = grind (arith, here has.contents has.long, has.is, is)
+    go (piece ∷ more) lies = grind (arith, some (length more), here, none_found (t Pieces) a.number place (piece.items ∷ map vec_items more))
 
 -- ---- all of them
 
@@ -60,9 +46,8 @@ row_broken t broken agree = let it = agree broken.row broken.among in broken.bre
 
 pub by_each : (t : Tables) (artifacts : List CheckedArtifact) (whole : Bool) → ListsRows (t Artifacts) any_row SaysArtifact (Some artifacts)
     → SettlesWhether (AllByRecursion (IsWhole t) artifacts) whole → SettlesWhether (AgreesArtifacts t) whole
-by_each t artifacts true are each = λ row among.
-    let it = are.complete row among refl in
-    record { artifact = it.one; is = it.is; whole = all_has (IsWhole t) artifacts it.one each it.among }
+by_each t artifacts true are each = λ row among. let it = are.complete row among refl in
+    grind (arith, it.is, all_has (IsWhole t) artifacts it.one each it.among)
 by_each t artifacts false are other = λ agree. other (all_from (IsWhole t) artifacts (λ a among.
     let said = are.sound a among in
     let it = agree said.row said.among in

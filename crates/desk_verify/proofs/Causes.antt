@@ -1,13 +1,14 @@
 -- What a failed store is blamed on in the checks.
-use Rattle.desk_verify.proofs.Common.{◌≡◌, ◌≤◌, ◌<◌, ◌^◌, ℕ, nat_le, pos, ◌+◌, slice_index_or, take, Bool, not, true, false, List, [], length, filter, Option}
-use Rattle.desk_verify.proofs.Common.{Some, None, refl, Ok, Err, Result, sym, ap, subst, ◌∙◌, arith, and_parts, AllByRecursion, Int, Row, column, value_cmp}
-use Rattle.desk_verify.proofs.Common.{State, Finds, Wears, Fault, is_number, number_of, number_in, AreSaid, IsLastNumber, AreMembers, OwnedOffer, PlacedMember}
-use Rattle.desk_verify.proofs.Common.{Members, Offers, Place, Rollouts, number_in_good, number_in_is, HoldsTables, Tables, BlamesGiven, FindsTables, seen_in}
-use Rattle.desk_verify.proofs.Common.{AreActions, AreOffers, SaysOffer, any_row, large_number, many_rows, count_on, AgreesActions, AgreeBefore, Passes, checked}
-use Rattle.desk_verify.proofs.Common.{Artifact, AgreesMembers, IsUpTo, number_limit, ReadsOf, SaysMember, is_of, unread, true≢false, rules, leb-true}
-use Rattle.desk_verify.proofs.Common.{is_in_range}
+use Rattle.desk_verify.proofs.Common.{◌≡◌, ◌≤◌, ◌<◌, ◌^◌, ℕ, pos, ◌+◌, slice_index_or, take, Bool, not, false, List, [], length, filter, Option, Some, None}
+use Rattle.desk_verify.proofs.Common.{refl, Ok, Err, Result, sym, ap, subst, ◌∙◌, arith, and_parts, AllByRecursion, Int, Row, column, value_cmp, State, Finds}
+use Rattle.desk_verify.proofs.Common.{Wears, Fault, number_of, number_in, AreSaid, IsLastNumber, AreMembers, OwnedOffer, PlacedMember, Members, Offers, Place}
+use Rattle.desk_verify.proofs.Common.{Rollouts, number_in_good, number_in_is, HoldsTables, Tables, BlamesGiven, FindsTables, seen_in, AreActions, AreOffers}
+use Rattle.desk_verify.proofs.Common.{SaysOffer, any_row, large_number, many_rows, count_on, AgreesActions, AgreeBefore, Passes, checked, Artifact}
+use Rattle.desk_verify.proofs.Common.{AgreesMembers, IsUpTo, number_limit, ReadsOf, SaysMember, is_of, unread, rules, leb-true, is_in_range}
+use Rattle.desk_verify.proofs.Common.{err_from_is_err_and}
 use Rattle.std.proofs.lemmas.List.Filters.{length-filter_both}
 use Rattle.std.specs.Ordering.{is_eq}
+use Rattle.std.proofs.Common.{IsErrAnd}
 use Rattle.sqlite.specs.Store.{Ghosts}
 use Rattle.desk_store.specs.Blaming.{HasUnreadable, Reading}
 use Rattle.desk_store.specs.Unreadable.{HasTwins}
@@ -29,9 +30,10 @@ pub blamed_when : {S A B C : Type 0} {g : Ghosts S} {Given G : Reading → Type 
     → FindsTables g {E = Fault} old mid (Ok x) P
     → Wears (seen_in g mid) (seen_in g new) → (fault : Fault) → BlamesGiven g G {A = C} mid new (Err fault)
     → ((reading : Reading) → P reading.tables x → Given reading → G reading)
-    → (out : Result B Fault) → out ≡ Err fault → BlamesGiven g Given old new out
-blamed_when {B = B} {g = g} {Given = Given} {old = old} {new = new} read wears fault blames means out is =
-    subst (BlamesGiven g Given {A = B} old new) (sym is)
+    → (out : Result B Fault) → IsErrAnd out (λ e. e ≡ fault) → BlamesGiven g Given old new out
+blamed_when {B = B} {g = g} {Given = Given} {old = old} {new = new} read wears fault blames means out told =
+    let is = err_from_is_err_and out told in
+    subst (BlamesGiven g Given {A = B} old new) (sym (is.1 ∙ ap Err is.2))
     (record {
       to = λ reading sees given. record {
         reason = λ broken clean.
@@ -68,22 +70,14 @@ past_limit reading n none given = unread reading (large_number up.there.row up.t
     go (Some m) is =
         let same : m ≡ up.last = one_rowid m up.last [] (ap (λ v. is_eq (value_cmp v (Int (pos up.last)))) (sym (number_in_is (column up.there.row 0) m is))
         ∙ up.there.numbered) in
-        let high : m ≤ number_limit = leb-true m number_limit (and_parts (nat_le 1 m) _ (number_in_good (column up.there.row 0) m is)).1 in
-        let good : is_number n ≡ true = is_in_range n up.low (omega (arith, same, up.high, high)) in
-        let some : number_of n ≡ Some n = rw good refl in
-        absurd (let never : None ≡ Some n = sym none ∙ some in cc)
+        grind (arith, leb-true m number_limit, and_parts, number_in_good (column up.there.row 0) m is, is_in_range n up.low, none)
 
 -- ---- members
 
 -- in a table that agrees, two members have one place
 pub twin_place : (t : Tables) (r : ℕ) (members : List PlacedMember) → AreMembers (t Members) r members → count_on 0 members ≡ false → AgreesMembers t
     → HasTwins (t Members) (is_of r) (SaysMember r) (λ (m : PlacedMember). m.place)
-twin_place t r members are k agree = record {
-  found = members;
-  said = are.said;
-  in_order = are.rise;
-  twins = false_from_ne_true _ (λ rises. true≢false (sym (counts 0 members (agreeing t r members are agree) rises) ∙ k));
-}
+twin_place t r members are k agree = grind (arith, false_from_ne_true, counts 0 members, agreeing t r members are agree, are.said, are.rise)
 
 -- ---- offers
 
@@ -106,8 +100,8 @@ so_far t i within pass = grind arith
 
 -- what is known while the table is checked, where all is read that its check reads
 checks : (table : CheckedTable) (t : Tables) → AgreeBefore table t → ChecksTable table (record { tables = t; reads = is_read_for table })
-checks Artifact t agree = record { is_read = refl }
-checks Member t agree = record { rollouts = record { is_read = refl }; rows = record { is_read = refl }; given = record { is_read = refl } }
+checks Artifact t agree = search rules
+checks Member t agree = search rules
 checks RolloutGroup t agree = search rules
 checks Action t agree = search rules
 checks Offer t agree = search rules
@@ -116,8 +110,9 @@ checks Offer t agree = search rules
 pub stops_at : {S A B : Type 0} {g : Ghosts S} {old mid new : OpenChange S} {P : Tables → Type 0} (table : CheckedTable)
     → FindsTables g {E = Fault} old mid (Ok (tt {0})) (λ t u. P t) → Wears (seen_in g mid) (seen_in g new) → (fault : Fault)
     → BlamesGiven g (ChecksTable table) {A = A} mid new (Err fault) → ((t : Tables) → P t → AgreeBefore table t)
-    → (out : Result B Fault) → out ≡ Err fault → StopsInOrder g old new out
-stops_at {B = B} {g = g} {old = old} {new = new} table read wears fault blames means out is = subst (StopsInOrder g {A = B} old new) (sym is)
+    → (out : Result B Fault) → IsErrAnd out (λ e. e ≡ fault) → StopsInOrder g old new out
+stops_at {B = B} {g = g} {old = old} {new = new} table read wears fault blames means out told = let is = err_from_is_err_and out told in
+    subst (StopsInOrder g {A = B} old new) (sym (is.1 ∙ ap Err is.2))
     (record {
       to = λ t sees always. record {
         reason = λ broken clean.

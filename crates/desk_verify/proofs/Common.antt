@@ -1,8 +1,8 @@
 -- The names of other modules that the proofs here cite, passed on from one place. Declares nothing.
-pub use Rattle.std.proofs.Common.{Bool, Err, List, None, Ok, Option, Result, Some, Vec, [], add-one, ap, append-nil, ap₂, arith, cond, count_by}
-pub use Rattle.std.proofs.Common.{drop, false, filter, get_or, inl, inr, is_eq, is_none, length, map, min, nat_eq, nat_le, nat_lt, not, pos, refl}
-pub use Rattle.std.proofs.Common.{rules, slice_get, slice_index_or, subst, suc, sym, take, true, true≢false, unwrap_or, vec_items, zero, zip, ℕ, ◌&&◌, ◌*◌}
-pub use Rattle.std.proofs.Common.{◌++◌, ◌+◌, ◌-◌, ◌<◌, ◌^◌, ◌∙◌, ◌∷◌, ◌≡◌, ◌≤◌, ◌⊎◌}
+pub use Rattle.std.proofs.Common.{Bool, Err, List, None, Ok, Option, Result, Some, Vec, [], add-one, ap, append-nil, ap₂, arith, count_by, drop, false, filter}
+pub use Rattle.std.proofs.Common.{get_or, inl, inr, is_eq, is_none, length, map, min, nat_eq, nat_le, nat_lt, not, pos, refl, rules, slice_get, slice_index_or}
+pub use Rattle.std.proofs.Common.{subst, suc, sym, take, true, true≢false, unwrap_or, vec_items, zero, zip, ℕ, ◌*◌, ◌++◌, ◌+◌, ◌-◌, ◌<◌, ◌^◌, ◌∙◌, ◌∷◌, ◌≡◌}
+pub use Rattle.std.proofs.Common.{◌≤◌, ◌⊎◌}
 pub use Rattle.std.proofs.lemmas.Bool.{and_from, and_parts, eqb-true, leb-true, not-false, not-true, or_left, or_right}
 pub use Rattle.std.proofs.lemmas.Bool.Decides.{Decides-eqb, nat_tests}
 pub use Rattle.std.proofs.lemmas.List.{length-append, length-drop, length-map, length-take}
@@ -12,22 +12,20 @@ pub use Rattle.std.proofs.lemmas.Result.{err_from_is_err_and}
 pub use Rattle.std.proofs.lemmas.Slice.Eq.{slice_eq-Decides}
 pub use Rattle.std.specs.Cmp.Lexicographic.{pointwise}
 pub use Rattle.std.specs.List.{AllByRecursion, flat_map, list_all}
-pub use Rattle.std.specs.Option.{is_some, option_map, option_or, option_to_list}
+pub use Rattle.std.specs.Option.{is_some, option_to_list}
 pub use Rattle.std.specs.declared.alloc.Global.{Global}
 pub use Rattle.sqlite.specs.Effect.{Database}
 pub use Rattle.sqlite.specs.State.{State}
-pub use Rattle.sqlite_rules.proofs.ListLemmas.{all_from, all_has, contains_had, has_filtered, has_got, has_kept, has_right, some_from, some_has}
-pub use Rattle.sqlite_rules.proofs.ListLemmas.{test_from, test_has}
+pub use Rattle.sqlite_rules.proofs.ListLemmas.{all_from, all_has, contains_had, has_filtered, has_got, has_kept, has_right, some_from, some_has, test_from}
+pub use Rattle.sqlite_rules.proofs.ListLemmas.{test_has}
 pub use Rattle.sqlite_rules.specs.Lists.{Has}
 pub use Rattle.sqlite_trees.specs.Tree.{has_rowid}
 pub use Rattle.sqlite_value.specs.Order.{Row, column, value_cmp}
-pub use Rattle.sqlite_value.specs.declared.value.Value.TheVariants.{Blob, Int, Null, Text}
+pub use Rattle.sqlite_value.specs.declared.value.Value.TheVariants.{Int, Null, Text}
 pub use Rattle.rollout_model.specs.Groupings.{Grouping, define_each, is_grouping}
-pub use Rattle.rollout_model.specs.Limits.{group_limit, number_limit, percentage_limit, piece_length}
-pub use Rattle.rollout_model.specs.Rules.{are_details, are_distinct_numbers, is_digest, is_feedback_number, is_group_count, is_module_list, is_number}
-pub use Rattle.rollout_model.specs.Rules.{is_percentage, is_text, is_value, is_word, number_of}
+pub use Rattle.rollout_model.specs.Limits.{group_limit, number_limit, piece_length}
+pub use Rattle.rollout_model.specs.Rules.{is_digest, is_feedback_number, is_number, is_percentage, is_word, number_of}
 pub use Rattle.rollout_model.specs.declared.rollout.Offer.{Offer}
-pub use Rattle.artifact_pieces.specs.Digests.{digest_of}
 pub use Rattle.artifact_pieces.specs.Pieces.{piece_count}
 pub use Rattle.rollout_machine.proofs.GroupCounts.{groups_are_counted}
 pub use Rattle.rollout_machine.proofs.Groupings.{each_rule, grouping_is_cut}
@@ -39,20 +37,17 @@ pub use Rattle.rollout_machine.proofs.WithinLimits.{each_created, limits_hold, m
 pub use Rattle.rollout_machine.specs.Actions.{history, outcome_said}
 pub use Rattle.rollout_machine.specs.ByteStrings.{item_numbered}
 pub use Rattle.rollout_machine.specs.CommandList.{CommandList, Make, ◌▸◌}
-pub use Rattle.rollout_machine.specs.CommandRules.{IsWellFormed, is_credential, is_device_feedback, is_feedback_number_or_none, is_plan}
-pub use Rattle.rollout_machine.specs.Commands.{Attribute, Bytes, CancelFeedback, CanceledCancel, ClosedCancel, Command, CreateRollout}
-pub use Rattle.rollout_machine.specs.Commands.{DeviceFeedback, Failed, Feedback, ModuleLabel, Noted, NotedCancel, Proceeding, Rejected}
-pub use Rattle.rollout_machine.specs.Commands.{RejectedCancel, Resumed, RolloutPlan, Scheduled, SetLabel, Succeeded}
+pub use Rattle.rollout_machine.specs.CommandRules.{IsWellFormed, is_device_feedback, is_feedback_number_or_none, is_plan}
+pub use Rattle.rollout_machine.specs.Commands.{Attribute, Bytes, Command, CreateRollout, DeviceFeedback, RolloutPlan, SetLabel}
 pub use Rattle.rollout_machine.specs.Counts.{is_outcome}
 pub use Rattle.rollout_machine.specs.GroupCounts.{IsCountedGroup}
 pub use Rattle.rollout_machine.specs.GroupRules.{GroupRule, rule_at, rules_of}
 pub use Rattle.rollout_machine.specs.Groupings.{GroupDefinition, bounds_by, cut_by, last_by, leaves_empty}
-pub use Rattle.rollout_machine.specs.Groups.{IsCut, holds_position}
 pub use Rattle.rollout_machine.specs.Kinds.{TargetOffer, count_actions, offer_to}
-pub use Rattle.rollout_machine.specs.MemberActions.{FollowMembers, IsOfMember}
+pub use Rattle.rollout_machine.specs.MemberActions.{IsOfMember}
 pub use Rattle.rollout_machine.specs.Offers.{offer}
 pub use Rattle.rollout_machine.specs.Records.{ArtifactRecord, Records, records}
-pub use Rattle.rollout_machine.specs.Reports.{HistoryEntry, OfCancel, OfDeployment, Reported, Said, reported_by}
+pub use Rattle.rollout_machine.specs.Reports.{HistoryEntry, Reported, Said, reported_by}
 pub use Rattle.rollout_machine.specs.StateWords.{has_started, member_at}
 pub use Rattle.rollout_machine.specs.Validity.{IsValid}
 pub use Rattle.rollout_machine.specs.WithinLimits.{IsWithinLimits}
@@ -74,25 +69,20 @@ pub use Rattle.desk_records.proofs.NumberColumns.{has_own_number, is_at, is_in_r
 pub use Rattle.desk_records.proofs.NumberColumns.{number_is, one_number, small_is}
 pub use Rattle.desk_records.proofs.PieceLists.{count_pieces, nth_piece, one_more, same_contents}
 pub use Rattle.desk_records.proofs.WholeArtifacts.{IsWhole, KeepsRules, all_keep, all_whole, digest_is_one}
-pub use Rattle.desk_records.specs.Actions.{Tally, action_row, actor_of, entries_of, entry_row, history_of, kind_code, tally_of, told_action, told_entry}
-pub use Rattle.desk_records.specs.Actions.{word_code}
+pub use Rattle.desk_records.specs.Actions.{Tally, action_row, actor_of, entries_of, entry_row, kind_code, tally_of, told_action, told_entry, word_code}
 pub use Rattle.desk_records.specs.ArtifactRow.{stored}
-pub use Rattle.desk_records.specs.Artifacts.{artifact_row, piece_numbered, piece_row, pieces_in, pieces_of_artifact}
-pub use Rattle.desk_records.specs.Codes.{approval_code, approval_in, feedback_number_in, flag, flag_in, group_count_in, number_in, outcome_code}
-pub use Rattle.desk_records.specs.Codes.{outcome_in, percentage_in, percentage_or_none_in, place_in}
+pub use Rattle.desk_records.specs.Artifacts.{artifact_row, piece_numbered, piece_row, pieces_in}
+pub use Rattle.desk_records.specs.Codes.{approval_code, approval_in, feedback_number_in, flag, flag_in, group_count_in, number_in, outcome_code, outcome_in}
+pub use Rattle.desk_records.specs.Codes.{percentage_in, place_in}
 pub use Rattle.desk_records.specs.Columns.{has_size}
-pub use Rattle.desk_records.specs.EntryRow.{BreaksEntry, broken_word, keeps_details, said_by}
+pub use Rattle.desk_records.specs.EntryRow.{BreaksEntry, keeps_details, said_by}
 pub use Rattle.desk_records.specs.FoundPieces.{ArePieces}
-pub use Rattle.desk_records.specs.Holds.{HoldsRecords, IsHeld, desk_row, ledger_of, module_row}
+pub use Rattle.desk_records.specs.Holds.{HoldsRecords, IsHeld, ledger_of, module_row}
 pub use Rattle.desk_records.specs.Listings.{AreBroken, AreSaid, FindsOne, HasNumber, IsLastNumber, IsOnly, has_at, has_text_at}
 pub use Rattle.desk_records.specs.Offers.{HoldsOffers, is_to, offer_row}
 pub use Rattle.desk_records.specs.Parts.{parts_from}
 pub use Rattle.desk_records.specs.PlaceLists.{AreMembers, SaysMember, is_of}
-pub use Rattle.desk_records.specs.ReadRows.{IsStoredRolloutRow, IsRuleRow, columns_of_attribute, broken_stored_action_column, broken_artifact_column}
-pub use Rattle.desk_records.specs.ReadRows.{broken_group_column, broken_stored_rollout_column, broken_rule_column, columns_of_artifact}
-pub use Rattle.desk_records.specs.ReadRows.{columns_of_stored_action, columns_of_group, columns_of_number, columns_of_offer, columns_of_stored_rollout}
-pub use Rattle.desk_records.specs.ReadRows.{columns_of_rule, columns_of_module_label, columns_of_listed_target, columns_of_last_number, columns_of_set_name}
-pub use Rattle.desk_records.specs.ReadRows.{columns_of_stored_target}
+pub use Rattle.desk_records.specs.ReadRows.{IsStoredRolloutRow, IsRuleRow, broken_group_column, columns_of_stored_action, columns_of_group, columns_of_offer}
 pub use Rattle.desk_records.specs.RolloutRow.{stored_action, stored_rollout}
 pub use Rattle.desk_records.specs.Rollouts.{group_row, member_row, members_from, rollout_row, rule_row, told_rollout, told_rule}
 pub use Rattle.desk_records.specs.Schema.{Actions, Artifacts, Desk, Feedbacks, Groups, Members, Modules, Numbers, Offers, Pieces, Place, Rollouts, Rules}
@@ -126,7 +116,7 @@ pub use Rattle.desk_verify.specs.Agreement.{AgreeBefore, Agrees, SettlesWhether,
 pub use Rattle.desk_verify.specs.ArtifactChecks.{HashesPieces, IsHashed}
 pub use Rattle.desk_verify.specs.Artifacts.{AgreesArtifacts, HasPieces}
 pub use Rattle.desk_verify.specs.Checking.{ChecksGroups}
-pub use Rattle.desk_verify.specs.Cuts.{are_bounds, are_right, counts_them, has_each, has_group_numbered, is_cut, is_right, same_bounds}
+pub use Rattle.desk_verify.specs.Cuts.{are_bounds, are_right, counts_them, has_each, has_group_numbered, is_cut, is_right}
 pub use Rattle.desk_verify.specs.Following.{follow}
 pub use Rattle.desk_verify.specs.GroupChecks.{HasEach, HasOnlyRule, HaveOnlyRules, IsCutOnlyBy, IsGroupCount}
 pub use Rattle.desk_verify.specs.Groups.{AgreesGroups, HasGroup, IsCutBy, IsInRollout, IsRightGroup, ended_in, has_ended, member_count}

@@ -1,5 +1,5 @@
 -- The rows of the rollouts from 1 on, counted, where a column has the rollout's number.
-use Rattle.desk_verify.proofs.Common.{◌≡◌, inl, inr, ◌≤◌, ◌<◌, ℕ, zero, suc, ◌+◌, true, List, [], ◌∷◌, filter, length, refl, arith, nat_tests, Row, column}
+use Rattle.desk_verify.proofs.Common.{◌≡◌, ◌≤◌, ◌<◌, ℕ, zero, suc, ◌+◌, true, List, [], ◌∷◌, filter, length, refl, arith, nat_tests, Row}
 use Rattle.desk_verify.proofs.Common.{has_at, number_is, one_number, within, or_left, or_right}
 use Rattle.std.proofs.lemmas.Bool.{or_cases}
 
@@ -14,10 +14,7 @@ module _ (place : ℕ) where
 
   apart : (n k : ℕ) (row : Row) → n < k → within place n row ≡ true → has_at place k row ≡ true → ⊥
   apart zero k row less h of = cc
-  apart (suc n) k row less h of = elim (or_cases _ _ h) [
-    | inl it ↦ apart n k row (omega (arith, less)) it of
-    | inr it ↦ (let same = one_number (column row place) (suc n) k (number_is _ _ it) (number_is _ _ of) in omega (arith, less, same))
-  ]
+  apart (suc n) k row less h of = grind (arith, apart n k, or_cases, one_number, number_is)
 
   pub joined : (n : ℕ) (rows : List Row) → length (filter (within place (suc n)) rows)
       ≡ length (filter (within place n) rows) + length (filter (has_at place (suc n)) rows)

@@ -1,13 +1,12 @@
 -- No action has more notes than the limit.
+use Rattle.std.proofs.lemmas.Bool.Decides.{nat_tests}
 use Rattle.std.proofs.lemmas.List.{length-append}
 use Rattle.std.proofs.lemmas.List.Elements.{filter-append}
-use Rattle.rollout_machine.proofs.Common.{◌≡◌, ℕ, ◌≤◌, Bool, true, false, cond, ◌&&◌, List, [], ◌∷◌, ◌++◌, length, refl, sym, ◌∙◌, ap, subst, arith, Option}
-use Rattle.rollout_machine.proofs.Common.{Some, None, is_none, nat_le, leb-false, filter, action_place, history, is_heard, outcome, reports, CommandList, Make}
-use Rattle.rollout_machine.proofs.Common.{◌▸◌, CancelFeedback, Command, Feedback, HistoryEntry, Reported, OfCancel, OfDeployment, action_in, records}
-use Rattle.rollout_machine.proofs.Common.{item_numbered, reported, reported_by, entries_in, says_again, standing_of, IsValid, on_action, verdict, verdict_row}
-use Rattle.rollout_machine.proofs.Common.{is_note, notes_of}
+use Rattle.rollout_machine.proofs.Common.{◌≡◌, ℕ, ◌≤◌, true, false, ◌&&◌, List, [], ◌∷◌, ◌++◌, length, refl, sym, ◌∙◌, subst, arith, Some, None, nat_le}
+use Rattle.rollout_machine.proofs.Common.{leb-false, filter, action_place, history, is_heard, outcome, reports, CommandList, Make, ◌▸◌, CancelFeedback, Command}
+use Rattle.rollout_machine.proofs.Common.{Feedback, HistoryEntry, Reported, OfCancel, OfDeployment, records, item_numbered, reported, reported_by, entries_in}
+use Rattle.rollout_machine.proofs.Common.{says_again, standing_of, IsValid, on_action, verdict, verdict_row, is_note, notes_of}
 use Rattle.rollout_machine.specs.Verdicts.{is_beyond, is_new}
-use Rattle.rollout_machine.specs.declared.outcome.Outcome.{Outcome}
 use Rattle.rollout_machine.specs.declared.records.ActionRecord.{ActionRecord}
 use Rattle.rollout_model.specs.Limits.{note_limit}
 use Rattle.rollout_machine.proofs.Actions.{append_none, entries_both, open_reports}
@@ -27,46 +26,24 @@ has_room : (a : ActionRecord) (new : Reported) → a.outcome ≡ None → says_a
     → is_beyond new a ≡ false
 has_room a new open' fresh e = sym (rw (open', fresh) refl) ∙ e
 
-module _ (h : CommandList) (c : Command) (r j : ℕ) (accepted : verdict h c ≡ None) (heard : is_heard h c r j ≡ true) (open' : outcome h r j ≡ None)
-    (few : notes_in (history h r j) ≤ note_limit) where
-  abbrev action : ActionRecord
-  action = action_in h (record { rollout = r; position = j })
-
-  -- of what is heard on an open action
-  by_report : (k : ℕ) (new : Reported) → action_place h k ≡ Some (record { rollout = r; position = j }) → says_again (standing_of (reports h r j) new) ≡ false
-      → on_action (λ a. is_new new a && is_beyond new a) (item_numbered (records h).actions k) ≡ false → notes_in (history h r j ++ new ∷ []) ≤ note_limit
-  by_report k new at fresh row =
-      let same = open_reports h r j open' in
-      let its : (is_new new action && is_beyond new action) ≡ false = sym (ap (on_action (λ a. is_new new a && is_beyond new a)) (found_action h k _ at))
-      ∙ row in
-      let room : is_beyond new action ≡ false = has_room action new open' (sym (ap (λ reports. says_again (standing_of reports new)) same) ∙ fresh) its in
-      subst (λ es. length (filter is_note es) ≤ note_limit) (sym (entries_both (history h r j) (new ∷ [])))
-      (one_more (entries_in (history h r j)) new.entry room few)
+-- of what is heard on an open action
+by_report : (h : CommandList) (r j k : ℕ) (new : Reported) → outcome h r j ≡ None → notes_in (history h r j) ≤ note_limit
+    → action_place h k ≡ Some (record { rollout = r; position = j }) → says_again (standing_of (reports h r j) new) ≡ false
+    → on_action (λ a. is_new new a && is_beyond new a) (item_numbered (records h).actions k) ≡ false → notes_in (history h r j ++ new ∷ []) ≤ note_limit
+by_report h r j k new open' few at fresh row = grind (arith, open_reports, found_action, has_room, entries_both, one_more)
 
 heard_few : (h : CommandList) (c : Command) (r j : ℕ) → verdict h c ≡ None → is_heard h c r j ≡ true → outcome h r j ≡ None
     → notes_in (history h r j) ≤ note_limit → notes_in (history h r j ++ reported_by c) ≤ note_limit
-heard_few h (Feedback feedback) r j v d e few =
-    let p = placed h (Feedback feedback) r j d in
-    by_report h (Feedback feedback) r j v d e few feedback.action (reported OfDeployment feedback) p.0 p.1
-    (none_holds (verdict_row (records h) (Feedback feedback)) v).1.1.1.1.0
-heard_few h (CancelFeedback feedback) r j v d e few =
-    let p = placed h (CancelFeedback feedback) r j d in
-    by_report h (CancelFeedback feedback) r j v d e few feedback.action (reported OfCancel feedback) p.0 p.1
+heard_few h (Feedback feedback) r j v d e few = let p = placed h (Feedback feedback) r j d in
+    by_report h r j feedback.action (reported OfDeployment feedback) e few p.0 p.1 (none_holds (verdict_row (records h) (Feedback feedback)) v).1.1.1.1.0
+heard_few h (CancelFeedback feedback) r j v d e few = let p = placed h (CancelFeedback feedback) r j d in
+    by_report h r j feedback.action (reported OfCancel feedback) e few p.0 p.1
     (none_holds (verdict_row (records h) (CancelFeedback feedback)) v).1.1.1.1.1.0
 heard_few h _ r j v d e few = subst (λ heard. notes_in heard ≤ note_limit) (sym (append_none (history h r j))) few
 
 few_at : (h : CommandList) (r j : ℕ) → IsValid h → notes_in (history h r j) ≤ note_limit
 few_at (Make approval) r j v = omega arith
-few_at (h ▸ c) r j v = go (is_heard h c r j) (outcome h r j) refl refl (few_at h r j v.0)
-  where
-    stay : notes_in (history h r j) ≤ note_limit → notes_in (history h r j ++ []) ≤ note_limit
-    stay few = subst (λ heard. notes_in heard ≤ note_limit) (sym (append_none (history h r j))) few
-
-    go : (b : Bool) (o : Option Outcome) → is_heard h c r j ≡ b → outcome h r j ≡ o → notes_in (history h r j) ≤ note_limit
-        → notes_in (history h r j ++ cond (b && is_none o) (reported_by c) []) ≤ note_limit
-    go false o d e few = stay few
-    go true (Some o) d e few = stay few
-    go true None d e few = heard_few h c r j v.2 d e few
+few_at (h ▸ c) r j v = grind (arith, nat_tests, few_at h r j v.0, heard_few h c r j v.2, append_none)
 
 pub few_notes : (h : CommandList) → IsValid h → (k : ℕ) (a : ActionRecord) → item_numbered (records h).actions k ≡ Some a → notes_of a ≤ note_limit
 few_notes h valid k a e =

@@ -1,8 +1,7 @@
 -- Places that rise by at most one.
-use Rattle.desk_verify.proofs.Common.{◌≡◌, ◌⊎◌, inl, inr, ◌≤◌, ℕ, suc, ◌+◌, true, false, List, [], ◌∷◌, map, nat_le, refl, ap, subst, ◌∙◌, arith}
-use Rattle.desk_verify.proofs.Common.{pos, and_from, and_parts, nat_tests, Int, Row, column, Has, contains_had, AreBroken, AreMembers, SaysMember, is_of}
-use Rattle.desk_verify.proofs.Common.{Members, IsMember, Tables, PlacedMember, is_at, number_in_is, number_is, one_number, follow, count_on, rise}
-use Rattle.desk_verify.proofs.Common.{AgreesMembers, IsInPlace, IsThere}
+use Rattle.desk_verify.proofs.Common.{◌≡◌, ◌⊎◌, inl, inr, ◌≤◌, ℕ, suc, ◌+◌, true, false, List, [], ◌∷◌, map, nat_le, refl, ap, ◌∙◌, arith, pos, and_from}
+use Rattle.desk_verify.proofs.Common.{and_parts, nat_tests, Int, Row, column, Has, contains_had, AreBroken, AreMembers, SaysMember, is_of, Members, Tables}
+use Rattle.desk_verify.proofs.Common.{PlacedMember, is_at, number_in_is, number_is, one_number, follow, count_on, rise, AgreesMembers, IsInPlace, IsThere}
 use Rattle.std.specs.List.Sorted.{IsNonDecreasingBy}
 use Rattle.std.proofs.lemmas.List.Sorted.{IsNonDecreasingBy-drop}
 use Rattle.desk_records.proofs.KeptColumns.{one_in}
@@ -22,8 +21,7 @@ Fits last members place = IsNear last place ⊎ IsBehind members place
 
 each_fits : (last : ℕ) (members : List PlacedMember) → follow last members ≡ true → (m : PlacedMember) → Has members m → Fits last members m.place
 each_fits last [] h m among = absurd among
-each_fits last (x ∷ members) h m (inl same) = let it = ap (λ (y : PlacedMember). y.place) same in
-    inl (record { low = grind (arith, nat_tests); high = grind (arith, nat_tests) })
+each_fits last (x ∷ members) h m (inl same) = grind (arith, nat_tests, same)
 each_fits last (x ∷ members) h m (inr among) =
     elim (each_fits x.place members (and_parts _ _ (and_parts _ _ h).1).1 m among) [
       | inl near ↦ elim (nat_le m.place x.place) as (λ b. nat_le m.place x.place ≡ b → Fits last (x ∷ members) m.place) [
@@ -38,27 +36,14 @@ all_follow : (last : ℕ) (members : List PlacedMember) → ((m : PlacedMember) 
     → follow last members ≡ true
 all_follow last [] least order fits = refl
 all_follow last (x ∷ members) least order fits = and_from _ _ (grind (arith, nat_tests, near.low)) (and_from _ _ (grind (arith, nat_tests, near.high))
-    (all_follow x.place members higher (IsNonDecreasingBy-drop (λ (m : PlacedMember). m.place) 1 (x ∷ members) order) (λ m among.
-    elim (fits m (inr among)) [
-      | inl it ↦ inl (record { low = it.low; high = (let low = least x (inl refl) in omega (arith, it.high, low)) })
-      | inr it ↦ elim it.among [
-        | inl same ↦ inl (record { low = omega (arith, it.is); high = (let own = ap (λ (y : PlacedMember). y.place) same in omega (arith, it.is, own)) })
-        | inr later ↦ inr (record { other = it.other; among = later; is = it.is })
-      ]
-    ])))
+    (all_follow x.place members higher (IsNonDecreasingBy-drop (λ (m : PlacedMember). m.place) 1 (x ∷ members) order)
+    (λ m among. grind (arith, fits m (inr among), least x (inl refl)))))
   where
     higher : (m : PlacedMember) → Has members m → x.place ≤ m.place
-    higher m among = let at = contains_had members m among in
-        subst (λ (y : PlacedMember). x.place ≤ y.place) at.2 (order 0 (suc at.0) m (omega arith) (omega (arith, at.1)))
+    higher m among = let at = contains_had members m among in grind (arith, order 0 (suc at.0) m)
 
     near : IsNear last x.place
-    near = elim (fits x (inl refl)) [
-      | inl it ↦ it
-      | inr it ↦ absurd (elim it.among [
-        | inl same ↦ (let own = ap (λ (y : PlacedMember). y.place) same in omega (arith, it.is, own))
-        | inr later ↦ omega (arith, it.is, higher it.other later)
-      ])
-    ]
+    near = grind (arith, fits x (inl refl), higher)
 
 -- places that follow and rise count on
 pub counts : (last : ℕ) (members : List PlacedMember) → follow last members ≡ true → rise last (map (λ (m : PlacedMember). m.place) members) ≡ true
@@ -92,20 +77,18 @@ module _ (t : Tables) (r : ℕ) (members : List PlacedMember) (are : AreMembers 
       let found = are.said.sound m among in
       let it = agree found.row found.among in
       let place = one_in _ it.place m.place it.is.place_is found.is.place_is in
+      let rollout = one_number (column found.row 1) it.rollout r (number_in_is _ _ it.is.rollout_is) (number_in_is _ _ found.is.rollout_is) in
       elim it.follows [
-        | inl first ↦ inl (record { low = omega (arith, first, place); high = omega (arith, first, place) })
+        | inl first ↦ grind (arith, first, place)
         | inr behind ↦
             let before = behind.2 in
-            let rollout = one_number (column found.row 1) it.rollout r (number_in_is _ _ it.is.rollout_is) (number_in_is _ _ found.is.rollout_is) in
             let listed = are.said.complete before.row before.among
             (is_at before.row 1 r (number_in_is _ _ before.is.rollout_is ∙ ap (λ n. Int (pos n)) rollout)) in
             let at = one_in _ listed.one.place behind.0 listed.is.place_is before.is.place_is in
-            inr (record { other = listed.one; among = listed.among; is = omega (arith, behind.1, place, at) })
+            grind (arith, listed.among, behind.1, place, at)
       ])
 
 -- a row that breaks a rule
 pub breaks : (t : Tables) (r : ℕ) → AreBroken (t Members) (is_of r) (SaysMember r) → AgreesMembers t → ⊥
-breaks t r broken agree =
-    let it = agree broken.row broken.among in
-    let rollout = one_number (column broken.row 1) it.rollout r (number_in_is _ _ it.is.rollout_is) (number_is (column broken.row 1) r broken.passes) in
-    broken.breaks (record { id = it.id; place = it.place }) (subst (λ n. IsMember broken.row n it.place it.id) rollout it.is)
+breaks t r broken agree = let it = agree broken.row broken.among in
+    grind (arith, one_number, number_in_is, number_is, broken.breaks (record { id = it.id; place = it.place }))

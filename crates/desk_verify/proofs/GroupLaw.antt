@@ -1,14 +1,13 @@
 -- The table of groups agrees where records of accepted commands are held.
 use Rattle.desk_verify.proofs.Common.{IsHeldBy, ◌≡◌, ◌≤◌, ◌<◌, ℕ, zero, suc, ◌+◌, pos, true, List, [], ◌∷◌, filter, length, map, slice_get, zip, Option, Some}
-use Rattle.desk_verify.proofs.Common.{refl, sym, ap, subst, ◌∙◌, arith, is_eq, nat_tests, Int, Null, Row, column, has_rowid, Has, CommandList, GroupRule}
-use Rattle.desk_verify.proofs.Common.{rule_at, rules_of, bounds_by, leaves_empty, records, IsValid, Bounds, Outcome, Good, Bad, Gone, ActionRecord, GroupRecord}
-use Rattle.desk_verify.proofs.Common.{RolloutRecord, each_there, action_row, outcome_code, tally_of, group_count_in, ledger_of, IsHeld, has_at, is_of}
+use Rattle.desk_verify.proofs.Common.{refl, sym, ap, subst, ◌∙◌, arith, is_eq, nat_tests, Int, Null, Row, has_rowid, Has, CommandList, GroupRule}
+use Rattle.desk_verify.proofs.Common.{rule_at, rules_of, records, IsValid, Bounds, Outcome, ActionRecord, GroupRecord}
+use Rattle.desk_verify.proofs.Common.{RolloutRecord, each_there, action_row, outcome_code, tally_of, ledger_of, IsHeld, is_of}
 use Rattle.desk_verify.proofs.Common.{group_row, members_from, rollout_row, rule_row, told_rollout, Actions, Groups, Members, Place, Rollouts, Rules, IsGroup}
 use Rattle.desk_verify.proofs.Common.{Tables, at_place, has_place, held_passing, own_parts, has_own_number, HasRule, AgreesGroups, HasGroup, IsCutBy}
 use Rattle.desk_verify.proofs.Common.{IsInRollout, IsRightGroup, ended_in, has_ended, member_count, rows_from, count_actions, groups_are_counted}
 use Rattle.std.proofs.lemmas.Int.{ints}
 use Rattle.sqlite_value.proofs.OrderLemmas.{value_cmp-Int}
-use Rattle.desk_records.proofs.KeptColumns.{one_in}
 use Rattle.desk_records.specs.CheckedRows.{counted_in}
 use Rattle.desk_records.specs.Columns.{small_number}
 use Rattle.desk_records.specs.CountedActions.{is_counted}
@@ -62,52 +61,24 @@ module _ (h : CommandList) (valid : IsValid h) (t : Tables) (held : (p : Place) 
     has_rule zero low high = absurd (omega (arith, low))
     has_rule (suc e) low high =
         let rules = subst (IsHeldBy (t Rules)) (parts_mapped rule_row rules_in 1 (records h).rollouts) (held Rules) in
-        let row = part_lies rule_row rules_in (records h).rollouts rules d e x (rule_at x.plan (suc e)) got
-        (each_there (rule_at x.plan) 1 x.plan.groups.count e (suc e) (omega (arith, high)) (omega arith)) in
-        record {
-          row = Int (pos row.0) ∷ rule_row (suc d) (suc e) (rule_at x.plan (suc e));
-          among = row.1;
-          passes = grind (arith, nat_tests);
-          is = rule_told x.plan (suc e) (planned h valid d got).formed;
-        }
+        let one = each_there (rule_at x.plan) 1 x.plan.groups.count e (suc e) (omega (arith, high)) (omega arith) in
+        let lies = part_lies rule_row rules_in (records h).rollouts rules d e x (rule_at x.plan (suc e)) got one in
+        grind (arith, nat_tests, lies.1, rule_told x.plan (suc e) (planned h valid d got).formed)
 
     cut : IsCutBy t (suc d) x.plan.groups
-    cut = record {
-      there = record {
-        row = rollout_row (suc d) x;
-        among = item_lies rollout_row (records h).rollouts (held Rollouts) d x got;
-        numbered = has_own_number (suc d) (Null ∷ told_rollout x);
-        says = group_count_is x.plan.groups.count (within h valid d got).some_groups (within h valid d got).groups;
-      };
-      rules = rules_of x.plan;
-      have = each_has (HasRule t (suc d)) (rule_at x.plan) 1 x.plan.groups.count has_rule;
-      make = rules_make x.plan (planned h valid d got).formed;
-    }
+    cut = let lies = item_lies rollout_row (records h).rollouts (held Rollouts) d x got in
+        let many = group_count_is x.plan.groups.count (within h valid d got).some_groups (within h valid d got).groups in
+        let have = each_has (HasRule t (suc d)) (rule_at x.plan) 1 x.plan.groups.count has_rule in
+        grind (arith, has_own_number (suc d) (Null ∷ told_rollout x), rules_make x.plan (planned h valid d got).formed)
 
     -- ---- one group
 
     module _ (e : ℕ) {g : GroupRecord} (at : slice_get x.groups e ≡ Some g) where
       right : IsRightGroup t (suc d) x.plan.groups g
-      right = let its = counted h valid d got e at in record {
-        low = omega (arith, its.number);
-        high = omega (arith, its.number, few_groups h valid d got e at);
-        bounds = its.bounds ∙ ap (λ m. bounds_by x.plan.groups m (suc e)) (sym members_are)
-            ∙ ap (bounds_by x.plan.groups (member_count t (suc d))) (sym its.number);
-        ok = its.ok ∙ sym (ended_are (suc d) g.bounds Good);
-        bad = its.bad ∙ sym (ended_are (suc d) g.bounds Bad);
-        gone = its.gone ∙ sym (ended_are (suc d) g.bounds Gone);
-      }
+      right = grind (arith, counted h valid d got e at, few_groups h valid d got e at, members_are, ended_are (suc d) g.bounds)
 
       in_rollout : (n : ℕ) → IsInRollout t (Int (pos n) ∷ group_row (suc d) (suc e) g)
-      in_rollout n = record {
-        rollout = suc d;
-        groups = x.plan.groups;
-        group = g;
-        is = is_group h valid d got e at n;
-        cut = cut;
-        enough = ap (leaves_empty x.plan.groups) members_are ∙ (planned h valid d got).full;
-        right = right;
-      }
+      in_rollout n = grind (arith, is_group h valid d got e at n, cut, members_are, planned h valid d got, right)
 
       -- a row is it
       pub group_lies : (row : Row) × Has (t Groups) row × IsGroup row (suc d) g
@@ -116,10 +87,8 @@ module _ (h : CommandList) (valid : IsValid h) (t : Tables) (held : (p : Place) 
 
     has_group : (i : ℕ) → 1 ≤ i → i ≤ x.plan.groups.count → HasGroup t (suc d) i
     has_group zero low high = absurd (omega (arith, low))
-    has_group (suc e) low high =
-        let one = at_place x.groups e (omega (arith, high, (groups_are_counted h (suc d) x valid got).as_many)) in
-        let it = group_lies e one.1 in
-        record { row = it.0; among = it.1; group = one.0; is = it.2; number = (counted h valid d got e one.1).number }
+    has_group (suc e) low high = let one = at_place x.groups e (omega (arith, high, (groups_are_counted h (suc d) x valid got).as_many)) in
+        grind (arith, group_lies e one.1, counted h valid d got e one.1)
 
   -- ---- all of them
 
@@ -131,7 +100,5 @@ module _ (h : CommandList) (valid : IsValid h) (t : Tables) (held : (p : Place) 
         let it = item_of rollout_row (records h).rollouts (held Rollouts) has.row has.among in
         let own : suc it.d ≡ rollout = one_rowid (suc it.d) rollout (Null ∷ told_rollout it.one) (ap (has_rowid (pos rollout)) (sym it.is) ∙ has.numbered) in
         let kept = within h valid it.d it.got in
-        let many = one_in _ it.one.plan.groups.count n (ap (λ (r : Row). group_count_in (column r 5)) it.is
-        ∙ group_count_is it.one.plan.groups.count kept.some_groups kept.groups) has.says in
-        subst (λ r. HasGroup t r i) own (has_group it.d it.got i low (omega (arith, high, many)));
+        grind (arith, own, has.says, group_count_is it.one.plan.groups.count kept.some_groups kept.groups, has_group it.d it.got i low);
   }

@@ -1,10 +1,10 @@
 -- What the reads of the tables of groups, members and actions come to.
-use Rattle.desk_verify.proofs.Common.{eqb-true, ◌≡◌, ◌≤◌, ◌<◌, ◌&&◌, ℕ, zero, suc, ◌+◌, true, false, not, List, count_by, length, Option, Some, None, refl, sym}
-use Rattle.desk_verify.proofs.Common.{ap, subst, ◌∙◌, arith, nat_eq, list_all, and_from, and_parts, nat_tests, Row, column, Has, some_from, some_has, test_from}
+use Rattle.desk_verify.proofs.Common.{eqb-true, ◌≡◌, ◌≤◌, ◌<◌, ℕ, zero, suc, ◌+◌, true, false, not, List, count_by, length, Option, Some, None, refl, sym}
+use Rattle.desk_verify.proofs.Common.{ap, ◌∙◌, arith, nat_eq, list_all, and_from, and_parts, nat_tests, Row, column, Has, some_from, some_has, test_from}
 use Rattle.desk_verify.proofs.Common.{test_has, item_numbered, bounds_by, cut_by, leaves_empty, each_there, numbered_each, Bounds, Outcome, Good, Bad, Gone}
 use Rattle.desk_verify.proofs.Common.{GroupRecord, HasNumber, has_at, Actions, Groups, Rollouts, IsGroup, Tables, is_at, number_in_is, number_in_least}
 use Rattle.desk_verify.proofs.Common.{number_is, one_number, ListsRows, SaysGroup, HasGroupCount, SettlesWhether, are_bounds, are_right, counts_them, has_each}
-use Rattle.desk_verify.proofs.Common.{has_group_numbered, is_cut, is_right, same_bounds, HasEach, IsCutOnlyBy, IsGroupCount, AgreesGroups, HasGroup, IsCutBy}
+use Rattle.desk_verify.proofs.Common.{has_group_numbered, is_cut, is_right, HasEach, IsCutOnlyBy, IsGroupCount, AgreesGroups, HasGroup}
 use Rattle.desk_verify.proofs.Common.{IsInRollout, IsRightGroup, ended_in, has_ended, member_count, AreAllChecked, IsChecked, length-filter, not-true}
 use Rattle.desk_verify.proofs.Common.{columns_of_group, JudgesOne}
 use Rattle.rollout_machine.specs.Groupings.{Grouping}
@@ -48,12 +48,6 @@ one_missed groups k n missed few = grind (arith, false_from_ne_true, each_number
 
 -- ---- one rollout
 
-same_bounds_are : (a b : Bounds) → same_bounds a b ≡ true → a ≡ b
-same_bounds_are a b h = grind (arith, and_parts, nat_tests)
-
-equal_to : (a b : ℕ) → a ≡ b → nat_eq a b ≡ true
-equal_to a b same = grind (arith, nat_tests, same)
-
 -- the bounds of a group are those of its number
 record HasOwnBounds (by : Grouping) (m : ℕ) (g : GroupRecord) : Type 0 where
   low : 1 ≤ g.number
@@ -62,7 +56,7 @@ record HasOwnBounds (by : Grouping) (m : ℕ) (g : GroupRecord) : Type 0 where
 
 own_bounds : (by : Grouping) (m : ℕ) (g : GroupRecord) (o : Option Bounds) → item_numbered (cut_by by m) g.number ≡ o → are_bounds o g.bounds ≡ true
     → HasOwnBounds by m g
-own_bounds by m g o none h = grind (arith, numbered_each, same_bounds_are)
+own_bounds by m g o none h = grind (arith, numbered_each, and_parts)
 
 cut_so : (by : Grouping) (m i : ℕ) (bounds : Bounds) → 1 ≤ i → i ≤ by.count → bounds ≡ bounds_by by m i → are_bounds (item_numbered (cut_by by m) i) bounds
     ≡ true
@@ -80,49 +74,30 @@ module _ {t : Tables} {r m : ℕ} {by : Grouping} (cut : IsCutOnlyBy t r by) (ar
       let own = own_bounds by m g (item_numbered (cut_by by m) g.number) refl both.0 in
       let e = and_parts (nat_eq g.ok (count_by (has_ended g.bounds Good) actions)) _ both.1 in
       let f = and_parts (nat_eq g.bad (count_by (has_ended g.bounds Bad) actions)) _ e.1 in
-      record {
-        low = own.low;
-        high = own.high;
-        bounds = own.bounds ∙ ap (λ k. bounds_by by k g.number) are;
-        ok = eqb-true g.ok _ e.0 ∙ ended_are g.bounds Good;
-        bad = eqb-true g.bad _ f.0 ∙ ended_are g.bounds Bad;
-        gone = eqb-true g.gone _ f.1 ∙ ended_are g.bounds Gone;
-      }
+      let ended = ended_are g.bounds in
+      grind (arith, own.bounds, are, eqb-true g.ok _ e.0, eqb-true g.bad _ f.0, eqb-true g.gone _ f.1, ended Good, ended Bad, ended Gone)
 
   is_right_one : (g : GroupRecord) → IsRightGroup t r by g → is_right (cut_by by m) actions g ≡ true
-  is_right_one g right =
-      rw (
-        cut_so by m g.number g.bounds right.low right.high (right.bounds ∙ ap (λ k. bounds_by by k g.number) (sym are)),
-        equal_to g.ok _ (right.ok ∙ sym (ended_are g.bounds Good)),
-        equal_to g.bad _ (right.bad ∙ sym (ended_are g.bounds Bad)),
-        equal_to g.gone _ (right.gone ∙ sym (ended_are g.bounds Gone)),
-      ) refl
+  is_right_one g right = let cut = cut_so by m g.number g.bounds right.low right.high (right.bounds ∙ ap (λ k. bounds_by by k g.number) (sym are)) in
+      grind (arith, nat_tests, right.ok, right.bad, right.gone, ended_are g.bounds Good, ended_are g.bounds Bad, ended_are g.bounds Gone)
 
   fits : (n many : ℕ) → IsGroupCount t r n → many ≡ length groups → are_right by m actions groups ≡ true
       → IsChecked Groups 1 IsInRollout HasEach t r many
-  fits n many count is h = record {
-    rows = record {
-      each = λ row among of.
-          let one = listed.complete row among of in
-          let right = right_is one.one (test_has (is_right (cut_by by m) actions) groups one.one both.0 one.among) in
-          record { rollout = r; groups = by; group = one.one; is = one.is; cut = cut.cut; enough = ap (leaves_empty by) (sym are) ∙ full; right = right };
-      all = is ∙ listed.count;
-    };
-    whole = λ k i has low high.
-        let few : i ≤ by.count = omega (arith, high, count.only k has, count.only by.count cut.cut.there) in
-        let found = some_has (λ (g : GroupRecord). nat_eq g.number i) groups (each_number groups by.count both.1 i low few) in
-        let said = listed.sound found.0 found.1 in
-        record { row = said.row; among = said.among; group = found.0; is = said.is; number = grind (arith, nat_tests, found.2) };
-  }
-    where
-      parts : (not (leaves_empty by m) ≡ true) × ((list_all (is_right (cut_by by m) actions) groups && has_each groups by.count) ≡ true)
-      parts = and_parts _ _ h
-
-      full : leaves_empty by m ≡ false
-      full = not-true (leaves_empty by m) parts.0
-
-      both : (list_all (is_right (cut_by by m) actions) groups ≡ true) × (has_each groups by.count ≡ true)
-      both = and_parts _ _ parts.1
+  fits n many count is h =
+      let parts = and_parts (not (leaves_empty by m)) _ h in
+      let full = not-true (leaves_empty by m) parts.0 in
+      let both = and_parts (list_all (is_right (cut_by by m) actions) groups) (has_each groups by.count) parts.1 in
+      record {
+        rows = record {
+          each = λ row among of. let one = listed.complete row among of in
+              grind (arith, right_is one.one, test_has (is_right (cut_by by m) actions) groups one.one both.0 one.among);
+          all = is ∙ listed.count;
+        };
+        whole = λ k i has low high.
+            let few : i ≤ by.count = omega (arith, high, count.only k has, count.only by.count cut.cut.there) in
+            let found = some_has (λ (g : GroupRecord). nat_eq g.number i) groups (each_number groups by.count both.1 i low few) in
+            grind (arith, listed.sound found.0 found.1, nat_tests, found.2);
+      }
 
   -- what a row of the rollout is, where the table agrees
   record IsAsItIs (g : GroupRecord) : Type 0 where
@@ -130,17 +105,8 @@ module _ {t : Tables} {r m : ℕ} {by : Grouping} (cut : IsCutOnlyBy t r by) (ar
     full : leaves_empty by m ≡ false
 
   as_it_is : AgreesGroups t → (row : Row) → Has (t Groups) row → (g : GroupRecord) → IsGroup row r g → IsAsItIs g
-  as_it_is agree row among g is =
-      let it = agree.each row among in
-      let rollout = one_rollout row it.rollout r it.group g it.is is in
-      let same = cut.only it.groups (subst (λ k. IsCutBy t k it.groups) rollout it.cut) in
-      let group = one_group row it.rollout r it.group g it.is is in
-      record {
-        right = subst (λ k. IsRightGroup t k by g) rollout (subst (λ b. IsRightGroup t it.rollout b g) same
-            (subst (IsRightGroup t it.rollout it.groups) group it.right));
-        full = ap (leaves_empty by) are
-            ∙ subst (λ k. leaves_empty by (member_count t k) ≡ false) rollout (subst (λ b. leaves_empty b (member_count t it.rollout) ≡ false) same it.enough);
-      }
+  as_it_is agree row among g is = let it = agree.each row among in
+      grind (arith, one_rollout row it.rollout r it.group g it.is is, cut.only it.groups, one_group row it.rollout r it.group g it.is is, are)
 
   agreeing : 1 ≤ r → AgreesGroups t → are_right by m actions groups ≡ true
   agreeing first agree = and_from _ _ (ap not full) (and_from _ _ (test_from (is_right (cut_by by m) actions) groups each) (numbers_each groups by.count all))
@@ -155,12 +121,9 @@ module _ {t : Tables} {r m : ℕ} {by : Grouping} (cut : IsCutOnlyBy t r by) (ar
       each g among = let said = listed.sound g among in is_right_one g (as_it_is agree said.row said.among g said.is).right
 
       all : (i : ℕ) → 1 ≤ i → i ≤ by.count → has_group_numbered groups i ≡ true
-      all i low high =
-          let own = has i low high in
-          let one = listed.complete own.row own.among (of_rollout own.row r own.group own.is) in
+      all i low high = let own = has i low high in let one = listed.complete own.row own.among (of_rollout own.row r own.group own.is) in
           let group : own.group ≡ one.one = one_group own.row r r own.group one.one own.is one.is in
-          some_from (λ (g : GroupRecord). nat_eq g.number i) groups one.one one.among
-          (equal_to one.one.number i (sym (ap (λ (g : GroupRecord). g.number) group) ∙ own.number))
+          some_from (λ (g : GroupRecord). nat_eq g.number i) groups one.one one.among (grind (arith, nat_tests, own.number, group))
 
   pub judged_groups : (n many : ℕ) → IsGroupCount t r n → many ≡ length groups → 1 ≤ r
       → JudgesOne Groups 1 IsInRollout HasEach AgreesGroups t r (then_some (are_right by m actions groups) many)
@@ -178,10 +141,4 @@ pub agrees : (t : Tables) (listed all : ℕ) → AreAllChecked Groups 1 IsInRoll
     → SettlesWhether (AgreesGroups t) (nat_eq listed all)
 agrees t listed all checked is = decided AgreesGroups AgreesGroups listed all checked is
     (λ each whole. record { each = each; all = λ rollout n i low has. whole rollout low (is_there t rollout n has) n i has })
-    (λ agree row among. let it = agree.each row among in
-    record {
-      rollout = it.rollout;
-      low = number_in_least (column row 1) it.rollout it.is.rollout_is;
-      there = is_there t it.rollout it.groups.count it.cut.there;
-      of = of_rollout row it.rollout it.group it.is;
-    })
+    (λ agree row among. grind (arith, agree.each row among, number_in_least, is_there, of_rollout))

@@ -1,5 +1,5 @@
 -- Where the rows of records stand in tables that hold a ledger, and of what each row there is.
-use Rattle.desk_verify.proofs.Common.{[], map, ◌++◌, ◌+◌, refl, ◌≡◌, ℕ, suc, pos, List, ◌∷◌, slice_get, Some, sym, ap, ap₂, subst, ◌∙◌, arith, Has, Row, Int}
+use Rattle.desk_verify.proofs.Common.{[], map, ◌++◌, ◌+◌, refl, ◌≡◌, ℕ, suc, pos, List, ◌∷◌, slice_get, Some, sym, ap, subst, arith, Has, Row, Int}
 use Rattle.desk_verify.proofs.Common.{IsHeldBy, rows_from, item_row, numbered, of_part, part_among, parts_from, row_of, wanted_of}
 
 -- ---- numbered rows, in the order of their numbers
@@ -12,10 +12,7 @@ pub record IsItem {X : Type 0} (f : ℕ → X → Row) (xs : List X) (row : Row)
 
 module _ {X : Type 0} (f : ℕ → X → Row) (xs : List X) {rows : List Row} (are : rows ≡ rows_from f 1 xs) where
   pub item_of : (row : Row) → Has rows row → IsItem f xs row
-  item_of row among =
-      let it = numbered f 1 xs row (subst (λ l. Has l row) are among) in
-      let at : it.at ≡ suc it.index = omega (arith, it.at_is) in
-      record { d = it.index; one = it.one; got = it.got; is = it.is ∙ ap (λ n. f n it.one) at }
+  item_of row among = grind (arith, numbered f 1 xs row)
 
   pub item_lies : (d : ℕ) (x : X) → slice_get xs d ≡ Some x → Has rows (f (suc d) x)
   item_lies d x got = subst (λ l. Has l (f (suc d) x)) (sym are) (item_row f 1 (suc d) d xs x (omega arith) got)
@@ -40,16 +37,7 @@ module _ {X Y : Type 0} (f : ℕ → ℕ → Y → Row) (items : X → List Y) (
       let item = numbered (f of.number) 1 (items of.whole) content.1 of.among in
       let at : of.number ≡ suc of.index = omega (arith, of.number_is) in
       let place : item.at ≡ suc item.index = omega (arith, item.at_is) in
-      record {
-        n = content.0;
-        d = of.index;
-        k = item.index;
-        whole = of.whole;
-        one = item.one;
-        got = of.got;
-        lies = item.got;
-        is = content.3 ∙ ap (λ x. Int (pos content.0) ∷ x) (item.is ∙ ap₂ (λ i j. f i j item.one) at place);
-      }
+      grind (arith, content.3, of.got, item.got, item.is)
 
   pub part_lies : (d k : ℕ) (x : X) (y : Y) → slice_get xs d ≡ Some x → slice_get (items x) k ≡ Some y → (n : ℕ) × Has rows (Int (pos n) ∷ f (suc d) (suc k) y)
   part_lies d k x y got lies = row_of rows (parts_from f items 1 xs) (f (suc d) (suc k) y) held

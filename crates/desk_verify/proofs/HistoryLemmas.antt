@@ -1,5 +1,5 @@
 -- What the history of an action that was read comes to.
-use Rattle.desk_verify.proofs.Common.{◌≡◌, ◌⊎◌, ◌≤◌, ℕ, true, List, [], ◌∷◌, map, Option, Some, None, refl, sym, ap, ◌∙◌, arith, column, Has, outcome_said}
+use Rattle.desk_verify.proofs.Common.{◌≡◌, ◌⊎◌, ◌≤◌, ℕ, true, List, [], ◌∷◌, map, Option, Some, None, refl, sym, ap, arith, Has, outcome_said}
 use Rattle.desk_verify.proofs.Common.{is_outcome, Outcome, Gone, AreSaid, has_at, Feedbacks, Numbers, IsEntry, Tables, SequencedEntry, ListedAction, is_at}
 use Rattle.desk_verify.proofs.Common.{number_is, one_number, SaysNumber, rise, FitsItsEntries, IsGiven, IsGivenFirst, PassesHistory, first_said, is_fit}
 use Rattle.desk_verify.proofs.Common.{sequences_rise, FitsEntries, EntryGivesOutcome, KeepsNumbers, SettlesWhether, Settles, PlacedNumber}
@@ -46,13 +46,9 @@ module _ (t : Tables) (k : ℕ) (entries : List SequencedEntry) (rises : sequenc
       gives = gives it.entry o it.among it.gives;
       first = λ other p its. (let e = gave other p its in omega (arith, it.first e.entry p e.among e.said, e.at));
     };
-    only = λ other p first. (
-        let e = gave other p first.gives in
-        let less = it.first e.entry p e.among e.said in
+    only = λ other p first. (let e = gave other p first.gives in let less = it.first e.entry p e.among e.said in
         let least = first.first it.entry.sequence o (gives it.entry o it.among it.gives) in
-        let same = only_one sequence_of 0 entries rises e.entry it.entry e.among it.among (omega (arith, less, least, e.at)) in
-        one_in _ p o e.said (ap (λ (x : SequencedEntry). outcome_said x.entry.said) same ∙ it.gives)
-        );
+        grind (arith, only_one sequence_of 0 entries rises e.entry it.entry e.among it.among, e.said, e.at, it.gives));
   }
 
   pub given_by : (o : Option Outcome) → first_said entries ≡ o → IsGiven t k o
@@ -64,54 +60,26 @@ pub given : (t : Tables) (k : ℕ) (entries : List SequencedEntry)
     → AreSaid (t Feedbacks) (has_at 1 k) (λ row (e : SequencedEntry). IsEntry row e.sequence e.entry) entries → sequences_rise entries ≡ true
     → IsGiven t k (first_said entries)
 given t k entries are rises = given_by t k entries rises
-    (λ e o among said. let it = are.sound e among in
-    record {
-      row = it.row;
-      among = it.among;
-      of = it.passes;
-      at = is_at it.row 2 e.sequence it.is.sequence_is;
-      said = e.entry.said;
-      says = it.is.shows.0;
-      gives = said;
-    })
-    (λ sequence o it. let listed = are.complete it.row it.among it.of in
-    record {
-      entry = listed.one;
-      among = listed.among;
-      at = one_number (column it.row 2) listed.one.sequence sequence listed.is.sequence_is (number_is _ _ it.at);
-      said = ap outcome_said (one_in _ _ _ listed.is.shows.0 it.says) ∙ it.gives;
-    }) (first_said entries) refl
+    (λ e o among said. grind (arith, are.sound e among, is_at, said))
+    (λ sequence o it. grind (arith, are.complete it.row it.among it.of, number_is, one_number, one_in))
+    (first_said entries) refl
 
 -- ---- the outcome
-
-same_outcome : (given : Outcome) (outcome : Option Outcome) → is_outcome given outcome ≡ true → outcome ≡ Some given
-same_outcome given outcome h = grind arith
-
-own_outcome : (given : Outcome) → is_outcome given (Some given) ≡ true
-own_outcome given = grind arith
-
-open_or_gone : (outcome : Option Outcome) → is_fit None outcome ≡ true → (outcome ≡ None) ⊎ (outcome ≡ Some Gone)
-open_or_gone outcome h = grind arith
-
-is_open_or_gone : (outcome : Option Outcome) → (outcome ≡ None) ⊎ (outcome ≡ Some Gone) → is_fit None outcome ≡ true
-is_open_or_gone outcome h1 = grind arith
 
 -- an outcome fits where it is that which is given
 pub fits_given : (t : Tables) (k : ℕ) (given outcome : Option Outcome) → IsGiven t k given → ((said : Outcome) → given ≡ Some said → outcome ≡ Some said)
     → (given ≡ None → (outcome ≡ None) ⊎ (outcome ≡ Some Gone)) → FitsEntries t k outcome
-fits_given t k (Some o) outcome it some none = record {
-  given = λ s p first. some o refl ∙ ap (λ q. Some q) (sym (it.only s p first));
-  not_given = λ no. absurd (no it.sequence o it.first.gives);
-}
+fits_given t k (Some o) outcome it some none =
+    record { given = λ s p first. some p (ap (λ q. Some q) (sym (it.only s p first))); not_given = λ no. absurd (no it.sequence o it.first.gives) }
 fits_given t k None outcome it some none = record { given = λ s p first. absurd (it s p first.gives); not_given = λ no. none refl }
 
 decides : (t : Tables) (k : ℕ) (given outcome : Option Outcome) → IsGiven t k given → SettlesWhether (FitsEntries t k outcome) (is_fit given outcome)
 decides t k (Some o) outcome it = settled (is_outcome o outcome)
-    (λ fit. fits_given t k (Some o) outcome it (λ said same. same_outcome o outcome fit ∙ same) (λ none. absurd cc))
-    (λ fits. ap (is_outcome o) (fits.given it.sequence o it.first) ∙ own_outcome o)
+    (λ fit. fits_given t k (Some o) outcome it (λ said same. grind (arith, fit, same)) (λ none. absurd cc))
+    (λ fits. grind (arith, fits.given it.sequence o it.first))
 decides t k None outcome it = settled (is_fit None outcome)
-    (λ fit. fits_given t k None outcome it (λ said none. absurd cc) (λ none. open_or_gone outcome fit))
-    (λ fits. is_open_or_gone outcome (fits.not_given it))
+    (λ fit. fits_given t k None outcome it (λ said none. absurd cc) (λ none. grind (arith, fit)))
+    (λ fits. grind (arith, fits.not_given it))
 
 -- ---- the numbers
 

@@ -47,14 +47,7 @@ is_borne sequence [] it among = absurd among
 is_borne sequence (r ∷ more) it among = go r.number refl among (is_borne (sequence + 1) more it)
   where
     behind : IsBorne (sequence + 1) more it → IsBorne sequence (r ∷ more) it
-    behind borne = record {
-      low = omega (arith, borne.low);
-      high = omega (arith, borne.high);
-      report = borne.report;
-      among = inr borne.among;
-      number =
-          borne.number;
-    }
+    behind borne = grind (arith, borne.low, borne.high, borne.number)
 
     go : (number : Option ℕ) → r.number ≡ number → Has (borne_at sequence number ++ numbers_from (sequence + 1) more) it
         → (Has (numbers_from (sequence + 1) more) it → IsBorne (sequence + 1) more it) → IsBorne sequence (r ∷ more) it

@@ -1,6 +1,5 @@
 -- What the reads of the table of members come to.
-use native.Mathlib.Omega.{arith}
-use Rattle.desk_verify.proofs.Common.{◌≡◌, ℕ, List, length, nat_eq, column, AreMembers, Members, Tables, PlacedMember, is_at, number_in_is}
+use Rattle.desk_verify.proofs.Common.{arith, ◌≡◌, ℕ, List, length, nat_eq, AreMembers, Members, Tables, PlacedMember, is_at, number_in_is}
 use Rattle.desk_verify.proofs.Common.{number_in_least, SettlesWhether, follow, AreAllChecked, JudgesOne, AgreesMembers, IsInPlace, IsThere}
 use Rattle.std.specs.Bool.{then_some}
 use Rattle.desk_verify.proofs.Follow.{agreeing, in_place}
@@ -19,10 +18,4 @@ pub agrees : (t : Tables) (listed all : ℕ) → AreAllChecked Members 1 IsInPla
     → SettlesWhether (AgreesMembers t) (nat_eq listed all)
 agrees t listed all checked is = decided AgreesMembers AgreesMembers listed all checked is
     (λ each whole. each)
-    (λ agree row among. let it = agree row among in
-    record {
-      rollout = it.rollout;
-      low = number_in_least (column row 1) it.rollout it.is.rollout_is;
-      there = it.there;
-      of = is_at row 1 it.rollout (number_in_is (column row 1) it.rollout it.is.rollout_is);
-    })
+    (λ agree row among. grind (arith, agree row among, number_in_least, is_at, number_in_is))

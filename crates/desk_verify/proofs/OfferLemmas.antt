@@ -1,11 +1,10 @@
 -- What the reads of the tables of offers, actions and groups come to.
-use Rattle.desk_verify.proofs.Common.{◌≡◌, ℕ, Bool, true, false, List, is_none, is_some, length, Option, Some, None, refl, sym, ap, subst, ◌∙◌, pos}
-use Rattle.desk_verify.proofs.Common.{AllByRecursion, and_from, and_parts, Row, column, has_rowid, Has, all_from, all_has, some_from, some_has, Bytes, Outcome}
-use Rattle.desk_verify.proofs.Common.{GroupRecord, same_refl, FindsOne, has_at, has_text_at, Actions, Groups, Offers, Tables, OwnedOffer, ListedAction}
-use Rattle.desk_verify.proofs.Common.{StoredAction, number_in_is, number_in_least, ListsRows, SaysAction, SaysGroup, SaysNumbered, SaysOffer, SaysOfferOf}
-use Rattle.desk_verify.proofs.Common.{any_row, SettlesWhether, Fits, IsRight, IsRowOffered, IsOfferedIfDue, holds_started, is_due, AgreesOffers}
-use Rattle.desk_verify.proofs.Common.{HasNumberedAction, IsDue, IsInStartedGroup, IsOffered, IsRightOffer, JudgesAll, IsThere, columns_of_stored_action}
-use Rattle.desk_verify.proofs.Common.{JudgesOne}
+use Rattle.desk_verify.proofs.Common.{◌≡◌, ℕ, Bool, true, false, List, is_none, is_some, length, Option, Some, None, refl, ◌∙◌, pos, AllByRecursion, and_from}
+use Rattle.desk_verify.proofs.Common.{and_parts, Row, column, has_rowid, Has, all_from, all_has, some_from, some_has, Bytes, Outcome, GroupRecord, same_refl}
+use Rattle.desk_verify.proofs.Common.{FindsOne, has_at, has_text_at, Actions, Groups, Offers, Tables, OwnedOffer, ListedAction, StoredAction, number_in_is}
+use Rattle.desk_verify.proofs.Common.{number_in_least, ListsRows, SaysAction, SaysGroup, SaysNumbered, SaysOffer, SaysOfferOf, any_row, SettlesWhether, Fits}
+use Rattle.desk_verify.proofs.Common.{IsRight, IsRowOffered, IsOfferedIfDue, holds_started, is_due, AgreesOffers, IsDue, IsInStartedGroup, IsOffered}
+use Rattle.desk_verify.proofs.Common.{IsRightOffer, JudgesAll, IsThere, columns_of_stored_action, JudgesOne}
 use Rattle.std.proofs.lemmas.Bool.Decides.{nat_tests}
 use Rattle.std.proofs.Common.{arith}
 use Rattle.std.proofs.lemmas.List.Sorted.{IsPermutation-sym, length_permutation}
@@ -50,7 +49,7 @@ module _ (t : Tables) {owned : OwnedOffer} {action : StoredAction}
   its_action it = same_stored_action (columns_of_stored_action it.of.row) it.action action it.of.shows (one.each it.of.row it.of.among it.of.numbered)
 
   pub other_action : (Fits action owned → ⊥) → IsRight t owned → ⊥
-  other_action other it = other (subst (λ a. Fits a owned) (its_action it) it.fits)
+  other_action other it = grind (arith, its_action)
 
   pub by_group : Fits action owned → (started : Bool) → SettlesWhether (IsInStartedGroup t action.rollout action.position) started
       → SettlesWhether (IsRight t owned) started
@@ -70,26 +69,16 @@ if_due t groups listed due offered is = grind arith
 module _ (t : Tables) {r : ℕ} {groups : List GroupRecord} (listed : ListsRows (t Groups) (has_at 1 r) (SaysGroup r) (Some groups)) {actions : List ListedAction}
     (acted : ListsRows (t Actions) (has_at 2 r) SaysAction (Some actions)) where
   all_offered : AllByRecursion (IsOfferedIfDue t groups) actions → (row : Row) → Has (t Actions) row → has_at 2 r row ≡ true → IsRowOffered t row
-  all_offered none row among of number action due =
-      let one = acted.complete row among of in
-      let same = same_action one.is due.is in
-      let started = subst (λ k. IsInStartedGroup t k action.position) (own_rollout due.is of) due.started in
-      let is_so : is_due groups action ≡ true = and_from _ _ (ap is_none due.is_open) (if_so _ (started_tells t action.position listed) started) in
-      let offered = all_has (IsOfferedIfDue t groups) actions one.one none one.among (subst (λ a. is_due groups a ≡ true) (sym same.action) is_so) in
-      subst (λ k. IsOffered t action.target k) same.number (subst (λ (a : StoredAction). IsOffered t a.target one.one.number) same.action offered)
+  all_offered none row among of number action due = let one = acted.complete row among of in
+      let offered = all_has (IsOfferedIfDue t groups) actions one.one none one.among in
+      grind (arith, same_action one.is due.is, own_rollout due.is of, and_from, if_so, started_tells t action.position listed, offered)
 
   one_not_offered : IsThere t r → (AllByRecursion (IsOfferedIfDue t groups) actions → ⊥) → AgreesOffers t → ⊥
   one_not_offered there some agree = some (all_from (IsOfferedIfDue t groups) actions (λ one among due.
       let said = acted.sound one among in
       let both = and_parts (is_none one.action.outcome) (holds_started groups one.action.position) due in
-      let at = sym (own_rollout said.is said.passes) in
-      agree.all said.row one.number one.action (record {
-        among = said.among;
-        is = said.is;
-        is_open = none_ended one.action.outcome both.0;
-        there = subst (IsThere t) at there;
-        started = subst (λ k. IsInStartedGroup t k one.action.position) at (so_if _ (started_tells t one.action.position listed) both.1);
-      })))
+      let started = so_if _ (started_tells t one.action.position listed) both.1 in
+      grind (arith, agree.all said.row one.number one.action, own_rollout said.is said.passes, none_ended, started)))
 
   pub judged_due : IsThere t r → (offered : Bool) → SettlesWhether (AllByRecursion (IsOfferedIfDue t groups) actions) offered → (count : ℕ)
       → count ≡ length actions → JudgesOne Actions 2 IsRowOffered (λ t r. Unit) AgreesOffers t r (then_some offered count)
@@ -102,8 +91,7 @@ pub sorted_said : {A : Type 0} {rows : List Row} {test : Row → Bool} {says : R
     → AreSaid rows test says found → AreSaid rows test says sorted
 sorted_said {A} {rows} {test} {says} {found} {sorted} moved said = record {
   sound = λ a among. said.sound a (has_permuted sorted found a (IsPermutation-sym found sorted moved) among);
-  complete = λ row among passes. let it = said.complete row among passes in
-      record { one = it.one; among = has_permuted found sorted it.one moved it.among; is = it.is };
+  complete = λ row among passes. let it = said.complete row among passes in grind (arith, has_permuted found sorted it.one moved it.among, it.is);
   count = length_permutation found sorted moved ∙ said.count;
 }
 
@@ -117,12 +105,7 @@ module _ (t : Tables) {offers : List OwnedOffer} (listed : ListsRows (t Offers) 
       let it = agree.each said.row said.among in
       let number = one_in _ _ _ it.is.shows.action said.is.shows.action in
       let canceling = one_in _ _ _ it.is.shows.canceling said.is.shows.canceling in
-      record {
-        action = it.action;
-        of = subst (λ k. HasNumberedAction t k it.action) number it.of;
-        fits = record { is_open = it.is_open; target = it.target ∙ one_text _ _ _ it.is.id_is said.is.id_is; canceling = it.canceling ∙ canceling };
-        started = it.started;
-      }))
+      grind (arith, one_text _ _ _ it.is.id_is said.is.id_is, it.of)))
 
   pub agrees : AllByRecursion (IsRight t) offers → (found : Option ℕ) → JudgesAll Actions 2 IsRowOffered (λ t r. Unit) AgreesOffers t found
       → SettlesWhether (AgreesOffers t) (is_some found)
@@ -130,20 +113,8 @@ module _ (t : Tables) {offers : List OwnedOffer} (listed : ListsRows (t Offers) 
   agrees right (Some count) checked = record { each = each; all = all }
     where
       each : (row : Row) → Has (t Offers) row → IsRightOffer t row
-      each row among =
-          let one = listed.complete row among refl in
-          let it = all_has (IsRight t) offers one.one right one.among in
-          record {
-            id = one.one.id;
-            offer = one.one.offer;
-            is = one.is;
-            action = it.action;
-            of = it.of;
-            is_open = it.fits.is_open;
-            target = it.fits.target;
-            canceling = it.fits.canceling;
-            started = it.started;
-          }
+      each row among = let one = listed.complete row among refl in
+          grind (arith, all_has (IsRight t) offers one.one right one.among)
 
       all : (row : Row) (number : ℕ) (action : StoredAction) → IsDue t row number action → IsOffered t action.target number
       all row number action due =

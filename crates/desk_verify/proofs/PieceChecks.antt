@@ -1,7 +1,7 @@
 -- What is found at the places of an artifact, one after the other.
 use Rattle.desk_records.proofs.Membership.{has_alone}
-use Rattle.desk_verify.proofs.Common.{◌≡◌, ◌≤◌, ◌<◌, ◌⊎◌, inl, inr, ◌++◌, ℕ, zero, suc, ◌+◌, ◌-◌, ◌*◌, List, [], ◌∷◌, length, map, slice_get, get_or, min}
-use Rattle.desk_verify.proofs.Common.{drop, Vec, vec_items, Some, None, refl, sym, ap, ap₂, subst, ◌∙◌, arith, length-append, Global, Blob, Row}
+use Rattle.desk_verify.proofs.Common.{◌≡◌, ◌<◌, ◌⊎◌, inl, inr, ◌++◌, ℕ, zero, suc, ◌+◌, ◌-◌, ◌*◌, List, [], ◌∷◌, length, map, slice_get, get_or, min}
+use Rattle.desk_verify.proofs.Common.{drop, Vec, vec_items, Some, None, refl, sym, ap, ap₂, subst, ◌∙◌, arith, length-append, Global, Row}
 use Rattle.desk_verify.proofs.Common.{piece_count, Bytes, ArePieces, pieces_in, Pieces, Tables, count_pieces, nth_piece, one_more, same_contents, HashesPieces}
 use Rattle.desk_verify.proofs.Common.{IsHashed, HasPieces, length-drop, length-take, piece_length}
 use Rattle.std.proofs.lemmas.Grind.{div_ceil_times}
@@ -14,17 +14,9 @@ use Rattle.sha2.specs.declared.Sha256.{Sha256}
 -- where a piece lies alone, it is all that is found
 pub alone : (rows : List Row) (number place : ℕ) (piece : Bytes) (found : List Bytes) → ArePieces rows number place (piece ∷ [])
     → ArePieces rows number place found → found ≡ piece ∷ []
-alone rows number place piece found one all = go found all (all.count ∙ sym one.count)
-  where
-    go : (found : List Bytes) → ArePieces rows number place found → length found ≡ 1 → found ≡ piece ∷ []
-    go [] all count = absurd (omega (arith, count))
-    go (x ∷ []) all count =
-        let it = all.sound x (inl refl) in
-        let other = one.complete it.row it.among it.passes in
-        let same : Blob x ≡ Blob other.one = sym it.is.bytes_are ∙ other.is.bytes_are in
-        let bytes : x ≡ other.one = cc in
-        ap (λ (b : Bytes). b ∷ []) (bytes ∙ has_alone piece other.one other.among)
-    go (x ∷ y ∷ found) all count = absurd (omega (arith, count))
+alone rows number place piece [] one all = absurd (omega (arith, all.count, one.count))
+alone rows number place piece (x ∷ []) one all = let it = all.sound x (inl refl) in grind (arith, one.complete it.row it.among it.passes, has_alone piece)
+alone rows number place piece (x ∷ y ∷ found) one all = absurd (omega (arith, all.count, one.count))
 
 -- where none lies, none is found
 pub none_found : (rows : List Row) (number place : ℕ) (found : List Bytes) → ArePieces rows number place [] → ArePieces rows number place found → length found
@@ -36,11 +28,8 @@ pub other_length : (t : Tables) (number place size : ℕ) (found : List (Vec ℕ
     → (length one.items ≡ size → ⊥) → ArePieces (t Pieces) number place (map vec_items found)
     → (piece : Bytes) → length piece ≡ size → ArePieces (t Pieces) number place (piece ∷ []) → ⊥
 other_length t number place size [] one single is other all piece long lies = absurd (omega (arith, single))
-other_length t number place size (x ∷ []) one single is other all piece long lies =
-    let same : x.items ∷ [] ≡ piece ∷ [] = alone (t Pieces) number place piece (x.items ∷ []) lies all in
-    let bytes : x.items ≡ piece = cc in
-    other (ap (λ (v : Vec ℕ Global). length v.items) is ∙ ap length bytes ∙ long)
-other_length t number place size (x ∷ y ∷ found) one single is other all piece long lies = absurd (omega (arith, single))
+other_length t number place size (x ∷ found) one single is other all piece long lies =
+    grind (arith, alone (t Pieces) number place piece (x.items ∷ map vec_items found) lies all)
 
 -- ---- one place after the other
 
@@ -68,7 +57,8 @@ more_hashed t number size k asked old new few is so_far next = record {
   holds = next.hashed so_far.contents so_far.holds;
   long = let sum = length-append so_far.contents next.piece in omega (arith, sum, whole, next.long, is, within);
   count = let sum = length-append (pieces_in so_far.contents) (next.piece ∷ []) in ap length grown ∙ omega (arith, sum, so_far.count);
-  pieces = λ at piece is. found at piece (pushed (pieces_in so_far.contents) next.piece at piece (subst (λ l. slice_get l at ≡ Some piece) grown is));
+  pieces = λ at piece is. (let it = pushed (pieces_in so_far.contents) next.piece at piece (subst (λ l. slice_get l at ≡ Some piece) grown is) in
+      grind (arith, so_far.pieces at piece, next.lies, so_far.count));
 }
   where
     within : k * piece_length < size
@@ -80,31 +70,17 @@ more_hashed t number size k asked old new few is so_far next = record {
     grown : pieces_in (so_far.contents ++ next.piece) ≡ pieces_in so_far.contents ++ next.piece ∷ []
     grown = one_more so_far.contents next.piece k whole (omega (arith, next.long, is, within)) (omega (arith, next.long, is))
 
-    found : (at : ℕ) (piece : Bytes) → (slice_get (pieces_in so_far.contents) at ≡ Some piece)
-        ⊎ ((at ≡ length (pieces_in so_far.contents)) × (piece ≡ next.piece)) → ArePieces (t Pieces) number (at + 1) (piece ∷ [])
-    found at piece (inl earlier) = so_far.pieces at piece earlier
-    found at piece (inr last) =
-        let here : k + 1 ≡ at + 1 = omega (arith, last.0, so_far.count) in
-        subst (λ n. ArePieces (t Pieces) number n (piece ∷ [])) here
-        (subst (λ (b : Bytes). ArePieces (t Pieces) number (k + 1) (b ∷ [])) (sym last.1) next.lies)
-
 -- contents of this size have a piece at each place, of the length that is asked for
 pub none_fits : (t : Tables) (number size k asked : ℕ) → k < piece_count size → asked ≡ min (size - k * piece_length) piece_length
     → ((piece : Bytes) → length piece ≡ asked → ArePieces (t Pieces) number (k + 1) (piece ∷ []) → ⊥)
     → HashesPieces t number size None
-none_fits t number size k asked few is fails contents long has = go (slice_get_cases (pieces_in contents) k).1
-  where
-    many : length (pieces_in contents) ≡ piece_count size
-    many = count_pieces contents ∙ ap piece_count long
-
-    go : ((piece : Bytes) × (k < length (pieces_in contents)) × (slice_get (pieces_in contents) k ≡ Some piece) × (get_or (pieces_in contents) k piece ≡ piece))
-        ⊎ ((length (pieces_in contents) ≤ k) × (slice_get (pieces_in contents) k ≡ None)) → ⊥
-    go (inl it) =
-        let same = ap length (nth_piece contents it.0 k it.2) in
-        let taken = length-take piece_length (drop (k * piece_length) contents) in
-        let left = length-drop (k * piece_length) contents in
-        fails it.0 (omega (arith, same, taken, left, long, is)) (has k it.0 it.2)
-    go (inr past) = absurd (omega (arith, past.0, many, few))
+none_fits t number size k asked few is fails contents long has =
+    let many = count_pieces contents ∙ ap piece_count long in
+    elim (slice_get_cases (pieces_in contents) k).1 [
+      | inl it ↦ (let taken = length-take piece_length (drop (k * piece_length) contents) in
+          grind (arith, nth_piece contents it.0 k it.2, taken, length-drop (k * piece_length) contents, fails it.0, has k it.0 it.2))
+      | inr past ↦ omega (arith, past.0, many, few)
+    ]
 
 -- ---- the artifact as a whole
 

@@ -1,6 +1,6 @@
 -- The plans of accepted commands: each is well formed, and leaves no group of its members empty.
-use Rattle.desk_verify.proofs.Common.{◌≡◌, ◌≤◌, ◌<◌, ℕ, zero, suc, ◌+◌, true, false, List, [], ◌∷◌, length, slice_get, Some, None, refl, sym, ap, subst, ◌∙◌}
-use Rattle.desk_verify.proofs.Common.{arith, option_map, and_parts, eqb-true, define_each, item_numbered, CommandList, CreateRollout, RolloutPlan}
+use Rattle.desk_verify.proofs.Common.{◌≡◌, ◌≤◌, ◌<◌, ℕ, zero, suc, ◌+◌, true, false, List, [], ◌∷◌, length, slice_get, Some, None, refl, sym, ap, subst}
+use Rattle.desk_verify.proofs.Common.{arith, and_parts, eqb-true, define_each, item_numbered, CommandList, CreateRollout, RolloutPlan}
 use Rattle.desk_verify.proofs.Common.{GroupRule, rule_at, rules_of, GroupDefinition, leaves_empty, IsValid, RolloutRecord, length_each, each_created, made}
 use Rattle.desk_verify.proofs.Common.{told_rule, HaveRules, definitions_in, grouping_of, is_plan, each_rule, IsRuleRow}
 use Rattle.rollout_machine.specs.Rollouts.{Rollout, members_of, size_of}
@@ -36,13 +36,7 @@ pub rule_told : (plan : RolloutPlan) (i : ℕ) → is_plan plan ≡ true → IsR
 rule_told plan i formed =
     each_rule (λ (rule : GroupRule). IsRuleRow (told_rule rule) rule) plan i formed
     (λ success error. record { percentage = refl; success = percentage_is plan.success success; error = percentage_is plan.error error })
-    (λ d own. let good = and_parts _ _ own in
-    let rest = and_parts _ _ good.1 in
-    record {
-      percentage = ap (option_map Some) (percentage_is d.percentage good.0);
-      success = percentage_is d.success rest.0;
-      error = percentage_is d.error rest.1;
-    })
+    (λ d own. grind (arith, and_parts, own, percentage_is d.percentage, percentage_is d.success, percentage_is d.error))
 
 -- ---- they make its grouping
 
@@ -53,29 +47,23 @@ each_has Has f first (suc n) each = grind (arith, each_has Has f (suc first) n)
 
 -- a list is the rest of another from k on
 abbrev IsRest : ℕ → List GroupDefinition → List GroupDefinition → Type 0
-IsRest k all rest = (j : ℕ) → slice_get all (k + j) ≡ slice_get rest j
-
-first_of : (k : ℕ) (all rest : List GroupDefinition) → IsRest k all rest → slice_get all k ≡ slice_get rest 0
-first_of k all rest is = let at : k + 0 ≡ k = omega arith in ap (slice_get all) (sym at) ∙ is 0
-
-next_of : (k : ℕ) (all rest more : List GroupDefinition) → IsRest k all rest → ((j : ℕ) → slice_get rest (suc j) ≡ slice_get more j) → IsRest (suc k) all more
-next_of k all rest more is further j = let at : suc k + j ≡ k + suc j = omega arith in ap (slice_get all) at ∙ is (suc j) ∙ further j
+IsRest k all rest = (i j : ℕ) → i ≡ k + j → slice_get all i ≡ slice_get rest j
 
 definitions_back : (plan : RolloutPlan) (k n : ℕ) (ds : List GroupDefinition) → IsRest k plan.groups.definitions ds → length ds ≤ n
     → definitions_in (each_from (rule_at plan) (suc k) n) ≡ ds
 definitions_back plan k zero [] is few = refl
 definitions_back plan k zero (d ∷ ds) is few = absurd (omega (arith, few))
 definitions_back plan k (suc n) [] is few =
-    rw (first_of k plan.groups.definitions [] is) (definitions_back plan (suc k) n [] (next_of k plan.groups.definitions [] [] is (λ j. refl)) (omega arith))
+    rw (is k 0 (omega arith)) (definitions_back plan (suc k) n [] (λ i j same. is i (suc j) (omega (arith, same))) (omega arith))
 definitions_back plan k (suc n) (d ∷ ds) is few =
-    rw (first_of k plan.groups.definitions (d ∷ ds) is)
-    (ap (λ l. d ∷ l) (definitions_back plan (suc k) n ds (next_of k plan.groups.definitions (d ∷ ds) ds is (λ j. refl)) (omega (arith, few))))
+    let rest = definitions_back plan (suc k) n ds (λ i j same. is i (suc j) (omega (arith, same))) (omega (arith, few)) in
+    grind (arith, is k 0 (omega arith), rest)
 
 no_more : (ds : List GroupDefinition) (count : ℕ) → define_each ds count ≡ true → length ds ≤ count
 no_more ds count each = grind (arith, eqb-true, and_parts)
 
 whole : (ds : List GroupDefinition) → IsRest 0 ds ds
-whole ds j = let at : 0 + j ≡ j = omega arith in ap (slice_get ds) at
+whole ds i j same = let at : i ≡ j = omega (arith, same) in ap (slice_get ds) at
 
 pub rules_make : (plan : RolloutPlan) → is_plan plan ≡ true → grouping_of (rules_of plan) ≡ Some plan.groups
 rules_make plan formed = grind (arith, and_parts, no_more, definitions_back, whole, length_each)

@@ -36,13 +36,10 @@ module _ (P : Row → Type 0) where
   -- .. of the lists that each of a list has
   pub of_lists : {X Y : Type 0} (f : X → Y → Row) (items : X → List Y) (xs : List X) (rows : List Row) → IsHeldBy rows (flat_map (λ x. map (f x) (items x)) xs)
       → ((n : ℕ) (x : X) (y : Y) → Has xs x → Has (items x) y → P (Int (pos n) ∷ f x y)) → (row : Row) → Has rows row → P row
-  of_lists f items xs rows held each = of_unordered (flat_map (λ x. map (f x) (items x)) xs) rows held one
-    where
-      one : (n : ℕ) (row : Row) → Has (flat_map (λ x. map (f x) (items x)) xs) row → P (Int (pos n) ∷ row)
-      one n row among =
-          let its = has_flat (λ x. map (f x) (items x)) xs row among in
-          let source = has_mapped (f its.0) (items its.0) row its.2 in
-          subst (λ (z : Row). P (Int (pos n) ∷ z)) (sym source.2) (each n its.0 source.0 its.1 source.1)
+  of_lists f items xs rows held each = of_unordered (flat_map (λ x. map (f x) (items x)) xs) rows held (λ n row among.
+      let its = has_flat (λ x. map (f x) (items x)) xs row among in
+      let source = has_mapped (f its.0) (items its.0) row its.2 in
+      subst (λ (z : Row). P (Int (pos n) ∷ z)) (sym source.2) (each n its.0 source.0 its.1 source.1))
 
 -- ---- rows that break no column
 

@@ -1,11 +1,10 @@
 -- What the rows of records say that accepted commands make: each column keeps its rule.
-use Rattle.desk_verify.proofs.Common.{◌≡◌, ◌≤◌, ◌<◌, ℕ, zero, suc, ◌+◌, ◌-◌, pos, true, List, [], ◌∷◌, length, map, slice_get, zip, unwrap_or, Option}
-use Rattle.desk_verify.proofs.Common.{Some, refl, sym, ap, subst, ◌∙◌, arith, is_some, and_parts, Int, Row, Has, has_got, has_kept, is_number, is_word}
-use Rattle.desk_verify.proofs.Common.{item_numbered, CommandList, Bytes, IsOfMember, records, IsValid, IsWithinLimits, IsCountedGroup, Bounds, GroupRecord}
-use Rattle.desk_verify.proofs.Common.{ActionRecord, RolloutRecord, last_by, actions_follow_members, groups_are_counted, grouping_is_cut, limits_hold}
-use Rattle.desk_verify.proofs.Common.{Tally, action_row, actor_of, tally_of, stored_action, member_row, group_row, member_at, number_in, IsAction, IsGroup}
-use Rattle.desk_verify.proofs.Common.{IsMember, IsOffer, TargetOffer, Offer, offer, offer_to, offer_row, offered_one, same_refl, same_true, HoldsOffers, is_to}
-use Rattle.desk_verify.proofs.Common.{place_within, is_in_range, is_number_in, is_small, member_ids}
+use Rattle.desk_verify.proofs.Common.{◌≡◌, ◌≤◌, ◌<◌, ℕ, zero, suc, ◌-◌, pos, true, List, [], ◌∷◌, length, map, slice_get, zip, unwrap_or, Option, Some, ap, ◌∙◌}
+use Rattle.desk_verify.proofs.Common.{arith, and_parts, Int, Row, Has, has_got, has_kept, is_number, item_numbered, CommandList, Bytes, IsOfMember, records}
+use Rattle.desk_verify.proofs.Common.{IsValid, IsWithinLimits, IsCountedGroup, GroupRecord, ActionRecord, RolloutRecord, last_by, actions_follow_members}
+use Rattle.desk_verify.proofs.Common.{groups_are_counted, grouping_is_cut, limits_hold, Tally, action_row, actor_of, tally_of, stored_action, member_row}
+use Rattle.desk_verify.proofs.Common.{group_row, member_at, IsAction, IsGroup, IsMember, IsOffer, TargetOffer, Offer, offer, offer_to, offer_row, offered_one}
+use Rattle.desk_verify.proofs.Common.{same_refl, same_true, HoldsOffers, is_to, place_within, is_in_range, is_number_in, is_small, member_ids}
 use Rattle.rollout_machine.specs.Verdicts.{notes_of}
 use Rattle.desk_records.specs.Columns.{small_number}
 use Rattle.desk_verify.proofs.CodeLemmas.{flag_is, kept_group, outcome_is}
@@ -17,14 +16,12 @@ use Rattle.desk_verify.proofs.PlanLaw.{IsPlanned, plans_are}
 pub with_tally : (actions : List ActionRecord) (d : ℕ) (a : ActionRecord) → slice_get actions d ≡ Some a → slice_get (zip actions (map tally_of actions)) d
     ≡ Some (a, tally_of a)
 with_tally [] d a e = absurd cc
-with_tally (b ∷ actions) zero a e = let same : b ≡ a = cc in ap (λ (c : ActionRecord). Some (c, tally_of c)) same
-with_tally (b ∷ actions) (suc d) a e = with_tally actions d a e
+with_tally (b ∷ actions) d a e = grind (arith, with_tally actions)
 
 pub its_tally : (actions : List ActionRecord) (d : ℕ) (it : ActionRecord × Tally) → slice_get (zip actions (map tally_of actions)) d ≡ Some it
     → (a : ActionRecord) × (slice_get actions d ≡ Some a) × (it ≡ (a, tally_of a))
 its_tally [] d it e = absurd cc
-its_tally (b ∷ actions) zero it e = let same : (b, tally_of b) ≡ it = cc in (b, refl, sym same)
-its_tally (b ∷ actions) (suc d) it e = its_tally actions d it e
+its_tally (b ∷ actions) d it e = grind (arith, its_tally actions)
 
 module _ (h : CommandList) (valid : IsValid h) where
   -- ---- rollouts
@@ -43,12 +40,8 @@ module _ (h : CommandList) (valid : IsValid h) where
     planned = plans_are h valid (suc d) x got
 
     pub is_member : (n k : ℕ) {id : Bytes} → slice_get x.members k ≡ Some id → IsMember (Int (pos n) ∷ member_row (suc d) (suc k) id) (suc d) (suc k) id
-    is_member n k {id} at = record {
-      rollout_is = is_number_in (suc d) good_rollout;
-      place_is = is_small (suc k) (omega (arith, place_within x.members k id at, within.members));
-      id_is = refl;
-      word = member_ids h valid x (has_got (records h).rollouts d x got) id (has_got x.members k id at);
-    }
+    is_member n k {id} at = let word = member_ids h valid x (has_got (records h).rollouts d x got) id (has_got x.members k id at) in
+        grind (arith, is_number_in (suc d) good_rollout, is_small (suc k), place_within x.members k id at, within.members, word)
 
     -- its groups
     module _ (e : ℕ) {g : GroupRecord} (at : slice_get x.groups e ≡ Some g) where
@@ -62,28 +55,9 @@ module _ (h : CommandList) (valid : IsValid h) where
       few_at i low = grind (arith, grouping_is_cut, and_parts)
 
       pub is_group : (n : ℕ) → IsGroup (Int (pos n) ∷ group_row (suc d) (suc e) g) (suc d) g
-      is_group n =
-          let counts = within.counts (suc e) g at in
-          let members = within.members in
-          let first : g.bounds.first ≡ last_by x.plan.groups (length x.members) (suc e - 1) + 1 = ap (λ (b : Bounds). b.first) counted.bounds in
-          let last : g.bounds.last ≡ last_by x.plan.groups (length x.members) (suc e) = ap (λ (b : Bounds). b.last) counted.bounds in
-          let few_first = few_at (suc e - 1) (omega (arith, few_groups)) in
-          let few_last = few_at (suc e) few_groups in
-          record {
-            rollout_is = is_number_in (suc d) good_rollout;
-            shows = record {
-              number = ap (λ i. Int (pos i)) (sym counted.number);
-              first = refl;
-              last = refl;
-              started = flag_is g.started;
-              ok = refl;
-              bad = refl;
-              gone = refl;
-            };
-            kept = kept_group (suc e) g.bounds.first g.bounds.last g.ok g.bad g.gone g.started (omega (arith, few_groups, within.groups))
-                (omega (arith, first, few_first, members)) (omega (arith, last, few_last, members))
-                (omega (arith, counts.ok, members)) (omega (arith, counts.bad, members)) (omega (arith, counts.gone, members));
-          }
+      is_group n = let first = few_at (suc e - 1) (omega (arith, few_groups)) in let last = few_at (suc e) few_groups in
+          let number = is_number_in (suc d) good_rollout in let counts = within.counts (suc e) g at in
+          grind (arith, number, counted.number, counted.bounds, flag_is, kept_group, few_groups, within.groups, within.members, counts, first, last)
 
   numbered_member : (r p : ℕ) {x : RolloutRecord} {id : Bytes} → item_numbered (records h).rollouts r ≡ Some x → item_numbered x.members p ≡ Some id
       → IsMember (Int (pos 0) ∷ member_row r p id) r p id
@@ -110,21 +84,9 @@ module _ (h : CommandList) (valid : IsValid h) where
     few_actions = omega (arith, place_within (records h).actions d a got, (limits_hold h valid).actions)
 
     pub is_action : IsAction (action_row (records h).rollouts (suc d) (a, tally_of a)) (suc d) (stored_action (records h).rollouts (a, tally_of a))
-    is_action = record {
-      number_is = is_number_in (suc d) (is_in_range (suc d) (omega arith) (omega (arith, few_actions)));
-      shows = record {
-        rollout = says_member.rollout_is;
-        position = refl;
-        target = refl;
-        canceling = flag_is a.canceling;
-        outcome = outcome_is a.outcome;
-        notes = refl;
-        entries = refl;
-      };
-      place = ap is_some small_place;
-      word = ap is_word actor_is ∙ says_member.word;
-      notes = ap is_some (is_small (notes_of a) (omega (arith, few_notes h valid (suc d) a got)));
-    }
+    is_action = let number = is_number_in (suc d) (is_in_range (suc d) (omega arith) (omega (arith, few_actions))) in
+        let notes = is_small (notes_of a) (omega (arith, few_notes h valid (suc d) a got)) in
+        grind (arith, number, says_member, flag_is a.canceling, outcome_is a.outcome, small_place, actor_is, notes)
 
   -- ---- offers
 
@@ -134,19 +96,8 @@ module _ (h : CommandList) (valid : IsValid h) where
   -- what is listed is offered
   pub is_offered : {rows : List Row} (held : HoldsOffers rows (offer (records h))) (o : TargetOffer) → Has held.listed o → offer (records h) o.target
       ≡ Some o.offer
-  is_offered held o among = offered_by o (offer (records h) o.target)
-      (subst (λ (l : List TargetOffer). Has l o) (held.its o.target) (has_kept (is_to o.target) held.listed o among (same_refl o.target)))
+  is_offered held o among = grind (arith, held.its o.target, has_kept (is_to o.target) held.listed o among, same_refl)
 
   pub is_offer : (n : ℕ) (o : TargetOffer) → offer (records h) o.target ≡ Some o.offer → IsOffer (Int (pos n) ∷ offer_row o) o.target o.offer
-  is_offer n o is =
-      let one = offered_one (records h) o.target 1 (records h).actions o.offer is in
-      let number : o.offer.action ≡ suc one.index = omega (arith, one.number) in
-      let target = same_true (actor_of (records h).rollouts one.action) o.target one.device in
-      record {
-        id_is = refl;
-        word = ap is_word (sym target) ∙ (is_action one.index one.there).word;
-        shows = record {
-          action = subst (λ k. number_in (Int (pos k)) ≡ Some k) (sym number) (is_action one.index one.there).number_is;
-          canceling = flag_is o.offer.canceling;
-        };
-      }
+  is_offer n o is = let one = offered_one (records h) o.target 1 (records h).actions o.offer is in
+      grind (arith, same_true (actor_of (records h).rollouts one.action) o.target one.device, is_action one.index one.there, flag_is, one.number)

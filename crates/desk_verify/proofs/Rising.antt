@@ -1,5 +1,5 @@
 -- Lists whose numbers rise.
-use Rattle.desk_verify.proofs.Common.{◌≡◌, inl, inr, ◌<◌, ℕ, true, List, [], ◌∷◌, map, ap, arith, and_parts, nat_tests, Has, rise, subst, refl}
+use Rattle.desk_verify.proofs.Common.{◌≡◌, inl, inr, ◌<◌, ℕ, true, List, [], ◌∷◌, map, arith, and_parts, nat_tests, Has, rise, refl}
 use Rattle.std.specs.List.{AllZip}
 
 -- each is greater than the one that they rise from
@@ -30,34 +30,16 @@ module _ {X Y : Type 0} (f : X → ℕ) (g h : Y → ℕ) (R : X → Y → Type 
   in_step last before [] [] p q along there back = tt
   in_step last before [] (y ∷ ys) p q along there back = absurd (back y (inl refl)).1
   in_step last before (x ∷ xs) [] p q along there back = absurd (there x (inl refl)).1
-  in_step last before (x ∷ xs) (y ∷ ys) p q along there back = (
-    head,
-    in_step (f x) (h y) xs ys (rest_rises f last x xs p) (rest_rises h before y ys q) (λ a b at_a at_b. along a b (inr at_a) (inr at_b))
-        (λ z among. let its = there z (inr among) in elim its.1 [
-          | inl same ↦ absurd (let one = keyed z its.0 its.2 in let other = ap g same in omega (arith, one, other, first, behind z among))
-          | inr later ↦ (its.0, later, its.2)
-        ])
-        (λ z among. let its = back z (inr among) in elim its.1 [
-          | inl same ↦ absurd (let one = keyed its.0 z its.2 in let other = ap f same in omega (arith, one, other, first, after z among))
-          | inr later ↦ (its.0, later, its.2)
-        ]),
-  )
-    where
-      behind : (z : X) → Has xs z → f x < f z
-      behind z among = above f (f x) xs (rest_rises f last x xs p) z among
-
-      after : (z : Y) → Has ys z → g y < g z
-      after z among = along y z (inl refl) (inr among) (above h (h y) ys (rest_rises h before y ys q) z among)
-
-      head : R x y
-      head = let its = there x (inl refl) in let mine = back y (inl refl) in elim its.1 [
-        | inl same ↦ subst (R x) same its.2
-        | inr later ↦ elim mine.1 [
-          | inl own ↦ subst (λ z. R z y) own mine.2
-          | inr more ↦ absurd (let one = keyed x its.0 its.2 in let other = keyed mine.0 y mine.2 in
-              omega (arith, one, other, after its.0 later, behind mine.0 more))
-        ]
-      ]
-
-      first : f x ≡ g y
-      first = keyed x y head
+  in_step last before (x ∷ xs) (y ∷ ys) p q along there back =
+      let behind = above f (f x) xs (rest_rises f last x xs p) in
+      let over = above h (h y) ys (rest_rises h before y ys q) in
+      let after : (z : Y) → Has ys z → g y < g z = λ z among. along y z (inl refl) (inr among) (over z among) in
+      let its = there x (inl refl) in
+      let mine = back y (inl refl) in
+      let head : R x y = grind (arith, keyed x its.0 its.2, keyed mine.0 y mine.2, after its.0, behind mine.0) in
+      let first = keyed x y head in (
+        head,
+        in_step (f x) (h y) xs ys (rest_rises f last x xs p) (rest_rises h before y ys q) (λ a b at_a at_b. along a b (inr at_a) (inr at_b))
+            (λ z among. let it = there z (inr among) in grind (arith, keyed z it.0, first, behind z among))
+            (λ z among. let it = back z (inr among) in grind (arith, keyed it.0 z, first, after z among)),
+      )

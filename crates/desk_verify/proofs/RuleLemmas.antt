@@ -1,10 +1,11 @@
 -- What is said of the groups of a rollout, and how it is cut by that.
-use Rattle.desk_verify.proofs.Common.{◌≡◌, ◌≤◌, ℕ, suc, ◌+◌, Bool, true, false, cond, List, [], ◌∷◌, ◌++◌, length, Some, None, refl, sym, ap, subst, ◌∙◌, arith}
+use Rattle.desk_verify.proofs.Common.{◌≡◌, ◌≤◌, ℕ, suc, ◌+◌, Bool, true, List, [], ◌∷◌, ◌++◌, length, Some, None, refl, sym, ap, subst, ◌∙◌, arith}
 use Rattle.desk_verify.proofs.Common.{pos, and_parts, leb-true, Row, column, has_rowid, Grouping, is_grouping, GroupRule, IsOnly, Rollouts, IsRollout, Tables}
 use Rattle.desk_verify.proofs.Common.{StoredRollout, SaysRule, HasGroupCount, HasRule, HaveRules, definitions_in, grouping_of, grouping_with, no_grouping}
-use Rattle.desk_verify.proofs.Common.{HasOnlyRule, HaveOnlyRules, IsCutOnlyBy, IsGroupCount, IsCutBy, HasRollout, Place, Rules}
+use Rattle.desk_verify.proofs.Common.{HasOnlyRule, HaveOnlyRules, IsCutOnlyBy, IsGroupCount, HasRollout, Place, Rules}
 use Rattle.rollout_model.specs.declared.group_definition.GroupDefinition.{GroupDefinition}
 use Rattle.desk_store.specs.Unreadable.{IsUnreadableIn}
+use Rattle.std.proofs.lemmas.Option.{cond_some}
 
 -- ---- how many groups a rollout is to have
 
@@ -37,14 +38,7 @@ module _ (t : Tables) (r : ℕ) where
 
 pub grouping_is : (n : ℕ) (ds : List GroupDefinition) (groups : Grouping) → grouping_with n ds ≡ Some groups → (groups ≡ record { count = n; definitions = ds })
     × (is_grouping groups ≡ true)
-grouping_is n ds groups made = elim (is_grouping own) as
-    (λ b. is_grouping own ≡ b → cond b (Some own) None ≡ Some groups → (groups ≡ own) × (is_grouping groups ≡ true)) [
-      | true ↦ λ is its. (let same : own ≡ groups = cc in (sym same, ap is_grouping (sym same) ∙ is))
-      | false ↦ λ is its. absurd cc
-    ] refl made
-  where
-    own : Grouping
-    own = record { count = n; definitions = ds }
+grouping_is n ds groups made = let it = cond_some _ _ _ made in grind (arith, it.0, it.1)
 
 pub some_groups : (groups : Grouping) (rules : List GroupRule) → grouping_of rules ≡ Some groups → 1 ≤ groups.count
 some_groups groups rules made = leb-true _ _ (and_parts _ _ (and_parts _ _ (grouping_is (length rules) (definitions_in rules) groups made).1).0).0
@@ -55,21 +49,15 @@ module _ (t : Tables) (r : ℕ) (found : StoredRollout) (has : HasRollout t r fo
   count = found_count t r found has.is
 
   pub cut_only : (groups : Grouping) → grouping_with found.plan.groups (definitions_in rules) ≡ Some groups → IsCutOnlyBy t r groups
-  cut_only groups made = record { cut = record { there = there; rules = rules; have = are_said t r 1 rules have; make = make }; only = only }
-    where
-      make : grouping_of rules ≡ Some groups
-      make = ap (λ n. grouping_with n (definitions_in rules)) many ∙ made
-
-      there : HasGroupCount t r groups.count
-      there = subst (HasGroupCount t r) (ap (λ (g : Grouping). g.count) (sym (grouping_is found.plan.groups (definitions_in rules) groups made).0)) count.there
-
-      only : (others : Grouping) → IsCutBy t r others → others ≡ groups
-      only others it =
-          let counted : others.count ≡ length it.rules =
-          ap (λ (g : Grouping). g.count) (grouping_is (length it.rules) (definitions_in it.rules) others it.make).0 in
-          let same = same_rules t r 1 rules it.rules it.have have (omega (arith, counted, count.only others.count it.there, many)) in
-          let both : Some others ≡ Some groups = sym it.make ∙ ap grouping_of same ∙ make in
-          cc
+  cut_only groups made =
+      let make : grouping_of rules ≡ Some groups = ap (λ n. grouping_with n (definitions_in rules)) many ∙ made in
+      let is = (grouping_is found.plan.groups (definitions_in rules) groups made).0 in
+      let there : HasGroupCount t r groups.count = subst (HasGroupCount t r) (ap (λ (g : Grouping). g.count) (sym is)) count.there in
+      record {
+        cut = record { there = there; rules = rules; have = are_said t r 1 rules have; make = make };
+        only = λ others it. (let is = grouping_is (length it.rules) (definitions_in it.rules) others it.make in
+            grind (arith, is, same_rules t r 1 rules it.rules it.have have, count.only others.count it.there));
+      }
 
   pub none_made : grouping_with found.plan.groups (definitions_in rules) ≡ None → (reads : Place → Bool) → reads Rules ≡ true
       → IsUnreadableIn reads t

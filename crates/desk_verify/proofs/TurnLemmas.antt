@@ -1,7 +1,6 @@
 -- Members and actions, each in its turn.
-use Rattle.desk_verify.proofs.Common.{◌≡◌, inl, inr, ◌<◌, ℕ, true, List, [], ◌∷◌, map, refl, sym, ap, arith, pointwise, and_from, and_parts, nat_tests}
+use Rattle.desk_verify.proofs.Common.{◌≡◌, ◌<◌, ℕ, true, List, [], ◌∷◌, map, refl, sym, arith, pointwise, and_from, and_parts, nat_tests}
 use Rattle.desk_verify.proofs.Common.{slice_eq-Decides, Has, PlacedMember, ListedAction, rise, are_for, count_on, is_for_member, numbers_rise}
-use Rattle.std.proofs.lemmas.Bool.{cases_order}
 use Rattle.std.specs.List.{AllZip}
 use Rattle.desk_verify.proofs.Rising.{in_step, only_one, rise_both}
 
@@ -60,20 +59,11 @@ AreOrdered a b = (a.action.position ≡ b.action.position → a.number ≡ b.num
 
 module _ (ms : List PlacedMember) (as' : List ListedAction) (counts : count_on 0 ms ≡ true) (rises : numbers_rise as' ≡ true) where
   pub ordered : AllZip IsFor ms as' → (a b : ListedAction) → Has as' a → Has as' b → AreOrdered a b
-  ordered all a b at_a at_b =
-      let places = positions_rise 0 ms as' (places_rise 0 ms counts) all in (
-        λ same. ap number_of (only_one position_of 0 as' places a b at_a at_b same),
-        λ less. rise_both position_of number_of 0 0 as' places rises a b at_a at_b less,
-      )
+  ordered all a b at_a at_b = let places = positions_rise 0 ms as' (places_rise 0 ms counts) all in
+      grind (arith, only_one position_of 0 as' places a b at_a at_b, rise_both position_of number_of 0 0 as' places rises a b at_a at_b)
 
   pub following : ((m : PlacedMember) → Has ms m → (a : ListedAction) × Has as' a × IsFor m a)
       → ((a : ListedAction) → Has as' a → (m : PlacedMember) × Has ms m × IsFor m a)
       → ((a b : ListedAction) → Has as' a → Has as' b → AreOrdered a b) → are_for ms as' ≡ true
   following there back order = are_paired ms as' (in_step place_of position_of number_of IsFor (λ m a is. sym (is_own m a is).0) 0 0 ms as'
-      (places_rise 0 ms counts) rises along there back)
-    where
-      along : (a b : ListedAction) → Has as' a → Has as' b → a.number < b.number → a.action.position < b.action.position
-      along a b at_a at_b less = let it = order b a at_b at_a in elim (cases_order a.action.position b.action.position) [
-        | inl same ↦ absurd (let equal = it.0 (sym same) in omega (arith, equal, less))
-        | inr apart ↦ elim apart [ inl below ↦ below | inr over ↦ absurd (let more = it.1 over in omega (arith, more, less)) ]
-      ]
+      (places_rise 0 ms counts) rises (λ a b at_a at_b less. grind (arith, order b a at_b at_a)) there back)

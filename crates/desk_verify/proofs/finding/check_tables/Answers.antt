@@ -1,4 +1,4 @@
-use Rattle.desk_verify.proofs.Common.{Err, ap, ◌∙◌, err_from_is_err_and, both_found, finds_as}
+use Rattle.desk_verify.proofs.Common.{both_found, finds_as}
 use Rattle.desk_verify.proofs.Causes.{so_far, stops_at}
 use Rattle.desk_verify.proofs.Naming.{all_named, first_named}
 use Rattle.desk_verify.proofs.finding.check_tables.Goals as goal
@@ -10,10 +10,9 @@ returns-then-not-branch-clause-judges g c =
 
 pub returns-in_err-check_table-clause-stops : goal.returns-in_err-check_table-clause-stops
 returns-in_err-check_table-clause-stops g c =
-    let out = err_from_is_err_and c.from_residual.result c.from_residual.ensures.1 in
     stops_at _ c.loop-table.invariant.judged c.in_err-check_table.ensures.judges.wears
     c.in_err-check_table.field-0.0 c.in_err-check_table.ensures.blames
-    (λ t is. so_far t c.loop-table.table-index c.loop-table-test.true is) c.from_residual.result (out.1 ∙ ap Err out.2)
+    (λ t is. so_far t c.loop-table.table-index c.loop-table-test.true is) c.from_residual.result c.from_residual.ensures.1
 
 pub returns-clause-judges : goal.returns-clause-judges
 returns-clause-judges g c = finds_as c.loop-table.invariant.judged (λ t is. all_named t c.loop-table.table-index c.loop-table-test.false is)

@@ -1,4 +1,4 @@
-use Rattle.desk_verify.proofs.Common.{Err, sym, ap, subst, ◌∙◌, err_from_is_err_and, both_found, finds_as, SettlesWhether, AgreesOffers}
+use Rattle.desk_verify.proofs.Common.{sym, subst, both_found, finds_as, SettlesWhether, AgreesOffers}
 use Rattle.desk_verify.proofs.Causes.{all_offers, blamed_when}
 use Rattle.desk_verify.proofs.OfferLemmas.{agrees, one_wrong, row_broken, sorted_said}
 use Rattle.desk_verify.proofs.offers.check_offers.Goals as goal
@@ -22,11 +22,10 @@ returns-clause-judges g c =
 
 pub returns-in_err-offered-clause-blames : goal.returns-in_err-offered-clause-blames
 returns-in_err-offered-clause-blames g c =
-    let out = err_from_is_err_and c.from_residual-in_err-offered.result c.from_residual-in_err-offered.ensures.1 in
     blamed_when (both_found (rw c.in-Some.is at c.in_ok-listed.ensures.reads) c.in_ok-are_right.ensures.judges)
     c.in_err-offered.ensures.judges.wears c.in_err-offered.field-0.0 c.in_err-offered.ensures.blames
     (λ reading is given. record {
       rollouts = given.rollouts;
       rows = given.actions;
       given = record { checks = given; offers = all_offers reading.tables c.in-Some.listed.items is.0 };
-    }) c.from_residual-in_err-offered.result (out.1 ∙ ap Err out.2)
+    }) c.from_residual-in_err-offered.result c.from_residual-in_err-offered.ensures.1

@@ -1,16 +1,10 @@
-use Rattle.desk_verify.proofs.Common.{◌≡◌, ◌≤◌, ◌+◌, ◌^◌, Err, arith, rules, refl, ap, subst, ◌∙◌, err_from_is_err_and, Broken, both_found, finds_as}
-use Rattle.desk_verify.proofs.Common.{AreChecked, blamed, within}
+use Rattle.desk_verify.proofs.Common.{◌≡◌, ◌≤◌, ◌+◌, ◌^◌, Err, arith, rules, refl, subst, Broken, both_found, finds_as, AreChecked, blamed, within}
 use Rattle.desk_verify.proofs.Causes.{blamed_when, listed_many, up_to}
 use Rattle.desk_verify.proofs.RolloutLemmas.{none_yet, one_more}
 use Rattle.desk_verify.proofs.rollouts.check_rollouts.Goals as goal
 
 pub loop-before-init : goal.loop-before-init
-loop-before-init g c = record {
-  stays = search rules;
-  blames = search rules;
-  judged =
-      finds_as c.in_ok-last.ensures.tells (λ t is. (is, none_yet));
-}
+loop-before-init g c = record { stays = search rules; blames = search rules; judged = finds_as c.in_ok-last.ensures.tells (λ t is. (is, none_yet)) }
 
 pub returns-in_default-clause-judges : goal.returns-in_default-clause-judges
 returns-in_default-clause-judges g c =
@@ -43,20 +37,18 @@ returns-clause-judges g c =
 
 pub returns-in_err-rollout-clause-blames : goal.returns-in_err-rollout-clause-blames
 returns-in_err-rollout-clause-blames g c =
-    let out = err_from_is_err_and c.from_residual-in_err-rollout.result c.from_residual-in_err-rollout.ensures.1 in
     blamed_when c.loop-before.invariant.judged c.in_err-rollout.ensures.reads.wears c.in_err-rollout.field-0.0
     c.in_err-rollout.ensures.blames
     (λ reading is given. record {
       up = up_to reading.tables c.loop-before.before c.in_ok-last.last is.0 c.loop-before-test.true;
       rollouts = given.rollouts;
-    }) c.from_residual-in_err-rollout.result (out.1 ∙ ap Err out.2)
+    }) c.from_residual-in_err-rollout.result c.from_residual-in_err-rollout.ensures.1
 
 pub returns-in_err-count-clause-blames : goal.returns-in_err-count-clause-blames
 returns-in_err-count-clause-blames g c =
-    let out = err_from_is_err_and c.from_residual-in_err-count.result c.from_residual-in_err-count.ensures.1 in
     blamed_when (both_found c.loop-before.invariant.judged c.in_ok-rollout.ensures.reads) c.in_err-count.ensures.judges.wears
     c.in_err-count.field-0.0 c.in_err-count.ensures.blames (λ reading is given. record { has = is.1; given = given.given }) c.from_residual-in_err-count.result
-    (out.1 ∙ ap Err out.2)
+    c.from_residual-in_err-count.ensures.1
 
 pub returns-in-None-clause-blames : goal.returns-in-None-clause-blames
 returns-in-None-clause-blames g c =
