@@ -1,7 +1,7 @@
 -- What was read is taken over.
 use Rattle.desk_opening.proofs.Common.{◌≡◌, inr, Ok, Err, Result, IfErr, IsTrue, sym, subst, arith, Trees, Database, State, HasCleanDisk, StandsSomewhere}
 use Rattle.desk_opening.proofs.Common.{HoldIn, IsAtRest, Rests, still_holds, Wears, Records, desk_table, HoldsAt, HoldsReadable, newest, Version, from_newest}
-use Rattle.desk_opening.proofs.Common.{OpenFault, NotDesk, NewerVersion, Memory, Store, HoldsFrom, HoldsOf, LeftOf, Migrates, MovesTo, None, Option, Some}
+use Rattle.desk_opening.proofs.Common.{OpenFault, HoldsFrom, HoldsOf, LeftOf, Migrates, MovesTo, None, Option, Some}
 use Rattle.desk_opening.proofs.Common.{Adopts, HasDeskAt, HasRow, IsDeskRow, IsFailure, IsSettled, Keeps, TellsVersion}
 use Rattle.desk_opening.proofs.HeldLemmas.{same_version}
 use Rattle.desk_opening.proofs.Steps.{open_at_rest, rests_as}
@@ -69,7 +69,4 @@ module _ (old mid : State) (table : StandsSomewhere old.now.schema (desk_table 0
     takes = λ o r was clean. m.migrates r (stood_of o m.wears clean r was) clean;
     tells = λ clean. let it = found (omega (arith, clean, m.wears)) in record { version = v; tables = it.tables; row = it.row };
   }
-  adopts_renewed (Err NotDesk) m fails = absurd fails
-  adopts_renewed (Err NewerVersion) m fails = absurd fails
-  adopts_renewed (Err Memory) m fails = record { wears = omega (arith, k.wears, m.wears); takes = λ o. still o m; tells = λ clean. tt }
-  adopts_renewed (Err Store) m fails = record { wears = omega (arith, k.wears, m.wears); takes = λ o. still o m; tells = λ clean. tt }
+  adopts_renewed (Err e) m fails = record { wears = omega (arith, k.wears, m.wears); takes = λ o. still o m; tells = λ clean. grind arith }

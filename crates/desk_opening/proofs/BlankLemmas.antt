@@ -1,6 +1,6 @@
 -- Files that hold nothing are opened to empty trees.
 use Rattle.desk_opening.proofs.Common.{◌≡◌, ◌≤◌, ◌<◌, ◌-◌, ◌*◌, ℕ, List, [], ◌∷◌, ◌++◌, codes, min, true, false, length, take, slice_index, Option, Some}
-use Rattle.desk_opening.proofs.Common.{unwrap_or, inl, inr, refl, sym, ap, ◌∙◌, zero-add, arith, get_or-take, AllZip, length-take, ∥∥₁_elim, Schema, Trees}
+use Rattle.desk_opening.proofs.Common.{unwrap_or, inl, inr, refl, sym, ap, ◌∙◌, zero-add, arith, get_or-take, length-take, ∥∥₁_elim, Schema, Trees}
 use Rattle.desk_opening.proofs.Common.{Image, AreFoundIn, IsNothing, stored_size, used_size, LeavesFree, is_used, UsesNoName}
 use Rattle.sqlite_trees.specs.Objects.{catalog_tree}
 use Rattle.sqlite_wal.specs.Format.{part}
@@ -69,15 +69,12 @@ module _ (size : ℕ) (image : Image) (pages : Pages) (found : Adopts size image
 
 -- ---- empty trees list no table
 
-none_zipped : {A B : Type 0} (R : A → B → Type 0) → (xs : List B) → AllZip R [] xs → xs ≡ []
-none_zipped h0 xs h = grind arith
-
 -- a schema of nothing leaves all names free
 pub nothing_is_used : (s : Schema) → s.tables ≡ [] → s.indexes ≡ [] → s.views ≡ [] → (names : List (List ℕ)) → LeavesFree s names
 nothing_is_used s tables indexes views = all_of (λ name. is_used s name ≡ false) (λ name. rw (tables, indexes, views) refl)
 
 pub empty_is_unused : (db : Trees) → db catalog_tree ≡ [] → UsesNoName db
-empty_is_unused db none s sound = grind (arith, none_zipped, nothing_is_used)
+empty_is_unused db none s sound = grind (arith, nothing_is_used)
 
 pub nothing_is_unused : (image : Image) (db : Trees) → IsNothing image → AreFoundIn image db → UsesNoName db
 nothing_is_unused image db nothing (inl found) =

@@ -1,15 +1,13 @@
 -- Why an opening is a failed store: only by a call that failed, where what was there can be read.
-use Rattle.desk_opening.proofs.Common.{◌≡◌, inl, inr, refl, [], Ok, Err, Result, ap, subst, sym, arith, State, state, Wears, still_holds, Schema, LeavesFree}
-use Rattle.desk_opening.proofs.Common.{desk_names, Fault, HoldsRecords, Version, ◌≤◌, newest, at_newest, Migrates, HasDeskTables, IsKnownOpen, OpenFault, Store}
+use Rattle.desk_opening.proofs.Common.{◌≡◌, refl, [], Ok, Err, Result, ap, subst, sym, State, state, still_holds, Schema}
+use Rattle.desk_opening.proofs.Common.{Fault, HoldsRecords, Version, ◌≤◌, newest, at_newest, Migrates, HasDeskTables, IsKnownOpen, OpenFault, Store}
 use Rattle.desk_opening.proofs.Common.{RunsText, MakesTables, BEGIN, SET_VERSION, later_than, bare_ledger}
 use Rattle.std.specs.Prelude.{IsErrAnd}
 use Rattle.sqlite.specs.Store.{Ghosts}
 use Rattle.sql_calls.specs.declared.calls.Calls.{Calls}
-use Rattle.desk_opening.specs.Causes.{HadReadable, WasHealthy}
 use Rattle.desk_opening.specs.Counting.{CountsWhere, FailsAt, FailsGiven, IsReadableAt, IsSound}
 use Rattle.desk_opening.specs.Filling.{GivenBare}
 use Rattle.desk_opening.proofs.MigrateLemmas.{sees_bare, stood}
-use Rattle.desk_opening.proofs.ChoiceLemmas.{free_is_unused}
 use Rattle.desk_opening.proofs.HeldLemmas.{has_tables}
 
 -- the tables that were made are found
@@ -36,12 +34,3 @@ fill_fails v first second third f h (Err i) is = record {
   to = λ r rests readable clean. subst IsSound (sym is)
       (h.to (bare_ledger v r) (sees_bare v r first second third (stood v r rests)) (record { records = r; bare = refl; readable = readable }) clean);
 }
-
--- ---- the one or the other
-
--- where a name is used, a desk was there
-pub used_health : (a z : State) → (¬ LeavesFree a.now.schema desk_names) → Wears a z → WasHealthy a z → HadReadable a z
-used_health a z used wears was = elim was.1 [
-  | inl it ↦ (it, was.2)
-  | inr free ↦ absurd (free_is_unused a was.0 free (omega (arith, was.2, wears)) used)
-]

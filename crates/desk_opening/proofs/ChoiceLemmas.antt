@@ -1,8 +1,8 @@
 -- Which of the two ways an open takes.
 use Rattle.desk_opening.proofs.Common.{Bool, codes, inl, Ok, Err, Result, arith, both_ways, Database, State, HasCleanDisk}
 use Rattle.desk_opening.proofs.Common.{LeavesFree, Rests, still_holds, Records, desk_names, HoldsReadable, Version, has_desk}
-use Rattle.desk_opening.proofs.Common.{HoldsStage, Free, Makes, told, OpenFault, NotDesk, NewerVersion, Memory, Store, Adopts, HasDesk, HasRow, LacksPartOfDesk}
-use Rattle.desk_opening.proofs.Common.{IsFailure, TellsOfRow, FindsFault, FindsTo, OpensDesk, OpensTo, IsKnownOpen, HoldsOf, None, Option, Some}
+use Rattle.desk_opening.proofs.Common.{HoldsStage, Free, Makes, told, OpenFault, NotDesk, Adopts, HasDesk, HasRow, LacksPartOfDesk}
+use Rattle.desk_opening.proofs.Common.{IsFailure, TellsOfRow, FindsTo, OpensDesk, OpensTo, IsKnownOpen, HoldsOf, None, Option, Some}
 use Rattle.desk_opening.proofs.VersionLemmas.{used_at}
 
 some_version : (o : Option Version) (db : Database) (r : Records) → HoldsOf o db r → HoldsReadable db r
@@ -18,9 +18,6 @@ held_is_used old o r is_open was clean free = grind (arith, some_version, still_
 pub free_is_unused : (old : State) → IsKnownOpen old → Rests HoldsStage old Free → HasCleanDisk old → ¬ ¬ LeavesFree old.now.schema desk_names
 free_is_unused old is_open was clean used = used (still_holds HoldsStage old Free (was clean) (is_open clean)).1
 
-finds_failure : (db : Database) (e : OpenFault) → IsFailure e → FindsFault db e
-finds_failure db e fails = grind arith
-
 module _ {A : Type 0} (old new : State) (approval : Bool) where
   pub adopts : (out : Result A OpenFault) → Adopts old new out → (¬ LeavesFree old.now.schema desk_names) → OpensDesk old new approval out
   adopts out h used = record {
@@ -33,9 +30,7 @@ module _ {A : Type 0} (old new : State) (approval : Bool) where
       finds : (result : Result A OpenFault) → TellsOfRow (λ _. HasDesk old.now) (HasRow old.now) (LacksPartOfDesk old.now) result → FindsTo old.now result
       finds (Ok x) told = inl told
       finds (Err NotDesk) told = record { used = used; other = told }
-      finds (Err NewerVersion) told = told
-      finds (Err Memory) told = tt
-      finds (Err Store) told = tt
+      finds (Err e) told = told
 
       go : (result : Result A OpenFault) → IsKnownOpen old → OpensTo old new approval result
       go (Ok x) is_open = λ was clean. absurd (free_is_unused old is_open was (omega (arith, h.wears)) used)
@@ -47,4 +42,4 @@ module _ {A : Type 0} (old new : State) (approval : Bool) where
     makes_new a h = grind (arith, held_is_used)
 
     pub makes_none : (e : OpenFault) → IsFailure e → {f : E} → Makes {A = B} old new approval (Err f) → OpensDesk {A = A} old new approval (Err e)
-    makes_none e fails h = grind (arith, finds_failure, held_is_used)
+    makes_none e fails h = grind (arith, held_is_used)

@@ -1,8 +1,8 @@
 -- The names of other modules that the proofs here cite, passed on from one place. Declares nothing.
-pub use Rattle.std.proofs.Common.{◌≡◌, ℕ, zero, suc, ◌+◌, ◌-◌, ◌*◌, ◌%◌, ◌^◌, ◌<◌, ◌≤◌, min, Bool, true, false, cond, not, ◌||◌, ◌≢◌, ◌⊎◌, List, [], ◌∷◌}
-pub use Rattle.std.proofs.Common.{◌++◌, map, length, get_or, take, drop, set, ℤ, pos, ◌<ℤ◌, IfOk, IfErr, if◌then◌else◌, IsErr, IsTrue, ◌==◌, slice_get}
-pub use Rattle.std.proofs.Common.{slice_index, slice_index_or, Some, None, Ok, Err, codes, filter, Option, Result, option_map, find, unwrap_or, sym, refl, ap}
-pub use Rattle.std.proofs.Common.{◌∙◌, subst, ap₂, inl, inr, zero-add, arith, rules, get_or-take}
+pub use Rattle.std.proofs.Common.{◌≡◌, ℕ, zero, suc, ◌+◌, ◌-◌, ◌*◌, ◌^◌, ◌<◌, ◌≤◌, min, Bool, true, false, not, ◌||◌, ◌≢◌, ◌⊎◌, List, [], ◌∷◌, ◌++◌, map}
+pub use Rattle.std.proofs.Common.{length, get_or, take, drop, set, pos, IfOk, IfErr, if◌then◌else◌, IsErr, IsTrue, ◌==◌, slice_get, slice_index, slice_index_or}
+pub use Rattle.std.proofs.Common.{Some, None, Ok, Err, codes, filter, Option, Result, option_map, find, unwrap_or, sym, refl, ap, ◌∙◌, subst, ap₂, inl, inr}
+pub use Rattle.std.proofs.Common.{zero-add, arith, rules, get_or-take}
 pub use Rattle.std.proofs.Math.Logic.{∥∥₁_elim, ∥∥₁_map}
 pub use Rattle.std.proofs.lemmas.Bool.{and_parts, both_ways, cases_Bool, cases_eq, eqb-true, or_parts, true≢false}
 pub use Rattle.std.proofs.lemmas.List.{drop_all, drop_more, length-map, length-take, take-append-drop, take_all, take_more}
@@ -10,8 +10,7 @@ pub use Rattle.std.specs.List.{AllByRecursion, AllZip, list_any, position_from}
 pub use Rattle.sqlite.proofs.Callers.{statement_of}
 pub use Rattle.sqlite.specs.Command.TheVariants.{Begin, Commit, CreateTable, Insert, Select, Update}
 pub use Rattle.sqlite.specs.Effect.{Database, IsDatabase}
-pub use Rattle.sqlite.specs.Files.{AreFoundIn, FailsToOpenFiles, HoldsDatabase, IsBlankAs, IsCleanLeft, IsNothing, LeavesFiles, NamesSize, SaysSums}
-pub use Rattle.sqlite.specs.Files.{file_state, image_of}
+pub use Rattle.sqlite.specs.Files.{AreFoundIn, FailsToOpenFiles, HoldsDatabase, IsBlankAs, IsNothing, LeavesFiles, NamesSize, SaysSums, file_state, image_of}
 pub use Rattle.sqlite.specs.Held.{Held, state}
 pub use Rattle.sqlite.specs.Recovery.{Image}
 pub use Rattle.sqlite.specs.Schema.{Schema}
@@ -23,7 +22,7 @@ pub use Rattle.sqlite.specs.Tree.{Trees}
 pub use Rattle.sqlite.specs.WalFiles.{image_at}
 pub use Rattle.sqlite.specs.declared.file.Leftover.{Leftover}
 pub use Rattle.sqlite_catalog.specs.Change.{automatics, is_used, next_tree}
-pub use Rattle.sqlite_catalog.specs.Listing.{AreListed, IsDefined, IsIndexRow, IsSound, IsTableRow, IsViewRow}
+pub use Rattle.sqlite_catalog.specs.Listing.{IsSound, IsTableRow, IsViewRow}
 pub use Rattle.sqlite_keyed.proofs.ListLemmas.{IsPermutation-same, all-slice_get, none_from_any}
 pub use Rattle.sqlite_pool.specs.Stored.{StandsAs, is_summed, reserved, stored_size, used_size}
 pub use Rattle.sqlite_resolve.specs.Compile.{first, table_defined_by}
@@ -33,7 +32,7 @@ pub use Rattle.sqlite_trees.specs.Tree.{IsAscending, has_rowid}
 pub use Rattle.sqlite_value.specs.Order.{Row, column}
 pub use Rattle.sqlite_value.specs.declared.keys.Order.{Order}
 pub use Rattle.sqlite_value.specs.declared.value.Value.{Value}
-pub use Rattle.sqlite_value.specs.declared.value.Value.TheVariants.{Blob, Int, Null, Real, Text}
+pub use Rattle.sqlite_value.specs.declared.value.Value.TheVariants.{Int, Null, Text}
 pub use Rattle.sqlite_wal.specs.Files.{outcomes}
 pub use Rattle.rollout_model.specs.declared.group_rule.GroupRule.{GroupRule}
 pub use Rattle.rollout_machine.specs.GroupRules.{even_rules, rules_of}
@@ -42,8 +41,8 @@ pub use Rattle.rollout_machine.specs.declared.records.RolloutRecord.{RolloutReco
 pub use Rattle.sql_calls.proofs.Ends.{begin_is, commit_is, rollback_is}
 pub use Rattle.sql_calls.proofs.FrameEnds.{begins, fails_to_begin, gives_up, still_holds}
 pub use Rattle.sql_calls.proofs.Inserts.{Inserted, given_rows, inserts, uncounted}
-pub use Rattle.sql_calls.proofs.Leavings.{crash_kept, first_shown, first_unchanged, never_commits_inside, never_shows_inside, none_shown, runs_plain}
-pub use Rattle.sql_calls.proofs.Leavings.{shows_as, stays_inside}
+pub use Rattle.sql_calls.proofs.Leavings.{first_shown, first_unchanged, never_commits_inside, never_shows_inside, none_shown, runs_plain, shows_as}
+pub use Rattle.sql_calls.proofs.Leavings.{stays_inside}
 pub use Rattle.sql_calls.proofs.NumberedRows.{cast_int, cast_null}
 pub use Rattle.sql_calls.proofs.Selects.{passes, shown_of, simple_rows}
 pub use Rattle.sql_calls.specs.Apart.{HasNoForeignKey}
@@ -60,7 +59,7 @@ pub use Rattle.desk_records.proofs.EachPlace.{each_place}
 pub use Rattle.desk_records.proofs.Meaning.{desk_query, desk_terms, get_desk_is, put_desk_is, set_version_is, set_version_query, version_values}
 pub use Rattle.desk_records.proofs.MeaningWords.{asked_at, changed_at, is_equal, means_of, put_at}
 pub use Rattle.desk_records.proofs.Places.{among, is_among, is_named, place_named, place_or_other, same_elsewhere, same_places}
-pub use Rattle.desk_records.proofs.Readable.{at_newest, from_newest, has_desk, is_known, of_all, one_numbered}
+pub use Rattle.desk_records.proofs.Readable.{at_newest, from_newest, has_desk, of_all, one_numbered}
 pub use Rattle.desk_records.specs.Codes.{flag}
 pub use Rattle.desk_records.specs.Holds.{AreRowsOf, Content, HoldsLedger, HoldsRecords, IsHeld, Ledger, Offered, Ordered, Spot, Unordered, content_at}
 pub use Rattle.desk_records.specs.Holds.{content_of, desk_row, ledger_of}
@@ -72,21 +71,21 @@ pub use Rattle.desk_records.specs.Versions.{IsEven, IsTellable, IsUnnumbered, la
 pub use Rattle.desk_records.specs.declared.rollout_texts.TheConstants.{GET_ROLLOUT, LAST_ROLLOUT, PUT_RULE}
 pub use Rattle.desk_records.specs.declared.texts.TheConstants.{GET_DESK, PUT_DESK, SET_VERSION}
 pub use Rattle.desk_records.specs.declared.version.Version.{Version}
-pub use Rattle.desk_records.specs.declared.version.Version.TheVariants.{One, Three, Two}
-pub use Rattle.desk_opening.specs.Filling.{FillsLater, FillsRollout, FindsLedger, IsOfNumber, MakesLedger, Stays, WritesCopies, WritesRules}
-pub use Rattle.desk_opening.specs.Filling.{WritesUpTo, bare_ledger, no_rules, rules_up_to}
-pub use Rattle.desk_opening.specs.Making.{AreApart, At, Before, Changes, Free, HoldsBefore, HoldsPartly, HoldsStage, IsEmptyTable}
-pub use Rattle.desk_opening.specs.Making.{Leaves, Makes, MakesTables, Nothing, Older, Partly, Stage, Standing, Steps, Whole, first_records, told}
+pub use Rattle.desk_records.specs.declared.version.Version.TheVariants.{One}
+pub use Rattle.desk_opening.specs.Filling.{FillsLater, FillsRollout, FindsLedger, IsOfNumber, MakesLedger, Stays, WritesCopies, WritesRules, WritesUpTo}
+pub use Rattle.desk_opening.specs.Filling.{bare_ledger, no_rules, rules_up_to}
+pub use Rattle.desk_opening.specs.Making.{AreApart, At, Before, Changes, Free, HoldsBefore, HoldsPartly, HoldsStage, IsEmptyTable, Leaves, Makes, MakesTables}
+pub use Rattle.desk_opening.specs.Making.{Nothing, Older, Partly, Stage, Standing, Steps, Whole, first_records, told}
 pub use Rattle.desk_opening.specs.Migrating.{HoldsFrom, HoldsOf, LeftOf, Migrates, MovesTo}
 pub use Rattle.desk_opening.specs.Opening.{Adopts, FindsFault, FindsTo, HasDesk, HasDeskAt, HasDeskTables, HasNoDesk, HasNoRow, HasRow, IsDeskRow, IsFailure}
 pub use Rattle.desk_opening.specs.Opening.{IsKnownOpen, IsNewerRow, IsOtherRow, IsSettled, IsWholeAt, Keeps, LacksAt, LacksPartOfDesk, LacksTables, OpensDesk}
 pub use Rattle.desk_opening.specs.Opening.{OpensTo, TakesDeskRow, TellsOfRow, TellsVersion}
 pub use Rattle.desk_opening.specs.Places.{place_of}
-pub use Rattle.desk_opening.specs.Reopening.{BeginsPlain, EachAfter, HoldsDesk, HoldsDeskAt, HoldsNone, HoldsPlain, HoldsWhatWas}
-pub use Rattle.desk_opening.specs.Reopening.{IsForeign, LeavesUnharmed, RefusesOpened, Reopens, Spares, UsesNoName}
+pub use Rattle.desk_opening.specs.Reopening.{BeginsPlain, EachAfter, HoldsDesk, HoldsDeskAt, HoldsNone, HoldsPlain, HoldsWhatWas, IsForeign, Reopens, Spares}
+pub use Rattle.desk_opening.specs.Reopening.{UsesNoName}
 pub use Rattle.desk_opening.specs.declared.desk_table.DeskTable.{DeskTable}
 pub use Rattle.desk_opening.specs.declared.opening.OpenFault.{OpenFault}
-pub use Rattle.desk_opening.specs.declared.opening.OpenFault.TheVariants.{Memory, NewerVersion, NotDesk, Store}
+pub use Rattle.desk_opening.specs.declared.opening.OpenFault.TheVariants.{NewerVersion, NotDesk, Store}
 pub use Rattle.desk_opening.specs.declared.running.TheConstants.{BEGIN, COMMIT}
 pub use Rattle.std.proofs.Math.Bool.{and-true}
 pub use Rattle.sql_calls.proofs.Actions.{all_both}

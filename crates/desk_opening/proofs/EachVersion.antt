@@ -1,6 +1,6 @@
 -- What is known of each version by its cases.
-use native.Mathlib.Omega.{arith}
-use Rattle.desk_opening.proofs.Common.{◌≡◌, ℕ, ◌+◌, List, [], ◌∷◌, map, true, None, refl, subst, AllByRecursion, take-append-drop, Row, Records, RolloutRecord}
+use Rattle.desk_opening.proofs.Common.{arith, ◌≡◌, ℕ, ◌+◌, List, [], ◌∷◌, map, true, None, refl, subst, AllByRecursion, take-append-drop, Row, Records}
+use Rattle.desk_opening.proofs.Common.{RolloutRecord}
 use Rattle.desk_opening.proofs.Common.{Content, Ordered, Unordered, Offered, content_at, ledger_of, rule_row, rules_from, Place, Offers, places, IsTellable}
 use Rattle.desk_opening.proofs.Common.{IsUnnumbered, later_than, places_at, table_count_of, Version, among, is_among, of_all, bare_ledger, no_rules, all_both}
 use Rattle.rollout_machine.specs.declared.records.ActionRecord.{ActionRecord}
@@ -11,12 +11,8 @@ use Rattle.desk_records.specs.FeedbackNumbers.{number_row, number_rows, numbers_
 pub has_at : (v : Version) (t : Place) → is_among (places_at v) t ≡ true → (P : Place → Type 0) → AllByRecursion P (places_at v) → P t
 has_at v t there P all = among P (places_at v) t all there
 
--- the table of offers is there
-offers_there : (v : Version) → is_among (places_at v) Offers ≡ true
-offers_there v = grind arith
-
 pub has_offers : (v : Version) (P : Place → Type 0) → AllByRecursion P (places_at v) → P Offers
-has_offers v = has_at v Offers (offers_there v)
+has_offers v = grind (arith, has_at, Offers)
 
 -- its tables hold what is told of the records
 pub older_held : (v : Version) (r : Records) → map (content_at v (ledger_of r)) (places_at v) ≡ map (content_at v (bare_ledger v r)) (places_at v)

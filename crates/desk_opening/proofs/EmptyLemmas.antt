@@ -1,6 +1,6 @@
 -- A database without tables is made a desk, and refused for a failure alone.
-use native.Mathlib.Omega.{arith}
-use Rattle.desk_opening.proofs.Common.{Bool, Err, State, HasCleanDisk, IsAtRest, LeavesFree, HoldsStage, Free, OpenFault, OpensDesk, IsSettled, IsFailure}
+use Rattle.desk_opening.proofs.Common.{arith, Bool, Err, State, HasCleanDisk, IsAtRest, LeavesFree, HoldsStage, Free, OpenFault, OpensDesk, IsSettled}
+use Rattle.desk_opening.proofs.Common.{IsFailure}
 use Rattle.desk_opening.proofs.Common.{desk_names}
 use Rattle.sqlite.specs.Steps.{IsEmpty}
 use Rattle.desk_opening.proofs.BlankLemmas.{nothing_is_used}

@@ -1,7 +1,7 @@
 -- Why a migration of records that can be read is no failed store by itself.
 use Rattle.desk_opening.proofs.Common.{◌≡◌, ◌<◌, ◌≤◌, ◌^◌, ℕ, suc, [], ◌∷◌, length, codes, pos, Option, Some, option_map, Ok, Err, Result, IfErr, refl, sym, ap}
 use Rattle.desk_opening.proofs.Common.{subst, ◌∙◌, arith, Int, Row, State, HasCleanDisk, Fault, TakesFirst, all-slice_get, Wears, RolloutRecord, HoldsLedger}
-use Rattle.desk_opening.proofs.Common.{Ledger, told_rollout, One, Version, GET_ROLLOUT, LAST_ROLLOUT, FindsLedger, MakesLedger, WritesUpTo, rules_up_to}
+use Rattle.desk_opening.proofs.Common.{Ledger, told_rollout, GET_ROLLOUT, LAST_ROLLOUT, FindsLedger, MakesLedger, WritesUpTo, rules_up_to}
 use Rattle.std.specs.Prelude.{IsErrAnd}
 use Rattle.sql_calls.specs.Standing.{Sees}
 use Rattle.sql_calls.proofs.Finding.{first_finds}
@@ -14,7 +14,7 @@ use Rattle.desk_records.proofs.RolloutRecords.{gets_rollout, lasts_rollout}
 use Rattle.desk_store.specs.Rows.{HasNoNumber}
 use Rattle.desk_store.proofs.Known.{in_ledgers, known}
 use Rattle.desk_opening.specs.Counting.{FailsGiven, HasReadable, IsRolloutReadable, IsSound}
-use Rattle.desk_opening.specs.Filling.{GivenBare, GivenRules, LacksRollout}
+use Rattle.desk_opening.specs.Filling.{GivenRules, LacksRollout}
 use Rattle.desk_records.proofs.HeldCounts.{at_place}
 use Rattle.desk_opening.proofs.RowLemmas.{within_row}
 
@@ -66,12 +66,3 @@ rules_fail {m = m} k last n low next read made wears fault h (Err e) is = record
       record { rollout = it.0; is_there = it.1; readable = all-slice_get IsRolloutReadable xs k it.0 it.1 given.readable.keep } in
       subst IsSound (sym is) (h.to mid now (subst (λ i. HasReadable i mid) (sym next) there) clean);
 }
-
--- ---- what is later
-
-bare_given : (v : Version) → v ≡ One → (l : Ledger) → GivenBare v l → GivenRules l
-bare_given v is l given = grind arith
-
-pub bare_fails : (v : Version) → v ≡ One → {old new : State} (out : Result (Unit {0}) Fault) → FailsGiven GivenRules old new out
-    → FailsGiven (GivenBare v) old new out
-bare_fails v is out h = grind (arith, bare_given)

@@ -1,8 +1,8 @@
 -- Reads and writes of a change that fills the tables of the newest version.
-use Rattle.desk_opening.proofs.Common.{◌≡◌, ◌≤◌, ◌⊎◌, ◌++◌, ℕ, zero, suc, ◌+◌, List, [], ◌∷◌, length, pos, set, Option, Some, None, option_map, Ok, Err, Result}
+use Rattle.desk_opening.proofs.Common.{◌≡◌, ◌≤◌, ◌++◌, ℕ, zero, suc, ◌+◌, List, [], ◌∷◌, length, pos, set, Option, Some, None, option_map, Ok, Err, Result}
 use Rattle.desk_opening.proofs.Common.{IsErr, IfOk, refl, sym, ap, subst, ◌∙◌, arith, Int, Row, Database, IsDatabase, State, Stands, Fault, RunsText}
-use Rattle.desk_opening.proofs.Common.{TakesFirst, Known, Knows, inserts, GroupRule, Ledger, Rules, name_of, rule_table, table_at, GET_ROLLOUT, PUT_RULE}
-use Rattle.desk_opening.proofs.Common.{Version, One, Two, Three, FillsLater, FillsRollout, FindsLedger, IsOfNumber, Stays, WritesCopies, WritesRules}
+use Rattle.desk_opening.proofs.Common.{TakesFirst, Knows, inserts, GroupRule, Ledger, Rules, name_of, rule_table, table_at, GET_ROLLOUT, PUT_RULE}
+use Rattle.desk_opening.proofs.Common.{Version, One, FillsLater, FillsRollout, FindsLedger, IsOfNumber, Stays, WritesCopies, WritesRules}
 use Rattle.desk_opening.proofs.Common.{WritesUpTo, rules_up_to, HoldsStage, Standing, same_some, put_at, Changes, Leaves, Stage, TakesTo, never_shows_inside}
 use Rattle.sql_calls.proofs.Composing.{finds_as}
 use Rattle.sql_calls.proofs.Framing.{took}
@@ -56,11 +56,9 @@ standing_still old new h same sound = (
   },
 )
 
-abbrev knows_put : (db : Database) → HoldsStage db Standing → Known db.schema PUT_RULE.now
-knows_put db h = tables_know (put_at put_rule_is) db h.0 h.1
-
 pub put_stays : (params : Row) (old new : State) (out : Result (Unit {0}) Fault) → RunsText old new PUT_RULE.now params out → Stays old new out
-put_stays params old new = ran PUT_RULE.now params old new Standing Standing (knows_put old.now) (λ holds. refl) (λ holds count w.
+put_stays params old new = ran PUT_RULE.now params old new Standing Standing (λ h. tables_know (put_at put_rule_is) old.now h.0 h.1) (λ holds. refl)
+    (λ holds count w.
     let spot = holds.1.spot Rules in
     let made = inserts old.now.schema spot.at (rule_table spot.tree) rule_terms 6 (holds.1.stands Rules).got old new refl _ params count w in
     (w, standing_still old.now new.now holds made.schema_is w.sound))
@@ -108,10 +106,11 @@ module _ (number : ℕ) (found : StoredRollout) where
 pub nothing_yet : (l next : Ledger) → WritesUpTo 0 l next → next ≡ l
 nothing_yet l next w = w.next_is ∙ ap (with_rules l) (none_said l.records.rollouts ∙ sym w.none)
 
-next_filled : (k : ℕ) (l next : Ledger) → WritesUpTo (suc k) l next → (mid : Ledger) × WritesUpTo k l mid × FillsRollout (suc k) mid next
-next_filled k l next w =
+pub one_filled_more : (k n : ℕ) → n ≡ suc k → (l next : Ledger) → WritesUpTo n l next → (mid : Ledger) × WritesUpTo k l mid × FillsRollout n mid next
+one_filled_more k n is l next filled =
     let xs = l.records.rollouts in
-    let it = at_place xs k (omega (arith, w.within)) in (
+    let w : WritesUpTo (suc k) l next = subst (λ m. WritesUpTo m l next) is filled in
+    let it = at_place xs k (omega (arith, w.within)) in rw is (
       with_rules l (rules_up_to k xs),
       record { none = w.none; within = omega (arith, w.within); next_is = refl },
       record {
@@ -122,21 +121,10 @@ next_filled k l next w =
       },
     )
 
-pub one_filled_more : (k n : ℕ) → n ≡ suc k → (l next : Ledger) → WritesUpTo n l next → (mid : Ledger) × WritesUpTo k l mid × FillsRollout n mid next
-one_filled_more k n is l next w = subst (λ m. (mid : Ledger) × WritesUpTo k l mid × FillsRollout m mid next) (sym is)
-    (next_filled k l next (subst (λ m. WritesUpTo m l next) is w))
-
 pub all_filled : (k last : ℕ) → k ≡ last → (l next : Ledger) → last ≡ length l.records.rollouts → WritesRules l next → WritesUpTo k l next
 all_filled k last reached l next is w = grind (arith, all_said)
 
 -- ---- of all that is later
 
-of_one : (l next : Ledger) → FillsLater One l next → WritesRules l next
-of_one l next w = grind (arith, all_even)
-
 pub one_filled : (v : Version) → v ≡ One → (l next : Ledger) → FillsLater v l next → WritesRules l next
-one_filled v is l next w = of_one l next (subst (λ u. FillsLater u l next) is w)
-
--- the tables that other versions don't have hold nothing
-pub none_lacking : (v : Version) → (v ≡ Two) ⊎ (v ≡ Three) → (l next : Ledger) → FillsLater v l next → next ≡ l
-none_lacking v h1 l next w = grind arith
+one_filled v is l next w = grind (arith, all_even)

@@ -1,8 +1,8 @@
 -- A database that holds the records of a desk, or uses no name of one, is refused for a failure alone.
 use Rattle.desk_opening.proofs.Common.{◌≡◌, inl, inr, false, [], ◌∷◌, codes, pos, refl, ap, subst, ◌∙◌, arith, AllByRecursion, true≢false, both_ways, Int, Text}
-use Rattle.desk_opening.proofs.Common.{Row, column, Database, has_rowid, Has, LeavesFree, StandsSomewhere, Records, Desk, desk_table, desk_names, desk_row}
-use Rattle.desk_opening.proofs.Common.{HoldsAt, HoldsPlace, version_number, Version, has_desk, one_numbered, flag, OpenFault, NotDesk, NewerVersion, Memory}
-use Rattle.desk_opening.proofs.Common.{Store, FindsFault, HasDeskTables, HasNoRow, HasRow, IsDeskRow, IsFailure, IsNewerRow, IsOtherRow, LacksPartOfDesk}
+use Rattle.desk_opening.proofs.Common.{Row, column, Database, has_rowid, LeavesFree, StandsSomewhere, Records, Desk, desk_table, desk_names, desk_row}
+use Rattle.desk_opening.proofs.Common.{HoldsAt, HoldsPlace, version_number, Version, has_desk, one_numbered, flag, OpenFault, NotDesk, NewerVersion}
+use Rattle.desk_opening.proofs.Common.{FindsFault, HasDeskTables, HasNoRow, HasRow, IsDeskRow, IsFailure, IsOtherRow, LacksPartOfDesk}
 use Rattle.sqlite_value.specs.Order.{value_cmp}
 use Rattle.desk_opening.proofs.VersionLemmas.{used_at}
 use Rattle.desk_opening.proofs.Tables.{one_tree}
@@ -15,18 +15,12 @@ module _ (db : Database) (r : Records) (v : Version) (holds : HoldsAt v db r) wh
   desk_rows : (table : StandsSomewhere db.schema (desk_table 0)) → db.trees table.tree ≡ desk_row v r.approval ∷ []
   desk_rows table = ap db.trees (one_tree Desk table.tree (holds.spot Desk).tree table.stands desk_held.0) ∙ desk_held.1
 
-  only_row : (row : Row) → Has (desk_row v r.approval ∷ []) row → row ≡ desk_row v r.approval
-  only_row row h1 = grind arith
-
   -- the row of number 1 is a desk's
   row_says : (Says : Row → Type 0) → HasRow db Says → Says (Text (codes "fwdesk") ∷ Int (pos (version_number v)) ∷ Int (pos (flag r.approval)) ∷ [])
-  row_says h0 h = grind (arith, only_row, desk_rows, column)
+  row_says h0 h = grind (arith, desk_rows, column)
 
   is_no_other : ¬ HasRow db IsOtherRow
   is_no_other h = (row_says IsOtherRow h).0 (v, record { format = refl; version = refl })
-
-  is_no_newer : ¬ HasRow db IsNewerRow
-  is_no_newer h = grind (arith, row_says)
 
   has_row : ¬ HasNoRow db
   unfolding value_cmp lib.Ieee.is_nan lib.Ieee.lt
@@ -47,9 +41,8 @@ module _ (db : Database) (r : Records) (v : Version) (holds : HoldsAt v db r) wh
 
   pub held_fails : (e : OpenFault) → FindsFault db e → IsFailure e
   held_fails NotDesk h = elim h.other [ inl other ↦ is_no_other other | inr lacks ↦ lacks_none lacks ]
-  held_fails NewerVersion h = is_no_newer h
-  held_fails Memory h = tt
-  held_fails Store h = tt
+  held_fails NewerVersion h = grind (arith, row_says)
+  held_fails e h = tt
 
 pub free_fails : (db : Database) → LeavesFree db.schema desk_names → (e : OpenFault) → FindsFault db e → IsFailure e
 free_fails db free e h = grind (arith, both_ways, codes, used_at)

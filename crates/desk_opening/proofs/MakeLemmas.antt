@@ -1,32 +1,19 @@
 -- A new desk, from BEGIN to COMMIT.
 use Rattle.desk_opening.proofs.Common.{◌≡◌, ℕ, ◌+◌, Bool, List, [], ◌∷◌, ◌++◌, ◌<◌, ◌≤◌, length, map, take, drop, get_or, pos, Ok, Err, Result, if◌then◌else◌}
-use Rattle.desk_opening.proofs.Common.{None, refl, sym, subst, arith, AllByRecursion, Int, Database, IsAscending, CreateTable, Insert, Values, State, Writes}
-use Rattle.desk_opening.proofs.Common.{Fault, RunsText, Known, drop_all, length-map, take_all, HoldsRecords, ledger_of, PUT_DESK, put_desk_is, desk_terms}
-use Rattle.desk_opening.proofs.Common.{Place, places, BEGIN, AreApart, Before, Changes, HoldsPartly, HoldsStage, Free, Nothing, Partly, Whole, first_records}
+use Rattle.desk_opening.proofs.Common.{None, refl, sym, subst, arith, AllByRecursion, Int, IsAscending, CreateTable, Insert, Values, State, Writes}
+use Rattle.desk_opening.proofs.Common.{Fault, RunsText, drop_all, length-map, take_all, HoldsRecords, ledger_of, PUT_DESK, put_desk_is, desk_terms}
+use Rattle.desk_opening.proofs.Common.{Place, places, BEGIN, AreApart, Before, Changes, HoldsStage, Free, Nothing, Partly, Whole, first_records}
 use Rattle.desk_opening.proofs.Common.{MakesTables, Makes, Steps, DeskTable, place_of, create_text_of, put_at}
 use Rattle.desk_opening.proofs.Steps.{Turns, Within, begun, ran, rests_as, steps_then, within_as}
 use Rattle.desk_opening.proofs.Places.{behind_apart, create_means, next_place, places_so_far, HaveNamesApart, create_text}
 use Rattle.desk_opening.proofs.Tables.{table_made, desk_filled}
-
--- ---- what the schema understands on the way
-
-abbrev knows_table : (t : Place) (before : Before) (made left : List Place) (db : Database) → HoldsPartly db before made (t ∷ left)
-    → Known db.schema (create_text_of t)
-knows_table t before made left db h = record { command = CreateTable; means = create_means t db.schema h.free.0 }
-
-abbrev knows_row : (db : Database) → HoldsPartly db Nothing places [] → Known db.schema PUT_DESK.now
-knows_row db h = record {
-  command = Insert h.stand.0.at (Values desk_terms 5);
-  means = (put_at put_desk_is).at db.schema h.stand.0.at h.stand.0.tree
-      h.stand.0.stands;
-}
 
 -- ---- the tables
 
 one_table : (t : Place) (before : Before) (made left : List Place) → AllByRecursion (HaveNamesApart t) left → (a b : State) (out : Result (Unit {0}) Fault)
     → RunsText a b (create_text_of t) [] out → Steps (Partly before made (t ∷ left)) (Partly before (made ++ t ∷ []) left) a b out
 one_table t before made left apart a b = ran (create_text_of t) [] a b (Partly before made (t ∷ left)) (Partly before (made ++ t ∷ []) left)
-    (knows_table t before made left a.now) (λ holds. refl) (λ holds count w.
+    (λ holds. record { command = CreateTable; means = create_means t a.now.schema holds.free.0 }) (λ holds. refl) (λ holds count w.
     let text = create_text t a.now.schema holds.free.0 in
     (w, table_made t before made left apart a b count holds (subst (λ x. Writes a b None CreateTable x [] count) text w)))
 
@@ -71,7 +58,10 @@ pub desk_put : (approval : Bool) {c d : State} (out : Result (Unit {0}) Fault)
     → RunsText c d PUT_DESK.now (Int (if approval then pos 1 else pos 0) ∷ []) out
     → Steps (Partly Nothing places []) (Whole (ledger_of (first_records approval))) c d out
 desk_put approval {c} {d} = ran PUT_DESK.now (Int (if approval then pos 1 else pos 0) ∷ []) c d (Partly Nothing places [])
-    (Whole (ledger_of (first_records approval))) (knows_row c.now) (λ holds. refl) (λ holds count w. (w, desk_filled approval c d _ count holds w))
+    (Whole (ledger_of (first_records approval))) (λ h. record {
+      command = Insert h.stand.0.at (Values desk_terms 5);
+      means = (put_at put_desk_is).at c.now.schema h.stand.0.at h.stand.0.tree h.stand.0.stands;
+    }) (λ holds. refl) (λ holds count w. (w, desk_filled approval c d _ count holds w))
 
 pub makes_by : {A E : Type 0} {approval : Bool} {a z : State} (out : Result A E) → Turns Free (Whole (ledger_of (first_records approval))) a z out
     → Makes a z approval out

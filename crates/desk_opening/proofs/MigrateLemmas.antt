@@ -1,32 +1,22 @@
 -- From the tables of a version to those of the newest, from BEGIN to COMMIT.
-use Rattle.desk_opening.proofs.Common.{inl, inr, [], Ok, Err, Result, refl, arith, Update, Database, State, Fault, RunsText, Known, Sees, commit_is, runs_plain}
+use Rattle.desk_opening.proofs.Common.{inl, inr, [], Ok, Err, Result, refl, arith, Update, State, Fault, RunsText, Sees, commit_is, runs_plain}
 use Rattle.desk_opening.proofs.Common.{Commit, IsKnownOpen, Records, HoldsLedger, HoldsRecords, Rests, ledger_of, HoldsAt, Desk, later_than, SET_VERSION}
 use Rattle.desk_opening.proofs.Common.{Version, set_version_is, set_version_query, BEGIN, true, COMMIT, FillsLater, MakesLedger, Stays, bare_ledger, At}
-use Rattle.desk_opening.proofs.Common.{HoldsPartly, HoldsStage, MakesTables, Older, Partly, Standing, Steps, Whole, Migrates, changed_at, first_records}
+use Rattle.desk_opening.proofs.Common.{HoldsStage, MakesTables, Older, Partly, Standing, Steps, Whole, Migrates, changed_at, first_records}
 use Rattle.desk_records.proofs.HeldTables.{are_tables, rows_of}
 use Rattle.desk_opening.proofs.Steps.{Turns, Within, begun, goes, ran, rests_as, within_as}
 use Rattle.desk_opening.proofs.VersionSet.{desk_renewed, spot_in, stands_in}
 
-abbrev knows_version : (v : Version) (r : Records) (db : Database) → HoldsPartly db (Older v r) (later_than v) [] → Known db.schema SET_VERSION.now
-knows_version v r db h =
-    let spot = spot_in v r db h Desk in
-    record {
-      command = Update spot.at (record { lets = []; body = set_version_query spot.tree });
-      means = (changed_at set_version_is).at db.schema spot.at spot.tree (stands_in v r db h Desk);
-    }
-
--- none of the later tables is there yet
-none_made : (v : Version) (r : Records) (db : Database) → HoldsAt v db r → HoldsPartly db (Older v r) [] (later_than v)
-none_made v r db h = grind arith
-
 pub version_set : (v : Version) (r : Records) {c d : State} (out : Result (Unit {0}) Fault) → RunsText c d SET_VERSION.now [] out
     → Steps (Partly (Older v r) (later_than v) []) (Whole (bare_ledger v r)) c d out
-version_set v r {c} {d} = ran SET_VERSION.now [] c d (Partly (Older v r) (later_than v) []) (Whole (bare_ledger v r)) (knows_version v r c.now) (λ holds. refl)
-    (λ holds count w. (w, desk_renewed v r c d _ count holds w))
+version_set v r {c} {d} = ran SET_VERSION.now [] c d (Partly (Older v r) (later_than v) []) (Whole (bare_ledger v r)) (λ h. record {
+  command = Update (spot_in v r c.now h Desk).at (record { lets = []; body = set_version_query (spot_in v r c.now h Desk).tree });
+  means = (changed_at set_version_is).at c.now.schema _ (spot_in v r c.now h Desk).tree (stands_in v r c.now h Desk);
+}) (λ holds. refl) (λ holds count w. (w, desk_renewed v r c d _ count holds w))
 
 module _ (v : Version) (r : Records) {a b : State} (first : RunsText a b BEGIN.now [] (Ok tt)) where
   pub began : Within (At v r) a b (Partly (Older v r) [] (later_than v))
-  began = within_as (none_made v r) (begun (At v r) first)
+  began = within_as (λ db h. grind arith) (begun (At v r) first)
 
   module _ {c : State} (second : MakesTables {A = Unit {0}} {E = Fault} (later_than v) b c (Ok tt)) where
     pub made : Within (At v r) a c (Partly (Older v r) (later_than v) [])

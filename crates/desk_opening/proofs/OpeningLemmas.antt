@@ -5,7 +5,7 @@ use Rattle.desk_opening.proofs.Common.{gives_up, Records, Desk, HoldsAt, HoldsPl
 use Rattle.desk_opening.proofs.Common.{OpenFault, Keeps, TakesDeskRow, TellsVersion, asked_at}
 use Rattle.sqlite.specs.Order.{Row}
 use Rattle.desk_opening.specs.Migrating.{HoldsOf}
-use Rattle.sql_calls.specs.Standing.{FrameTo, Opens}
+use Rattle.sql_calls.specs.Standing.{FrameTo}
 use Rattle.sql_calls.proofs.Framing.{first_frames}
 
 -- every crash leaves what stood
@@ -19,16 +19,12 @@ module _ (Holds : Database → Records → Type 0) (knows : Knows Holds GET_DESK
   begin_leaves fault h r was clean db left = ((fails_to_begin Holds (codes "BEGIN") a b (begin_is a.now.schema) fault h).rests r was clean).held.crash db left
 
   module _ (first : RunsText a b (codes "BEGIN") [] (Ok tt)) (c : State) where
-    began : (r : Records) → Rests Holds a r → Opens Holds b r
-    began = (begins Holds (codes "BEGIN") a b (begin_is a.now.schema) first).opens
-
     module _ (took : Result (Option Row) Fault) (second : TakesFirst b c GET_DESK.now [] took) (d : State) where
       taken : (r : Records) → Rests Holds a r → Spoiled Holds c r
-      taken r was = go took (first_frames Holds GET_DESK.now [] b c knows took second)
-        where
-          go : (out : Result (Option Row) Fault) → FrameTo Holds b c out → Spoiled Holds c r
-          go (Ok row) frame = (frame r (began r was)).spoiled
-          go (Err fault) frame = frame r (began r was)
+      taken r was =
+          let opens = (begins Holds (codes "BEGIN") a b (begin_is a.now.schema) first).opens r was in
+          elim took as (λ out. FrameTo Holds b c out → Spoiled Holds c r) [ Ok row ↦ λ frame. (frame r opens).spoiled | Err fault ↦ λ frame. frame r opens ]
+          (first_frames Holds GET_DESK.now [] b c knows took second)
 
       end_leaves : (fault : Fault) → RunsText c d (codes "ROLLBACK") [] (Err fault) → LeavesAll Holds a d
       end_leaves fault h r was clean db left =

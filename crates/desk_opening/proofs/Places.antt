@@ -1,5 +1,5 @@
 -- What the texts of all tables make.
-use Rattle.desk_opening.proofs.Common.{◌≡◌, refl, sym, ap, ◌∙◌, arith, ◌||◌, ℕ, zero, suc, ◌+◌, ◌<◌, Bool, false, List, [], ◌∷◌, ◌++◌, length, map, take, drop}
+use Rattle.desk_opening.proofs.Common.{◌≡◌, refl, sym, ap, ◌∙◌, arith, ◌||◌, ℕ, suc, ◌+◌, ◌<◌, Bool, false, List, [], ◌∷◌, ◌++◌, length, map, take, drop}
 use Rattle.desk_opening.proofs.Common.{get_or, list_any, or_parts, drop_more, length-map, take_more, Schema, Table, CreateTable, statement_of, IsAscending}
 use Rattle.desk_opening.proofs.Common.{first, is_used, none_from_any, Means, Place, places, table_at, name_of, means_of, DeskTable, place_of, create_text_of}
 use Rattle.std.proofs.Math.ListN.{get_or-map}
@@ -54,6 +54,5 @@ create_text t s free = text_made (create_text_of t) (name_of t) (table_at t 0) (
 -- ---- the places behind so many
 
 pub behind_apart : (n : ℕ) (ts : List Place) → IsAscending HaveNamesApart ts → IsAscending HaveNamesApart (drop n ts)
-behind_apart zero ts h = h
-behind_apart (suc n) [] h = tt
 behind_apart (suc n) (t ∷ ts) h = behind_apart n ts h.1
+behind_apart n ts h = grind arith

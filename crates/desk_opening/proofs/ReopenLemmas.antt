@@ -1,10 +1,9 @@
 -- From files that were opened to what the connection stands for.
-use Rattle.desk_opening.proofs.Common.{◌≡◌, ◌⊎◌, inl, inr, ℕ, ◌+◌, Bool, false, Some, List, [], ◌∷◌, ◌∙◌, refl, Ok, Err, Result, IfOk, sym, subst, arith}
-use Rattle.desk_opening.proofs.Common.{∥∥₁_elim, Trees, Schema, Table, Image, HoldsDatabase, AreFoundIn, IsNothing, IsBlankAs, file_state, Held, Database}
-use Rattle.desk_opening.proofs.Common.{State, HasCleanDisk, Opens, IsLive, AllZip, position_from, Row, IsSound, IsViewRow, same_name, is_used, Stands, HoldIn}
-use Rattle.desk_opening.proofs.Common.{Rests, still_holds, LeavesFree, Records, desk_names, HoldsAt, Version, HoldsStage, Free, told, OpenFault, OpensDesk}
-use Rattle.desk_opening.proofs.Common.{HasDesk, HasNoDesk, HasRow, IsFailure, IsNewerRow, FindsFault, IsSettled, Reopens, RefusesOpened, BeginsPlain, HoldsDesk}
-use Rattle.desk_opening.proofs.Common.{HoldsDeskAt, HoldsNone, UsesNoName}
+use Rattle.desk_opening.proofs.Common.{◌≡◌, ◌⊎◌, inl, inr, ℕ, ◌+◌, Bool, false, Some, List, ◌∷◌, ◌∙◌, refl, Ok, Err, sym, subst, arith, ∥∥₁_elim, Trees, Schema}
+use Rattle.desk_opening.proofs.Common.{Table, Image, HoldsDatabase, AreFoundIn, IsNothing, IsBlankAs, file_state, Held, Database, State, HasCleanDisk, Opens}
+use Rattle.desk_opening.proofs.Common.{IsLive, AllZip, position_from, Row, IsSound, IsViewRow, same_name, is_used, Stands, HoldIn, Rests, still_holds}
+use Rattle.desk_opening.proofs.Common.{LeavesFree, Records, desk_names, HoldsAt, Version, HoldsStage, Free, OpenFault, OpensDesk, HasDesk, HasNoDesk, HasRow}
+use Rattle.desk_opening.proofs.Common.{IsFailure, IsNewerRow, FindsFault, IsSettled, Reopens, BeginsPlain, HoldsDesk, HoldsDeskAt, HoldsNone, UsesNoName}
 use Rattle.std.proofs.Math.Bool.{Bool-set}
 use mathlib.Core.HLevel.{Π_prop}
 use Rattle.sqlite_trees.specs.Props.{Trees-set, AllByRecursion-prop}
@@ -32,12 +31,8 @@ stands_over s z name at table same stands = grind arith
 -- views are known by their names, which stand in the rows
 same_views : (name : List ℕ) (k : ℕ) (rows : List Row) (xs ys : List View) → AllZip IsViewRow rows xs → AllZip IsViewRow rows ys
     → position_from (λ (x : View). same_name x.name name) k xs ≡ position_from (λ (y : View). same_name y.name name) k ys
-same_views name k [] [] [] h g = refl
-same_views name k [] [] (y ∷ ys) h g = absurd g
-same_views name k [] (x ∷ xs) ys h g = absurd h
-same_views name k (row ∷ rows) [] ys h g = absurd h
-same_views name k (row ∷ rows) (x ∷ xs) [] h g = absurd g
 same_views name k (row ∷ rows) (x ∷ xs) (y ∷ ys) h g = grind (arith, same_views name (k + 1) rows xs ys h.1 g.1)
+same_views name k rows xs ys h g = grind arith
 
 used_over : (s z : Schema) (trees : Trees) → IsSound s trees → IsSound z trees → (name : List ℕ) → is_used z name ≡ is_used s name
 used_over s z trees was sound name =
@@ -70,27 +65,26 @@ module _ (image : Image) (found : Trees) (holds : (db : Trees) → HoldsDatabase
 at_version : (image : Image) (r : Records) → HoldsDesk HoldsDatabase image r → (v : Version) × HoldsDeskAt HoldsDatabase v image r
 at_version image r has = let held = has.2 in (held.1.0, (has.0, has.1, (held.0, held.1.1)))
 
-module _ (image : Image) (old : State) (opened : HasCleanDisk old → Opens old × IsLive old) (holds : HasCleanDisk old → (db : Trees) → HoldsDatabase image db
-    → old.committed.trees ≡ db)
-    (reads : HasCleanDisk old → AreFoundIn image old.committed.trees) (settled : IsSettled old) where
+module _ {image : Image} {old : State} (opened : HasCleanDisk old → Opens old × IsLive old) (found : HasCleanDisk old → FindsIn image old)
+    (settled : IsSettled old) where
   rests_at : (v : Version) (r : Records) → HoldsDeskAt HoldsDatabase v image r → Rests (HoldsAt v) old r
   rests_at v r has clean = let it = opened clean in
       settled_at_rest (HoldsAt v) old r settled it.0 (at_over v old.committed.schema old.committed.trees r (it.1 it.0.is_open).1
-      (found_records image old.committed.trees (holds clean) (λ t. HoldIn (HoldsAt v) t r) has))
+      (found_records image old.committed.trees ((found clean).holds) (λ t. HoldIn (HoldsAt v) t r) has))
 
   rests_free : HoldsNone HoldsDatabase image → Rests HoldsStage old Free
   rests_free none clean = let it = opened clean in
       let sound = (it.1 it.0.is_open).1 in
       settled_at_rest HoldsStage old Free settled it.0 (
         sound,
-        found_none image old.committed.trees (holds clean)
-            (λ nothing. nothing_is_unused image old.committed.trees nothing (reads clean)) none old.committed.schema sound,
+        found_none image old.committed.trees ((found clean).holds)
+            (λ nothing. nothing_is_unused image old.committed.trees nothing (found clean).reads) none old.committed.schema sound,
       )
 
   met : (Is : Database → Type 0) → HasCleanDisk old → Is old.now
       → (db : Trees) × AreFoundIn image db × ((schema : Schema) × IsSound schema db × Is (record { schema = schema; trees = db }))
   met Is clean is = let it = opened clean in
-      (old.committed.trees, reads clean, (old.committed.schema, (it.1 it.0.is_open).1, subst Is it.0.clean is))
+      (old.committed.trees, (found clean).reads, (old.committed.schema, (it.1 it.0.is_open).1, subst Is it.0.clean is))
 
   only_fails : (e : OpenFault) → HasCleanDisk old → FindsFault old.now e → ((r : Records) × HoldsDesk HoldsDatabase image r)
       ⊎ HoldsNone HoldsDatabase image → IsFailure e
@@ -100,10 +94,8 @@ module _ (image : Image) (old : State) (opened : HasCleanDisk old → Opens old 
   only_fails e clean finds (inr nothing) = free_fails old.now (still_holds HoldsStage old Free (rests_free nothing clean) (opened clean).0.is_open).1 e
       finds
 
-  pub reopens : {X Y : Type 0} (view : X → State) (approval : Bool) (out : Result X (OpenFault × Y))
-      → IfOk out (λ x. OpensDesk old (view x) approval (told out)) → IfOk out (λ x. Reopens image (view x) approval)
-  reopens view approval (Err e) h = tt
-  reopens view approval (Ok x) h =
+  pub reopens : {A : Type 0} {new : State} {approval : Bool} {x : A} → OpensDesk old new approval (Ok x) → Reopens image new approval
+  reopens h =
       let is_open = λ (clean : HasCleanDisk old). (opened clean).0.is_open in
       record {
         finds = λ clean. met (λ d. HasDesk d ⊎ LeavesFree d.schema desk_names) (omega (arith, clean, h.wears)) (h.finds clean);
@@ -111,25 +103,23 @@ module _ (image : Image) (old : State) (opened : HasCleanDisk old → Opens old 
         makes = λ none. h.makes is_open (rests_free none);
       }
 
-  pub refuses : (X : Type 0) (new : State) (approval : Bool) (e : OpenFault) → OpensDesk {A = X} old new approval (Err e) → HasCleanDisk new
-      → RefusesOpened image new.may_leave approval e
-  refuses X new approval e h clean =
-      let is_open = λ (clean : HasCleanDisk old). (opened clean).0.is_open in
-      record {
-        newer = λ is. met (λ d. HasRow d IsNewerRow) (omega (arith, clean, h.wears)) (subst (FindsFault old.now) is (h.finds clean));
-        none = λ is. met HasNoDesk (omega (arith, clean, h.wears)) (subst (FindsFault old.now) is (h.finds clean));
-        fails = only_fails e (omega (arith, clean, h.wears)) (h.finds clean);
-        holds = λ v r has. h.takes is_open (Some v) r (rests_at v r has) clean;
-        makes = λ none. h.makes is_open (rests_free none) clean;
-      }
-
   -- the connection that is left
-  pub refuses_calls : {D : Type 0} {g : disk.Ghosts D} (X : Type 0) (approval : Bool) (e : OpenFault) (calls : Calls (FileStore D g))
+  pub refuses_calls : {D X : Type 0} {g : disk.Ghosts D} {approval : Bool} {e : OpenFault} {calls : Calls (FileStore D g)}
       → OpensDesk {A = X} old (file_state calls.conn) approval (Err e) → HasCause over_files old calls e
       → HasCleanDisk (file_state calls.conn) → RefusesCalls image approval e calls
-  refuses_calls X approval e calls h why clean =
+  refuses_calls {e = e} h why clean =
       let is_open = λ (clean : HasCleanDisk old). (opened clean).0.is_open in
-      record { refuses = refuses X (file_state calls.conn) approval e h clean; causes = λ sound. why.cause is_open (healthy sound) clean }
+      let was : HasCleanDisk old = omega (arith, clean, h.wears) in
+      record {
+        refuses = record {
+          newer = λ is. met (λ d. HasRow d IsNewerRow) was (subst (FindsFault old.now) is (h.finds clean));
+          none = λ is. met HasNoDesk was (subst (FindsFault old.now) is (h.finds clean));
+          fails = only_fails e was (h.finds clean);
+          holds = λ v r has. h.takes is_open (Some v) r (rests_at v r has) clean;
+          makes = λ none. h.makes is_open (rests_free none) clean;
+        };
+        causes = λ sound. why.cause is_open (healthy sound) clean;
+      }
     where
       healthy : ((r : Records) × HoldsDesk HoldsDatabase image r × AreReadable r) ⊎ HoldsNone HoldsDatabase image → IsHealthy old
       healthy (inl it) = let its = at_version image it.0 it.1 in
@@ -138,16 +128,13 @@ module _ (image : Image) (old : State) (opened : HasCleanDisk old → Opens old 
 
 -- ---- what the connection began as
 
-pub begins_plain : {D : Type 0} {g : disk.Ghosts D} (image : Image) (approval : Bool) (first : Held (FileStore D g))
+pub begins_plain : {D : Type 0} {g : disk.Ghosts D} {image : Image} {approval : Bool} (first : Held (FileStore D g))
     → (HasCleanDisk (file_state first) → FindsIn image (file_state first))
     → (HasCleanDisk (file_state first) → IsBlankAs false image → (store.view first.store).has_sums ≡ false)
-    → {E : Type 0} (out : Result (Held (FileStore D g)) (OpenFault × E))
-    → IfOk out (λ x. OpensDesk (file_state first) (file_state x) approval (told out)) → IfOk out (BeginsPlain image approval)
-begins_plain image approval first found plain (Err e) h = tt
-begins_plain image approval first found plain (Ok x) h =
-    record {
-      first = first;
-      opens = record { wears = h.wears; finds = h.finds; takes = h.takes; makes = h.makes };
-      found = found;
-      plain = plain;
-    }
+    → {x : Held (FileStore D g)} → OpensDesk (file_state first) (file_state x) approval (Ok x) → BeginsPlain image approval x
+begins_plain first found plain h = record {
+  first = first;
+  opens = record { wears = h.wears; finds = h.finds; takes = h.takes; makes = h.makes };
+  found = found;
+  plain = plain;
+}

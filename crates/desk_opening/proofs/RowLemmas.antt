@@ -3,7 +3,7 @@ use Rattle.desk_opening.proofs.Common.{◌≡◌, ◌≢◌, ◌<◌, ◌⊎◌,
 use Rattle.desk_opening.proofs.Common.{Some, None, Ok, Err, Result, refl, sym, ap, subst, ◌∙◌, arith, Value, Null, Int, Row, column}
 use Rattle.desk_opening.proofs.Common.{has_rowid, cases_Bool, Term, col, lit, Database, Schema, State, HasCleanDisk, StandsSomewhere}
 use Rattle.desk_opening.proofs.Common.{TakesFirst, first_shown, first_unchanged, none_shown, shows_as, passes, shown_of, simple_rows, desk_table, GET_DESK}
-use Rattle.desk_opening.proofs.Common.{is_equal, get_desk_is, OpenFault, NotDesk, NewerVersion, Memory, Store, Version, HasDeskAt, HasNoRow, HasRow, IsWholeAt}
+use Rattle.desk_opening.proofs.Common.{is_equal, get_desk_is, OpenFault, NotDesk, NewerVersion, Version, HasDeskAt, HasNoRow, HasRow, IsWholeAt}
 use Rattle.desk_opening.proofs.Common.{LacksAt, LacksTables, TellsOfRow, TellsVersion, IsDeskRow, IsNewerRow, IsOtherRow, and-true, asked_at}
 use Rattle.sqlite_value.specs.Order.{value_cmp}
 use Rattle.sqlite_rules.proofs.ListLemmas.{all_from, has_filtered, has_kept}
@@ -71,8 +71,7 @@ module _ (db : Database) (row : Row) (h : HasRow db (λ shown. row ≡ shown)) w
   tells_row (Err NotDesk) (inl told) = inl (says IsOtherRow told)
   tells_row (Err NotDesk) (inr it) = inr (inr (record { version = it.version; row = says (IsDeskRow it.version) it.row_is; lacks = it.lacks }))
   tells_row (Err NewerVersion) told = says IsNewerRow told
-  tells_row (Err Memory) told = tt
-  tells_row (Err Store) told = tt
+  tells_row (Err e) told = tt
 
 -- of a row, and of the schema behind the read
 pub tells_seen : (b c : State) (found : Option Row) (row : Row) (schema : Schema) (out : Result Version OpenFault) → found ≡ Some row

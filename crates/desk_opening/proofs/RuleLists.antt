@@ -1,18 +1,16 @@
 -- What is said of groups, in lists alone.
-use Rattle.desk_opening.proofs.Common.{◌≡◌, ℕ, zero, suc, List, [], ◌∷◌, length, map, set, slice_get, Some, refl, ap, ap₂, sym, AllByRecursion, even_rules}
-use Rattle.desk_opening.proofs.Common.{rules_of, RolloutRecord, IsEven, no_rules, rules_up_to}
+use Rattle.desk_opening.proofs.Common.{arith, ◌≡◌, ℕ, zero, suc, List, [], ◌∷◌, length, map, set, slice_get, Some, refl, ap, ap₂, sym, AllByRecursion}
+use Rattle.desk_opening.proofs.Common.{even_rules, rules_of, RolloutRecord, IsEven, no_rules, rules_up_to}
 
 -- ---- one in place of another
 
 pub got_set : {X : Type 0} (xs : List X) (k : ℕ) (x y : X) → slice_get xs k ≡ Some x → slice_get (set xs k y) k ≡ Some y
-got_set [] k x y there = absurd cc
-got_set (z ∷ xs) zero x y there = refl
 got_set (z ∷ xs) (suc k) x y there = got_set xs k x y there
+got_set xs k x y there = grind arith
 
 pub set_same : {X : Type 0} (xs : List X) (k : ℕ) (x : X) → slice_get xs k ≡ Some x → set xs k x ≡ xs
-set_same [] k x there = absurd cc
-set_same (z ∷ xs) zero x there = let is : x ≡ z = cc in ap (λ y. y ∷ xs) is
 set_same (z ∷ xs) (suc k) x there = ap (λ l. z ∷ l) (set_same xs k x there)
+set_same xs k x there = grind arith
 
 -- ---- of the first so many rollouts
 
@@ -21,15 +19,15 @@ none_said [] = refl
 none_said (x ∷ xs) = ap (λ l. [] ∷ l) (none_said xs)
 
 pub none_yet : (k : ℕ) (xs : List RolloutRecord) (x : RolloutRecord) → slice_get xs k ≡ Some x → slice_get (rules_up_to k xs) k ≡ Some []
-none_yet k [] x there = absurd cc
-none_yet zero (y ∷ xs) x there = refl
 none_yet (suc k) (y ∷ xs) x there = none_yet k xs x there
+none_yet zero (y ∷ xs) x there = refl
+none_yet k [] x there = absurd cc
 
 pub one_more : (k : ℕ) (xs : List RolloutRecord) (x : RolloutRecord) → slice_get xs k ≡ Some x → set (rules_up_to k xs) k (even_rules x.plan)
     ≡ rules_up_to (suc k) xs
-one_more k [] x there = absurd cc
-one_more zero (y ∷ xs) x there = let is : x ≡ y = cc in ap (λ (z : RolloutRecord). even_rules z.plan ∷ rules_up_to zero xs) is
 one_more (suc k) (y ∷ xs) x there = ap (λ l. even_rules y.plan ∷ l) (one_more k xs x there)
+one_more zero (y ∷ xs) x there = let is : x ≡ y = cc in ap (λ (z : RolloutRecord). even_rules z.plan ∷ rules_up_to zero xs) is
+one_more k [] x there = absurd cc
 
 pub all_said : (xs : List RolloutRecord) → rules_up_to (length xs) xs ≡ map (λ (x : RolloutRecord). even_rules x.plan) xs
 all_said [] = refl

@@ -25,16 +25,13 @@ use Rattle.sqlite.proofs.FileLemmas.{is_something}
 use Rattle.desk_opening.proofs.BlankLemmas.{nothing_is_unused, empty_is_unused}
 use Rattle.desk_opening.proofs.ReopenLemmas.{found_records, found_none}
 
-unreserved : (size : ℕ) → is_summed size ≡ false → reserved size ≡ 0
-unreserved size plain = grind arith
-
 -- the size that the files name is the one that the database has
 module _ (image : Image) (db : Trees) (it : HoldsPlain image db) where
   whole : HoldsDatabase image db
   whole = (it.size, it.valid, it.held)
 
   none : reserved it.size ≡ 0
-  none = unreserved it.size it.plain
+  none = grind (arith, it.plain)
 
   large : 504 ≤ it.size
   large = omega (arith, it.valid.0, none)
@@ -60,7 +57,7 @@ module _ (image : Image) (db : Trees) (it : HoldsPlain image db) where
     ]
 
     same_size : n ≡ it.size
-    same_size = let other = unreserved n unsummed in omega (arith, same_stored, none, other)
+    same_size = grind (arith, same_stored, none, unsummed)
 
     pub stands_still : (after : Image) → StandsAs n image after → HoldsPlain after db
     stands_still after stands =
@@ -153,11 +150,6 @@ module _ {D : Type 0} (g : disk.Ghosts D) (stays : (file : D) → g.may_leave fi
         holds = holds_on rest (why.1);
         makes = makes_none rest (why.1);
       }
-
--- ---- the fault
-
-pub never_newer : (e : OpenFault) → IsFailure e → e ≢ NewerVersion
-never_newer e fails is = grind arith
 
 -- ---- the file at a path
 

@@ -1,13 +1,13 @@
 -- What each text of the making does.
-use Rattle.desk_opening.proofs.Common.{◌≡◌, ◌≢◌, inl, inr, ℕ, slice_index_or, ◌+◌, ◌<◌, ◌^◌, ◌==◌, Bool, true, false, List, [], ◌∷◌, ◌++◌, length, codes, pos}
-use Rattle.desk_opening.proofs.Common.{map, drop, Some, None, Ok, find, if◌then◌else◌, refl, sym, ap, subst, ◌∙◌, arith, AllByRecursion, position_from}
-use Rattle.desk_opening.proofs.Common.{and_parts, eqb-true, Value, Int, column, Schema, Table, Database, IsDatabase, CreateTable, Insert, Values, State, Writes}
-use Rattle.desk_opening.proofs.Common.{Has, same_name, next_tree, is_used, automatics, IsTableRow, IsDefined, all-slice_get, IsPermutation-same}
-use Rattle.desk_opening.proofs.Common.{table_defined_by, Stands, LeavesFree, HasNoForeignKey, ComparesBytes, Inserted, inserts, uncounted, given_rows, cast_int}
-use Rattle.desk_opening.proofs.Common.{cast_null, Place, Desk, Offers, places, table_at, name_of, desk_table, offer_table, newest, places_at, HoldsPlace}
-use Rattle.desk_opening.proofs.Common.{AreRowsOf, Content, HoldsRecords, Spot, IsHeld, content_at, content_of, desk_row, ledger_of, desk_terms, create_text_of}
-use Rattle.desk_opening.proofs.Common.{Before, HoldsBefore, HoldsPartly, IsEmptyTable, Nothing, Older, first_records, each_place, all_both, place_or_other}
-use Rattle.desk_opening.proofs.Common.{same_elsewhere, same_places, HoldsLedger, Ledger, same_some, place_named, is_named}
+use Rattle.desk_opening.proofs.Common.{option_map, ◌≡◌, ◌≢◌, inl, inr, ℕ, slice_index_or, ◌+◌, ◌<◌, ◌^◌, ◌==◌, Bool, true, false, List, [], ◌∷◌, ◌++◌, length}
+use Rattle.desk_opening.proofs.Common.{codes, pos, map, Some, None, Ok, find, if◌then◌else◌, refl, sym, ap, subst, ◌∙◌, arith, AllByRecursion, position_from}
+use Rattle.desk_opening.proofs.Common.{and_parts, eqb-true, Int, column, Schema, Table, Database, IsDatabase, CreateTable, Insert, Values, State, Writes, Has}
+use Rattle.desk_opening.proofs.Common.{same_name, next_tree, is_used, automatics, IsTableRow, all-slice_get, IsPermutation-same, table_defined_by, Stands}
+use Rattle.desk_opening.proofs.Common.{LeavesFree, HasNoForeignKey, ComparesBytes, Inserted, inserts, uncounted, given_rows, cast_int, cast_null, Place, Desk}
+use Rattle.desk_opening.proofs.Common.{Offers, places, table_at, name_of, desk_table, offer_table, newest, places_at, HoldsPlace, AreRowsOf, Content}
+use Rattle.desk_opening.proofs.Common.{HoldsRecords, Spot, IsHeld, content_at, content_of, desk_row, ledger_of, desk_terms, create_text_of, Before, HoldsBefore}
+use Rattle.desk_opening.proofs.Common.{HoldsPartly, IsEmptyTable, Nothing, Older, first_records, each_place, all_both, place_or_other, same_elsewhere}
+use Rattle.desk_opening.proofs.Common.{same_places, HoldsLedger, Ledger, same_some, place_named, is_named}
 use Rattle.sqlite_value.specs.declared.keys.Collation.TheVariants.{Binary}
 use Rattle.sqlite_value.specs.Keys.{plain, first_key}
 use Rattle.sqlite.specs.Order.{Row}
@@ -19,9 +19,6 @@ use Rattle.sqlite_rules.proofs.ListLemmas.{has_got, has_right}
 use Rattle.sqlite_keyed.proofs.ListLemmas.{all_weaker}
 use Rattle.sql_front.proofs.Created.{stands_kept, stands_last}
 use Rattle.sql_front.proofs.Grown.{Grown, grown}
-use Rattle.sqlite_rules.specs.Edit.{put_all, numbered}
-use Rattle.sqlite_rules.specs.Cast.{cast_row}
-use Rattle.sqlite.specs.Rowids.TheVariants.{Chosen}
 use Rattle.rollout_machine.specs.RecordSteps.{no_records}
 use Rattle.rollout_machine.proofs.Answering.{made_records}
 use Rattle.sql_calls.specs.Keyed.{IsHeldBy}
@@ -39,12 +36,9 @@ low_tree db front more t sound grown =
 
 -- ---- the indexes of a table
 
-its_tree : (table : Table) (index : Index) (sql : Value) → IsDefined table index sql → index.table ≡ table.tree
-its_tree table index sql is = grind arith
-
 -- in a sound database an index is that of a table, and so its tree is below the next
 index_owned : (db : Database) → IsDatabase db → (index : Index) → Has db.schema.indexes index → index.table < next_tree db.schema
-index_owned db sound index there = grind (arith, zipped_left, its_tree, column, table_below)
+index_owned db sound index there = grind (arith, zipped_left, column, table_below)
 
 -- each index that SQLite makes is in plain order
 plain_order : (t : Place) (k : ℕ) → slice_index_or (table_at t 0).orders k plain ≡ plain
@@ -75,14 +69,9 @@ module _ (t : Place) (before : Before) (made left : List Place) (apart : AllByRe
   g : Grown s (table_at t 0) old.now new.now
   g = grown s (table_at t 0) (create_text_of t) (is_place t).defined old new refl [] count w
 
-  free : is_used s (table_at t 0).name ≡ false
-  free = was.free.0
-
-  low : next_tree s < 2 ^ 31
-  low = low_tree new.now s.tables g.more new_table w.sound g.tables
-
   made_last : Stands new.now.schema (name_of t) (length s.tables) (table_at t (next_tree s))
-  made_last = stands_last s new.now.schema (table_at t 0) g.more g.tables ((is_place t).bare.references, g.bare) free (same_itself (table_at t 0).name) low
+  made_last = stands_last s new.now.schema (table_at t 0) g.more g.tables ((is_place t).bare.references, g.bare) was.free.0
+      (same_itself (table_at t 0).name) (low_tree new.now s.tables g.more new_table w.sound g.tables)
 
   -- a table that stood keeps its place, its rows and its indexes
   module _ (u : Place) (at tree : ℕ) (stands : Stands s (name_of u) at (table_at u tree)) where
@@ -165,9 +154,7 @@ module _ (before : Place → Content) (l : Ledger) (old new : Database) (spot : 
   one_place t same =
       let both : Some (table_at t (spot t).tree) ≡ Some (table_at Desk (spot Desk).tree) = sym (stands t).found
       ∙ ap (λ n. find (λ (x : Table). x.tree == n) old.schema.tables) same ∙ (stands Desk).found in
-      let tables : table_at t (spot t).tree ≡ table_at Desk (spot Desk).tree = cc in
-      let named : Some t ≡ Some Desk = sym (is_named t) ∙ ap (λ (x : Table). place_named x.name) tables ∙ is_named Desk in
-      cc
+      cc (ap (option_map (λ (x : Table). place_named x.name)) both, is_named t, is_named Desk)
 
   pub desk_written : LeavesRows old new (spot Desk).tree → IsHeld l Desk (new.trees (spot Desk).tree)
       → ((t : Place) → t ≢ Desk → content_of l t ≡ before t) → are_sorted l.records.targets ≡ true
@@ -189,22 +176,11 @@ module _ (before : Place → Content) (l : Ledger) (old new : Database) (spot : 
 
 -- ---- the row of `desk`
 
-only_row : (approval : Bool) (tree : ℕ)
-    → put_all [] (numbered Chosen []
-    (map (λ s. cast_row (uncounted (desk_table tree)) (drop 0 s))
-    (given_rows (uncounted (desk_table tree)) (Int (if approval then pos 1 else pos 0) ∷ []) desk_terms 5))) ≡ desk_row newest approval ∷ []
-only_row approval tree = grind (arith, cast_int, cast_null)
-
 none_held : (rows : List Row) → rows ≡ [] → IsHeldBy rows []
 none_held rows empty = subst (λ l. IsHeldBy l []) (sym empty) (record { order = []; rising = tt; same = IsPermutation-same [] [] refl })
 
 pub no_rows : (c : Content) (rows : List Row) → rows ≡ [] → AreRowsOf (nothing c) rows
 no_rows c rows empty = grind (arith, none_held)
-
--- of no records every table but `desk` holds nothing
-nothing_held : (approval : Bool) (t : Place) → t ≢ Desk → content_of (ledger_of (no_records approval)) t
-    ≡ nothing (content_of (ledger_of (no_records approval)) t)
-nothing_held approval = grind (arith, same_elsewhere)
 
 module _ (approval : Bool) (old new : State) (text : List ℕ) (count : ℕ) (was : HoldsPartly old.now Nothing places [])
     (w : Writes old new None (Insert was.stand.0.at (Values desk_terms 5)) text (Int (if approval then pos 1 else pos 0) ∷ []) count) where
@@ -223,10 +199,7 @@ module _ (approval : Bool) (old new : State) (text : List ℕ) (count : ℕ) (wa
       (Int (if approval then pos 1 else pos 0) ∷ []) count w
 
   desk_rows : new.now.trees was.stand.0.tree ≡ desk_row newest approval ∷ []
-  desk_rows = made.applies.rows ∙ rw (was.stand.0.empty) (only_row approval was.stand.0.tree)
-
-  keyed : ComparesBytes here (offer_table (spot_of Offers).tree) 1
-  keyed index there guarding on = grind (arith, first_key, eqb-true, and_parts, first_plain)
+  desk_rows = made.applies.rows ∙ rw (was.stand.0.empty) (grind (arith, cast_int, cast_null))
 
   pub desk_filled : HoldsRecords new.now (first_records approval)
   desk_filled =
@@ -234,7 +207,8 @@ module _ (approval : Bool) (old new : State) (text : List ℕ) (count : ℕ) (wa
       subst (HoldsRecords new.now) (sym (made_records approval))
       (desk_written (λ t. nothing (content_of empty t)) empty old.now new.now spot_of (λ t. (at_place t).stands)
       (λ t. no_rows (content_of empty t) (old.now.trees (spot_of t).tree) (at_place t).empty)
-      (record { schema = made.schema_is; sound = w.sound; others = made.applies.tables }) desk_rows (nothing_held approval) refl keyed)
+      (record { schema = made.schema_is; sound = w.sound; others = made.applies.tables }) desk_rows (grind (arith, same_elsewhere)) refl
+      (λ index there guarding on. grind (arith, first_key, eqb-true, and_parts, first_plain)))
 
 -- ---- the tables that are found are the desk's
 

@@ -1,6 +1,6 @@
 -- The tables of a version, as the code lists them.
-use native.Mathlib.Omega.{arith}
-use Rattle.desk_opening.proofs.Common.{◌≡◌, ◌<◌, ◌≤◌, ℕ, Bool, true, false, not, IsTrue, sym, List, map, length, take, get_or, Some, subst, AllByRecursion}
+use Rattle.desk_opening.proofs.Common.{arith, ◌≡◌, ◌<◌, ◌≤◌, ℕ, Bool, true, false, not, IsTrue, sym, List, map, length, take, get_or, Some, subst}
+use Rattle.desk_opening.proofs.Common.{AllByRecursion}
 use Rattle.desk_opening.proofs.Common.{list_any, take_all, Schema, table_named, none_from_any, is_used, LeavesFree, Place, name_of, DeskTable, place_of}
 use Rattle.sqlite_keyed.proofs.ListLemmas.{all_map, all_unmap, any_from_none}
 use Rattle.sqlite_trees.proofs.ListLemmas.{all-get_or}

@@ -1,12 +1,12 @@
 -- What the UPDATE of the version makes of the tables of an older version, beside later ones with no row.
-use Rattle.desk_opening.proofs.Common.{◌≡◌, ◌≢◌, ℕ, ◌+◌, pos, codes, List, [], ◌∷◌, map, Bool, None, refl, sym, subst, ◌∙◌, arith, AllByRecursion, Null, Int}
-use Rattle.desk_opening.proofs.Common.{Text, Row, Database, Update, State, Writes, Stands, ComparesBytes, cast_int, cast_null, passes, Records, AreRowsOf}
+use Rattle.desk_opening.proofs.Common.{◌≡◌, ◌≢◌, ℕ, pos, codes, List, [], ◌∷◌, map, Bool, None, refl, sym, subst, ◌∙◌, arith, AllByRecursion, Null, Int}
+use Rattle.desk_opening.proofs.Common.{Text, Row, Database, Update, State, Writes, Stands, ComparesBytes, cast_int, cast_null, Records, AreRowsOf}
 use Rattle.desk_opening.proofs.Common.{HoldsLedger, Spot, content_at, content_of, desk_row, ledger_of, HoldsPlace, flag, Place, Desk, Offers, desk_table}
 use Rattle.desk_opening.proofs.Common.{name_of, offer_table, table_at, later_than, newest, version_number, places_at, Version, each_place, set_version_query}
 use Rattle.desk_opening.proofs.Common.{version_values, is_equal, same_elsewhere, bare_ledger, HoldsPartly, IsEmptyTable, Older, Term, lit, col, and-true}
 use Rattle.desk_opening.proofs.RowLemmas.{judged}
 use Rattle.sqlite_sql.specs.Ops.{binary}
-use Rattle.sql_calls.proofs.NumberedTables.{has_number, sets_at}
+use Rattle.sql_calls.proofs.NumberedTables.{sets_at}
 use Rattle.sqlite_keyed.proofs.ListLemmas.{all_both}
 use Rattle.sql_calls.proofs.Updates.{Updated, updates}
 use Rattle.desk_opening.proofs.EachVersion.{at_all, has_offers, later_held, older_held, nothing}
@@ -18,10 +18,6 @@ first_desk = is_equal (col 1 0) (lit (Int (pos 1))) ∷ []
 -- the row, by its number, of a version and an approval
 abbrev numbered_row : ℕ → ℕ × Bool → Row
 numbered_row n it = Int (pos n) ∷ Null ∷ Text (codes "fwdesk") ∷ Int (pos it.0) ∷ Int (pos (flag it.1)) ∷ []
-
-first_passes : (m : ℕ) (it : ℕ × Bool) → passes first_desk [] (numbered_row m it) ≡ has_number numbered_row (λ n x. refl) (1 + 0) (numbered_row m it)
-unfolding binary
-first_passes m it = and-true _ ∙ judged _
 
 module _ (v : Version) (r : Records) where
   -- a table that stands and has what is told of the records
@@ -76,8 +72,10 @@ module _ (v : Version) (r : Records) where
           (stand_at Desk).keyless old new refl text [] count w
 
       version_set : new.now.trees tree ≡ desk_row newest r.approval ∷ []
+      unfolding binary
       version_set = sets_at numbered_row (λ n x. refl) old.now.schema (desk_table tree) first_desk version_values [] old.now new.now 0
-          ((version_number v, r.approval) ∷ []) (version_number v, r.approval) (version_number newest, r.approval) refl (omega arith) first_passes
+          ((version_number v, r.approval) ∷ []) (version_number v, r.approval) (version_number newest, r.approval) refl (omega arith)
+          (λ m it. and-true _ ∙ judged _)
           (rw (cast_null, cast_int (version_number newest), cast_int (flag r.approval)) refl) (held_in old.now was Desk) made
 
       pub desk_renewed : HoldsLedger new.now (bare_ledger v r)

@@ -1,8 +1,8 @@
-use Rattle.desk_opening.proofs.Common.{◌≡◌, None, state, Null, RunsText, GroupRule, rule_row, PUT_RULE}
+use Rattle.desk_opening.proofs.Common.{arith, ◌≡◌, None, Null, GroupRule}
 use Rattle.sqlite_value.specs.Value.{owned}
 use Rattle.desk_records.proofs.PartWrites.{adds_rule}
 use Rattle.desk_records.proofs.RolloutMeaning.{put_rule_is}
-use Rattle.desk_store.proofs.WriteCalls.{puts, written}
+use Rattle.desk_store.proofs.WriteCalls.{puts, writes}
 use Rattle.desk_opening.proofs.FillLemmas.{put_stays}
 use Rattle.desk_opening.proofs.filling.write_rule.Goals as goal
 
@@ -13,7 +13,4 @@ pub returns-clause-writes : goal.returns-clause-writes
 returns-clause-writes g c =
     let it : GroupRule = record { percentage = None; success = c.args.success; error = c.args.error } in
     let percentage : owned c.params-to_sql-3.result ≡ Null = c.params-to_sql-3.ensures in
-    let ran : RunsText (state g.S.Store c.args.calls.now.conn) (state g.S.Store c.run.new.calls.conn) PUT_RULE.now (rule_row c.args.number c.args.group it)
-    c.run.result =
-    rw (c.params-to_sql.ensures, c.params-to_sql-2.ensures, percentage, c.params-to_sql-4.ensures, c.params-to_sql-5.ensures) at c.run.ensures.runs in
-    written (puts put_rule_is) (adds_rule c.args.number c.args.group it _ _ _) c.run.result ran
+    writes (puts put_rule_is) (adds_rule c.args.number c.args.group it _ _ _) c.run.ensures.runs (grind (arith, percentage))

@@ -15,16 +15,14 @@ returns-in_err-make_tables-clause-makes g c = makes_by _
     (breaks (began_new c.in_ok-run.ensures.runs) (c.in_err-make_tables.ensures.makes Nothing) _ c.from_residual-in_err-make_tables.ensures.0)
 
 pub returns-in_err-run-2-clause-makes : goal.returns-in_err-run-2-clause-makes
-returns-in_err-run-2-clause-makes g c =
-    let made = goes (began_new c.in_ok-run.ensures.runs) (c.in_ok-make_tables.ensures.makes Nothing) in
-    let put = desk_put c.args.approval _ (rw c.params-to_sql.ensures at c.in_err-run-2.ensures.runs) in
-    makes_by _ (breaks made put _ c.from_residual-in_err-run-2.ensures.0)
+returns-in_err-run-2-clause-makes g c = makes_by _ (breaks (goes (began_new c.in_ok-run.ensures.runs) (c.in_ok-make_tables.ensures.makes Nothing))
+    (desk_put c.args.approval _ (rw c.params-to_sql.ensures at c.in_err-run-2.ensures.runs)) _ c.from_residual-in_err-run-2.ensures.0)
 
 pub returns-in_err-run-3-clause-makes : goal.returns-in_err-run-3-clause-makes
 returns-in_err-run-3-clause-makes g c =
-    let made = goes (began_new c.in_ok-run.ensures.runs) (c.in_ok-make_tables.ensures.makes Nothing) in
     let put = desk_put c.args.approval _ (rw c.params-to_sql.ensures at c.in_ok-run-2.ensures.runs) in
-    makes_by _ (not_ended (goes made put) c.in_err-run-3.ensures.runs _ c.from_residual-in_err-run-3.ensures.0)
+    makes_by _ (not_ended (goes (goes (began_new c.in_ok-run.ensures.runs) (c.in_ok-make_tables.ensures.makes Nothing)) put) c.in_err-run-3.ensures.runs _
+    c.from_residual-in_err-run-3.ensures.0)
 
 pub returns-clause-makes : goal.returns-clause-makes
 returns-clause-makes g c =

@@ -1,6 +1,5 @@
 use Rattle.desk_opening.proofs.AdoptLemmas.{looked_at, stays_newest}
 use Rattle.desk_opening.proofs.CauseLemmas.{looked_fails}
-use Rattle.desk_opening.proofs.CountLemmas.{named}
 use Rattle.desk_opening.proofs.opening.renew.Goals as goal
 
 pub returns-in-Three-clause-renews : goal.returns-in-Three-clause-renews
@@ -13,7 +12,3 @@ pub returns-in-Ok-clause-fails : goal.returns-in-Ok-clause-fails
 returns-in-Ok-clause-fails g c = looked_fails g.S.Store c.args.version c.in-Ok.ensures.grows.failures c.in-Ok.ensures.migrates c.in-Ok.ensures.opened _
     c.schema.ensures
     c.look_again.result c.look_again.ensures.missing
-
-pub returns-in-Err-clause-fails : goal.returns-in-Err-clause-fails
-returns-in-Err-clause-fails g c = named c.in-Err.fault c.in-Err.ensures.grows (λ it. (c.in-Err.ensures.fails.to it.0 it.1 it.2 it.3).sound)
-    c.open_fault.result c.open_fault.ensures.store

@@ -1,4 +1,3 @@
-use Rattle.desk_opening.proofs.CountLemmas.{named, seen_counts}
 use Rattle.desk_opening.proofs.RowLemmas.{tells_none, tells_seen}
 use Rattle.desk_opening.proofs.opening.see_version.Goals as goal
 
@@ -8,10 +7,3 @@ returns-in-Ok-Some-clause-tells g c = λ clean table. tells_seen _ _ _ _ _ c.jud
 
 pub returns-in-Ok-None-clause-tells : goal.returns-in-Ok-None-clause-tells
 returns-in-Ok-None-clause-tells g c = λ clean table. tells_none _ _ _ c.in-Ok-None.field-0-is c.in-Ok-None.ensures.takes clean table
-
-pub returns-in-Ok-Some-clause-counts : goal.returns-in-Ok-Some-clause-counts
-returns-in-Ok-Some-clause-counts g c = seen_counts c.in-Ok-Some.ensures.counts.grows.failures c.judge_whole.result c.judge_whole.ensures.memory
-
-pub returns-in-Err-clause-counts : goal.returns-in-Err-clause-counts
-returns-in-Err-clause-counts g c = named c.in-Err.fault c.in-Err.ensures.counts.grows (λ so. c.in-Err.ensures.counts.sound.to.sound) c.open_fault.result
-    c.open_fault.ensures.store

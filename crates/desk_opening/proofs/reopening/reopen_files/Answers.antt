@@ -1,22 +1,21 @@
-use Rattle.desk_opening.proofs.Common.{Ok, image_of, file_state}
 use Rattle.desk_opening.proofs.ReopenLemmas.{begins_plain, refuses_calls, reopens}
 use Rattle.desk_opening.proofs.SparingLemmas.{spares}
 use Rattle.desk_opening.proofs.reopening.reopen_files.Goals as goal
 
 pub returns-in-Ok-open_desk-clause-reopened : goal.returns-in-Ok-open_desk-clause-reopened
-returns-in-Ok-open_desk-clause-reopened g c = reopens (image_of g.D.Disk c.args.files) (file_state c.in-Ok.conn) c.in-Ok.ensures.opened
-    (λ clean. (c.in-Ok.ensures.found clean).holds) (λ clean. (c.in-Ok.ensures.found clean).reads) c.open_desk.ensures.settled {Y = Unit {0}} file_state
-    c.args.approval_if_new (Ok c.in-Ok-open_desk.opened) c.in-Ok-open_desk.ensures.opened
+returns-in-Ok-open_desk-clause-reopened g c = reopens c.in-Ok.ensures.opened
+    (λ clean. let it = c.in-Ok.ensures.found clean in record { holds = it.holds; reads = it.reads }) c.open_desk.ensures.settled
+    c.in-Ok-open_desk.ensures.opened
 
 pub returns-in-Ok-open_desk-clause-plain : goal.returns-in-Ok-open_desk-clause-plain
-returns-in-Ok-open_desk-clause-plain g c = begins_plain (image_of g.D.Disk c.args.files) c.args.approval_if_new c.in-Ok.conn
-    (λ clean. let it = c.in-Ok.ensures.found clean in record { holds = it.holds; reads = it.reads }) c.in-Ok.ensures.plain {E = Unit {0}}
-    (Ok c.in-Ok-open_desk.opened) c.in-Ok-open_desk.ensures.opened
+returns-in-Ok-open_desk-clause-plain g c =
+    begins_plain c.in-Ok.conn (λ clean. let it = c.in-Ok.ensures.found clean in record { holds = it.holds; reads = it.reads })
+    c.in-Ok.ensures.plain c.in-Ok-open_desk.ensures.opened
 
 pub returns-in-Err-open_desk-clause-refused : goal.returns-in-Err-open_desk-clause-refused
-returns-in-Err-open_desk-clause-refused g c = refuses_calls (image_of g.D.Disk c.args.files) (file_state c.in-Ok.conn) c.in-Ok.ensures.opened
-    (λ clean. (c.in-Ok.ensures.found clean).holds) (λ clean. (c.in-Ok.ensures.found clean).reads) c.open_desk.ensures.settled _ c.args.approval_if_new
-    c.in-Err-open_desk.fault c.in-Err-open_desk.calls c.in-Err-open_desk.ensures.refused c.in-Err-open_desk.ensures.fails
+returns-in-Err-open_desk-clause-refused g c = refuses_calls c.in-Ok.ensures.opened
+    (λ clean. let it = c.in-Ok.ensures.found clean in record { holds = it.holds; reads = it.reads }) c.open_desk.ensures.settled
+    c.in-Err-open_desk.ensures.refused c.in-Err-open_desk.ensures.fails
 
 pub returns-in-Err-clause-refused : goal.returns-in-Err-clause-refused
 returns-in-Err-clause-refused g c = λ clean. spares g.D.Disk g.met.D.Disk.seen_may_stay c.args.files _ (λ image out. out) c.in-Err.error c.in-Err.left
