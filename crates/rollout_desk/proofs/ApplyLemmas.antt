@@ -1,11 +1,10 @@
 -- From the calls of the store to one request of a desk.
-use Rattle.rollout_desk.proofs.Common.{◌≡◌, ◌≢◌, ◌⊎◌, inl, inr, Bool, false, Option, Some, None, Ok, refl, sym, subst, ap, ◌∙◌, arith, cases_Bool, false≢true}
-use Rattle.rollout_desk.proofs.Common.{Trees, State, HasCleanDisk, HoldIn, IsAtRest, Rests, Doubts, Begins, Keeps, Opens, Sees, Spoiled, Wears, Answer}
-use Rattle.rollout_desk.proofs.Common.{answer, CommandList, ◌▸◌, followed_by, Command, Records, records, step_records, Reply, Refused, Request}
-use Rattle.rollout_desk.proofs.Common.{Do, Asks, one, StandsFor, Becomes, AppliesAt, IsValid, reply_of, refused_answer}
-use Rattle.rollout_desk.proofs.Common.{accepted_step, records_step, answer_never_stores, failed_true, Refusal, StoreFailed, NoMemory, HoldsList, desk_state_at}
-use Rattle.rollout_desk.proofs.Common.{rest_shows, Fault, is_failed_store, refusal_of_fault, Handles, EndsByCommit, EndsByRollback}
-use Rattle.rollout_desk.proofs.Common.{HoldsLedger, HoldsRecords, Ledger, ledger_of, HoldsReadable}
+use Rattle.rollout_desk.proofs.Common.{◌≡◌, ◌≢◌, ◌⊎◌, inl, inr, Bool, false, Option, Some, None, Ok, refl, sym, subst, ap, ◌∙◌, arith}
+use Rattle.rollout_desk.proofs.Common.{Trees, State, HasCleanDisk, HoldIn, IsAtRest, Rests, Doubts, Begins, Keeps, Opens, Sees, Spoiled, Wears, Answer, answer}
+use Rattle.rollout_desk.proofs.Common.{CommandList, ◌▸◌, followed_by, Command, Records, records, step_records, Reply, Refused, Request, Do, Asks, one}
+use Rattle.rollout_desk.proofs.Common.{StandsFor, Becomes, AppliesAt, IsValid, reply_of, refused_answer, accepted_step, records_step, answer_never_stores}
+use Rattle.rollout_desk.proofs.Common.{failed_true, Refusal, StoreFailed, NoMemory, HoldsList, desk_state_at, rest_shows, Fault, is_failed_store}
+use Rattle.rollout_desk.proofs.Common.{refusal_of_fault, Handles, EndsByCommit, EndsByRollback, HoldsLedger, HoldsRecords, Ledger, ledger_of, HoldsReadable}
 use Rattle.rollout_model.specs.declared.request.Reply as model
 use Rattle.rollout_machine.specs.CommandRules.{IsWellFormed}
 use Rattle.rollout_machine.specs.Verdicts.{check}
@@ -15,14 +14,8 @@ use Rattle.desk_records.proofs.Readable.{newest_is_readable}
 
 -- ---- the reply of a failed store
 
-pub not_failed : (reply : Reply) → reply ≢ Refused StoreFailed → is_failed_store reply ≡ false
-not_failed reply never = elim (cases_Bool (is_failed_store reply)) [
-  | inl failed ↦ absurd (never (failed_true reply failed))
-  | inr other ↦ other
-]
-
-no_memory_is_no_failure : (reply : Reply) → reply ≡ Refused NoMemory → reply ≢ Refused StoreFailed
-no_memory_is_no_failure reply is failed = false≢true (sym (ap is_failed_store is) ∙ ap is_failed_store failed)
+not_failed : (reply : Reply) → reply ≢ Refused StoreFailed → is_failed_store reply ≡ false
+not_failed reply never = grind (arith, failed_true reply)
 
 -- the reply of a fault
 abbrev pub IsFailure : Reply → Type 0
@@ -48,14 +41,6 @@ becomes_list s h reply accepted never standing = record {
   stands = λ other. subst (λ (b : Bool). StandsFor (desk_state_at HoldsRecords b s) (followed_by h (one accepted))) (sym (not_failed reply never)) standing;
 }
 
-becomes_doubt : (s : State) (h : CommandList) (reply : Reply) (accepted : Option Command) → reply ≡ Refused StoreFailed
-    → ((db : Trees) → s.may_leave db → HoldsList db h ⊎ HoldsList db (followed_by h (one accepted)))
-    → Becomes (desk_state_at HoldsRecords (is_failed_store reply) s) h reply accepted
-becomes_doubt s h reply accepted failed crash = record {
-  in_doubt = λ is. record { stopped = ap is_failed_store failed; crash = crash };
-  stands = λ never. absurd (never failed);
-}
-
 module _ (h : CommandList) (valid : IsValid h) (s : State) (request : Request) (reply : Reply) where
   in_doubt : reply ≡ Refused StoreFailed
       → ((db : Trees) → s.may_leave db → HoldsList db h ⊎ HoldsList db (followed_by h (one (answer h (Asks request)).accepted)))
@@ -63,8 +48,7 @@ module _ (h : CommandList) (valid : IsValid h) (s : State) (request : Request) (
   in_doubt failed crash = record {
     accepted = (answer h (Asks request)).accepted;
     answers = inr (inl (failed, refl));
-    becomes =
-        becomes_doubt s h reply _ failed crash;
+    becomes = record { in_doubt = λ is. record { stopped = ap is_failed_store failed; crash = crash }; stands = λ never. absurd (never failed) };
   }
 
   left_alone : reply ≡ Refused StoreFailed → ((db : Trees) → s.may_leave db → HoldIn HoldsRecords db (records h))
@@ -76,8 +60,7 @@ module _ (h : CommandList) (valid : IsValid h) (s : State) (request : Request) (
   without_memory is rest = record {
     accepted = None;
     answers = inl (is, refl);
-    becomes = becomes_list s h reply None (no_memory_is_no_failure reply is)
-        (stands s h valid rest);
+    becomes = becomes_list s h reply None (λ failed. absurd cc) (stands s h valid rest);
   }
 
   failed : IsFailure reply → IsAtRest HoldsRecords s (records h) → AppliesAt h (desk_state_at HoldsRecords (is_failed_store reply) s) (Asks request) reply
@@ -153,15 +136,13 @@ module _ (a b : State) (begins : Begins HoldsLedger a b) (c d : State) where
   abbrev GoesOn : Type 0
   GoesOn = (kept : Ledger) → Opens HoldsLedger b kept → Opens HoldsLedger c kept
 
-  spoils : GoesOn → LeavesSpoiled
-  spoils goes kept was = (goes kept was).spoiled
-
   -- ---- a command
 
   module _ (command : Command) where
     pub refused : {E : Type 0} (refusal : Refusal) → GoesOn → Steps {E = E} b c command (Ok (step.Refused refusal)) → (reply : Reply)
         → EndsByRollback c d (Refused refusal) reply → Handles HoldsRecords a d (Do command) reply
-    refused refusal goes steps = found (Do command) (Refused refusal) steps.wears (spoils goes) (λ (r : Records). check r command ≡ Some refusal)
+    refused refusal goes steps = found (Do command) (Refused refusal) steps.wears (λ kept was. (goes kept was).spoiled)
+        (λ (r : Records). check r command ≡ Some refusal)
         (λ h valid is. sym (refused_answer h command refusal is)) steps.steps
 
     pub broken : (made : Reply) → LeavesSpoiled → Wears b c → IsFailure made → (reply : Reply) → EndsByRollback c d made reply
@@ -183,7 +164,7 @@ module _ (a b : State) (begins : Begins HoldsLedger a b) (c d : State) where
             | inl it ↦ answered h was.valid d (Do command) reply (Some command)
                 (ap (λ (x : Reply). record { reply = x; accepted = Some command }) (it.0 ∙ facts.1) ∙ sym is)
                 (stands d (h ▸ command) longer (subst (IsAtRest HoldsRecords d) (sym follows) (rests_records d (step_records r command) (it.1 _ done.0) clean)))
-            | inr it ↦ in_doubt h was.valid d (Do command) reply it.0 (λ db left. elim ((it.1 _ _ done.0 (spoils goes _ (opened h was)) clean).crash db left) [
+            | inr it ↦ in_doubt h was.valid d (Do command) reply it.0 (λ db left. elim ((it.1 _ _ done.0 (goes _ (opened h was)).spoiled clean).crash db left) [
               | inl one ↦ inl (was.valid, readable db r one)
               | inr one ↦ inr (subst (λ (o : Option Command). HoldsList db (followed_by h (Rattle.rollout_machine.specs.Requests.one o)))
                   (sym (ap (λ (x : Answer). x.accepted) is)) (longer, readable db _ (subst (HoldIn HoldsRecords db) (sym follows) one)))

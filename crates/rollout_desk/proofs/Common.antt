@@ -1,8 +1,7 @@
 -- The names of other modules that the proofs here cite, passed on from one place. Declares nothing.
 pub use Rattle.std.proofs.Common.{All, Bool, Contains, Err, IfErr, IfOk, IsTrue, List, None, Ok, Option, Result, Some, Vec, [], add-one, ap, append-nil, arith}
-pub use Rattle.std.proofs.Common.{cond, drop, false, find, get_or, inl, inr, is_some, length, length-drop, length-take, map, min, nat_eq, not, refl, rules}
-pub use Rattle.std.proofs.Common.{slice_get, subst, suc, sym, take, true, vec_capacity, vec_len, zero, ℕ, ◌&&◌, ◌*◌, ◌++◌, ◌+◌, ◌-◌, ◌<◌, ◌||◌, ◌∙◌, ◌∷◌, ◌≡◌}
-pub use Rattle.std.proofs.Common.{◌≢◌, ◌≤◌, ◌⊎◌}
+pub use Rattle.std.proofs.Common.{cond, drop, false, get_or, inl, inr, is_some, length, length-drop, length-take, map, min, nat_eq, refl, rules, slice_get}
+pub use Rattle.std.proofs.Common.{subst, suc, sym, take, true, vec_capacity, vec_len, zero, ℕ, ◌&&◌, ◌*◌, ◌++◌, ◌+◌, ◌<◌, ◌||◌, ◌∙◌, ◌∷◌, ◌≡◌, ◌≢◌, ◌≤◌, ◌⊎◌}
 pub use Rattle.std.proofs.lemmas.Bool.{and_parts, cases_Bool, eqb-true, false≢true, not-true, or_right}
 pub use Rattle.std.specs.Option.{option_map, unwrap_or}
 pub use Rattle.std.specs.declared.alloc.Global.{Global}
@@ -19,31 +18,28 @@ pub use Rattle.sqlite_disk.specs.declared.Files.{Files}
 pub use Rattle.sqlite_store.specs.declared.store.FileStore.{FileStore}
 pub use Rattle.rollout_model.specs.Limits.{piece_length}
 pub use Rattle.rollout_model.specs.declared.refusal.Refusal.{Refusal}
-pub use Rattle.rollout_model.specs.declared.refusal.Refusal.TheVariants.{NoMemory, NotFound, Stopped, StoreFailed, Unauthorized}
+pub use Rattle.rollout_model.specs.declared.refusal.Refusal.TheVariants.{NoMemory, NotFound, StoreFailed, Unauthorized}
 pub use Rattle.rollout_machine.proofs.Answering.{accepted_step, query_answer, refused_answer}
 pub use Rattle.rollout_machine.proofs.Main.{records_step}
 pub use Rattle.rollout_machine.proofs.StoreFailures.{answer_never_stores, failed_true}
-pub use Rattle.rollout_machine.specs.Answers.{Answer, MayAnswer, action_of_target, answer, artifact_if, artifact_named, artifact_of_module, download}
-pub use Rattle.rollout_machine.specs.Answers.{for_device, if_found, is_offer_of, modules_offered, query_reply, targets_matching, targets_reply}
+pub use Rattle.rollout_machine.specs.Answers.{Answer, MayAnswer, answer, artifact_if, artifact_named, artifact_of_module, for_device, if_found, is_offer_of}
+pub use Rattle.rollout_machine.specs.Answers.{modules_offered, query_reply, targets_reply}
 pub use Rattle.rollout_machine.specs.ByteStrings.{contains_word, item_numbered, same_bytes}
 pub use Rattle.rollout_machine.specs.CommandList.{CommandList, Make, followed_by, ◌▸◌}
 pub use Rattle.rollout_machine.specs.Commands.{Bytes, Command, Credential, TargetRow}
 pub use Rattle.rollout_machine.specs.RecordSteps.{step_records}
 pub use Rattle.rollout_machine.specs.Records.{ArtifactRecord, Records, added_artifacts, artifacts, records}
-pub use Rattle.rollout_machine.specs.Replies.{ArtifactShown, CancelShown, ContentsShown, DeploymentShown, PollShown, Refused, Reply}
-pub use Rattle.rollout_machine.specs.Requests.{Ask, Asked, Asks, Do, Download, Page, Poll, Query, Request, ShowAction, ShowActionsTable, ShowArtifact}
-pub use Rattle.rollout_machine.specs.Requests.{ShowArtifacts, ShowCancel, ShowContents, ShowDeployment, ShowGroup, ShowGroupTargets, ShowGroups, ShowHistory}
-pub use Rattle.rollout_machine.specs.Requests.{ShowModule, ShowModules, ShowReport, ShowRollout, ShowRollouts, ShowSet, ShowSets, ShowTarget}
-pub use Rattle.rollout_machine.specs.Requests.{ShowTargetActions, ShowTargets, one}
+pub use Rattle.rollout_machine.specs.Replies.{ArtifactShown, ContentsShown, PollShown, Refused, Reply}
+pub use Rattle.rollout_machine.specs.Requests.{Ask, Asked, Asks, Do, Download, Page, Poll, Query, Request, ShowArtifact, ShowContents, one}
 pub use Rattle.rollout_machine.specs.Standing.{Applies, AppliesAt, Becomes, DeskState, IsInDoubt, StandsFor, StaysStopped}
 pub use Rattle.rollout_machine.specs.StoreFailures.{is_failed_store, is_store}
 pub use Rattle.rollout_machine.specs.Validity.{IsValid}
 pub use Rattle.rollout_machine.specs.Views.{command_of, query_of, reply_of, request_of}
 pub use Rattle.contents_handler.specs.Downloads.{BeginsAt, HandsPieces, Sends, next_length, sent}
 pub use Rattle.sql_calls.proofs.FrameEnds.{rest_shows}
-pub use Rattle.sql_calls.specs.Standing.{Begins, Doubts, Finds, HoldIn, IsAtRest, Keeps, Opens, Rests, Sees, Spoiled, Wears}
+pub use Rattle.sql_calls.specs.Standing.{Begins, Doubts, HoldIn, IsAtRest, Keeps, Opens, Rests, Sees, Spoiled, Wears}
 pub use Rattle.sql_calls.specs.declared.fault.Fault.{Fault}
-pub use Rattle.sql_calls.specs.declared.fault.Fault.TheVariants.{Broken, Memory, Store}
+pub use Rattle.sql_calls.specs.declared.fault.Fault.TheVariants.{Broken, Store}
 pub use Rattle.desk_records.proofs.WholeArtifacts.{IsWhole, all_whole}
 pub use Rattle.desk_records.specs.Artifacts.{piece_numbered, pieces_in, pieces_of_artifact}
 pub use Rattle.desk_records.specs.Holds.{HoldsLedger, HoldsRecords, Ledger, ledger_of}
@@ -61,7 +57,3 @@ pub use Rattle.rollout_desk.specs.Promises.{Describes, DownloadsItsOffer, IsProm
 pub use Rattle.rollout_desk.specs.Runs.{BreaksOff, EndsRun, RequestExchange, GoesOn, IsRun, RunsThrough, accepted_of}
 pub use Rattle.rollout_desk.specs.Sizes.{AnswersIn, KeepsOffer, KeepsOffers, KeepsSizes}
 pub use Rattle.rollout_desk.specs.Verifying.{FindsDamage, HasCause, IsNeverDamaged}
-pub use Rattle.rollout_machine.specs.Objects.{artifacts_shown}
-pub use Rattle.rollout_machine.specs.Offers.{offer}
-pub use Rattle.std.specs.List.{list_any}
-pub use Rattle.rollout_machine.specs.Verdicts.{is_known}

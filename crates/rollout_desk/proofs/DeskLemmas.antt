@@ -1,5 +1,5 @@
 -- From one request of a desk's store to the desk, which may be stopped.
-use Rattle.rollout_desk.proofs.Common.{◌≡◌, Bool, true, false, sym, ◌∙◌, arith, false≢true, Database, State, HasCleanDisk, Records, Reply, Request}
+use Rattle.rollout_desk.proofs.Common.{◌≡◌, Bool, true, false, sym, ◌∙◌, arith, false≢true, Database, State, Records, Reply, Request}
 use Rattle.rollout_desk.proofs.Common.{Asks, Applies, StaysStopped, desk_state_at, is_failed_store, Handles}
 
 module _ (Holds : Database → Records → Type 0) (old new : State) where
@@ -7,9 +7,6 @@ module _ (Holds : Database → Records → Type 0) (old new : State) where
   pub answers : (was stopped : Bool) (request : Request) (reply : Reply) → was ≡ false → Handles Holds old new request reply → stopped ≡ is_failed_store reply
       → Applies (desk_state_at Holds was old) (desk_state_at Holds stopped new) (Asks request) reply
   answers was stopped request reply runs h is list clean standing = grind arith
-
-  pub was_clean : {request : Request} {reply : Reply} → Handles Holds old new request reply → HasCleanDisk new → HasCleanDisk old
-  was_clean h clean = omega (arith, clean, h.wears)
 
 -- a stopped desk answers nothing else
 module _ (Holds : Database → Records → Type 0) (s : State) where

@@ -1,14 +1,12 @@
 -- From looks at the records, and from answers, to downloads.
-use Rattle.rollout_desk.proofs.Common.{◌≡◌, ◌≢◌, ◌≤◌, ◌<◌, inl, inr, ◌+◌, ◌*◌, ◌++◌, ℕ, zero, suc, List, [], ◌∷◌, Bool, true, false, cond, nat_eq, take, drop}
-use Rattle.rollout_desk.proofs.Common.{Vec, Option, Some, None, Result, Ok, Err, refl, sym, subst, ap, ◌∙◌, arith, Global, option_map, State, rest_shows}
-use Rattle.rollout_desk.proofs.Common.{HoldsRecords, piece_numbered, pieces_of_artifact, Answer, query_reply, if_found, artifact_if}
-use Rattle.rollout_desk.proofs.Common.{item_numbered, CommandList, followed_by, Bytes, Command, Credential, ArtifactRecord, Records}
-use Rattle.rollout_desk.proofs.Common.{added_artifacts, artifacts, Reply, Refused, ArtifactShown, ContentsShown, Ask, Asks, Request, ShowArtifact, ShowContents}
-use Rattle.rollout_desk.proofs.Common.{one, DeskState, StandsFor, Applies, reply_of, query_answer, piece_length, Refusal, NoMemory, StoreFailed}
-use Rattle.rollout_desk.proofs.Common.{desk_state_at, sent, next_length, BeginsAt, HandsPieces, artifact_in, BeginsOffered, HandsItsArtifact, IsNextOf}
-use Rattle.rollout_desk.proofs.Common.{RefusesContents, DownloadsGoOn, FindsDownload, Looks, bytes_of, IsPromised, length, length-take, length-drop}
-use Rattle.rollout_desk.proofs.Common.{Sends, HasCleanDisk, Ghosts}
-use Rattle.rollout_desk.proofs.Common.{state}
+use Rattle.rollout_desk.proofs.Common.{◌≡◌, ◌≢◌, ◌≤◌, ◌<◌, inl, inr, ◌+◌, ◌*◌, ◌++◌, ℕ, suc, List, [], ◌∷◌, Bool, true, false, cond, nat_eq, take, drop, Vec}
+use Rattle.rollout_desk.proofs.Common.{Option, Some, None, Result, Ok, Err, refl, sym, subst, ap, ◌∙◌, arith, Global, option_map, State, rest_shows}
+use Rattle.rollout_desk.proofs.Common.{HoldsRecords, piece_numbered, pieces_of_artifact, Answer, query_reply, if_found, artifact_if, item_numbered, CommandList}
+use Rattle.rollout_desk.proofs.Common.{followed_by, Bytes, Command, Credential, ArtifactRecord, Records, added_artifacts, artifacts, Reply, Refused}
+use Rattle.rollout_desk.proofs.Common.{ArtifactShown, ContentsShown, Ask, Asks, Request, ShowArtifact, ShowContents, one, DeskState, StandsFor, Applies}
+use Rattle.rollout_desk.proofs.Common.{reply_of, query_answer, piece_length, Refusal, StoreFailed, desk_state_at, sent, next_length, BeginsAt}
+use Rattle.rollout_desk.proofs.Common.{HandsPieces, artifact_in, BeginsOffered, HandsItsArtifact, IsNextOf, RefusesContents, DownloadsGoOn, FindsDownload}
+use Rattle.rollout_desk.proofs.Common.{Looks, bytes_of, IsPromised, length, length-take, length-drop, Sends, HasCleanDisk, Ghosts, state}
 use Rattle.desk_views.specs.Downloads.{downloadable}
 use Rattle.desk_views.proofs.DeviceViews.{answered_by}
 use Rattle.rollout_machine.specs.Objects.{artifact_shown}
@@ -60,15 +58,12 @@ none_numbered : (n : ℕ) → item_numbered {X = Bytes} [] n ≡ None
 none_numbered n = grind arith
 
 next_of : (h : CommandList) (p : Download) (piece : Bytes) → Some piece ≡ piece_numbered (records h).artifacts p.number (p.pieces + 1) → IsNextOf h p piece
-next_of h p piece is = go (item_numbered (records h).artifacts p.number) refl where
-  go : (x : Option ArtifactRecord) → item_numbered (records h).artifacts p.number ≡ x → IsNextOf h p piece
-  go None at =
-      let no : Some piece ≡ None = is ∙ ap (λ x. item_numbered (pieces_of_artifact x) (p.pieces + 1)) at ∙ none_numbered (p.pieces + 1) in
-      absurd cc
-  go (Some a) at =
-      let has : option_map (λ (x : ArtifactRecord). x.contents) (item_numbered (records h).artifacts p.number) ≡ Some a.contents =
-      ap (option_map (λ (x : ArtifactRecord). x.contents)) at in
+next_of h p piece is = elim (item_numbered (records h).artifacts p.number) as (λ x. item_numbered (records h).artifacts p.number ≡ x → IsNextOf h p piece) [
+  | None ↦ λ at. absurd (let no : Some piece ≡ None =
+      is ∙ ap (λ x. item_numbered (pieces_of_artifact x) (p.pieces + 1)) at ∙ none_numbered (p.pieces + 1) in cc)
+  | Some a ↦ λ at. let has = ap (option_map (λ (x : ArtifactRecord). x.contents)) at in
       record { contents = a.contents; artifact = has; next = piece_is (records h) p.number p.pieces a.contents piece has is }
+] refl
 
 module _ (was : Bool) (a b : State) (p : Download) where
   pub own_piece : (found : Found) (piece : Vec ℕ Global) → Looks HoldsRecords a b found (IsNextPiece p) → found ≡ Ok (Some piece) → was ≡ false
@@ -112,22 +107,15 @@ module _ {File : Type 0} (old new : DeskState File) (m k : ℕ) where
   abbrev for_contents : Option ArtifactRecord → Reply
   for_contents x = if_found (λ (a : ArtifactRecord). ContentsShown a.contents) x
 
-  same_refusal : (r : Reply) → ((shown : Artifact) → r ≢ ArtifactShown shown) → (x : Option ArtifactRecord) → r ≡ for_artifact x → r ≡ for_contents x
-  same_refusal r never x is = grind arith
-
   -- the contents are refused as the artifact is
   pub contents_refused : (r : Reply) → ((shown : Artifact) → r ≢ ArtifactShown shown) → Applies old new (Asks (Ask (ShowArtifact m k))) r
       → Applies old new (Asks (Ask (ShowContents m k))) r
-  contents_refused r never applies h clean standing = grind (arith, query_answer, same_refusal)
-
-  refused_as : (r : Reply) → ((shown : Artifact) → r ≢ ArtifactShown shown) → (x : Option ArtifactRecord) → r ≡ for_artifact x → (refusal : Refusal)
-      × (r ≡ Refused refusal)
-  refused_as r never x is = grind arith
+  contents_refused r never applies h clean standing = grind (arith, query_answer)
 
   -- an answer that shows no artifact refuses
   pub refuses : (r : Reply) → ((shown : Artifact) → r ≢ ArtifactShown shown) → Applies old new (Asks (Ask (ShowArtifact m k))) r
       → RefusesContents old new (ShowContents m k) r
-  refuses r never applies h clean standing = grind (arith, refused_as, query_answer)
+  refuses r never applies h clean standing = grind (arith, query_answer)
 
   module _ (shown : Artifact) (h : CommandList) (standing : StandsFor new h) where
     abbrev Begun : Type 0
@@ -158,9 +146,9 @@ module _ {File : Type 0} (old new : DeskState File) (m k : ℕ) where
   begun shown applies h clean standing =
       let it = applies h clean standing in
       elim it.answers [
-        | inl none ↦ absurd (not_refused NoMemory none.0)
+        | inl none ↦ absurd (let no = none.0 in cc)
         | inr other ↦ elim other [
-          | inl failed ↦ absurd (not_refused StoreFailed failed.0)
+          | inl failed ↦ absurd (let no = failed.0 in cc)
           | inr found ↦
               let same : ArtifactShown shown ≡ query_reply (records h) (ShowArtifact m k) =
               ap (λ (x : Answer). x.reply) (found.1 ∙ query_answer h (ShowArtifact m k)) in
@@ -168,9 +156,7 @@ module _ {File : Type 0} (old new : DeskState File) (m k : ℕ) where
               begun_at shown h (subst (λ (o : Option Command). StandsFor new (followed_by h (one o))) none (it.becomes.stands found.0))
               (item_numbered (records h).artifacts k) refl same
         ]
-      ] where
-        not_refused : (refusal : Refusal) → ArtifactShown shown ≢ Refused refusal
-        not_refused refusal is = absurd cc
+      ]
 
 -- ---- what a device downloads
 
@@ -201,10 +187,8 @@ module _ {S : Type 0} (g : Ghosts S) (old new : Calls S) (device : Credential) (
   looked_for (Err refusal) it = record {
     wears = it.wears;
     finds = (shown (state g old.conn) (state g new.conn) (Ask (DownloadOf device m filename)) it.wears (Refused refusal) it.to.1
-        (λ h was clean. (λ i. record {
-          reply = sym (answered_by m filename (records h) device (Err refusal) (is_found (Err refusal) it h was clean)) i;
-          accepted = None;
-        }) ∙ sym (query_answer h (DownloadOf device m filename)))).handles;
+        (λ h was clean. ap answered (sym (answered_by m filename (records h) device (Err refusal) (is_found (Err refusal) it h was clean)))
+        ∙ sym (query_answer h (DownloadOf device m filename)))).handles;
   }
 
   pub looked_in_vain : (refusal : Refusal) → LooksFor (Err refusal) → FindsIt (Err refusal)
@@ -250,10 +234,8 @@ module _ (a : State) (device : Credential) (m : ℕ) (filename : Bytes) where
 found_still : (xs ys : List ArtifactRecord) (number : ℕ) (contents : Bytes) → option_map (λ (a : ArtifactRecord). a.contents) (item_numbered xs number)
     ≡ Some contents
     → option_map (λ (a : ArtifactRecord). a.contents) (item_numbered (xs ++ ys) number) ≡ Some contents
-found_still xs ys zero contents is = absurd cc
-found_still [] ys (suc k) contents is = absurd cc
-found_still (a ∷ xs) ys (suc zero) contents is = is
 found_still (a ∷ xs) ys (suc (suc k)) contents is = found_still xs ys (suc k) contents is
+found_still xs ys number contents is = grind arith
 
 pub goes_on : DownloadsGoOn
 unfolding records

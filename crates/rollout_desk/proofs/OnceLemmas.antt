@@ -1,9 +1,7 @@
 -- What comes again in a run leaves no trace.
-use native.Mathlib.Omega.{arith}
-use Rattle.rollout_desk.proofs.Common.{inl, inr, Bool, List, [], ◌∷◌, ◌++◌, Option, subst, Database, State, Trees, HoldIn}
-use Rattle.rollout_desk.proofs.Common.{MayAnswer, CommandList, ◌▸◌, followed_by, Command, Records, Reply, Asked, Asks}
-use Rattle.rollout_desk.proofs.Common.{Request, one, StandsFor, IsInDoubt, IsValid, records_step, HoldsReadable, HoldsList, desk_state_at, EndsRun}
-use Rattle.rollout_desk.proofs.Common.{RequestExchange, IsRun, accepted_of}
+use Rattle.rollout_desk.proofs.Common.{arith, inl, inr, Bool, List, [], ◌∷◌, ◌++◌, Option, subst, Database, State, Trees, HoldIn, MayAnswer, CommandList, ◌▸◌}
+use Rattle.rollout_desk.proofs.Common.{followed_by, Command, Records, Reply, Asked, Asks, Request, one, StandsFor, IsInDoubt, IsValid, records_step}
+use Rattle.rollout_desk.proofs.Common.{HoldsReadable, HoldsList, desk_state_at, EndsRun, RequestExchange, IsRun, accepted_of}
 use Rattle.rollout_machine.specs.Repeats.{without_repeats, IsTraceless}
 use Rattle.rollout_machine.proofs.Once.{repeats_leave_no_trace}
 use Rattle.rollout_desk.specs.Once.{AnswersOnce, EndsOnce}

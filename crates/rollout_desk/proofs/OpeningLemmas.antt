@@ -1,5 +1,5 @@
 -- From a connection that was opened to a desk over it.
-use Rattle.rollout_desk.proofs.Common.{◌≡◌, Bool, false, Ok, Err, Result, IfOk, IfErr, refl, sym, ap, ◌∙◌, subst, Files, Trees, AreClean, IsClosed, file_state}
+use Rattle.rollout_desk.proofs.Common.{arith, ◌≡◌, Bool, false, Ok, Err, Result, IfOk, IfErr, refl, ap, subst, Files, Trees, AreClean, IsClosed, file_state}
 use Rattle.rollout_desk.proofs.Common.{recovers, Held, FileStore, Rests, Image, State, HasCleanDisk, HoldsRecords, Reopens, CommandList, Make, records}
 use Rattle.rollout_desk.proofs.Common.{StandsFor, IsValid, desk_state_at, Global, ReopensDesk, GivesBack}
 use Rattle.sqlite_disk.specs.declared.Disk as disk
@@ -28,14 +28,11 @@ reopened_desk image approval s h = record {
 -- the desk is over the connection
 module _ {S : Type 0} (alloc : Global) (store : DeskStore S) (conn : Held S) (same : store.calls.conn ≡ conn) (desk : Desk S)
     (is : desk ≡ record { store = store; stopped = false; work = no_work; alloc = alloc }) where
-  over_conn : desk.store.calls.conn ≡ conn
-  over_conn = ap (λ (d : Desk S). d.store.calls.conn) is ∙ same
-
   runs : desk.stopped ≡ false
   runs = ap (λ (d : Desk S). d.stopped) is
 
   pub over_it : (P : Bool → Held S → Type 0) → P false conn → P desk.stopped desk.store.calls.conn
-  over_it P holds = subst (λ b. P b desk.store.calls.conn) (sym runs) (subst (P false) (sym over_conn) holds)
+  over_it P holds = grind (arith, desk, runs, false, Desk)
 
 -- ---- the files that a desk gives back
 

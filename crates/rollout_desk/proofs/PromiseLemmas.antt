@@ -1,15 +1,11 @@
 -- What is promised of an answer follows from the answer itself.
-use native.Mathlib.Omega.{arith}
-use Rattle.rollout_desk.proofs.Common.{◌≡◌, ℕ, Bool, true, false, cond, ◌&&◌, ◌||◌, List, [], ◌∷◌, map, Option, Some, None, refl, sym, subst}
-use Rattle.rollout_desk.proofs.Common.{ap, ◌∙◌, is_some, nat_eq, query_reply, if_found, for_device, targets_reply}
-use Rattle.rollout_desk.proofs.Common.{is_offer_of, modules_offered, artifact_named, artifact_if, artifact_of_module, contains_word}
-use Rattle.rollout_desk.proofs.Common.{item_numbered, same_bytes, CommandList, Bytes, Credential, TargetRow, ArtifactRecord, Records, Reply, Refused}
-use Rattle.rollout_desk.proofs.Common.{PollShown, ContentsShown, Page, Query, Ask, Asks, Poll}
-use Rattle.rollout_desk.proofs.Common.{Download}
-use Rattle.rollout_desk.proofs.Common.{ShowContents}
-use Rattle.rollout_desk.proofs.Common.{Applies, DeskState, IsValid, query_answer, Refusal, NotFound}
-use Rattle.rollout_desk.proofs.Common.{Unauthorized, unwrap_or, and_parts, eqb-true, false≢true, IsWhole, all_whole, Describes, DownloadsItsOffer, IsPromised}
-use Rattle.rollout_desk.proofs.Common.{IsTarget, KeepsToOffers, NamesItsOffer, ShowsWhole, asker, offer_named, not-true, or_right}
+use Rattle.rollout_desk.proofs.Common.{arith, ◌≡◌, ℕ, Bool, true, false, cond, ◌&&◌, ◌||◌, List, [], ◌∷◌, map, Option, Some, None, refl, sym, subst, ap, ◌∙◌}
+use Rattle.rollout_desk.proofs.Common.{is_some, query_reply, if_found, for_device, targets_reply, is_offer_of, artifact_named, artifact_of_module}
+use Rattle.rollout_desk.proofs.Common.{contains_word, item_numbered, same_bytes, CommandList, Bytes, Credential, TargetRow, ArtifactRecord, Records, Reply}
+use Rattle.rollout_desk.proofs.Common.{Refused, PollShown, ContentsShown, Page, Query, Ask, Asks, Poll, Download, ShowContents, Applies, DeskState, IsValid}
+use Rattle.rollout_desk.proofs.Common.{query_answer, Refusal, NotFound, unwrap_or, and_parts, eqb-true, false≢true, IsWhole, all_whole, Describes}
+use Rattle.rollout_desk.proofs.Common.{DownloadsItsOffer, IsPromised, IsTarget, KeepsToOffers, NamesItsOffer, ShowsWhole, asker, offer_named, not-true}
+use Rattle.rollout_desk.proofs.Common.{or_right}
 use Rattle.rollout_machine.specs.Offers.{Offer, offer}
 use Rattle.rollout_machine.specs.Records.{records}
 use Rattle.rollout_machine.specs.Targets.{Target, last_row_of, target_ids, target_in}
@@ -115,27 +111,24 @@ refusals_keep h query refusal = grind (arith, names)
 describes : (a : ArtifactRecord) → IsWhole a → Describes a a.contents
 describes a whole = record { contents_are = refl; size = whole.0; digest = whole.1 }
 
-shows_whole : (h : CommandList) (query : Query) → ShowsWhole h query (query_reply (records h) query)
-shows_whole h (ShowContents m k) = go (item_numbered (records h).artifacts k) refl where
-  own : (a : ArtifactRecord) → item_numbered (records h).artifacts k ≡ Some a → (b : Bool) → artifact_of_module (records h) m k ≡ cond b (Some a) None
-      → ShowsWhole h (ShowContents m k) (if_found (λ (x : ArtifactRecord). ContentsShown x.contents) (cond b (Some a) None))
-  own a at false is = tt
-  own a at true is = (a, is, describes a (is_whole h k a at))
+of_module : (h : CommandList) (m k : ℕ) (a : ArtifactRecord) → artifact_of_module (records h) m k ≡ Some a → item_numbered (records h).artifacts k ≡ Some a
+    → ShowsWhole h (ShowContents m k) (ContentsShown a.contents)
+of_module h m k a is at = (a, is, describes a (is_whole h k a at))
 
-  go : (x : Option ArtifactRecord) → item_numbered (records h).artifacts k ≡ x
-      → ShowsWhole h (ShowContents m k) (if_found (λ (y : ArtifactRecord). ContentsShown y.contents) (artifact_if m x))
-  go None at = tt
-  go (Some a) at = own a at (nat_eq a.module_number m) (ap (artifact_if m) at)
-shows_whole h (Download device m filename) =
-    go (is_known (records h) device) (list_any (λ n. nat_eq n m) (modules_offered (records h) (offer (records h) device.id)))
-    (artifact_named m filename (records h).artifacts) refl where
-      go : (known among : Bool) (x : Option ArtifactRecord) → artifact_named m filename (records h).artifacts ≡ x
-          → ShowsWhole h (Download device m filename)
-          (cond known (cond among (if_found (λ (a : ArtifactRecord). ContentsShown a.contents) x) (Refused NotFound)) (Refused Unauthorized))
-      go true true (Some a) at = (a, at, describes a (All-find IsWhole _ (records h).artifacts a (all_whole h) at))
-      go true true None at = tt
-      go true false x at = tt
-      go false among x at = tt
+contents_shown : (h : CommandList) (m k : ℕ) → ShowsWhole h (ShowContents m k) (query_reply (records h) (ShowContents m k))
+contents_shown h m k = grind (arith, of_module)
+
+of_name : (h : CommandList) (device : Credential) (m : ℕ) (filename : Bytes) (a : ArtifactRecord) → artifact_named m filename (records h).artifacts ≡ Some a
+    → ShowsWhole h (Download device m filename) (ContentsShown a.contents)
+of_name h device m filename a at = (a, at, describes a (All-find IsWhole _ (records h).artifacts a (all_whole h) at))
+
+downloaded_whole : (h : CommandList) (device : Credential) (m : ℕ) (filename : Bytes) → ShowsWhole h (Download device m filename)
+    (query_reply (records h) (Download device m filename))
+downloaded_whole h device m filename = grind (arith, of_name)
+
+shows_whole : (h : CommandList) (query : Query) → ShowsWhole h query (query_reply (records h) query)
+shows_whole h (ShowContents m k) = contents_shown h m k
+shows_whole h (Download device m filename) = downloaded_whole h device m filename
 shows_whole h query = tt
 
 refusals_show_none : (h : CommandList) (query : Query) (refusal : Refusal) → ShowsWhole h query (Refused refusal)

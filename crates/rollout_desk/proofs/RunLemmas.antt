@@ -108,20 +108,15 @@ module _ {File : Type 0} (old middle new : DeskState File) (xs : List asked.Requ
     (so_far : Ran old middle (map request_of (take i xs)) (map reply_of before))
     (worn : new.is_clean → middle.is_clean) (applies : Applies middle new (Asks (request_of x)) (reply_of reply)) where
   pub goes_on : false ≡ is_failed_store (reply_of reply) → Ran old new (map request_of (take (i + 1) xs)) (map reply_of after)
-  goes_on other h clean stands =
-      subst (λ (l : List Request). RunsThrough h new l (map reply_of after)) (asked_more xs i x few is)
-      (subst (λ (l : List Reply). RunsThrough h new (map request_of (take i xs) ++ request_of x ∷ []) l) (replied_more before after reply pushed)
+  goes_on other h clean stands = rw (sym (asked_more xs i x few is), sym (replied_more before after reply pushed))
       (ran_more old middle new _ _ (request_of x) (reply_of reply) so_far worn applies (λ failed. false≢true (other ∙ ap is_failed_store failed)) h clean
-      stands))
+      stands)
 
   pub ends : true ≡ is_failed_store (reply_of reply) → (h : CommandList) → new.is_clean → StandsFor old h
       → BreaksOff h new (map request_of xs) (map reply_of after)
-  ends failed h clean stands =
-      subst (λ (l : List Request). BreaksOff h new l (map reply_of after)) (asked_all xs i x few is)
-      (subst (λ (l : List Reply). BreaksOff h new (map request_of (take i xs) ++ request_of x ∷ [] ++ map request_of (drop (i + 1) xs)) l)
-      (replied_more before after reply pushed)
+  ends failed h clean stands = rw (sym (asked_all xs i x few is), sym (replied_more before after reply pushed))
       (broke_off old middle new _ _ (request_of x) (reply_of reply) so_far worn applies (failed_true (reply_of reply) (sym failed))
-      (map request_of (drop (i + 1) xs)) h clean stands))
+      (map request_of (drop (i + 1) xs)) h clean stands)
 
 -- no reply tells of a failed store
 abbrev pub NoneFailed : List model.Reply → Type 0

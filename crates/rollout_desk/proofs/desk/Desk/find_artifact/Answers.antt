@@ -1,15 +1,11 @@
-use Rattle.rollout_desk.proofs.Common.{subst, Asks, Ask, ShowArtifact, ShowContents, Applies, Err, reply_of, desk_state, RefusesContents}
+use Rattle.rollout_desk.proofs.Common.{subst, Asks, Ask, ShowContents, Applies, Err, reply_of, desk_state, RefusesContents}
 use Rattle.rollout_desk.specs.Conduct.{BehavesBeginning}
 use Rattle.rollout_desk.proofs.DownloadLemmas.{begun, contents_refused, other_reply, refuses, shown_reply}
 use Rattle.rollout_desk.proofs.desk.Desk.find_artifact.Goals as goal
 
 pub returns-in-Ok-clause-begins : goal.returns-in-Ok-clause-begins
-returns-in-Ok-clause-begins g c =
-    let was = desk_state g.S.Store c.args.self.now in
-    let now = desk_state g.S.Store c.ask-reply.new.self in
-    begun was now c.args.module_number c.args.number c.in-Ok.artifact
-    (subst (λ r. Applies was now (Asks (Ask (ShowArtifact c.args.module_number c.args.number))) r)
-    (shown_reply c.ask-reply.result c.in-Ok.artifact c.in-Ok.ensures) c.ask-reply.ensures.applies)
+returns-in-Ok-clause-begins g c = begun _ _ c.args.module_number c.args.number c.in-Ok.artifact
+    (rw (shown_reply c.ask-reply.result c.in-Ok.artifact c.in-Ok.ensures) at c.ask-reply.ensures.applies)
 
 pub returns-in-Err : goal.returns-in-Err
 returns-in-Err g c =

@@ -16,31 +16,26 @@ loop-request-init g c = record {
 pub loop-request-preserved : goal.loop-request-preserved
 loop-request-preserved g c =
     let so_far = c.loop-request.invariant in
-    let was = desk_state g.S.Store c.args.self.now in
-    let before = desk_state g.S.Store c.loop-request.self in
-    let now = desk_state g.S.Store c.answer-reply.new.self in record {
+    record {
       room = search rules;
       count = search rules;
       clean = λ clean. so_far.clean (c.answer-reply.ensures.conduct.clean clean);
-      ran = goes_on was before now c.args.requests.now c.loop-request.request-index c.request-item.result c.loop-request-test.true c.request-item.is
-          c.loop-request.replies.items c.push_reserved.new.self.items c.answer-reply.result c.push_reserved.ensures.items so_far.ran
-          c.answer-reply.ensures.conduct.clean c.answer-reply.ensures.applies c.if-failed.ensures.is;
-      none = none_failed_more c.loop-request.replies.items c.push_reserved.new.self.items c.answer-reply.result c.push_reserved.ensures.items
-          c.if-failed.ensures.is so_far.none;
+      ran = goes_on _ _ _ c.args.requests.now c.loop-request.request-index c.request-item.result c.loop-request-test.true c.request-item.is _ _
+          c.answer-reply.result c.push_reserved.ensures.items so_far.ran c.answer-reply.ensures.conduct.clean c.answer-reply.ensures.applies
+          c.if-failed.ensures.is;
+      none = none_failed_more _ _ c.answer-reply.result c.push_reserved.ensures.items c.if-failed.ensures.is so_far.none;
     }
 
 pub returns-then-failed : goal.returns-then-failed
 returns-then-failed g c =
     let so_far = c.loop-request.invariant in
     let was = desk_state g.S.Store c.args.self.now in
-    let before = desk_state g.S.Store c.loop-request.self in
     let now = desk_state g.S.Store c.answer-reply.new.self in
     let ended : (h : CommandList) → now.is_clean → StandsFor was h
     → EndsRun h now (map request_of c.args.requests.now) (map reply_of c.push_reserved.new.self.items)
-    = λ h clean stands. inr (ends was before now c.args.requests.now c.loop-request.request-index c.request-item.result c.loop-request-test.true
-    c.request-item.is
-    c.loop-request.replies.items c.push_reserved.new.self.items c.answer-reply.result c.push_reserved.ensures.items so_far.ran
-    c.answer-reply.ensures.conduct.clean c.answer-reply.ensures.applies c.if-failed.ensures.is h clean stands) in record {
+    = λ h clean stands. inr (ends _ _ _ c.args.requests.now c.loop-request.request-index c.request-item.result c.loop-request-test.true c.request-item.is
+    _ _ c.answer-reply.result c.push_reserved.ensures.items so_far.ran c.answer-reply.ensures.conduct.clean c.answer-reply.ensures.applies
+    c.if-failed.ensures.is h clean stands) in record {
       conduct = record {
         clean = λ clean. so_far.clean (c.answer-reply.ensures.conduct.clean clean);
         stops = λ _. c.answer-reply.ensures.conduct.stops (c.if-failed.ensures.only.0 refl);
