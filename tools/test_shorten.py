@@ -162,3 +162,4 @@ def test_an_answer_falls_until_it_is_asked_for():
     same((ends.start, ends.stop, begins.stop), (2, 6, 8))
     said = "fn few: no proof: expected answers in ./proofs/lists/few/Answers.antt; `search` did not prove `begins`"
     same(list(shorten.asked([ends, begins], folder, said)), [begins])
+    same(list(shorten.asked([ends, begins], folder, said.replace("begins", "ends-clause-last"))), [ends])
