@@ -71,6 +71,11 @@ def test_a_call_is_cut_where_its_arguments_are_no_longer_known():
     same(it.calls("few"), ["few p xs"])
 
 
+def test_a_fact_is_no_constructor_and_no_type():
+    names = {"false", "Sorted", "Sorted-append", "apart"}
+    same(shorten.cited("absurd (apart m false) Sorted (Sorted-append x)", names, "few"), ["apart", "Sorted-append"])
+
+
 def test_a_lemma_is_told_by_what_it_ends_in():
     at = next(n for n, line in enumerate(LINES) if line.startswith("  pub none"))
     same(shorten.says(LINES, at), "is_some o ≡ false")
