@@ -7,10 +7,10 @@ use Rattle.request_target.proofs.Found.{first_found}
 
 -- a pattern with a token meets no empty path
 not_empty : (x : ℕ) (t path : List ℕ) → is_empty path ≡ true → meets (x ∷ t) path ≡ true → ⊥
-not_empty x t path e m = grind (arith, cond, false, false≢true, e)
+not_empty x t path e m = grind arith
 
 begins_one : (x y : ℕ) (path : List ℕ) → begins x path ≡ true → begins y path ≡ true → x ≡ y
-begins_one x y path p q = grind (arith, false≢true, eqb-true)
+begins_one x y path p q = grind (arith, eqb-true)
 
 pub not_both : (t u path : List ℕ) → apart t u ≡ true → meets t path ≡ true → meets u path ≡ true → ⊥
 not_both [] [] path h m n = false≢true h
@@ -81,4 +81,4 @@ none_is {K} ((u, l) ∷ rest) path none = by (meets u path) refl (none_is rest p
 -- a router's answer, by the patterns alone
 pub first_is : {K : Type 0} (rs : RowsOf K) (path : List ℕ) → all_bytes path ≡ true → all_plain rs ≡ true → all_apart rs ≡ true → first rs path
     ≡ met_row rs path
-first_is rs path bytes plain apart = grind (arith, met_is, none_is, first_found, plain)
+first_is rs path bytes plain apart = grind (arith, met_is, none_is, first_found)

@@ -1,6 +1,6 @@
 -- What a walk finds is a row that the path meets.
 use Rattle.request_target.proofs.Common.{◌≡◌, ◌<◌, ◌≤◌, inl, inr, ℕ, zero, suc, ◌-◌, List, [], ◌∷◌, length, drop, Bool, true, false, cond, ◌&&◌, ◌==◌, ltb}
-use Rattle.request_target.proofs.Common.{Option, Some, None, refl, sym, ◌∙◌, ap, arith, subst, get_or, false≢true, eqb-true, ltb-true, lt-ltb, nat_tests}
+use Rattle.request_target.proofs.Common.{Option, Some, None, refl, sym, ◌∙◌, ap, arith, get_or, false≢true, eqb-true, ltb-true, lt-ltb, nat_tests}
 use Rattle.request_target.proofs.Common.{RowsOf, own, step, or_else, has_slash, with_suffix, param_step, first, is_plain, all_plain}
 use Rattle.matchit.specs.Seek.{seek}
 use Rattle.request_target.proofs.Meets.{all_bytes, segment_len, meets, all_open, some_goes_on, In}
@@ -11,7 +11,7 @@ use Rattle.request_target.proofs.Rows.{in_step, in_stepped, in_own, not_own}
 use Rattle.request_target.proofs.Param.{param_none, param_slash, seek_of_none, seek_drop}
 
 both_true : (a b : Bool) → a ≡ true → b ≡ true → (a && b) ≡ true
-both_true a b p q = grind (arith, false≢true)
+both_true a b p q = grind arith
 
 -- the answer is a row that the path meets, or none does
 abbrev pub Found : {K : Type 0} → (List ℕ → Bool) → RowsOf K → Option K → Type 0
@@ -20,7 +20,7 @@ Found {K} met rs None = (t : List ℕ) (k : K) → In t k rs → met t ≡ true 
 
 none_own : {K : Type 0} (rs : RowsOf K) → own rs ≡ None → (t : List ℕ) (k : K) → In t k rs → meets t [] ≡ true → ⊥
 none_own rs e [] k h m = not_own k rs e h
-none_own rs e (x ∷ u) k h m = grind (arith, false≢true)
+none_own rs e (x ∷ u) k h m = grind arith
 
 none_byte : {K : Type 0} (rs : RowsOf K) (b : ℕ) (p : List ℕ) → Found (λ t. meets t p) (step b rs) None
     → Found (λ t. meets (256 ∷ t) (b ∷ p)) (step 256 rs) None → (t : List ℕ) (k : K) → In t k rs → meets t (b ∷ p) ≡ true → ⊥
@@ -37,7 +37,7 @@ none_byte {K} rs b p none after (x ∷ u) k h m = by (x == 256) refl
         none u k (in_step b u k rs (rw is at h)) parts.1
 
 pub found_own : {K : Type 0} (rs : RowsOf K) (o : Option K) → own rs ≡ o → Found (λ t. meets t []) rs o
-found_own rs o e = grind (arith, in_own, e, none_own)
+found_own rs o e = grind (arith, in_own, none_own)
 
 -- three ways on from a byte
 pub found_byte : {K : Type 0} (rs : RowsOf K) (b : ℕ) (p : List ℕ) (bytes later : Option K) → b < 256
@@ -110,7 +110,7 @@ none_goes_on (([], l) ∷ rest) e x t k h = elim h [ inl q ↦ absurd (cc q.0) |
 none_goes_on ((y ∷ u, l) ∷ rest) e x t k h = false≢true (sym e)
 
 drop_on : (n b : ℕ) (p : List ℕ) → ltb 0 n ≡ true → drop (n - 1) p ≡ drop n (b ∷ p)
-drop_on n b p e = grind (arith, false≢true, e)
+drop_on n b p e = grind arith
 
 plain_suffix : {K : Type 0} (rs : RowsOf K) → all_open rs ≡ true → all_plain rs ≡ true → all_plain (with_suffix (47 ∷ []) rs) ≡ true
 plain_suffix [] opened plain = refl
@@ -161,13 +161,12 @@ found_param {K} rs b p opened plain shorter = by (has_slash (b ∷ p)) refl
 plain_step : {K : Type 0} (b : ℕ) (rs : RowsOf K) → all_plain rs ≡ true → all_plain (step b rs) ≡ true
 plain_step b [] plain = refl
 plain_step b (([], k) ∷ rest) plain = plain_step b rest plain
-plain_step b ((x ∷ t, k) ∷ rest) plain = grind (arith, plain_step b rest, both, all_plain, plain, both_true, cond, false)
+plain_step b ((x ∷ t, k) ∷ rest) plain = grind (arith, plain_step b rest, both, both_true)
 
 open_step : {K : Type 0} (rs : RowsOf K) → all_plain rs ≡ true → all_open (step 256 rs) ≡ true
 open_step [] plain = refl
 open_step (([], k) ∷ rest) plain = open_step rest plain
-open_step {K} ((x ∷ t, k) ∷ rest) plain =
-    grind (arith, nat_tests, open_step rest (both (is_plain (x ∷ t)) (all_plain rest) plain).1, all_plain, plain, cond, both_true, false)
+open_step {K} ((x ∷ t, k) ∷ rest) plain = grind (arith, nat_tests, open_step rest (both (is_plain (x ∷ t)) (all_plain rest) plain).1, both_true)
 
 -- no plain pattern takes the rest of a path
 no_rest : {K : Type 0} (rs : RowsOf K) → all_plain rs ≡ true → own (step 257 rs) ≡ None
@@ -205,10 +204,6 @@ walk_found {K} (suc n) rs (b ∷ p) short bytes plain =
 -- the route of a path is one that the path meets, and there is none only where no route does
 pub first_found : {K : Type 0} (rs : RowsOf K) (path : List ℕ) → all_bytes path ≡ true → all_plain rs ≡ true → Found (λ t. meets t path) rs (first rs path)
 first_found rs path bytes plain = walk_found (length path) rs path (omega arith) bytes plain
-
-pub none_found : {K : Type 0} (rs : RowsOf K) (path : List ℕ) → all_bytes path ≡ true → all_plain rs ≡ true → first rs path ≡ None → (t : List ℕ) (k : K)
-    → In t k rs → meets t path ≡ true → ⊥
-none_found {K} rs path bytes plain e = subst (Found (λ t. meets t path) rs) e (first_found rs path bytes plain)
 
 pub all_bytes_from : (p : List ℕ) → ((i : ℕ) → get_or p i 0 < 256) → all_bytes p ≡ true
 all_bytes_from [] h = refl

@@ -5,7 +5,7 @@ use Rattle.std.specs.Cmp.Lexicographic.{pointwise}
 use Rattle.request_target.proofs.Meets.{segment_len, all_open, some_goes_on}
 
 pub both : (a b : Bool) → (a && b) ≡ true → (a ≡ true) × (b ≡ true)
-both a b h = grind (arith, false≢true)
+both a b h = grind arith
 
 abbrev pub slash_if : Bool → List ℕ
 slash_if true = 47 ∷ []
@@ -41,11 +41,11 @@ pub segment_some : (c : ℕ) (p : List ℕ) → 0 < length (segment (c ∷ p))
 segment_some c p = elim (c == 47) as (λ v. 0 < length (cond v (c ∷ []) (c ∷ segment p))) [ true ↦ omega arith | false ↦ omega arith ]
 
 drop_last : (b : ℕ) (xs : List ℕ) → 0 < length xs → drop (length (b ∷ xs) - 1) (b ∷ xs) ≡ drop (length xs - 1) xs
-drop_last b xs some = grind (arith, length)
+drop_last b xs some = grind arith
 
 -- the last byte of a segment
 pub last_is : (b : ℕ) (p : List ℕ) → pointwise nat_eq (47 ∷ []) (drop (length (segment (b ∷ p)) - 1) (segment (b ∷ p))) ≡ has_slash (b ∷ p)
-last_is b [] = grind (arith, lone_byte, cond, false)
+last_is b [] = grind (arith, lone_byte)
 last_is b (c ∷ p) = by (b == 47) refl (last_is c p)
   where
     by : (v : Bool) → (b == 47) ≡ v → pointwise nat_eq (47 ∷ []) (drop (length (segment (c ∷ p)) - 1) (segment (c ∷ p))) ≡ has_slash (c ∷ p)
@@ -57,18 +57,18 @@ last_is b (c ∷ p) = by (b == 47) refl (last_is c p)
 -- how long a segment is
 pub segment_with_slash : (p : List ℕ) → has_slash p ≡ true → length (segment p) ≡ suc (segment_len p)
 segment_with_slash [] e = absurd (false≢true e)
-segment_with_slash (b ∷ p) e = grind (arith, segment_with_slash p, e, cond, length, segment, false)
+segment_with_slash (b ∷ p) e = grind (arith, segment_with_slash p)
 
 pub segment_with_none : (p : List ℕ) → has_slash p ≡ false → (segment p ≡ p) × (segment_len p ≡ length p)
 segment_with_none [] e = (refl, refl)
-segment_with_none (b ∷ p) e = grind (arith, segment_with_none p, e, cond, false, segment, length, false≢true)
+segment_with_none (b ∷ p) e = grind (arith, segment_with_none p)
 
 one_more : (n : ℕ) → ltb 1 (suc n) ≡ ltb 0 n
 one_more n = grind (arith, nat_tests)
 
 -- a parameter leaves the slash where one follows and the segment has a byte before it
 pub cuts_with_slash : (b : ℕ) (p : List ℕ) → has_slash (b ∷ p) ≡ true → cuts (segment (b ∷ p)) (47 ∷ []) ≡ ltb 0 (segment_len (b ∷ p))
-cuts_with_slash b p e = grind (arith, last_is, e, and_true, segment_with_slash, one_more)
+cuts_with_slash b p e = grind (arith, last_is, and_true, segment_with_slash, one_more)
 
 pub cuts_with_none : (b : ℕ) (p : List ℕ) → has_slash (b ∷ p) ≡ false → cuts (segment (b ∷ p)) (47 ∷ []) ≡ false
 cuts_with_none b p e = rw (last_is b p, e) (no_more _)

@@ -13,7 +13,7 @@ param_none rs b p opened e = rw (longest_is (segment (b ∷ p)) false rs opened,
 chosen : {K : Type 0} (w : Bool) (rs : RowsOf K) (len n : ℕ) → len ≡ suc n
     → ◌≡◌ {A = ℕ × RowsOf K} (cond (ltb 0 (length (slash_if w))) (len - length (slash_if w), with_suffix (slash_if w) rs) (0, []))
     (cond w (n, with_suffix (47 ∷ []) rs) (0, []))
-chosen w rs len n e = grind (arith, e)
+chosen w rs len n e = grind arith
 
 pub param_slash : {K : Type 0} (rs : RowsOf K) (b : ℕ) (p : List ℕ) → all_open rs ≡ true → has_slash (b ∷ p) ≡ true → param_step rs (b ∷ p)
     ≡ cond (ltb 0 (segment_len (b ∷ p)) && some_goes_on rs) (segment_len (b ∷ p), with_suffix (47 ∷ []) rs) (0, [])

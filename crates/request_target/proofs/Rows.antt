@@ -1,5 +1,5 @@
 -- Rows after a token.
-use Rattle.request_target.proofs.Common.{◌≡◌, ◌⊎◌, inl, inr, ℕ, List, [], ◌∷◌, Bool, true, false, cond, ◌==◌, Some, None, refl, arith, false≢true, eqb-true}
+use Rattle.request_target.proofs.Common.{◌≡◌, ◌⊎◌, inl, inr, ℕ, List, [], ◌∷◌, Bool, true, false, cond, ◌==◌, Some, None, refl, arith, eqb-true}
 use Rattle.request_target.proofs.Common.{nat_tests, RowsOf, own, step}
 use Rattle.request_target.proofs.Meets.{In}
 
@@ -7,10 +7,10 @@ same : (x : ℕ) → (x == x) ≡ true
 same x = grind (arith, nat_tests)
 
 in_cond : {K : Type 0} (v : Bool) (t u : List ℕ) (k l : K) (rs : RowsOf K) → v ≡ true → (t ≡ u) × (k ≡ l) → In t k (cond v ((u, l) ∷ rs) rs)
-in_cond v t u k l rs e h = grind (arith, false≢true, e)
+in_cond v t u k l rs e h = grind arith
 
 in_rest : {K : Type 0} (v : Bool) (t u : List ℕ) (k l : K) (rs : RowsOf K) → In t k rs → In t k (cond v ((u, l) ∷ rs) rs)
-in_rest v t u k l rs h = grind (arith, inr)
+in_rest v t u k l rs h = grind arith
 
 -- a row that begins with the token is there after it
 pub in_step : {K : Type 0} (b : ℕ) (t : List ℕ) (k : K) (rs : RowsOf K) → In (b ∷ t) k rs → In t k (step b rs)

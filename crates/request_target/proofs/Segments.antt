@@ -13,7 +13,7 @@ later (b ∷ rest) = segments rest
 -- the first segment, and those after it
 pub segments_split : (path : List ℕ) → segments path ≡ take (segment_len path) path ∷ later (drop (segment_len path) path)
 segments_split [] = refl
-segments_split (b ∷ path) = grind (arith, segments_split path, cond, false)
+segments_split (b ∷ path) = grind (arith, segments_split path)
 
 -- what is left behind a segment is empty or begins with a slash
 abbrev IsRest : List ℕ → Type 0
@@ -22,7 +22,7 @@ IsRest (b ∷ rest) = (b == 47) ≡ true
 
 rest_is : (path : List ℕ) → IsRest (drop (segment_len path) path)
 rest_is [] = tt
-rest_is (b ∷ path) = grind (arith, rest_is path, cond, false)
+rest_is (b ∷ path) = grind (arith, rest_is path)
 
 -- tokens that end, or go on with a slash
 abbrev IsTail : List ℕ → Type 0
@@ -36,7 +36,7 @@ and_assoc a b c = grind arith
 pub meets_word : (word t path : List ℕ) → list_all (λ b. nat_lt b 256 && not (b == 47)) word ≡ true → IsTail t
     → meets (word ++ t) path ≡ (bytes_eq word (take (segment_len path) path) && meets t (drop (segment_len path) path))
 meets_word [] t [] ok tail = refl
-meets_word [] t (b ∷ path) ok tail = grind (arith, cond, false)
+meets_word [] t (b ∷ path) ok tail = grind arith
 meets_word (x ∷ word) t path ok tail =
     by (λ (rest : List ℕ). meets_word word t rest (both (nat_lt x 256 && not (x == 47)) (list_all (λ b. nat_lt b 256 && not (b == 47)) word) ok).1 tail) path
   where
@@ -65,7 +65,7 @@ meets_word (x ∷ word) t path ok tail =
 
 -- the first segment's length
 length_first : (path : List ℕ) → nat_lt 0 (length (take (segment_len path) path)) ≡ nat_lt 0 (segment_len path)
-length_first path = grind (arith, length, cond, false)
+length_first path = grind arith
 
 -- nothing is left, or there is one more segment
 at_end : (q : List ℕ) → meets [] q ≡ fits [] (later q)
@@ -74,7 +74,7 @@ at_end q = grind (arith, segments_split)
 -- a part and a tail
 meets_part : (part t path : List ℕ) → is_part part ≡ true → IsTail t
     → meets (part_tokens part ++ t) path ≡ (stands_for part (take (segment_len path) path) && meets t (drop (segment_len path) path))
-meets_part part t path ok tail = grind (arith, cond, length, length_first, false, meets_word)
+meets_part part t path ok tail = grind (arith, length_first, meets_word)
 
 -- the tokens of a route's parts
 pub meets_tokens : (part : List ℕ) (parts : List (List ℕ)) (path : List ℕ) → list_all is_part (part ∷ parts) ≡ true

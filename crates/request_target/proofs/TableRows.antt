@@ -1,8 +1,8 @@
 -- The rows that were made of a table lead where the table does.
 use native.Mathlib.Omega.{arith}
-use Rattle.request_target.proofs.Common.{◌≡◌, ℕ, List, [], ◌∷◌, Bool, true, false, cond, ◌&&◌, Option, Some, None, option_map, Result, Ok, Err, refl}
+use Rattle.request_target.proofs.Common.{◌≡◌, ℕ, List, [], ◌∷◌, Bool, true, cond, ◌&&◌, Option, Some, None, option_map, Result, Ok, Err, refl}
 use Rattle.request_target.proofs.Common.{sym, ◌∙◌, ap, bytes_eq, false≢true, list_all, RowsOf, first, segments, fits, route_in}
-use Rattle.request_target.proofs.Common.{all_plain, apart_from, tokens, is_part, added, rows_with, is_new, are_new, are_routes}
+use Rattle.request_target.proofs.Common.{apart_from, tokens, is_part, added, rows_with, is_new, are_new, are_routes}
 use Rattle.std.proofs.lemmas.Slice.Eq.{bytes_eq-Decides}
 use Rattle.matchit.specs.Route.{Scan, parse_route}
 use Rattle.matchit.specs.Router.{RouteOf, route_from}
@@ -34,14 +34,13 @@ or_else_only_if v t rest = grind arith
 -- no row that is apart from a pattern is met where the pattern is
 met_row-apart : {K : Type 0} (t : List ℕ) (rs : RowsOf K) (path : List ℕ) → apart_from t rs ≡ true → meets t path ≡ true → met_row rs path ≡ None
 met_row-apart t [] path new met = refl
-met_row-apart {K} t ((u, l) ∷ rest) path new met = grind (arith, met_row-apart t rest path, apart_from, cond, not_both, false)
+met_row-apart {K} t ((u, l) ∷ rest) path new met = grind (arith, met_row-apart t rest path, not_both)
 
 -- one more row, wherever it is placed, is met where none before it was
 met_row-placed : {K : Type 0} (t : List ℕ) (k : K) (rs : RowsOf K) (path : List ℕ) → apart_from t rs ≡ true → met_row (placed (t, k) rs) path
     ≡ or_else (met_row rs path) (only_if (meets t path) k)
 met_row-placed t k [] path new = refl
-met_row-placed {K} t k ((u, l) ∷ rest) path new =
-    grind (arith, met_row-placed t k rest path, apart_from, only_if, cond, not_both, false, met_row-apart, or_else_none)
+met_row-placed {K} t k ((u, l) ∷ rest) path new = grind (arith, met_row-placed t k rest path, not_both, met_row-apart, or_else_none)
 
 -- what a route of these parts leads to
 abbrev pub value_of : {T : Type 0} → Option (RouteOf T) → Option T
@@ -57,14 +56,14 @@ IsNonempty (x ∷ xs) = Unit {0}
 
 segments_some : (path : List ℕ) → IsNonempty (segments path)
 segments_some [] = tt
-segments_some (b ∷ path) = grind (arith, cond, false)
+segments_some (b ∷ path) = grind arith
 
 same_bytes : (a b : List ℕ) → bytes_eq a b ≡ true → a ≡ b
 same_bytes a b h = (bytes_eq-Decides a b).0 h
 
 -- a path meets the tokens of a route where the segments fit
 meets_route : (route path : List ℕ) → list_all is_part (segments route) ≡ true → meets (tokens (segments route)) path ≡ fits (segments route) (segments path)
-meets_route route path ok = grind (arith, segments_some, is_part, meets_tokens)
+meets_route route path ok = grind (arith, segments_some, meets_tokens)
 
 -- a route that is added leads on from its own paths alone
 added_leads : {T : Type 0} (read : Result Scan InsertError) (route : List ℕ) (value : T) (rows : RowsOf (RouteOf T)) (path : List ℕ) → is_new read route rows
@@ -94,4 +93,4 @@ met_row-rows_with (r ∷ table) rows path new =
 -- what a router of this table finds
 pub first-rows_with : {T : Type 0} (table : List (List ℕ × T)) (rows : RowsOf (RouteOf T)) (path : List ℕ) → all_bytes path ≡ true → are_routes table ≡ true
     → rows ≡ rows_with table [] → value_of (first rows path) ≡ route_in table path
-first-rows_with table rows path bytes routes is = grind (arith, are_new, all_plain, routes, first_is, met_row-rows_with)
+first-rows_with table rows path bytes routes is = grind (arith, first_is, met_row-rows_with)
