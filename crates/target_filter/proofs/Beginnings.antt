@@ -51,10 +51,10 @@ or_from_and (Group t) h = h
 or_from_and (Comparison f m v) h = h
 
 pub all_of : (a b : Bool) → a ≡ true → b ≡ true → (a && b) ≡ true
-all_of a b h k = grind (arith, false≢true)
+all_of a b h k = grind arith
 
 pub and_fits : (o : Option Tree) (x : Tree) → fits AndLevel o → is_at AtomLevel x ≡ true → is_at AndLevel (and_with o x) ≡ true
-and_fits o x h k = grind (arith, and_from_atom, all_of, is_at, AndLevel, AtomLevel)
+and_fits o x h k = grind (arith, and_from_atom, all_of)
 
 -- the tree that the part makes with a last atom
 abbrev pub whole : Part → Tree → Tree
@@ -64,7 +64,7 @@ pub whole_spelled : (p : Part) (x : Tree) → spelling (whole p x) ≡ part_text
 whole_spelled p x = grind (arith, append_assoc, and_spelled)
 
 pub whole_fits : (p : Part) (x : Tree) → PartFits p → is_at AtomLevel x ≡ true → is_at OrLevel (whole p x) ≡ true
-whole_fits p x h k = grind (arith, or_from_and, all_of, is_at, OrLevel, AndLevel, and_fits)
+whole_fits p x h k = grind (arith, or_from_and, all_of, and_fits)
 
 -- the enclosing levels, the innermost first
 abbrev pub outer_text : List Part → List ℕ

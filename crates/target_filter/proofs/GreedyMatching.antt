@@ -1,5 +1,5 @@
 -- The first place of a piece serves as well as any.
-use Rattle.target_filter.proofs.Common.{◌≡◌, inr, ℕ, suc, ◌+◌, ◌-◌, ◌≤◌, ◌<◌, List, [], ◌∷◌, ◌++◌, length, take, drop, get_or, Bool, true}
+use Rattle.target_filter.proofs.Common.{◌≡◌, ℕ, suc, ◌+◌, ◌-◌, ◌≤◌, ◌<◌, List, [], ◌∷◌, ◌++◌, length, take, drop, get_or, Bool, true}
 use Rattle.target_filter.proofs.Common.{false, cond, ◌&&◌, ◌||◌, ◌==◌, not, eqb, Option, Some, None, refl, sym, ◌∙◌, ap, subst, arith, append_assoc}
 use Rattle.target_filter.proofs.Common.{append-nil, length-append, list_all, starts_with, ends_with, option_map_or, false≢true, nat_tests, Decides-eqb}
 use Rattle.target_filter.proofs.Common.{drop_at, drop-append-le, take-append-drop, length-take-le, drop-cons, starts_is, ends_is, slice_eq-Decides, pointwise}
@@ -53,7 +53,7 @@ behind_joins [] x t h = absurd h
 behind_joins (p ∷ ps) x t (rest, e, g) = (x, rest, ap (λ y. x ++ y) e, g)
 
 empty_is : (t : List ℕ) → is_empty t ≡ true → t ≡ []
-empty_is t h = grind (arith, false≢true)
+empty_is t h = grind arith
 
 -- ---- the test and the relation
 to_by : (a : ℕ) (c : Bool) (pattern t : List ℕ) → ((u : List ℕ) → matches pattern u ≡ true → IsJoined (pieces pattern) u)
@@ -61,7 +61,7 @@ to_by : (a : ℕ) (c : Bool) (pattern t : List ℕ) → ((u : List ℕ) → matc
     → IsJoined (cond c ([] ∷ pieces pattern) (with_first_byte a (pieces pattern))) t
 to_by a true pattern t f h = let (x, rest, e, k) = star_some (matches pattern) t h in (t, refl, rw e (behind_joins (pieces pattern) x rest (f rest k)))
 to_by a false pattern [] f h = absurd (false≢true h)
-to_by a false pattern (b ∷ bs) f h = grind (arith, eq_true, front_joins, f)
+to_by a false pattern (b ∷ bs) f h = grind (arith, eq_true, front_joins)
 
 pub matches_joins : (pattern t : List ℕ) → matches pattern t ≡ true → Matches pattern t
 matches_joins [] t h = ([], empty_is t h, refl)
@@ -72,11 +72,11 @@ eq_self n = grind (arith, nat_tests)
 
 from_star : (pattern t : List ℕ) (ps : List (List ℕ)) (r : List ℕ) (rs : List (List ℕ)) → ps ≡ r ∷ rs
     → ((u : List ℕ) → IsJoined ps u → matches pattern u ≡ true) → IsJoinedAfterStar ps t → star_takes (matches pattern) t ≡ true
-from_star pattern t ps r rs e f h = grind (arith, e, star_any, f)
+from_star pattern t ps r rs e f h = grind (arith, star_any)
 
 from_byte : (a : ℕ) (pattern t : List ℕ) (ps : List (List ℕ)) (r : List ℕ) (rs : List (List ℕ)) → ps ≡ r ∷ rs
     → ((u : List ℕ) → IsJoined ps u → matches pattern u ≡ true) → IsJoined (with_first_byte a ps) t → byte_then a (matches pattern) t ≡ true
-from_byte a pattern t ps r rs e f h = grind (arith, inr, e, eq_self, f)
+from_byte a pattern t ps r rs e f h = grind (arith, eq_self)
 
 from_by : (a : ℕ) (c : Bool) (pattern t : List ℕ) → ((u : List ℕ) → IsJoined (pieces pattern) u → matches pattern u ≡ true)
     → IsJoined (cond c ([] ∷ pieces pattern) (with_first_byte a (pieces pattern))) t → cond c (star_takes (matches pattern) t) (byte_then a (matches pattern) t)
@@ -129,7 +129,7 @@ abbrev Placed : List ℕ → List ℕ → List ℕ → Type 0
 Placed p t r = (gap : List ℕ) × (t ≡ gap ++ (p ++ r))
 
 placed_here : (p t r : List ℕ) → starts_with eqb t p ≡ true → after p t ≡ Some r → Placed p t r
-placed_here p t r h e = grind (arith, length, after_here, e, starts_at)
+placed_here p t r h e = grind (arith, after_here, starts_at)
 
 placed_by : (p : List ℕ) (b : ℕ) (t r : List ℕ) (c : Bool) → starts_with eqb (b ∷ t) p ≡ c → (after p t ≡ Some r → Placed p t r) → after p (b ∷ t) ≡ Some r
     → Placed p (b ∷ t) r
@@ -137,7 +137,7 @@ placed_by p b t r true e f h = placed_here p (b ∷ t) r e h
 placed_by p b t r false e f h = let (gap, w) = f (sym (after_later p b t e) ∙ h) in (b ∷ gap, ap (λ y. b ∷ y) w)
 
 placed_none : (p r : List ℕ) (c : Bool) → starts_with eqb [] p ≡ c → after p [] ≡ Some r → Placed p [] r
-placed_none p r c e h = grind (arith, placed_here, e)
+placed_none p r c e h = grind (arith, placed_here)
 
 placed : (p t r : List ℕ) → after p t ≡ Some r → Placed p t r
 placed p [] r h = placed_none p r (starts_with eqb [] p) refl h
@@ -148,7 +148,7 @@ more_behind q ps x t (gap, rest, e, g) = (x ++ gap, rest, ap (λ y. x ++ y) e �
 
 greedy_found : (q : List ℕ) (ps : List (List ℕ)) (o : Option (List ℕ)) → option_map_or (greedy (q ∷ ps)) o false ≡ true → (r : List ℕ) × (o ≡ Some r)
     × (greedy (q ∷ ps) r ≡ true)
-greedy_found q ps o h = grind (arith, false≢true)
+greedy_found q ps o h = grind arith
 
 pub greedy_behind : (ps : List (List ℕ)) (t : List ℕ) → greedy ps t ≡ true → IsJoinedAfterStar ps t
 greedy_behind [] t h = empty_is t h
@@ -179,14 +179,14 @@ abbrev pub no_star : ℕ → Bool
 no_star b = not (b == 42)
 
 in_front_one : (b : ℕ) (t : List ℕ) (c : Bool) → (b == 42) ≡ c → not c ≡ true → pieces t ≡ t ∷ [] → pieces (b ∷ t) ≡ (b ∷ t) ∷ []
-in_front_one b t c e h k = grind (arith, false≢true, e)
+in_front_one b t c e h k = grind arith
 
 pub one_piece : (t : List ℕ) → list_all no_star t ≡ true → pieces t ≡ t ∷ []
 one_piece [] h = refl
 one_piece (b ∷ t) h = grind (arith, one_piece t, in_front_one)
 
 in_front_more : (b : ℕ) (t p : List ℕ) (ps : List (List ℕ)) (c : Bool) → (b == 42) ≡ c → not c ≡ true → pieces t ≡ p ∷ ps → pieces (b ∷ t) ≡ (b ∷ p) ∷ ps
-in_front_more b t p ps c e h k = grind (arith, false≢true, e)
+in_front_more b t p ps c e h k = grind arith
 
 pub first_piece : (p rest : List ℕ) → list_all no_star p ≡ true → pieces (p ++ 42 ∷ rest) ≡ p ∷ pieces rest
 first_piece [] rest h = refl
@@ -205,7 +205,7 @@ greedy_cut p q t =
     rw e refl
 
 true_both : (a b : Bool) → (a ≡ true → b ≡ true) → (b ≡ true → a ≡ true) → a ≡ b
-true_both a b f g = grind (arith, f)
+true_both a b f g = grind arith
 
 pub front_and_behind : (pattern t p q : List ℕ) (c : Bool) → pieces pattern ≡ p ∷ pieces q → c ≡ starts_with eqb t p → matches pattern t
     ≡ (c && greedy (pieces q) (drop (length p) t))
@@ -231,8 +231,8 @@ pub greedy_some : (whole p q t r : List ℕ) → pieces whole ≡ p ∷ pieces q
 greedy_some whole p q t r e n = sym (ap (λ ps. greedy ps t) e ∙ greedy_cut p q t ∙ ap (λ o. option_map_or (greedy (pieces q)) o false) n)
 
 pub whole_is : (pattern t : List ℕ) (r : Bool) → pieces pattern ≡ pattern ∷ [] → r ≡ pointwise eqb pattern t → r ≡ matches pattern t
-whole_is pattern t r e h = grind (arith, slice_eq-Decides, e, matches_joins, append-nil, joins_matches, true_both)
+whole_is pattern t r e h = grind (arith, slice_eq-Decides, matches_joins, append-nil, joins_matches, true_both)
 
 pub cut_true : (pattern t p : List ℕ) (k : ℕ) (c : Bool) → pieces pattern ≡ take k pattern ∷ pieces (drop (k + 1) pattern) → k < length pattern
     → p ≡ take k pattern → c ≡ starts_with eqb t p → matches pattern t ≡ (c && greedy (pieces (drop (k + 1) pattern)) (drop k t))
-cut_true pattern t p k c e l w s = grind (arith, length, length-take-le, front_and_behind, e)
+cut_true pattern t p k c e l w s = grind (arith, length-take-le, front_and_behind)

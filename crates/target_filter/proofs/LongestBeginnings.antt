@@ -101,7 +101,7 @@ letters_ascii [] h = IsAscii-nil
 letters_ascii (x ∷ xs) h = grind (arith, letters_ascii xs, IsAscii-cons)
 
 field_letters : (f : Field) → is_field f ≡ true → list_all is_word_letter (field_text f) ≡ true
-field_letters f h = grind (arith, length)
+field_letters f h = grind arith
 
 second_part : (xs ys : List ℕ) → list_all is_word_letter (xs ++ ys) ≡ true → list_all is_word_letter ys ≡ true
 second_part [] ys h = h

@@ -1,7 +1,7 @@
 -- The tree of a text is found, so a text has one tree.
 use Rattle.target_filter.proofs.Common.{◌≡◌, ℕ, zero, suc, ◌+◌, ◌*◌, ◌≤◌, List, [], ◌∷◌, ◌++◌, length, Bool, true, false}
-use Rattle.target_filter.proofs.Common.{cond, ◌==◌, not, Option, Some, refl, sym, ◌∙◌, ap, arith, append_assoc, append-nil}
-use Rattle.target_filter.proofs.Common.{length-append, list_all, option_and_then, option_map, option_map_or, false≢true, nat_tests}
+use Rattle.target_filter.proofs.Common.{◌==◌, not, Option, Some, refl, sym, ◌∙◌, ap, arith, append_assoc, append-nil}
+use Rattle.target_filter.proofs.Common.{length-append, list_all, option_and_then, option_map_or, false≢true, nat_tests}
 use Rattle.target_filter.proofs.Common.{is_bare_byte, Field, Id, Name, Tag, Attribute, Value, Tree, Or, And}
 use Rattle.target_filter.proofs.Common.{Group, Comparison, OrLevel, AndLevel, AtomLevel, is_at, spelling, field_text, value_text}
 use Rattle.target_filter.proofs.Common.{Operator, operator_byte, is_field, is_filter_value, IsFilter, is_word_letter, front, behind_front}
@@ -15,10 +15,10 @@ stops p [] = true
 stops p (b ∷ bs) = not (p b)
 
 front_stop : (p : ℕ → Bool) (b : ℕ) (rest : List ℕ) (c : Bool) → p b ≡ c → not c ≡ true → front p (b ∷ rest) ≡ []
-front_stop p b rest c e h = grind (arith, false≢true, e)
+front_stop p b rest c e h = grind arith
 
 past_stop : (p : ℕ → Bool) (b : ℕ) (rest : List ℕ) (c : Bool) → p b ≡ c → not c ≡ true → behind_front p (b ∷ rest) ≡ b ∷ rest
-past_stop p b rest c e h = grind (arith, false≢true, e)
+past_stop p b rest c e h = grind arith
 
 pub fronts : (p : ℕ → Bool) (xs rest : List ℕ) → list_all p xs ≡ true → stops p rest ≡ true → front p (xs ++ rest) ≡ xs
 fronts p [] [] h s = refl
@@ -34,13 +34,13 @@ field_found : (f : Field) → field_of_name (field_text f) ≡ Some f
 field_found f = grind arith
 
 field_letters : (f : Field) → is_field f ≡ true → list_all is_word_letter (field_text f) ≡ true
-field_letters f h = grind (arith, length)
+field_letters f h = grind arith
 
 bare_not_quote : (b : ℕ) → is_bare_byte b ≡ true → (b == 34) ≡ false
 bare_not_quote b h = grind (arith, nat_tests)
 
 value_found : (v : Value) (rest : List ℕ) → is_filter_value v ≡ true → stops is_bare_byte rest ≡ true → value_at (value_text v ++ rest) ≡ Some (v, rest)
-value_found v rest h s = grind (arith, nat_tests, false≢true, cond, bare_not_quote, fronts, pasts, append_assoc)
+value_found v rest h s = grind (arith, nat_tests, bare_not_quote, fronts, pasts, append_assoc)
 
 mark_found : (m : Operator) (rest : List ℕ) → operator_at (operator_byte m ∷ 61 ∷ rest) ≡ Some (m, rest)
 mark_found m rest = grind arith
@@ -50,8 +50,7 @@ mark_stops m rest = grind arith
 
 test_found : (f : Field) (m : Operator) (v : Value) (rest : List ℕ) → is_field f ≡ true → is_filter_value v ≡ true → stops is_bare_byte rest ≡ true
     → comparison_at (spelling (Comparison f m v) ++ rest) ≡ Some (Comparison f m v, rest)
-test_found f m v rest h k s =
-    grind (arith, append_assoc, f, option_map, Comparison, value_at, fronts, field_letters, mark_stops, field_found, pasts, mark_found, value_found)
+test_found f m v rest h k s = grind (arith, append_assoc, fronts, field_letters, mark_stops, field_found, pasts, mark_found, value_found)
 
 abbrev semi : ℕ → Bool
 semi b = b == 59
@@ -60,13 +59,13 @@ abbrev comma : ℕ → Bool
 comma b = b == 44
 
 ands_stop_by : (n : ℕ) (t : Tree) (b : ℕ) (s : List ℕ) (c : Bool) → (b == 59) ≡ c → not c ≡ true → more_ands (suc n) t (b ∷ s) ≡ Some (t, b ∷ s)
-ands_stop_by n t b s c e h = grind (arith, false≢true, e)
+ands_stop_by n t b s c e h = grind arith
 
 ands_stop : (n : ℕ) (t : Tree) (rest : List ℕ) → stops semi rest ≡ true → more_ands n t rest ≡ Some (t, rest)
 ands_stop n t rest h = grind (arith, ands_stop_by)
 
 ors_stop_by : (n : ℕ) (t : Tree) (b : ℕ) (s : List ℕ) (c : Bool) → (b == 44) ≡ c → not c ≡ true → more_ors (suc n) t (b ∷ s) ≡ Some (t, b ∷ s)
-ors_stop_by n t b s c e h = grind (arith, false≢true, e)
+ors_stop_by n t b s c e h = grind arith
 
 ors_stop : (n : ℕ) (t : Tree) (rest : List ℕ) → stops comma rest ≡ true → more_ors n t rest ≡ Some (t, rest)
 ors_stop n t rest h = grind (arith, ors_stop_by)

@@ -42,7 +42,7 @@ taken text found = cond (is_profile_filter text found.0) (Some found.0) None
 
 kept_by : (text : List ℕ) (u t : Tree) (c : Bool) → is_profile_filter text u ≡ c → ◌≡◌ {A = Option Tree} (cond c (Some u) None) (Some t)
     → is_profile_filter text t ≡ true
-kept_by text u t c e h = grind (arith, e)
+kept_by text u t c e h = grind arith
 
 kept : (text : List ℕ) (t : Tree) (o : Option (Tree × List ℕ)) → option_and_then (taken text) o ≡ Some t → is_profile_filter text t ≡ true
 kept text t o h = grind (arith, kept_by)
@@ -51,13 +51,13 @@ pub filter_tree : (text : List ℕ) (t : Tree) → filter_of text ≡ Some t →
 filter_tree text t h = passes text t (kept text t (or_at (3 * length text + 3) text) h)
 
 pub tree_filter : (text : List ℕ) (t : Tree) → IsProfileFilter text t → filter_of text ≡ Some t
-tree_filter text t h = grind (arith, parsed, length, cond, passed)
+tree_filter text t h = grind (arith, parsed, passed)
 
 pub no_filter : (text : List ℕ) → filter_of text ≡ None → IsInProfile text → ⊥
 no_filter text e (t, h) = let some = tree_filter text t h in cc
 
 none_by : (text : List ℕ) (o : Option Tree) → filter_of text ≡ o → (IsInProfile text → ⊥) → filter_of text ≡ None
-none_by text o e h = grind (arith, e, filter_tree)
+none_by text o e h = grind (arith, filter_tree)
 
 pub filter_none : (text : List ℕ) → (IsInProfile text → ⊥) → filter_of text ≡ None
 filter_none text h = none_by text (filter_of text) refl h
@@ -68,4 +68,4 @@ tree_found text u r (t, h) e = subst (IsProfileFilter text) (found text (3 * len
 
 pub none_missing : (text : List ℕ) (e : ParseFault) → IsInProfile text → e ≡ Missing → (e ≡ Memory)
     ⊎ ((e ≡ Missing) × (or_at (3 * length text + 3) text ≡ None)) → ⊥
-none_missing text e p h h4 = grind (arith, parsed, length)
+none_missing text e p h h4 = grind (arith, parsed)

@@ -7,7 +7,7 @@ use Rattle.target_filter.proofs.Common.{Operator, operator_byte, nesting, is_fie
 use Rattle.target_filter.specs.Scanner as scan
 
 pub both : (a b : Bool) → (a && b) ≡ true → (a ≡ true) × (b ≡ true)
-both a b h = grind (arith, false≢true)
+both a b h = grind arith
 
 abbrev pub in_mode : ℕ → ℕ → Mode → State
 in_mode d e m = record { depth = d; deepest = e; mode = m }
@@ -65,7 +65,7 @@ field_read d e (Attribute key) rest h =
 
 mark_read : (d e : ℕ) (f : Field) (m : Operator) (rest : List ℕ) → is_field f ≡ true → run (in_mode d e (field_end f)) (operator_byte m ∷ 61 ∷ rest)
     ≡ run (in_mode d e scan.Value) rest
-mark_read d e f m rest h = grind (arith, false≢true, lt_true, length)
+mark_read d e f m rest h = grind (arith, lt_true)
 
 abbrev pub tree_end : Tree → Mode
 tree_end (Or a b) = tree_end b
@@ -82,13 +82,13 @@ tree_ends (Comparison f m (Quoted v)) = refl
 
 -- behind an atom
 comma : (d e : ℕ) (m : Mode) (rest : List ℕ) → scan.ends_atom m ≡ true → run (in_mode d e m) (44 ∷ rest) ≡ run (in_mode d e scan.AtomStart) rest
-comma d e m rest h = grind (arith, false≢true)
+comma d e m rest h = grind arith
 
 semicolon : (d e : ℕ) (m : Mode) (rest : List ℕ) → scan.ends_atom m ≡ true → run (in_mode d e m) (59 ∷ rest) ≡ run (in_mode d e scan.AtomStart) rest
-semicolon d e m rest h = grind (arith, false≢true)
+semicolon d e m rest h = grind arith
 
 pub closed : (d e : ℕ) (m : Mode) (rest : List ℕ) → scan.ends_atom m ≡ true → run (in_mode (d + 1) e m) (41 ∷ rest) ≡ run (in_mode d e scan.AtomEnd) rest
-closed d e m rest h = grind (arith, lt_true, false≢true)
+closed d e m rest h = grind (arith, lt_true)
 
 deeper : (d : ℕ) (m : Mode) (rest : List ℕ) (e f : ℕ) → e ≡ f → run (in_mode d e m) rest ≡ run (in_mode d f m) rest
 deeper d m rest e f h = ap (λ k. run (in_mode d k m) rest) h

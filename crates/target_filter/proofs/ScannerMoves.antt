@@ -15,7 +15,7 @@ pub eq_true : (a b : ℕ) → (a == b) ≡ true → a ≡ b
 eq_true a b h = grind (arith, nat_tests)
 
 pub by_test : (P : Move → Type 0) (c : Bool) (x y : Move) → (c ≡ true → P x) → (c ≡ false → P y) → P (cond c x y)
-by_test h0 c x y f g = grind (arith, f)
+by_test h0 c x y f g = grind arith
 
 all_push : (p : ℕ → Bool) (xs : List ℕ) (b : ℕ) → list_all p xs ≡ true → p b ≡ true → list_all p (xs ++ b ∷ []) ≡ true
 all_push p [] b h k = all_of (p b) true k refl
@@ -61,7 +61,7 @@ named_good x y (z ∷ zs) true h = append_assoc x (y ∷ []) (z ∷ zs) ∙ h
 named_good x y (z ∷ zs) false (f, p, e) = (f, p, append_assoc x (y ∷ []) (z ∷ zs) ∙ e)
 
 key_field : (key : List ℕ) (n : ℕ) → list_all is_word_letter key ≡ true → length key ≡ n → n ≤ 64 → nat_lt 0 n ≡ true → is_field (Attribute key) ≡ true
-key_field key n h e l z = grind (arith, length)
+key_field key n h e l z = grind arith
 
 some_push : (v : List ℕ) (b : ℕ) → is_nonempty (v ++ b ∷ []) ≡ true
 some_push [] b = refl
@@ -142,7 +142,7 @@ close_text o up part t p x b h e k = rw (h, e, k, whole_spelled part t) (simp ap
 
 close_stands : (s : State) (p : List ℕ) (b : ℕ) (outer : List Part) (h : Stands s p) → h.outer ≡ outer → scan.ends_atom s.mode ≡ true → b ≡ 41
     → IfSome (state_after s scan.Close) (λ t. Stands t (p ++ b ∷ []))
-close_stands s p b [] h w d k = grind (arith, length, no, false)
+close_stands s p b [] h w d k = grind (arith, no)
 close_stands s p b (q ∷ qs) h w d k =
     let some : suc (length qs) ≡ s.depth = sym (ap length w) ∙ h.depth in
     let yes : nat_lt 0 s.depth ≡ true = grind (arith, nat_tests) in
@@ -214,7 +214,7 @@ step_stands s p b h = go_stands s p b h (next s.mode b) (good s.mode h.atom b h.
 
 run_from : (o : Option State) (p : List ℕ) (bs : List ℕ) (t : State) → IfSome o (λ s. Stands s p)
     → ((s : State) → Stands s p → run s bs ≡ Some t → Stands t (p ++ bs)) → option_and_then (λ s. run s bs) o ≡ Some t → Stands t (p ++ bs)
-run_from o p bs t h f e = grind (arith, f, e)
+run_from o p bs t h f e = grind arith
 
 pub run_stands : (bs : List ℕ) (s : State) (p : List ℕ) (t : State) → Stands s p → run s bs ≡ Some t → Stands t (p ++ bs)
 run_stands [] s p t h e = grind (arith, append-nil)

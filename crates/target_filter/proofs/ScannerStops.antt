@@ -92,7 +92,7 @@ quotes_take s b e p = ap (λ m. state_after s (next m b)) e
     ∙ ap (λ c. state_after s (cond c (scan.Go scan.Quoted) (cond (b == 34) (scan.Go scan.AtomEnd) scan.Stop))) p
 
 in_quotes : (s : State) (b : ℕ) (c : Bool) → nat_lt b 128 ≡ c → s.mode ≡ scan.Quoted → step s b ≡ None → b < 128
-in_quotes s b c h e n = grind (arith, quotes_take, e)
+in_quotes s b c h e n = grind (arith, quotes_take)
 
 before_byte : (text : List ℕ) (k : ℕ) (s : State) → IsUtf8 text → k + 1 < length text → run start (take (k + 1) text) ≡ Some s → step s (get_or text (k + 1) 0)
     ≡ None → IsCharBoundary text (k + 1)
