@@ -61,7 +61,7 @@ on_own h c q t = rw (t, eq-eqb q.rollout q.rollout refl, eq-eqb q.position q.pos
 
 -- what isn't heard on an action leaves its record
 pub unheard : (h : CommandList) (c : Command) (p : ActionPlace) → is_heard h c p.rollout p.position ≡ false → action_in (h ▸ c) p ≡ action_in h p
-unheard h c p e = grind (arith, same_action, e, or_none, append_none, history)
+unheard h c p e = grind (arith, same_action, or_none, append_none)
 
 pub off_action : (h : CommandList) (c : Command) (p : ActionPlace) → is_on_action h c p.rollout p.position ≡ false → action_in (h ▸ c) p ≡ action_in h p
 off_action h c p e = unheard h c p (rw e refl)
@@ -69,7 +69,7 @@ off_action h c p e = unheard h c p (rw e refl)
 -- so does each command on a closed one
 pub closed_action : (h : CommandList) (c : Command) (p : ActionPlace) (o : Outcome) → outcome h p.rollout p.position ≡ Some o → action_in (h ▸ c) p
     ≡ action_in h p
-closed_action h c p o e = grind (arith, same_action, e, and-false, append_none, history)
+closed_action h c p o e = grind (arith, same_action, and-false, append_none)
 
 closed_after : (h : CommandList) (c : Command) (p : ActionPlace) (o : Outcome) → outcome h p.rollout p.position ≡ Some o → action_after c (action_in h p)
     ≡ action_in h p
@@ -77,7 +77,7 @@ closed_after h c p o e = same_action p _ _ _ _ _ _ (rw e refl) (rw e refl) (rw e
 
 heard_action : (h : CommandList) (c : Command) (p : ActionPlace) → is_heard h c p.rollout p.position ≡ true → action_in (h ▸ c) p
     ≡ action_after c (action_in h p)
-heard_action h c p e = grind (arith, same_action, e, cancels)
+heard_action h c p e = grind (arith, same_action, cancels)
 
 pub on_action : (h : CommandList) (c : Command) (p : ActionPlace) → is_on_action h c p.rollout p.position ≡ true → is_again (history h p.rollout p.position) c
     ≡ false → action_in (h ▸ c) p ≡ action_after c (action_in h p)
@@ -157,4 +157,4 @@ get_map f (x ∷ xs) zero = refl
 get_map f (x ∷ xs) (suc i) = get_map f xs i
 
 pub numbered_map : {X Y : Type 0} (f : X → Y) (xs : List X) (k : ℕ) → item_numbered (map f xs) k ≡ option_map f (item_numbered xs k)
-numbered_map f xs k = grind (arith, get_map, f)
+numbered_map f xs k = grind (arith, get_map)

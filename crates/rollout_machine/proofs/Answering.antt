@@ -30,7 +30,7 @@ accepted_answer h c accepted = rw accepted
 -- the reply by one step of the records
 pub accepted_step : (h : CommandList) (c : Command) → IsValid h → verdict h c ≡ None → answer h (Asks (Do c))
     ≡ record { reply = command_reply c (step_records (records h) c); accepted = Some c }
-accepted_step h c valid accepted = grind (arith, accepted_answer, records_step, valid)
+accepted_step h c valid accepted = grind (arith, accepted_answer, records_step)
 
 pub made_records : (approval : Bool) → records (Make approval) ≡ no_records approval
 unfolding records

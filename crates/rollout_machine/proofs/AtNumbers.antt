@@ -14,7 +14,7 @@ item_in xs d zero low high = absurd (omega (arith, low))
 item_in xs d (suc i) low high = (get_or xs i d, slice_get-get_or xs i d (omega (arith, high)))
 
 pub item_within : {X : Type 0} (xs : List X) (j : ℕ) (x : X) → item_numbered xs j ≡ Some x → (1 ≤ j) × (j ≤ length xs)
-item_within xs j x e = grind (arith, length, slice_get_within, e)
+item_within xs j x e = grind (arith, slice_get_within)
 
 -- the action is that of a place
 pub record HasPlace (h : CommandList) (k : ℕ) (a : ActionRecord) : Type 0 where
@@ -38,7 +38,7 @@ pub record IsOfRollout (h : CommandList) (r : ℕ) (y : RolloutRecord) : Type 0 
 
 pub of_rollout : (h : CommandList) (r : ℕ) (y : RolloutRecord) → item_numbered (records h).rollouts r ≡ Some y → IsOfRollout h r y
 unfolding records
-of_rollout h r y e = grind (arith, e, no_record, rollout_numbered)
+of_rollout h r y e = grind (arith, no_record, rollout_numbered)
 
 pub recorded : (h : CommandList) (r : ℕ) (x : Rollout) → rollout_at h r ≡ Some x → item_numbered (records h).rollouts r ≡ Some (rollout_in h r x)
 unfolding records

@@ -1,5 +1,5 @@
 -- Counts over positions: equal where the tests agree, one more where they differ at one place.
-use Rattle.rollout_machine.proofs.Common.{◌≡◌, ℕ, zero, suc, ◌+◌, ◌<◌, ◌≤◌, Bool, true, false, cond, refl, sym, arith, inl, inr, cases_eq, count_from}
+use Rattle.rollout_machine.proofs.Common.{◌≡◌, ℕ, zero, suc, ◌+◌, ◌<◌, ◌≤◌, Bool, true, false, refl, sym, arith, inl, inr, cases_eq, count_from}
 use Rattle.rollout_machine.proofs.Common.{some_up_to}
 use mathlib.Core.Bool.{or-false}
 
@@ -53,4 +53,4 @@ one_up_to p (suc n) k l u h = elim (cases_eq k (suc n)) [
 
 pub count_few : (p : ℕ → Bool) (first n : ℕ) → count_from p first n ≤ n
 count_few p first zero = omega arith
-count_few p first (suc n) = grind (arith, count_few p first n, count_from, cond, false)
+count_few p first (suc n) = grind (arith, count_few p first n)

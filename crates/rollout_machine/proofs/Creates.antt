@@ -23,7 +23,7 @@ waits a b f p e = grind arith
 
 decided_now : (h : CommandList) (q : ℕ) (c : Command) (d : Bool) → needs_approval (h ▸ c) ≡ needs_approval h → decision_on q c ≡ Some d → approval_of q h
     ≡ Waiting → approval_of q (h ▸ c) ≡ cond d Given Denied
-decided_now h q c d n e w = grind (arith, e)
+decided_now h q c d n e w = grind arith
 
 calm_about : (h : CommandList) (q r : ℕ) (c : Command) → action_of h c ≡ None → IsCalm r h (Approve q)
 calm_about h q r c t = record { outcomes = λ j. calm_outcome h (Approve q) r j refl; pauses = refl; resumes = refl; triggers = refl; starts = refl }

@@ -30,12 +30,12 @@ pub held : (x : Rollout) (i j : ℕ) → IsInGroup x i j → holds_position j (b
 held x i j w = rw (le-leb _ _ w.low, le-leb _ _ (up_to _ _ _ w.low w.high)) refl
 
 pub in_bounds : (x : Rollout) (i j : ℕ) → holds_position j (bounds_in x i) ≡ true → IsInGroup x i j
-in_bounds x i j e = grind (arith, and_parts, e, leb-true, below)
+in_bounds x i j e = grind (arith, and_parts, leb-true, below)
 
 -- ---- each group has a member
 
 pub size_positive : (x : Rollout) (i : ℕ) → HasSoundPlan x → 1 ≤ i → i ≤ x.plan.groups.count → 1 ≤ size_in x i
-size_positive x i sound a b = grind (arith, last_of)
+size_positive x i sound a b = grind arith
 
 -- ---- each member is in one
 

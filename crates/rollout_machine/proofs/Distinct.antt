@@ -1,6 +1,6 @@
 -- No two actions have one place: so the action of a number is the action of its place.
 use Rattle.rollout_machine.proofs.Common.{◌≡◌, ℕ, zero, suc, ◌+◌, false, List, [], ◌∷◌, ◌++◌, refl, sym, ◌∙◌, ap, arith, inl, inr, ◌⊎◌, Option, Some, None}
-use Rattle.rollout_machine.proofs.Common.{length, slice_get, option_map, false≢true, ActionPlace, action_places, new_places, places_of, places_from}
+use Rattle.rollout_machine.proofs.Common.{length, slice_get, false≢true, ActionPlace, action_places, new_places, places_of, places_from}
 use Rattle.rollout_machine.proofs.Common.{CommandList, Make, ◌▸◌, Command, Start, NumbersDiffer, is_rollout_started, is_paused, records, rollout_in}
 use Rattle.rollout_machine.proofs.Common.{approval_of, Rollout, rollout_at, size_of, is_finished, IsValid, verdict, verdict_row, is_ready}
 use Rattle.rollout_machine.proofs.Valid.{NoneHolds, none_holds}
@@ -20,7 +20,7 @@ split_at (y ∷ xs) ys (suc i) x e = later (split_at xs ys i x e)
 
 pub position_at : (r a n i : ℕ) (p : ActionPlace) → slice_get (places_from r a n) i ≡ Some p → (p.rollout ≡ r) × (p.position ≡ a + i)
 position_at r a zero i p e = cc
-position_at r a (suc n) zero p e = grind (arith, option_map, e)
+position_at r a (suc n) zero p e = grind arith
 position_at r a (suc n) (suc i) p e = let t : (p.rollout ≡ r) × (p.position ≡ suc a + i) = position_at r (suc a) n i p e in (t.0, omega (arith, t.1))
 
 -- a new place is of a rollout that had not begun, and at the position that its index says
@@ -59,4 +59,4 @@ same_index (h ▸ c) v a b p d e = go (split_at (action_places h) (new_places h 
 
 -- no two numbers have one place
 pub one_number : NumbersDiffer
-one_number h h1 b p v d e = grind (arith, same_index, e)
+one_number h h1 b p v d e = grind (arith, same_index)

@@ -40,7 +40,7 @@ whole_is_cut ps m w some = subst (λ qs. IsCut (split_last m qs) m (length qs)) 
     (split_is_cut m w.before w.some (subst (LeavesNoneEmpty m) w.are some))
 
 no_first : (o : Option ℕ) → is_some o ≡ false → o ≡ None
-no_first o e = grind (arith, false≢true, e)
+no_first o e = grind arith
 
 defined_is_cut : (ds : List GroupDefinition) (count m : ℕ) → is_group_count count ≡ true → define_each ds count ≡ true → some_empty ds count m ≡ false
     → IsCut (last_defined ds count m) m count

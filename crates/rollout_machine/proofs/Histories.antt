@@ -55,7 +55,7 @@ entries_if b reports = grind arith
 
 fits : (h : CommandList) (r j : ℕ) → FitsHistory (outcome h r j) (entries_in (history h r j))
 fits (Make approval) r j = given_fits None [] refl
-fits (h ▸ c) r j = grind (arith, fits h r j, entries_both, history, j, entries_if, is_none, fits_after, entries_fit)
+fits (h ▸ c) r j = grind (arith, fits h r j, entries_both, entries_if, fits_after, entries_fit)
 
 pub outcomes_fit_histories : OutcomesFitHistories
 outcomes_fit_histories h k a e =

@@ -178,7 +178,7 @@ old_is row x e = rw e refl
 
 others_same : (row : TargetRow) (f : Bytes → Target) (ids : List Bytes) → contains_word row.id ids ≡ false → map f ids ≡ map (after_row row f) ids
 others_same row f [] e = refl
-others_same row f (t ∷ ts) e = grind (arith, others_same row f ts, same_bytes, false, ts, or_parts, e, f)
+others_same row f (t ∷ ts) e = grind (arith, others_same row f ts, or_parts)
 
 two : {X : Type 0} (x y : X) (xs ys : List X) → x ≡ y → xs ≡ ys → x ∷ xs ≡ y ∷ ys
 two x y xs ys e d = rw (e, d) refl
@@ -188,7 +188,7 @@ apart_both w t ts d n = rw (d, n) refl
 
 put_one : (row : TargetRow) (f : Bytes → Target) (ids : List Bytes) → KeepsIds f → IsSorted ids
     → (contains_word row.id ids ≡ false → (f row.id).attributes ≡ []) → put_target row (map f ids) ≡ map (after_row row f) (with_word row.id ids)
-put_one row f [] k s m = grind (arith, Target, new_is, f, by_row, cond, same_refl)
+put_one row f [] k s m = grind (arith, new_is, same_refl)
 put_one row f (t ∷ ts) k s m =
     subst P (sym (k t)) (go (same_bytes row.id t) (bytes_below row.id t) refl refl (λ d. put_one row f ts k s.1 (λ n. m (apart_both row.id t ts d n))))
   where
@@ -221,12 +221,12 @@ put_all : (rows : List TargetRow) (f : Bytes → Target) (ids : List Bytes) → 
     ≡ map (after_rows rows f) (with_words (map (λ (row : TargetRow). row.id) rows) ids)
 put_all [] f ids k s m = refl
 put_all (row ∷ rows) f ids k s m =
-    grind (arith, put_all rows (after_row row f) (with_word row.id ids), f, ids, put_one, names_it, sorted_with, keeps_attributes, or_parts, has_with)
+    grind (arith, put_all rows (after_row row f) (with_word row.id ids), put_one, sorted_with, keeps_attributes, or_parts, has_with)
 
 -- the last row that names the target counts
 rows_are_last : (rows : List TargetRow) (f : Bytes → Target) (t : Bytes) → after_rows rows f t ≡ by_row (last_row_for t rows) (f t)
 rows_are_last [] f t = refl
-rows_are_last (row ∷ rows) f t = grind (arith, rows_are_last rows (after_row row f) t, f, names_it)
+rows_are_last (row ∷ rows) f t = grind (arith, rows_are_last rows (after_row row f) t)
 
 abbrev target_by : CommandList → Bytes → Option TargetRow → Target
 target_by h t o = record {
@@ -238,7 +238,7 @@ target_by h t o = record {
 }
 
 imported_is : (h : CommandList) (rows : List TargetRow) (t : Bytes) → after_rows rows (target_in h) t ≡ target_in (h ▸ PutTargets rows) t
-imported_is h rows t = grind (arith, rows_are_last, target_in)
+imported_is h rows t = grind (arith, rows_are_last)
 
 -- ---- who isn't there has no attributes
 

@@ -1,7 +1,7 @@
 -- What holds of every history of accepted commands.
 use Rattle.rollout_machine.proofs.Common.{◌≡◌, ℕ, zero, suc, ◌+◌, ◌<◌, ◌≤◌, Bool, true, false, cond, ◌||◌, ◌&&◌, not, List, [], ◌∷◌, ◌++◌, refl, sym, ◌∙◌, ap}
 use Rattle.rollout_machine.proofs.Common.{subst, arith, inl, inr, ◌⊎◌, Option, Some, None, length, nat_lt, nat_eq, is_none, slice_get, and-false, or-true}
-use Rattle.rollout_machine.proofs.Common.{option_map, cases_Bool, ne_eqb, eq-eqb, and_parts, leb-true, eqb-true, false≢true, or_parts, not-false}
+use Rattle.rollout_machine.proofs.Common.{cases_Bool, ne_eqb, eq-eqb, and_parts, leb-true, eqb-true, false≢true, or_parts, not-false}
 use Rattle.rollout_machine.proofs.Common.{ActionPlace, action_of, is_on_action, is_action_place, action_places, action_place, new_places}
 use Rattle.rollout_machine.proofs.Common.{places_from, item_numbered, CommandList, Make, ◌▸◌, IsWellFormed, DeviceFeedback, DeploymentWord, CancelWord, Command}
 use Rattle.rollout_machine.proofs.Common.{AddModule, AddArtifact, AddSet, PutTargets, Tag, Untag, PutAttributes, CreateRollout, Cancel, Feedback}
@@ -29,7 +29,7 @@ get_front (y ∷ xs) ys zero x e = e
 get_front (y ∷ xs) ys (suc i) x e = get_front xs ys i x e
 
 pub stays_numbered : {X : Type 0} (xs ys : List X) (k : ℕ) (x : X) → item_numbered xs k ≡ Some x → item_numbered (xs ++ ys) k ≡ Some x
-stays_numbered xs ys k x e = grind (arith, get_front, e)
+stays_numbered xs ys k x e = grind (arith, get_front)
 
 get_either : {X : Type 0} (xs ys : List X) (i : ℕ) (x : X) → slice_get (xs ++ ys) i ≡ Some x → (slice_get xs i ≡ Some x)
     ⊎ ((slice_get xs i ≡ None) × ((j : ℕ) × (slice_get ys j ≡ Some x)))
@@ -39,7 +39,7 @@ get_either (y ∷ xs) ys (suc i) x e = get_either xs ys i x e
 
 pub either_numbered : {X : Type 0} (xs ys : List X) (k : ℕ) (x : X) → item_numbered (xs ++ ys) k ≡ Some x → (item_numbered xs k ≡ Some x)
     ⊎ ((item_numbered xs k ≡ None) × ((j : ℕ) × (slice_get ys j ≡ Some x)))
-either_numbered xs ys k x e = grind (arith, get_either, e)
+either_numbered xs ys k x e = grind (arith, get_either)
 
 -- ---- the invariant
 
@@ -122,7 +122,7 @@ not_decided h c r a e = go (decision_on r c) refl
     go (Some b) d = (let (x, k) = a.decides r b d in let both : Some x ≡ None = sym k ∙ e in cc)
 
 touched_placed : (h : CommandList) (c : Command) (p : ActionPlace) → action_of h c ≡ Some p → (k : ℕ) × (action_place h k ≡ Some p)
-touched_placed h c p e = grind (arith, e)
+touched_placed h c p e = grind arith
 
 off_rollout : (h : CommandList) (c : Command) (r : ℕ) → Invariant h → is_rollout_started r h ≡ false → (j : ℕ) → is_on_action h c r j ≡ false
 off_rollout h c r w e j = go (action_of h c) refl
@@ -145,8 +145,8 @@ fresh_after h c r w e =
 
 in_range : (r a n j : ℕ) (p : ActionPlace) → slice_get (places_from r a n) j ≡ Some p → (p.rollout ≡ r) × (a ≤ p.position) × (p.position < a + n)
 in_range r a zero j p e = cc
-in_range r a (suc n) zero p e = grind (arith, option_map, e)
-in_range r a (suc n) (suc j) p e = grind (arith, in_range r (suc a) n j p e, j, e)
+in_range r a (suc n) zero p e = grind arith
+in_range r a (suc n) (suc j) p e = grind (arith, in_range r (suc a) n j p e)
 
 pub record IsNewPlace (h : CommandList) (c : Command) (p : ActionPlace) : Type 0 where
   pub rollout : Rollout
@@ -156,10 +156,10 @@ pub record IsNewPlace (h : CommandList) (c : Command) (p : ActionPlace) : Type 0
   pub high : p.position ≤ size_of rollout
 
 new_place : (h : CommandList) (c : Command) (j : ℕ) (p : ActionPlace) → slice_get (new_places h c) j ≡ Some p → IsNewPlace h c p
-new_place h c j p e = grind (arith, in_range, j, e, eq-eqb)
+new_place h c j p e = grind (arith, in_range, eq-eqb)
 
 moved_place : (h : CommandList) (c : Command) (p : ActionPlace) → IsPlace h p → IsPlace (h ▸ c) p
-moved_place h c p w = grind (arith, stays_numbered, created)
+moved_place h c p w = grind (arith, stays_numbered)
 
 pub goes_on : (h : CommandList) (c : Command) → Invariant h → IsAdmitted h c → Invariant (h ▸ c)
 goes_on h c w a = record {
@@ -232,12 +232,12 @@ no_rollout h a zero (x ∷ xs) e = cc
 no_rollout h a (suc i) (x ∷ xs) e = no_rollout h (suc a) i xs e
 
 pub no_record : (h : CommandList) (r : ℕ) → rollout_at h r ≡ None → item_numbered (rollouts_in h 1 (rollouts h)) r ≡ None
-no_record h r e = grind (arith, no_rollout, e)
+no_record h r e = grind (arith, no_rollout)
 
 -- a rollout that the verdict found is there
 pub found_rollout : (h : CommandList) (r : ℕ) → is_none (item_numbered (records h).rollouts r) ≡ false → (x : Rollout) × (rollout_at h r ≡ Some x)
 unfolding records
-found_rollout h r e = grind (arith, is_there, inr, is_none, no_record, false≢true, e)
+found_rollout h r e = grind (arith, is_there, no_record)
 
 started_in : (h : CommandList) (c : Command) → Invariant h → verdict h c ≡ None → (r : ℕ) (x : Rollout) → rollout_at h r ≡ Some x → StartedOnly x r h c
 started_in h (Feedback feedback) w e r x d = feedback_started h feedback (λ p t. w.placed feedback.action p t) e r x d
@@ -279,10 +279,10 @@ sound_in h (CreateRollout plan) m e (suc i) x d = cc
 sound_in h _ m e i x d = cc
 
 begins_in : (h : CommandList) (c : Command) → verdict h c ≡ None → (r : ℕ) → is_start_of r c ≡ true → (x : Rollout) × (rollout_at h r ≡ Some x)
-begins_in h c e r t = grind (arith, Start, none_holds, e, found_rollout, eqb-true)
+begins_in h c e r t = grind (arith, none_holds, found_rollout, eqb-true)
 
 pauses_in : (h : CommandList) (c : Command) → verdict h c ≡ None → (r : ℕ) → is_pause_of r c ≡ true → (x : Rollout) × (rollout_at h r ≡ Some x)
-pauses_in h c e r t = grind (arith, Pause, none_holds, e, found_rollout, eqb-true)
+pauses_in h c e r t = grind (arith, none_holds, found_rollout, eqb-true)
 
 decides_in : (h : CommandList) (c : Command) → verdict h c ≡ None → (r : ℕ) (b : Bool) → decision_on r c ≡ Some b → (x : Rollout) × (rollout_at h r ≡ Some x)
 decides_in h (Approve q) e r b t =
@@ -319,7 +319,7 @@ invariant_of (Make approval) v = begins_so approval
 invariant_of (h ▸ c) v = let w : Invariant h = invariant_of h v.0 in goes_on h c w (admitted h c w v.1 v.2)
 
 pub accepted : (h : CommandList) (c : Command) → IsValid h → verdict h c ≡ None → IsAccepted h c
-accepted h c v e = grind (arith, invariant_of, started_in, e)
+accepted h c v e = grind (arith, invariant_of, started_in)
 
 -- ---- feedback, from the records before it
 
@@ -330,15 +330,15 @@ placed_at h c k w p e =
 
 pub feedback_is_step : (h : CommandList) (feedback : DeviceFeedback DeploymentWord) → IsValid h → verdict h (Feedback feedback) ≡ None
     → records (h ▸ Feedback feedback) ≡ step_records (records h) (Feedback feedback)
-feedback_is_step h feedback v e = grind (arith, feedback_place, e, feedback_step, accepted, Feedback, placed_at, invariant_of)
+feedback_is_step h feedback v e = grind (arith, feedback_place, feedback_step, accepted, placed_at, invariant_of)
 
 pub cancel_feedback_is_step : (h : CommandList) (feedback : DeviceFeedback CancelWord) → IsValid h → verdict h (CancelFeedback feedback) ≡ None
     → records (h ▸ CancelFeedback feedback) ≡ step_records (records h) (CancelFeedback feedback)
-cancel_feedback_is_step h feedback v e = grind (arith, cancel_feedback_place, e, cancel_feedback_step, accepted, CancelFeedback, placed_at, invariant_of)
+cancel_feedback_is_step h feedback v e = grind (arith, cancel_feedback_place, cancel_feedback_step, accepted, placed_at, invariant_of)
 
 pub cancel_is_step : (h : CommandList) (t : Bytes) (k : ℕ) (force : Bool) → IsValid h → verdict h (Cancel t k force) ≡ None → records (h ▸ Cancel t k force)
     ≡ step_records (records h) (Cancel t k force)
-cancel_is_step h t k force v e = grind (arith, cancel_place, e, cancel_step, accepted, Cancel, placed_at, invariant_of)
+cancel_is_step h t k force v e = grind (arith, cancel_place, cancel_step, accepted, placed_at, invariant_of)
 
 -- ---- commands on a rollout
 
@@ -382,7 +382,7 @@ trigger_is_step h q v e =
     trigger_step h q x w d (some_started x q (w.last q) h (w.follows q x d) b)
 
 pub pause_is_step : (h : CommandList) (q : ℕ) → IsValid h → verdict h (Pause q) ≡ None → records (h ▸ Pause q) ≡ step_records (records h) (Pause q)
-pause_is_step h q v e = grind (arith, Pause, none_holds, e, found_rollout, pause_step, accepted)
+pause_is_step h q v e = grind (arith, none_holds, found_rollout, pause_step, accepted)
 
 pub start_is_step : (h : CommandList) (q : ℕ) → IsValid h → verdict h (Start q) ≡ None → records (h ▸ Start q) ≡ step_records (records h) (Start q)
 start_is_step h q v e =

@@ -12,7 +12,7 @@ each_from_more f a n j x e d = rw (add-one, d, e) (longer f a n)
 get_each : {X : Type 0} (f : ℕ → X) (a n i : ℕ) (x : X) → slice_get (each_from f a n) i ≡ Some x → (i < n) × (x ≡ f (a + i))
 get_each f a zero i x e = cc
 get_each f a (suc n) zero x e = let k : a + 0 ≡ a = omega arith in (omega arith, rw k (cc))
-get_each f a (suc n) (suc i) x e = grind (arith, get_each f (suc a) n i x e, f, e)
+get_each f a (suc n) (suc i) x e = grind (arith, get_each f (suc a) n i x e)
 
 pub each_there : {X : Type 0} (f : ℕ → X) (first n k i : ℕ) → k < n → i ≡ first + k → slice_get (each_from f first n) k ≡ Some (f i)
 each_there f first zero k i below at = absurd (omega (arith, below))
@@ -21,7 +21,7 @@ each_there f first (suc n) (suc k) i below at = each_there f (suc first) n k i (
 
 -- what stands at a number in the list of the numbers from 1 on
 pub numbered_each : {X : Type 0} (f : ℕ → X) (n i : ℕ) (x : X) → item_numbered (each_from f 1 n) i ≡ Some x → (1 ≤ i) × (i ≤ n) × (x ≡ f i)
-numbered_each f n i x e = grind (arith, get_each, f, e)
+numbered_each f n i x e = grind (arith, get_each)
 
 pub length_each : {X : Type 0} (f : ℕ → X) (a n : ℕ) → length (each_from f a n) ≡ n
 length_each f a zero = refl

@@ -5,7 +5,7 @@ use Rattle.rollout_machine.proofs.Common.{action_places, places_from, places_of,
 use Rattle.rollout_machine.proofs.Common.{outcome_given, outcome, cancel_standing_said, cancel_stands, is_canceling}
 use Rattle.rollout_machine.proofs.Common.{reports, is_again, same_bytes, item_numbered, CommandList, Make, ◌▸◌, followed_by, Bytes, TargetRow, Command}
 use Rattle.rollout_machine.proofs.Common.{PutTargets, Start, Pause, TriggerNext, Cancel, Feedback, CancelFeedback}
-use Rattle.rollout_machine.proofs.Common.{Outcome, Gone, Rejected}
+use Rattle.rollout_machine.proofs.Common.{Outcome, Gone}
 use Rattle.rollout_machine.proofs.Common.{success_holds, error_holds, NoneGave, CancelingIsLast, NotNamed, LastRow, SpeaksOfCancel, EndsInCommand, NoneSpeaks}
 use Rattle.rollout_machine.proofs.Common.{StartedIs, NeverNamed, Says, PauseBegins, OutcomeIsFirst, NumbersActions, FirstOutcome, size_at, NextIsStarted}
 use Rattle.rollout_machine.proofs.Common.{LastIsCancel, started_sizes, started_by, Offer, offer, first_offer, is_paused, is_trigger_of, is_pause_of}
@@ -27,10 +27,10 @@ longer h c e = record {
 }
 
 is_pause : (r : ℕ) (c : Command) → is_pause_of r c ≡ true → c ≡ Pause r
-is_pause r c e = grind (arith, Pause, eqb-true, e)
+is_pause r c e = grind (arith, eqb-true)
 
 or_split : (a b : Bool) → (a || b) ≡ true → (a ≡ true) ⊎ (b ≡ true)
-or_split a b d = grind (arith, inr)
+or_split a b d = grind arith
 
 some_of : (p : ℕ → Bool) (n : ℕ) → some_up_to p n ≡ true → (i : ℕ) × (1 ≤ i) × (i ≤ n) × (p i ≡ true)
 some_of p zero e = cc
@@ -52,7 +52,7 @@ pause_begins_to x r before c e = go (or_split _ _ e)
         inr (record { group = w.0; first = w.1; last = w.2; now = parts.0; not_before = not-true _ parts.1 })
 
 is_trigger : (r : ℕ) (c : Command) → is_trigger_of r c ≡ true → c ≡ TriggerNext r
-is_trigger r c e = grind (arith, TriggerNext, eqb-true, e)
+is_trigger r c e = grind (arith, eqb-true)
 
 -- the same over any earlier group
 pub record SomeNext (x : Rollout) (r i : ℕ) (earlier : CommandList → Bool) (h : CommandList) : Type 0 where
@@ -106,8 +106,8 @@ started_to x r (suc i) h a b e =
 
 -- outcomes
 gave : (h : CommandList) (c : Command) (r j : ℕ) (o : Outcome) → outcome_given c (is_canceling h r j) ≡ Some o → Says h c r j o
-gave h (Feedback feedback) r j o e = grind (arith, e, inr, Rejected)
-gave h (CancelFeedback feedback) r j o e = grind (arith, e, inr)
+gave h (Feedback feedback) r j o e = grind arith
+gave h (CancelFeedback feedback) r j o e = grind arith
 gave h (Cancel t a force) r j o e = word force (is_canceling h r j) refl refl e
   where
     word : (f b : Bool) → force ≡ f → is_canceling h r j ≡ b → cond (f && b) (Some Gone) None ≡ Some o → (force ≡ true) × (is_canceling h r j ≡ true)
@@ -118,10 +118,10 @@ gave h (Cancel t a force) r j o e = word force (is_canceling h r j) refl refl e
 gave h _ r j o e = cc
 
 gives_it : (h : CommandList) (c : Command) (r j : ℕ) (o : Outcome) → Says h c r j o → outcome_given c (is_canceling h r j) ≡ Some o
-gives_it h c r j o d = grind (arith, inr)
+gives_it h c r j o d = grind arith
 
 at_place : (p : Option ActionPlace) (r j : ℕ) → is_action_place p r j ≡ true → p ≡ Some (record { rollout = r; position = j })
-at_place p r j e = grind (arith, j, and_parts, e, eqb-true)
+at_place p r j e = grind (arith, and_parts, eqb-true)
 
 on_place : (h : CommandList) (c : Command) (r j : ℕ) → action_of h c ≡ Some (record { rollout = r; position = j }) → is_on_action h c r j ≡ true
 on_place h c r j e = rw e (rw (eq-eqb r r refl, eq-eqb j j refl) refl)
@@ -151,7 +151,7 @@ none_given : (was : Option Outcome) (on : Bool) (gives : Option Outcome) (o : Ou
 none_given was on gives o e d k = grind arith
 
 all_none : (was : Option Outcome) (on : Bool) (gives : Option Outcome) → was ≡ None → (on ≡ false) ⊎ (gives ≡ None) → outcome_after was on gives ≡ None
-all_none was on gives e h4 = grind (arith, e)
+all_none was on gives e h4 = grind arith
 
 pub none_gave : (h : CommandList) (r j : ℕ) → outcome h r j ≡ None → NoneGave h r j
 none_gave (Make approval) r j e = tt
@@ -211,7 +211,7 @@ outcome_is_first h r j o = (first_to h r j o, first_from h r j o)
 
 -- starts, from the words
 or_true : (a b : Bool) → b ≡ true → (a || b) ≡ true
-or_true a b e = grind (arith, e)
+or_true a b e = grind arith
 
 next_stays : (x : Rollout) (r i : ℕ) (earlier : CommandList → Bool) (g : CommandList) (cs : List Command) → next_started x r i earlier g ≡ true
     → next_started x r i earlier (followed_by g cs) ≡ true
@@ -260,7 +260,7 @@ started_is x r i h a b = (started_to x r i h a b, started_from x r i h a b)
 -- cancels
 -- what was said by a cancel, and by a rejection
 is_cancel : (c : Command) (b : Bool) → cancel_standing_said c ≡ Some b → b ≡ true → (t : Bytes) × (a : ℕ) × (force : Bool) × (c ≡ Cancel t a force)
-is_cancel c b e d = grind (arith, e, CancelFeedback, false≢true)
+is_cancel c b e d = grind arith
 
 abbrev stands_after : Bool → Option Bool → Bool → Bool
 stands_after on said b = cond (on && is_some said) (elim said [ None ↦ false | Some v ↦ v ]) b
@@ -307,10 +307,10 @@ stands_to (h ▸ c) r j e = go (is_heard h c r j) (cancel_standing_said c) refl 
 
 still_stands : (g : CommandList) (cs : List Command) (r j : ℕ) → NoneSpeaks g cs r j → cancel_stands g r j ≡ true → cancel_stands (followed_by g cs) r j ≡ true
 still_stands g [] r j w e = e
-still_stands g (c ∷ cs) r j w e = grind (arith, still_stands (g ▸ c) cs r j w.1, j, false, e, is_some)
+still_stands g (c ∷ cs) r j w e = grind (arith, still_stands (g ▸ c) cs r j w.1)
 
 stands_from : (h : CommandList) (r j : ℕ) → LastIsCancel h r j → cancel_stands h r j ≡ true
-stands_from h r j w = grind (arith, Cancel, j, still_stands)
+stands_from h r j w = grind (arith, still_stands)
 
 pub is_open : (o : Option Outcome) → is_none o ≡ true → o ≡ None
 is_open o e = grind arith
@@ -405,7 +405,7 @@ least_from rs t k (b ∷ rest) o e i a g l = go (is_candidate rs t b) refl e (le
 
 pub least_offer : (rs : Records) (t : Bytes) (o : Offer) → offer rs t ≡ Some o → (k : ℕ) (a : ActionRecord) → item_numbered rs.actions k ≡ Some a → k < o.action
     → is_candidate rs t a ≡ false
-least_offer rs t o e k a g l = grind (arith, least_from, e)
+least_offer rs t o e k a g l = grind (arith, least_from)
 
 -- targets
 pub not_there : (t : Bytes) (rows : List TargetRow) → last_row_for t rows ≡ None → NotNamed t rows
@@ -495,7 +495,7 @@ some_there p (suc n) i a b e = go (cases_lt i (suc n)) (some_there p n i a)
     go (inr l) ih = let same : i ≡ suc n = omega (arith, l, b) in or_true (some_up_to p n) (p (suc n)) (subst (λ (k : ℕ). p k ≡ true) same e)
 
 pub pause_begins_from : (x : Rollout) (r : ℕ) (before : CommandList) (c : Command) → PauseBegins x r before c → pause_begins x r before c ≡ true
-pause_begins_from x r before c (inl e) = grind (arith, e, eq-eqb, false)
+pause_begins_from x r before c (inl e) = grind (arith, eq-eqb)
 pause_begins_from x r before c (inr w) = or_true (is_pause_of r c) (some_up_to (error_begins_at x r before c) x.plan.groups.count)
     (some_there (error_begins_at x r before c) x.plan.groups.count w.group w.first w.last (both _ _ w.now w.not_before))
   where

@@ -29,10 +29,6 @@ abbrev Rise : List Reported → Type 0
 Rise [] = Unit {0}
 Rise (it ∷ more) = BelowAll it.number more × Rise more
 
-below_none : (reports : List Reported) → BelowAll None reports
-below_none [] = tt
-below_none (it ∷ more) = (λ n e. tt, below_none more)
-
 -- what is below all is below the last that bears a number
 below_bearing : (m : ℕ) (reports : List Reported) (b : Numbered) → BelowAll (Some m) reports → bearing reports ≡ Some b → m < b.number
 below_bearing m [] b w e = cc

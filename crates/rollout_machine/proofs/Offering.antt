@@ -78,7 +78,7 @@ named_is h (ShowDeployment device n) k v e =
     (if_known (records h) device _ k e))
 named_is h (ShowCancel device n) k v e =
     offerable_by h device.id k v (where_offered (records h) device.id true n k (CancelShown n) refl (if_known (records h) device _ k e))
-named_is h (Download device m filename) k v e = grind (arith, device, either_none, offer, if_found, ContentsShown, Refused, names_none, if_known, e)
+named_is h (Download device m filename) k v e = grind (arith, either_none, names_none, if_known)
 named_is h (ShowTargets filter_text page) k v e = absurd (never (targets_none (records h) page filter_text) e)
 named_is h (ShowTarget t) k v e = absurd (never (names_none _ (target_of (records h) t) (λ x. refl)) e)
 named_is h (ShowTargetActions t page) k v e = absurd (never (names_none _ (target_of (records h) t) (λ x. refl)) e)
@@ -94,8 +94,8 @@ named_is h (ShowSet n) k v e = absurd (never (names_none _ (item_numbered (recor
 named_is h (ShowRollouts page) k v e = cc
 named_is h (ShowRollout r) k v e = absurd (never (names_none _ (item_numbered (records h).rollouts r) (λ x. refl)) e)
 named_is h (ShowGroups r page) k v e = absurd (never (names_none _ (item_numbered (records h).rollouts r) (λ x. refl)) e)
-named_is h (ShowGroup r i) k v e = grind (arith, never, names_none, e)
-named_is h (ShowGroupTargets r i page) k v e = grind (arith, never, names_none, e)
+named_is h (ShowGroup r i) k v e = grind (arith, never, names_none)
+named_is h (ShowGroupTargets r i page) k v e = grind (arith, never, names_none)
 named_is h (ShowReport r) k v e = absurd (never (names_none _ (item_numbered (records h).rollouts r) (λ x. refl)) e)
 named_is h (ShowActionsTable r) k v e = absurd (never (names_none _ (item_numbered (records h).rollouts r) (λ x. refl)) e)
 

@@ -140,7 +140,7 @@ doubled_same (h ▸ _) c v e d = cc
 -- lists with the same records have the same answers
 same_answers : (h k : CommandList) → IsValid h → IsValid k → records h ≡ records k → (asked : Asked) → answer h asked ≡ answer k asked
 same_answers h k v w e (Rejected refusal) = rejected_answer h refusal ∙ sym (rejected_answer k refusal)
-same_answers h k v w e (Asks (Ask query)) = grind (arith, query_answer, e)
+same_answers h k v w e (Asks (Ask query)) = grind (arith, query_answer)
 same_answers h k v w e (Asks (Do c)) = go (verdict h c) refl
   where
     same : verdict h c ≡ verdict k c

@@ -24,7 +24,7 @@ rises_at (v ∷ vs) sorted zero (suc j) a b l e d = let same : v ≡ a = cc in s
 rises_at (v ∷ vs) sorted (suc i) (suc j) a b l e d = rises_at vs sorted.1 i j a b (omega (arith, l)) e d
 
 sorted_rises : (vs : List Bytes) → IsSorted vs → RiseInBytes vs
-sorted_rises vs sorted h2 j a b l e d = grind (arith, rises_at, sorted, j, e)
+sorted_rises vs sorted h2 j a b l e d = grind (arith, rises_at)
 
 -- ---- some words of a sorted list
 
@@ -74,7 +74,7 @@ sorted_all [] = tt
 sorted_all (w ∷ ws) = sorted_with w (sorted_words ws) (sorted_all ws)
 
 by_row_sorted : (o : Option TargetRow) (ws : List Bytes) → IsSorted ws → IsSorted (tags_by_row o ws)
-by_row_sorted o ws sorted = grind (arith, sorted, sorted_all)
+by_row_sorted o ws sorted = grind (arith, sorted_all)
 
 either : (b : Bool) (ws vs : List Bytes) → IsSorted ws → IsSorted vs → IsSorted (cond b ws vs)
 either b ws vs first second = grind arith
@@ -98,7 +98,7 @@ members_sorted = each_created (λ x. IsSorted x.members) (λ h plan valid formed
 -- ---- the records
 
 tags_rise : (h : CommandList) (t : Target) (o : Option Bytes) → option_map (target_in h) o ≡ Some t → RiseInBytes t.tags
-tags_rise h t o e = grind (arith, target_in, Target, sorted_rises, tags_sorted)
+tags_rise h t o e = grind (arith, sorted_rises, tags_sorted)
 
 pub lists_rise_in_order : ListsRiseInOrder
 unfolding records

@@ -66,7 +66,7 @@ paused_to x r (h ▸ c) e = go (or_split (pause_begins x r h c) (not (is_resume_
 -- ---- in words
 
 is_resume : (r : ℕ) (c : Command) → is_resume_of r c ≡ true → c ≡ Resume r
-is_resume r c e = grind (arith, Resume, eqb-true, e)
+is_resume r c e = grind (arith, eqb-true)
 
 words_of : (r : ℕ) (cs : List Command) → NoneResumes r cs → NoResume r cs
 words_of r [] w = tt
@@ -104,7 +104,7 @@ paused_is x r h = (λ e. to (paused_to x r h e), λ w. paused_from x r h (from w
 -- ---- the first group is started where the start is in the list
 
 is_start : (r : ℕ) (c : Command) → is_start_of r c ≡ true → c ≡ Start r
-is_start r c e = grind (arith, Start, eqb-true, e)
+is_start r c e = grind (arith, eqb-true)
 
 start_to : (r : ℕ) (h : CommandList) → is_rollout_started r h ≡ true → StartIsIn r h
 start_to r (Make approval) e = cc

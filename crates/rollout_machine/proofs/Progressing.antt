@@ -1,5 +1,5 @@
 -- At most one group starts in a command, and none is left to start after it.
-use Rattle.rollout_machine.proofs.Common.{◌≡◌, ℕ, Some, zero, suc, ◌≤◌, ◌<◌, Bool, true, false, cond, ◌&&◌, ◌||◌, not, refl, sym, ◌∙◌, arith, inr}
+use Rattle.rollout_machine.proofs.Common.{◌≡◌, ℕ, Some, zero, suc, ◌≤◌, ◌<◌, Bool, true, false, cond, ◌&&◌, ◌||◌, not, refl, sym, ◌∙◌, arith}
 use Rattle.rollout_machine.proofs.Common.{nat_lt, CommandList, Make, ◌▸◌, Command, success_holds, IsLast, is_group_started, is_paused, next_started}
 use Rattle.rollout_machine.proofs.Common.{is_trigger_of, Rollout, rollout_at, false≢true, lt-ltb}
 use Rattle.rollout_machine.specs.Promises.{StartsGroup, NoGroupIsLeft}
@@ -10,15 +10,15 @@ use Rattle.rollout_machine.proofs.Whole.{IsAccepted}
 
 -- a group is behind the last started one, or not
 behind : (x : Rollout) (r i l : ℕ) (h : CommandList) → IsLast x r h l → is_group_started x r i h ≡ false → 1 ≤ i → l < i
-behind x r i l h last e low = grind (arith, inr, false≢true, e)
+behind x r i l h last e low = grind arith
 
 pub positive : (x : Rollout) (r i : ℕ) (h : CommandList) → is_group_started x r i h ≡ true → 1 ≤ i
-positive x r i h e = grind (arith, false≢true, e)
+positive x r i h e = grind arith
 
 -- the group that starts is the one behind the last
 pub next_starts : (x : Rollout) (r i l : ℕ) (h : CommandList) (c : Command) (b : Bool) → IsLast x r h l → IsLast x r (h ▸ c) (cond b (suc l) l)
     → StartsGroup x r i h c → i ≡ suc l
-next_starts x r i l h c b last next s = grind (arith, behind, positive, cond, no_further, false)
+next_starts x r i l h c b last next s = grind (arith, behind, positive, no_further)
 
 -- of one rollout at most one group starts
 pub one_of_rollout : (h : CommandList) (c : Command) (r i j : ℕ) (x : Rollout) → IsAccepted h c → rollout_at h r ≡ Some x → StartsGroup x r i h c

@@ -116,7 +116,7 @@ out_of : (b : Bounds) (f : ℕ → Bool) (j : ℕ) → (j < b.first) → (holds_
 out_of b f j l = rw (lt-leb b.first j l) refl
 
 past : (b : Bounds) (f : ℕ → Bool) (j : ℕ) → (b.last < j) → (holds_position j b && f j) ≡ false
-past b f j l = grind (arith, lt-leb, j, f, false)
+past b f j l = grind (arith, lt-leb)
 
 within : (b : Bounds) (f : ℕ → Bool) (j : ℕ) → b.first ≤ j → j ≤ b.last → (holds_position j b && f j) ≡ f j
 within b f j l u = rw (le-leb b.first j l, le-leb j b.last u) refl

@@ -68,7 +68,7 @@ none_empty k m (p ∷ ps) none i low = go (nat_eq m 0) refl none i low (none_emp
         → (first_empty_from (k + 1) (m - share m p) ps ≡ None → (i : ℕ) → i < length ps → 1 ≤ left_by (m - share m p) (take i ps))
         → 1 ≤ left_by m (take i (p ∷ ps))
     go true is none i low rest = absurd cc
-    go false is none zero low rest = grind (arith, nat_tests, is)
+    go false is none zero low rest = grind (arith, nat_tests)
     go false is none (suc i) low rest = rest none i (omega (arith, low))
 
 pub first_empty_tells : FirstEmptyTells
@@ -103,7 +103,7 @@ from_here (q ∷ ps) (suc i) p got = from_here ps i p got
 pub none_here : (m : ℕ) (ps : List ℕ) (i p last taken : ℕ) → slice_get ps i ≡ Some p → last < m → taken ≡ share (m - last) p → (k : ℕ)
     → first_empty_from k (m - last) (drop i ps) ≡ first_empty_from (k + 1) (m - (last + taken)) (drop (i + 1) ps)
 none_here m ps i p last taken got low takes k =
-    let some : nat_eq (m - last) 0 ≡ false = grind (arith, nat_tests, low) in
+    let some : nat_eq (m - last) 0 ≡ false = grind (arith, nat_tests) in
     let less : m - (last + taken) ≡ m - last - share (m - last) p = omega (arith, takes) in
     let on : i + 1 ≡ suc i = omega arith in
     rw (from_here ps i p got, some, less, on) refl

@@ -26,9 +26,9 @@ grows p q wider a (x ∷ xs) ys = let rest = grows p q wider (suc a) xs ys in le
 gains : (p q : ℕ → Bool) → IsWider p q → (a i r : ℕ) (xs ys : List Rollout) (x : Rollout) → slice_get xs i ≡ Some x → a + i ≡ r → p r ≡ false → q r ≡ true
     → members_where p a xs + size_of x ≤ members_where q a (xs ++ ys)
 gains p q wider a i r [] ys x e at without with' = cc
-gains p q wider a zero r (y ∷ xs) ys x e at without with' = grind (arith, e, grows, false)
+gains p q wider a zero r (y ∷ xs) ys x e at without with' = grind (arith, grows)
 gains p q wider a (suc i) r (y ∷ xs) ys x e at without with' =
-    grind (arith, gains p q wider (suc a) i r xs ys x e (omega (arith, at)) without with', e, part_grows)
+    grind (arith, gains p q wider (suc a) i r xs ys x e (omega (arith, at)) without with', part_grows)
 
 abbrev begun_at : CommandList → ℕ → Bool
 begun_at h r = is_rollout_started r h

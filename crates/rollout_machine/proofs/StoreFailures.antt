@@ -1,11 +1,11 @@
 -- No answer is a failed store: verdicts and queries have other refusals.
 use native.Mathlib.Omega.{arith}
-use Rattle.rollout_machine.proofs.Common.{◌≡◌, ◌≢◌, Bool, true, false, List, [], ◌∷◌, Option, Some, None, refl, ap, sym, subst, length, ◌∙◌, cond, not}
+use Rattle.rollout_machine.proofs.Common.{◌≡◌, ◌≢◌, Bool, true, false, List, [], ◌∷◌, Option, Some, None, refl, ap, sym, subst, ◌∙◌, cond, not}
 use Rattle.rollout_machine.proofs.Common.{◌&&◌, query_reply, command_reply, command_answer, if_found, for_device, targets_reply}
 use Rattle.rollout_machine.proofs.Common.{targets_matching, action_of_target}
 use Rattle.rollout_machine.proofs.Common.{artifact_of_module, item_numbered, CommandList, Bytes, Credential, Command}
 use Rattle.rollout_machine.proofs.Common.{filter_of, Tree, offer, records, Records}
-use Rattle.rollout_machine.proofs.Common.{Reply, Refused, PollShown, DeploymentShown, CancelShown, ContentsShown, Page, Query, Poll, ShowDeployment}
+use Rattle.rollout_machine.proofs.Common.{Reply, Refused, PollShown, Page, Query, Poll, ShowDeployment}
 use Rattle.rollout_machine.proofs.Common.{ShowCancel, Download, ShowTargets, ShowTarget, ShowTargetActions, ShowAction, ShowHistory, ShowModules, ShowModule}
 use Rattle.rollout_machine.proofs.Common.{ShowArtifacts, ShowArtifact, ShowContents, ShowSets, ShowSet, ShowRollouts, ShowRollout, ShowGroups, ShowGroup}
 use Rattle.rollout_machine.proofs.Common.{ShowGroupTargets, ShowReport, ShowActionsTable, Request, Do, Ask, Asks, group_numbered, verdict, check, verdict_row}
@@ -14,7 +14,7 @@ use Rattle.rollout_machine.specs.Answers.{answer}
 use Rattle.rollout_machine.specs.StoreFailures.{is_failed_store, is_store}
 
 pub failed_true : (reply : Reply) → is_failed_store reply ≡ true → reply ≡ Refused StoreFailed
-failed_true reply e = grind (arith, Refused, false≢true, e)
+failed_true reply e = grind arith
 
 -- a reply by the test
 pub no_store_reply : (reply : Reply) → is_failed_store reply ≡ false → reply ≢ Refused StoreFailed
@@ -30,7 +30,7 @@ rows_never_store : (rs : Records) (c : Command) → never_stores (verdict_row rs
 rows_never_store rs c = grind arith
 
 not_true : (b : Bool) → not b ≡ true → b ≡ false
-not_true b e = grind (arith, false≢true, e)
+not_true b e = grind arith
 
 first_never_stores : (row : List (Bool × Refusal)) (refusal : Refusal) → never_stores row ≡ true → first_refusal row ≡ Some refusal → is_store refusal ≡ false
 first_never_stores [] refusal never e = absurd (cc)
@@ -46,7 +46,7 @@ check_never_stores rs c refusal e = first_never_stores (verdict_row rs c) refusa
 -- ---- queries
 
 found_never : {X : Type 0} (reply : X → Reply) (o : Option X) → ((x : X) → is_failed_store (reply x) ≡ false) → is_failed_store (if_found reply o) ≡ false
-found_never reply o never = grind (arith, never)
+found_never reply o never = grind arith
 
 one_of_two : (b : Bool) (x y : Reply) → is_failed_store x ≡ false → is_failed_store y ≡ false → is_failed_store (cond b x y) ≡ false
 one_of_two b x y ex ey = grind arith
@@ -63,9 +63,9 @@ targets_never rs page (Some text) = go (filter_of text) where
 
 query_never_stores : (rs : Records) (query : Query) → is_failed_store (query_reply rs query) ≡ false
 query_never_stores rs (Poll device) = device_never rs device (PollShown device.id (offer rs device.id)) refl
-query_never_stores rs (ShowDeployment device k) = grind (arith, device_never, device, one_of_two, false, offer, DeploymentShown, Refused)
-query_never_stores rs (ShowCancel device k) = grind (arith, device_never, device, one_of_two, offer, CancelShown, Refused)
-query_never_stores rs (Download device m filename) = grind (arith, device_never, device, one_of_two, offer, if_found, ContentsShown, Refused, found_never)
+query_never_stores rs (ShowDeployment device k) = grind (arith, device_never, one_of_two)
+query_never_stores rs (ShowCancel device k) = grind (arith, device_never, one_of_two)
+query_never_stores rs (Download device m filename) = grind (arith, device_never, one_of_two, found_never)
 query_never_stores rs (ShowTargets filter_text page) = targets_never rs page filter_text
 query_never_stores rs (ShowTarget t) = found_never _ (target_of rs t) (λ x. refl)
 query_never_stores rs (ShowTargetActions t page) = found_never _ (target_of rs t) (λ x. refl)
@@ -89,10 +89,10 @@ query_never_stores rs (ShowActionsTable r) = found_never _ (item_numbered rs.rol
 -- ---- commands
 
 done_never_stores : (c : Command) (rs : Records) → is_failed_store (command_reply c rs) ≡ false
-done_never_stores c rs = grind (arith, length)
+done_never_stores c rs = grind arith
 
 command_never_stores : (h : CommandList) (c : Command) (o : Option Refusal) → verdict h c ≡ o → is_failed_store (command_answer h c o).reply ≡ false
-command_never_stores h c o e = grind (arith, done_never_stores, check_never_stores, e)
+command_never_stores h c o e = grind (arith, done_never_stores, check_never_stores)
 
 -- a desk's own answer to a request is no failed store
 pub answer_never_stores : (h : CommandList) (request : Request) → (answer h (Asks request)).reply ≢ Refused StoreFailed

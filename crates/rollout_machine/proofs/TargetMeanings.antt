@@ -38,7 +38,7 @@ row_is_the_last h t row = (row_is_last h t row, row_from h t row)
 named_in : (t : Bytes) (rows : List TargetRow) (vs : List Bytes) → contains_word t (with_words (map (λ (row : TargetRow). row.id) rows) vs)
     ≡ (is_some (last_row_for t rows) || contains_word t vs)
 named_in t [] vs = refl
-named_in t (row ∷ rows) vs = grind (arith, named_in t rows (with_word row.id vs), is_some, has_with, same_sym, same_bytes, cond, false)
+named_in t (row ∷ rows) vs = grind (arith, named_in t rows (with_word row.id vs), has_with, same_sym)
 
 pub targets_are_named : TargetsAreNamed
 targets_are_named t (Make approval) = refl
@@ -76,7 +76,7 @@ value_with k a (b ∷ bs) = go (same_bytes a.key b.key) (bytes_below a.key b.key
 
 values_with : (k : Bytes) (new bs : List Attribute) → value_of k (with_attributes new bs) ≡ option_or (last_given k new) (value_of k bs)
 values_with k [] bs = refl
-values_with k (a ∷ more) bs = grind (arith, values_with k more (with_attribute a bs), value_with, same_bytes, cond, false)
+values_with k (a ∷ more) bs = grind (arith, values_with k more (with_attribute a bs), value_with)
 
 pub value_is_last : ValueIsLast
 value_is_last t k (Make approval) = refl

@@ -15,19 +15,19 @@ use Rattle.rollout_machine.proofs.Induction.{accepted}
 changed_targets : (h : CommandList) (c : Command) (u : Bytes) (f : Target → Target)
     → ((t : Bytes) → target_in (h ▸ c) t ≡ cond (same_bytes t u) (f (target_in h t)) (target_in h t)) → (ids : List Bytes) → map (target_in (h ▸ c)) ids
     ≡ change_target u f (map (target_in h) ids)
-changed_targets h c u f e ids = grind (arith, map_same, target_in, cond, same_bytes, f, e, ids, map_twice, Target)
+changed_targets h c u f e ids = grind (arith, map_same, map_twice)
 
 tag_in : (h : CommandList) (u x t : Bytes) → target_in (h ▸ Tag u x) t ≡ cond (same_bytes t u) (record (target_in h t) { tags = with_word x (tags_in t h) })
     (target_in h t)
-tag_in h u x t = grind (arith, same_bytes, target_in, cond, false)
+tag_in h u x t = grind arith
 
 untag_in : (h : CommandList) (u x t : Bytes) → target_in (h ▸ Untag u x) t
     ≡ cond (same_bytes t u) (record (target_in h t) { tags = without_word x (tags_in t h) }) (target_in h t)
-untag_in h u x t = grind (arith, same_bytes, target_in, cond, without_word, false)
+untag_in h u x t = grind arith
 
 attributes_of : (h : CommandList) (device : Credential) (new : List Attribute) (t : Bytes) → target_in (h ▸ PutAttributes device new) t
     ≡ cond (same_bytes t device.id) (record (target_in h t) { attributes = with_attributes new (attributes_in t h) }) (target_in h t)
-attributes_of h device new t = grind (arith, same_bytes, device, target_in, cond, false)
+attributes_of h device new t = grind arith
 
 pub tag_is_step : (h : CommandList) (u x : Bytes) → IsValid h → verdict h (Tag u x) ≡ None → records (h ▸ Tag u x) ≡ step_records (records h) (Tag u x)
 unfolding records
@@ -140,15 +140,15 @@ has_sorted x (w ∷ ws) = has_with x w (sorted_words ws) ∙ ap (λ t. same_byte
 
 tag_law_row : (x : Bytes) (o : Option TargetRow) (ws : List Bytes) (b : Bool) → contains_word x ws ≡ b → contains_word x (tags_by_row o ws)
     ≡ unwrap_or (tag_in_row x o) b
-tag_law_row x o ws b e = grind (arith, e, has_sorted)
+tag_law_row x o ws b e = grind (arith, has_sorted)
 
 tag_law_tag : (x y : Bytes) (on : Bool) (ws : List Bytes) (b : Bool) → contains_word x ws ≡ b → contains_word x (cond on (with_word y ws) ws)
     ≡ unwrap_or (cond (on && same_bytes x y) (Some true) None) b
-tag_law_tag x y on ws b e = grind (arith, e, has_with, same_bytes, cond, false)
+tag_law_tag x y on ws b e = grind (arith, has_with)
 
 tag_law_untag : (x y : Bytes) (on : Bool) (ws : List Bytes) (b : Bool) → contains_word x ws ≡ b → contains_word x (cond on (without_word y ws) ws)
     ≡ unwrap_or (cond (on && same_bytes x y) (Some false) None) b
-tag_law_untag x y on ws b e = grind (arith, e, has_without, same_bytes, cond, false)
+tag_law_untag x y on ws b e = grind (arith, has_without)
 
 -- a word is in the list of tags exactly where the last command that spoke of it said so
 pub tags_are : TagsAreSaid

@@ -1,7 +1,7 @@
 -- What the verdict on a command gives: it is only on actions of started groups.
 use native.Mathlib.Omega.{arith}
 use Rattle.rollout_machine.proofs.Common.{◌≡◌, ℕ, ◌≤◌, Bool, true, false, ◌||◌, ◌&&◌, not, List, [], ◌∷◌, refl, sym, ◌∙◌, ap, subst, Option, Some, None}
-use Rattle.rollout_machine.proofs.Common.{nat_eq, option_map, eqb-true, false≢true, and_parts, or_parts, not-false, ActionPlace, action_of, is_action_place}
+use Rattle.rollout_machine.proofs.Common.{nat_eq, option_map, eqb-true, and_parts, or_parts, not-false, ActionPlace, action_of, is_action_place}
 use Rattle.rollout_machine.proofs.Common.{action_places, action_place, item_numbered, CommandList, DeviceFeedback, DeploymentWord, CancelWord, Command, Cancel}
 use Rattle.rollout_machine.proofs.Common.{Feedback, CancelFeedback, IsInGroup, HasSoundPlan, StartedOnly, is_group_started, action_in, Refusal, Rollout}
 use Rattle.rollout_machine.proofs.Common.{rollout_at, size_of, has_started, is_started_in, group_is_started, is_for, first_refusal, verdict_row, verdict}
@@ -71,7 +71,7 @@ found_action h k o e = numbered_map (action_in h) (action_places h) k ∙ ap (op
 
 device_action : (h : CommandList) (t : List ℕ) (o : Option ActionPlace) → is_device_action (records h) t (option_map (action_in h) o) ≡ true → (p : ActionPlace)
     × (o ≡ Some p) × (has_started (records h) (action_in h p) ≡ true)
-device_action h t o e = grind (arith, false≢true, e, and_parts)
+device_action h t o e = grind (arith, and_parts)
 
 -- accepted feedback is on an action whose group is started
 pub feedback_place : (h : CommandList) (feedback : DeviceFeedback DeploymentWord) → verdict h (Feedback feedback) ≡ None → (p : ActionPlace)

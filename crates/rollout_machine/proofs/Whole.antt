@@ -55,7 +55,7 @@ get_rollout h a (suc i) n (y ∷ ys) x e d = get_rollout h (suc a) i n ys x e (o
 
 pub rollout_numbered : (h : CommandList) (r : ℕ) (x : Rollout) → rollout_at h r ≡ Some x → item_numbered (rollouts_in h 1 (rollouts h)) r
     ≡ Some (rollout_in h r x)
-rollout_numbered h r x e = grind (arith, get_rollout, e)
+rollout_numbered h r x e = grind (arith, get_rollout)
 
 -- ---- what accepted commands have
 

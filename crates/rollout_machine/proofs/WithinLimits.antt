@@ -19,7 +19,7 @@ use Rattle.rollout_machine.proofs.Valid.{NoneHolds, none_holds}
 -- ---- what the verdicts refuse
 
 or_reached : (b : Bool) (limit n : ℕ) → (b || nat_le limit n) ≡ false → n < limit
-or_reached b limit n e = grind (arith, leb-false, e)
+or_reached b limit n e = grind (arith, leb-false)
 
 few_artifacts : (h : CommandList) → IsValid h → length (artifacts h) ≤ 256
 unfolding records
