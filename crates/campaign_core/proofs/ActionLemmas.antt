@@ -1,19 +1,19 @@
 -- What commands on actions come to, by the views of these actions, over sound records.
-use Rattle.campaign_core.proofs.Common.{◌≡◌, ℕ, Bool, true, false, cond, ◌&&◌, ◌||◌, List, [], ◌∷◌, ◌++◌, refl, sym, ◌∙◌, ap, subst, Option, Some, None, Ok}
-use Rattle.campaign_core.proofs.Common.{Err, Result, is_none, is_some, map, nat_eq, not, option_map, option_or, unwrap_or, eq-eqb, cancel_standing_said}
-use Rattle.campaign_core.proofs.Common.{outcome_given, item_numbered, Bytes, Cancel, Command, action_after, change_rollout, counted, is_same_action}
+use native.Mathlib.Omega.{arith}
+use Rattle.campaign_core.proofs.Common.{◌≡◌, ℕ, Bool, true, false, cond, ◌&&◌, List, [], ◌++◌, refl, sym, ◌∙◌, ap, subst, Option, Some, None, Ok}
+use Rattle.campaign_core.proofs.Common.{Err, Result, is_none, is_some, map, nat_eq, option_or, unwrap_or, eq-eqb, cancel_standing_said}
+use Rattle.campaign_core.proofs.Common.{outcome_given, item_numbered, Bytes, Cancel, Command, action_after, change_rollout, is_same_action}
 use Rattle.campaign_core.proofs.Common.{outcome_if_new, own_group, rollout_after, rollouts_after_outcome, act_on, step_action, Records, Reported, is_again}
-use Rattle.campaign_core.proofs.Common.{reported_by, ActionRecord, RolloutRecord, group_number_of, has_started, is_for, check, first_refusal, on_action}
-use Rattle.campaign_core.proofs.Common.{target_of, Outcome, Effects, Refusal, ClosedAction, NotFound, WrongState, OwnDecides, own_effects, own_view_of, OwnView}
+use Rattle.campaign_core.proofs.Common.{reported_by, ActionRecord, RolloutRecord, group_number_of, is_for, check, on_action}
+use Rattle.campaign_core.proofs.Common.{target_of, Outcome, Refusal, ClosedAction, OwnDecides, own_view_of}
 use Rattle.campaign_core.proofs.Common.{AreSound, BothOrNone, ChangesAction, DecidesAs, IsActionView, IsCancelView, JudgesCancel, action_for, action_with}
-use Rattle.campaign_core.proofs.Common.{cancel_refusal, change_by, change_numbered, ended_by, moved_by, only_if, outcome_forced, rollout_with, rollouts_with}
+use Rattle.campaign_core.proofs.Common.{cancel_refusal, change_by, change_numbered, ended_by, outcome_forced, rollout_with, rollouts_with}
 use Rattle.campaign_core.proofs.Common.{ActionChange, ActionView, CancelView}
 use Rattle.rollout_machine.proofs.Actions.{append_none}
-use Rattle.rollout_machine.specs.Targets.{Target}
 use Rattle.campaign_core.specs.declared.rollout_checks.RolloutChange.TheVariants as change
 use Rattle.campaign_core.specs.declared.rollout_checks.RolloutCommandView.TheVariants as seen
 use Rattle.campaign_core.proofs.ItemLemmas.{IsFound, changed_same, found, only_found, picked, same_item, unchanged}
-use Rattle.campaign_core.proofs.RolloutLemmas.{number_is, rollouts_changed}
+use Rattle.campaign_core.proofs.RolloutLemmas.{rollouts_changed}
 
 -- ---- the action
 
@@ -37,20 +37,7 @@ set_to a o b es = record a { outcome = o; canceling = b; history = es }
 open_after : (c : Command) (a : ActionRecord) (v : ActionView) (gives : Option Outcome) (canceling : Bool) → a.outcome ≡ None → outcome_given c a.canceling
     ≡ gives → unwrap_or (cancel_standing_said c) a.canceling ≡ canceling
     → action_after c a ≡ record (action_with (change_by v gives canceling) a) { history = a.history ++ reported_by c }
-open_after c a v gives canceling was given said = stepped ∙ go gives
-  where
-    stepped : action_after c a ≡ set_to a gives (is_none gives && canceling) (a.history ++ reported_by c)
-    stepped =
-        ap (λ o. set_to a (option_or o (outcome_given c a.canceling))
-        (is_none (option_or o (outcome_given c a.canceling)) && unwrap_or (cancel_standing_said c) a.canceling)
-        (a.history ++ cond (is_none o) (reported_by c) [])) was
-        ∙ ap (λ g. set_to a g (is_none g && unwrap_or (cancel_standing_said c) a.canceling) (a.history ++ reported_by c)) given
-        ∙ ap (λ b. set_to a gives (is_none gives && b) (a.history ++ reported_by c)) said
-
-    go : (g : Option Outcome) → set_to a g (is_none g && canceling) (a.history ++ reported_by c)
-        ≡ record (action_with (change_by v g canceling) a) { history = a.history ++ reported_by c }
-    go None = ap (λ o. set_to a o canceling (a.history ++ reported_by c)) (sym was)
-    go (Some o) = refl
+open_after c a v gives canceling was given said = grind arith
 
 -- one that has its outcome
 closed_after : (c : Command) (a : ActionRecord) (o : Outcome) → a.outcome ≡ Some o → a.canceling ≡ false → action_after c a ≡ a
@@ -71,22 +58,11 @@ record HasRollout (v : ActionView) (a : ActionRecord) (rs : Records) : Type 0 wh
   is : v.rollout ≡ own_view_of rollout (group_number_of rollout a)
 
 has_rollout : (v : ActionView) (a : ActionRecord) (rs : Records) → IsActionView v a rs → HasRollout v a rs
-has_rollout v a rs is = go (item_numbered rs.rollouts a.rollout) refl is.rollout
-  where
-    go : (o : Option RolloutRecord) → item_numbered rs.rollouts a.rollout ≡ o → Some v.rollout ≡ option_map (λ x. own_view_of x (group_number_of x a)) o
-        → HasRollout v a rs
-    go None d e = cc
-    go (Some x) d e = record { rollout = x; there = d; is = cc }
-
-abbrev after_as : RolloutRecord → Outcome → Effects → ℕ → RolloutRecord
-after_as x o e i = moved_by e (record x { groups = map (counted o i) x.groups })
+has_rollout v a rs is = grind arith
 
 rollout_ended : (v : ActionView) (o : Outcome) (x : RolloutRecord) (a : ActionRecord) → OwnDecides x a → v.rollout ≡ own_view_of x (group_number_of x a)
     → rollout_after o (group_number_of x a) x ≡ rollout_with (ended_by v o) x
-rollout_ended v o x a decides is =
-    let i = group_number_of x a in
-    ap (λ e. after_as x o e i) (decides o ∙ ap (λ (w : OwnView). own_effects w o) (sym is))
-    ∙ ap (after_as x o (own_effects v.rollout o)) (sym (ap (λ (w : OwnView). w.own.number) is ∙ number_is x i))
+rollout_ended v o x a decides is = grind arith
 
 rollouts_ended : (rs : Records) → AreSound rs → (k : ℕ) (a : ActionRecord) (v : ActionView) → item_numbered rs.actions k ≡ Some a → IsActionView v a rs
     → (gives : Option Outcome) (canceling : Bool)
@@ -149,43 +125,12 @@ stays rs sound c k a o at had = ap (step_action rs c) at ∙ go (is_again a.hist
 
 -- ---- cancels
 
-abbrev cancel_tests : Records → Bytes → Bool → Option Target → Option ActionRecord → Option Refusal
-cancel_tests rs t force target o =
-    first_refusal ((is_none target || not (on_action (is_for rs t) o), NotFound) ∷ (on_action (λ a. is_some a.outcome) o, ClosedAction)
-    ∷ (on_action (λ a. not (has_started rs a) || (a.canceling && not force)) o, WrongState) ∷ [])
-
-cancel_by : (rs : Records) (t : Bytes) (force : Bool) (a : ActionRecord) (w : CancelView) → IsCancelView w a rs
-    → first_refusal ((is_some a.outcome, ClosedAction) ∷ (not (has_started rs a) || (a.canceling && not force), WrongState) ∷ [])
-    ≡ cancel_refusal (Some w) force
-cancel_by rs t force a w is =
-    ap (λ p. first_refusal ((is_some p, ClosedAction) ∷ (not (has_started rs a) || (a.canceling && not force), WrongState) ∷ [])) (sym is.action.outcome)
-    ∙ ap (λ b. first_refusal ((is_some w.action.outcome, ClosedAction) ∷ (not b || (a.canceling && not force), WrongState) ∷ [])) (sym is.started)
-    ∙ ap (λ b. first_refusal ((is_some w.action.outcome, ClosedAction) ∷ (not w.started || (b && not force), WrongState) ∷ [])) (sym is.action.canceling)
-
 pub cancel_row : (rs : Records) (t : Bytes) (k : ℕ) (force : Bool) (v : Option CancelView) → BothOrNone (λ w a. IsCancelView w a rs) v (action_for rs t k)
     → check rs (Cancel t k force) ≡ cancel_refusal v force
-cancel_row rs t k force v is = go (target_of rs t) (item_numbered rs.actions k) v is
-  where
-    this : (a : ActionRecord) (b : Bool) (v : Option CancelView) → BothOrNone (λ w a. IsCancelView w a rs) v (only_if b (Some a))
-        → first_refusal ((not b, NotFound) ∷ (is_some a.outcome, ClosedAction) ∷ (not (has_started rs a) || (a.canceling && not force), WrongState) ∷ [])
-        ≡ cancel_refusal v force
-    this a false None is = refl
-    this a false (Some w) is = absurd is
-    this a true None is = absurd is
-    this a true (Some w) is = cancel_by rs t force a w is
-
-    go : (target : Option Target) (o : Option ActionRecord) (v : Option CancelView)
-        → BothOrNone (λ w a. IsCancelView w a rs) v (only_if (is_some target && on_action (is_for rs t) o) o) → cancel_tests rs t force target o
-        ≡ cancel_refusal v force
-    go None o None is = refl
-    go None o (Some w) is = absurd is
-    go (Some x) None None is = refl
-    go (Some x) None (Some w) is = absurd is
-    go (Some x) (Some a) v is = this a (is_for rs t a) v is
+cancel_row rs t k force v is = grind arith
 
 open_if : (o : Option Outcome) (rest : Option Refusal) → cond (is_some o) (Some ClosedAction) rest ≡ None → o ≡ None
-open_if None rest e = refl
-open_if (Some o) rest e = cc
+open_if o rest e = grind arith
 
 pub cancels : (v : CancelView) (t : Bytes) (k : ℕ) (force : Bool) (result : Result ActionChange Refusal) → JudgesCancel v force result
     → DecidesAs change.Cancel (seen.Cancel (Some v)) (Cancel t k force) result

@@ -1,34 +1,26 @@
 -- A verdict over records is that at a command list, and that of its view.
-use Rattle.campaign_core.proofs.Common.{◌≡◌, Bool, true, false, List, ◌∷◌, None, refl, sym, subst, Result, Ok, Err, records_step, CommandList, Bytes, Command}
+use native.Mathlib.Omega.{arith}
+use Rattle.campaign_core.proofs.Common.{◌≡◌, Bool, false, List, ◌∷◌, None, refl, sym, subst, Result, Ok, Err, records_step, CommandList, Bytes, Command}
 use Rattle.campaign_core.proofs.Common.{Credential, Records, records}
 use Rattle.campaign_core.proofs.Common.{IsValid, check, first_refusal, Refusal}
-use Rattle.rollout_machine.specs.Commands.{AddArtifact, AddModule, AddSet, Attribute, ModuleLabel, PutAttributes, PutTargets, SetLabel, Tag, TargetRow, Untag}
+use Rattle.rollout_machine.specs.Commands.{AddArtifact, AddModule, AddSet, Attribute, ModuleLabel, PutAttributes, SetLabel, Tag, Untag}
 use Rattle.rollout_machine.specs.Commands.{Upload}
 use Rattle.campaign_core.specs.Checks.{LeadsTo, Decides, Follows, Suffice}
-use Rattle.campaign_core.specs.Checks.{IsArtifactView, IsAttributesView, IsImportView, IsModuleView, IsSetView, IsTagView, IsUntagView}
-use Rattle.campaign_core.specs.Checks.{artifact_refusal, attributes_refusal, import_refusal, module_refusal, set_refusal, tag_refusal, untag_refusal}
+use Rattle.campaign_core.specs.Checks.{IsArtifactView, IsAttributesView, IsModuleView, IsSetView, IsTagView, IsUntagView}
+use Rattle.campaign_core.specs.Checks.{artifact_refusal, attributes_refusal, module_refusal, set_refusal, tag_refusal, untag_refusal}
 use Rattle.campaign_core.specs.declared.checks.artifacts.ArtifactView.{ArtifactView}
 use Rattle.campaign_core.specs.declared.checks.modules.ModuleView.{ModuleView}
 use Rattle.campaign_core.specs.declared.checks.sets.SetView.{SetView}
 use Rattle.campaign_core.specs.declared.checks.targets.AttributesView.{AttributesView}
-use Rattle.campaign_core.specs.declared.checks.targets.ImportView.{ImportView}
 use Rattle.campaign_core.specs.declared.checks.targets.TagView.{TagView}
 use Rattle.campaign_core.specs.declared.checks.targets.UntagView.{UntagView}
 use Rattle.campaign_core.specs.declared.checks.Change.{Change}
 use Rattle.campaign_core.specs.declared.checks.View.{View}
-use Rattle.campaign_core.specs.declared.checks.View.TheVariants as view
 use Rattle.campaign_core.proofs.SoundLemmas.{records_are_sound}
 
 -- the records of accepted commands do
 suffice : (v : View) (h : CommandList) → IsValid h → Suffice v (records h)
-suffice (view.OnRollouts v) h valid = records_are_sound h valid
-suffice (view.AddModule v) h valid = tt
-suffice (view.AddArtifact v) h valid = tt
-suffice (view.AddSet v) h valid = tt
-suffice (view.PutTargets v) h valid = tt
-suffice (view.Tag v) h valid = tt
-suffice (view.Untag v) h valid = tt
-suffice (view.PutAttributes v) h valid = tt
+suffice v h valid = grind (arith, records_are_sound)
 
 pub decision_follows : (v : View) (c : Command) (result : Result Change Refusal) → Decides v c result → Follows v c result
 decision_follows v c (Ok change) decides h valid is =
@@ -40,8 +32,7 @@ decision_follows v c (Err refusal) decides h valid is = decides (records h) (suf
 
 -- the first test of a row that refuses nothing doesn't hold
 pub first_passes : (test : Bool) (refusal : Refusal) (row : List (Bool × Refusal)) → first_refusal ((test, refusal) ∷ row) ≡ None → test ≡ false
-first_passes true refusal row none = absurd (cc)
-first_passes false refusal row none = refl
+first_passes test refusal row none = grind arith
 
 module _ (r : Records) where
   pub module_row : (label : ModuleLabel) (v : ModuleView) → IsModuleView v label r → check r (AddModule label) ≡ module_refusal v
@@ -52,9 +43,6 @@ module _ (r : Records) where
 
   pub set_row : (label : SetLabel) (v : SetView) → IsSetView v label r → check r (AddSet label) ≡ set_refusal v
   set_row label v is = rw (is.misses_module, is.same, is.count) refl
-
-  pub rows_row : (rows : List TargetRow) (v : ImportView) → IsImportView v rows r → check r (PutTargets rows) ≡ import_refusal v
-  rows_row rows v is = rw is.count_after refl
 
   pub tag_row : (t x : Bytes) (v : TagView) → IsTagView v t x r → check r (Tag t x) ≡ tag_refusal v
   tag_row t x v is = rw (is.misses_target, is.same, is.count) refl

@@ -1,19 +1,19 @@
 -- What feedback comes to, by their views, over sound records.
-use Rattle.campaign_core.proofs.Common.{◌≡◌, ℕ, Bool, true, false, cond, ◌&&◌, List, [], ◌∷◌, refl, sym, ◌∙◌, ap, subst, Option, Some, None, is_none, is_some}
+use Rattle.campaign_core.proofs.Common.{◌≡◌, ℕ, Bool, true, false, cond, ◌&&◌, List, [], ◌∷◌, refl, sym, ◌∙◌, ap, Option, Some, None, is_none, is_some}
 use Rattle.campaign_core.proofs.Common.{nat_le, not, option_or, unwrap_or, cancel_standing_said, outcome_given, outcome_of_cancel, outcome_of_deployment}
 use Rattle.campaign_core.proofs.Common.{item_numbered, CancelFeedback, CancelWord, CanceledCancel, ClosedCancel, Command, Credential, DeploymentWord, Feedback}
 use Rattle.campaign_core.proofs.Common.{DeviceFeedback, NotedCancel, RejectedCancel, act_on, step_action, Records, OfCancel, OfDeployment, Reported, Said}
 use Rattle.campaign_core.proofs.Common.{is_again, reported, reported_by, says_again, says_old, standing_of, Standing, Again, Fresh, Old, ActionRecord, check}
 use Rattle.campaign_core.proofs.Common.{first_refusal, is_device_action, is_known, notes_of, on_action, same_outcome, says_note, Outcome, Refusal, ClosedAction}
 use Rattle.campaign_core.proofs.Common.{NotFound, OldNumber, Quota, Unauthorized, WrongState, AreSound, IsFeedbackView, IsDeviceAction, MayChangeAction}
-use Rattle.campaign_core.proofs.Common.{canceling_after, change_by, change_if_fresh, device_action, gives_other, is_fresh, is_overtaken, arith, option_map}
-use Rattle.campaign_core.proofs.Common.{device_refusal, only_if, Ok, Err, Result, LeadsTo, DecidesAt, JudgesFeedback, of_device, step_records, report_refusal}
+use Rattle.campaign_core.proofs.Common.{canceling_after, change_by, change_if_fresh, is_fresh, is_overtaken, arith, option_map}
+use Rattle.campaign_core.proofs.Common.{device_refusal, Result, LeadsTo, DecidesAt, JudgesFeedback, of_device, step_records, report_refusal}
 use Rattle.campaign_core.proofs.Common.{says_fresh, ActionChange, DeviceAction}
 use Rattle.rollout_machine.specs.Verdicts as row
 use Rattle.rollout_model.specs.Limits.{note_limit}
 use Rattle.campaign_core.specs.declared.rollout_checks.RolloutChange.{RolloutChange}
 use Rattle.campaign_core.proofs.ActionLemmas.{acts, stays}
-use Rattle.campaign_core.proofs.ItemLemmas.{IsFound, found, only_found}
+use Rattle.campaign_core.proofs.ItemLemmas.{found}
 
 -- ---- the action that it is on
 
@@ -24,22 +24,9 @@ record IsOfDevice (w : DeviceAction) (device : Credential) (k : ℕ) (new : Repo
   pub known : not (is_known rs device) ≡ false
   pub own : is_device_action rs device.id (item_numbered rs.actions k) ≡ true
 
-only_test : {X : Type 0} (b : Bool) (o : Option X) (x : X) → only_if b o ≡ Some x → b ≡ true
-only_test true o x e = refl
-only_test false o x e = cc
-
 own_action : (w : DeviceAction) (device : Credential) (k : ℕ) (new : Reported) (rs : Records) → IsFeedbackView (of_device w) device k new rs
     → IsOfDevice w device k new rs
-own_action w device k new rs is =
-    let it : IsFound (λ w a. IsDeviceAction w a new rs) w (device_action rs device.id k) =
-    found (λ w a. IsDeviceAction w a new rs) (Some w) w (device_action rs device.id k) refl is.own_action in
-    record {
-      action = it.item;
-      numbered = only_found (is_device_action rs device.id (item_numbered rs.actions k)) (item_numbered rs.actions k) it.item it.there;
-      is = it.is;
-      known = sym is.misses_device;
-      own = only_test (is_device_action rs device.id (item_numbered rs.actions k)) (item_numbered rs.actions k) it.item it.there;
-    }
+own_action w device k new rs is = grind arith
 
 past_device : (b d : Bool) (rest : Option Refusal) → b ≡ false → d ≡ true → cond b (Some Unauthorized) (cond (not d) (Some NotFound) rest) ≡ rest
 past_device b d rest e f = rw (e, f) refl
@@ -60,18 +47,7 @@ view_row gives had s more =
 -- the view's standing is that of the record where it is asked
 same_row : (gives had : Option Outcome) (s t : Standing) (more : Bool → List (Bool × Refusal)) → (had ≡ None → t ≡ s) → machine_row gives had s more
     ≡ view_row gives had t more
-same_row gives None s t more is = of s ∙ ap (λ u. view_row gives None u more) (sym (is refl))
-  where
-    of : (s : Standing) → machine_row gives None s more ≡ view_row gives None s more
-    of Fresh = refl
-    of Again = refl
-    of Old = refl
-same_row gives (Some o) s t more is = of (same_outcome gives (Some o))
-  where
-    of : (b : Bool) → cond (not b) (Some ClosedAction) (first_refusal (more false))
-        ≡ option_or (cond (not b) (Some ClosedAction) None) (first_refusal (more false))
-    of true = refl
-    of false = refl
+same_row gives had s t more is = grind arith
 
 -- What feedback on action k says of it, and the tests that its kind alone has: by the action's notes, whether it is canceling, and whether
 -- it is open and the report isn't sent again.
@@ -125,12 +101,7 @@ on_cancel feedback = let new : Reported = reported OfCancel feedback in record {
 
 -- what isn't refused wasn't overtaken
 not_old : (gives : Option Outcome) (w : DeviceAction) (more : Option Refusal) → option_or (report_refusal gives w) more ≡ None → is_overtaken w ≡ false
-not_old gives w more accepted = go (gives_other gives w.action) (is_overtaken w) accepted
-  where
-    go : (b d : Bool) → option_or (cond b (Some ClosedAction) (cond d (Some OldNumber) None)) more ≡ None → d ≡ false
-    go true d e = cc
-    go false true e = cc
-    go false false e = refl
+not_old gives w more accepted = grind arith
 
 module _ {c : Command} {device : Credential} {k : ℕ} {new : Reported} {gives : Option Outcome} {canceling : Bool → Bool} {tests : ℕ → Bool → Bool
     → List (Bool × Refusal)}
@@ -177,8 +148,7 @@ module _ {c : Command} {device : Credential} {k : ℕ} {new : Reported} {gives :
       → (result : Result (Option ActionChange) Refusal)
       → JudgesFeedback w (option_or (report_refusal gives w) (first_refusal (tests w.notes w.action.canceling (is_fresh w)))) gives
       (canceling w.action.canceling) result → DecidesAt its rs c result
-  reports its leads sound (Ok d) e = (report_row ∙ e.0, leads d (subst Makes (sym e.1) (may_act sound (not_old gives w _ e.0))))
-  reports its leads sound (Err refusal) e = report_row ∙ e
+  reports its leads sound result e = grind (arith, report_row, may_act, not_old)
 
 -- on no action of the device it is refused
 module _ {c : Command} {device : Credential} {k : ℕ} {new : Reported} {gives : Option Outcome} {canceling : Bool → Bool} {tests : ℕ → Bool → Bool

@@ -1,5 +1,6 @@
 -- Where a test picks the item of a number, what it picks is what is changed.
-use Rattle.campaign_core.proofs.Common.{◌≡◌, ℕ, zero, suc, Bool, true, false, cond, List, [], ◌∷◌, refl, subst, ap, inl, inr, Option, Some, None, map}
+use native.Mathlib.Omega.{arith}
+use Rattle.campaign_core.proofs.Common.{◌≡◌, ℕ, zero, suc, Bool, true, cond, List, [], ◌∷◌, refl, ap, inl, inr, Option, Some, map}
 use Rattle.campaign_core.proofs.Common.{slice_get, cases_Bool, item_numbered, BothOrNone, change_numbered, only_if}
 
 -- the test holds of item k alone
@@ -61,14 +62,10 @@ pub record IsFound {V X : Type 0} (P : V → X → Type 0) (v : V) (o : Option X
   pub is : P v item
 
 pub found : {V X : Type 0} (P : V → X → Type 0) (v : Option V) (w : V) (o : Option X) → v ≡ Some w → BothOrNone P v o → IsFound P w o
-found P None w o e is = cc
-found P (Some u) w None e is = absurd is
-found P (Some u) w (Some x) e is = let same : u ≡ w = cc in record { item = x; there = refl; is = subst (λ z. P z x) same is }
+found P v w o e is = grind arith
 
 pub same_item : {X : Type 0} (o : Option X) (x y : X) → o ≡ Some x → o ≡ Some y → x ≡ y
-same_item None x y d e = cc
-same_item (Some z) x y d e = cc
+same_item o x y d e = grind arith
 
 pub only_found : {X : Type 0} (b : Bool) (o : Option X) (x : X) → only_if b o ≡ Some x → o ≡ Some x
-only_found true o x e = e
-only_found false o x e = cc
+only_found b o x e = grind arith

@@ -25,22 +25,17 @@ same_effects : (p q : Bool) (s t : Option ℕ) → p ≡ q → s ≡ t → effec
 same_effects p q s t e d = rw (e, d) refl
 
 starts_so : (b : Bool) (i : ℕ) → effects false (next_if b i) ≡ effects_by i (cond b StartsNext Nothing)
-starts_so true i = refl
-starts_so false i = refl
+starts_so b i = grind arith
 
 pauses_so : (b : Bool) (i : ℕ) → effects b None ≡ effects_by i (cond b Pauses Nothing)
-pauses_so true i = refl
-pauses_so false i = refl
+pauses_so b i = grind arith
 
 no_error : (bad size percent : ℕ) → error_begins bad (bad + 0) size percent ≡ false
 no_error bad size percent = let e : bad + 0 ≡ bad = omega arith in rw e (and-not_self (reaches bad size percent))
 
 -- no start where there was none to come
 none_comes : (lt paused pauses reached : Bool) → (lt ≡ true → (not paused && reached) ≡ false) → (lt && (not (paused || pauses) && reached)) ≡ false
-none_comes false paused pauses reached h = refl
-none_comes true true pauses reached h = refl
-none_comes true false true reached h = refl
-none_comes true false false reached h = h refl
+none_comes lt paused pauses reached h = grind arith
 
 same_view : (a b : GroupView) → a.number ≡ b.number → a.size ≡ b.size → a.ok ≡ b.ok → a.bad ≡ b.bad → a.success ≡ b.success → a.error ≡ b.error → a ≡ b
 same_view a b n s o d u e = λ i. record { number = n i; size = s i; ok = o i; bad = d i; success = u i; error = e i }
@@ -48,8 +43,7 @@ same_view a b n s o d u e = λ i. record { number = n i; size = s i; ok = o i; b
 started : (paused p : Bool) (groups : ℕ) (own last : GroupView) → own ≡ last → p ≡ false → (b : Bool) → b ≡ true
     → next_if (nat_lt last.number groups && (not (paused || p) && reaches (last.ok + cond (b && true) 1 0) last.size last.success)) last.number
     ≡ next_if ((b && nat_lt own.number groups) && (not paused && reaches (own.ok + 1) own.size own.success)) own.number
-started true p groups own last same calm b is = rw (sym same, is) refl
-started false p groups own last same calm b is = rw (sym same, calm, is) refl
+started paused p groups own last same calm b is = grind arith
 
 -- the own view of a view of both groups
 abbrev own_of : RolloutView → OwnView
@@ -131,8 +125,7 @@ module _ (x : Rollout) (r g l : ℕ) (h : CommandList) (f : IsFollowed x r h l) 
 
 -- where a group is started, there is a last one
 some_last : (x : Rollout) (r g l : ℕ) (h : CommandList) → 1 ≤ g → IsLast x r h l → is_group_started x r g h ≡ true → 1 ≤ l
-some_last x r g zero h low w begun = absurd (let none : false ≡ true = sym (w.beyond g (omega (arith, low))) ∙ begun in cc)
-some_last x r g (suc l) h low w begun = omega arith
+some_last x r g l h low w begun = grind arith
 
 at_place : (h : CommandList) (p : ActionPlace) (w : IsPlace h p) (l : ℕ) → IsFollowed w.rollout p.rollout h l → 1 ≤ l
     → OwnDecides (rollout_in h p.rollout w.rollout) (action_in h p)
@@ -172,15 +165,7 @@ abbrev both_seen : OwnView → Rollout → ℕ → ℕ → CommandList → Rollo
 both_seen v x r l h = record { paused = v.paused; groups = x.plan.groups.count; own = v.own; last = last_seen x r l h }
 
 both_viewed : (v : OwnView) (x : Rollout) (r g l : ℕ) (h : CommandList) → IsOwnView v x r g l h → IsView (both_seen v x r l h) x r g l h
-both_viewed v x r g l h w = record {
-  sound = w.sound;
-  paused = w.paused;
-  groups = refl;
-  own = w.own;
-  last = record { number = refl; size = refl; ok = refl; bad = refl; success = refl; error = refl };
-  is_last = w.is_last;
-  outcomes = w.outcomes;
-}
+both_viewed v x r g l h w = grind arith
 
 pub follows_outcome : (v : OwnView) (o : Outcome) (f : Following) → f ≡ following v o → FollowsOutcome v o f
 follows_outcome v o f is x r g j l h c w started a =

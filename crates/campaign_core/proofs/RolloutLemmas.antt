@@ -1,8 +1,9 @@
 -- The verdicts on commands on rollouts by their views, and the steps of sound records.
-use Rattle.campaign_core.proofs.Common.{◌≡◌, ℕ, Bool, true, false, cond, ◌||◌, List, [], ◌∷◌, ◌++◌, refl, sym, ◌∙◌, ap, subst, Option, Some, None, Ok, nat_eq}
-use Rattle.campaign_core.proofs.Common.{nat_lt, not, is_none, map, option_map, eq-eqb, eqb-true, item_numbered, Resume, Start, TriggerNext, next_if}
-use Rattle.campaign_core.proofs.Common.{starts_next, begin_rollout, change_rollout, group_view, last_started, new_actions, resumed, start_group, step_records}
-use Rattle.campaign_core.proofs.Common.{triggered, view_from_group, view_of, Records, GroupRecord, RolloutRecord, RolloutWord, group_numbered, rollout_word}
+use native.Mathlib.Omega.{arith}
+use Rattle.campaign_core.proofs.Common.{◌≡◌, ℕ, Bool, true, false, List, [], ◌∷◌, sym, ◌∙◌, ap, Option, Some, None, Ok, nat_eq}
+use Rattle.campaign_core.proofs.Common.{nat_lt, not, is_none, option_map, eq-eqb, eqb-true, item_numbered, Resume, Start, TriggerNext, next_if}
+use Rattle.campaign_core.proofs.Common.{starts_next, change_rollout, group_view, last_started, resumed, step_records}
+use Rattle.campaign_core.proofs.Common.{triggered, view_of, Records, RolloutRecord, RolloutWord, rollout_word}
 use Rattle.campaign_core.proofs.Common.{first_refusal, has_next, is_at_pause, is_running, rollout_word_row, word_is, Effects, RolloutView, Refusal, NotFound}
 use Rattle.campaign_core.proofs.Common.{WrongState, AreSound, ChangesRollout, Decides, IsResumeView, IsStandingView, IsTriggerView, StartsRollout}
 use Rattle.campaign_core.proofs.Common.{change_numbered, moved_by, resumed_by, word_refusal}
@@ -11,7 +12,7 @@ use Rattle.campaign_core.specs.declared.rollout_checks.RolloutCommandView.TheVar
 use Rattle.campaign_core.specs.declared.rollout_checks.progress.ResumeView.{ResumeView}
 use Rattle.campaign_core.specs.declared.rollout_checks.progress.TriggerView.{TriggerView}
 use Rattle.campaign_core.specs.declared.rollout_checks.standing.StandingView.{StandingView}
-use Rattle.campaign_core.proofs.ItemLemmas.{IsFound, changed_same, found, picked, same_item}
+use Rattle.campaign_core.proofs.ItemLemmas.{IsFound, changed_same, found, picked}
 
 -- ---- rollouts
 
@@ -30,28 +31,20 @@ changes_rollout rs sound r f = ap (λ (xs : List RolloutRecord). record rs { rol
 
 pub changes_found : (rs : Records) → AreSound rs → (r : ℕ) (f g : RolloutRecord → RolloutRecord) (x : RolloutRecord) → item_numbered rs.rollouts r ≡ Some x
     → f x ≡ g x → ChangesRollout r g rs (record rs { rollouts = change_rollout r f rs.rollouts })
-changes_found rs sound r f g x at same =
-    ap (λ (xs : List RolloutRecord). record rs { rollouts = xs })
-    (rollouts_changed rs sound r f ∙ changed_same f g r rs.rollouts (λ y d. subst (λ z. f z ≡ g z) (same_item (item_numbered rs.rollouts r) x y at d) same))
+changes_found rs sound r f g x at same = grind (arith, rollouts_changed, changed_same)
 
 pub starts_rollout : (rs : Records) → AreSound rs → (r : ℕ) → StartsRollout r rs (step_records rs (Start r))
-starts_rollout rs sound r = ap (λ (xs : List RolloutRecord). record rs { rollouts = xs; actions = rs.actions ++ new_actions (item_numbered rs.rollouts r) })
-    (rollouts_changed rs sound r begin_rollout)
+starts_rollout rs sound r = grind (arith, rollouts_changed)
 
 -- the number of a group's view
 pub number_is : (x : RolloutRecord) (i : ℕ) → (group_view x i).number ≡ i
-number_is x i = go (group_numbered i x.groups)
-  where
-    go : (o : Option GroupRecord) → (view_from_group x.plan i o).number ≡ i
-    go None = refl
-    go (Some g) = refl
+number_is x i = grind arith
 
 -- ---- words
 
 row_is : (p : RolloutWord → Bool) (o : Option RolloutRecord) → first_refusal ((is_none o, NotFound) ∷ (not (word_is p o), WrongState) ∷ [])
     ≡ word_refusal p (option_map rollout_word o)
-row_is p None = refl
-row_is p (Some x) = refl
+row_is p o = grind arith
 
 -- the row of a command on a rollout, by its state
 pub word_row : (p : RolloutWord → Bool) (v : StandingView) (r : ℕ) (rs : Records) (result : Option Refusal) → IsStandingView v r rs → word_refusal p v.word
@@ -63,25 +56,16 @@ pub found_row : (p : RolloutWord → Bool) (o : Option RolloutRecord) (x : Rollo
     → word_refusal p (Some word) ≡ None → first_refusal ((is_none o, NotFound) ∷ (not (word_is p o), WrongState) ∷ []) ≡ None
 found_row p o x word at is e = row_is p o ∙ ap (λ q. word_refusal p (option_map rollout_word q)) at ∙ ap (λ w. word_refusal p (Some w)) (sym is) ∙ e
 
-passed : (b n : Bool) → cond (not b) (Some WrongState) None ≡ None → n ≡ true → cond (not b) (Some WrongState) (cond (not n) (Some WrongState) None) ≡ None
-passed true true d e = refl
-passed true false d e = cc
-passed false n d e = cc
-
 trigger_row : (o : Option RolloutRecord) (x : RolloutRecord) (word : RolloutWord) → o ≡ Some x → word ≡ rollout_word x → word_refusal is_running (Some word)
     ≡ None → has_next (Some x) ≡ true
     → first_refusal ((is_none o, NotFound) ∷ (not (word_is is_running o), WrongState) ∷ (not (has_next o), WrongState) ∷ []) ≡ None
-trigger_row o x word at is e next =
-    ap (λ q. first_refusal ((is_none q, NotFound) ∷ (not (word_is is_running q), WrongState) ∷ (not (has_next q), WrongState) ∷ [])) at
-    ∙ passed (is_running (rollout_word x)) (has_next (Some x)) (ap (λ w. word_refusal is_running (Some w)) (sym is) ∙ e) next
+trigger_row o x word at is e next = grind arith
 
 -- ---- going on
 
 same_resumed : (effects : Effects) (w : RolloutView) (x : RolloutRecord) → effects.pauses ≡ false → effects.starts ≡ starts_next w false w.last.ok
     → w ≡ view_of x (last_started x.groups) → resumed x ≡ resumed_by effects x
-same_resumed effects w x pauses starts is =
-    sym (ap (λ b. record x { paused = b; groups = map (start_group effects.starts) x.groups }) pauses
-    ∙ ap (λ s. record x { paused = false; groups = map (start_group s) x.groups }) (starts ∙ ap (λ (u : RolloutView). starts_next u false u.last.ok) is))
+same_resumed effects w x pauses starts is = grind arith
 
 pub resumes : (v : Option ResumeView) (w : ResumeView) (r : ℕ) (effects : Effects) → v ≡ Some w → word_refusal is_at_pause (Some w.word) ≡ None → effects.pauses
     ≡ false → effects.starts ≡ starts_next w.rollout false w.rollout.last.ok
@@ -94,14 +78,7 @@ resumes v w r effects e word pauses starts rs sound is =
 
 same_moved : (effects : Effects) (w : RolloutView) (x : RolloutRecord) → effects.pauses ≡ false → effects.starts
     ≡ next_if (nat_lt w.last.number w.groups) w.last.number → w ≡ view_of x (last_started x.groups) → triggered x ≡ moved_by effects x
-same_moved effects w x pauses starts is =
-    sym (ap (λ b. record x { paused = b || x.paused; groups = map (start_group effects.starts) x.groups }) pauses
-    ∙ ap (λ s. record x { groups = map (start_group s) x.groups }) (starts ∙ ap (λ (u : RolloutView). next_if (nat_lt u.last.number u.groups) u.last.number) is
-    ∙ last_number x))
-  where
-    last_number : (x : RolloutRecord) → next_if (nat_lt (group_view x (last_started x.groups)).number x.plan.groups.count)
-        (group_view x (last_started x.groups)).number ≡ next_if (nat_lt (last_started x.groups) x.plan.groups.count) (last_started x.groups)
-    last_number x = ap (λ n. next_if (nat_lt n x.plan.groups.count) n) (number_is x (last_started x.groups))
+same_moved effects w x pauses starts is = grind arith
 
 pub triggers : (v : Option TriggerView) (w : TriggerView) (r : ℕ) (effects : Effects) → v ≡ Some w → word_refusal is_running (Some w.word) ≡ None → w.has_next
     ≡ true → effects.pauses ≡ false → effects.starts ≡ next_if (nat_lt w.rollout.last.number w.rollout.groups) w.rollout.last.number

@@ -1,6 +1,7 @@
 -- The records of accepted commands are sound, so a verdict over sound records is that at a command list.
-use Rattle.campaign_core.proofs.Common.{◌≡◌, ℕ, true, false, ◌&&◌, sym, ◌∙◌, ap, subst, Some, Result, Ok, Err, is_none, nat_eq, and_parts, eqb-true}
-use Rattle.campaign_core.proofs.Common.{records_step, ActionPlace, cancel_stands, CommandList, Command, is_same_action, Records, action_in, records}
+use native.Mathlib.Omega.{arith}
+use Rattle.campaign_core.proofs.Common.{◌≡◌, ℕ, true, false, ◌&&◌, sym, ◌∙◌, ap, subst, Some, Result, Ok, Err, nat_eq}
+use Rattle.campaign_core.proofs.Common.{records_step, ActionPlace, CommandList, Command, is_same_action, Records, action_in, records}
 use Rattle.campaign_core.proofs.Common.{ActionRecord, IsValid, Outcome, Refusal, HasPlace, has_place, AreSound, Decides, Follows, LeadsTo}
 use Rattle.rollout_machine.proofs.Distinct.{one_number}
 use Rattle.campaign_core.proofs.OwnGroups.{own_group_decides}
@@ -9,11 +10,7 @@ use Rattle.campaign_core.specs.declared.rollout_checks.RolloutChange.{RolloutCha
 use Rattle.campaign_core.specs.declared.rollout_checks.RolloutCommandView.{RolloutCommandView}
 
 same_place : (p q : ActionPlace) → (nat_eq q.rollout p.rollout && nat_eq q.position p.position) ≡ true → p ≡ q
-same_place p q t =
-    let parts : (nat_eq q.rollout p.rollout ≡ true) × (nat_eq q.position p.position ≡ true) = and_parts _ _ t in
-    let r : q.rollout ≡ p.rollout = eqb-true _ _ parts.0 in
-    let j : q.position ≡ p.position = eqb-true _ _ parts.1 in
-    ap (λ (n : ℕ). record { rollout = n; position = p.position }) (sym r) ∙ ap (λ (n : ℕ). record { rollout = q.rollout; position = n }) (sym j)
+same_place p q t = grind arith
 
 places_apart : (h : CommandList) → IsValid h → (j k : ℕ) (a b : ActionRecord) → HasPlace h j a → HasPlace h k b → is_same_action a b ≡ true → j ≡ k
 places_apart h valid j k a b v w t =
@@ -23,9 +20,7 @@ places_apart h valid j k a b v w t =
     one_number h j k w.place valid (v.numbered ∙ ap (λ p. Some p) one) w.numbered
 
 ended : (h : CommandList) (k : ℕ) (a : ActionRecord) (o : Outcome) → HasPlace h k a → a.outcome ≡ Some o → a.canceling ≡ false
-ended h k a o w e =
-    let had : (action_in h w.place).outcome ≡ Some o = sym (ap (λ (b : ActionRecord). b.outcome) w.is) ∙ e in
-    ap (λ (b : ActionRecord). b.canceling) w.is ∙ ap (λ given. is_none given && cancel_stands h w.place.rollout w.place.position) had
+ended h k a o w e = grind arith
 
 pub records_are_sound : (h : CommandList) → IsValid h → AreSound (records h)
 records_are_sound h valid = record {

