@@ -1,7 +1,7 @@
 -- Records of four fields, and fields that are no text.
 use Rattle.desk_files.proofs.Common.{◌≡◌, ◌<◌, ◌≤◌, ◌==◌, ℕ, List, [], ◌∷◌, length, Bool, true, false, cond, Option, Some, None, refl, arith, nat_le, count_by}
-use Rattle.desk_files.proofs.Common.{Bor, get_or, map, take, ◌+◌, ◌++◌, sym, ◌∙◌, list_all, slice_split, map-append, take_more, list_all-map, list_all_at}
-use Rattle.desk_files.proofs.Common.{nat_tests, is_spelled, is_text, is_text_letter, is_token, is_word, tag_list_of, text_of, token_of, word_of, both}
+use Rattle.desk_files.proofs.Common.{Bor, get_or, map, take, ◌+◌, ◌++◌, list_all, slice_split, map-append, take_more, list_all-map, list_all_at}
+use Rattle.desk_files.proofs.Common.{is_spelled, is_text, is_text_letter, is_token, is_word, tag_list_of, text_of, token_of, word_of, both}
 use Rattle.desk_files.proofs.Common.{spelled_is_utf8, field_tags}
 use Rattle.std.proofs.lemmas.List.Splits.{length-slice_split}
 use Rattle.std.specs.Str.{IsUtf8, is_utf8}
@@ -20,8 +20,7 @@ four_are (w ∷ x ∷ y ∷ z ∷ []) a b c d four at0 at1 at2 at3 = cc
 four_are (v ∷ w ∷ x ∷ y ∷ z ∷ more) a b c d four at0 at1 at2 at3 = absurd (omega arith)
 
 refused : (v : Bool) (bs : List ℕ) → (v ≡ true → ⊥) → cond v (Some bs) None ≡ None
-refused true bs not_so = absurd (not_so refl)
-refused false bs not_so = refl
+refused v bs not_so = grind arith
 
 -- words, tokens and texts are UTF-8
 pub word_of-no_text : (bs : List ℕ) → (IsUtf8 bs → ⊥) → word_of bs ≡ None
@@ -33,17 +32,10 @@ token_of-no_text bs unread = refused (is_token bs) bs (λ is. unread (spelled_is
 pub text_of-no_text : (bs : List ℕ) → (IsUtf8 bs → ⊥) → text_of bs ≡ None
 text_of-no_text bs unread = refused (is_text bs) bs (λ is. unread (IsUtf8-from_is_utf8 bs (both (is_spelled is_text_letter 1 128 bs) (is_utf8 bs) is).1))
 
-pub is_word-none : (bs : List ℕ) → word_of bs ≡ None → is_word bs ≡ false
-is_word-none bs none = by (is_word bs) none
-  where
-    by : (v : Bool) → cond v (Some bs) None ≡ None → v ≡ false
-    by true e = cc e
-    by false e = refl
-
 -- ---- tags
 
 pub tag_list_of-many : (ws : List (List ℕ)) → 16 < length ws → tag_list_of ws ≡ None
-tag_list_of-many ws many = let few : nat_le (length ws) 16 ≡ false = grind (arith, nat_tests) in rw few refl
+tag_list_of-many ws many = let few : nat_le (length ws) 16 ≡ false = grind arith in rw few refl
 
 -- a field with 16 spaces has more than 16 tags
 pub tags_of-many : (field : List ℕ) → 16 ≤ count_by (λ b. b == 32) field → field_tags field ≡ None
@@ -56,9 +48,7 @@ tags_of-many (b ∷ bs) many =
 
 pub no_words : (parts : List (Bor (List ℕ))) (i : ℕ) (d : Bor (List ℕ)) (r : Option (List ℕ)) → i < length parts → r ≡ word_of (get_or parts i d).now → r ≡ None
     → list_all is_word (map (λ part. part.now) parts) ≡ false
-no_words parts i d r within read none =
-    list_all-map is_word (λ (part : Bor (List ℕ)). part.now) parts ∙ list_all_at (λ (part : Bor (List ℕ)). is_word part.now) parts i d within
-    (is_word-none (get_or parts i d).now (sym read ∙ none))
+no_words parts i d r within read none = grind (arith, list_all-map, list_all_at)
 
 word_is : (bs w : List ℕ) → Some w ≡ word_of bs → w ≡ bs
 word_is bs w read = by (is_word bs) read

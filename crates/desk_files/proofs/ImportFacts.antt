@@ -1,7 +1,7 @@
 -- What the records so far say of the whole import.
 use Rattle.desk_files.proofs.Common.{◌≡◌, ◌<◌, ◌≤◌, ◌+◌, ℕ, zero, suc, List, [], ◌∷◌, ◌++◌, length, take, Bool, true, false, Some, None, is_none, unwrap_or}
 use Rattle.desk_files.proofs.Common.{Ok, Err, Bor, refl, sym, ◌∙◌, ap, arith, add-zero, length-append, append_assoc, below_more, codes, nat_eq, ends_with}
-use Rattle.desk_files.proofs.Common.{find, range_with_len, false≢true, true≢false, append-nil, Reader, are_distinct_words, TargetRow, each_row, faulty_line}
+use Rattle.desk_files.proofs.Common.{find, range_with_len, true≢false, append-nil, Reader, are_distinct_words, TargetRow, each_row, faulty_line}
 use Rattle.desk_files.proofs.Common.{ids_of_rows, import_of, is_header, records_of, rows_of, targets_in_file, HasIds, Pushes, row_behind, GivesRecords}
 use Rattle.desk_files.proofs.Common.{GivesNext, Record}
 use Rattle.desk_files.proofs.Common.{ImportedRows}
@@ -29,13 +29,11 @@ says bytes b told is = rw (sym told ∙ is) refl
 -- ---- the header
 
 pub no_record : (records : List Record) (new : Reader (Bor (List ℕ))) (r : Record) → GivesNext records new false r → import_of records ≡ Err 1
-no_record [] new r h = refl
-no_record (first ∷ rest) new r h = absurd (false≢true h.0)
+no_record records new r h = grind arith
 
 pub no_header : (records : List Record) (new : Reader (Bor (List ℕ))) (r : Record) → GivesNext records new true r → is_header r ≡ false → import_of records
     ≡ Err 1
-no_header [] new r h other = absurd (true≢false h)
-no_header (first ∷ rest) new r h other = rw (rw h.1 at other) refl
+no_header records new r h other = grind arith
 
 only_one : (n : ℕ) → n < 2 → 1 ≤ n → n ≡ 1
 only_one n below least = omega arith
@@ -67,8 +65,7 @@ rows_are : (first : Record) (done : List Record) (rows : List TargetRow) → is_
 rows_are first done rows header taken distinct = rw (header, taken, distinct) refl
 
 nothing_more : (more : List Record) (new : Reader (Bor (List ℕ))) (r : Record) → GivesNext more new false r → more ≡ []
-nothing_more [] new r h = refl
-nothing_more (x ∷ more) new r h = absurd (false≢true h.0)
+nothing_more more new r h = grind arith
 
 pub ends : (records : List Record) (rows : ImportedRows) (line : ℕ) (old new : Reader (Bor (List ℕ))) (r : Record) (i : Imported records rows line old)
     → GivesNext i.more new false r → import_of records ≡ Ok rows.rows

@@ -1,5 +1,5 @@
 -- A read of a record, by the records that the reader has left.
-use Rattle.desk_files.proofs.Common.{◌≡◌, ◌<◌, ◌≤◌, ◌==◌, ◌&&◌, ℕ, zero, suc, List, [], ◌∷◌, ◌++◌, length, Bool, true, false, cond, Option, Some, None, Bor}
+use Rattle.desk_files.proofs.Common.{◌≡◌, ◌<◌, ◌≤◌, ◌==◌, ◌&&◌, ℕ, zero, suc, List, [], ◌∷◌, ◌++◌, length, Bool, true, false, cond, Some, None, Bor}
 use Rattle.desk_files.proofs.Common.{refl, sym, ◌∙◌, subst, arith, inl, Reader, GivesRecords, GivesNext, known, Record}
 use Rattle.csv.specs.Machine.{Read, after_end, ends_at_end, ends_with, field_after, fields_after, in_field, is_byte, is_end, next_record, start_field}
 use Rattle.csv.specs.Machine.{start_record, step}
@@ -10,7 +10,6 @@ use Rattle.csv.specs.declared.parser.Config.{Config}
 use Rattle.csv.specs.declared.parser.State.{State}
 use Rattle.csv.specs.declared.parser.State.TheVariants as st
 use Rattle.csv.specs.declared.parser.Terminator.{Terminator}
-use Rattle.csv.specs.declared.parser.Terminator.TheVariants as term
 use Rattle.csv.specs.declared.reader.Trim.TheVariants as trim
 use Rattle.csv.proofs.ReadFacts.{rows-end, rows-more}
 
@@ -19,16 +18,10 @@ abbrev Parts : State × Action → Type 0
 Parts q = is_end q.1 ≡ true → ends_at_end q.0 ≡ false
 
 parts_if : (b : Bool) (x y : State × Action) → Parts x → Parts y → Parts (cond b x y)
-parts_if true x y px py = px
-parts_if false x y px py = py
-
-between_if : (b : Bool) → ends_at_end (cond b st.AfterCr st.StartRecord) ≡ false
-between_if true = refl
-between_if false = refl
+parts_if b x y px py = grind arith
 
 after_end_parts : (t : Terminator) (c : ℕ) → Parts (after_end t c, act.EndRecord)
-after_end_parts term.CRLF c e = between_if (c == 13)
-after_end_parts (term.Any t) c e = refl
+after_end_parts t c e = grind arith
 
 in_field_parts : (cfg : Config) (c : ℕ) → Parts (in_field cfg c)
 in_field_parts cfg c =
@@ -62,13 +55,7 @@ abbrev Leaves : List ℕ → Read → Type 0
 Leaves xs p = (ends_at_end p.1 ≡ false) × (length p.2 ≤ length xs)
 
 at_end : (b : Bool) (r p : Read) → Leaves [] r → cond b (Some r) None ≡ Some p → Leaves [] p
-at_end true r p leaves e = let same : r ≡ p = cc e in subst (Leaves []) same leaves
-at_end false r p leaves e = cc e
-
-by_byte : (b : Bool) (r p : Read) (xs : List ℕ) (more : Option Read) → (b ≡ true → Leaves xs r) → (more ≡ Some p → Leaves xs p) → cond b (Some r) more ≡ Some p
-    → Leaves xs p
-by_byte true r p xs more here later e = let same : r ≡ p = cc e in subst (Leaves xs) same (here refl)
-by_byte false r p xs more here later e = later e
+at_end b r p leaves e = grind arith
 
 longer : (c : ℕ) (xs : List ℕ) (p : Read) → Leaves xs p → Leaves (c ∷ xs) p
 longer c xs p leaves = (leaves.0, omega (arith, leaves.1))
@@ -77,9 +64,7 @@ leaves_byte : (cfg : Config) (s : State) (fields : List (List ℕ)) (field : Lis
     → (next_record cfg (step cfg s c).0 (fields_after (step cfg s c).1 fields field) (field_after (step cfg s c).1 c field) rest ≡ Some p → Leaves rest p)
     → next_record cfg s fields field (c ∷ rest) ≡ Some p → Leaves rest p
 unfolding next_record
-leaves_byte cfg s fields field c rest p later e =
-    by_byte (is_end (step cfg s c).1) (fields_after (step cfg s c).1 fields field, (step cfg s c).0, rest) p rest _
-    (λ ends. (step_parts cfg s c ends, omega arith)) later e
+leaves_byte cfg s fields field c rest p later e = grind (arith, step_parts)
 
 leaves : (cfg : Config) (s : State) (fields : List (List ℕ)) (field xs : List ℕ) (p : Read) → next_record cfg s fields field xs ≡ Some p → Leaves xs p
 unfolding next_record
@@ -101,8 +86,7 @@ takes_bytes cfg s (c ∷ rest) p between e =
 
 end_left : (n : ℕ) (s : State) (xs : List ℕ) → length xs < n → next_record default_config s [] [] xs ≡ None → records_from default_config n s xs ≡ []
 unfolding records_from
-end_left zero s xs enough none = absurd (omega arith)
-end_left (suc n) s xs enough none = rw none refl
+end_left n s xs enough none = grind arith
 
 more_left : (n : ℕ) (s : State) (xs : List ℕ) (p : Read) → ends_at_end s ≡ false → length xs < n → next_record default_config s [] [] xs ≡ Some p
     → (m : ℕ) × (records_from default_config n s xs ≡ p.0 ∷ records_from default_config m p.1 p.2) × (length p.2 < m) × (ends_at_end p.1 ≡ false)

@@ -1,40 +1,25 @@
 -- How the rows and their ids go on by one record.
+use native.Mathlib.Omega.{arith}
 use Rattle.desk_files.proofs.Common.{◌≡◌, ◌&&◌, ◌||◌, ℕ, List, [], ◌∷◌, ◌++◌, Bool, true, false, not, cond, nat_eq, nat_cmp, Option, Some, None, option_map}
-use Rattle.desk_files.proofs.Common.{option_and_then, BTreeSet, refl, sym, ◌∙◌, ap, list_any, false≢true, true≢false, map-append, list_any-append}
+use Rattle.desk_files.proofs.Common.{option_and_then, BTreeSet, refl, ◌∙◌, ap, list_any, map-append, list_any-append}
 use Rattle.desk_files.proofs.Common.{are_distinct_words, TargetRow, distinct_rows, each_row, ids_of_rows, HasIds, Pushes, TakesRecord, has_id, if_new}
 use Rattle.desk_files.proofs.Common.{row_behind}
 use Rattle.desk_files.proofs.Common.{Record, row_of, ImportedRows}
-use Rattle.std.specs.Option.{MatchOption}
 use Rattle.std.specs.BTreeMap.{is_at}
 use Rattle.std.specs.BTreeSet.{contains}
 use Rattle.std.specs.Cmp.Lexicographic.{nat_list_eq_equiv, pointwise, slice_cmp, texts_ties}
 
 -- ---- the set of ids
 
-if_or : (b x : Bool) → cond b true x ≡ x || (b || false)
-if_or true true = refl
-if_or true false = refl
-if_or false true = refl
-if_or false false = refl
-
-has_id-push : (id : List ℕ) (rows : List TargetRow) (row : TargetRow) → has_id id (rows ++ row ∷ []) ≡ has_id id rows || (pointwise nat_eq row.id id || false)
-has_id-push id rows row =
-    ap (list_any (λ v. pointwise nat_eq v id)) (map-append (λ (r : TargetRow). r.id) rows (row ∷ []))
-    ∙ list_any-append (λ v. pointwise nat_eq v id) (ids_of_rows rows) (row.id ∷ [])
-
 -- one more id in the set, for one more row
 pub ids_with : (old new : BTreeSet (List ℕ)) (rows : List TargetRow) (row : TargetRow) → ((q : List ℕ) → contains (slice_cmp nat_cmp) old q ≡ has_id q rows)
     → ((q : List ℕ) → contains (slice_cmp nat_cmp) new q ≡ cond (is_at (slice_cmp nat_cmp row.id) q) true (contains (slice_cmp nat_cmp) old q))
     → (q : List ℕ) → contains (slice_cmp nat_cmp) new q ≡ has_id q (rows ++ row ∷ [])
-ids_with old new rows row had added q =
-    added q ∙ ap (λ x. cond (is_at (slice_cmp nat_cmp row.id) q) true x) (had q)
-    ∙ ap (λ b. cond b true (has_id q rows)) (sym (texts_ties row.id q))
-    ∙ if_or (pointwise nat_eq row.id q) (has_id q rows) ∙ sym (has_id-push q rows row)
+ids_with old new rows row had added q = grind (arith, texts_ties, map-append, list_any-append)
 
 -- an id that was added is new
 pub was_absent : (added had : Bool) → added ≡ true → added ≡ not had → had ≡ false
-was_absent added true so e = cc (sym so ∙ e)
-was_absent added false so e = refl
+was_absent added had so e = grind arith
 
 pub takes_new : (old new : ImportedRows) (r : Record) (row : TargetRow) → row_of r ≡ Some row → has_id row.id old.rows ≡ false → new.rows ≡ old.rows ++ row ∷ []
     → HasIds new → TakesRecord old new r true
@@ -43,36 +28,19 @@ takes_new old new r row read fresh pushed ids = rw (read, fresh) (refl, record {
 -- ---- what a taken record says
 
 pub not_taken : (old new : ImportedRows) (r : Record) → TakesRecord old new r false → row_behind old.rows r ≡ None
-not_taken old new r h = by (row_behind old.rows r) h
-  where
-    by : (o : Option TargetRow) → MatchOption o (false ≡ false) (λ row. (false ≡ true) × Pushes old new row) → o ≡ None
-    by None t = refl
-    by (Some row) t = absurd (false≢true t.0)
+not_taken old new r h = grind arith
 
 pub taken : (old new : ImportedRows) (r : Record) → TakesRecord old new r true → (row : TargetRow) × (row_behind old.rows r ≡ Some row) × Pushes old new row
-taken old new r h = by (row_behind old.rows r) h
-  where
-    by : (o : Option TargetRow) → MatchOption o (true ≡ false) (λ row. (true ≡ true) × Pushes old new row) → (row : TargetRow) × (o ≡ Some row)
-        × Pushes old new row
-    by None t = absurd (true≢false t)
-    by (Some row) t = (row, refl, t.1)
+taken old new r h = grind arith
 
 -- ---- rows of records
 
-rows_go : (o : Option TargetRow) (m n : Option (List TargetRow)) (xs ys : List TargetRow) → option_and_then (λ row. option_map (λ rows. row ∷ rows) m) o
-    ≡ Some xs → ((zs : List TargetRow) → m ≡ Some zs → n ≡ Some (zs ++ ys))
-    → option_and_then (λ row. option_map (λ rows. row ∷ rows) n) o ≡ Some (xs ++ ys)
-rows_go None m n xs ys e later = cc e
-rows_go (Some row) None n xs ys e later = cc e
-rows_go (Some row) (Some zs) n xs ys e later = let same : row ∷ zs ≡ xs = cc e in rw (later zs refl, ← same) refl
-
 pub each_row-append : (rs ss : List Record) (xs ys : List TargetRow) → each_row rs ≡ Some xs → each_row ss ≡ Some ys → each_row (rs ++ ss) ≡ Some (xs ++ ys)
 each_row-append [] ss xs ys e f = let same : [] ≡ xs = cc e in rw (← same) f
-each_row-append (r ∷ rs) ss xs ys e f = rows_go (row_of r) (each_row rs) (each_row (rs ++ ss)) xs ys e (λ zs g. each_row-append rs ss zs ys g f)
+each_row-append (r ∷ rs) ss xs ys e f = grind (arith, each_row-append rs ss)
 
 none_go : (o : Option TargetRow) (n : Option (List TargetRow)) → n ≡ None → option_and_then (λ row. option_map (λ rows. row ∷ rows) n) o ≡ None
-none_go None n e = refl
-none_go (Some row) n e = rw e refl
+none_go o n e = grind arith
 
 each_row-none : (rs ss : List Record) → each_row ss ≡ None → each_row (rs ++ ss) ≡ None
 each_row-none [] ss none = none
@@ -84,13 +52,10 @@ flipped : (v w : List ℕ) → pointwise nat_eq v w ≡ pointwise nat_eq w v
 flipped v w = nat_list_eq_equiv.symm v w
 
 or_parts : (a b : Bool) → (a || b) ≡ false → (a ≡ false) × (b ≡ false)
-or_parts false false e = (refl, refl)
-or_parts false true e = cc e
-or_parts true b e = cc e
+or_parts a b e = grind arith
 
 and_parts : (a b : Bool) → (a && b) ≡ true → (a ≡ true) × (b ≡ true)
-and_parts true b e = (refl, e)
-and_parts false b e = cc e
+and_parts a b e = grind arith
 
 -- a word that is not among distinct ones
 distinct_more : (ws : List (List ℕ)) (w : List ℕ) → are_distinct_words ws ≡ true → list_any (λ v. pointwise nat_eq v w) ws ≡ false
@@ -131,25 +96,11 @@ distinct_twice (x ∷ ws) w more there = by (pointwise nat_eq x w) refl (list_an
 
 -- ---- one record more
 
-new_parts : (rows : List TargetRow) (o : Option TargetRow) (row : TargetRow) → option_and_then (if_new rows) o ≡ Some row → (o ≡ Some row)
-    × (has_id row.id rows ≡ false)
-new_parts rows None row e = cc e
-new_parts rows (Some x) row e = by (has_id x.id rows) refl e
-  where
-    by : (b : Bool) → has_id x.id rows ≡ b → cond b None (Some x) ≡ Some row → (Some x ≡ Some row) × (has_id row.id rows ≡ false)
-    by true h f = cc f
-    by false h f = let same : x ≡ row = cc f in (f, ap (λ (r : TargetRow). has_id r.id rows) (sym same) ∙ h)
-
 -- the rows of distinct ids, and one behind them
 pub rows_more : (done : List Record) (r : Record) (rows : List TargetRow) (row : TargetRow) → each_row done ≡ Some rows → are_distinct_words (ids_of_rows rows)
     ≡ true → row_behind rows r ≡ Some row
     → (each_row (done ++ r ∷ []) ≡ Some (rows ++ row ∷ [])) × (are_distinct_words (ids_of_rows (rows ++ row ∷ [])) ≡ true)
-rows_more done r rows row so distinct next =
-    let parts = new_parts rows (row_of r) row next in
-    let one : each_row (r ∷ []) ≡ Some (row ∷ []) = rw parts.0 refl in (
-      each_row-append done (r ∷ []) rows (row ∷ []) so one,
-      ap are_distinct_words (map-append (λ (x : TargetRow). x.id) rows (row ∷ [])) ∙ distinct_more (ids_of_rows rows) row.id distinct parts.1,
-    )
+rows_more done r rows row so distinct next = grind (arith, each_row-append, map-append, distinct_more)
 
 old_id : (rows : List TargetRow) (row : TargetRow) → if_new rows row ≡ None → has_id row.id rows ≡ true
 old_id rows row e = by (has_id row.id rows) e

@@ -1,14 +1,11 @@
 -- No field of a table of actions needs quotes.
-use Rattle.desk_files.proofs.Common.{◌≡◌, ◌<◌, ◌^◌, ◌+◌, ◌%◌, ℕ, List, [], ◌∷◌, ◌++◌, true, false, All, codes, map, refl, sym, ◌∙◌, ap, arith, append_assoc}
-use Rattle.desk_files.proofs.Common.{length, flat_map, list_all, nat_tests, append-nil, list_any-append, both, is_between, is_word, is_word_letter}
+use Rattle.desk_files.proofs.Common.{◌≡◌, ◌<◌, ◌^◌, ◌+◌, ◌%◌, ℕ, List, [], ◌∷◌, true, false, All, codes, map, refl, ◌∙◌, arith, append_assoc}
+use Rattle.desk_files.proofs.Common.{flat_map, list_all, list_any-append, is_word_letter}
 use Rattle.std.specs.Fmt.{decimal}
 use Rattle.std.proofs.lemmas.Fmt.{decimal_by_steps}
 use Rattle.std.proofs.lemmas.List.Elements.{All-head, All-tail}
 use Rattle.std.proofs.lemmas.List.Splits.{join_with_byte-slice_split}
 use Rattle.csv.specs.Writing.{default_writer, needs_byte, fields_text, is_blank, needs_quotes, row_text}
-use Rattle.rollout_model.specs.StateTexts.{action_text}
-use Rattle.rollout_model.specs.declared.action_word.ActionWord.{ActionWord}
-use Rattle.rollout_model.specs.declared.action_word.ActionWord.TheVariants as word
 use Rattle.rollout_model.specs.declared.rollout.Action.{Action}
 use Rattle.desk_files.specs.ActionTables.{action_line}
 use Rattle.desk_files.specs.Laws.{IsActionInRange, TablesAreCsv, TagsAreJoined, action_record, table_header}
@@ -18,38 +15,23 @@ joined [] = refl
 joined (b ∷ bs) = join_with_byte-slice_split 32 (b ∷ bs)
 
 letter_is_plain : (b : ℕ) → is_word_letter b ≡ true → needs_byte default_writer b ≡ false
-letter_is_plain b letter = grind (arith, nat_tests)
+letter_is_plain b letter = grind arith
 
 letters_are_plain : (bs : List ℕ) → list_all is_word_letter bs ≡ true → needs_quotes default_writer bs ≡ false
 letters_are_plain [] letters = refl
-letters_are_plain (b ∷ bs) letters =
-    let parts = both (is_word_letter b) (list_all is_word_letter bs) letters in
-    rw (letter_is_plain b parts.0, letters_are_plain bs parts.1) refl
-
-word_is_plain : (bs : List ℕ) → is_word bs ≡ true → needs_quotes default_writer bs ≡ false
-word_is_plain bs is = letters_are_plain bs (both (is_between 1 64 (length bs)) (list_all is_word_letter bs) is).1
+letters_are_plain (b ∷ bs) letters = grind (arith, letters_are_plain bs, letter_is_plain)
 
 digit_is_plain : (n : ℕ) → n < 10 → needs_byte default_writer (48 + n) ≡ false
-digit_is_plain n small = grind (arith, nat_tests)
+digit_is_plain n small = grind arith
 
 decimal_is_plain : (n : ℕ) → n < 2 ^ 64 → needs_quotes default_writer (decimal n) ≡ false
 decimal_is_plain n fits =
     decimal_by_steps (λ (k : ℕ) (ds : List ℕ). needs_quotes default_writer ds ≡ false) (λ k small. rw (digit_is_plain k small) refl)
     (λ k ds big so. list_any-append (needs_byte default_writer) ds ((48 + k % 10) ∷ []) ∙ rw (so, digit_is_plain (k % 10) (omega arith)) refl) n fits
 
-text_is_plain : (w : ActionWord) → needs_quotes default_writer (action_text w) ≡ false
-text_is_plain word.Finished = refl
-text_is_plain word.Error = refl
-text_is_plain word.Canceled = refl
-text_is_plain word.Scheduled = refl
-text_is_plain word.Canceling = refl
-text_is_plain word.Running = refl
-
 row_is_line : (a : Action) → IsActionInRange a → row_text default_writer (action_record a) ≡ action_line a
 unfolding fields_text is_blank
-row_is_line a is =
-    rw (decimal_is_plain a.number is.number, word_is_plain a.target is.target, decimal_is_plain a.group is.group, text_is_plain a.word)
-    (simp (append_assoc, append-nil))
+row_is_line a is = grind (arith, decimal_is_plain, letters_are_plain, append_assoc)
 
 rows_are_lines : (actions : List Action) → All IsActionInRange actions → flat_map (row_text default_writer) (map action_record actions)
     ≡ flat_map action_line actions
@@ -62,6 +44,4 @@ unfolding fields_text is_blank
 header_is_line = refl
 
 pub tables : TablesAreCsv
-tables actions are =
-    ap (λ (head : List ℕ). head ++ flat_map action_line actions) (sym header_is_line)
-    ∙ ap (λ (rest : List ℕ). row_text default_writer table_header ++ rest) (sym (rows_are_lines actions are))
+tables actions are = grind (arith, header_is_line, rows_are_lines)
