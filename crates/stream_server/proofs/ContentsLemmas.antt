@@ -1,10 +1,9 @@
 -- A reply with contents, piece by piece, and the exchange that it is.
 use Rattle.stream_server.proofs.Common.{◌≡◌, ◌≢◌, ◌≤◌, ◌⊎◌, ℕ, false, List, [], ◌∷◌, ◌++◌, length, take, drop, Vec, Option, Some, None, Ok, Err, inl, inr}
-use Rattle.stream_server.proofs.Common.{refl, sym, ap, ◌∙◌, subst, arith, append_assoc, append-nil, take-append-drop, codes, Appends, Appends-nil}
+use Rattle.stream_server.proofs.Common.{refl, sym, ap, ◌∙◌, subst, arith, append_assoc, take-append-drop, codes, Appends, Appends-nil}
 use Rattle.stream_server.proofs.Common.{Appends-trans, false≢true, HandsPieces, Sends, sent, WireMessage, Refusal, StoreFailed, MayAnswer, CommandList, Bytes}
 use Rattle.stream_server.proofs.Common.{Refused, ContentsShown, DeskState, StandsFor, Interface, ServeFault, reading, Conduct, running, BeginsDownload, Comes}
 use Rattle.stream_server.proofs.Common.{Serves}
-use Rattle.std.proofs.Math.Seq.{take-length}
 use Rattle.std.specs.declared.alloc.Global.{Global}
 use Rattle.std.specs.Fmt.{decimal}
 use Rattle.contents_handler.specs.Downloads.{Begins}
@@ -96,16 +95,6 @@ unfolding contents_head
 head_begun n more = omega arith
 
 module _ {File : Type 0} (old : DeskState File) (out : Option (List ℕ)) (d : Download) where
-  pub none_handed : (a : Option (List ℕ)) → Appends out a (contents_head d.size) → HandedOn old old out a d d
-  none_handed a head = record {
-    clean = λ clean. clean;
-    handed = λ h contents clean stands sends start. (
-      stands,
-      sends,
-      subst (λ (t : List ℕ). Appends out a t) (sym (ap (λ (n : ℕ). contents_head d.size ++ take n contents) start ∙ append-nil (contents_head d.size))) head,
-    );
-  }
-
   -- the reply stopped in its head
   pub head_cut : (a : Option (List ℕ)) (part left : List ℕ) → contents_head d.size ≡ part ++ left → Appends out a part
       → SendsContents old old out a d (Some serve_fault.Write)
@@ -150,19 +139,9 @@ module _ {File : Type 0} (old : DeskState File) (out : Option (List ℕ)) (d : D
           next.0,
         )
 
-    -- all were handed out
-    pub all_handed : HandsPieces s t p q (Ok None) → SendsContents old t out a d None
-    all_handed hands h contents is stands sends start =
-        let so_far = on.handed h contents (clean is) stands sends start in
-        let next = hands h contents is so_far.0 so_far.1 in
-        (next.0, subst (λ (x : List ℕ). Appends out a (contents_head d.size ++ x)) (whole contents (sent p) next.2) so_far.2) where
-          whole : (contents : Bytes) (n : ℕ) → n ≡ length contents → take n contents ≡ contents
-          whole contents n e = ap (λ (k : ℕ). take k contents) e ∙ take-length contents
-
     -- what was written of the text, and what was left
     cut_at : (contents : Bytes) → contents_head d.size ++ contents ≡ (contents_head d.size ++ take (sent p) contents) ++ drop (sent p) contents
-    cut_at contents = ap (λ (x : List ℕ). contents_head d.size ++ x) (sym (take-append-drop (sent p) contents))
-        ∙ sym (append_assoc (contents_head d.size) (take (sent p) contents) (drop (sent p) contents))
+    cut_at contents = grind (arith, take-append-drop, append_assoc)
 
     -- memory was wanted, or the store failed
     pub interrupted : (refusal : Refusal) → HandsPieces s t p q (Err refusal) → SendsContents old t out a d (Some (download_fault refusal))

@@ -1,7 +1,7 @@
 -- The exits of the loop, for a desk of any conduct.
-use Rattle.stream_server.proofs.Common.{◌≡◌, ◌≢◌, ℕ, ◌+◌, ◌-◌, ◌^◌, ◌<◌, ◌≤◌, min, Bool, true, false, List, [], ◌++◌, length, Option, Some, None, Result, Ok}
+use Rattle.stream_server.proofs.Common.{◌≡◌, ◌≢◌, ℕ, ◌-◌, ◌^◌, ◌<◌, ◌≤◌, min, Bool, true, false, List, [], ◌++◌, length, Option, Some, None, Result, Ok}
 use Rattle.stream_server.proofs.Common.{Err, inl, refl, sym, ap, ◌∙◌, subst, append-nil, arith, length-append, Appends, Consumes, IsAtEnd, Appends-nil}
-use Rattle.stream_server.proofs.Common.{Consumes-nil, Consumes-trans, false≢true, End, Input, Cut, Fault, WireMessage, IsUndecided, IsFault, Begins, EndsAs}
+use Rattle.stream_server.proofs.Common.{Consumes-nil, Consumes-trans, End, Input, Fault, WireMessage, IsUndecided, IsFault, Begins}
 use Rattle.stream_server.proofs.Common.{CommandList, Refused, DeskState, ServeFault, Served, end_text, Exchange, messages_of, texts_of, GoesOn, AnswersEnd}
 use Rattle.stream_server.proofs.Common.{Exits, IsTold, Conduct, Answers, SendsPart}
 use Rattle.std.proofs.lemmas.List.{length-map}
@@ -9,6 +9,7 @@ use Rattle.http_wire.specs.declared.fault.WireFault.{WireFault}
 use Rattle.stream_server.specs.declared.served.ServeFault.TheVariants as serve_fault
 use Rattle.http_wire.specs.Faults.{refusal_of}
 use Rattle.http_wire.specs.Replies.{refusal_text}
+use Rattle.stream_server.specs.Headline.{Ended}
 use Rattle.stream_server.specs.Reading.{ReadsOn, GrowsTo}
 use Rattle.stream_server.proofs.HeadlineLemmas.{AtExit, whole_exit, broken_exit}
 
@@ -94,27 +95,15 @@ module _ (File : Type 0) (C : Conduct File) (old new : DeskState File) (stream :
       (read.3 fed ms begins) answers
       (λ run written same goes e. inl (goes, e)) (λ e. cc)
 
-  pub exits_input : (a unread out out_new : Option (List ℕ)) (fed : List ℕ) (ms : List WireMessage) (answered : ℕ)
-      → Consumes stream a fed → Begins fed ms [] → Answers C old new out out_new ms None → Consumes a unread [] → IsAtEnd unread → answered
-      ≡ min (length ms) (2 ^ 64 - 1)
-      → (h : CommandList) → C.premise new → C.stands old h → AtExit C h new stream unread out out_new (Ok (record { answered = answered; end = Input }))
-  exits_input a unread out out_new fed ms answered reads begins answers none at_end count =
-      exits_all unread out out_new fed [] ms (Ok (record { answered = answered; end = Input })) (no_more stream a unread fed reads none) begins answers
+  -- the end is one of which nothing is written
+  pub exits_end : (unread out out_new : Option (List ℕ)) (fed rest : List ℕ) (ms : List WireMessage) (answered : ℕ) (end : End) → end_text end ≡ []
+      → Consumes stream unread fed → Begins fed ms rest → Answers C old new out out_new ms None → Ended stream unread rest end
+      → answered ≡ min (length ms) (2 ^ 64 - 1)
+      → (h : CommandList) → C.premise new → C.stands old h → AtExit C h new stream unread out out_new (Ok (record { answered = answered; end = end }))
+  exits_end unread out out_new fed rest ms answered end silent reads begins answers ended count =
+      exits_all unread out out_new fed rest ms (Ok (record { answered = answered; end = end })) reads begins answers
       (λ run written same goes e. record {
-        all_written = e ∙ sym (append-nil (texts_of run));
-        goes_on = goes;
-        answered = counted run ms answered same count;
-        ended = (refl, at_end);
-      }) (λ e. cc)
-
-  pub exits_cut : (unread out out_new : Option (List ℕ)) (fed rest : List ℕ) (ms : List WireMessage) (answered : ℕ)
-      → Consumes stream unread fed → Begins fed ms rest → Answers C old new out out_new ms None → (IsTold stream → EndsAs rest Cut × IsAtEnd unread) → answered
-      ≡ min (length ms) (2 ^ 64 - 1)
-      → (h : CommandList) → C.premise new → C.stands old h → AtExit C h new stream unread out out_new (Ok (record { answered = answered; end = Cut }))
-  exits_cut unread out out_new fed rest ms answered reads begins answers ended count =
-      exits_all unread out out_new fed rest ms (Ok (record { answered = answered; end = Cut })) reads begins answers
-      (λ run written same goes e. record {
-        all_written = e ∙ sym (append-nil (texts_of run));
+        all_written = e ∙ sym (ap (λ (t : List ℕ). texts_of run ++ t) silent ∙ append-nil (texts_of run));
         goes_on = goes;
         answered = counted run ms answered same count;
         ended = ended;
@@ -129,28 +118,15 @@ module _ (File : Type 0) (C : Conduct File) (old new : DeskState File) (stream :
 -- ---- the loop's counts
 
 pub too_many : (stream unread : Option (List ℕ)) (fed : List ℕ) → Consumes stream unread fed → 2 ^ 64 - 1 ≤ length fed → IsTold stream → ⊥
-too_many None unread fed reads many told = told
-too_many (Some xs) None fed reads many told = reads
-too_many (Some xs) (Some ys) fed reads many told =
-    let all : length xs ≡ length fed + length ys = ap length reads ∙ length-append fed ys in
-    omega (arith, all, many, told)
-
-pub counts_on : (answered more count : ℕ) (ms ns : List WireMessage) → answered ≡ min (length ms) (2 ^ 64 - 1) → count ≡ min (answered + length ns) (2 ^ 64 - 1)
-    → count ≡ min (length (ms ++ ns)) (2 ^ 64 - 1)
-counts_on answered more count ms ns a b = omega (arith, a, b, length-append ms ns)
+too_many stream unread fed reads many told = grind (arith, length-append)
 
 pub read_end : (a b : Option (List ℕ)) (held held_new : List ℕ) (failed more : Bool) → more ≡ false → ReadsOn a b held held_new failed (Ok more)
     → Consumes a b [] × IsAtEnd b × (held_new ≡ held)
-read_end a b held held_new failed true e read = absurd (false≢true (sym e))
-read_end a b held held_new failed false e read = read
+read_end a b held held_new failed more e read = grind arith
 
 pub read_piece : (a b : Option (List ℕ)) (held held_new : List ℕ) (failed more : Bool) → more ≡ true → ReadsOn a b held held_new failed (Ok more)
     → (piece : List ℕ) × Consumes a b piece × (0 < length piece) × GrowsTo held piece held_new
-read_piece a b held held_new failed true e read = read
-read_piece a b held held_new failed false e read = absurd (false≢true e)
-
-pub longer : (counter : ℕ) (fed piece : List ℕ) → counter ≤ length fed → 0 < length piece → counter + 1 ≤ length (fed ++ piece)
-longer counter fed piece most some = omega (arith, most, some, length-append fed piece)
+read_piece a b held held_new failed more e read = grind arith
 
 pub some_left : (xs : List ℕ) → (length xs ≡ 0 → ⊥) → 0 < length xs
 some_left xs some = omega arith

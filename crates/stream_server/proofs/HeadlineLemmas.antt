@@ -1,5 +1,6 @@
 -- The headline from the parts.
-use Rattle.stream_server.proofs.Common.{All, ◌≡◌, ◌≢◌, ℕ, ◌⊎◌, Bool, true, false, List, [], ◌∷◌, ◌++◌, Option, None, Result, Ok, Err, inl, inr, refl, sym, ap}
+use native.Mathlib.Omega.{arith}
+use Rattle.stream_server.proofs.Common.{All, ◌≡◌, ◌≢◌, ℕ, ◌⊎◌, Bool, true, false, List, [], ◌∷◌, ◌++◌, Option, None, Result, Err, inl, inr, refl, sym, ap}
 use Rattle.stream_server.proofs.Common.{◌∙◌, subst, append_assoc, append-nil, StoreFailed, Command, CommandList, followed_by, Make, Reply, Refused, one}
 use Rattle.stream_server.proofs.Common.{DeskState, IsInDoubt, Interface, ServeFault, Served, Exchange, accepted_in, texts_of, IsRun, AnswersEnd, CutsDownload}
 use Rattle.stream_server.proofs.Common.{Exits, HoldsFirstPart, Stops, Transcript, Headline, IsRefusedAsStopped, BeginsDownload, Conduct, Whole, Broken}
@@ -28,8 +29,7 @@ place (w ∷ front) last (y ∷ before) x behind e =
 -- the commands of a list are those up to an exchange and those after it
 up_to : (xs before : List Exchange) (x : Exchange) (behind : List Exchange) → xs ≡ before ++ x ∷ behind → accepted_in xs
     ≡ accepted_in before ++ one x.accepted ++ accepted_in behind
-up_to xs before x behind e = ap accepted_in e ∙ accepted_append before (x ∷ behind)
-    ∙ sym (append_assoc (accepted_in before) (one x.accepted) (accepted_in behind))
+up_to xs before x behind e = grind (arith, accepted_append, append_assoc)
 
 after_last : (h : CommandList) (front : List Exchange) (last : Exchange) → followed_by (followed_by h (accepted_in front)) (one last.accepted)
     ≡ followed_by h (accepted_in (front ++ last ∷ []))
@@ -64,16 +64,16 @@ module _ (File : Type 0) (s : DeskState File) (h : CommandList) where
 
 -- ---- what was read and written
 
-pub transcript_as : {P Q : List Exchange → Type 0} (stream unread out out_new : Option (List ℕ)) (result : Result Served ServeFault)
-    → ((run : List Exchange) → P run → Q run)
-    → Transcript P stream unread out out_new result → Transcript Q stream unread out out_new result
-transcript_as stream unread out out_new result follows t = record {
+-- the same transcript, of whose run this is known
+pub retold : {P Q : List Exchange → Type 0} {stream unread out out_new : Option (List ℕ)} {result : Result Served ServeFault}
+    → (t : Transcript P stream unread out out_new result) → Q t.run → Transcript Q stream unread out out_new result
+retold t is = record {
   given = t.given;
   reads = t.reads;
   written = t.written;
   writes = t.writes;
   run = t.run;
-  is_run = follows t.run t.is_run;
+  is_run = is;
   rest = t.rest;
   messages = t.messages;
   end = t.end;
@@ -108,16 +108,11 @@ pub record AtExit {File : Type 0} (C : Conduct File) (h : CommandList) (s : Desk
   pub after : GoesOnAfter C h s transcript.run result ⊎ IsInDoubtAfter h s transcript.run result
 
 stops_while_standing : (is_stopped : Bool) (result : Result Served ServeFault) → is_stopped ≡ false → result ≢ Err serve_fault.Store → Stops is_stopped result
-stops_while_standing is_stopped (Ok served) runs other = runs
-stops_while_standing is_stopped (Err serve_fault.Read) runs other = runs
-stops_while_standing is_stopped (Err serve_fault.Write) runs other = tt
-stops_while_standing is_stopped (Err serve_fault.Memory) runs other = runs
-stops_while_standing is_stopped (Err serve_fault.Store) runs other = absurd (other refl)
+stops_while_standing is_stopped result runs other = grind arith
 
 stops_in_doubt : (is_stopped : Bool) (result : Result Served ServeFault) → is_stopped ≡ true → (result ≡ Err serve_fault.Store)
     ⊎ (result ≡ Err serve_fault.Write) → Stops is_stopped result
-stops_in_doubt is_stopped result over (inl store) = subst (λ (r : Result Served ServeFault). Stops is_stopped r) (sym store) over
-stops_in_doubt is_stopped result over (inr write) = subst (λ (r : Result Served ServeFault). Stops is_stopped r) (sym write) tt
+stops_in_doubt is_stopped result over by = grind arith
 
 -- nothing was accepted last
 none_last : (h : CommandList) (before : List Exchange) (last : Exchange) → last.accepted ≡ None → followed_by h (accepted_in before)
@@ -127,13 +122,7 @@ none_last h before last none = ap (λ (a : Option Command). followed_by (followe
 kept_in_doubt : {File : Type 0} (s : DeskState File) (h : CommandList) (before : List Exchange) (last : Exchange) (written : List ℕ)
     → (last.reply ≡ Refused StoreFailed) ⊎ (last.accepted ≡ None)
     → IsInDoubt s (followed_by h (accepted_in before)) last.accepted → (file : File) → s.may_leave file → HoldsFirstPart s h (before ++ last ∷ []) written file
-kept_in_doubt s h before last written lacks doubt file leaves = elim (doubt.crash file leaves) [
-  | inl old ↦ elim lacks [
-    | inl store ↦ one_lost _ s h before last written file store old
-    | inr none ↦ all_kept _ s h (before ++ last ∷ []) written file (subst (λ (k : CommandList). s.holds file k) (none_last h before last none) old)
-  ]
-  | inr new ↦ all_kept _ s h (before ++ last ∷ []) written file (subst (λ (k : CommandList). s.holds file k) (after_last h before last) new)
-]
+kept_in_doubt s h before last written lacks doubt file leaves = grind (arith, one_lost, all_kept, none_last, after_last)
 
 headline_of : {File : Type 0} (interface : Interface) (h : CommandList) (s : DeskState File) (stream unread out out_new : Option (List ℕ))
     (result : Result Served ServeFault)
@@ -165,7 +154,8 @@ both interface old new stream unread out middle out_new ms fault result exit ser
   clean = serves.clean;
   headline = λ h clean stands. headline_of interface h new stream unread out out_new result (exit (running _ interface) serves.by_machine h clean stands);
   stopped = λ over. record {
-    transcript = transcript_as stream unread out out_new result (all_refused (Make false)) (exit (stopped _) serves.by_stopped (Make false) tt over).transcript;
+    transcript =
+        let told = (exit (stopped _) serves.by_stopped (Make false) tt over).transcript in retold told (all_refused (Make false) told.run told.is_run);
     stays = serves.stays over;
   };
 }

@@ -1,15 +1,16 @@
 -- Connections, one after the other: each leaves a desk that keeps the lists that were kept, followed by what was accepted over it.
-use Rattle.stream_server.proofs.Common.{◌≡◌, ◌+◌, ◌++◌, ◌∷◌, ℕ, true, List, [], Option, Result, Ok, Err, IfErr, inl, inr, refl, ap, subst, sym, ◌∙◌}
+use native.Mathlib.Omega.{arith}
+use Rattle.stream_server.proofs.Common.{◌≡◌, ◌++◌, ◌∷◌, ℕ, true, List, [], Option, Result, Ok, Err, IfErr, inl, inr, refl, ap, subst, sym, ◌∙◌}
 use Rattle.stream_server.proofs.Common.{append_assoc, append-nil, All, All-head, All-tail, Command, CommandList, followed_by, one, DeskState, StandsFor}
-use Rattle.stream_server.proofs.Common.{Interface, Served, ServeFault, Headline, IsRefusedAsStopped, StoppedThroughout, Transcript, Keeps, KeepsOn}
+use Rattle.stream_server.proofs.Common.{Interface, Served, ServeFault, Headline, IsRefusedAsStopped, StoppedThroughout, Keeps, KeepsOn}
 use Rattle.stream_server.proofs.Common.{StopsAtStore, Exchange, accepted_in}
 use Rattle.std.proofs.lemmas.List.Concat.{flat_map-append}
-use Rattle.stream_server.specs.Listening.{AnswersBy, AreServed, ComesToEnd, IsServed, LosesInDoubt, Sockets, Talk, accepted_over}
+use Rattle.stream_server.specs.Listening.{AreServed, IsServed, LosesInDoubt, Sockets, Talk, accepted_over}
 use Rattle.stream_server.specs.declared.listening.ListenFault.{ListenFault}
 use Rattle.stream_server.specs.declared.listening.ListenFault.TheVariants as listen_fault
 use Rattle.stream_server.specs.declared.served.ServeFault.TheVariants as serve_fault
 use Rattle.stream_server.proofs.RunLemmas.{followed_append}
-use Rattle.stream_server.proofs.PartLemmas.{stays_on}
+use Rattle.stream_server.proofs.HeadlineLemmas.{retold}
 
 -- ---- talks
 
@@ -20,28 +21,7 @@ none_accepted (x ∷ xs) all =
     ap (λ (o : Option Command). one o ++ accepted_in xs) (All-head IsRefusedAsStopped x xs all).1 ∙ none_accepted xs (All-tail IsRefusedAsStopped x xs all)
 
 over_append : (talks : List Talk) (t : Talk) → accepted_over (talks ++ t ∷ []) ≡ accepted_over talks ++ accepted_in t.run
-over_append talks t =
-    flat_map-append (λ (u : Talk). accepted_in u.run) talks (t ∷ []) ∙ ap (λ (cs : List Command). accepted_over talks ++ cs) (append-nil (accepted_in t.run))
-
--- the same transcript, of whose run this is known
-retold : (P Q : List Exchange → Type 0) (stream unread out out_new : Option (List ℕ)) (outcome : Result Served ServeFault)
-    → (t : Transcript P stream unread out out_new outcome) → Q t.run → Transcript Q stream unread out out_new outcome
-retold P Q stream unread out out_new outcome t is = record {
-  given = t.given;
-  reads = t.reads;
-  written = t.written;
-  writes = t.writes;
-  run = t.run;
-  is_run = is;
-  rest = t.rest;
-  messages = t.messages;
-  end = t.end;
-  ends = t.ends;
-  unwritten = t.unwritten;
-  begins = t.begins;
-  whole = t.whole;
-  exit = t.exit;
-}
+over_append talks t = grind (arith, flat_map-append, append-nil)
 
 module _ (comes goes : Sockets) (interface : Interface) where
   served_append : (h : CommandList) (talks : List Talk) (t : Talk) → AreServed comes goes interface h talks
@@ -77,14 +57,12 @@ module _ (comes goes : Sockets) (interface : Interface) where
       let talks : List Talk = keeps.talks in
       let run : List Exchange = headline.transcript.run in
       let t : Talk = record { stream = stream; unread = unread; out = out; out_new = out_new; outcome = outcome; run = run } in
-      let before : CommandList = followed_by h (accepted_over talks) in
       record {
         talks = talks ++ t ∷ [];
         served = served_append h talks t keeps.served (record {
           came = came;
           went = went;
-          transcript = retold _ (λ xs. (xs ≡ run) × AnswersBy interface before xs) stream unread out out_new outcome headline.transcript
-              (refl, inl headline.transcript.is_run);
+          transcript = retold headline.transcript (refl, inl headline.transcript.is_run);
         });
         desk = elim headline.desk [
           | inl stopped ↦ inl stopped
@@ -112,7 +90,6 @@ module _ (comes goes : Sockets) (interface : Interface) where
       let talks : List Talk = keeps.talks in
       let run : List Exchange = stopped.transcript.run in
       let t : Talk = record { stream = stream; unread = unread; out = out; out_new = out_new; outcome = outcome; run = run } in
-      let before : CommandList = followed_by h (accepted_over talks) in
       let none : accepted_in run ≡ [] = none_accepted run stopped.transcript.is_run in
       let same : accepted_over (talks ++ t ∷ []) ≡ accepted_over talks =
       over_append talks t ∙ ap (λ (cs : List Command). accepted_over talks ++ cs) none ∙ append-nil (accepted_over talks) in
@@ -121,8 +98,7 @@ module _ (comes goes : Sockets) (interface : Interface) where
         served = served_append h talks t keeps.served (record {
           came = came;
           went = went;
-          transcript = retold _ (λ xs. (xs ≡ run) × AnswersBy interface before xs) stream unread out out_new outcome stopped.transcript
-              (refl, inr stopped.transcript.is_run);
+          transcript = retold stopped.transcript (refl, inr stopped.transcript.is_run);
         });
         desk = inl stopped.stays.stopped;
         crash = λ file leaves.
@@ -150,17 +126,6 @@ module _ (comes goes : Sockets) (interface : Interface) where
     stays = λ stop. (stopped stop).stays;
   }
 
-  -- some and then one more, of which this is told
-  pub on_append : {A B C : Type 0} {File : Type 0} (s t u : DeskState File) (count : A) (next : Result B ListenFault) (told : Result C ListenFault)
-      → KeepsOn comes goes interface s t (Ok count) → KeepsOn comes goes interface t u next → (StopsAtStore u next → StopsAtStore u told)
-      → KeepsOn comes goes interface s u told
-  on_append s t u count next told first second tells = record {
-    clean = λ clean. first.clean (second.clean clean);
-    keeps = λ h clean keeps. second.keeps h clean (first.keeps h (second.clean clean) keeps);
-    store = tells second.store;
-    stays = stays_on s t u first.stays second.stays;
-  }
-
 -- the desk is stopped where a failed store is told
 pub stops_at_store : {A : Type 0} {File : Type 0} (s : DeskState File) (outcome : Result Served ServeFault) (told : Result A ListenFault)
     → (told ≡ Err listen_fault.Store → outcome ≡ Err serve_fault.Store) → IfErr outcome (λ fault. fault ≡ serve_fault.Store → s.is_stopped ≡ true)
@@ -169,11 +134,3 @@ stops_at_store s outcome (Ok a) store stops = tt
 stops_at_store s outcome (Err listen_fault.Net) store stops = tt
 stops_at_store s outcome (Err listen_fault.Store) store stops =
     subst (λ (o : Result Served ServeFault). IfErr o (λ fault. fault ≡ serve_fault.Store → s.is_stopped ≡ true)) (store refl) stops refl
-
--- ---- how many connections came
-
--- what ends one connection ends all
-pub ends_all : (A B : Type 0) (before between after : ℕ → Type 0) (failed : Type 0) (count : ℕ) (fault : ListenFault)
-    → ComesToEnd {A = A} between after failed 1 (Err fault) → ComesToEnd {A = B} before after failed count (Err fault)
-ends_all A B before between after failed count listen_fault.Net ended = ended
-ends_all A B before between after failed count listen_fault.Store ended = tt

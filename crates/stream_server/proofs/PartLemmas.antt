@@ -1,4 +1,5 @@
 -- Parts of `serve`: one message, and parts one after the other.
+use native.Mathlib.Omega.{arith}
 use Rattle.stream_server.proofs.Common.{◌≡◌, ◌≢◌, ℕ, true, List, [], ◌∷◌, ◌++◌, Option, Some, None, refl, sym, ap, ◌∙◌, subst, append_assoc, append-nil}
 use Rattle.stream_server.proofs.Common.{Appends-trans, Appends-nil, WireMessage, Begins, StoreFailed, Command, CommandList, followed_by, Reply, Refused, one}
 use Rattle.stream_server.proofs.Common.{DeskState, StaysStopped, Interface, ServeFault, reply_text, Exchange, messages_of, accepted_in, texts_of, IsRun}
@@ -87,8 +88,7 @@ pub takes_nil : (old : List ℕ) → Takes old [] old
 takes_nil old fed given b = subst (λ (xs : List WireMessage). Begins fed xs old) (sym (append-nil given)) b
 
 pub takes_more : (old middle new : List ℕ) (ms ns : List WireMessage) → Takes old ms middle → Takes middle ns new → Takes old (ms ++ ns) new
-takes_more old middle new ms ns before step fed given b =
-    subst (λ (xs : List WireMessage). Begins fed xs new) (append_assoc given ms ns) (step fed (given ++ ms) (before fed given b))
+takes_more old middle new ms ns before step fed given b = grind (arith, append_assoc)
 
 -- ---- a stopped desk
 

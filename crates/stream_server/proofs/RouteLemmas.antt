@@ -1,4 +1,5 @@
 -- The first word of a path says which interface's router can know it.
+use native.Mathlib.Omega.{arith}
 use Rattle.stream_server.proofs.Common.{◌≡◌, ℕ, List, [], ◌∷◌, Bool, true, false, not, ◌&&◌, nat_lt, length, cond, bytes_eq, codes, Option, Some, None, refl}
 use Rattle.stream_server.proofs.Common.{sym, ap, ◌∙◌, subst, slice_get, false≢true, WireMessage, manage_route, reading_by}
 use Rattle.std.specs.List.{list_all}
@@ -34,13 +35,7 @@ module _ (P : List ℕ → Bool) where
       by false is same = subst (λ (word : List ℕ). P word ≡ true) ((bytes_eq-Decides part segment).0 same) is
 
   fits_open : (parts path : List (List ℕ)) → opens_by (is_written P) parts ≡ true → fits parts path ≡ true → opens_by P path ≡ true
-  fits_open [] path never fit = absurd (false≢true never)
-  fits_open (a ∷ []) path never fit = absurd (false≢true never)
-  fits_open (a ∷ part ∷ parts) [] written never = absurd (false≢true never)
-  fits_open (a ∷ part ∷ parts) (b ∷ []) written fit = absurd (false≢true (both (stands_for a b) false fit).1)
-  fits_open (a ∷ part ∷ parts) (b ∷ word ∷ rest) written fit =
-      let behind = (both (stands_for a b) (stands_for part word && fits parts rest) fit).1 in
-      stood_for part word written (both (stands_for part word) (fits parts rest) behind).0
+  fits_open parts path written fit = grind (arith, stood_for)
 
   found_open : {T : Type 0} (table : List (List ℕ × T)) (path : List ℕ) (x : T) → all_open_by P table ≡ true → route_in table path ≡ Some x
       → opens_by P (segments path) ≡ true
@@ -58,12 +53,7 @@ module _ (P : List ℕ → Bool) where
   -- a table of routes that all begin by such a word has none for a path that doesn't
   leads_nowhere : {T : Type 0} (table : List (List ℕ × T)) (path : List ℕ) (is_text : Bool) → all_open_by P table ≡ true → opens_by P (segments path) ≡ false
       → cond is_text (route_in table path) None ≡ None
-  leads_nowhere {T = T} table path false all closed = refl
-  leads_nowhere {T = T} table path true all closed = by (route_in table path) refl
-    where
-      by : (o : Option T) → route_in table path ≡ o → o ≡ None
-      by None is = refl
-      by (Some x) is = absurd (false≢true (sym closed ∙ found_open table path x all is))
+  leads_nowhere table path is_text all closed = grind (arith, found_open)
 
 -- ---- the two tables
 
@@ -80,9 +70,7 @@ others_open : all_open_by is_other manage_table ≡ true
 others_open = refl
 
 no_other : (path : List (List ℕ)) → opens_by is_devices path ≡ true → opens_by is_other path ≡ false
-no_other [] never = refl
-no_other (a ∷ []) never = refl
-no_other (a ∷ word ∷ rest) is = ap not is
+no_other path is = grind arith
 
 opened_by : (path : List (List ℕ)) (word : List ℕ) → Some word ≡ slice_get path 1 → is_devices word ≡ opens_by is_devices path
 opened_by [] word at = absurd cc
@@ -90,9 +78,7 @@ opened_by (a ∷ []) word at = absurd cc
 opened_by (a ∷ other ∷ rest) word at = let same : word ≡ other = cc in ap is_devices same
 
 opened_by_none : (path : List (List ℕ)) → None ≡ slice_get path 1 → opens_by is_devices path ≡ false
-opened_by_none [] at = refl
-opened_by_none (a ∷ []) at = refl
-opened_by_none (a ∷ other ∷ rest) at = absurd cc
+opened_by_none path at = grind arith
 
 module _ (path word : List ℕ) (at : Some word ≡ slice_get (segments path) 1) where
   pub not_of_management : bytes_eq word (codes "DEFAULT") ≡ true → manage_route path ≡ None

@@ -1,11 +1,7 @@
-use Rattle.stream_server.proofs.Common.{◌≡◌, ℕ, ◌+◌, ◌-◌, ◌^◌, min, List, [], ◌∷◌, ◌++◌, length, Some, None, refl, ◌∙◌, arith, length-append, WireMessage}
+use Rattle.stream_server.proofs.Common.{[], ◌∷◌, ◌++◌, Some, None, refl, ◌∙◌, arith, length-append}
 use Rattle.stream_server.proofs.Common.{message_of, err_from_is_err_and}
 use Rattle.stream_server.proofs.PartLemmas.{serves_append, serves_nil, takes_more, takes_nil}
 use Rattle.stream_server.proofs.answer.answer_all.Goals as goal
-
-counts : (before n answered next : ℕ) (ms : List WireMessage) (m : WireMessage) → answered ≡ min (before + length ms) (2 ^ 64 - 1)
-    → next ≡ min (answered + 1) (2 ^ 64 - 1) → next ≡ min (before + length (ms ++ m ∷ [])) (2 ^ 64 - 1)
-counts before n answered next ms m a b = omega (arith, a, b, length-append ms (m ∷ []))
 
 pub loop-fault-init : goal.loop-fault-init
 loop-fault-init g c = ([], takes_nil _, omega (arith, c.ranges.before.fits), serves_nil _ _ _, refl)
@@ -33,7 +29,7 @@ loop-fault-preserved g c =
     let m = message_of c.in-Some-Ok.message in (
       ms ++ m ∷ [],
       takes_more _ _ _ ms (m ∷ []) inv.1 hands.so_far,
-      counts c.args.before (length ms) c.loop-fault.answered _ ms m inv.2 c.saturating_add-answered.ensures,
+      omega (arith, inv.2, c.saturating_add-answered.ensures, length-append ms (m ∷ [])),
       serves_append _ _ _ _ _ _ _ ms (m ∷ []) None inv.3 c.in_ok-answer_one-in-Some-Ok.ensures.serves,
       c.in_ok-answer_one-in-Some-Ok.ensures.write_failed ∙ inv.4,
     )

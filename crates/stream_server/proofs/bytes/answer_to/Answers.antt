@@ -1,5 +1,6 @@
-use Rattle.stream_server.proofs.Common.{◌≡◌, ◌≢◌, ℕ, List, true, false, Result, Ok, Err, IfOk, refl, sym, ◌∙◌, Refusal, Reply, Refused, PollShown}
-use Rattle.stream_server.proofs.Common.{DeploymentShown, CancelShown, message_of, WireMessage, is_for_devices, IsToldWhole}
+use Rattle.stream_server.proofs.Common.{◌≡◌, ◌≢◌, ℕ, List, true, false, Result, IfOk, refl, sym, ◌∙◌, Refusal, Reply, Refused}
+use Rattle.stream_server.proofs.Common.{message_of, WireMessage, is_for_devices, IsToldWhole}
+use Rattle.stream_server.proofs.Common.{arith}
 use Rattle.rollout_machine.specs.Views.{reply_of}
 use Rattle.http_wire.specs.Replies.{answer_text}
 use Rattle.http_wire.specs.declared.reply.Answer.{Answer}
@@ -10,15 +11,11 @@ use Rattle.stream_server.proofs.bytes.answer_to.Goals as goal
 
 -- the connection goes on after a reply that is no refusal
 manage_goes_on : (m : WireMessage) (reply : Reply) → ((refusal : Refusal) → reply ≢ Refused refusal) → (parts_to m reply).ends ≡ false
-manage_goes_on m (Refused refusal) success = absurd (success refusal refl)
-manage_goes_on m reply success = refl
+manage_goes_on m reply success = grind arith
 
 -- and after what devices alone are shown
 device_goes_on : (reply : Reply) → is_for_devices reply ≡ true → (device_parts reply).ends ≡ false
-device_goes_on (PollShown target offer) is = refl
-device_goes_on (DeploymentShown d) is = refl
-device_goes_on (CancelShown action) is = refl
-device_goes_on _ is = absurd (cc is)
+device_goes_on reply is = grind arith
 
 by_device : (m : WireMessage) (reply : Reply) → is_for_devices reply ≡ true → device_text reply ≡ reply_text m reply
 unfolding reply_text
@@ -31,8 +28,7 @@ by_manage m reply is = rw is refl
 told : (m : WireMessage) (reply : Reply) (r : Result Answer Refusal) (text : List ℕ) (P : Type 0) → (((refusal : Refusal) → reply ≢ Refused refusal) → P)
     → text ≡ reply_text m reply → IfOk r (λ answer. P → answer_text answer ≡ text)
     → IfOk r (λ answer. IsToldWhole m reply (answer_text answer))
-told m reply (Ok answer) text P goes same is = λ success. is (goes success) ∙ same
-told m reply (Err e) text P goes same is = is
+told m reply r text P goes same is = grind arith
 
 pub returns-then-is_for_devices : goal.returns-then-is_for_devices
 returns-then-is_for_devices c =

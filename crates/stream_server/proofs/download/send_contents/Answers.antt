@@ -1,6 +1,6 @@
 use Rattle.stream_server.proofs.Common.{ℕ, sym, ap, ◌∙◌, err_from_is_err_and}
 use Rattle.stream_server.specs.Contents.{contents_head}
-use Rattle.stream_server.proofs.ContentsLemmas.{none_handed, head_cut, piece_handed, piece_cut, all_handed, interrupted}
+use Rattle.stream_server.proofs.ContentsLemmas.{head_cut, piece_handed, piece_cut, interrupted}
 use Rattle.stream_server.proofs.download.send_contents.Goals as goal
 
 pub returns-in_err-send-clause-sends : goal.returns-in_err-send-clause-sends
@@ -9,11 +9,6 @@ returns-in_err-send-clause-sends g c =
     let e = c.in_err-send.ensures.err in
     let head = sym (c.in-Ok.ensures ∙ ap (λ (n : ℕ). contents_head n) c.size.ensures) ∙ sym c.as_slice.ensures.value in
     rw (p.1, p.2, e.0) (head_cut _ _ _ _ e.2 e.3 (head ∙ e.4) e.5)
-
-pub loop-piece-init : goal.loop-piece-init
-loop-piece-init g c =
-    let head = c.as_slice.ensures.value ∙ c.in-Ok.ensures ∙ ap (λ (n : ℕ). contents_head n) c.size.ensures in
-    (none_handed _ _ _ _ (rw head at c.in_ok-send.ensures.ok), c.in_ok-send.ensures.unfailed)
 
 pub returns-in_err-send-in-Ok-Some-clause-sends : goal.returns-in_err-send-in-Ok-Some-clause-sends
 returns-in_err-send-in-Ok-Some-clause-sends g c =
@@ -29,11 +24,6 @@ loop-piece-preserved g c =
     let e = c.in_ok-send-in-Ok-Some.ensures in
     let sent = rw c.as_slice-in-Ok-Some.ensures.value at e.ok in
     (piece_handed _ _ _ _ _ _ _ _ c.loop-piece.invariant.0 c.next_piece.ensures.clean _ c.in-Ok-Some.piece hands sent, e.unfailed ∙ c.loop-piece.invariant.1)
-
-pub returns-in-Ok-None-clause-sends : goal.returns-in-Ok-None-clause-sends
-returns-in-Ok-None-clause-sends g c =
-    let hands = rw c.in-Ok-None.field-0-is at c.in-Ok-None.ensures.hands in
-    all_handed _ _ _ _ _ _ _ _ c.loop-piece.invariant.0 c.next_piece.ensures.clean hands
 
 pub returns-in-Err-clause-sends : goal.returns-in-Err-clause-sends
 returns-in-Err-clause-sends g c =
