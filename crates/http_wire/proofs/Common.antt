@@ -2,10 +2,10 @@
 pub use Rattle.std.proofs.Common.{◌≡◌, ℕ, zero, suc, ◌+◌, ◌-◌, ◌*◌, ◌^◌, ◌<◌, ◌≤◌, min, Bool, true, false, cond, ◌&&◌, ◌||◌, eqb, ◌≢◌, ◌⊎◌, List, [], ◌∷◌}
 pub use Rattle.std.proofs.Common.{◌++◌, map, length, get_or, take, drop, replicate, if◌then◌else◌, nat_lt, ◌==◌, Some, None, Ok, Err, codes, IsAscii, decimal}
 pub use Rattle.std.proofs.Common.{All, Option, Result, option_map, unwrap_or, sym, refl, ap, ◌∙◌, subst, inl, inr, append_assoc, arith, rules}
-pub use Rattle.std.proofs.lemmas.Bool.{and_from, and_left, and_parts, cases_lt, cases_order, cond-true, cond_both, eqb-true, false≢true, lt-ltb, ltb-false}
+pub use Rattle.std.proofs.lemmas.Bool.{and_from, and_parts, cases_lt, cases_order, cond-true, cond_both, eqb-true, false≢true, lt-ltb, ltb-false}
 pub use Rattle.std.proofs.lemmas.Bool.{ne_eqb, not_from_false}
 pub use Rattle.std.proofs.lemmas.List.{append-nil, drop-drop, drop_all, drop_at, get_or-drop, get_or-map, get_or-take, get_or_append_left, get_or_past}
-pub use Rattle.std.proofs.lemmas.List.{length-append, length-drop, length-map, length-take-le, take-append-drop, take-map, take_at, take_min, take_rest}
+pub use Rattle.std.proofs.lemmas.List.{length-append, length-drop, length-map, length-take-le, take-append-drop, take-map, take_at, take_rest}
 pub use Rattle.std.proofs.lemmas.List.Sums.{AllPass-from_list_all, list_all-from_AllPass}
 pub use Rattle.std.specs.Io.KnownBytes.{Appends}
 pub use Rattle.std.specs.List.{flat_map, list_all}

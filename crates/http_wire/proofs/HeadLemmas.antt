@@ -1,6 +1,6 @@
 -- The strict heads are those of httparse's grammar in which each LF follows a CR, apart empty line comes
 -- first, the version is 1.1 and the target is in origin form.
-use Rattle.http_wire.proofs.Common.{◌≡◌, ◌≢◌, ℕ, ◌+◌, ◌<◌, ◌≤◌, true, cond, eqb, List, [], ◌∷◌, ◌++◌, map, length, get_or, take, drop, refl, sym, ap, ◌∙◌}
+use Rattle.http_wire.proofs.Common.{◌≡◌, ◌≢◌, ℕ, Bool, ◌+◌, ◌<◌, ◌≤◌, true, cond, eqb, List, [], ◌∷◌, ◌++◌, map, length, get_or, take, drop, refl, sym, ap, ◌∙◌}
 use Rattle.http_wire.proofs.Common.{subst, arith, append_assoc, inl, inr, IsAscii, All, flat_map, and_parts, and_from, eqb-true, cases_lt, not_from_false}
 use Rattle.http_wire.proofs.Common.{ne_eqb, false≢true, append-nil, get_or_past, length-map, drop_all, field_limit, FieldLine, HeadParts, line_text}
 use Rattle.http_wire.proofs.Common.{IsOriginForm, IsFieldLine, SpellsHead, name_and_value, line_ends, HasFewFields, lf_follows_cr, is_no_line_break, IsStrict}
@@ -44,10 +44,7 @@ same_lines (l ∷ ls) = ap (λ t. line_text l ++ t) (same_lines ls)
 
 pub request_text : (h : HeadParts) → print_request (as_request h) ≡ head_text h
 unfolding print_request head_text
-request_text h =
-    let front = h.method ++ 32 ∷ h.target ++ 32 ∷ print_version 1 ++ print_end crlf in
-    ap (λ t. front ++ (t ++ print_end crlf)) (same_lines h.lines)
-    ∙ sym (append_assoc front (flat_map line_text h.lines) (print_end crlf))
+request_text h = grind (arith, same_lines, append_assoc)
 
 pub same_names : (ls : List FieldLine) → map Spans.name_and_value (map field_of ls) ≡ map name_and_value ls
 same_names [] = refl
@@ -84,14 +81,9 @@ lf_passes (x ∷ xs) ys p plain rest =
     cond_true : (b : ℕ) → b ≢ 10 → cond (eqb b 10) (eqb p 13) true ≡ true
     cond_true b ne = grind (arith, nat_tests)
 
-breaks_of_token : (bytes : List ℕ) → AllPass is_token_byte bytes → NoBreaks bytes
-breaks_of_token bytes = All-weaker (λ b. is_token_byte b ≡ true) (λ b. (b ≢ 13) × (b ≢ 10)) token_no_break bytes
-
-breaks_of_uri : (bytes : List ℕ) → AllPass is_uri_byte bytes → NoBreaks bytes
-breaks_of_uri bytes = All-weaker (λ b. is_uri_byte b ≡ true) (λ b. (b ≢ 13) × (b ≢ 10)) target_no_break bytes
-
-breaks_of_value : (bytes : List ℕ) → AllPass is_value_byte bytes → NoBreaks bytes
-breaks_of_value bytes = All-weaker (λ b. is_value_byte b ≡ true) (λ b. (b ≢ 13) × (b ≢ 10)) value_no_break bytes
+-- the bytes of a class without a break have none
+no_breaks : (P : ℕ → Bool) → ((b : ℕ) → P b ≡ true → (b ≢ 13) × (b ≢ 10)) → (bytes : List ℕ) → AllPass P bytes → NoBreaks bytes
+no_breaks P apart bytes = All-weaker (λ b. P b ≡ true) (λ b. (b ≢ 13) × (b ≢ 10)) apart bytes
 
 -- one field line, regrouped
 line_regroup : (n r e f rest : List ℕ) → ((n ++ 58 ∷ r ++ e) ++ f) ++ rest ≡ n ++ 58 ∷ (r ++ (e ++ (f ++ rest)))
@@ -104,9 +96,10 @@ lines_pass (l ∷ ls) rest fine after q =
     let here = All-head IsFieldLine l ls fine in
     let tail = flat_map print_field (map field_of ls) in
     let next : (p : ℕ) → lf_follows_cr p (13 ∷ 10 ∷ (tail ++ rest)) ≡ true = λ p. lines_pass ls rest (All-tail IsFieldLine l ls fine) after 10 in
-    let value : (p : ℕ) → lf_follows_cr p (58 ∷ (l.raw ++ 13 ∷ 10 ∷ (tail ++ rest))) ≡ true = λ p. lf_passes l.raw _ 58 (breaks_of_value l.raw here.raw) next in
+    let value : (p : ℕ) → lf_follows_cr p (58 ∷ (l.raw ++ 13 ∷ 10 ∷ (tail ++ rest))) ≡ true =
+    λ p. lf_passes l.raw _ 58 (no_breaks is_value_byte value_no_break l.raw here.raw) next in
     ap (lf_follows_cr q) (line_regroup l.name l.raw (print_end crlf) tail rest)
-    ∙ lf_passes l.name _ q (breaks_of_token l.name here.name.1) value
+    ∙ lf_passes l.name _ q (no_breaks is_token_byte token_no_break l.name here.name.1) value
 
 -- the text of a strict head, nested to the right
 abbrev nested : (method target : List ℕ) (end : LineEnd) (fields : List Field) (last : LineEnd) → List ℕ
@@ -154,8 +147,8 @@ spelled_pairs region h s =
     let section : (q : ℕ) → lf_follows_cr q (flat_map print_field fields ++ rest) ≡ true = lines_pass h.lines rest s.0.lines (λ q. refl) in
     let version : (q : ℕ) → lf_follows_cr q (32 ∷ (print_version 1 ++ (print_end crlf ++ (flat_map print_field fields ++ rest)))) ≡ true = λ q. section 10 in
     let target : (q : ℕ) → lf_follows_cr q (32 ∷ (h.target ++ 32 ∷ (print_version 1 ++ (print_end crlf ++ (flat_map print_field fields ++ rest))))) ≡ true =
-    λ q. lf_passes h.target _ 32 (breaks_of_uri h.target (uri_of_target h.target s.0.target.1)) version in
-    ap (lf_follows_cr 0) (spelled_text region h s) ∙ lf_passes h.method _ 0 (breaks_of_token h.method s.0.method.1) target
+    λ q. lf_passes h.target _ 32 (no_breaks is_uri_byte target_no_break h.target (uri_of_target h.target s.0.target.1)) version in
+    ap (lf_follows_cr 0) (spelled_text region h s) ∙ lf_passes h.method _ 0 (no_breaks is_token_byte token_no_break h.method s.0.method.1) target
 
 first_of_token : (bytes rest : List ℕ) → IsToken bytes → is_no_line_break (get_or (bytes ++ rest) 0 0) ≡ true
 first_of_token [] rest t = absurd (omega (arith, t.0))
@@ -175,12 +168,7 @@ line_ends_skip (x ∷ xs) ys = omega (arith, line_ends_skip xs ys)
 
 lines_count : (ls : List FieldLine) (rest : List ℕ) → length ls + line_ends rest ≤ line_ends (flat_map print_field (map field_of ls) ++ rest)
 lines_count [] rest = omega arith
-lines_count (l ∷ ls) rest =
-    let tail = flat_map print_field (map field_of ls) in
-    let more : line_ends (13 ∷ 10 ∷ (tail ++ rest)) ≡ 1 + line_ends (tail ++ rest) = omega arith in
-    let skip = line_ends_skip (l.name ++ 58 ∷ l.raw) (13 ∷ 10 ∷ (tail ++ rest)) in
-    let regroup : (l.name ++ 58 ∷ l.raw) ++ 13 ∷ 10 ∷ (tail ++ rest) ≡ (print_field (field_of l) ++ tail) ++ rest = simp (append_assoc, cons-append) in
-    omega (arith, lines_count ls rest, skip, more, ap line_ends regroup)
+lines_count (l ∷ ls) rest = grind (arith, lines_count ls, line_ends_skip, append_assoc, cons-append)
 
 pub few_lines : (region : List ℕ) (h : HeadParts) → SpellsHead region h → HasFewFields region → length (map field_of h.lines) ≤ field_limit
 few_lines region h s room =
@@ -210,8 +198,8 @@ ends_are (f ∷ fs) last p apart fine h =
     let here = All-head IsField f fs fine in
     let tail = flat_map print_field fs in
     let whole = sym (ap (lf_follows_cr p) (line_regroup f.name f.raw (print_end f.end) tail (print_end last ++ []))) ∙ h in
-    let name = lf_skips f.name _ p (breaks_of_token f.name here.name.1) apart whole in
-    let value = lf_skips f.raw _ 58 (breaks_of_value f.raw here.raw) (λ e. omega arith) name.2 in
+    let name = lf_skips f.name _ p (no_breaks is_token_byte token_no_break f.name here.name.1) apart whole in
+    let value = lf_skips f.raw _ 58 (no_breaks is_value_byte value_no_break f.raw here.raw) (λ e. omega arith) name.2 in
     let end = end_is f.end _ value.0 value.1 value.2 in
     let later = ends_are fs last 10 (λ e. omega arith) (All-tail IsField f fs fine) end.1 in
     let same : field_of (line_of f) ≡ f = ap (λ (e : LineEnd). record { name = f.name; raw = f.raw; end = e }) (sym end.0) in
@@ -236,8 +224,9 @@ strict_from region r reads first pairs version =
     ∙ ap (λ (m : ℕ). r.method ++ 32 ∷ (r.target ++ 32 ∷ (print_version m ++ after))) version
     ∙ ap (λ (t : List ℕ). r.method ++ 32 ∷ (r.target ++ 32 ∷ (print_version 1 ++ (print_end r.line_end ++ t)))) (append_assoc lines (print_end r.last) [])
     in
-    let method = lf_skips r.method _ 0 (breaks_of_token r.method reads.0.method.1) (λ e. omega arith) (sym (ap (lf_follows_cr 0) plain) ∙ pairs) in
-    let target = lf_skips r.target _ 32 (breaks_of_uri r.target reads.0.target.1) (λ e. omega arith) method.2 in
+    let method = lf_skips r.method _ 0 (no_breaks is_token_byte token_no_break r.method reads.0.method.1) (λ e. omega arith)
+    (sym (ap (lf_follows_cr 0) plain) ∙ pairs) in
+    let target = lf_skips r.target _ 32 (no_breaks is_uri_byte target_no_break r.target reads.0.target.1) (λ e. omega arith) method.2 in
     let end = end_is r.line_end _ 49 (λ e. omega arith) target.2 in
     let fields = ends_are r.fields r.last 10 (λ e. omega arith) reads.0.fields end.1 in
     λ i. record {
@@ -286,8 +275,4 @@ head_at region headers r within of room first pairs strict =
 -- what httparse answers at a strict head is strict
 pub strict_of : (region : List ℕ) (headers : List HeaderSpan) (r : RequestSpans) (h : HeadParts) → SpellsHead region h
     → Spans.IsRequestAt region headers r (as_request h) → IsStrict region r
-strict_of region headers r h s at = record {
-  len = at.len ∙ ap length (request_text h ∙ sym s.1);
-  version = at.version;
-  target = subst IsOriginForm (sym at.path) s.0.target;
-}
+strict_of region headers r h s at = grind (arith, request_text)

@@ -7,11 +7,7 @@ use Rattle.memchr.specs.Find.{places_from}
 
 one_line : (line rest : List ℕ) → line_ends line ≡ 0 → line_ends (line ++ 13 ∷ 10 ∷ rest) ≡ 1 + line_ends rest
 one_line [] rest e = omega arith
-one_line (b ∷ []) rest e = go (b == 13)
-  where
-    go : (v : Bool) → (if v && false then 1 else 0) + line_ends (13 ∷ 10 ∷ rest) ≡ 1 + line_ends rest
-    go true = omega arith
-    go false = omega arith
+one_line (b ∷ []) rest e = grind arith
 one_line (b ∷ c ∷ line) rest e = let ih = one_line (c ∷ line) rest (omega (arith, e)) in omega (arith, e, ih)
 
 regroup : (line rest : List ℕ) → (line ++ crlf_bytes) ++ rest ≡ line ++ 13 ∷ 10 ∷ rest
@@ -60,8 +56,7 @@ one_more bytes rest ks i p b false e f h = record { pairs = rw (e, h.pairs) (go 
 
 -- the byte before the next place
 follows_next : (bytes : List ℕ) (i b : ℕ) → get_or bytes i 0 ≡ b → follows bytes (i + 1) ≡ (b == 13)
-follows_next bytes i b here =
-    ap (λ v. v && (get_or bytes (i + 1 - 1) 0 == 13)) (lt-ltb 0 (i + 1) (omega arith)) ∙ ap (λ k. get_or bytes k 0 == 13) (omega arith) ∙ ap (λ x. x == 13) here
+follows_next bytes i b here = grind (arith, lt-ltb)
 
 reads_from : (bytes rest : List ℕ) (i p : ℕ) → drop i bytes ≡ rest → follows bytes i ≡ (p == 13)
     → Reads bytes rest (places_from (is_byte 10) bytes i (length rest)) p

@@ -1,10 +1,10 @@
 -- At the front of the bytes stands one message, one fault or neither, and more bytes leave it there.
 use Rattle.http_wire.proofs.Common.{◌≡◌, ℕ, ◌+◌, ◌<◌, ◌≤◌, ◌⊎◌, List, [], ◌∷◌, ◌++◌, length, map, take, drop, refl, sym, ap, ◌∙◌, subst, arith, append_assoc}
-use Rattle.http_wire.proofs.Common.{inl, inr, Result, Ok, Err, Option, Some, None, append-nil, ◌^◌, codes, nat_lt, length-append, take_at, drop_at}
-use Rattle.http_wire.proofs.Common.{take-append-drop, length-take-le, digits_value, cond_both, ltb-false, head_length_limit, field_limit, body_length_limit}
+use Rattle.http_wire.proofs.Common.{inl, inr, Result, Ok, Err, Option, Some, None, append-nil, ◌^◌, length-append, take_at, drop_at}
+use Rattle.http_wire.proofs.Common.{take-append-drop, length-take-le, cond_both, ltb-false, head_length_limit, field_limit, body_length_limit}
 use Rattle.http_wire.proofs.Common.{WireFault, TooLarge, BadHead, BadLength, HeadTooLarge, BadCoding, HasRegion, HasNoRegion, HasFewFields, line_ends}
-use Rattle.http_wire.proofs.Common.{FieldLine, HeadParts, SpellsHead, NameAndValue, name_and_value, is_digits, length_of, length_by, unless_coded}
-use Rattle.http_wire.proofs.Common.{fields_named, WireMessage, IsHeadWith, IsMessage, IsBadRegion, IsFault, IsUndecided, Begins, HasMessages, EndsAs}
+use Rattle.http_wire.proofs.Common.{FieldLine, HeadParts, SpellsHead, NameAndValue, name_and_value, length_of, length_by, unless_coded}
+use Rattle.http_wire.proofs.Common.{WireMessage, IsHeadWith, IsMessage, IsBadRegion, IsFault, IsUndecided, Begins, HasMessages, EndsAs}
 use Rattle.http_wire.proofs.Common.{message_of, StandsInFront, HandsOut, End, Input, Cut, Fault}
 use Rattle.httparse.proofs.GrammarLemmas.{request_unique}
 use Rattle.http_wire.specs.BodyLengths.{body_length}
@@ -71,10 +71,7 @@ IsOfBody (Ok n) = n ≤ body_length_limit
 IsOfBody (Err f) = IsBodyFault f
 
 length_of_body : (text : List ℕ) → IsOfBody (length_of text)
-length_of_body text =
-    cond_both (is_digits text) _ _ IsOfBody
-    (λ _. cond_both (nat_lt body_length_limit (digits_value 10 text)) _ _ IsOfBody (λ _. tt) (λ within. ltb-false _ _ within))
-    (λ _. tt)
+length_of_body text = grind (arith, cond_both, ltb-false)
 
 by_of_body : (fs : List NameAndValue) → IsOfBody (length_by fs)
 by_of_body [] = omega arith
@@ -82,13 +79,11 @@ by_of_body (f ∷ []) = length_of_body f.1
 by_of_body (f ∷ g ∷ fs) = tt
 
 unless_of_body : (fs : List NameAndValue) (r : Result ℕ WireFault) → IsOfBody r → IsOfBody (unless_coded fs r)
-unless_of_body [] r h = h
-unless_of_body (f ∷ fs) r h = tt
+unless_of_body fs r h = grind arith
 
 of_body : (fields : List NameAndValue) (r : Result ℕ WireFault) → body_length fields ≡ r → IsOfBody r
 unfolding body_length
-of_body fields r is =
-    subst IsOfBody is (unless_of_body (fields_named (codes "transfer-encoding") fields) _ (by_of_body (fields_named (codes "content-length") fields)))
+of_body fields r is = grind (arith, unless_of_body, by_of_body)
 
 pub body_fault : (region m t : List ℕ) (fs : List NameAndValue) (f : WireFault) → IsHeadWith region m t fs → body_length fs ≡ Err f → IsBadRegion region f
 body_fault region m t fs HeadTooLarge head err = absurd (of_body fs _ err)
@@ -155,12 +150,7 @@ undecided_yet wanted bytes below few =
 
 pub whole_message : (bytes region after m t : List ℕ) (fs : List NameAndValue) (n : ℕ) → HasRegion bytes region after → IsGood region m t fs n
     → n ≤ length after → IsMessage bytes (record { method = m; target = t; fields = fs; body = take n after }) (drop n after)
-whole_message bytes region after m t fs n has good long = record {
-  region = region;
-  has = subst (λ (x : List ℕ). HasRegion bytes region x) (sym (take-append-drop n after)) has;
-  head = good.head;
-  body = good.body ∙ ap Ok (sym (length-take-le n after long));
-}
+whole_message bytes region after m t fs n has good long = grind (arith, take-append-drop, length-take-le)
 
 -- ---- one reading
 
@@ -193,13 +183,7 @@ message_is_no_fault bytes m rest message f fault = elim fault [
 -- ---- more bytes
 
 pub message_append : (bytes : List ℕ) (m : WireMessage) (rest more : List ℕ) → IsMessage bytes m rest → IsMessage (bytes ++ more) m (rest ++ more)
-message_append bytes m rest more message = record {
-  region = message.region;
-  has = subst (λ (x : List ℕ). HasRegion (bytes ++ more) message.region x) (append_assoc m.body rest more)
-      (region_append bytes message.region (m.body ++ rest) more message.has);
-  head = message.head;
-  body = message.body;
-}
+message_append bytes m rest more message = grind (arith, append_assoc, region_append)
 
 pub fault_append : (bytes more : List ℕ) (f : WireFault) → IsFault bytes f → IsFault (bytes ++ more) f
 fault_append bytes more f fault = elim fault [
@@ -230,26 +214,14 @@ abbrev HasSizeFault : List ℕ → WireFault → Type 0
 HasSizeFault region f = (f ≡ HeadTooLarge) × (field_limit + 2 < line_ends region)
 
 classes : (region : List ℕ) (f : WireFault) → IsBadRegion region f → HasSizeFault region f ⊎ (HasFormFault region f ⊎ HasLengthFault region f)
-classes region HeadTooLarge bad = inl (refl, bad)
-classes region BadHead bad = inr (inl (refl, bad.0, bad.1))
-classes region TooLarge bad = inr (inr bad)
-classes region BadLength bad = inr (inr bad)
-classes region BadCoding bad = inr (inr bad)
+classes region f bad = grind arith
 
 bad_unique : (region : List ℕ) (f g : WireFault) → IsBadRegion region f → IsBadRegion region g → f ≡ g
 bad_unique region f g x y = elim (classes region f x) [
-  | inl a ↦ elim (classes region g y) [
-    | inl b ↦ a.0 ∙ sym b.0
-    | inr (inl b) ↦ absurd (omega (arith, a.1, b.1))
-    | inr (inr b) ↦ absurd (omega (arith, a.1, b.3.few))
-  ]
-  | inr (inl a) ↦ elim (classes region g y) [
-    | inl b ↦ absurd (omega (arith, b.1, a.1))
-    | inr (inl b) ↦ a.0 ∙ sym b.0
-    | inr (inr b) ↦ absurd (a.2 b.3.head b.3.spells)
-  ]
+  | inl a ↦ grind (arith, classes region g y)
+  | inr (inl a) ↦ grind (arith, classes region g y)
   | inr (inr a) ↦ elim (classes region g y) [
-    | inl b ↦ absurd (omega (arith, b.1, a.3.few))
+    | inl b ↦ grind arith
     | inr (inl b) ↦ absurd (b.2 a.3.head a.3.spells)
     | inr (inr b) ↦
         let same = (fields_unique region _ _ _ _ _ _ a.3 b.3).2 in
@@ -302,8 +274,7 @@ ends_unique rest (Fault f) (Fault g) a b = ap Fault (fault_unique rest f g a b)
 
 -- A stream has one reading.
 pub reads_unique : (bytes : List ℕ) (ms ns : List WireMessage) (e f : End) → HasMessages bytes ms e → HasMessages bytes ns f → (ms ≡ ns) × (e ≡ f)
-reads_unique bytes [] [] e f a b =
-    (refl, ends_unique a.0 e f a.2 (subst (λ (x : List ℕ). EndsAs x f) (sym b.1 ∙ a.1) b.2))
+reads_unique bytes [] [] e f a b = grind (arith, ends_unique)
 reads_unique bytes [] (n ∷ ns) e f a b =
     absurd (no_message_at_end bytes e (subst (λ (x : List ℕ). EndsAs x e) (sym a.1) a.2) n b.1.0 b.1.1)
 reads_unique bytes (m ∷ ms) [] e f a b =
@@ -316,12 +287,10 @@ reads_unique bytes (m ∷ ms) (n ∷ ns) e f a b =
 -- ---- what a call hands out
 
 pub message_shorter : (bytes : List ℕ) (m : WireMessage) (rest : List ℕ) → IsMessage bytes m rest → length rest + 1 ≤ length bytes
-message_shorter bytes m rest message =
-    omega (arith, message.has.size, ap length message.has.split, length-append message.region (m.body ++ rest), length-append m.body rest)
+message_shorter bytes m rest message = grind (arith, length-append)
 
 same_front : (bytes left : List ℕ) → left ≡ bytes → (fed : List ℕ) (given : List WireMessage) → Begins fed given bytes → Begins fed (given ++ []) left
-same_front bytes left same fed given b =
-    subst (λ (x : List ℕ). Begins fed (given ++ []) x) (sym same) (subst (λ (ms : List WireMessage). Begins fed ms bytes) (sym (append-nil given)) b)
+same_front bytes left same fed given b = grind (arith, append-nil)
 
 pub hands_out : (bytes left : List ℕ) (r : Option (Result Message WireFault)) → StandsInFront bytes r left → HandsOut bytes r left
 hands_out bytes left None a = record { answer = a; so_far = same_front bytes left a.1; progress = omega (arith, ap length a.1) }

@@ -6,10 +6,7 @@ use Rattle.http_wire.proofs.Common.{HasNoRegion}
 
 -- four places of one list are those of another
 same_end : (a b : List ℕ) (k : ℕ) → ((i : ℕ) → i < k + 4 → get_or a i 0 ≡ get_or b i 0) → IsHeadEndAt a k → IsHeadEndAt b k
-same_end a b k same h = (
-  (sym (same k (omega arith)) ∙ h.0.0, sym (same (k + 1) (omega arith)) ∙ h.0.1),
-  (sym (same (k + 2) (omega arith)) ∙ h.1.0, sym (same (k + 2 + 1) (omega arith)) ∙ h.1.1),
-)
+same_end a b k same h = grind arith
 
 pub end_in_take : (bytes : List ℕ) (n k : ℕ) → k + 4 ≤ n → IsHeadEndAt (take n bytes) k → IsHeadEndAt bytes k
 end_in_take bytes n k le = same_end (take n bytes) bytes k (λ i l. get_or-take n bytes i 0 (omega arith))
@@ -110,13 +107,7 @@ region_unique bytes r s a b h g = same (elim (cases_order (length r) (length s))
 
 -- more bytes after it
 pub region_append : (bytes region after more : List ℕ) → HasRegion bytes region after → HasRegion (bytes ++ more) region (after ++ more)
-region_append bytes region after more h = record {
-  split = ap (λ (b : List ℕ). b ++ more) h.split ∙ append_assoc region after more;
-  limit = h.limit;
-  size = h.size;
-  ends = h.ends;
-  first = h.first;
-}
+region_append bytes region after more h = grind (arith, append_assoc)
 
 -- without a region no place ends one
 pub no_end_below : (bytes : List ℕ) → HasNoRegion bytes → (n : ℕ) → n + 3 ≤ length bytes → n + 3 ≤ head_length_limit

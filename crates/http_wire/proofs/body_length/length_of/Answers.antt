@@ -1,4 +1,4 @@
-use Rattle.http_wire.proofs.Common.{◌≡◌, ℕ, ◌+◌, ◌*◌, ◌<◌, true, List, length, get_or, take, sym, ◌∙◌, arith, Err, digits_value, and_parts, lt-ltb, cond-true}
+use Rattle.http_wire.proofs.Common.{◌≡◌, ℕ, ◌+◌, ◌*◌, ◌<◌, true, List, length, get_or, take, sym, arith, Err, digits_value, and_parts, lt-ltb, cond-true}
 use Rattle.http_wire.proofs.Common.{AllPass-from_list_all, body_length_limit, TooLarge, is_digits, length_of}
 use Rattle.std.specs.Char.{is_ascii_digit, digit_value}
 use Rattle.std.proofs.lemmas.Int.Digits.{digits_value_more}
@@ -14,10 +14,7 @@ more text i n d l e f = omega (arith, digits_value_more 10 text i l)
 
 too_large : (text : List ℕ) (i n : ℕ) → true ≡ is_digits text → body_length_limit < n → n ≡ digits_value 10 (take (i + 1) text)
     → Err TooLarge ≡ length_of text
-too_large text i n digits large e =
-    let whole = digits_value 10 text in
-    let over : body_length_limit < whole = omega (arith, digits_value-take-le 10 text (i + 1) (omega arith)) in
-    sym (cond-true (is_digits text) _ _ (sym digits) ∙ cond-true _ _ _ (lt-ltb body_length_limit whole over))
+too_large text i n digits large e = grind (arith, digits_value-take-le, cond-true, lt-ltb)
 
 pub returns-then-length-gt-BODY_LENGTH_LIMIT : goal.returns-then-length-gt-BODY_LENGTH_LIMIT
 returns-then-length-gt-BODY_LENGTH_LIMIT c =

@@ -1,4 +1,4 @@
-use Rattle.http_wire.proofs.Common.{◌≡◌, ℕ, ◌+◌, ◌<◌, ◌≤◌, true, Option, Some, None, List, [], ◌∷◌, ◌++◌, length, map, take, drop, get_or, sym, ap, ◌∙◌, arith}
+use Rattle.http_wire.proofs.Common.{◌≡◌, ℕ, ◌+◌, ◌<◌, ◌≤◌, true, Option, List, [], ◌∷◌, ◌++◌, length, map, take, drop, get_or, sym, ap, ◌∙◌, arith}
 use Rattle.http_wire.proofs.Common.{option_map, is_some, option_to_list, cond-true, length-append, take-append-drop, take-map, length-map, get_or-map, Field}
 use Rattle.http_wire.proofs.Common.{NameAndValue, is_named, fields_named, field_view}
 use Rattle.std.proofs.lemmas.List.Elements.{filter-append, filter_more}
@@ -14,8 +14,7 @@ front_le name fs i = omega (
 )
 
 one : (first : Option Field) → true ≡ is_some first → length (option_to_list (option_map field_view first)) ≡ 1
-one None e = cc
-one (Some f) e = omega arith
+one first e = grind arith
 
 two : (name : List ℕ) (fields : List Field) (i : ℕ) (first : Option Field) (d : Field) → i < length fields
     → fields_named name (map field_view (take i fields)) ≡ option_to_list (option_map field_view first)

@@ -1,12 +1,7 @@
-use Rattle.http_wire.proofs.Common.{◌≡◌, ◌++◌, List, ℕ, subst, rules, arith, Begins, IsFault}
+use Rattle.http_wire.proofs.Common.{◌≡◌, ◌++◌, List, ℕ, subst, rules, arith, IsFault}
 use Rattle.std.proofs.lemmas.Grind.{common_steps}
-use Rattle.http_wire.proofs.MessageLemmas.{begins_append, fault_append}
+use Rattle.http_wire.proofs.MessageLemmas.{fault_append}
 use Rattle.http_wire.proofs.inbox.Inbox.feed.Goals as goal
-
-pub returns-clause-so_far : goal.returns-clause-so_far
-returns-clause-so_far c fed given b =
-    let longer : c.args.self.now ++ c.args.piece.now ≡ c.extend_from_slice.new.self.items = first_of (search rules, grind (arith, common_steps)) in
-    subst (λ (x : List ℕ). Begins (fed ++ c.args.piece.now) given x) longer (begins_append fed given c.args.self.now c.args.piece.now b)
 
 pub returns-clause-fault : goal.returns-clause-fault
 returns-clause-fault c fault f =

@@ -1,5 +1,5 @@
-use Rattle.http_wire.proofs.Common.{◌≡◌, ℕ, ◌+◌, ◌-◌, ◌<◌, List, length, take, drop, sym, ap, refl, ◌∙◌, subst, Some, None, Ok, Err, arith, drop-drop}
-use Rattle.http_wire.proofs.Common.{take_rest, length-drop, WireMessage, IsMessage, IsFault, IsUndecided}
+use Rattle.http_wire.proofs.Common.{◌≡◌, ℕ, ◌+◌, ◌-◌, ◌<◌, List, length, take, drop, ap, refl, ◌∙◌, subst, Some, None, Ok, arith, drop-drop}
+use Rattle.http_wire.proofs.Common.{take_rest, length-drop, WireMessage, IsMessage, IsUndecided}
 use Rattle.http_wire.proofs.MessageLemmas.{hands_out, undecided_yet}
 use Rattle.http_wire.proofs.inbox.Inbox.next.Goals as goal
 
@@ -10,12 +10,7 @@ unread shown items value start same view = take_rest shown start ∙ ap (drop st
 moved_on : (shown items value : List ℕ) (start len : ℕ) (m : WireMessage) → shown ≡ items → drop start items ≡ value
     → IsMessage (take (length shown - start) (drop start shown)) m (drop len (take (length shown - start) (drop start shown)))
     → IsMessage value m (drop (start + len) items)
-moved_on shown items value start len m same view message =
-    let whole = unread shown items value start same view in
-    let rest : drop len (take (length shown - start) (drop start shown)) ≡ drop (start + len) items =
-    ap (drop len) (whole ∙ sym view) ∙ drop-drop len start items in
-    subst (λ (r : List ℕ). IsMessage value m r) rest
-    (subst (λ (b : List ℕ). IsMessage b m (drop len (take (length shown - start) (drop start shown)))) whole message)
+moved_on shown items value start len m same view message = grind (arith, unread, drop-drop)
 
 pub returns-then-len-at : goal.returns-then-len-at
 returns-then-len-at c =
@@ -30,14 +25,6 @@ returns-in-Err-Wants c =
     let whole = unread c.deref.result.now c.self.inside.bytes.items c.args.self.now c.self.inside.start c.deref.ensures.value c.self.view_is in
     let undecided = subst IsUndecided whole (undecided_yet _ _ first.1 first.0) in
     ((refl, λ _. tt, hands_out _ _ None (undecided, c.self.view_is)), record { after_borrow = tt })
-
-pub returns-in-Err-AtFault : goal.returns-in-Err-AtFault
-returns-in-Err-AtFault c =
-    let fault = rw c.in-Err-AtFault.field-0-is at c.in-Err-AtFault.ensures in
-    let whole = unread c.deref.result.now c.self.inside.bytes.items c.args.self.now c.self.inside.start c.deref.ensures.value c.self.view_is in (
-      (refl, λ _. tt, hands_out _ _ (Some (Err c.in-Err-AtFault.fault)) (subst (λ (b : List ℕ). IsFault b c.in-Err-AtFault.fault) whole fault, c.self.view_is)),
-      record { after_borrow = tt },
-    )
 
 pub returns-in-Ok : goal.returns-in-Ok
 returns-in-Ok c =
