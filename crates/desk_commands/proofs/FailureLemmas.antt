@@ -11,19 +11,19 @@ pub never_missing : {A E : Type 0} {o : Option A} (e : E) {f : E} {x : A} → Er
 never_missing e missing is = grind (arith, missing, is)
 
 -- at the exit with this fault, what both words say
-abbrev pub Exits : {S : Type 0} → Ghosts S → (Ledger → Type 0) → State → OpenChange S → Fault → Type 0
-Exits g Given was new fault = (l : Ledger) → Sees HoldsLedger was l → ReadableAs Given l → HasReason g new ⊥ fault
+abbrev pub Exits : (Ledger → Type 0) → State → State → Fault → Type 0
+Exits Given was new fault = (l : Ledger) → Sees HoldsLedger was l → ReadableAs Given l → HasReason new ⊥ fault
 
 -- ---- the exit of a `?`
 
 module _ {S B : Type 0} {g : Ghosts S} {Given : Ledger → Type 0} {old new : OpenChange S} where
   -- .. where it reads
-  pub reads_end : {fault : Fault} → Exits g Given (seen_in g old) new fault → {out : Result B Fault} → IsErrAnd out (λ e. e ≡ fault)
+  pub reads_end : {fault : Fault} → Exits Given (seen_in g old) (seen_in g new) fault → {out : Result B Fault} → IsErrAnd out (λ e. e ≡ fault)
       → FailsGiven g Given old new out
   reads_end exits is = grind arith
 
   -- .. and where it writes
-  pub writes_end : {fault : Fault} → Exits g Given (seen_in g old) new fault → {out : Result B Fault} → IsErrAnd out (λ e. e ≡ fault)
+  pub writes_end : {fault : Fault} → Exits Given (seen_in g old) (seen_in g new) fault → {out : Result B Fault} → IsErrAnd out (λ e. e ≡ fault)
       → FailsWriting g Given old new out
   writes_end exits is = grind arith
 
@@ -42,33 +42,33 @@ writes_behind means out w = grind arith
 
 -- ---- by what is given
 
-pub never_given : {S : Type 0} {g : Ghosts S} {Given : Ledger → Type 0} {was : State} {new : OpenChange S} {fault : Fault} → ((l : Ledger) → Given l → ⊥)
-    → Exits g Given was new fault
+pub never_given : {Given : Ledger → Type 0} {was new : State} {fault : Fault} → ((l : Ledger) → Given l → ⊥)
+    → Exits Given was new fault
 never_given why = λ l sees it. absurd (why l it.given)
 
 -- ---- by what was read
 
-module _ {S A : Type 0} {g : Ghosts S} {Given : Ledger → Type 0} {was : State} {new : OpenChange S} {x : A} {fault : Fault} where
+module _ {A : Type 0} {Given : Ledger → Type 0} {was new : State} {x : A} {fault : Fault} where
   -- it leaves no broken rows
-  pub never : {P : Ledger → A → Type 0} → Finds HoldsLedger (λ (l : Ledger). l) {E = Fault} was (seen_in g new) (Ok x) P → ((l : Ledger) → P l x → Given l → ⊥)
-      → Exits g Given was new fault
+  pub never : {P : Ledger → A → Type 0} → Finds HoldsLedger (λ (l : Ledger). l) {E = Fault} was new (Ok x) P → ((l : Ledger) → P l x → Given l → ⊥)
+      → Exits Given was new fault
   never read why = λ l sees it. record { reason = λ is clean. absurd (why l ((read.finds l sees).1 clean) it.given) }
 
   module _ {seen : State} where
     -- a call asks for it
-    pub asked : {P : Ledger → A → Type 0} → Finds HoldsLedger (λ (l : Ledger). l) {E = Fault} was seen (Ok x) P → Wears seen (seen_in g new)
-        → {Asked : Ledger → Type 0} → ((l : Ledger) → P l x → Given l → Asked l) → Exits g Asked seen new fault → Exits g Given was new fault
+    pub asked : {P : Ledger → A → Type 0} → Finds HoldsLedger (λ (l : Ledger). l) {E = Fault} was seen (Ok x) P → Wears seen new
+        → {Asked : Ledger → Type 0} → ((l : Ledger) → P l x → Given l → Asked l) → Exits Asked seen new fault → Exits Given was new fault
     asked read wears means exits = grind arith
 
     pub asked_at : ((l : Ledger) → Given l → IsOfList l) → {P : Records → A → Type 0} → Finds HoldsLedger ledger_of {E = Fault} was seen (Ok x) P
-        → {Asked : Ledger → Type 0} → Wears seen (seen_in g new)
-        → ((h : CommandList) → IsValid h → P (records h) x → Given (ledger_of (records h)) → Asked (ledger_of (records h))) → Exits g Asked seen new fault
-        → Exits g Given was new fault
+        → {Asked : Ledger → Type 0} → Wears seen new
+        → ((h : CommandList) → IsValid h → P (records h) x → Given (ledger_of (records h)) → Asked (ledger_of (records h))) → Exits Asked seen new fault
+        → Exits Given was new fault
     asked_at listed read wears means exits = grind arith
 
   -- .. of the records of a list
-  pub never_at : ((l : Ledger) → Given l → IsOfList l) → {P : Records → A → Type 0} → Finds HoldsLedger ledger_of {E = Fault} was (seen_in g new) (Ok x) P
-      → ((h : CommandList) → IsValid h → P (records h) x → Given (ledger_of (records h)) → ⊥) → Exits g Given was new fault
+  pub never_at : ((l : Ledger) → Given l → IsOfList l) → {P : Records → A → Type 0} → Finds HoldsLedger ledger_of {E = Fault} was new (Ok x) P
+      → ((h : CommandList) → IsValid h → P (records h) x → Given (ledger_of (records h)) → ⊥) → Exits Given was new fault
   never_at listed read why = asked_at listed read {Asked = λ l. ⊥} (omega arith) why (never_given (λ l none. none))
 
 -- ---- writes that ask for no ledger
@@ -84,5 +84,5 @@ pub writes_last : {S B : Type 0} {g : Ghosts S} {Given : Ledger → Type 0} {If 
 writes_last means out w = grind arith
 
 pub counted : {S A : Type 0} {g : Ghosts S} {If : Type 0} {old new : OpenChange S} {fault : Fault} → CountsIf g If {A = A} old new (Err fault) → {was : State}
-    → Exits g (λ l. If) was new fault
+    → Exits (λ l. If) was (seen_in g new) fault
 counted w = λ l sees it. w.to it.given

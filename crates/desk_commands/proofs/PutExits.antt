@@ -64,5 +64,5 @@ good_at p xs k x below is all = grind (arith, list_all_at p xs k x, below, is, a
 pub rows_end : {S : Type 0} {g : Ghosts S} {was : State} {mid new : OpenChange S} {fault : Fault} (rows : List TargetRow) (row : TargetRow) (k : ℕ)
     → k < length rows → row ≡ get_or rows k row → (left : Option ℕ) → PutsSoFar was (seen_in g mid) (take k rows) left
     → Wears (seen_in g mid) (seen_in g new) → FailsWriting g (TakesRow row) {A = Result (Option ℕ) Refusal} mid new (Err fault)
-    → Exits g (TakesRows rows) was new fault
+    → Exits (TakesRows rows) was (seen_in g new) fault
 rows_end rows row k below at left so_far wears w = grind (arith, kept_to, few_left, put_readable, put_valid, put_is, good_at)

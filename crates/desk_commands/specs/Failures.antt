@@ -25,6 +25,7 @@ use Rattle.desk_records.specs.declared.number_row.PlacedNumber.{PlacedNumber}
 use Rattle.desk_records.specs.TargetRow.{stored_target}
 use Rattle.desk_records.specs.declared.target_row.StoredTarget.{StoredTarget}
 use Rattle.desk_store.specs.Breaking.{BreaksFirst, HasReason}
+use Rattle.desk_store.specs.Changing.{seen_in}
 use Rattle.desk_store.specs.Failing.{ReadableAs, nothing}
 use Rattle.desk_store.specs.Readable.{IsReadable}
 use Rattle.desk_store.specs.declared.change.OpenChange.{OpenChange}
@@ -49,7 +50,7 @@ module _ {S : Type 0} (g : Ghosts S) where
   module _ (If : Type 0) where
     abbrev pub CountsIfTo : {A : Type 0} → OpenChange S → Result A Fault → Type 0
     CountsIfTo new (Ok a) = Unit {0}
-    CountsIfTo new (Err fault) = If → HasReason g new ⊥ fault
+    CountsIfTo new (Err fault) = If → HasReason (seen_in g new) ⊥ fault
 
     -- what writes: if this is so, broken rows are never told
     pub record CountsIf {A : Type 0} (old new : OpenChange S) (result : Result A Fault) : Type 0 where

@@ -1,11 +1,11 @@
 -- Why an opening is a failed store: only by a call that failed, where what was there can be read.
-use Rattle.desk_opening.proofs.Common.{◌≡◌, refl, [], Ok, Err, Result, ap, subst, sym, State, state, still_holds, Schema}
+use Rattle.desk_opening.proofs.Common.{◌≡◌, refl, ◌∙◌, [], Ok, Err, Result, ap, subst, sym, State, state, still_holds, Schema}
 use Rattle.desk_opening.proofs.Common.{Fault, HoldsRecords, Version, ◌≤◌, newest, at_newest, Migrates, HasDeskTables, IsKnownOpen, OpenFault, Store}
 use Rattle.desk_opening.proofs.Common.{RunsText, MakesTables, BEGIN, SET_VERSION, later_than, bare_ledger}
 use Rattle.std.specs.Prelude.{IsErrAnd}
 use Rattle.sqlite.specs.Store.{Ghosts}
 use Rattle.sql_calls.specs.declared.calls.Calls.{Calls}
-use Rattle.desk_opening.specs.Counting.{CountsWhere, FailsAt, FailsGiven, IsReadableAt, IsSound}
+use Rattle.desk_opening.specs.Counting.{CountsWhere, FailsAt, FailsGiven, IsReadableAt}
 use Rattle.desk_opening.specs.Filling.{GivenBare}
 use Rattle.desk_opening.proofs.MigrateLemmas.{sees_bare, stood}
 use Rattle.desk_opening.proofs.HeldLemmas.{has_tables}
@@ -31,6 +31,8 @@ pub fill_fails : (v : Version) {a b c d e : State} → RunsText a b BEGIN.now []
     → (f : Fault) → FailsGiven (GivenBare v) {A = Unit {0}} d e (Err f) → (out : Result (Unit {0}) Fault) → IsErrAnd out (λ i. i ≡ f) → FailsAt v a e out
 fill_fails v first second third f h (Ok x) is = absurd is
 fill_fails v first second third f h (Err i) is = record {
-  to = λ r rests readable clean. subst IsSound (sym is)
-      (h.to (bare_ledger v r) (sees_bare v r first second third (stood v r rests)) (record { records = r; bare = refl; readable = readable }) clean);
+  to = λ r rests readable clean. record {
+    sound = λ broken. (h.to (bare_ledger v r) (sees_bare v r first second third (stood v r rests))
+        (record { records = r; bare = refl; readable = readable })).reason (sym is ∙ broken) clean;
+  };
 }

@@ -72,10 +72,10 @@ pub use Rattle.desk_records.specs.declared.rollout_texts.TheConstants.{GET_ROLLO
 pub use Rattle.desk_records.specs.declared.texts.TheConstants.{GET_DESK, PUT_DESK, SET_VERSION}
 pub use Rattle.desk_records.specs.declared.version.Version.{Version}
 pub use Rattle.desk_records.specs.declared.version.Version.TheVariants.{One}
-pub use Rattle.desk_opening.specs.Filling.{FillsLater, FillsRollout, FindsLedger, IsOfNumber, MakesLedger, Stays, WritesCopies, WritesRules, WritesUpTo}
+pub use Rattle.desk_opening.specs.Filling.{FillsLater, FillsRollout, MakesLedger, Stays, WritesCopies, WritesRules, WritesUpTo}
 pub use Rattle.desk_opening.specs.Filling.{bare_ledger, no_rules, rules_up_to}
-pub use Rattle.desk_opening.specs.Making.{AreApart, At, Before, Changes, Free, HoldsBefore, HoldsPartly, HoldsStage, IsEmptyTable, Leaves, Makes, MakesTables}
-pub use Rattle.desk_opening.specs.Making.{Nothing, Older, Partly, Stage, Standing, Steps, Whole, first_records, told}
+pub use Rattle.desk_opening.specs.Making.{AreApart, At, Before, Free, HoldsBefore, HoldsPartly, HoldsStage, IsEmptyTable, Makes, MakesTables}
+pub use Rattle.desk_opening.specs.Making.{Nothing, Older, Partly, Stage, Whole, first_records, told}
 pub use Rattle.desk_opening.specs.Migrating.{HoldsFrom, HoldsOf, LeftOf, Migrates, MovesTo}
 pub use Rattle.desk_opening.specs.Opening.{Adopts, FindsFault, FindsTo, HasDesk, HasDeskAt, HasDeskTables, HasNoDesk, HasNoRow, HasRow, IsDeskRow, IsFailure}
 pub use Rattle.desk_opening.specs.Opening.{IsKnownOpen, IsNewerRow, IsOtherRow, IsSettled, IsWholeAt, Keeps, LacksAt, LacksPartOfDesk, LacksTables, OpensDesk}

@@ -1,74 +1,16 @@
--- Reads and writes of a change that fills the tables of the newest version.
-use Rattle.desk_opening.proofs.Common.{◌≡◌, ◌≤◌, ◌++◌, ℕ, zero, suc, ◌+◌, List, [], ◌∷◌, length, pos, set, Option, Some, None, option_map, Ok, Err, Result}
-use Rattle.desk_opening.proofs.Common.{IsErr, IfOk, refl, sym, ap, subst, ◌∙◌, arith, Int, Row, Database, IsDatabase, State, Stands, Fault, RunsText}
-use Rattle.desk_opening.proofs.Common.{TakesFirst, Knows, inserts, GroupRule, Ledger, Rules, name_of, rule_table, table_at, GET_ROLLOUT, PUT_RULE}
-use Rattle.desk_opening.proofs.Common.{Version, One, FillsLater, FillsRollout, FindsLedger, IsOfNumber, Stays, WritesCopies, WritesRules}
-use Rattle.desk_opening.proofs.Common.{WritesUpTo, rules_up_to, HoldsStage, Standing, same_some, put_at, Changes, Leaves, Stage, TakesTo, never_shows_inside}
-use Rattle.sql_calls.proofs.Composing.{finds_as}
-use Rattle.sql_calls.proofs.Framing.{took}
+-- What a migration writes into the later tables.
+use Rattle.desk_opening.proofs.Common.{◌≡◌, ◌++◌, ℕ, zero, suc, ◌+◌, List, [], ◌∷◌, length, set, Option, Some, None, option_map, refl, sym, ap, subst}
+use Rattle.desk_opening.proofs.Common.{◌∙◌, arith, GroupRule, Ledger, Version, One, FillsLater, FillsRollout, WritesCopies, WritesRules, WritesUpTo}
+use Rattle.desk_opening.proofs.Common.{rules_up_to, same_some}
+use Rattle.rollout_machine.specs.ByteStrings.{item_numbered}
 use Rattle.rollout_machine.specs.Ranges.{each_from}
 use Rattle.rollout_machine.proofs.Lists.{each_from_more, length_each}
 use Rattle.desk_records.specs.LedgerSteps.{AddsRule, with_rules}
+use Rattle.desk_records.specs.RolloutRow.{stored_rollout}
 use Rattle.desk_records.specs.declared.rollout_row.StoredRollout.{StoredRollout}
 use Rattle.desk_records.proofs.HeldCounts.{at_place}
-use Rattle.desk_records.proofs.RolloutMeaning.{put_rule_is, rule_terms}
-use Rattle.desk_records.specs.ReadRows.{IsStoredRolloutRow}
-use Rattle.desk_records.specs.Tables.{HoldsTables}
-use Rattle.desk_store.proofs.Known.{tables_know}
-use Rattle.desk_store.proofs.RolloutCalls.{rollout_read}
-use Rattle.desk_store.specs.Rows.{IsReadAs}
 use Rattle.desk_opening.proofs.RuleLists.{all_even, all_said, got_set, none_said, none_yet, one_more, set_same}
 use Rattle.std.proofs.Common.{set-set}
-use Rattle.desk_opening.proofs.Steps.{goes_on, left_inside, ran}
-
--- ---- what a statement leaves
-
-module _ (sql : List ℕ) (params : Row) (old new : State) {taken : Result (Option Row) Fault} (h : TakesFirst old new sql params taken) where
-  -- whatever a query answers, a crash leaves what it would have left before
-  crash_left : (kept : Stage) → Changes old Standing kept → Leaves new kept
-  crash_left = left_inside _ h.survives (λ seen db. never_shows_inside sql params old db seen.mode)
-
-  pub stays_unread : {A E : Type 0} (out : Result A E) → IsErr out → Stays old new out
-  stays_unread out bad = grind (arith, crash_left)
-
-  pub stays_read : Knows HoldsTables sql → (row : Option Row) → taken ≡ Ok row → {A E : Type 0} (out : Result A E) → Stays old new out
-  stays_read knows row is (Err e) = record { wears = h.survives.clean; steps = crash_left }
-  stays_read knows row is (Ok a) = record {
-    wears = h.survives.clean;
-    steps = λ kept was. goes_on old new Standing Standing kept was h.survives.clean (λ clean.
-        let first = was.sees.sees (omega (arith, clean, h.survives.clean)) in
-        let known = knows old.now first.now_holds.0 first.now_holds.1 in
-        let it = took HoldsTables sql params old new knows row known (subst (TakesTo old new sql params) is (h.answers clean)) in (
-          record { mode = it.0.mode ∙ first.mode; is_open = it.0.is_open; now_holds = subst (λ d. HoldsStage d Standing) (sym it.0.now_is) first.now_holds },
-          it.0.committed_is,
-        )) (crash_left kept was).crash;
-  }
-
--- a write of rows leaves the tables where they are
-standing_still : (old new : Database) → HoldsStage old Standing → new.schema ≡ old.schema → IsDatabase new → HoldsStage new Standing
-standing_still old new h same sound = (
-  λ p. new.trees (h.1.spot p).tree,
-  record {
-    sound = sound;
-    spot = h.1.spot;
-    stands = λ p. subst (λ s. Stands s (name_of p) (h.1.spot p).at (table_at p (h.1.spot p).tree)) (sym same) (h.1.stands p);
-    rows = λ p. refl;
-  },
-)
-
-pub put_stays : (params : Row) (old new : State) (out : Result (Unit {0}) Fault) → RunsText old new PUT_RULE.now params out → Stays old new out
-put_stays params old new = ran PUT_RULE.now params old new Standing Standing (λ h. tables_know (put_at put_rule_is) old.now h.0 h.1) (λ holds. refl)
-    (λ holds count w.
-    let spot = holds.1.spot Rules in
-    let made = inserts old.now.schema spot.at (rule_table spot.tree) rule_terms 6 (holds.1.stands Rules).got old new refl _ params count w in
-    (w, standing_still old.now new.now holds made.schema_is w.sound))
-
--- ---- what is read
-
-pub rollout_found : (number : ℕ) → 1 ≤ number → (old new : State) (row : Option Row) → TakesFirst old new GET_ROLLOUT.now (Int (pos number) ∷ []) (Ok row)
-    → (out : Result StoredRollout Fault) → IfOk out (λ found. IsReadAs IsStoredRolloutRow (Some found) row) → FindsLedger old new out (IsOfNumber number)
-rollout_found number least old new row h (Err e) is = record { wears = h.survives.clean; finds = tt }
-rollout_found number least old new row h (Ok found) is = finds_as (rollout_read number least old new row h (Ok (Some found)) is) (λ l same. same)
 
 -- ---- of one rollout
 
@@ -98,8 +40,10 @@ module _ (number : ℕ) (found : StoredRollout) where
   abbrev copy : GroupRule
   copy = record { percentage = None; success = found.plan.success; error = found.plan.error }
 
-  pub copies_of : (l next : Ledger) → IsOfNumber number l found → FillsRollout number l next → WritesCopies number found.plan.groups copy l next
-  copies_of l next is fills = grind (arith, same_some, option_map)
+  pub copies_of : (read : Option StoredRollout) → read ≡ Some found → (l next : Ledger)
+      → read ≡ option_map stored_rollout (item_numbered l.records.rollouts number) → FillsRollout number l next
+      → WritesCopies number found.plan.groups copy l next
+  copies_of read there l next is fills = grind (arith, same_some, option_map)
 
 -- ---- of all rollouts
 

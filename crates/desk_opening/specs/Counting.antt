@@ -3,7 +3,7 @@ use Rattle.std.specs.Prelude.{◌≡◌, ◌≢◌, ◌≤◌, ◌<◌, ◌^◌,
 use Rattle.std.specs.List.{AllByRecursion}
 use Rattle.sqlite.specs.State.{State, HasCleanDisk}
 use Rattle.sql_calls.specs.Calls.{Grows, failures_in}
-use Rattle.sql_calls.specs.Standing.{Rests, Sees}
+use Rattle.sql_calls.specs.Standing.{Rests}
 use Rattle.rollout_machine.specs.ByteStrings.{item_numbered}
 use Rattle.rollout_machine.specs.Records.{Records}
 use Rattle.rollout_machine.specs.declared.records.RolloutRecord.{RolloutRecord}
@@ -11,11 +11,15 @@ use Rattle.desk_records.specs.Holds.{HoldsLedger, Ledger}
 use Rattle.desk_records.specs.Readable.{HoldsAt}
 use Rattle.desk_records.specs.ReadRows.{broken_stored_rollout_column}
 use Rattle.desk_records.specs.Rollouts.{told_rollout}
+use Rattle.desk_records.specs.Schema.{Rollouts}
 use Rattle.desk_records.specs.declared.version.Version.{Version}
 use Rattle.sql_calls.specs.declared.calls.Calls.{Calls}
 use Rattle.sql_calls.specs.declared.fault.Fault.{Fault}
 use Rattle.sql_calls.specs.declared.fault.Fault.TheVariants as fault
 use Rattle.desk_store.specs.Blaming.{HasFailed}
+use Rattle.desk_store.specs.Breaking.{TellsFirst}
+use Rattle.desk_store.specs.Failing.{nothing}
+use Rattle.desk_store.specs.Readable.{KeepsColumns}
 use Rattle.desk_opening.specs.declared.opening.OpenFault.{OpenFault}
 use Rattle.desk_opening.specs.declared.opening.OpenFault.TheVariants as refused
 
@@ -55,19 +59,15 @@ pub record AreReadable (r : Records) : Type 0 where
   pub keep : AllByRecursion IsRolloutReadable r.rollouts
   pub few : length r.rollouts < 2 ^ 32
 
--- there is one of this number
+-- the rollouts that are held can be read, and there is one of this number
 pub record HasReadable (number : ℕ) (l : Ledger) : Type 0 where
+  pub keep : KeepsColumns Rollouts l
   pub rollout : RolloutRecord
   pub is_there : item_numbered l.records.rollouts number ≡ Some rollout
-  pub readable : IsRolloutReadable rollout
-
-abbrev pub FailsTo : (Ledger → Type 0) → {A : Type 0} → State → State → Result A Fault → Type 0
-FailsTo Given old new (Ok a) = Unit {0}
-FailsTo Given old new (Err f) = (l : Ledger) → Sees HoldsLedger old l → Given l → HasCleanDisk new → IsSound f
 
 -- where the ledger is as given, broken rows are never told
-pub record FailsGiven (Given : Ledger → Type 0) {A : Type 0} (old new : State) (result : Result A Fault) : Type 0 where
-  pub to : FailsTo Given old new result
+abbrev pub FailsGiven : (Ledger → Type 0) → {A : Type 0} → State → State → Result A Fault → Type 0
+FailsGiven Given old new result = TellsFirst HoldsLedger Given nothing old new result
 
 abbrev pub FailsAtTo : Version → {A : Type 0} → State → State → Result A Fault → Type 0
 FailsAtTo v old new (Ok a) = Unit {0}

@@ -1,51 +1,34 @@
 -- A change that fills the tables of the newest version.
-use Rattle.std.specs.Option.{option_map}
-use Rattle.std.specs.Prelude.{◌≡◌, ◌≤◌, ℕ, zero, suc, List, [], ◌∷◌, length, map, Option, Some, None, Result}
-use Rattle.sqlite_value.specs.Order.{Row}
+use Rattle.std.specs.Prelude.{◌≡◌, ◌≤◌, ℕ, zero, suc, List, [], ◌∷◌, length, map, Some, Result}
 use Rattle.sqlite.specs.State.{State}
-use Rattle.sql_calls.specs.Standing.{Finds, Makes}
+use Rattle.sql_calls.specs.Standing.{Advances, Makes}
 use Rattle.rollout_model.specs.declared.group_rule.GroupRule.{GroupRule}
 use Rattle.rollout_machine.specs.ByteStrings.{item_numbered}
 use Rattle.rollout_machine.specs.GroupRules.{even_rules}
 use Rattle.rollout_machine.specs.Ranges.{each_from}
 use Rattle.rollout_machine.specs.Records.{Records}
 use Rattle.rollout_machine.specs.declared.records.RolloutRecord.{RolloutRecord}
-use Rattle.desk_records.specs.RowFaults.{BreaksRule}
 use Rattle.desk_records.specs.Holds.{HoldsLedger, Ledger, ledger_of}
 use Rattle.desk_records.specs.LedgerSteps.{set_numbered, with_rules}
-use Rattle.desk_records.specs.ReadRows.{broken_stored_rollout_column}
-use Rattle.desk_records.specs.RolloutRow.{stored_rollout}
+use Rattle.desk_records.specs.Schema.{Rollouts}
 use Rattle.desk_records.specs.Versions.{IsTellable}
-use Rattle.desk_records.specs.declared.rollout_row.StoredRollout.{StoredRollout}
 use Rattle.desk_records.specs.declared.version.Version.{Version}
 use Rattle.desk_records.specs.declared.version.Version.TheVariants.{One, Two, Three}
+use Rattle.desk_store.specs.Readable.{KeepsColumns}
+use Rattle.desk_store.specs.Sharing.{HasTables}
 use Rattle.desk_opening.specs.Counting.{AreReadable}
-use Rattle.desk_opening.specs.Making.{Standing, Steps}
 
--- the tables stay where they are
+-- the tables stay where they are, and a crash leaves what it could leave before
 abbrev pub Stays : {A E : Type 0} → State → State → Result A E → Type 0
-Stays old new result = Steps Standing Standing old new result
-
--- the ledger answers, and stays as it is
-abbrev pub FindsLedger : {A E : Type 0} → State → State → Result A E → (Ledger → A → Type 0) → Type 0
-FindsLedger old new result Answer = Finds HoldsLedger (λ (l : Ledger). l) old new result Answer
+Stays old new result = Advances HasTables tt tt old new result
 
 -- the next ledger is made
 abbrev pub MakesLedger : {A E : Type 0} → State → State → Result A E → (Ledger → Ledger → Type 0) → Type 0
 MakesLedger old new result Change = Makes HoldsLedger (λ (l : Ledger). l) old new result Change
 
--- ---- what is read, and what is made
+-- ---- what is made
 
--- the rollout of a number, as it is stored
-abbrev pub IsOfNumber : ℕ → Ledger → StoredRollout → Type 0
-IsOfNumber number l found = Some found ≡ option_map stored_rollout (item_numbered l.records.rollouts number)
-
--- the row is not there, or one of its columns breaks its rule
-abbrev pub LacksRollout : Option Row → Type 0
-LacksRollout None = Unit {0}
-LacksRollout (Some row) = BreaksRule (broken_stored_rollout_column row)
-
--- the same of the first so many groups of a rollout of whose groups nothing is said
+-- the same is said of each of the first so many groups of a rollout of whose groups nothing is said
 pub record WritesCopies (number groups : ℕ) (rule : GroupRule) (l next : Ledger) : Type 0 where
   pub none : item_numbered l.rules number ≡ Some []
   pub next_is : next ≡ with_rules l (set_numbered l.rules number (each_from (λ i. rule) 1 groups))
@@ -79,7 +62,7 @@ pub record WritesRules (l next : Ledger) : Type 0 where
 -- nothing is said of any group yet, and the rollouts can be read
 pub record GivenRules (l : Ledger) : Type 0 where
   pub none : l.rules ≡ no_rules l.records.rollouts
-  pub readable : AreReadable l.records
+  pub keep : KeepsColumns Rollouts l
 
 -- ---- from version to version
 

@@ -12,13 +12,12 @@ use Rattle.sqlite_rules.specs.Lists.{Has}
 use Rattle.sql_front.specs.Stands.{Stands}
 use Rattle.sql_front.specs.Free.{LeavesFree}
 use Rattle.sql_calls.specs.KeyIndexes.{ComparesBytes}
-use Rattle.sql_calls.specs.Standing.{Wears, HoldIn, Rests, Sees, Spoiled}
+use Rattle.sql_calls.specs.Standing.{Advances, Wears, HoldIn, Rests}
 use Rattle.rollout_machine.specs.CommandList.{Make}
 use Rattle.rollout_machine.specs.Records.{Records, records}
 use Rattle.desk_records.specs.Schema.{Place, Offers, offer_table, table_at, name_of, desk_names}
 use Rattle.desk_records.specs.Holds.{HoldsLedger, HoldsRecords, Ledger, Spot}
 use Rattle.desk_records.specs.Readable.{HoldsAt, HoldsPlace}
-use Rattle.desk_records.specs.Tables.{HoldsTables, Tables}
 use Rattle.desk_records.specs.Targets.{are_sorted}
 use Rattle.desk_records.specs.Versions.{IsTellable, places_at}
 use Rattle.desk_records.specs.declared.version.Version.{Version}
@@ -37,8 +36,6 @@ pub data Stage : Type 0 where
   At : Version → Records → Stage
   -- beside what was there before, the first tables are there, with no row, and the names of the others are free
   Partly : Before → List Place → List Place → Stage
-  -- all tables are there, whatever rows they have
-  Standing : Stage
   -- the tables hold this ledger
   Whole : Ledger → Stage
 
@@ -72,7 +69,6 @@ abbrev pub HoldsStage : Database → Stage → Type 0
 HoldsStage db Free = IsDatabase db × LeavesFree db.schema desk_names
 HoldsStage db (At v r) = HoldsAt v db r
 HoldsStage db (Partly before made left) = HoldsPartly db before made left
-HoldsStage db Standing = (t : Tables) × HoldsTables db t
 HoldsStage db (Whole l) = HoldsLedger db l
 
 -- an open of a file with these trees finds no name of a desk
@@ -97,28 +93,9 @@ pub record Makes {A E : Type 0} (old new : State) (approval : Bool) (result : Re
   pub wears : Wears old new
   pub makes : MakesTo old new approval result
 
--- A change in which tables are made: what it sees, and what every crash leaves.
-pub record Changes (s : State) (now kept : Stage) : Type 0 where
-  pub sees : Sees HoldsStage s now
-  pub spoiled : Spoiled HoldsStage s kept
-
 -- no two of the places have the same name
 abbrev pub AreApart : List Place → Type 0
 AreApart = IsAscending (λ t u. same_name (name_of t) (name_of u) ≡ false)
-
--- every crash leaves what the change began with
-pub record Leaves (s : State) (kept : Stage) : Type 0 where
-  pub crash : HasCleanDisk s → (db : Trees) → s.may_leave db → HoldIn HoldsStage db kept
-
-abbrev pub StepsTo : {A E : Type 0} → Stage → Stage → State → State → Result A E → Type 0
-StepsTo now next old new (Ok a) = (kept : Stage) → Changes old now kept → Changes new next kept
-StepsTo now next old new (Err e) = (kept : Stage) → Changes old now kept → Leaves new kept
-
--- Whatever a call answers: Ok leaves the change open, from one stage to the next, and after an error a crash leaves what it would have left
--- before.
-pub record Steps {A E : Type 0} (now next : Stage) (old new : State) (result : Result A E) : Type 0 where
-  pub wears : Wears old new
-  pub steps : StepsTo now next old new result
 
 -- the fault alone, of a call that gives back with it what was left
 abbrev pub told : {A E X : Type 0} → Result A (E × X) → Result A E
@@ -127,4 +104,4 @@ told (Err e) = Err e.0
 
 -- these tables, within a change
 abbrev pub MakesTables : {A E : Type 0} → List Place → State → State → Result A E → Type 0
-MakesTables ts old new result = (before : Before) → Steps (Partly before [] ts) (Partly before ts []) old new result
+MakesTables ts old new result = (before : Before) → Advances HoldsStage (Partly before [] ts) (Partly before ts []) old new result

@@ -12,12 +12,12 @@ pub use Rattle.desk_store.proofs.Common.{list_targets_is, module_locked_is, nat_
 pub use Rattle.desk_store.proofs.Common.{put_group_is, put_member_is, put_module_is, put_number_is, put_piece_is, put_rollout_is, put_rule_is, put_set_is}
 pub use Rattle.desk_store.proofs.Common.{put_set_module_is, put_target_attribute_is, put_target_is, put_target_tag_is, refl, rules, set_action_is, set_group_is}
 pub use Rattle.desk_store.proofs.Common.{set_offer_is, set_rollout_is, set_target_attribute_is, set_target_is, sets_action, sets_group, sets_offer}
-pub use Rattle.desk_store.proofs.Common.{sets_rollout, slice_get_read, state, subst, suc, sym, take, true, ◌-◌, ◌∙◌, ◌∷◌, ◌≡◌}
+pub use Rattle.desk_store.proofs.Common.{sets_rollout, slice_get_read, state, StoredBytes, subst, suc, sym, take, true, ◌-◌, ◌∙◌, ◌∷◌, ◌≡◌}
 pub use Rattle.desk_store.proofs.ActionCalls.{entries_read, entry_read}
 pub use Rattle.desk_store.proofs.ArtifactCalls.{piece_read}
 pub use Rattle.desk_store.proofs.BlameLemmas.{unread}
 pub use Rattle.desk_store.proofs.EndLemmas.{commits_as_store, errors_as_store, gives_up_as_store}
-pub use Rattle.desk_store.proofs.FailLemmas.{all_fails, first_fails}
+pub use Rattle.desk_store.proofs.FailLemmas.{all_fails, first_fails, first_tells_only, tells_as}
 pub use Rattle.desk_store.proofs.GroupOfferCalls.{knows_put_group_offers}
 pub use Rattle.desk_store.proofs.Known.{in_ledgers, known}
 pub use Rattle.desk_store.proofs.LedgerReads.{both_mapped}
@@ -30,7 +30,8 @@ pub use Rattle.desk_store.proofs.RawLists.{kept_offer, rows_in_order, rows_read,
 pub use Rattle.desk_store.proofs.ReadLemmas.{all_at, first_at, few_asks, all_read, all_tell, first_tells, pick_more, read_mapped, reads_all, reads_last}
 pub use Rattle.desk_store.proofs.ReadLemmas.{reads_one, reads_whether, told_broken}
 pub use Rattle.desk_store.proofs.RolloutCalls.{approval_read, group_and_next_read, rollout_read, last_read}
-pub use Rattle.desk_store.proofs.RowFails.{approval_fails, count_fails, last_fails, next_fails, no_key}
+pub use Rattle.desk_store.proofs.RowFails.{approval_fails, count_fails, last_tells_only, last_fails, next_fails, no_key}
+pub use Rattle.desk_store.proofs.StayLemmas.{put_advances, read_keeps, read_stays}
 pub use Rattle.desk_store.proofs.TargetCalls.{rows_listed}
 pub use Rattle.desk_store.proofs.WriteCalls.{changes, drops, puts, writes}
 pub use Rattle.desk_records.proofs.ActionMeaning.{entry_columns, listed_columns, of_action, of_rollout}
@@ -54,11 +55,10 @@ pub use Rattle.desk_records.proofs.SetRecords.{adds_set, adds_set_module, finds_
 pub use Rattle.desk_records.proofs.TargetRecords.{adds_tag, adds_target, drops_tag, gets_target, lists_target_tags, lists_targets, sets_target}
 pub use Rattle.desk_records.proofs.TextColumns.{passes_text}
 pub use Rattle.desk_records.specs.ArtifactRow.{stored}
-pub use Rattle.desk_records.specs.Columns.{StoredBytes}
 pub use Rattle.desk_records.specs.ReadRows.{IsArtifactRow, IsAttributeRow, shown_attribute, shown_set_name, shown_stored_action, shown_stored_artifact}
 pub use Rattle.desk_records.specs.ReadRows.{shown_stored_target}
 pub use Rattle.desk_records.specs.RolloutRow.{stored_action}
-pub use Rattle.desk_records.specs.Schema.{Artifacts}
+pub use Rattle.desk_records.specs.Schema.{Artifacts, Rollouts}
 pub use Rattle.desk_records.specs.SetRow.{called}
 pub use Rattle.desk_records.specs.TableRows.{IsRollout}
 pub use Rattle.desk_records.specs.TargetRow.{stored_target}

@@ -1,10 +1,10 @@
 -- What broken rows are blamed on, by what was read before.
-use Rattle.desk_store.proofs.Common.{arith, ◌≡◌, Result, IfErr, Ok, Ghosts, Fault, Tables, BlamesGiven, FindsTables, HoldsTables, IfRowsBroken, IsUnreadable}
-use Rattle.desk_store.proofs.Common.{HasUnreadable, OpenChange, Reading, ReadsOf, seen_in, State, Finds, Sees, NeverBreaks}
+use Rattle.desk_store.proofs.Common.{arith, Result, IfErr, Ok, Ghosts, Fault, Tables, BlamesGiven, FindsTables, HoldsTables, IfRowsBroken, IsUnreadable}
+use Rattle.desk_store.proofs.Common.{HasUnreadable, OpenChange, Reading, ReadsOf, State, Finds, Sees}
 use Rattle.desk_store.specs.Blaming.{HoldsReading}
 use Rattle.desk_store.specs.Unreadable.{place_of}
 use Rattle.desk_store.proofs.ReadLemmas.{first_sees, ask_sees, few_sees, first_keeps, ask_keeps, few_keeps}
-use Rattle.desk_store.proofs.FailLemmas.{breaks_by, call_breaks}
+use Rattle.desk_store.proofs.FailLemmas.{breaks_by}
 
 -- what can't be read of a table that is read
 pub unread : (reading : Reading) (what : IsUnreadable reading.tables) → ReadsOf (place_of what) reading → HasUnreadable reading
@@ -28,13 +28,8 @@ found_reading read = grind (arith, to_tables, of_tables)
 
 -- ---- what is blamed
 
+-- on what was found
 module _ {S A : Type 0} {g : Ghosts S} {Given : Reading → Type 0} {old new : OpenChange S} where
-  -- nothing by a call that leaves the tables as they are
-  pub call_blames : (out : Result A Fault) → NeverBreaks g new out
-      → ((x : A) → out ≡ Ok x → (t : Tables) → Sees HoldsTables (seen_in g old) t → Sees HoldsTables (seen_in g new) t) → BlamesGiven g Given old new out
-  call_blames out sound keeps = call_breaks out sound (λ x is reading seen. of_tables reading (keeps x is reading.tables (to_tables reading seen)))
-
-  -- on what was found
   pub blamed : {B : Type 0} {x : A} {P : Tables → A → Type 0} → FindsTables g {E = Fault} old new (Ok x) P → (out : Result B Fault)
       → IfErr out (λ fault. IfRowsBroken fault ((reading : Reading) → P reading.tables x → Given reading → HasUnreadable reading))
       → BlamesGiven g Given old new out

@@ -2,33 +2,35 @@
 use Rattle.desk_store.proofs.Common.{take-append-drop, arith, Place, ◌≡◌, ℕ, inl, List, ◌∷◌, take, drop, map, Option, Some, None, Ok, Result, IfErr, Vec, refl}
 use Rattle.desk_store.proofs.Common.{sym, ap, subst, ◌∙◌, Global, Row, Query, Output, page, Database, Ghosts, Has, has_filtered, Fault, AsksText, TakesFirst}
 use Rattle.desk_store.proofs.Common.{ShowsFirst, first_finds, ask_finds, ordered_rows, passes, shown_in, shown_of, HoldsLedger, Ledger, HoldsTables, Tables}
-use Rattle.desk_store.proofs.Common.{IfRowsBroken, HasBroken, seen_in, OpenChange, Finds, Sees, Broken, NeverBreaks, rows_of, has_mapped, FindsLedger, FailsIn}
+use Rattle.desk_store.proofs.Common.{IfRowsBroken, HasBroken, seen_in, OpenChange, State, Finds, Broken, rows_of, has_mapped, FindsLedger, FailsIn}
 use Rattle.desk_store.proofs.Common.{IsReadable, IsBroken, BreaksColumn, Asks}
 use Rattle.sqlite_rules.proofs.ListLemmas.{has_right, has_front}
-use Rattle.desk_store.specs.Breaking.{BreaksFirst, BreaksOnly}
+use Rattle.desk_store.specs.Breaking.{BreaksFirst, BreaksOnly, BreaksTo, TellsOnly}
+use Rattle.desk_store.specs.Failing.{nothing}
+use Rattle.desk_store.specs.Readable.{KeepsColumns}
 use Rattle.desk_store.proofs.Known.{over, answer_of, in_ledgers, known}
-use Rattle.std.specs.Prelude.{◌≢◌}
 use Rattle.sqlite.specs.Effect.{Reads as Shows}
 use Rattle.std.proofs.lemmas.List.Sorted.{IsPermutation-sym}
 use Rattle.sqlite.specs.Term.{eval}
 use Rattle.desk_records.proofs.Membership.{has_permuted}
 
--- ---- one call
-
-module _ {S : Type 0} {g : Ghosts S} {old new : OpenChange S} where
-  module _ {R : Type 0} {Holds : Database → R → Type 0} {Given Why : R → Type 0} where
-    -- a query that leaves what is seen as it is
-    pub call_breaks : {A : Type 0} (out : Result A Fault) → NeverBreaks g new out
-        → ((x : A) → out ≡ Ok x → (r : R) → Sees Holds (seen_in g old) r → Sees Holds (seen_in g new) r) → BreaksOnly g Holds Given Why old new out
-    call_breaks out sound keeps = grind arith
-
 -- ---- by what was found
+
+module _ {B R : Type 0} {Holds : Database → R → Type 0} {Given Why : R → Type 0} {old new : State} where
+  pub tells_by : {A : Type 0} {x : A} {P : R → A → Type 0} → Finds Holds (λ (r : R). r) {E = Fault} old new (Ok x) P → (out : Result B Fault)
+      → IfErr out (λ fault. IfRowsBroken fault ((r : R) → P r x → Given r → Why r)) → TellsOnly Holds Given Why old new out
+  tells_by read out why = grind arith
+
+  -- where less is given
+  pub tells_as : {Asked : R → Type 0} → ((r : R) → Given r → Asked r) → (out : Result B Fault) → TellsOnly Holds Asked Why old new out
+      → BreaksTo Holds Given Why old new out
+  tells_as so out told = grind arith
 
 module _ {S A B R : Type 0} {g : Ghosts S} {Holds : Database → R → Type 0} {Given Why : R → Type 0} {old new : OpenChange S} {x : A} {P : R → A → Type 0} where
   -- what was found leaves no broken row but for this
   pub breaks_by : Finds Holds (λ (r : R). r) {E = Fault} (seen_in g old) (seen_in g new) (Ok x) P → (out : Result B Fault)
       → IfErr out (λ fault. IfRowsBroken fault ((r : R) → P r x → Given r → Why r)) → BreaksOnly g Holds Given Why old new out
-  breaks_by read out why = grind arith
+  breaks_by read out why = record { to = (tells_by read out why).to }
 
   pub breaks_first_by : Finds Holds (λ (r : R). r) {E = Fault} (seen_in g old) (seen_in g new) (Ok x) P → (out : Result B Fault)
       → IfErr out (λ fault. IfRowsBroken fault ((r : R) → P r x → Given r → Why r)) → BreaksFirst g Holds Given Why old new out
@@ -82,27 +84,31 @@ module _ {p : Place} {sql : List ℕ} {query : ℕ → Query} {names : List (Lis
   -- .. which can be read
   module _ (is_broken : Row → Type 0) {params : Row} (rule : (row : Row) → is_broken (shown_of (query 0).project params row) → BreaksColumn p row) where
     kept : (db : Database) (l : Ledger) (holds : HoldsLedger db l) (shown : List Row) → Shows (in_ledgers (known text) db l holds).command db params shown
-        → IsReadable l → (x : Row) → Has shown x → is_broken x → ⊥
-    kept db l holds shown shows readable x among broken =
+        → KeepsColumns p l → (x : Row) → Has shown x → is_broken x → ⊥
+    kept db l holds shown shows keeps x among broken =
         let its = from_table params db (rows_of db l holds) (tables_of db l holds) shown shows x among in
-        readable.keep p (db.trees (holds.spot p).tree) (holds.rows p) its.0 its.1 (rule its.0 (subst is_broken its.2 broken))
+        keeps (db.trees (holds.spot p).tree) (holds.rows p) its.0 its.1 (rule its.0 (subst is_broken its.2 broken))
+
+    -- the first row
+    pub first_tells_only : {B : Type 0} {old new : State} {row : Option Row} → TakesFirst old new sql params (Ok row) → (out : Result B Fault)
+        → IfErr out (λ fault. IfRowsBroken fault (IsBroken is_broken row)) → TellsOnly HoldsLedger (KeepsColumns p) nothing old new out
+    first_tells_only {old = old} {new = new} {row = row} h out broken = tells_by {P = λ l u. KeepsColumns p l → IsBroken is_broken row → ⊥}
+        (first_finds HoldsLedger (λ (l : Ledger). l) sql params old new _ (in_ledgers (known text)) (λ db l holds at given. tt) row h (Ok (tt {0}))
+        (λ db l holds shown. go db l holds row shown)) out (broken_so (λ is l never keeps. never keeps is) out broken)
+      where
+        go : (db : Database) (l : Ledger) (holds : HoldsLedger db l) (row : Option Row) → ShowsFirst (in_ledgers (known text) db l holds).command db params
+            row → KeepsColumns p l → IsBroken is_broken row → ⊥
+        go db l holds None shown keeps b = b
+        go db l holds (Some x) shown keeps b = kept db l holds (x ∷ shown.0) shown.1 keeps x (inl refl) b
 
     module _ {S B : Type 0} {g : Ghosts S} {old new : OpenChange S} where
-      -- the first row
       pub first_fails : {row : Option Row} → TakesFirst (seen_in g old) (seen_in g new) sql params (Ok row) → (out : Result B Fault)
           → IfErr out (λ fault. IfRowsBroken fault (IsBroken is_broken row)) → FailsIn g old new out
-      first_fails {row} h = never_by {Spoiled = IsBroken is_broken row}
-          (first_finds HoldsLedger (λ (l : Ledger). l) sql params (seen_in g old) (seen_in g new) _ (in_ledgers (known text))
-          (λ db l holds at given. tt) row h (Ok (tt {0})) (λ db l holds shown. go db l holds row shown))
-        where
-          go : (db : Database) (l : Ledger) (holds : HoldsLedger db l) (row : Option Row) → ShowsFirst (in_ledgers (known text) db l holds).command db params
-              row → IsReadable l → IsBroken is_broken row → ⊥
-          go db l holds None shown readable b = b
-          go db l holds (Some x) shown readable b = kept db l holds (x ∷ shown.0) shown.1 readable x (inl refl) b
+      first_fails h out broken = record { to = tells_as (λ l readable. readable.keep p) out (first_tells_only h out broken) }
 
       -- each row
       pub all_fails : {rows : Vec Row Global} → AsksText (seen_in g old) (seen_in g new) sql params (Ok rows) → (out : Result B Fault)
           → IfErr out (λ fault. IfRowsBroken fault (HasBroken is_broken rows.items)) → FailsIn g old new out
       all_fails {rows} h = never_by {Spoiled = HasBroken is_broken rows.items}
           (ask_finds HoldsLedger (λ (l : Ledger). l) sql params (seen_in g old) (seen_in g new) _ (in_ledgers (known text)) rows h
-          (Ok (tt {0})) (λ db l holds shown readable b. kept db l holds rows.items shown readable b.row b.among b.broken))
+          (Ok (tt {0})) (λ db l holds shown readable b. kept db l holds rows.items shown (readable.keep p) b.row b.among b.broken))

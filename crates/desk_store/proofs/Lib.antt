@@ -17,6 +17,7 @@ mod RawCalls
 mod RawLists
 pub mod BlameLemmas
 pub mod FailLemmas
+mod StayLemmas
 mod RowFails
 mod RawBlames
 pub mod ReadableTargets

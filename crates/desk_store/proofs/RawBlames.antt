@@ -1,5 +1,5 @@
 -- What a failed read of a table is blamed on.
-use Rattle.desk_store.proofs.FailLemmas.{told_alone, broken_so, from_table}
+use Rattle.desk_store.proofs.FailLemmas.{told_alone, broken_so, from_table, tells_by}
 use Rattle.std.specs.Prelude.{◌&&◌}
 use Rattle.desk_store.proofs.Common.{◌≡◌, ◌≤◌, ◌<◌, ◌⊎◌, ◌^◌, inl, inr, ℕ, min, pos, negsuc, Bool, true, false, not, List, [], ◌∷◌, length, Option, Some, None}
 use Rattle.desk_store.proofs.Common.{Ok, Result, IfErr, Vec, refl, subst, arith, and_parts, nat_tests, number_in_good, number_in_is, Global, Value, Null, Int}
@@ -7,12 +7,15 @@ use Rattle.desk_store.proofs.Common.{Row, column, Database, Query, Ghosts, lit, 
 use Rattle.desk_store.proofs.Common.{Rollouts, HoldsTables, Tables, are_entries, is_too_long, is_wide, first_broken, number_in, broken_stored_action_column}
 use Rattle.desk_store.proofs.Common.{broken_offer_column, Offer, Column, StoredAction, LAST_ROLLOUT, LIST_PLACES, count_shown, list_places_is, of_rollout}
 use Rattle.desk_store.proofs.Common.{placed_columns, places_query, BlamesGiven, seen_in, HasBroken, HasNoNumber, IfRowsBroken, large_number, many_rows}
-use Rattle.desk_store.proofs.Common.{OpenChange, last_rollout_is, HasUnreadable, Reading, ReadsOf, Broken, Asks, Counts, counted_at, columns_of_stored_action}
+use Rattle.desk_store.proofs.Common.{OpenChange, State, last_rollout_is, HasUnreadable, Reading, ReadsOf, Broken, Asks, Counts, counted_at}
+use Rattle.desk_store.proofs.Common.{columns_of_stored_action}
 use Rattle.std.proofs.lemmas.List.Filters.{length-filter_both}
 use Rattle.sqlite.specs.Effect.{Reads as Shows}
 use Rattle.desk_records.specs.TableRows.{IsAction, IsOffer}
-use Rattle.desk_store.proofs.BlameLemmas.{blamed, unread}
+use Rattle.desk_store.proofs.BlameLemmas.{blamed, found_reading, unread}
 use Rattle.desk_records.specs.ReadRows.{columns_of_offer}
+use Rattle.desk_store.specs.Blaming.{HoldsReading}
+use Rattle.desk_store.specs.Breaking.{TellsOnly}
 use Rattle.desk_store.proofs.Known.{known, tables_know}
 use Rattle.desk_store.proofs.RawCalls.{count_shown as row_of_count}
 use Rattle.desk_store.proofs.ReadLemmas.{all_tell, first_tells}
@@ -105,23 +108,24 @@ module _ {S : Type 0} {g : Ghosts S} {old new : OpenChange S} where
           many (min (length (t p)) 9223372036854775807) (length (t p))
           (λ same few. (subst HasNoNumber is none) (omega arith) (min (length (t p)) 9223372036854775807) few refl) refl
 
-  pub last_blamed : {row : Option Row} → TakesFirst (seen_in g old) (seen_in g new) LAST_ROLLOUT.now [] (Ok row) → (out : Result ℕ Fault)
-      → IfErr out (λ fault. IfRowsBroken fault (HasNoNumber row)) → BlamesGiven g (ReadsOf Rollouts) old new out
-  last_blamed {row} h out broken =
-      blamed (first_tells (known last_rollout_is) {Answer = λ t u. IsOfRollout t row} {Read = λ u. Unit {0}} (λ db t holds at given. tt)
-      (λ db t holds shows u is. rollout_of db t holds row shows) h (Ok (tt {0})) tt) out
-      (broken_so (λ none reading its given. unreadable reading row none its given) out broken)
-    where
-      IsOfRollout : Tables → Option Row → Type 0
-      IsOfRollout t None = Unit {0}
-      IsOfRollout t (Some shown) = (its : Row) × Has (t Rollouts) its × (shown ≡ column its 0 ∷ [])
+-- the row of the last rollout
+pub last_blamed : {old new : State} {row : Option Row} → TakesFirst old new LAST_ROLLOUT.now [] (Ok row) → (out : Result ℕ Fault)
+    → IfErr out (λ fault. IfRowsBroken fault (HasNoNumber row)) → TellsOnly HoldsReading (ReadsOf Rollouts) HasUnreadable old new out
+last_blamed {row = row} h out broken =
+    tells_by (found_reading (first_tells (known last_rollout_is) {Answer = λ t u. IsOfRollout t row} {Read = λ u. Unit {0}} (λ db t holds at given. tt)
+    (λ db t holds shows u is. rollout_of db t holds row shows) h (Ok (tt {0})) tt)) out
+    (broken_so (λ none reading its given. unreadable reading row none its given) out broken)
+  where
+    IsOfRollout : Tables → Option Row → Type 0
+    IsOfRollout t None = Unit {0}
+    IsOfRollout t (Some shown) = (its : Row) × Has (t Rollouts) its × (shown ≡ column its 0 ∷ [])
 
-      rollout_of : (db : Database) (t : Tables) (holds : HoldsTables db t) (row : Option Row)
-          → ShowsFirst ((known last_rollout_is) db t holds).command db [] row → IsOfRollout t row
-      rollout_of db t holds None shows = tt
-      rollout_of db t holds (Some shown) shows = from_table last_rollout_is [] db t holds (shown ∷ shows.0) shows.1 shown (inl refl)
+    rollout_of : (db : Database) (t : Tables) (holds : HoldsTables db t) (row : Option Row)
+        → ShowsFirst ((known last_rollout_is) db t holds).command db [] row → IsOfRollout t row
+    rollout_of db t holds None shows = tt
+    rollout_of db t holds (Some shown) shows = from_table last_rollout_is [] db t holds (shown ∷ shows.0) shows.1 shown (inl refl)
 
-      unreadable : (reading : Reading) (row : Option Row) → HasNoNumber row → IsOfRollout reading.tables row → ReadsOf Rollouts reading → HasUnreadable reading
-      unreadable reading None none its given = absurd none
-      unreadable reading (Some shown) none its given =
-          unread reading (large_number its.0 its.1 (no_number (column its.0 0) (subst (λ x. HasNoNumber (Some x)) its.2 none (omega arith)))) given
+    unreadable : (reading : Reading) (row : Option Row) → HasNoNumber row → IsOfRollout reading.tables row → ReadsOf Rollouts reading → HasUnreadable reading
+    unreadable reading None none its given = absurd none
+    unreadable reading (Some shown) none its given =
+        unread reading (large_number its.0 its.1 (no_number (column its.0 0) (subst (λ x. HasNoNumber (Some x)) its.2 none (omega arith)))) given

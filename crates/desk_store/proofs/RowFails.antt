@@ -1,8 +1,9 @@
 -- Why the rows of numbers, of the desk and of the next offer are no failed store by themselves.
-use Rattle.desk_store.proofs.FailLemmas.{breaks_first_by, told_alone, broken_so, first_fails, never_by, tables_of}
+use Rattle.desk_store.proofs.FailLemmas.{breaks_first_by, told_alone, broken_so, first_tells_only, never_by, tables_of, tells_as}
 use Rattle.desk_store.proofs.Common.{◌≡◌, ◌⊎◌, ◌≤◌, ◌<◌, ◌^◌, ◌+◌, ℕ, suc, min, length, pos, Bool, true, false, List, [], ◌∷◌, Option, Some, None, option_map}
 use Rattle.desk_store.proofs.Common.{Ok, Result, IfErr, arith, is_some, Value, Int, Text, Row, column, has_size, Fault, TakesFirst, first_finds, shown_of}
 use Rattle.desk_store.proofs.Common.{Ghosts, HoldsLedger, Ledger, IfRowsBroken, HasNoNumber, BreaksRule, broken_offer_column, is_number, seen_in, OpenChange}
+use Rattle.desk_store.proofs.Common.{State}
 use Rattle.desk_store.proofs.Common.{COUNT_TARGETS, GET_DESK, NEXT_OFFER, Targets, get_desk_is, count_targets_is, counted_at, Place, Query, shown_offer, Broken}
 use Rattle.desk_store.proofs.Common.{nat_tests, Offer, Bytes, ActionRecord, next_offer, gets_desk, told_desk, rows_of, gets_next_offer, is_number_in}
 use Rattle.desk_store.proofs.Common.{FindsLedger, FailsIn, IsBroken, Asks, BreaksColumn}
@@ -10,7 +11,9 @@ use Rattle.rollout_machine.specs.declared.records.RolloutRecord.{RolloutRecord}
 use Rattle.rollout_model.specs.Limits.{number_limit}
 use Rattle.desk_records.specs.NextOffers.{next_offer_from}
 use Rattle.desk_records.proofs.NumberColumns.{is_in_range, small_is}
-use Rattle.desk_store.specs.Failing.{FailsSeeing, AreActionsNumbered}
+use Rattle.desk_store.specs.Breaking.{TellsOnly}
+use Rattle.desk_store.specs.Failing.{FailsSeeing, AreActionsNumbered, nothing}
+use Rattle.desk_store.specs.Readable.{KeepsColumns}
 use Rattle.desk_store.specs.Rows.{HasNoApproval}
 use Rattle.desk_store.proofs.Known.{in_ledgers, known, tables_know}
 use Rattle.desk_store.proofs.NextOfferCalls.{next}
@@ -25,12 +28,16 @@ pub no_key : (row : Row) → HasNoNumber (Some (column row 0 ∷ [])) → HasNoK
 no_key row unread = no_size (column row 0) (unread (omega arith))
 
 -- as the first row of its text
-pub last_fails : {p : Place} {sql : List ℕ} {query : ℕ → Query} {names : List (List ℕ)} (text : Asks p sql query names) {params : Row}
-    → ((row : Row) → HasNoNumber (Some (shown_of (query 0).project params row)) → BreaksColumn p row)
-    → {S : Type 0} {g : Ghosts S} {old new : OpenChange S} {row : Option Row} → TakesFirst (seen_in g old) (seen_in g new) sql params (Ok row)
-    → (out : Result ℕ Fault) → IfErr out (λ fault. IfRowsBroken fault (HasNoNumber row)) → FailsIn g old new out
-last_fails text rule {row = row} h out broken = first_fails text (λ r. HasNoNumber (Some r)) rule h out
-    (broken_so {Spoiled = HasNoNumber row} {Why = IsBroken (λ r. HasNoNumber (Some r)) row} (λ is. grind arith) out broken)
+module _ {p : Place} {sql : List ℕ} {query : ℕ → Query} {names : List (List ℕ)} (text : Asks p sql query names) {params : Row}
+    (rule : (row : Row) → HasNoNumber (Some (shown_of (query 0).project params row)) → BreaksColumn p row) where
+  pub last_tells_only : {old new : State} {row : Option Row} → TakesFirst old new sql params (Ok row) → (out : Result ℕ Fault)
+      → IfErr out (λ fault. IfRowsBroken fault (HasNoNumber row)) → TellsOnly HoldsLedger (KeepsColumns p) nothing old new out
+  last_tells_only {row = row} h out broken = first_tells_only text (λ r. HasNoNumber (Some r)) rule h out
+      (broken_so {Spoiled = HasNoNumber row} {Why = IsBroken (λ r. HasNoNumber (Some r)) row} (λ is. grind arith) out broken)
+
+  pub last_fails : {S : Type 0} {g : Ghosts S} {old new : OpenChange S} {row : Option Row} → TakesFirst (seen_in g old) (seen_in g new) sql params (Ok row)
+      → (out : Result ℕ Fault) → IfErr out (λ fault. IfRowsBroken fault (HasNoNumber row)) → FailsIn g old new out
+  last_fails h out broken = record { to = tells_as (λ l readable. readable.keep p) out (last_tells_only h out broken) }
 
 -- as the row of a count of targets
 never_many : (size : ℕ) (row : Option Row) → row ≡ Some (Int (pos (min size 9223372036854775807)) ∷ []) → size < 2 ^ 32 → (row ≡ None) ⊎ HasNoNumber row → ⊥

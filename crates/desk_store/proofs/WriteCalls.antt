@@ -25,15 +25,11 @@ module _ {p : Place} {sql : List ℕ} where
 -- ---- what it makes of the ledger
 
 module _ {Q : Type 0} {of : Q → Ledger} {sql : List ℕ} {params : Row} {old new : State} {Step : Q → Q → Type 0} (text : KnowsWrite HoldsLedger sql) where
-  pub written : ((count : ℕ) (now next : Q) (holds : HoldsLedger old.now (of now)) → Step now next
-      → Runs old new None (text.knows old.now (of now) holds).command (statement_of sql (understood old.now.schema sql)) params count
-      → HoldsLedger new.now (of next)) → (out : Result (Unit {0}) Fault) → RunsText old new sql params out → Makes HoldsLedger of old new out Step
-  written step out h = run_makes HoldsLedger of sql params old new Step text.knows out h (λ now next change holds count runs.
-      (is_written old new _ _ params count (text.rows old.now (of now) holds) runs, step count now next holds change runs))
-
-  -- .. where what was given comes to these parameters
+  -- where what was given comes to these parameters
   pub writes : ((count : ℕ) (now next : Q) (holds : HoldsLedger old.now (of now)) → Step now next
       → Runs old new None (text.knows old.now (of now) holds).command (statement_of sql (understood old.now.schema sql)) params count
       → HoldsLedger new.now (of next)) → {out : Result (Unit {0}) Fault} {given : Row} → RunsText old new sql given out → given ≡ params
       → Makes HoldsLedger of old new out Step
-  writes step {out} h same = written step out (subst (λ its. RunsText old new sql its out) same h)
+  writes step {out} h same = run_makes HoldsLedger of sql params old new Step text.knows out (subst (λ its. RunsText old new sql its out) same h)
+      (λ now next change holds count runs.
+      (is_written old new _ _ params count (text.rows old.now (of now) holds) runs, step count now next holds change runs))

@@ -14,3 +14,4 @@ pub mod Blaming
 pub mod BrokenRows
 pub mod Readable
 pub mod Failing
+pub mod Sharing

@@ -14,6 +14,7 @@ mod members;
 mod modules;
 mod numbers;
 mod offers;
+mod over_calls;
 mod raw_actions;
 mod raw_artifacts;
 mod raw_groups;
@@ -32,7 +33,7 @@ mod targets;
 
 pub use crate::change::OpenChange;
 pub use crate::groups::GroupAndNext;
-pub use crate::reading::last_number;
+pub use crate::over_calls::{read_last_rollout, read_rollout, write_rule};
 pub use crate::store::DeskStore;
 pub use desk_records::{
     CheckedArtifact, CountedAction, LastNumber, ListedAction, ListedTarget, NewEntry, OwnedOffer,

@@ -14,7 +14,7 @@ use sqlite::Row;
 use std::alloc::Global;
 
 /// The number in the row of the last number, and 0 where there is none.
-pub fn last_number(row: Option<Row>) -> Result<u32, Fault>
+pub(crate) fn last_number(row: Option<Row>) -> Result<u32, Fault>
     ensures ok { IfOk result (λ n. IsLastRow n row) }
     ensures err { IfErr result (λ fault. IfRowsBroken fault (HasNoNumber row)) }
 {

@@ -19,10 +19,9 @@ ghost use Rattle.desk_store.specs.Failing.{FailsIn, WritesIn};
 
 use crate::change::OpenChange;
 use crate::codes::{code_of_approval, flag_code};
-use crate::reading::{approval_in, last_number, read_optional};
-use desk_records::{
-    FIND_ROLLOUT, GET_DESK, GET_ROLLOUT, LAST_ROLLOUT, PUT_ROLLOUT, SET_ROLLOUT, StoredRollout,
-};
+use crate::over_calls::{read_last_rollout, read_rollout};
+use crate::reading::approval_in;
+use desk_records::{FIND_ROLLOUT, GET_DESK, PUT_ROLLOUT, SET_ROLLOUT, StoredRollout};
 use rollout_model::{Approval, RolloutNo, RolloutPlan, Text};
 use sql_calls::Fault;
 use sqlite::{Alter, params};
@@ -59,8 +58,7 @@ impl<'a, S: Alter> OpenChange<'a, S> {
         ensures blames { BlamesGiven S.Store (ReadsOf Rollouts) self.old self.new result }
         ensures work { AddsIn 1 1 self.old self.new }
     {
-        let row = self.first(LAST_ROLLOUT, &[])?;
-        last_number(row)
+        read_last_rollout(&mut self.store.calls)
     }
 
     /// The rollout of a number, without its members and groups. A row that breaks a column's rule is a failed store.
@@ -72,8 +70,7 @@ impl<'a, S: Alter> OpenChange<'a, S> {
         ensures work { AddsIn 1 1 self.old self.new }
     {
         let alloc = self.store.alloc;
-        let row = self.first(GET_ROLLOUT, params![number.get()])?;
-        read_optional(alloc, row)
+        read_rollout(alloc, &mut self.store.calls, number.get())
     }
 
     /// Adds the rollout of the next number, which is neither started nor paused and has no members and groups yet.

@@ -8,20 +8,12 @@ ghost use Rattle.desk_store.specs.Counting.{AddsIn};
 ghost use Rattle.desk_store.specs.Failing.{FailsIn, WritesIn};
 
 use crate::change::OpenChange;
+use crate::over_calls::write_rule;
 use crate::reading::{read_all, read_optional};
-use desk_records::{GET_RULE, LIST_RULES, PUT_RULE};
-use rollout_model::{GroupRule, Percentage, RolloutNo};
+use desk_records::{GET_RULE, LIST_RULES};
+use rollout_model::{GroupRule, RolloutNo};
 use sql_calls::Fault;
 use sqlite::{Alter, params};
-
-fn percent_of(percentage: &Option<Percentage>) -> Option<u32>
-    ensures { result ≡ percentage.now }
-{
-    match percentage {
-        Some(percentage) => Some(u32::from(percentage.get())),
-        None => None,
-    }
-}
 
 impl<'a, S: Alter> OpenChange<'a, S> {
     /// What is said of the group of a rollout and a number. A row that breaks a column's rule is a failed store.
@@ -60,12 +52,6 @@ impl<'a, S: Alter> OpenChange<'a, S> {
         ensures writes { MakesLedger S.Store self.old self.new result (AddsRule number group rule.now) }
         ensures work { AddsIn 1 0 self.old self.new }
     {
-        let percentage = percent_of(&rule.percentage);
-        let success = u32::from(rule.success.get());
-        let error = u32::from(rule.error.get());
-        self.run(
-            PUT_RULE,
-            params![number.get(), group, percentage, success, error],
-        )
+        write_rule(&mut self.store.calls, number.get(), group, rule)
     }
 }

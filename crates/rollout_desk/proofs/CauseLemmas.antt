@@ -42,7 +42,7 @@ module _ {S : Type 0} (g : Ghosts S) (old : Calls S) (begun read : OpenChange S)
   -- a fault inside, told by what was made of it
   pub failed_inside : {R : Type 0} {store : R} (Given : Ledger → Type 0) (fault : Fault) (made reply : R) → (made ≡ store → (fault ≡ Store) ⊎ (fault ≡ Broken))
       → Grows (failures_of fault) begun.store.now.calls read.store.now.calls
-      → ((l : Ledger) → Sees HoldsLedger (seen_in g begun) l → Given l → HasReason g read ⊥ fault)
+      → ((l : Ledger) → Sees HoldsLedger (seen_in g begun) l → Given l → HasReason (seen_in g read) ⊥ fault)
       → ((h : CommandList) → IsValid h → IsReadable (ledger_of (records h)) → AreCounted (records h) → Given (ledger_of (records h)))
       → (reply ≡ made) ⊎ HasFailed read.store.now.calls.failures end.failures → reply ≡ store → FailsByCalls g old end
   failed_inside h0 fault made reply named grows breaks given h8 is h clean counted stands = grind (arith, failed_within, shown, readable)

@@ -1,7 +1,7 @@
 -- What one statement of a change answers, and what it makes of what the change sees.
-use Rattle.sql_calls.proofs.Common.{◌≡◌, ℕ, List, [], ◌∷◌, Vec, Option, Some, None, Result, Ok, Err, IfOk, subst, ◌∙◌, arith, Global, Row, Command, Database}
-use Rattle.sql_calls.proofs.Common.{understood, State, IsUnchanged, Runs, Writes, EndsIn, statement_of, Fault, RunsText, AsksText, AsksFew, TakesFirst, TakesTo}
-use Rattle.sql_calls.proofs.Common.{few_of, Known, Knows, Finds, Makes, HasCleanDisk}
+use Rattle.sql_calls.proofs.Common.{ℕ, List, [], ◌∷◌, Vec, Option, Some, None, Result, Ok, Err, IfOk, ◌∙◌, arith, Global, Row, Command, Database}
+use Rattle.sql_calls.proofs.Common.{understood, State, IsUnchanged, Runs, Writes, EndsIn, statement_of, Fault, RunsText, AsksText, TakesFirst, TakesTo}
+use Rattle.sql_calls.proofs.Common.{Known, Knows, Finds, Makes, HasCleanDisk}
 use Rattle.sql_calls.specs.Standing.{Wears}
 use Rattle.sqlite.specs.Effect.{Reads as Shows}
 use Rattle.sql_calls.proofs.Framing.{took}
@@ -19,10 +19,6 @@ took_row sql params old new (Some row) k last h =
     (shown.0, shows_as sql k.command params old new k.means (row ∷ shown.0) shown.1)
 took_row sql params old new None k last h = shows_as sql k.command params old new k.means [] (none_shown sql k.command params old new k.means h)
 
--- few rows are all of the answer
-few_kept : (most : ℕ) (rows : Vec Row Global) (answer : Result (Vec Row Global) Fault) → Ok rows ≡ few_of most answer → answer ≡ Ok rows
-few_kept most rows answer e = grind arith
-
 module _ {R Q : Type 0} (Holds : Database → R → Type 0) (of : Q → R) (sql : List ℕ) (params : Row) (old new : State) where
   module _ {A E : Type 0} (Answer : Q → A → Type 0) (knows : Knows Holds sql) where
     -- what is unchanged, and answers by what was held
@@ -39,11 +35,6 @@ module _ {R Q : Type 0} (Holds : Database → R → Type 0) (of : Q → R) (sql 
           unchanged_by sql k.command params old new k.means rows.items (h.answers clean),
           answers old.now now holds (shows_as sql k.command params old new k.means rows.items (h.answers clean)),
         ))
-
-    pub few_finds : (most : ℕ) (rows : Vec Row Global) → AsksFew old new sql params most (Ok rows) → (out : Result A E)
-        → IfOk out (λ a. (db : Database) (now : Q) (holds : Holds db (of now)) → Shows (knows db (of now) holds).command db params rows.items → Answer now a)
-        → Finds Holds of old new out Answer
-    few_finds most rows h = ask_finds rows (subst (AsksText old new sql params) (few_kept most rows h.answer h.few) h.asks)
 
     pub first_finds : ((db : Database) (r : R) (holds : Holds db r) (at : Database) (given : Row) → EndsIn (knows db r holds).command at given)
         → (row : Option Row) → TakesFirst old new sql params (Ok row) → (out : Result A E)

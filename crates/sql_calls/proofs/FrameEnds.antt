@@ -105,13 +105,21 @@ module _ {R : Type 0} (Holds : Database → R → Type 0) (sql : List ℕ) (old 
     unfolding CommitsBy
     commits_now db inside h = grind (arith, both_ways)
 
-    pub not_committed : (now kept : R) → Sees Holds old now → Spoiled Holds old kept → (fault : Fault) → RunsText old new sql [] (Err fault) → HasCleanDisk new
-        → IsInDoubt Holds new kept now
-    not_committed now kept was held fault h clean = grind (arith, commits_now)
+    pub not_committed : (now kept : R) → Sees Holds old now → (HasCleanDisk old → (db : Trees) → old.may_leave db → HoldIn Holds db kept) → (fault : Fault)
+        → RunsText old new sql [] (Err fault) → HasCleanDisk new → IsInDoubt Holds new kept now
+    not_committed now kept was left fault h clean =
+        let before : HasCleanDisk old = omega (arith, h.survives.clean, clean) in
+        let first = was.sees before in record {
+          crash = λ db at. elim (h.survives.crash clean db at) [
+            | inl stood ↦ inl (left before db stood)
+            | inr made ↦ inr (subst (λ t. HoldIn Holds t now) (sym (commits_now db first.mode made)) (old.now.schema, first.now_holds))
+          ];
+        }
 
     pub commits : (out : Result (Unit {0}) Fault) → RunsText old new sql [] out → IsSettled new → Commits Holds old new out
     commits (Ok _) h settled = record { wears = h.survives.clean; commits = λ now was. committed_rests now was h settled }
-    commits (Err fault) h settled = record { wears = h.survives.clean; commits = λ now kept was held. not_committed now kept was held fault h }
+    commits (Err fault) h settled =
+        record { wears = h.survives.clean; commits = λ now kept was held. not_committed now kept was (λ clean. (held.spoiled clean).crash) fault h }
 
   -- ---- it is given up
 

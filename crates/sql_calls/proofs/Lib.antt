@@ -4,6 +4,7 @@ pub mod Leavings
 pub mod Framing
 pub mod Finding
 pub mod FrameEnds
+pub mod Stepping
 pub mod Composing
 pub mod Selects
 pub mod Inserts

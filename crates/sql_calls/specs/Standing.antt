@@ -79,6 +79,12 @@ module _ {R : Type 0} (Holds : Database → R → Type 0) where
   pub record Sees (s : State) (now : R) : Type 0 where
     pub sees : HasCleanDisk s → IsSeeing s now
 
+  -- Whatever a call answers: Ok leaves the change open, from what it saw to what it sees next, and a crash leaves what it could leave before.
+  pub record Advances {A E : Type 0} (now next : R) (old new : State) (result : Result A E) : Type 0 where
+    pub wears : Wears old new
+    pub sees : IfOk result (λ a. Sees old now → Sees new next)
+    pub crash : Sees old now → HasCleanDisk new → (db : Trees) → new.may_leave db → old.may_leave db
+
   module _ {Q : Type 0} (of : Q → R) where
     -- a read answers by what the change sees, and changes nothing
     pub record Finds {A E : Type 0} (old new : State) (result : Result A E) (Answer : Q → A → Type 0) : Type 0 where

@@ -2,11 +2,11 @@ use Rattle.desk_opening.proofs.Common.{arith, rules}
 use Rattle.desk_opening.proofs.FailLemmas.{rules_fail}
 use Rattle.desk_opening.proofs.FillLemmas.{all_filled, nothing_yet, one_filled_more}
 use Rattle.sql_calls.proofs.Composing.{found_then_makes, makes_nothing, makes_then}
-use Rattle.desk_opening.proofs.Steps.{no_step, steps_then}
+use Rattle.sql_calls.proofs.Stepping.{no_step, steps_then}
 use Rattle.desk_opening.proofs.filling.write_rules.Goals as goal
 
 pub loop-k-init : goal.loop-k-init
-loop-k-init g c = record { stays = no_step _ _; grows = search rules; writes = makes_nothing nothing_yet }
+loop-k-init g c = record { stays = no_step tt _; grows = search rules; writes = makes_nothing nothing_yet }
 
 pub loop-k-preserved : goal.loop-k-preserved
 loop-k-preserved g c = record {

@@ -1,18 +1,16 @@
-use Rattle.desk_opening.proofs.Common.{None, state, MakesLedger, WritesCopies}
+use Rattle.desk_opening.proofs.Common.{arith}
 use Rattle.desk_opening.proofs.FillLemmas.{copies_of}
 use Rattle.sql_calls.proofs.Composing.{found_then_makes}
+use Rattle.sql_calls.proofs.Stepping.{steps_then}
 use Rattle.desk_opening.proofs.filling.write_rules_of.Goals as goal
 
-pub returns-clause-writes : goal.returns-clause-writes
-returns-clause-writes g c =
-    let it : MakesLedger (state g.S.Store c.read_rollout.new.calls.conn) (state g.S.Store c.write_copies.new.calls.conn) c.write_copies.result
-    (WritesCopies c.args.number c.in_ok-rollout.rollout.plan.groups
-    (record { percentage = None; success = c.in_ok-rollout.rollout.plan.success; error = c.in_ok-rollout.rollout.plan.error })) =
-    rw (
-      c.get-groups.ensures.value,
-      c.from-success.ensures,
-      c.get.ensures.value,
-      c.from-error.ensures,
-      c.get-2.ensures.value,
-    ) at c.write_copies.ensures.writes in
-    found_then_makes c.in_ok-rollout.ensures.reads (copies_of c.args.number c.in_ok-rollout.rollout) _ it
+pub returns-in-Some-clause-stays : goal.returns-in-Some-clause-stays
+returns-in-Some-clause-stays g c = steps_then c.in_ok-rollout.ensures.stays.advances _ c.write_copies.ensures.stays
+
+pub returns-in-Some-clause-writes : goal.returns-in-Some-clause-writes
+returns-in-Some-clause-writes g c =
+    found_then_makes c.in_ok-rollout.ensures.reads (copies_of c.args.number c.in-Some.rollout _ c.in-Some.is) _
+    (rw (c.get.ensures.value, c.evenly-rule.ensures) at c.write_copies.ensures.writes)
+
+pub returns-in-Some-clause-fails : goal.returns-in-Some-clause-fails
+returns-in-Some-clause-fails g c = let it = c.write_copies.ensures.counts.sound in grind arith

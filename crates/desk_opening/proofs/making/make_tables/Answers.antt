@@ -1,6 +1,6 @@
 use Rattle.desk_opening.proofs.Common.{rules}
 use Rattle.desk_opening.proofs.MakeLemmas.{all_made, next_made}
-use Rattle.desk_opening.proofs.Steps.{steps_err}
+use Rattle.sql_calls.proofs.Stepping.{steps_err}
 use Rattle.desk_opening.proofs.making.make_tables.Goals as goal
 
 pub returns-in_err-run-clause-makes : goal.returns-in_err-run-clause-makes

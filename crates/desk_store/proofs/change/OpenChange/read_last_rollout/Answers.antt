@@ -1,15 +1,5 @@
-use Rattle.desk_store.proofs.Answering.{[], first_tells, inl, known, last_blamed, last_fails, last_read, last_rollout_is, lasts_any, no_key}
+use Rattle.desk_store.proofs.Answering.{Rollouts, tells_as}
 use Rattle.desk_store.proofs.change.OpenChange.read_last_rollout.Goals as goal
 
-pub returns-clause-reads : goal.returns-clause-reads
-returns-clause-reads g c = last_read _ _ _ c.in_ok-row.ensures.takes _ c.last_number.ensures.ok
-
 pub returns-clause-fails : goal.returns-clause-fails
-returns-clause-fails g c = last_fails last_rollout_is (λ row is. inl (no_key row is)) c.in_ok-row.ensures.takes _ c.last_number.ensures.err
-
-pub returns-clause-tells : goal.returns-clause-tells
-returns-clause-tells g c = first_tells (known last_rollout_is) (λ db t holds at given. tt)
-    (λ db t holds shown n is. lasts_any db t holds [] c.in_ok-row.row shown n is) c.in_ok-row.ensures.takes _ c.last_number.ensures.ok
-
-pub returns-clause-blames : goal.returns-clause-blames
-returns-clause-blames g c = last_blamed c.in_ok-row.ensures.takes _ c.last_number.ensures.err
+returns-clause-fails g c = record { to = tells_as (λ l readable. readable.keep Rollouts) _ c.read_last_rollout.ensures.fails }
