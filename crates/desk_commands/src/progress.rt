@@ -1,6 +1,6 @@
 //! How a rollout goes on: by a resume, and by a trigger of its next group.
 
-ghost use Rattle.std.specs.Prelude.{◌≡◌, ◌∷◌, None, Some, [], cond, nat_eq, not};
+ghost use Rattle.std.specs.Prelude.{◌≡◌, ◌∷◌, Some, [], cond, nat_eq, not};
 ghost use Rattle.std.specs.List.{list_any};
 ghost use Rattle.rollout_machine.specs.ByteStrings.{item_numbered};
 ghost use Rattle.rollout_machine.specs.Commands.{Resume, TriggerNext};
@@ -21,7 +21,7 @@ use crate::standing::refusal_in;
 use crate::step::Step;
 use campaign_core::{ResumeView, TriggerView, after_resume, after_trigger, resume, trigger};
 use desk_reads::{SeenRollout, read_seen_rollout};
-use desk_store::{Fault, OpenChange, ToldPlan};
+use desk_store::{Fault, OpenChange};
 use rollout_machine::{GroupRecord, RolloutView};
 use rollout_model::{GroupRule, Refusal, Reply, RolloutNo};
 use sqlite::Alter;
@@ -65,17 +65,6 @@ fn group_at(groups: &[GroupRecord], number: u32) -> Option<GroupRecord>
     groups.get(number as usize - 1).copied()
 }
 
-/// The rule of a group that isn't there: the rollout's own thresholds.
-fn own_rule(plan: &ToldPlan) -> GroupRule
-    ensures { result ≡ record { percentage = None; success = plan.now.success; error = plan.now.error } }
-{
-    GroupRule {
-        percentage: None,
-        success: plan.success,
-        error: plan.error,
-    }
-}
-
 /// What is said of the last started group of a rollout, which has this number, or 0 where none is started.
 fn read_last_rule<S: Alter>(
     change: &mut OpenChange<'_, S>,
@@ -89,7 +78,7 @@ fn read_last_rule<S: Alter>(
     ensures fails { FailsGiven S.Store (IsSeenFrom number seen.now last) change.old change.new result }
 {
     if last == 0 {
-        return Ok(own_rule(&seen.plan));
+        return Ok(GroupRule::evenly(seen.plan.success, seen.plan.error));
     }
     let rule = change.read_rule(number, last)?.ok_or(Fault::Broken)?;
     Ok(rule)

@@ -4,7 +4,7 @@ use Rattle.desk_commands.proofs.progress.read_last_rule.Goals as goal
 
 pub returns-then-last-eq0-clause-reads : goal.returns-then-last-eq0-clause-reads
 returns-then-last-eq0-clause-reads g c =
-    known (λ r x there seen. none_said c.args.seen.now.plan x.plan _ c.own_rule.ensures seen.plan ∙ ap (rule_at x.plan) (sym c.if-last-eq0.true))
+    known (λ r x there seen. none_said c.args.seen.now.plan x.plan _ c.evenly.ensures seen.plan ∙ ap (rule_at x.plan) (sym c.if-last-eq0.true))
 
 pub returns-clause-reads : goal.returns-clause-reads
 returns-clause-reads g c =
