@@ -62,7 +62,7 @@ def test_an_induction_keeps_its_cases_and_lists_its_call():
 
 def test_cases_of_one_that_calls_itself_nowhere_are_one_call():
     (piece,) = shorten.wholes(lemmas()["none"], {"apart"})
-    same(piece.text(LINES)[-1], "  none o n is zero_is = grind (arith, apart)")
+    same(piece.text(LINES)[-1], "  none o n is zero_is = grind arith")
     same(piece.gain(LINES), 1)
 
 
@@ -168,3 +168,16 @@ def test_an_answer_falls_until_it_is_asked_for():
     said = "fn few: no proof: expected answers in ./proofs/lists/few/Answers.antt; `search` did not prove `begins`"
     same(list(shorten.asked([ends, begins], folder, said)), [begins])
     same(list(shorten.asked([ends, begins], folder, said.replace("begins", "ends-clause-last"))), [ends])
+
+
+def test_a_call_with_no_fact_is_tried_first():
+    none = lemmas()["none"]
+    same([it[0].split(" = ")[1] for it in shorten.closed(none, ["o"], [], ["apart"])],
+         ["grind arith", "grind (arith, apart)", "grind (arith, nat_tests, apart)"])
+    same(len(shorten.closed(none, ["o"], ["none o"], [])), 2)
+
+
+def test_a_crate_is_proved_by_its_own_verdict():
+    below = "logic=proved functions=68 sum=dac8\n"
+    same(shorten.is_proved(below + "fn a::b: not proved\nlogic=not-proved\n"), False)
+    same(shorten.is_proved(below + "logic=proved functions=3 sum=dac8\n"), True)
