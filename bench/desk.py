@@ -18,7 +18,18 @@ def words(program, path, interface="mgmt"):
 
 def port_words(program, path, port):
     """The command line that serves one connection to a port."""
-    return [*program.split(), "serve", "--db", path, "--port", str(port), "--connections", "1", "--interface", "both"]
+    return [
+        *program.split(),
+        "serve",
+        "--db",
+        path,
+        "--port",
+        str(port),
+        "--connections",
+        "1",
+        "--interface",
+        "both",
+    ]
 
 
 def label(number):
@@ -69,7 +80,9 @@ def holder(number):
 
 def uploading(number, size=MIB):
     """The request that adds the artifact."""
-    head = f"POST /rest/v1/softwaremodules/{holder(number)}/artifacts?filename=f{number}.bin HTTP/1.1"
+    head = (
+        f"POST /rest/v1/softwaremodules/{holder(number)}/artifacts?filename=f{number}.bin HTTP/1.1"
+    )
     return f"{head}\r\nContent-Length: {size}\r\n\r\n".encode() + contents(number, size)
 
 
@@ -95,7 +108,12 @@ def downloaded(number, size=MIB):
 
 def target(number):
     """Id, name, token and tags of the target that is put in this place."""
-    return f"dev-{number:06d}", f"Valve {number}", f"token-of-{number:06d}", [f"site-{number % 100}", "lab"]
+    return (
+        f"dev-{number:06d}",
+        f"Valve {number}",
+        f"token-of-{number:06d}",
+        [f"site-{number % 100}", "lab"],
+    )
 
 
 BATCH = 100
@@ -119,7 +137,10 @@ def put(_batch):
 
 def importing(count):
     """The request that imports so many targets from a file."""
-    lines = [",".join([id, name, token, " ".join(tags)]) for id, name, token, tags in map(target, range(1, count + 1))]
+    lines = [
+        ",".join([id, name, token, " ".join(tags)])
+        for id, name, token, tags in map(target, range(1, count + 1))
+    ]
     body = "".join(line + "\n" for line in ["controllerid,name,token,tags", *lines])
     return f"POST /desk/v1/import HTTP/1.1\r\nContent-Length: {len(body)}\r\n\r\n{body}".encode()
 
@@ -132,14 +153,24 @@ def imported(count):
 def target_object(number, word="unknown"):
     """The object of the target."""
     id, name, _token, tags = target(number)
-    return {"attributes": {}, "controllerId": id, "name": name, "tags": sorted(tags), "updateStatus": word}
+    return {
+        "attributes": {},
+        "controllerId": id,
+        "name": name,
+        "tags": sorted(tags),
+        "updateStatus": word,
+    }
 
 
 def page_of(numbers, total, word="unknown"):
     """The reply that shows these targets, of which each has the word."""
     content = [target_object(number, word) for number in numbers]
-    return reply("200 OK",
-                 json.dumps({"content": content, "size": len(content), "total": total}, separators=(",", ":")))
+    return reply(
+        "200 OK",
+        json.dumps(
+            {"content": content, "size": len(content), "total": total}, separators=(",", ":")
+        ),
+    )
 
 
 def asking_page(_turn):
@@ -174,7 +205,10 @@ def build_twin():
     os.makedirs(os.path.dirname(TWIN), exist_ok=True)
     names = ("twin.c", "twin_targets.c", "twin_import.c", "twin_rollouts.c", "twin_devices.c")
     sources = [os.path.join(HERE, name) for name in names]
-    subprocess.run(["cc", "-O2", "-Wall", "-Wextra", "-D_GNU_SOURCE", "-o", TWIN, *sources, "-lsqlite3"], check=True)
+    subprocess.run(
+        ["cc", "-O2", "-Wall", "-Wextra", "-D_GNU_SOURCE", "-o", TWIN, *sources, "-lsqlite3"],
+        check=True,
+    )
 
 
 def remove(path):

@@ -21,7 +21,7 @@ PERCENTAGES = tuple(100 // left for left in range(GROUPS, 0, -1))
 # what is asked at most: of a rollout beside an even one, and of an opening beside that of the migrated file
 CREATING, MIGRATING = 1.2, 1.5
 # a case of a file of version 1, row by row
-KEPT = os.path.join(desk.HERE, "..", "cases", "files", "of_version_1_ten_devices.case")
+KEPT = os.path.join(desk.HERE, "..", "tests", "wire", "database", "of_version_1_ten_devices.case")
 
 
 def told(ratio, bound):
@@ -54,8 +54,10 @@ def print_creating(taken, turns):
     print("| | even (ms) | defined one by one (ms) | ratio | asked |\n|---|---|---|---|---|")
     for name, (even, defined) in taken.items():
         ratio = min(defined) / min(even)
-        print(f"| {name} | {1000 * min(even):.1f} | {1000 * min(defined):.1f} | {ratio:.2f} | "
-              f"{told(ratio, CREATING) if name == 'fwdesk' else ''} |")
+        print(
+            f"| {name} | {1000 * min(even):.1f} | {1000 * min(defined):.1f} | {ratio:.2f} | "
+            f"{told(ratio, CREATING) if name == 'fwdesk' else ''} |"
+        )
 
 
 # ---- migrating
@@ -69,16 +71,24 @@ def texts_of_version_1():
 
 def fill_rollout(db, rollout, ids, is_started):
     """A rollout of the targets of these ids, of which each is a group; its first group is started, or none is."""
-    db.execute("INSERT INTO rollout VALUES (?,?,1,'name==*',?,50,100,1,?,0)",
-               (rollout, f"ro{rollout}", GROUPS, is_started))
+    db.execute(
+        "INSERT INTO rollout VALUES (?,?,1,'name==*',?,50,100,1,?,0)",
+        (rollout, f"ro{rollout}", GROUPS, is_started),
+    )
     places = list(enumerate(ids, 1))
-    db.executemany("INSERT INTO member VALUES (?,?,?)", [(rollout, place, it) for place, it in places])
-    db.executemany("INSERT INTO rollout_group VALUES (?,?,?,?,?,0,0,0)",
-                   [(rollout, k, k, k, is_started and k == 1) for k in range(1, GROUPS + 1)])
+    db.executemany(
+        "INSERT INTO member VALUES (?,?,?)", [(rollout, place, it) for place, it in places]
+    )
+    db.executemany(
+        "INSERT INTO rollout_group VALUES (?,?,?,?,?,0,0,0)",
+        [(rollout, k, k, k, is_started and k == 1) for k in range(1, GROUPS + 1)],
+    )
     if is_started:
         before = (rollout - 1) * MEMBERS
-        db.executemany("INSERT INTO action VALUES (?,?,?,?,0,0,0,0)",
-                       [(before + place, rollout, place, it) for place, it in places])
+        db.executemany(
+            "INSERT INTO action VALUES (?,?,?,?,0,0,0,0)",
+            [(before + place, rollout, place, it) for place, it in places],
+        )
         db.execute("INSERT INTO offer VALUES (?,?,0) ON CONFLICT DO NOTHING", (ids[0], before + 1))
 
 
@@ -95,8 +105,10 @@ def make_version_1(path, is_started):
     db.execute("INSERT INTO dset VALUES (1,'r1','1')")
     db.execute("INSERT INTO set_module VALUES (1,1,1)")
     ids = [f"dev-{k:06d}" for k in range(1, TARGETS + 1)]
-    db.executemany("INSERT INTO target VALUES (?,'Valve',?)",
-                   [(it, hashlib.sha256(it.encode()).digest()) for it in ids])
+    db.executemany(
+        "INSERT INTO target VALUES (?,'Valve',?)",
+        [(it, hashlib.sha256(it.encode()).digest()) for it in ids],
+    )
     for rollout in range(1, ROLLOUTS + 1):
         first = (rollout - 1) * MEMBERS % TARGETS
         fill_rollout(db, rollout, ids[first : first + MEMBERS], is_started)
@@ -134,12 +146,16 @@ def migrated(program, old):
     opened(program, path)
     run_order(program, ["verify", "--db", path])
     db = sqlite3.connect(path, isolation_level=None)
-    found = db.execute("SELECT version, (SELECT count(*) FROM group_rule WHERE percentage IS NULL AND success = 50 AND "
-                       "error = 100) FROM desk").fetchall()
+    found = db.execute(
+        "SELECT version, (SELECT count(*) FROM group_rule WHERE percentage IS NULL AND success = 50 AND "
+        "error = 100) FROM desk"
+    ).fetchall()
     whole = db.execute("PRAGMA integrity_check").fetchall()
     close(db)
     if found != [(3, ROLLOUTS * GROUPS)] or whole != [("ok",)]:
-        raise SystemExit(f"{program}: a migrated file has version and rules {found}, integrity_check {whole}")
+        raise SystemExit(
+            f"{program}: a migrated file has version and rules {found}, integrity_check {whole}"
+        )
     return path
 
 
@@ -155,20 +171,31 @@ def of_version_2(new):
 
 def print_migrating(folder, program, turns):
     """The table of openings, a file to a row."""
-    print(f"\nOpening and migrating older files, {ROLLOUTS} rollouts of {GROUPS} groups; "
-          f"least of {turns} turns, processor seconds\n")
-    print("| | migrated before (s) | MiB | of version | (s) | MiB | ratio | asked |\n|---|---|---|---|---|---|---|---|")
+    print(
+        f"\nOpening and migrating older files, {ROLLOUTS} rollouts of {GROUPS} groups; "
+        f"least of {turns} turns, processor seconds\n"
+    )
+    print(
+        "| | migrated before (s) | MiB | of version | (s) | MiB | ratio | asked |\n|---|---|---|---|---|---|---|---|"
+    )
     for called, is_started in ("none started", False), ("all started", True):
         old = os.path.join(folder, f"{is_started}.db")
         make_version_1(old, is_started)
         new = migrated(program, old)
-        taken = [[opened_copy(program, path) for path in (new, old, of_version_2(new))] for _ in range(turns)]
-        (before, *after), (lean, *full) = ([kind(it[k][what] for it in taken) for k in range(3)]
-                                           for what, kind in enumerate((min, max)))
+        taken = [
+            [opened_copy(program, path) for path in (new, old, of_version_2(new))]
+            for _ in range(turns)
+        ]
+        (before, *after), (lean, *full) = (
+            [kind(it[k][what] for it in taken) for k in range(3)]
+            for what, kind in enumerate((min, max))
+        )
         for version, (seconds, memory) in enumerate(zip(after, full), 1):
             ratio = seconds / before
-            print(f"| {called} | {before:.2f} | {lean:.1f} | {version} | {seconds:.2f} | {memory:.1f} | {ratio:.2f} | "
-                  f"{told(ratio, MIGRATING)} |")
+            print(
+                f"| {called} | {before:.2f} | {lean:.1f} | {version} | {seconds:.2f} | {memory:.1f} | {ratio:.2f} | "
+                f"{told(ratio, MIGRATING)} |"
+            )
 
 
 def run(program, folder, turns):

@@ -21,8 +21,8 @@ from pathlib import Path
 
 import desk
 
-sys.path.append(str(Path(__file__).resolve().parent.parent / "tools"))
-from servers import HOST, free_port
+sys.path.append(str(Path(__file__).resolve().parent.parent / "tests"))
+from harness.processes import HOST, free_port
 
 DONE = desk.reply("200 OK", "{}")
 WARM = 200  # polls before the clock runs
@@ -50,17 +50,25 @@ def polling(number):
 
 def polled(number, action):
     """The reply to it: the action, or nothing where there is none."""
-    base = f'"deploymentBase":{{"href":"{device(number)}/deploymentBase/{action}"}}' if action else ""
-    return desk.reply("200 OK", f'{{"_links":{{{base}}},"config":{{"polling":{{"sleep":"00:05:00"}}}}}}')
+    base = (
+        f'"deploymentBase":{{"href":"{device(number)}/deploymentBase/{action}"}}' if action else ""
+    )
+    return desk.reply(
+        "200 OK", f'{{"_links":{{{base}}},"config":{{"polling":{{"sleep":"00:05:00"}}}}}}'
+    )
 
 
 def reporting(number, action, execution, finished, given=None):
     """The request by which a device reports of an action, with a number where one is given."""
     numbered = f'"number":{given},' if given else ""
-    body = (f'{{{numbered}"status":{{"execution":"{execution}","result":{{"finished":"{finished}"}},'
-            '"details":["at work"]}}')
-    head = (f"POST {device(number)}/deploymentBase/{action}/feedback HTTP/1.1\r\n"
-            f"Authorization: TargetToken {desk.target(number)[2]}")
+    body = (
+        f'{{{numbered}"status":{{"execution":"{execution}","result":{{"finished":"{finished}"}},'
+        '"details":["at work"]}}'
+    )
+    head = (
+        f"POST {device(number)}/deploymentBase/{action}/feedback HTTP/1.1\r\n"
+        f"Authorization: TargetToken {desk.target(number)[2]}"
+    )
     return f"{head}\r\nContent-Length: {len(body)}\r\n\r\n{body}".encode()
 
 
@@ -76,8 +84,10 @@ def ending(number, action, given=None):
 
 def conditions(success, error):
     """The members of a rollout or a group that say its thresholds."""
-    said = (f'"{name}Condition":{{"condition":"THRESHOLD","expression":"{percent}"}}'
-            for name, percent in (("success", success), ("error", error)))
+    said = (
+        f'"{name}Condition":{{"condition":"THRESHOLD","expression":"{percent}"}}'
+        for name, percent in (("success", success), ("error", error))
+    )
     return ",".join(said)
 
 
@@ -95,15 +105,21 @@ class Plan:
         """The member of the body that says the groups."""
         if not self.percentages:
             return f'"amountGroups":{self.groups}'
-        defined = (f'{{"targetPercentage":{percent},{conditions(50 + k, 100 - k)}}}'
-                   for k, percent in enumerate(self.percentages))
+        defined = (
+            f'{{"targetPercentage":{percent},{conditions(50 + k, 100 - k)}}}'
+            for k, percent in enumerate(self.percentages)
+        )
         return f'"groups":[{",".join(defined)}]'
 
     def creating(self):
         """The request that creates it."""
-        body = (f'{{"name":"r{self.number}","distributionSetId":1,"targetFilterQuery":"name==*",'
-                f'{self.grouping()},{conditions(self.success, 100)}}}')
-        return f"POST /rest/v1/rollouts HTTP/1.1\r\nContent-Length: {len(body)}\r\n\r\n{body}".encode()
+        body = (
+            f'{{"name":"r{self.number}","distributionSetId":1,"targetFilterQuery":"name==*",'
+            f"{self.grouping()},{conditions(self.success, 100)}}}"
+        )
+        return (
+            f"POST /rest/v1/rollouts HTTP/1.1\r\nContent-Length: {len(body)}\r\n\r\n{body}".encode()
+        )
 
     def created(self, targets):
         """The reply to it."""
@@ -120,8 +136,10 @@ class Plan:
 
 def asking_members(rollout, group, offset):
     """The request for a page of the targets of a group."""
-    return (f"GET /rest/v1/rollouts/{rollout}/deploygroups/{group}/targets?offset={offset}&limit={PAGE} "
-            "HTTP/1.1\r\n\r\n".encode())
+    return (
+        f"GET /rest/v1/rollouts/{rollout}/deploygroups/{group}/targets?offset={offset}&limit={PAGE} "
+        "HTTP/1.1\r\n\r\n".encode()
+    )
 
 
 def shown_members(first, total, word):
@@ -137,7 +155,9 @@ def shown_groups(targets, groups):
         f'"status":"{"scheduled" if group > 1 else "running"}","success":100}}'
         for group in range(1, groups + 1)
     ]
-    return desk.reply("200 OK", f'{{"content":[{",".join(content)}],"size":{groups},"total":{groups}}}')
+    return desk.reply(
+        "200 OK", f'{{"content":[{",".join(content)}],"size":{groups},"total":{groups}}}'
+    )
 
 
 def reported(targets):
@@ -161,17 +181,19 @@ def listed(targets):
     return desk.reply("200 OK", "".join(line + "\n" for line in lines), "text/csv; charset=utf-8")
 
 
-# ---- conversations
+# ---- scenarios
 
 
-class Conversation:
+class Scenario:
     """A program that is asked one request at a time over its standard input, or over a connection."""
 
     def __init__(self, program, path, port=None):
         self.program = program
         self.socket = None
         words = desk.port_words(program, path, port) if port else desk.words(program, path, "both")
-        self.child = subprocess.Popen(words, stdin=subprocess.PIPE, stdout=subprocess.PIPE, bufsize=0)
+        self.child = subprocess.Popen(
+            words, stdin=subprocess.PIPE, stdout=subprocess.PIPE, bufsize=0
+        )
         self.write, self.read = self.child.stdin.fileno(), self.child.stdout.fileno()
         if port:
             self.socket = connected(port)
@@ -186,7 +208,9 @@ class Conversation:
             got += os.read(self.read, 1 << 20)
         seconds = time.perf_counter() - start
         if got != wanted:
-            raise SystemExit(f"{self.program}: {request[:300]} {got[:300]} instead of {wanted[:300]}")
+            raise SystemExit(
+                f"{self.program}: {request[:300]} {got[:300]} instead of {wanted[:300]}"
+            )
         return seconds
 
     def stream(self, pairs):
@@ -234,7 +258,9 @@ def is_whole(got):
     head = got.find(b"\r\n\r\n")
     if head < 0:
         return False
-    return len(got) >= head + 4 + int(got[:head].rsplit(b"Content-Length: ", 1)[1].split(b"\r\n", 1)[0])
+    return len(got) >= head + 4 + int(
+        got[:head].rsplit(b"Content-Length: ", 1)[1].split(b"\r\n", 1)[0]
+    )
 
 
 def connected(port):
@@ -266,11 +292,15 @@ class Fleet:
 
     def plan(self, number):
         """The rollout of a number."""
-        return Plan(number, self.groups, self.success) if number == 1 else Plan(number, min(50, self.targets))
+        return (
+            Plan(number, self.groups, self.success)
+            if number == 1
+            else Plan(number, min(50, self.targets))
+        )
 
     def make(self, path):
         """Makes its file by the C program."""
-        made = Conversation(desk.TWIN + " --at-once", path)
+        made = Scenario(desk.TWIN + " --at-once", path)
         made.ask(desk.adding(1), desk.added(1))
         made.finish()
         base = sqlite3.connect(path)
@@ -278,7 +308,7 @@ class Fleet:
         base.execute("INSERT INTO set_module (dset, place, module) VALUES (1, 1, 1)")
         base.commit()
         base.close()
-        made = Conversation(desk.TWIN + " --at-once", path)
+        made = Scenario(desk.TWIN + " --at-once", path)
         made.ask(desk.importing(self.targets), desk.imported(self.targets))
         for plan in map(self.plan, range(1, self.rollouts + 1)):
             made.ask(plan.creating(), plan.created(self.targets))
@@ -332,11 +362,23 @@ class Spread:
 
 
 SPREADS = [
-    Spread("poll is flat", ("poll, 10 targets", "poll, 1,000 targets", "poll, 10,000 targets"), 1.3),
-    Spread("final feedback is flat",
-           ("final feedback, 10 targets", "final feedback, 1,000 targets", "final feedback, 10,000 targets"), 1.3),
-    Spread("final feedback, 100 rollouts beside 1",
-           ("final feedback, 1,000 targets", "final feedback, 100 rollouts"), 5),
+    Spread(
+        "poll is flat", ("poll, 10 targets", "poll, 1,000 targets", "poll, 10,000 targets"), 1.3
+    ),
+    Spread(
+        "final feedback is flat",
+        (
+            "final feedback, 10 targets",
+            "final feedback, 1,000 targets",
+            "final feedback, 10,000 targets",
+        ),
+        1.3,
+    ),
+    Spread(
+        "final feedback, 100 rollouts beside 1",
+        ("final feedback, 1,000 targets", "final feedback, 100 rollouts"),
+        5,
+    ),
 ]
 
 
@@ -371,7 +413,7 @@ class Sides:
             desk.remove(path)
             shutil.copy(master, path)
             self.paths.append(path)
-            self.asked[name] = Conversation(program, path, free_port() if ports else None)
+            self.asked[name] = Scenario(program, path, free_port() if ports else None)
 
     def __enter__(self):
         return self
@@ -393,7 +435,9 @@ class Sides:
         seconds = {name: [] for name in names}
         for first in range(0, len(pairs[names[0]]), BLOCK):
             for name in names:
-                seconds[name].extend(self.asked[name].ask(*pair) for pair in pairs[name][first : first + BLOCK])
+                seconds[name].extend(
+                    self.asked[name].ask(*pair) for pair in pairs[name][first : first + BLOCK]
+                )
             names.append(names.pop(0))
         return {name: statistics.median(values) for name, values in seconds.items()}
 
@@ -402,7 +446,7 @@ class Sides:
         self.note_of(row, self.ask_all(pairs))
 
     def note_each(self, row, figure):
-        """Takes a figure of each program's conversation."""
+        """Takes a figure of each program's scenario."""
         self.asked = dict([*list(self.asked.items())[1:], *list(self.asked.items())[:1]])
         self.note_of(row, {name: figure(asked) for name, asked in self.asked.items()})
 
@@ -412,16 +456,30 @@ def measure_fleet(sides, fleet, called):
     first = fleet.targets // fleet.groups
     sides.ask_all(polls(fleet.targets, WARM, first_action(fleet)))
     sides.note(f"poll, {called}", polls(fleet.targets, POLLS, first_action(fleet)))
-    sides.note(f"note, {called}", [(noting(number, number), DONE) for number in (1, 2) for _ in range(NOTES // 2)])
+    sides.note(
+        f"note, {called}",
+        [(noting(number, number), DONE) for number in (1, 2) for _ in range(NOTES // 2)],
+    )
     sides.ask_all([(ending(1, 1), DONE)])
     last = min(first - 1, FINALS + 1)
-    sides.note(f"final feedback, {called}", [(ending(number, number), DONE) for number in range(2, last + 1)])
+    sides.note(
+        f"final feedback, {called}",
+        [(ending(number, number), DONE) for number in range(2, last + 1)],
+    )
 
 
 def measure_fifty(sides, fleet, called):
     """The page of the groups too, where there are many."""
-    sides.note("page of 50 groups", [(b"GET /rest/v1/rollouts/1/deploygroups HTTP/1.1\r\n\r\n",
-                                      shown_groups(fleet.targets, fleet.groups))] * 20)
+    sides.note(
+        "page of 50 groups",
+        [
+            (
+                b"GET /rest/v1/rollouts/1/deploygroups HTTP/1.1\r\n\r\n",
+                shown_groups(fleet.targets, fleet.groups),
+            )
+        ]
+        * 20,
+    )
     measure_fleet(sides, fleet, called)
 
 
@@ -430,7 +488,10 @@ def measure_hundred(sides, fleet):
     sides.ask_all(polls(fleet.targets, WARM, first_action(fleet)))
     sides.ask_all([(ending(21, 21), DONE)])
     sides.note("final feedback, 100 rollouts", [(ending(n, n), DONE) for n in range(22, 122)])
-    sides.note("final feedback, 100 rollouts, the next one offered", [(ending(n, n), DONE) for n in range(1, 21)])
+    sides.note(
+        "final feedback, 100 rollouts, the next one offered",
+        [(ending(n, n), DONE) for n in range(1, 21)],
+    )
 
 
 def members(fleet, group, offset, word):
@@ -449,26 +510,43 @@ def measure_start(sides, fleet):
     sides.note("Start of 10,000", [(plan.starting(), DONE)])
     sides.note("page of 50 targets, of a started group", [members(fleet, 1, 0, "pending")] * 20)
     sides.note("page of 50 targets, of a waiting group", [members(fleet, 2, 0, "unknown")] * 20)
-    sides.note("page of 50 targets, the last of that group",
-               [members(fleet, 2, fleet.targets // 2 - PAGE, "unknown")] * 20)
-    sides.note("report of 10,000", [(b"GET /desk/v1/rollouts/1/report HTTP/1.1\r\n\r\n", reported(fleet.targets))] * 20)
-    sides.note("table of 10,000 actions",
-               [(b"GET /desk/v1/rollouts/1/actions HTTP/1.1\r\n\r\n", listed(fleet.targets))] * 3)
+    sides.note(
+        "page of 50 targets, the last of that group",
+        [members(fleet, 2, fleet.targets // 2 - PAGE, "unknown")] * 20,
+    )
+    sides.note(
+        "report of 10,000",
+        [(b"GET /desk/v1/rollouts/1/report HTTP/1.1\r\n\r\n", reported(fleet.targets))] * 20,
+    )
+    sides.note(
+        "table of 10,000 actions",
+        [(b"GET /desk/v1/rollouts/1/actions HTTP/1.1\r\n\r\n", listed(fleet.targets))] * 3,
+    )
 
 
 def measure_nearly(sides, fleet):
     """The one feedback that starts a group of 5,000."""
-    sides.ask_all(polls(fleet.targets, WARM,
-                        lambda number: number if fleet.ended < number <= fleet.targets // 2 else 0))
+    sides.ask_all(
+        polls(
+            fleet.targets,
+            WARM,
+            lambda number: number if fleet.ended < number <= fleet.targets // 2 else 0,
+        )
+    )
     sides.note("feedback that starts 5,000", [(ending(fleet.ended + 1, fleet.ended + 1), DONE)])
 
 
 def measure_twenty(sides, fleet):
     """What a page and a final feedback take on a desk of twenty rollouts, and its peak of memory then."""
     sides.ask_all(polls(fleet.targets, WARM, first_action(fleet)))
-    sides.note("page of 50 targets, of a waiting group, 20 rollouts", [members(fleet, 2, 0, "unknown")] * 5)
-    sides.note("final feedback, 20 rollouts of 10,000", [(ending(number, number), DONE) for number in range(201, 250)])
-    sides.note_each("peak memory, 20 rollouts of 10,000 (MiB)", Conversation.peak)
+    sides.note(
+        "page of 50 targets, of a waiting group, 20 rollouts", [members(fleet, 2, 0, "unknown")] * 5
+    )
+    sides.note(
+        "final feedback, 20 rollouts of 10,000",
+        [(ending(number, number), DONE) for number in range(201, 250)],
+    )
+    sides.note_each("peak memory, 20 rollouts of 10,000 (MiB)", Scenario.peak)
 
 
 def measure_stream(sides, fleet, called):
@@ -493,7 +571,11 @@ def measure(folder, masters, programs, turns):
             measured(sides, fleet, *words)
 
     for _ in range(turns):
-        for fleet, called in [(TEN, "10 targets"), (THOUSAND, "1,000 targets"), (WHOLE, "10,000 targets")]:
+        for fleet, called in [
+            (TEN, "10 targets"),
+            (THOUSAND, "1,000 targets"),
+            (WHOLE, "10,000 targets"),
+        ]:
             over(fleet, measure_fleet, called)
         over(FIFTY, measure_fifty, "10,000 targets, 50 groups")
         over(HUNDRED, measure_hundred)
@@ -550,20 +632,31 @@ def verdict(bound, milliseconds, ratio):
 def print_table(title, figures):
     """The table of one place."""
     print(f"\n{title}\n")
-    print("| | fwdesk | C, the same statements | ratio | C, whole sets | ratio | "
-          "bound |\n|---|---|---|---|---|---|---|")
-    middle = {name: {row: statistics.median(values) for row, values in rows.items()} for name, rows in figures.items()}
+    print(
+        "| | fwdesk | C, the same statements | ratio | C, whole sets | ratio | "
+        "bound |\n|---|---|---|---|---|---|---|"
+    )
+    middle = {
+        name: {row: statistics.median(values) for row, values in rows.items()}
+        for name, rows in figures.items()
+    }
     ours, same, sets = (middle[name] for name in ("fwdesk", "same", "sets"))
     for row in ours:
         shown = [spread(row, figures[name][row]) for name in ("fwdesk", "same", "sets")]
         ratio, other = ours[row] / same[row], ours[row] / sets[row]
         said = verdict(BOUNDS.get(row), 1000 * ours[row], ratio)
-        print(f"| {row} | {shown[0]} | {shown[1]} | {ratio:.2f} | {shown[2]} | {other:.2f} | {said} |")
+        print(
+            f"| {row} | {shown[0]} | {shown[1]} | {ratio:.2f} | {shown[2]} | {other:.2f} | {said} |"
+        )
     for spread_of in SPREADS:
-        values, theirs = ([min(figures[name][row]) for row in spread_of.rows] for name in ("fwdesk", "same"))
+        values, theirs = (
+            [min(figures[name][row]) for row in spread_of.rows] for name in ("fwdesk", "same")
+        )
         ratio = max(values) / min(values)
         said = "met" if ratio < spread_of.limit else "NOT MET"
-        print(f"| {spread_of.what} | {ratio:.2f} | {max(theirs) / min(theirs):.2f} | | | | {spread_of.limit}: {said} |")
+        print(
+            f"| {spread_of.what} | {ratio:.2f} | {max(theirs) / min(theirs):.2f} | | | | {spread_of.limit}: {said} |"
+        )
 
 
 def run(program, folders, turns):
@@ -574,5 +667,7 @@ def run(program, folders, turns):
             masters = make_masters(place)
             before = os.getloadavg()[0]
             figures = measure(place, masters, programs, turns)
-        print_table(f"Rollouts, in {folder}: medians of {turns} turns; load {before:.1f} to {os.getloadavg()[0]:.1f}",
-                    figures)
+        print_table(
+            f"Rollouts, in {folder}: medians of {turns} turns; load {before:.1f} to {os.getloadavg()[0]:.1f}",
+            figures,
+        )

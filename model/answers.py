@@ -3,14 +3,72 @@ import hashlib
 from functools import lru_cache
 
 from . import files
-from .commands import (AddArtifact, AddModule, AddSet, CreateRollout, Download, Poll, PutTargets, ShowAction,
-                       ShowActionsTable, ShowArtifact, ShowArtifacts, ShowCancel, ShowContents, ShowDeployment,
-                       ShowGroup, ShowGroups, ShowGroupTargets, ShowHistory, ShowModule, ShowModules, ShowReport,
-                       ShowRollout, ShowRollouts, ShowSet, ShowSets, ShowTarget, ShowTargetActions, ShowTargets)
-from .machine import (BAD, CANCEL, DEPLOYMENT, GONE, OK, action_word, actions_of, artifacts, artifacts_of,
-                      attributes, count, first_action, group_bounds, group_of, group_size, group_word, groups,
-                      history, is_started, locked, matching, members, modules, offer, plan, rollout_of, rollout_word,
-                      rollouts, rows, sets, tags, target_of, target_word, targets)
+from .commands import (
+    AddArtifact,
+    AddModule,
+    AddSet,
+    CreateRollout,
+    Download,
+    Poll,
+    PutTargets,
+    ShowAction,
+    ShowActionsTable,
+    ShowArtifact,
+    ShowArtifacts,
+    ShowCancel,
+    ShowContents,
+    ShowDeployment,
+    ShowGroup,
+    ShowGroups,
+    ShowGroupTargets,
+    ShowHistory,
+    ShowModule,
+    ShowModules,
+    ShowReport,
+    ShowRollout,
+    ShowRollouts,
+    ShowSet,
+    ShowSets,
+    ShowTarget,
+    ShowTargetActions,
+    ShowTargets,
+)
+from .machine import (
+    BAD,
+    CANCEL,
+    DEPLOYMENT,
+    GONE,
+    OK,
+    action_word,
+    actions_of,
+    artifacts,
+    artifacts_of,
+    attributes,
+    count,
+    first_action,
+    group_bounds,
+    group_of,
+    group_size,
+    group_word,
+    groups,
+    history,
+    is_started,
+    locked,
+    matching,
+    members,
+    modules,
+    offer,
+    plan,
+    rollout_of,
+    rollout_word,
+    rollouts,
+    rows,
+    sets,
+    tags,
+    target_of,
+    target_word,
+    targets,
+)
 from .refusals import must
 from .verdicts import has_action, is_known, module_is_there, rollout_is_there, target_is_there
 
@@ -22,40 +80,75 @@ def digest(contents):
 
 def module(h, m):
     it = modules(h)[m - 1]
-    return {"id": m, "locked": locked(h, m), "name": it.name, "type": it.type, "version": it.version}
+    return {
+        "id": m,
+        "locked": locked(h, m),
+        "name": it.name,
+        "type": it.type,
+        "version": it.version,
+    }
 
 
 def artifact(h, number):
     it = artifacts(h)[number - 1]
     hashes = {"sha256": digest(it.contents)}
-    return {"hashes": hashes, "id": number, "providedFilename": it.filename, "size": len(it.contents)}
+    return {
+        "hashes": hashes,
+        "id": number,
+        "providedFilename": it.filename,
+        "size": len(it.contents),
+    }
 
 
 def dset(h, number):
     it = sets(h)[number - 1]
-    return {"id": number, "modules": [{"id": m} for m in it.modules], "name": it.name, "version": it.version}
+    return {
+        "id": number,
+        "modules": [{"id": m} for m in it.modules],
+        "name": it.name,
+        "version": it.version,
+    }
 
 
 def target(h, t):
-    return {"attributes": attributes(h, t), "controllerId": t, "name": rows(h)[t].name, "tags": tags(h, t),
-            "updateStatus": target_word(h, t)}
+    return {
+        "attributes": attributes(h, t),
+        "controllerId": t,
+        "name": rows(h)[t].name,
+        "tags": tags(h, t),
+        "updateStatus": target_word(h, t),
+    }
 
 
 def rollout(h, r):
     it = rollouts(h)[r - 1]
-    return {"distributionSetId": it.set, "id": r, "name": it.name, "status": rollout_word(h, r),
-            "targetFilterQuery": it.filter, "totalGroups": len(it.plan), "totalTargets": len(members(h, r))}
+    return {
+        "distributionSetId": it.set,
+        "id": r,
+        "name": it.name,
+        "status": rollout_word(h, r),
+        "targetFilterQuery": it.filter,
+        "totalGroups": len(it.plan),
+        "totalTargets": len(members(h, r)),
+    }
 
 
 def group(h, r, g):
     counts = {"bad": count(h, r, g, BAD), "gone": count(h, r, g, GONE), "ok": count(h, r, g, OK)}
     thresholds = {"error": plan(h, r)[g - 1].error, "success": plan(h, r)[g - 1].success}
-    return counts | thresholds | {"id": g, "size": group_size(h, r, g), "status": group_word(h, r, g)}
+    return (
+        counts | thresholds | {"id": g, "size": group_size(h, r, g), "status": group_word(h, r, g)}
+    )
 
 
 def action(h, a):
-    return {"group": group_of(h, a), "id": a, "rollout": rollout_of(h, a), "status": action_word(h, a),
-            "target": target_of(h, a)}
+    return {
+        "group": group_of(h, a),
+        "id": a,
+        "rollout": rollout_of(h, a),
+        "status": action_word(h, a),
+        "target": target_of(h, a),
+    }
 
 
 def entry(number, c):
@@ -66,7 +159,7 @@ def entry(number, c):
 
 def page(asked, numbers, shown):
     """The part of a list that a page asks for."""
-    content = [shown(it) for it in numbers[asked.offset:asked.offset + asked.limit]]
+    content = [shown(it) for it in numbers[asked.offset : asked.offset + asked.limit]]
     return {"content": content, "size": len(content), "total": len(numbers)}
 
 
@@ -149,7 +242,7 @@ def show_groups(h, x):
 def show_group_targets(h, x):
     group_is_there(h, x.rollout, x.group)
     first, last = group_bounds(h, x.rollout)[x.group - 1]
-    return page(x.page, members(h, x.rollout)[first - 1:last], lambda it: target(h, it))
+    return page(x.page, members(h, x.rollout)[first - 1 : last], lambda it: target(h, it))
 
 
 def show_report(h, x):
@@ -164,7 +257,9 @@ def show_actions_table(h, x):
         return files.actions_table([])
     first = first_action(h, x.rollout)
     numbers = range(first, first + len(members(h, x.rollout)))
-    return files.actions_table([(a, target_of(h, a), group_of(h, a), action_word(h, a)) for a in numbers])
+    return files.actions_table(
+        [(a, target_of(h, a), group_of(h, a), action_word(h, a)) for a in numbers]
+    )
 
 
 # --- what devices ask
@@ -200,22 +295,35 @@ def chunk(h, t, m):
         return {"_links": links, "filename": name, "hashes": it["hashes"], "size": it["size"]}
 
     it = modules(h)[m - 1]
-    return {"artifacts": [shown(number) for number in artifacts_of(h, m)], "name": it.name, "part": it.type,
-            "version": it.version}
+    return {
+        "artifacts": [shown(number) for number in artifacts_of(h, m)],
+        "name": it.name,
+        "part": it.type,
+        "version": it.version,
+    }
 
 
 def show_deployment(h, x):
     is_known(h, x.credential)
     t = x.credential.id
-    must(offer(h, t) == (x.action, DEPLOYMENT), 3, f"action {x.action} isn't offered to {t} as a deployment")
+    must(
+        offer(h, t) == (x.action, DEPLOYMENT),
+        3,
+        f"action {x.action} isn't offered to {t} as a deployment",
+    )
     chunks = [chunk(h, t, m) for m in modules_offered(h, t)]
-    return {"deployment": {"chunks": chunks, "download": "forced", "update": "forced"}, "id": str(x.action)}
+    return {
+        "deployment": {"chunks": chunks, "download": "forced", "update": "forced"},
+        "id": str(x.action),
+    }
 
 
 def show_cancel(h, x):
     is_known(h, x.credential)
     t = x.credential.id
-    must(offer(h, t) == (x.action, CANCEL), 3, f"action {x.action} isn't offered to {t} as a cancel")
+    must(
+        offer(h, t) == (x.action, CANCEL), 3, f"action {x.action} isn't offered to {t} as a cancel"
+    )
     return {"cancelAction": {"stopId": str(x.action)}, "id": str(x.action)}
 
 
@@ -223,7 +331,9 @@ def download(h, x):
     is_known(h, x.credential)
     t = x.credential.id
     must(x.module in modules_offered(h, t), 3, f"no set with module {x.module} is offered to {t}")
-    found = [it.contents for it in artifacts(h) if (it.module, it.filename) == (x.module, x.filename)]
+    found = [
+        it.contents for it in artifacts(h) if (it.module, it.filename) == (x.module, x.filename)
+    ]
     must(found, 3, f"module {x.module} has no file {x.filename}")
     return found[0]
 
@@ -242,7 +352,9 @@ SHOWN = {
     ShowTargetActions: show_target_actions,
     ShowHistory: show_history,
     ShowRollout: show_rollout,
-    ShowRollouts: lambda h, x: page(x.page, range(1, len(rollouts(h)) + 1), lambda it: rollout(h, it)),
+    ShowRollouts: lambda h, x: page(
+        x.page, range(1, len(rollouts(h)) + 1), lambda it: rollout(h, it)
+    ),
     ShowGroup: show_group,
     ShowGroups: show_groups,
     ShowGroupTargets: show_group_targets,

@@ -8,7 +8,7 @@ from .commands import Credential, Group, Page, TargetRow
 from .refusals import must
 from .wire import reply_bytes
 
-CREDENTIAL = re.compile(rb"TargetToken ([A-Za-z0-9._-]{8,64})")
+CREDENTIAL = re.compile(rb"TargetToken (%s)" % texts.TOKEN.pattern.encode())
 PERCENT = re.compile(r"[1-9][0-9]?|100")
 
 
@@ -39,7 +39,11 @@ def number(value, name, most=texts.LARGEST):
 
 def items(value, least, most, kind, what):
     """A list of so many, each of one kind."""
-    must(type(value) is list and least <= len(value) <= most, 1, f"{what} aren't a list of {least} to {most}")
+    must(
+        type(value) is list and least <= len(value) <= most,
+        1,
+        f"{what} aren't a list of {least} to {most}",
+    )
     must(all(type(it) is kind for it in value), 1, f"{what} are of another kind")
     return value
 
@@ -60,7 +64,10 @@ def add_module(value):
 
 def add_set(value):
     it = one_object(value)
-    numbers = [number(each, "id") for each in items(it.get("modules"), 1, texts.MODULES_OF_SET, dict, "modules")]
+    numbers = [
+        number(each, "id")
+        for each in items(it.get("modules"), 1, texts.MODULES_OF_SET, dict, "modules")
+    ]
     return commands.AddSet(text(it, "name"), text(it, "version"), different(numbers, "modules"))
 
 
@@ -94,10 +101,16 @@ def group(it, success, error):
 
 def plan(value, success, error):
     """The groups of a rollout: a number of them, or one object each."""
-    must(("amountGroups" in value) != ("groups" in value), 1, "there is either amountGroups or groups")
+    must(
+        ("amountGroups" in value) != ("groups" in value),
+        1,
+        "there is either amountGroups or groups",
+    )
     if "amountGroups" in value:
         return (Group(None, success, error),) * number(value, "amountGroups", texts.GROUPS)
-    found = tuple(group(it, success, error) for it in items(value["groups"], 1, texts.GROUPS, dict, "groups"))
+    found = tuple(
+        group(it, success, error) for it in items(value["groups"], 1, texts.GROUPS, dict, "groups")
+    )
     must(found[-1].percentage == 100, 1, f"the last group takes {found[-1].percentage} percent")
     return found
 
@@ -105,10 +118,16 @@ def plan(value, success, error):
 def create_rollout(value):
     must(type(value) is dict, 1, "the body is no object")
     for name, action in (("successAction", "NEXTGROUP"), ("errorAction", "PAUSE")):
-        must(name not in value or text(member(value, name, dict), "action") == action, 1, f"{name!r} isn't {action}")
+        must(
+            name not in value or text(member(value, name, dict), "action") == action,
+            1,
+            f"{name!r} isn't {action}",
+        )
     groups = plan(value, threshold(value, "successCondition"), threshold(value, "errorCondition"))
     query = text(value, "targetFilterQuery", lambda it: True)
-    return commands.CreateRollout(text(value, "name"), number(value, "distributionSetId"), query, groups)
+    return commands.CreateRollout(
+        text(value, "name"), number(value, "distributionSetId"), query, groups
+    )
 
 
 def feedback(body, kind, pairs, credential, action):
@@ -139,7 +158,11 @@ def put_attributes(value, credential):
 
 def credential_of(message, given):
     """Who a device says it is: its one field Authorization, and an id by its rule."""
-    must(len(message.credentials) == 1, 2, f"there are {len(message.credentials)} fields Authorization")
+    must(
+        len(message.credentials) == 1,
+        2,
+        f"there are {len(message.credentials)} fields Authorization",
+    )
     shown = CREDENTIAL.fullmatch(message.credentials[0])
     must(shown, 2, "Authorization has another form")
     must(texts.is_word(given["device"]), 2, f"no id: {given['device'][:80]}")
@@ -163,9 +186,9 @@ def read_parameters(given):
 
 
 def page(values):
-    offset, limit = values.get("offset", "0"), values.get("limit", "50")
+    offset, limit = values.get("offset", "0"), values.get("limit", str(texts.USUAL_PAGE))
     must(offset == "0" or texts.number(offset), 1, f"no offset: {offset[:40]!r}")
-    must(texts.number(limit, 500), 1, f"no limit: {limit[:40]!r}")
+    must(texts.number(limit, texts.PAGE), 1, f"no limit: {limit[:40]!r}")
     return Page(int(offset), int(limit))
 
 
@@ -182,49 +205,59 @@ def cancel(values, target, action):
 
 
 # what each call asks, of the values of its query, its body, its parameters and the device's credential
-ASKED = dict(zip(routes.CALLS, (
-    lambda q, body, _: put_targets(json_reader.read(body)),
-    lambda q, body, _: commands.ShowTargets(q.get("q"), page(q)),
-    lambda q, body, _, target: commands.ShowTarget(target),
-    lambda q, body, _, target, tag: commands.Tag(target, tag),
-    lambda q, body, _, target, tag: commands.Untag(target, tag),
-    lambda q, body, _, target: commands.ShowTargetActions(target, page(q)),
-    lambda q, body, _, target, action: commands.ShowAction(target, action),
-    lambda q, body, _, target, action: cancel(q, target, action),
-    lambda q, body, _, target, action: commands.ShowHistory(target, action, page(q)),
-    lambda q, body, _: add_module(json_reader.read(body)),
-    lambda q, body, _: commands.ShowModules(page(q)),
-    lambda q, body, _, module: commands.ShowModule(module),
-    lambda q, body, _, module: add_artifact(q, module, body),
-    lambda q, body, _, module: commands.ShowArtifacts(module, page(q)),
-    lambda q, body, _, module, artifact: commands.ShowArtifact(module, artifact),
-    lambda q, body, _, module, artifact: commands.ShowContents(module, artifact),
-    lambda q, body, _: add_set(json_reader.read(body)),
-    lambda q, body, _: commands.ShowSets(page(q)),
-    lambda q, body, _, set: commands.ShowSet(set),
-    lambda q, body, _: create_rollout(json_reader.read(body)),
-    lambda q, body, _: commands.ShowRollouts(page(q)),
-    lambda q, body, _, rollout: commands.ShowRollout(rollout),
-    lambda q, body, _, rollout: commands.Start(rollout),
-    lambda q, body, _, rollout: commands.Pause(rollout),
-    lambda q, body, _, rollout: commands.Resume(rollout),
-    lambda q, body, _, rollout: commands.Approve(rollout),
-    lambda q, body, _, rollout: commands.Deny(rollout),
-    lambda q, body, _, rollout: commands.TriggerNext(rollout),
-    lambda q, body, _, rollout: commands.ShowGroups(rollout, page(q)),
-    lambda q, body, _, rollout, group: commands.ShowGroup(rollout, group),
-    lambda q, body, _, rollout, group: commands.ShowGroupTargets(rollout, group, page(q)),
-    lambda q, body, _: commands.PutTargets(files.read_targets(body)),
-    lambda q, body, _, rollout: commands.ShowReport(rollout),
-    lambda q, body, _, rollout: commands.ShowActionsTable(rollout),
-    lambda q, body, who: commands.Poll(who),
-    lambda q, body, who, action: commands.ShowDeployment(who, action),
-    lambda q, body, who, action: feedback(body, commands.Feedback, commands.OF_DEPLOYMENT, who, action),
-    lambda q, body, who, action: commands.ShowCancel(who, action),
-    lambda q, body, who, action: feedback(body, commands.CancelFeedback, commands.OF_CANCEL, who, action),
-    lambda q, body, who: put_attributes(json_reader.read(body), who),
-    lambda q, body, who, module, filename: commands.Download(who, module, filename),
-), strict=True))
+ASKED = dict(
+    zip(
+        routes.CALLS,
+        (
+            lambda q, body, _: put_targets(json_reader.read(body)),
+            lambda q, body, _: commands.ShowTargets(q.get("q"), page(q)),
+            lambda q, body, _, target: commands.ShowTarget(target),
+            lambda q, body, _, target, tag: commands.Tag(target, tag),
+            lambda q, body, _, target, tag: commands.Untag(target, tag),
+            lambda q, body, _, target: commands.ShowTargetActions(target, page(q)),
+            lambda q, body, _, target, action: commands.ShowAction(target, action),
+            lambda q, body, _, target, action: cancel(q, target, action),
+            lambda q, body, _, target, action: commands.ShowHistory(target, action, page(q)),
+            lambda q, body, _: add_module(json_reader.read(body)),
+            lambda q, body, _: commands.ShowModules(page(q)),
+            lambda q, body, _, module: commands.ShowModule(module),
+            lambda q, body, _, module: add_artifact(q, module, body),
+            lambda q, body, _, module: commands.ShowArtifacts(module, page(q)),
+            lambda q, body, _, module, artifact: commands.ShowArtifact(module, artifact),
+            lambda q, body, _, module, artifact: commands.ShowContents(module, artifact),
+            lambda q, body, _: add_set(json_reader.read(body)),
+            lambda q, body, _: commands.ShowSets(page(q)),
+            lambda q, body, _, set: commands.ShowSet(set),
+            lambda q, body, _: create_rollout(json_reader.read(body)),
+            lambda q, body, _: commands.ShowRollouts(page(q)),
+            lambda q, body, _, rollout: commands.ShowRollout(rollout),
+            lambda q, body, _, rollout: commands.Start(rollout),
+            lambda q, body, _, rollout: commands.Pause(rollout),
+            lambda q, body, _, rollout: commands.Resume(rollout),
+            lambda q, body, _, rollout: commands.Approve(rollout),
+            lambda q, body, _, rollout: commands.Deny(rollout),
+            lambda q, body, _, rollout: commands.TriggerNext(rollout),
+            lambda q, body, _, rollout: commands.ShowGroups(rollout, page(q)),
+            lambda q, body, _, rollout, group: commands.ShowGroup(rollout, group),
+            lambda q, body, _, rollout, group: commands.ShowGroupTargets(rollout, group, page(q)),
+            lambda q, body, _: commands.PutTargets(files.read_targets(body)),
+            lambda q, body, _, rollout: commands.ShowReport(rollout),
+            lambda q, body, _, rollout: commands.ShowActionsTable(rollout),
+            lambda q, body, who: commands.Poll(who),
+            lambda q, body, who, action: commands.ShowDeployment(who, action),
+            lambda q, body, who, action: feedback(
+                body, commands.Feedback, commands.OF_DEPLOYMENT, who, action
+            ),
+            lambda q, body, who, action: commands.ShowCancel(who, action),
+            lambda q, body, who, action: feedback(
+                body, commands.CancelFeedback, commands.OF_CANCEL, who, action
+            ),
+            lambda q, body, who: put_attributes(json_reader.read(body), who),
+            lambda q, body, who, module, filename: commands.Download(who, module, filename),
+        ),
+        strict=True,
+    )
+)
 
 
 def read(message, call, given):
@@ -237,7 +270,10 @@ def read(message, call, given):
 
 # --- replies
 
-CREATING = {f"POST {routes.REST}/{it}" for it in ("targets", "softwaremodules", "distributionsets", "rollouts")}
+CREATING = {
+    f"POST {routes.REST}/{it}"
+    for it in ("targets", "softwaremodules", "distributionsets", "rollouts")
+}
 CREATING.add(f"POST {routes.MODULE}/artifacts")
 KINDS = {"report": "text/plain; charset=utf-8", "actions": "text/csv; charset=utf-8"}
 

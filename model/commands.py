@@ -1,6 +1,8 @@
 """The seventeen commands, and what may be asked. Each is a record that two interfaces share."""
 from dataclasses import dataclass, make_dataclass
 
+from .texts import USUAL_PAGE
+
 record = dataclass(frozen=True, slots=True)
 
 SUCCESS, FAILURE, GIVEN_UP = ("closed", "success"), ("closed", "failure"), ("canceled", "success")
@@ -39,7 +41,7 @@ class Group:
 @record
 class Page:
     offset: int = 0
-    limit: int = 50
+    limit: int = USUAL_PAGE
 
 
 class Command:

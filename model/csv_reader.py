@@ -1,6 +1,11 @@
 """Reads CSV as the crate `csv` does: records end at CR, LF or both, and empty lines are none."""
 
-START, FIELD, QUOTED, QUOTE = "at the start of a field", "in a field", "within quotes", "behind a quote"
+START, FIELD, QUOTED, QUOTE = (
+    "at the start of a field",
+    "in a field",
+    "within quotes",
+    "behind a quote",
+)
 MARK = b"\xef\xbb\xbf"
 
 

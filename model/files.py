@@ -53,12 +53,18 @@ def read_targets(text):
 def report(rollout, groups):
     """The report of a rollout, of the objects that show it and its groups."""
     word = rollout["status"]
-    lines = [f"rollout {rollout['id']} {rollout['name']}", f"state {word}", "group  size    ok   bad  gone  open state"]
+    lines = [
+        f"rollout {rollout['id']} {rollout['name']}",
+        f"state {word}",
+        "group  size    ok   bad  gone  open state",
+    ]
     counts = [[it[what] for what in ("size", "ok", "bad", "gone")] for it in groups]
     counts = [[size, *final, size - sum(final)] for size, *final in counts]
     each = [(f"{it['id']:5}", numbers, it["status"]) for it, numbers in zip(groups, counts)]
     each.append(("total", map(sum, zip(*counts)), word))
-    lines += [first + "".join(f"{it:6}" for it in numbers) + f" {last}" for first, numbers, last in each]
+    lines += [
+        first + "".join(f"{it:6}" for it in numbers) + f" {last}" for first, numbers, last in each
+    ]
     return "".join(f"{it}\n" for it in lines).encode()
 
 

@@ -5,7 +5,7 @@
 import re
 
 from .refusals import Refused
-from .texts import CONTROL, DEPTH, FILTER
+from .texts import CONTROL, DEPTH, FILTER, LETTERS
 
 FIELDS = ("controllerid", "name", "tag", "attribute.")
 LETTER = re.compile(r"[A-Za-z0-9._-]")
@@ -39,7 +39,7 @@ class Scan:
     def key(self, letter):
         """The key of an attribute, a word."""
         length = len(self.field) - len(FIELDS[3])
-        if LETTER.fullmatch(letter) and length < 64:
+        if LETTER.fullmatch(letter) and length < LETTERS:
             self.field += letter
             return True
         return length > 0 and self.operator(letter)
@@ -115,7 +115,7 @@ def matches_pattern(pattern, text):
         return text == first
     if not text.startswith(first):
         return False
-    text, last = text[len(first):], rest.pop()
+    text, last = text[len(first) :], rest.pop()
     for piece in rest:
         before, found, text = text.partition(piece) if piece else ("", "*", text)
         if not found:
@@ -128,7 +128,7 @@ def holds(comparison, target):
     if field == "tag":
         is_so = any(matches_pattern(value, it) for it in target["tags"])
     elif field.startswith(FIELDS[3]):
-        key = field[len(FIELDS[3]):]
+        key = field[len(FIELDS[3]) :]
         is_so = key in target["attributes"] and matches_pattern(value, target["attributes"][key])
     else:
         is_so = matches_pattern(value, target["id" if field == "controllerid" else "name"])
@@ -137,4 +137,7 @@ def holds(comparison, target):
 
 def matches(tree, target):
     """What a filter means at a target."""
-    return any(all(holds(it, target) if isinstance(it, tuple) else matches(it, target) for it in each) for each in tree)
+    return any(
+        all(holds(it, target) if isinstance(it, tuple) else matches(it, target) for it in each)
+        for each in tree
+    )

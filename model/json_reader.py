@@ -58,7 +58,7 @@ class Reader:
     def next(self):
         """The next letter that is no space, or an empty text at the end."""
         self.space()
-        return self.text[self.at:self.at + 1]
+        return self.text[self.at : self.at + 1]
 
     def takes(self, letter):
         if self.next() != letter:
@@ -77,7 +77,7 @@ class Reader:
             plain = PLAIN.match(self.text, self.at)
             parts.append(plain[0])
             self.at = plain.end() + 1
-            ended = self.text[plain.end():self.at]
+            ended = self.text[plain.end() : self.at]
             if ended == '"':
                 return "".join(parts)
             if ended != "\\":
@@ -85,7 +85,7 @@ class Reader:
             parts.append(self.escape())
 
     def escape(self):
-        letter = self.text[self.at:self.at + 1]
+        letter = self.text[self.at : self.at + 1]
         self.at += 1
         if letter in ESCAPES:
             return ESCAPES[letter]
@@ -94,7 +94,7 @@ class Reader:
         first = self.code_unit()
         if not 0xD800 <= first <= 0xDFFF:
             return chr(first)
-        if first >= 0xDC00 or self.text[self.at:self.at + 2] != "\\u":
+        if first >= 0xDC00 or self.text[self.at : self.at + 2] != "\\u":
             raise Bad("a surrogate by itself")
         self.at += 2
         second = self.code_unit()

@@ -31,7 +31,7 @@ class CommandList:
         return CommandList(self.course, self.length - 1)
 
     def commands(self):
-        return self.course.commands[:self.length]
+        return self.course.commands[: self.length]
 
     def followed_by(self, command, subjects):
         """The list and one more command, which is about these."""
@@ -48,7 +48,10 @@ class CommandList:
 
     def prefixes(self, subject):
         """Its prefixes that end in a command about something, shortest first."""
-        return [CommandList(self.course, it) for it in self.course.places.get(subject, ())[:self.count(subject)]]
+        return [
+            CommandList(self.course, it)
+            for it in self.course.places.get(subject, ())[: self.count(subject)]
+        ]
 
 
 def by(subject):

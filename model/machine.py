@@ -4,14 +4,42 @@
 groups, `a` an action, `t` a target, all by their numbers, which count from 1, or names.
 """
 from . import filters
-from .commands import (FAILURE, GIVEN_UP, REJECTED, SUCCESS, AddArtifact, AddModule, AddSet, Approve, Cancel,
-                       CancelFeedback, CreateRollout, Deny, Feedback, Make, Pause, PutAttributes, PutTargets, Resume,
-                       Start, Tag, TriggerNext, Untag)
+from .commands import (
+    FAILURE,
+    GIVEN_UP,
+    REJECTED,
+    SUCCESS,
+    AddArtifact,
+    AddModule,
+    AddSet,
+    Approve,
+    Cancel,
+    CancelFeedback,
+    CreateRollout,
+    Deny,
+    Feedback,
+    Make,
+    Pause,
+    PutAttributes,
+    PutTargets,
+    Resume,
+    Start,
+    Tag,
+    TriggerNext,
+    Untag,
+)
 from .lists import CommandList, by, some_prefix
 
 OPEN, OK, BAD, GONE = "open", "ok", "bad", "gone"
 DEPLOYMENT, CANCEL = "deployment", "cancel"
-MODULES, ARTIFACTS, SETS, TARGETS, ROLLOUTS, STARTS = "modules", "artifacts", "sets", "targets", "rollouts", "starts"
+MODULES, ARTIFACTS, SETS, TARGETS, ROLLOUTS, STARTS = (
+    "modules",
+    "artifacts",
+    "sets",
+    "targets",
+    "rollouts",
+    "starts",
+)
 
 
 def of_target(t):
@@ -180,7 +208,9 @@ def started_rollouts(h):
 @by(always(STARTS))
 def actions(h):
     """The rollout and the position of each action."""
-    return [(r, position) for r in started_rollouts(h) for position in range(1, len(members(h, r)) + 1)]
+    return [
+        (r, position) for r in started_rollouts(h) for position in range(1, len(members(h, r)) + 1)
+    ]
 
 
 def rollout_of(h, a):
@@ -200,7 +230,7 @@ def group_of(h, a):
 @by(always(STARTS))
 def first_action(h, r):
     """The number of the rollout's first action."""
-    earlier = started_rollouts(h)[:started_rollouts(h).index(r)]
+    earlier = started_rollouts(h)[: started_rollouts(h).index(r)]
     return 1 + sum(len(members(h, it)) for it in earlier)
 
 
@@ -237,8 +267,16 @@ def gives(p, a):
 @by(of_action)
 def canceling(h, a):
     """It is open, and the last among its Cancel and its feedback that rejects one is a Cancel."""
-    rejecting = {p.length for p in history(h, a) if isinstance(p.last, CancelFeedback) and p.last.said == REJECTED}
-    about = [p.last for p in h.prefixes(of_action(a)) if isinstance(p.last, Cancel) or p.length in rejecting]
+    rejecting = {
+        p.length
+        for p in history(h, a)
+        if isinstance(p.last, CancelFeedback) and p.last.said == REJECTED
+    }
+    about = [
+        p.last
+        for p in h.prefixes(of_action(a))
+        if isinstance(p.last, Cancel) or p.length in rejecting
+    ]
     return outcome(h, a) == OPEN and bool(about) and isinstance(about[-1], Cancel)
 
 
@@ -247,7 +285,11 @@ def is_repeat(p, a):
     """The last command is feedback on an action that has an outcome already, or its greatest number once more."""
     if outcome(p.before, a) != OPEN:
         return True
-    return p.last.number is not None and p.last.number == greatest(p.before, a) and same(p.last, bearer(p.before, a))
+    return (
+        p.last.number is not None
+        and p.last.number == greatest(p.before, a)
+        and same(p.last, bearer(p.before, a))
+    )
 
 
 def same(one, other):
@@ -263,7 +305,11 @@ def history(h, a):
 
 def bearer(h, a):
     """The feedback that bears the greatest number, if there is one."""
-    return max((p.last for p in history(h, a) if p.last.number is not None), key=lambda it: it.number, default=None)
+    return max(
+        (p.last for p in history(h, a) if p.last.number is not None),
+        key=lambda it: it.number,
+        default=None,
+    )
 
 
 def greatest(h, a):
@@ -316,7 +362,9 @@ def is_started(p, r):
 @by(of_rollout)
 def pauses(q, r):
     """The list ends in a pause of the rollout, or some group's error begins with its last command."""
-    begins = is_created(q.before, r) and any(error(q, r, g) and not error(q.before, r, g) for g in groups(q, r))
+    begins = is_created(q.before, r) and any(
+        error(q, r, g) and not error(q.before, r, g) for g in groups(q, r)
+    )
     return q.last == Pause(r) or begins
 
 
@@ -341,7 +389,11 @@ def group_started(p, r, g):
         return False
     if not paused(p, r) and success(p, r, g - 1):
         return True
-    return p.last == TriggerNext(r) and group_started(p.before, r, g - 1) and not group_started(p.before, r, g)
+    return (
+        p.last == TriggerNext(r)
+        and group_started(p.before, r, g - 1)
+        and not group_started(p.before, r, g)
+    )
 
 
 def action_started(h, a):
@@ -449,5 +501,3 @@ def repeated(h):
     for c in h.commands():
         found = followed_by(found, c)
     return found
-
-

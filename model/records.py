@@ -1,8 +1,26 @@
 """The records of a desk, changed by one step a command, without the list: what a program would keep."""
 from . import filters
-from .commands import (REJECTED, SUCCESS, AddArtifact, AddModule, AddSet, Approve, Cancel, CancelFeedback,
-                       CreateRollout, Deny, Feedback, Pause, PutAttributes, PutTargets, Resume, Start, Tag,
-                       TriggerNext, Untag)
+from .commands import (
+    REJECTED,
+    SUCCESS,
+    AddArtifact,
+    AddModule,
+    AddSet,
+    Approve,
+    Cancel,
+    CancelFeedback,
+    CreateRollout,
+    Deny,
+    Feedback,
+    Pause,
+    PutAttributes,
+    PutTargets,
+    Resume,
+    Start,
+    Tag,
+    TriggerNext,
+    Untag,
+)
 
 CLOSED = ("closed", "canceled")
 
@@ -17,9 +35,17 @@ class Records:
     def kinds(self):
         """Each kind of records, by their numbers or names."""
         targets = {t: {**it, "tags": sorted(it["tags"])} for t, it in self.targets.items()}
-        return {"approval": self.approval, "module": self.modules, "artifact": self.artifacts, "set": self.sets,
-                "target": targets, "rollout": self.rollouts, "group": self.groups, "action": self.actions,
-                "offer": self.offers}
+        return {
+            "approval": self.approval,
+            "module": self.modules,
+            "artifact": self.artifacts,
+            "set": self.sets,
+            "target": targets,
+            "rollout": self.rollouts,
+            "group": self.groups,
+            "action": self.actions,
+            "offer": self.offers,
+        }
 
     def step(self, command):
         """Takes an accepted command."""
@@ -33,7 +59,13 @@ class Records:
     def put_targets(self, c):
         for it in c.rows:
             old = self.targets.get(it.id, {"attributes": {}})
-            self.targets[it.id] = {**old, "id": it.id, "name": it.name, "digest": it.digest, "tags": set(it.tags)}
+            self.targets[it.id] = {
+                **old,
+                "id": it.id,
+                "name": it.name,
+                "digest": it.digest,
+                "tags": set(it.tags),
+            }
 
     def tag(self, c):
         self.targets[c.target]["tags"].add(c.tag)
@@ -50,8 +82,18 @@ class Records:
         tree = filters.read(c.filter)
         members = sorted(t for t, it in self.targets.items() if filters.matches(tree, it))
         approval = "waiting" if self.approval else "given"
-        self.add(self.rollouts, {"name": c.name, "set": c.set, "filter": c.filter, "members": members, "started": False,
-                                 "paused": False, "approval": approval})
+        self.add(
+            self.rollouts,
+            {
+                "name": c.name,
+                "set": c.set,
+                "filter": c.filter,
+                "members": members,
+                "started": False,
+                "paused": False,
+                "approval": approval,
+            },
+        )
         taken, size = 0, len(members)
         for number, rule in enumerate(c.plan, 1):
             if rule.percentage is None:
@@ -59,7 +101,15 @@ class Records:
             else:
                 # (what is left of the rest, rounded down)
                 last = size - (size - taken) * (100 - rule.percentage) // 100
-            group = {"first": taken + 1, "last": last, "rule": rule, "started": False, "ok": 0, "bad": 0, "gone": 0}
+            group = {
+                "first": taken + 1,
+                "last": last,
+                "rule": rule,
+                "started": False,
+                "ok": 0,
+                "bad": 0,
+                "gone": 0,
+            }
             self.groups[len(self.rollouts), number] = group
             taken = last
 
@@ -73,16 +123,30 @@ class Records:
         it = self.rollouts[c.rollout]
         it["started"] = True
         for position, t in enumerate(it["members"], 1):
-            g = next(g for (r, g), each in self.groups.items() if r == c.rollout and position <= each["last"])
-            self.add(self.actions, {"rollout": c.rollout, "group": g, "target": t, "canceling": False,
-                                    "outcome": "open", "notes": 0, "feedback": []})
+            g = next(
+                g
+                for (r, g), each in self.groups.items()
+                if r == c.rollout and position <= each["last"]
+            )
+            self.add(
+                self.actions,
+                {
+                    "rollout": c.rollout,
+                    "group": g,
+                    "target": t,
+                    "canceling": False,
+                    "outcome": "open",
+                    "notes": 0,
+                    "feedback": [],
+                },
+            )
             self.actions_of.setdefault(t, []).append(len(self.actions))
         self.start_group(c.rollout, 1)
 
     def start_group(self, r, g):
         group = self.groups[r, g]
         group["started"] = True
-        for t in self.rollouts[r]["members"][group["first"] - 1:group["last"]]:
+        for t in self.rollouts[r]["members"][group["first"] - 1 : group["last"]]:
             self.offer(t)
 
     def offer(self, t):
@@ -145,7 +209,9 @@ class Records:
             return
         it["feedback"].append((c.kind, c.said, c.details, c.number))
         if c.said[0] in CLOSED:
-            self.end(c.action, "gone" if c.kind == "cancel" else "ok" if c.said == SUCCESS else "bad")
+            self.end(
+                c.action, "gone" if c.kind == "cancel" else "ok" if c.said == SUCCESS else "bad"
+            )
         elif c.kind == "cancel" and c.said == REJECTED:
             it["canceling"] = False
             self.offer(it["target"])

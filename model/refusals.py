@@ -1,31 +1,5 @@
-"""The refusals: one table of numbers, names and statuses, and the exception that carries one with its reason."""
-
-TABLE = {
-    1: ("bad_request", 400),
-    2: ("unauthorized", 401),
-    3: ("not_found", 404),
-    4: ("method", 405),
-    5: ("exists", 409),
-    6: ("locked", 409),
-    7: ("wrong_state", 409),
-    8: ("closed_action", 410),
-    9: ("too_large", 413),
-    10: ("quota", 403),
-    11: ("filter", 400),
-    12: ("too_few_targets", 400),
-    13: ("digest", 400),
-    14: ("import_line", 400),
-    15: ("memory", 503),
-    16: ("store", 500),
-    17: ("stopped", 503),
-    18: ("head", 400),
-    19: ("length", 400),
-    20: ("head_size", 431),
-    21: ("coding", 501),
-    22: ("old_number", 410),
-}
-# after these the connection ends
-CLOSING = {9, 18, 19, 20, 21}
+"""The exception that carries a refusal with its reason. Its name and status are in the table of reference.py."""
+from .reference import REFUSALS
 
 
 class Refused(Exception):
@@ -37,11 +11,11 @@ class Refused(Exception):
 
     @property
     def name(self):
-        return TABLE[self.number][0]
+        return REFUSALS[self.number][0]
 
     @property
     def status(self):
-        return TABLE[self.number][1]
+        return REFUSALS[self.number][1]
 
 
 def must(holds, number, why):

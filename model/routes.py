@@ -7,7 +7,11 @@ PAGE = ("offset", "limit")
 REST, DESK, DEVICE = "/rest/v1", "/desk/v1", "/DEFAULT/controller/v1"
 MODULE, TARGET = f"{REST}/softwaremodules/{{module}}", f"{REST}/targets/{{target}}"
 ROLLOUT = f"{REST}/rollouts/{{rollout}}"
-ACTION, GROUP, DEVICES = f"{TARGET}/actions/{{action}}", f"{ROLLOUT}/deploygroups/{{group}}", f"{DEVICE}/{{device}}"
+ACTION, GROUP, DEVICES = (
+    f"{TARGET}/actions/{{action}}",
+    f"{ROLLOUT}/deploygroups/{{group}}",
+    f"{DEVICE}/{{device}}",
+)
 
 # each call by its method and path, and the keys of its query
 CALLS = {
@@ -78,8 +82,11 @@ def parameters(route, path):
 @lru_cache(10_000)
 def of_path(path, interface):
     """The calls that a path may make, each with what stands in the places of its parameters."""
-    return [(call, method, given) for call, method, route in SPLIT
-            if is_served(call, interface) and (given := parameters(route, path)) is not None]
+    return [
+        (call, method, given)
+        for call, method, route in SPLIT
+        if is_served(call, interface) and (given := parameters(route, path)) is not None
+    ]
 
 
 def find(message, interface):
@@ -90,4 +97,6 @@ def find(message, interface):
     for call, method, given in found:
         if method == message.method:
             return call, given
-    raise Refused(4, f"{message.path[:100]} takes {' and '.join(it[1] for it in found)}, not {message.method}")
+    raise Refused(
+        4, f"{message.path[:100]} takes {' and '.join(it[1] for it in found)}, not {message.method}"
+    )

@@ -1,23 +1,34 @@
-"""What a word, a token, a name and a number may be, and the limits."""
+"""What a word, a token, a name and a number may be, and the limits, whose numbers are in reference.py."""
 import re
 
-WORD = re.compile(r"[A-Za-z0-9._-]{1,64}")
-TOKEN = re.compile(r"[A-Za-z0-9._-]{8,64}")
-FILENAME = re.compile(r"[A-Za-z0-9._-]{1,128}")
+from . import reference
+
+BODY = reference.BODY_LENGTH_LIMIT
+HEAD, FIELDS = reference.HEAD_LENGTH_LIMIT, reference.FIELD_LIMIT
+MODULES, SETS, ROLLOUTS = reference.MODULE_LIMIT, reference.SET_LIMIT, reference.ROLLOUT_LIMIT
+TARGETS, TARGETS_OF_REQUEST = reference.TARGET_LIMIT, reference.POSTED_TARGET_LIMIT
+ARTIFACTS_OF_MODULE, ARTIFACTS = reference.MODULE_ARTIFACT_LIMIT, reference.ARTIFACT_LIMIT
+MODULES_OF_SET, GROUPS = reference.SET_MODULE_LIMIT, reference.GROUP_LIMIT
+TAGS, ATTRIBUTES, NOTES = reference.TAG_LIMIT, reference.ATTRIBUTE_LIMIT, reference.NOTE_LIMIT
+DETAILS, DETAIL = reference.DETAIL_LIMIT, reference.DETAIL_LENGTH_LIMIT
+FILTER, DEPTH = reference.FILTER_LENGTH_LIMIT, reference.FILTER_DEPTH_LIMIT
+LETTERS, TEXT = reference.WORD_LENGTH_LIMIT, reference.TEXT_LENGTH_LIMIT
+LARGEST = reference.NUMBER_LIMIT
+LARGEST_OF_FEEDBACK = reference.FEEDBACK_NUMBER_LIMIT
+PAGE, USUAL_PAGE = reference.PAGE_LIMIT, reference.PAGE_DEFAULT
+
+
+def letters(least, most):
+    """The pattern of so many of the letters that ids are made of."""
+    return f"[A-Za-z0-9._-]{{{least},{most}}}"
+
+
+WORD = re.compile(letters(1, LETTERS))
+TOKEN = re.compile(letters(reference.TOKEN_LENGTH_LEAST, reference.TOKEN_LENGTH_LIMIT))
+FILENAME = re.compile(letters(1, reference.FILENAME_LENGTH_LIMIT))
 DIGEST = re.compile(r"[0-9A-Fa-f]{64}")
 NUMBER = re.compile(r"[1-9][0-9]{0,9}")
 CONTROL = re.compile(r"[\x00-\x1f\x7f]")
-
-BODY = 4_194_304
-HEAD, FIELDS = 8_192, 32
-MODULES, SETS, ROLLOUTS, TARGETS = 1_000, 1_000, 1_000, 10_000
-ARTIFACTS_OF_MODULE, ARTIFACTS = 8, 256
-MODULES_OF_SET, TARGETS_OF_REQUEST, GROUPS = 8, 100, 50
-TAGS, ATTRIBUTES, NOTES = 16, 32, 100
-DETAILS, DETAIL = 8, 256
-FILTER, DEPTH = 512, 16
-LARGEST = 2_147_483_647
-LARGEST_OF_FEEDBACK = 4_294_967_295
 
 
 def is_word(text):
@@ -38,11 +49,11 @@ def is_line(text, least, most):
 
 
 def is_text(text):
-    return is_line(text, 1, 128)
+    return is_line(text, 1, TEXT)
 
 
 def is_value(text):
-    return is_line(text, 0, 128)
+    return is_line(text, 0, TEXT)
 
 
 def is_detail(text):

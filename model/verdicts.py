@@ -5,12 +5,58 @@ And what is answered: an accepted command's reply, or what a query shows. A refu
 import hashlib
 
 from . import texts
-from .commands import (REJECTED, SUCCESS, AddArtifact, AddModule, AddSet, Approve, Cancel, CancelFeedback,
-                       CreateRollout, Deny, Feedback, Pause, PutAttributes, PutTargets, Resume, Start, Tag,
-                       TriggerNext, Untag)
-from .machine import (BAD, GONE, OK, OPEN, action_started, action_word, actions_of, artifacts, artifacts_of,
-                      attributes, bearer, bounds, canceling, greatest, group_started, groups, is_note, is_there,
-                      locked, matching, modules, notes, outcome, rollout_word, rollouts, rows, same, sets, tags)
+from .commands import (
+    REJECTED,
+    SUCCESS,
+    AddArtifact,
+    AddModule,
+    AddSet,
+    Approve,
+    Cancel,
+    CancelFeedback,
+    CreateRollout,
+    Deny,
+    Feedback,
+    Pause,
+    PutAttributes,
+    PutTargets,
+    Resume,
+    Start,
+    Tag,
+    TriggerNext,
+    Untag,
+)
+from .machine import (
+    BAD,
+    GONE,
+    OK,
+    OPEN,
+    action_started,
+    action_word,
+    actions_of,
+    artifacts,
+    artifacts_of,
+    attributes,
+    bearer,
+    bounds,
+    canceling,
+    greatest,
+    group_started,
+    groups,
+    is_note,
+    is_there,
+    locked,
+    matching,
+    modules,
+    notes,
+    outcome,
+    rollout_word,
+    rollouts,
+    rows,
+    same,
+    sets,
+    tags,
+)
 from .refusals import must
 
 
@@ -33,12 +79,20 @@ def has_action(h, t, a):
 
 def is_known(h, credential):
     must(is_there(h, credential.id), 2, f"there is no target {credential.id}")
-    must(rows(h)[credential.id].digest == credential.digest, 2, f"the token isn't that of {credential.id}")
+    must(
+        rows(h)[credential.id].digest == credential.digest,
+        2,
+        f"the token isn't that of {credential.id}",
+    )
 
 
 def is_in(h, r, *words):
     rollout_is_there(h, r)
-    must(rollout_word(h, r) in words, 7, f"rollout {r} is {rollout_word(h, r)}, not {' or '.join(words)}")
+    must(
+        rollout_word(h, r) in words,
+        7,
+        f"rollout {r} is {rollout_word(h, r)}, not {' or '.join(words)}",
+    )
 
 
 def add_module(h, c):
@@ -51,9 +105,17 @@ def add_artifact(h, c):
     must(not locked(h, c.module), 6, f"a set names module {c.module}")
     names = [artifacts(h)[it - 1].filename for it in artifacts_of(h, c.module)]
     must(c.filename not in names, 5, f"module {c.module} has a file {c.filename}")
-    must(len(names) < texts.ARTIFACTS_OF_MODULE, 10, f"module {c.module} has {texts.ARTIFACTS_OF_MODULE} artifacts")
+    must(
+        len(names) < texts.ARTIFACTS_OF_MODULE,
+        10,
+        f"module {c.module} has {texts.ARTIFACTS_OF_MODULE} artifacts",
+    )
     must(len(artifacts(h)) < texts.ARTIFACTS, 10, f"there are {texts.ARTIFACTS} artifacts")
-    must(c.sha256 in (None, hashlib.sha256(c.contents).hexdigest()), 13, "the file has another SHA-256")
+    must(
+        c.sha256 in (None, hashlib.sha256(c.contents).hexdigest()),
+        13,
+        "the file has another SHA-256",
+    )
 
 
 def add_set(h, c):
@@ -66,12 +128,20 @@ def add_set(h, c):
 
 def put_targets(h, c):
     new = {it.id for it in c.rows if not is_there(h, it.id)}
-    must(len(rows(h)) + len(new) <= texts.TARGETS, 10, f"there would be {len(rows(h)) + len(new)} targets")
+    must(
+        len(rows(h)) + len(new) <= texts.TARGETS,
+        10,
+        f"there would be {len(rows(h)) + len(new)} targets",
+    )
 
 
 def tag(h, c):
     target_is_there(h, c.target)
-    must(c.tag in tags(h, c.target) or len(tags(h, c.target)) < texts.TAGS, 10, f"{c.target} has {texts.TAGS} tags")
+    must(
+        c.tag in tags(h, c.target) or len(tags(h, c.target)) < texts.TAGS,
+        10,
+        f"{c.target} has {texts.TAGS} tags",
+    )
 
 
 def untag(h, c):
@@ -89,7 +159,11 @@ def create_rollout(h, c):
     must(c.set <= len(sets(h)), 3, f"there is no set {c.set}")
     must(c.name not in [it.name for it in rollouts(h)], 5, f"there is a rollout {c.name}")
     empty = [g for g, (first, last) in enumerate(bounds(size, c.plan), 1) if last < first]
-    must(not empty, 12, f"{size} targets match, so group {empty and empty[0]} of {len(c.plan)} would be empty")
+    must(
+        not empty,
+        12,
+        f"{size} targets match, so group {empty and empty[0]} of {len(c.plan)} would be empty",
+    )
     must(len(rollouts(h)) < texts.ROLLOUTS, 10, f"there are {texts.ROLLOUTS} rollouts")
 
 
@@ -103,7 +177,11 @@ def cancel(h, c):
     has_action(h, c.target, c.action)
     must(outcome(h, c.action) == OPEN, 8, f"action {c.action} is {action_word(h, c.action)}")
     must(action_started(h, c.action), 7, f"action {c.action} is scheduled")
-    must(c.force or not canceling(h, c.action), 7, f"action {c.action} is canceling, and nothing forces it")
+    must(
+        c.force or not canceling(h, c.action),
+        7,
+        f"action {c.action} is canceling, and nothing forces it",
+    )
 
 
 def outcome_of(c):
@@ -123,9 +201,17 @@ def feedback(h, c):
         return
     if c.number is not None and c.number <= greatest(h, a):
         again = c.number == greatest(h, a) and same(c, bearer(h, a))
-        must(again, 22, f"action {a} has feedback by number {greatest(h, a)}, and this is number {c.number}")
+        must(
+            again,
+            22,
+            f"action {a} has feedback by number {greatest(h, a)}, and this is number {c.number}",
+        )
         return
-    must(isinstance(c, Feedback) or canceling(h, a), 7, f"action {a} is {action_word(h, a)}, not canceling")
+    must(
+        isinstance(c, Feedback) or canceling(h, a),
+        7,
+        f"action {a} is {action_word(h, a)}, not canceling",
+    )
     must(not is_note(c) or notes(h, a) < texts.NOTES, 10, f"action {a} has {texts.NOTES} notes")
 
 

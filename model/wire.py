@@ -2,7 +2,9 @@
 import re
 from dataclasses import dataclass, field
 
-from .refusals import CLOSING, TABLE, Refused, must
+from . import reference
+from .reference import CLOSING, REFUSALS
+from .refusals import Refused, must
 from .texts import BODY, FIELDS, HEAD
 
 TOKEN = rb"[!#$%&'*+.^_`|~0-9A-Za-z-]+"
@@ -10,22 +12,8 @@ REQUEST_LINE = re.compile(rb"(%s) (/[A-Za-z0-9/?:@._~!$&'()*+,;=%%-]*) HTTP/1\.1
 FIELD = re.compile(rb"(%s):([\t \x21-\x7e\x80-\xff]*)" % TOKEN)
 DIGITS = re.compile(rb"[0-9]+")
 
-REASONS = {
-    200: "OK",
-    201: "Created",
-    400: "Bad Request",
-    401: "Unauthorized",
-    403: "Forbidden",
-    404: "Not Found",
-    405: "Method Not Allowed",
-    409: "Conflict",
-    410: "Gone",
-    413: "Payload Too Large",
-    431: "Request Header Fields Too Large",
-    500: "Internal Server Error",
-    501: "Not Implemented",
-    503: "Service Unavailable",
-}
+# the reason phrase of each status
+REASONS = {200: "OK", 201: "Created"} | reference.REASONS
 
 
 @dataclass
@@ -49,14 +37,20 @@ def length_of(fields):
     must(len(lengths) < 2, 19, "there are two Content-Length")
     must(all(DIGITS.fullmatch(it) for it in lengths), 19, "the Content-Length is no number")
     digits = (lengths or [b"0"])[0].lstrip(b"0") or b"0"
-    must(len(digits) <= 7 and int(digits) <= BODY, 9, f"a body of {digits[:20].decode()} bytes is over the limit")
+    must(
+        len(digits) <= 7 and int(digits) <= BODY,
+        9,
+        f"a body of {digits[:20].decode()} bytes is over the limit",
+    )
     return int(digits)
 
 
 def fields_of(lines):
     """The request line and the fields of a head's lines."""
     must(len(lines) - 1 <= FIELDS, 20, f"the head has {len(lines) - 1} fields")
-    must(not any(b"\r" in it or b"\n" in it for it in lines), 18, "the head has a CR or LF by itself")
+    must(
+        not any(b"\r" in it or b"\n" in it for it in lines), 18, "the head has a CR or LF by itself"
+    )
     asked = REQUEST_LINE.fullmatch(lines[0])
     must(asked, 18, f"no request line: {lines[0][:60]!r}")
     fields = [FIELD.fullmatch(it) for it in lines[1:]]
@@ -77,8 +71,11 @@ def take(stream, at):
     if len(stream) - begin < length:
         return None
     path, _, query = asked[2].decode().partition("?")
-    body = bytes(stream[begin:begin + length])
-    return Message(asked[1].decode(), path, query, values(fields, b"authorization"), body), begin + length
+    body = bytes(stream[begin : begin + length])
+    return (
+        Message(asked[1].decode(), path, query, values(fields, b"authorization"), body),
+        begin + length,
+    )
 
 
 def messages(stream):
@@ -100,14 +97,18 @@ def messages(stream):
 
 def reply_bytes(status, body, kind="application/json", close=False):
     """The bytes of a reply."""
-    lines = [f"HTTP/1.1 {status} {REASONS[status]}", f"Content-Type: {kind}", f"Content-Length: {len(body)}"]
+    lines = [
+        f"HTTP/1.1 {status} {REASONS[status]}",
+        f"Content-Type: {kind}",
+        f"Content-Length: {len(body)}",
+    ]
     lines += ["Connection: close"] if close else []
     return "".join(f"{it}\r\n" for it in [*lines, ""]).encode() + body
 
 
 def refusal_bytes(refused):
     """The bytes of a refusal's reply."""
-    name, status = TABLE[refused.number]
+    name, status = REFUSALS[refused.number]
     line = f'"line":{refused.line},' if refused.number == 14 else ""
     body = f'{{"error":"{name}",{line}"number":{refused.number}}}'.encode()
     return reply_bytes(status, body, close=refused.number in CLOSING)

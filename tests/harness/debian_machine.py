@@ -1,0 +1,119 @@
+"""A Debian 12 that systemd runs in, by systemd-nspawn, for root alone. Not run by itself.
+
+Its files are made once by debootstrap. What a test writes in it is gone with it; it has a network of its own, which
+reaches nobody."""
+import os
+import shutil
+import signal
+import subprocess
+import time
+from collections.abc import Callable, Iterable
+from pathlib import Path
+
+ROOT = Path("/var/tmp/fwdesk-debian")
+# what it has beside its base
+WITHIN = (
+    "systemd,systemd-sysv,dbus,procps,curl,jq,sqlite3,python3,haproxy,nginx-light,openssl,socat"
+)
+# seconds until its first process is there, until systemd is up, and for one command
+FIRST, UP, COMMAND = 30, 90, 300
+
+
+def make_root(root: Path = ROOT, within: str = WITHIN) -> None:
+    """Makes the files, which takes some minutes, where they aren't there."""
+    if root.is_dir():
+        assert (root / "usr/sbin/haproxy").is_file(), f"{root} has no HAProxy: remove it"
+        return
+    print(f"debootstrap makes {root}, which takes some minutes", flush=True)
+    unfinished = root.with_name(f"{root.name}.unfinished")
+    shutil.rmtree(unfinished, ignore_errors=True)
+    words = ["debootstrap", "--variant=minbase", f"--include={within}", "bookworm", unfinished]
+    subprocess.run([str(it) for it in words], check=True, stdout=subprocess.DEVNULL)
+    unfinished.rename(root)
+
+
+def run_checks(checks: Iterable[tuple[Callable[..., None], object]]) -> tuple[int, int]:
+    """Runs checks in their order, each with what it takes, and tells each; how many passed and failed."""
+    passed = failed = 0
+    for check, given in checks:
+        began, words = time.monotonic(), " ".join((check.__doc__ or "").split())
+        try:
+            check(given)
+            passed += 1
+            print(f"ok, {time.monotonic() - began:.0f} s: {words}", flush=True)
+        except (AssertionError, subprocess.SubprocessError, OSError, ValueError) as error:
+            failed += 1
+            print(f"FAILED: {words}\n    {error}", flush=True)
+    return passed, failed
+
+
+class Debian:
+    """The machine, from its start to its end."""
+
+    def __init__(self, root: Path = ROOT, share: Path | None = None):
+        """`share` is a folder that it has as /media, to read."""
+        make_root(root)
+        self.root, self.share = root, share
+
+    def __enter__(self):
+        words = ["systemd-nspawn", "-q", "--boot", "--volatile=overlay", "--register=no"]
+        words += ["--keep-unit", "--private-network", "--console=pipe"]
+        # so that systemd may put a filter before its services' addresses
+        words += ["--capability=CAP_BPF", "--system-call-filter=bpf"]
+        words += ["-M", f"fwdesk-try-{os.getpid()}", "-D", str(self.root)]
+        words += [f"--bind-ro={self.share}:/media"] if self.share else []
+        self.child = subprocess.Popen(
+            words,
+            env={**os.environ, "SYSTEMD_NSPAWN_UNIFIED_HIERARCHY": "1"},
+            stdin=subprocess.DEVNULL,
+            stdout=subprocess.DEVNULL,
+            stderr=subprocess.PIPE,
+        )
+        if not self.until(self.first_process, FIRST):
+            told = self.child.stderr.read().decode() if self.child.poll() is not None else ""
+            raise AssertionError(f"systemd-nspawn: {told}")
+        assert self.until(self.is_up, UP), "systemd doesn't come up"
+        return self
+
+    def __exit__(self, *_):
+        self.child.terminate()
+        try:
+            self.child.wait(timeout=60)
+        except subprocess.TimeoutExpired:
+            self.child.send_signal(signal.SIGKILL)
+            self.child.wait()
+
+    def first_process(self) -> str:
+        """The number of its first process, where it has begun."""
+        return Path(f"/proc/{self.child.pid}/task/{self.child.pid}/children").read_text().strip()
+
+    def is_up(self) -> bool:
+        return self.does("systemctl is-system-running --wait")[1] in ("running", "degraded")
+
+    @staticmethod
+    def until(holds, seconds: float):
+        """Waits until something holds, and gives what it then is."""
+        ends = time.monotonic() + seconds
+        while not (told := holds()) and time.monotonic() < ends:
+            time.sleep(0.2)
+        return told
+
+    def does(self, line: str, given: bytes | None = None) -> tuple[int, str]:
+        """Runs a line of shell in it, and gives its status and what it says."""
+        words = ["nsenter", "-t", self.first_process(), "-a", "bash", "-c", line]
+        ran = subprocess.run(
+            words, input=given, stdout=subprocess.PIPE, stderr=subprocess.STDOUT, timeout=COMMAND
+        )
+        return ran.returncode, ran.stdout.decode(errors="replace").strip()
+
+    def gives(self, line: str, given: bytes | None = None) -> str:
+        """What a line of shell says that has to succeed."""
+        status, told = self.does(line, given)
+        assert status == 0, f"{line}: status {status}: {told[-900:]}"
+        return told
+
+
+def exposure(machine: Debian, unit: str) -> float:
+    """What systemd says of how much a unit leaves to its program, from 0 to 10."""
+    told = machine.gives(f"systemd-analyze security {unit} | tail -1")
+    return float(told.rpartition(".service: ")[2].split()[0])

@@ -1,0 +1,298 @@
+"""A Debian of its own with many fleets, as deploy/haproxy and fwdesk-fleet have them, for tests/e2e/fleets/run and bench/fleets;
+not run by itself.
+
+The package is installed there as on any machine, systemd starts the units, and both HAProxys run from the committed
+files. What asks them is the script itself, which moves into that Debian's network."""
+import base64
+import ctypes
+import http.client
+import json
+import multiprocessing
+import os
+import random
+import signal
+import ssl
+import sys
+import tempfile
+import time
+from pathlib import Path
+
+ROOT = Path(__file__).resolve().parents[2]
+sys.path[:0] = [str(ROOT / "tools/lib"), str(ROOT / "tests")]
+from as_module import as_module
+from harness.debian_machine import Debian, make_root
+
+CLONE_NEWNET = 0x40000000
+WITHIN = "systemd,systemd-sysv,dbus,curl,jq,sqlite3,haproxy,nginx-light,python3,openssl,procps"
+EXAMPLES = "/usr/share/doc/fwdesk/examples"
+RECORDS = "/var/lib/private/fwdesk-fleets"
+TLS, LOCAL = 8443, 8081
+SECRET = "secret"
+# the edge of many fleets as docs/FLEETS.md sets it up, with the port of this machine that the checks ask
+PROXIES = """
+own=/etc/fwdesk/haproxy.d; units=/etc/systemd/system
+mkdir -p $own $units/haproxy.service.d $units/haproxy-desks.service.d /var/lib/fwdesk-brake
+cp /usr/share/fwdesk/haproxy/local/fleets/*.cfg $own && touch /var/lib/fwdesk-brake/held.map
+sed -i 's|@NAME@|desk.example|; s|^global$|&\\n    setenv FWDESK_LOCAL_PORT 8081|' $own/10-own.cfg
+# the checks come from this one machine, by any fleet's host
+sed -i '/FWDESK_HOSTS/d' $own/10-own.cfg
+cat > $units/haproxy.service.d/fwdesk.conf <<EOF
+[Unit]
+Wants=haproxy-desks.service
+After=haproxy-desks.service
+[Service]
+Environment="CONFIG=/etc/fwdesk/haproxy.d"
+Environment="EXTRAOPTS=-f /usr/share/fwdesk/haproxy/edge -S /run/haproxy-master.sock"
+EOF
+cat > $units/haproxy-desks.service.d/fleets.conf <<EOF
+[Service]
+Environment="SERVERS=-f /etc/haproxy/fleets/servers.cfg"
+MemoryDenyWriteExecute=no
+CapabilityBoundingSet=CAP_FOWNER
+EOF
+"""
+BASE = "/DEFAULT/controller/v1"
+# how long a client waits, in seconds: longer than the proxies' own limits
+PATIENCE = 120
+# the longest that clients poll, in seconds: longer than any check takes on a busy machine
+LONGEST = 7200
+
+
+package = as_module(ROOT / "tools/package")
+thundering_herd = as_module(ROOT / "tests/load/thundering-herd")
+
+
+def fleet(number):
+    return f"f{number:02}"
+
+
+def device(name, number):
+    return f"{name}-{number:05}"
+
+
+def poll(name, way, number, tls=False):
+    """The bytes of a poll, by one of the ways in which a request is led to its fleet,
+    and as a device of that way's id."""
+    path, host = {
+        "path": (f"/fleets/{name}", "localhost"),
+        "host": ("", f"{name}.desk.example"),
+        "prefix": ("", "localhost"),
+    }[way]
+    id = device(name, number)
+    return f"GET {path}{BASE}/{id} HTTP/1.1\r\nHost: {host}\r\nAuthorization: TargetToken tok-{id}\r\n\r\n".encode()
+
+
+WAYS = ("path", "host", "prefix")
+
+# makes the files of fleets f01, f02 .., each with so many devices
+MAKE = """
+import os, pathlib, subprocess, sys
+fleets, devices = map(int, sys.argv[1:])
+os.umask(0o077)
+for number in range(1, fleets + 1):
+    name = f"f{number:02}"
+    folder = pathlib.Path("/var/lib/private/fwdesk-fleets", name)
+    folder.mkdir(parents=True)
+    ids = [f"{name}-{it:05}" for it in range(1, devices + 1)]
+    pathlib.Path("/tmp/fleet.csv").write_text("controllerid,name,token,tags\\n" + \
+"".join(f"{it},{it},tok-{it},\\n" for it in ids))
+    subprocess.run(["fwdesk", "import", "--db", folder / "desk.db", "--file", "/tmp/fleet.csv"], check=True, \
+stdout=subprocess.DEVNULL)
+    pathlib.Path("/etc/fwdesk/fleets", name + ".program").symlink_to("/usr/bin/fwdesk")
+    conf = f'PORT={20000 + number}\\nHOSTS="{name}.desk.example"\\nPREFIXES="{name}-"\\nOPERATORS="anna"\\n'
+    pathlib.Path("/etc/fwdesk/fleets", name + ".conf").write_text(conf)
+"""
+
+
+class Machine(Debian):
+    """The Debian with the package and both proxies, and this process within its network."""
+
+    def __init__(self, root, program, operators):
+        make_root(root, WITHIN)
+        super().__init__(root)
+        self.program, self.operators = program, operators
+
+    def __enter__(self):
+        # so that nothing is left where it is ended
+        signal.signal(signal.SIGTERM, lambda *_: sys.exit(1))
+        super().__enter__()
+        try:
+            self.install()
+        except BaseException:
+            self.__exit__(None, None, None)
+            raise
+        return self
+
+    def install(self):
+        with tempfile.TemporaryDirectory(prefix="fwdesk-fleets-") as out:
+            made = package.make(self.program, Path(out))[0]
+            self.gives("cat > /tmp/fwdesk.deb", made.read_bytes())
+        self.gives("dpkg -i /tmp/fwdesk.deb && systemctl disable -q --now fwdesk")
+        self.gives(
+            "cd /etc/fwdesk 2>/dev/null || { mkdir -p /etc/fwdesk && cd /etc/fwdesk; }; "
+            "openssl req -x509 -newkey ec -pkeyopt ec_paramgen_curve:prime256v1 -nodes -subj /CN=desk.example "
+            "-addext subjectAltName=DNS:localhost,IP:127.0.0.1 -keyout server.key -out server.crt 2>&1 && "
+            "cat server.crt server.key > server.pem"
+        )
+        self.gives(PROXIES)
+        # passwords in plain words here, so that thousands of logins are asked in seconds
+        users = "\\n".join(f"    user {it} insecure-password {SECRET}" for it in self.operators)
+        own = "/etc/fwdesk/haproxy.d/20-operators.cfg"
+        self.gives(f"sed -i 's|^ *user anna password @PASSWORD@|{users}|' {own}")
+        self.gives(
+            "fwdesk-fleet settle; systemctl daemon-reload; systemctl enable -q --now haproxy-desks && "
+            "systemctl restart haproxy"
+        )
+        self.enter_network()
+
+    def enter_network(self):
+        with open(f"/proc/{self.first_process()}/ns/net") as it:
+            assert (
+                ctypes.CDLL(None, use_errno=True).setns(it.fileno(), CLONE_NEWNET) == 0
+            ), os.strerror(ctypes.get_errno())
+
+    def add(self, name, *words):
+        """A fleet that is led by each of the three ways; the beginning of its devices' ids is its name's."""
+        self.gives(
+            f"fwdesk-fleet add {name} --host {name}.desk.example --prefix {name}- {' '.join(words)}"
+        )
+
+    def make(self, fleets, devices):
+        """So many fleets with their devices at once, by their files and one call of fwdesk-fleet:
+        additions one by one take their time."""
+        self.gives("cat > /tmp/make.py", MAKE.encode())
+        self.gives(f"python3 /tmp/make.py {fleets} {devices} && fwdesk-fleet settle")
+
+    def fill(self, name, devices):
+        """Its devices, as one import."""
+        rows = "".join(
+            f"{it},{it},tok-{it},\n"
+            for it in (device(name, number) for number in range(1, devices + 1))
+        )
+        status, said = ask(
+            "POST", f"/fleets/{name}/desk/v1/import", f"controllerid,name,token,tags\n{rows}"
+        )
+        assert status == 200, (status, said)
+
+    def offers(self, name, size):
+        """A rollout of an artifact of so many bytes to all of its devices."""
+        own = f"/fleets/{name}/rest/v1"
+        half = {"condition": "THRESHOLD", "expression": "100"}
+        plan = {
+            "name": "r",
+            "distributionSetId": 1,
+            "targetFilterQuery": "name==*",
+            "amountGroups": 1,
+            "successCondition": half,
+            "errorCondition": half,
+        }
+        for path, body in (
+            ("softwaremodules", [{"name": "app", "type": "os", "version": "1"}]),
+            ("softwaremodules/1/artifacts?filename=app.bin", bytes(size)),
+            ("distributionsets", [{"name": "s", "version": "1", "modules": [{"id": 1}]}]),
+            ("rollouts", plan),
+        ):
+            status, said = ask(
+                "POST", f"{own}/{path}", body if isinstance(body, bytes) else json.dumps(body)
+            )
+            assert status == 201, (path, status, said)
+
+    def admin(self, socket, order):
+        """What a HAProxy answers to an order."""
+        line = (
+            "import socket; s = socket.socket(socket.AF_UNIX); s.connect('%s'); s.sendall(b'%s\\n'); "
+            "print(s.makefile().read())"
+        )
+        return self.gives(f'python3 -c "{line % (socket, order)}"')
+
+    def worker(self, socket):
+        """The number of the process that a HAProxy serves with."""
+        return next(
+            it for it in self.admin(socket, "show info").splitlines() if it.startswith("Pid:")
+        )
+
+
+def ask(method, path, body=None, port=LOCAL, user=None, **fields):
+    """Asks once, through the port without TLS and logins where nothing else is said,
+    and gives the status and the body."""
+    if port == TLS:
+        it = http.client.HTTPSConnection(
+            "127.0.0.1", port, timeout=PATIENCE, context=ssl._create_unverified_context()
+        )
+    else:
+        it = http.client.HTTPConnection("127.0.0.1", port, timeout=PATIENCE)
+    if user:
+        fields["Authorization"] = login(user)
+    try:
+        it.request(
+            method, path, body, {key.replace("_", "-"): value for key, value in fields.items()}
+        )
+        reply = it.getresponse()
+        return reply.status, reply.read().decode(errors="replace")
+    finally:
+        it.close()
+
+
+def login(user, password=SECRET):
+    return "Basic " + base64.b64encode(f"{user}:{password}".encode()).decode()
+
+
+def requests(names, devices, stop):
+    """Polls of any of these fleets by any of the ways, until it is told to stop."""
+    chance = random.Random(0)
+    while not stop.is_set():
+        yield poll(chance.choice(names), chance.choice(WAYS), chance.randint(1, devices))
+
+
+def crowd(names, devices, clients, stop, tell):
+    """So many clients over kept connections, in a process of their own."""
+    alike = requests(names, devices, stop)
+    them = thundering_herd.Crowd(
+        LOCAL, [thundering_herd.Client("127.0.200.1", alike) for _ in range(clients)]
+    )
+    waiting = them.run(LONGEST)
+    them.waits.sort()
+    tell.send(
+        (
+            dict(them.told),
+            waiting,
+            them.late(),
+            them.waits[-1] if them.waits else 0.0,
+            len(them.waits),
+        )
+    )
+
+
+class Polls:
+    """Clients that poll these fleets for as long as a `with` lasts, and what they were told: statuses, and waits in
+    milliseconds and seconds."""
+
+    def __init__(self, names, devices, clients):
+        self.stop = multiprocessing.Event()
+        self.hear, tell = multiprocessing.Pipe(duplex=False)
+        self.process = multiprocessing.Process(
+            target=crowd, args=(names, devices, clients, self.stop, tell)
+        )
+
+    def __enter__(self):
+        self.process.start()
+        self.began = time.monotonic()
+        time.sleep(0.5)
+        return self
+
+    def __exit__(self, *_):
+        self.seconds = time.monotonic() - self.began
+        self.stop.set()
+        self.told, self.unanswered, self.late, self.longest, self.answered = self.hear.recv()
+        self.process.join()
+
+    def whole(self):
+        """Whether each poll was answered, and each answer was 200."""
+        return not self.unanswered and set(self.told) == {"200"}
+
+    def __str__(self):
+        rate = self.answered / self.seconds
+        return (
+            f"{rate:.0f} polls a second, 99 of 100 within {self.late:.1f} ms, "
+            f"the longest {self.longest * 1000:.0f} ms, told {self.told}"
+        )

@@ -1,0 +1,48 @@
+"""Tests of tools/lint/headless: what its head says of sentences that begin without their actor."""
+from pathlib import Path
+
+from as_module import as_module
+from asserting import same
+
+HEADLESS = as_module(Path(__file__).resolve().parents[2] / "tools/lint/headless")
+
+
+def found(text):
+    return [sentence for _, sentence in HEADLESS.headless(text)]
+
+
+def test_a_sentence_that_waits_for_its_actor_is_found():
+    same(
+        found(
+            "The server stops. What comes on top is dropped.\n\n- Where a part is\n  missing, ask.\n"
+        ),
+        ["What comes on top is dropped.", "Where a part is missing, ask."],
+    )
+
+
+def test_an_opening_sign_doesnt_hide_it():
+    same(
+        found('"Of these two are left." **Whoever asks** is told.\n'),
+        ['"Of these two are left."', "**Whoever asks** is told."],
+    )
+
+
+def test_code_in_backticks_is_no_sentence():
+    same(found("The page of `a. What b` is long. `Where. It` is code.\n"), [])
+
+
+def test_questions_headings_and_bold_passages_begin_as_they_like():
+    same(
+        found("# What is proved\n\nWhat is a desk? **Who does what.** The actor comes first.\n"), []
+    )
+
+
+def test_the_first_row_of_a_table_begins_as_it_likes_and_no_other():
+    same(
+        found("| What | Where |\n|---|---|\n| what it is | Of both one |\n| Whatever | b |\n"),
+        ["Of both one", "Whatever"],
+    )
+
+
+def test_blocks_of_code_arent_read():
+    same(found("It prints:\n\n    What is this\n\n```\nWhere is it\n```\n"), [])
