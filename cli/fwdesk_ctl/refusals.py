@@ -1,0 +1,26 @@
+"""What the server's refusals mean to an operator. Written by tools/gen/reference from docs/reference: change the tables there."""
+
+REFUSALS = {
+    "bad_request": "the input isn't in the form that the server takes",
+    "unauthorized": "no device has this id and token",
+    "not_found": "there is nothing of this number or name (any more)",
+    "method": "the server has no such call",
+    "exists": "the name is taken already",
+    "locked": "a set names this module already, so it takes no further file",
+    "wrong_state": "the state doesn't allow it (any more)",
+    "closed_action": "the action has its outcome already",
+    "too_large": "it is larger than the 4,194,304 bytes that the server takes",
+    "quota": "a limit of the server is reached",
+    "filter": "the filter can't be read",
+    "too_few_targets": "a group would have no device",
+    "digest": "the file that arrived has another SHA-256 than the one sent along",
+    "import_line": "a line of the file is wrong, and nothing of it was imported",
+    "memory": "the server ran out of memory; nothing was changed",
+    "store": "the server's database failed; the command may be kept or not",
+    "stopped": "a database error stopped the server: restart it",
+    "head": "the head of the request isn't in the form of HTTP/1.1 that the server takes",
+    "length": "the Content-Length of the request is no number, or there are two",
+    "head_size": "the head of the request is over the 8,192 bytes or 32 fields that the server takes",
+    "coding": "the request has a Transfer-Encoding, which the server doesn't take",
+    "old_number": "the action has a report of this number or a greater one, and not this one",
+}

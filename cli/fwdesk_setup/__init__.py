@@ -1,0 +1,1 @@
+"""What fwdesk-setup does, a module a subject: the certificate, operators, the proxy's parts, its units, and a look from outside."""
