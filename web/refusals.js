@@ -1,0 +1,26 @@
+// Written by tools/gen/reference from docs/reference: change the tables there.
+/** What the server's refusals mean to an operator, by their numbers. */
+export const REFUSALS = {
+  1: "the input isn't in the form that the server takes",
+  2: "no device has this id and token",
+  3: "there is nothing of this number or name (any more)",
+  4: "the server has no such call",
+  5: "the name is taken already",
+  6: "a set names this module already, so it takes no further file",
+  7: "the state doesn't allow it (any more)",
+  8: "the action has its outcome already",
+  9: "it is larger than the 4,194,304 bytes that the server takes",
+  10: "a limit of the server is reached",
+  11: "the filter can't be read",
+  12: "a group would have no device",
+  13: "the file that arrived has another SHA-256 than the one sent along",
+  14: "a line of the file is wrong, and nothing of it was imported",
+  15: "the server ran out of memory; nothing was changed",
+  16: "the server's database failed; the command may be kept or not",
+  17: "a database error stopped the server: restart it",
+  18: "the head of the request isn't in the form of HTTP/1.1 that the server takes",
+  19: "the Content-Length of the request is no number, or there are two",
+  20: "the head of the request is over the 8,192 bytes or 32 fields that the server takes",
+  21: "the request has a Transfer-Encoding, which the server doesn't take",
+  22: "the action has a report of this number or a greater one, and not this one",
+};
