@@ -1,0 +1,116 @@
+"""Honest devices beside an attack: how many polls a second they are told, and the slowest. Not run by itself."""
+
+import multiprocessing
+import os
+import socket
+import time
+from dataclasses import dataclass
+from typing import Callable, TypeVar
+
+from stage import DEVICES, Link, Stage
+
+T = TypeVar("T")
+
+
+def run_beside(work: list[Callable[[], T]]) -> list[T]:
+    """Runs each in a process of its own, all at the same time: what each returned. One that raises fails the test."""
+    context, those = multiprocessing.get_context("fork"), []
+    for it in work:
+        ours, theirs = context.Pipe(duplex=False)
+        child = context.Process(target=lambda it=it, out=theirs: out.send(it()))
+        child.start()
+        # so that the end of the child is the end of the pipe
+        theirs.close()
+        those.append((child, ours))
+    try:
+        return [ours.recv() for _, ours in those]
+    except EOFError:
+        raise AssertionError("a process of the test has ended without a result") from None
+    finally:
+        for child, _ in those:
+            child.join()
+
+
+@dataclass
+class Polls:
+    """What came of a time of polls: those that were answered, a second; the slowest, in seconds; others than 200."""
+
+    rate: float
+    slowest: float
+    refused: int
+
+
+def poll_all_the_time(stage: Stage, device: int, until: float) -> tuple[int, float, int]:
+    """A device that polls all the time over a kept connection, from an address of its own."""
+    told, worst, refused, link = 0, 0.0, 0, None
+    while time.monotonic() < until:
+        began = time.monotonic()
+        try:
+            link = link or stage.open(f"127.1.0.{device}", 60)
+            status = stage.poll(link, device)[0]
+        except OSError:
+            status = 0
+        worst = max(worst, time.monotonic() - began)
+        told, refused = told + (status == 200), refused + (status not in (0, 200))
+        if status != 200 and link:
+            link.close()
+            link = None
+    return told, worst, refused
+
+
+def polled(stage: Stage, seconds: float) -> Polls:
+    """All honest devices poll for so long, each in a process of its own."""
+    until = time.monotonic() + seconds
+    told = run_beside(
+        [
+            lambda device=device: poll_all_the_time(stage, device, until)
+            for device in range(1, DEVICES + 1)
+        ]
+    )
+    return Polls(
+        sum(it[0] for it in told) / seconds, max(it[1] for it in told), sum(it[2] for it in told)
+    )
+
+
+def beside(stage: Stage, seconds: float, attack: Callable[[float], None], count: int) -> Polls:
+    """The polls of honest devices while an attack, which is told until when, runs in so many processes."""
+    context = multiprocessing.get_context("fork")
+    until = time.monotonic() + seconds + 1
+    those = [context.Process(target=attack, args=(until,), daemon=True) for _ in range(count)]
+    for it in those:
+        it.start()
+    time.sleep(0.5)
+    try:
+        return polled(stage, seconds)
+    finally:
+        for it in those:
+            it.join(30)
+            if it.is_alive():
+                it.kill()
+
+
+def compare(
+    stage: Stage, seconds: float, attack: Callable[[float], None], count: int
+) -> tuple[Polls, Polls]:
+    """The polls of honest devices alone, and beside an attack. Alone they are measured before and after, of which the lower
+    rate counts: a machine that other work shares isn't as quick all the time."""
+    before = polled(stage, seconds / 2)
+    under = beside(stage, seconds, attack, count)
+    stage.forget()
+    alone = min(before, polled(stage, seconds / 2), key=lambda it: it.rate)
+    print(f"{stage.form}: {alone.rate:.0f} alone, {under.rate:.0f} beside, {under}; {load()}")
+    return alone, under
+
+
+def hold(links: list[socket.socket | Link], made: Callable[[], Link], count: int) -> None:
+    """Opens so many connections; one that is refused is left out."""
+    for _ in range(count):
+        try:
+            links.append(made())
+        except OSError:
+            pass
+
+
+def load() -> str:
+    """The machine's load, for what is printed."""
+    return f"load {os.getloadavg()[0]:.0f}"

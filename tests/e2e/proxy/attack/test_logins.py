@@ -1,0 +1,197 @@
+"""Wrong passwords: how many an address has, what they cost, and who is kept waiting by them."""
+
+import os
+import socket
+import subprocess
+import time
+from concurrent.futures import ThreadPoolExecutor
+from pathlib import Path
+from typing import Iterator
+
+import pytest
+from crowd import compare, hold, load
+from harness.processes import HOST, PATIENCE, free_port
+from stage import GUESSED, TLS, Link, Stage, login
+
+pytestmark = [pytest.mark.e2e]
+
+
+def wrong(stage: Stage, source: str = HOST, password: str = "wrong", name: str = "zoe") -> int:
+    """The status that a wrong login is answered with."""
+    return stage.ask("GET", "/rest/v1/targets", login(name, password), source=source)[0]
+
+
+@pytest.mark.gate
+@pytest.mark.timed
+def test_guesser_waits(quiet: Stage) -> None:
+    """Twenty a minute; then 429 after ten seconds, right logins too. Others and devices at that address aren't kept."""
+    source = "127.0.0.77"
+    assert [wrong(quiet, source) for _ in range(20)] == [401] * 20
+    began = time.monotonic()
+    with ThreadPoolExecutor() as those:
+        late = those.submit(wrong, quiet, source)
+        right = those.submit(
+            lambda: quiet.ask("GET", "/rest/v1/targets", login("zoe"), source=source)[0]
+        )
+        with quiet.open(source) as link:
+            assert quiet.poll(link, 1)[0] == 200
+        assert quiet.ask("GET", "/rest/v1/targets", login("zoe"), source="127.0.0.78")[0] == 200
+        assert not late.done() and not right.done()
+        assert (late.result(), right.result()) == (429, 429)
+    assert 9.5 < time.monotonic() - began < 20
+
+
+def processor(stage: Stage) -> float:
+    """Seconds of a processor that the edge has taken."""
+    ticks = 0
+    for it in stage.edge.workers(stage.edge.edge):
+        ticks += sum(
+            map(int, Path(f"/proc/{it}/stat").read_text().rpartition(")")[2].split()[11:13])
+        )
+    return ticks / os.sysconf("SC_CLK_TCK")
+
+
+@pytest.mark.gate
+@pytest.mark.timed
+@pytest.mark.parametrize("letters", [200, 511, 4000])
+def test_long_password_is_cheap(quiet: Stage, letters: int) -> None:
+    """A password that is longer than any costs no more than a short one does, and counts as a wrong one."""
+    spent, source = [], f"127.0.8.{letters % 250}"
+    for password in ("short", "x" * letters):
+        quiet.forget()
+        began = processor(quiet)
+        assert [wrong(quiet, source, password) for _ in range(19)] == [401] * 19
+        spent.append(processor(quiet) - began)
+    quiet.forget()
+    assert spent[1] <= spent[0] * 1.5 + 0.03, spent
+    for _ in range(20):
+        wrong(quiet, source, "x" * letters)
+    with quiet.open(source, timeout=1) as link:
+        with pytest.raises(TimeoutError):
+            link.ask("GET", quiet.base + "/rest/v1/targets", login("zoe"))
+
+
+@pytest.mark.gate
+@pytest.mark.timed
+def test_time_tells_no_name(quiet: Stage) -> None:
+    """A wrong login of a name that is there takes as long as one of a name that isn't: at its quickest, and of the processor."""
+    names = (GUESSED, "absent")
+    quickest, spent = dict.fromkeys(names, 90.0), dict.fromkeys(names, 0.0)
+    for turn in range(6):
+        for name in names:
+            since = processor(quiet)
+            for number in range(20):
+                with quiet.open(f"127.10.{turn}.{number + 1}") as link:
+                    began = time.perf_counter()
+                    path = f"{quiet.base}/rest/v1/targets"
+                    assert link.ask("GET", path, login(name, "wrong"))[0] == 401
+                    quickest[name] = min(quickest[name], time.perf_counter() - began)
+            spent[name] += processor(quiet) - since
+    print(f"{quiet.form}: quickest {quickest}, of the processor {spent}; {load()}")
+    # where the password of an absent name isn't checked these are a fifth and a third
+    assert 0.5 < quickest["absent"] / quickest[GUESSED] < 2, quickest
+    assert 0.7 < spent["absent"] / spent[GUESSED] < 1.4, spent
+
+
+@pytest.mark.gate
+@pytest.mark.timed
+@pytest.mark.parametrize("letters", [5, 500])
+def test_polls_beside_guessers(
+    quiet: Stage, size: int, seconds: float, least: float, letters: int
+) -> None:
+    """Wrong passwords from five hundred addresses, which don't wait for their answers, leave devices a share of their polls."""
+    head = f"GET {quiet.base}/rest/v1/targets HTTP/1.1\r\nHost: localhost\r\n{login('zoe', 'y' * letters)}\r\n"
+
+    def guess(source: str) -> Link:
+        link = quiet.open(source)
+        link.send(head)
+        return link
+
+    def guesses(until: float) -> None:
+        links: list[Link] = []
+        own, number = os.getpid() % 250, 0
+        while time.monotonic() < until:
+            number += 1
+            hold(links, lambda: guess(f"127.2.{own}.{number % 50 + 1}"), 1)
+            if len(links) > 20 * size:
+                links.pop(0).close()
+
+    alone, under = compare(quiet, seconds, guesses, 10)
+    assert under.rate > alone.rate * least, (alone, under)
+    assert under.refused == 0
+
+
+@pytest.fixture(scope="module")
+def both(
+    request: pytest.FixtureRequest, tmp_path_factory: pytest.TempPathFactory
+) -> Iterator[Stage]:
+    """A port of IPv6 that takes IPv4 too, before nobody. A guesser waits for two seconds in place of ten."""
+    folder = tmp_path_factory.mktemp("both")
+    if before := request.config.getoption("--before"):
+        pytest.skip(f"{before.name} is tried by hand: its port is in the text")
+    try:
+        socket.create_server(("::1", 0), family=socket.AF_INET6).close()
+    except OSError:
+        pytest.skip("this machine has no IPv6")
+    made = Stage.__new__(Stage)
+    made.folder, made.program, made.form, made.server = folder, None, "single", None
+    made.behind = free_port()
+    port = free_port()
+    made.edge = made.make_edge(
+        {"FWDESK_BIND": f":::{port}", "FWDESK_BIND_OPTIONS": "v4v6 alpn http/1.1"},
+        lambda _, text: text.replace("timeout tarpit 10s", "timeout tarpit 2s"),
+    )
+    made.edge.port = made.port = port
+    made.base = ""
+    made.edge.start()
+    yield made
+    made.end()
+
+
+def tried(port: int, source: str) -> int:
+    """The status of a wrong login from an address of either kind; 429 where it was kept waiting."""
+    kind = socket.AF_INET6 if ":" in source else socket.AF_INET
+    it = socket.socket(kind)
+    it.settimeout(PATIENCE)
+    it.bind((source, 0))
+    it.connect((source, port) if kind == socket.AF_INET6 else (HOST, port))
+    with Link(TLS.wrap_socket(it)) as link:
+        return link.ask("GET", "/fwdesk/me", login("zoe", "wrong"))[0]
+
+
+def tried_at_once(port: int, sources: list[str]) -> list[int]:
+    """The same of several addresses at the same time."""
+    with ThreadPoolExecutor() as those:
+        return list(those.map(lambda it: tried(port, it), sources))
+
+
+@pytest.mark.gate
+def test_both_kinds_of_addresses(both: Stage) -> None:
+    """An IPv6 address has as many wrong logins as an IPv4 one, and each IPv4 address its own, behind one port for both."""
+    both.forget()
+    those = ["::1", "127.0.0.5"]
+    for it in those:
+        assert [tried(both.port, it) for _ in range(20)] == [401] * 20, it
+    assert tried_at_once(both.port, [*those, "127.0.0.6"]) == [429, 429, 401]
+
+
+@pytest.mark.gate
+def test_whole_network_is_one(both: Stage) -> None:
+    """The addresses of 64 bits of IPv6 are one guesser; those of the next 64 are another."""
+    # networks that no other run of this test on the machine gives and takes
+    own = f"2001:db8:{os.getpid() & 0xFFFF:x}"
+    those = [f"{own}:1::{it:x}" for it in range(1, 6)] + [f"{own}:2::1"]
+    try:
+        for it in those:
+            words = ["ip", "-6", "addr", "replace", f"{it}/128", "dev", "lo"]
+            subprocess.run(words, check=True, capture_output=True)
+    except (OSError, subprocess.CalledProcessError):
+        pytest.skip("addresses can't be given to this machine")
+    try:
+        both.forget()
+        for turn in range(4):
+            assert [tried(both.port, it) for it in those[:5]] == [401] * 5, turn
+        assert tried_at_once(both.port, [*those[:2], those[5]]) == [429, 429, 401]
+    finally:
+        for it in those:
+            subprocess.run(["ip", "-6", "addr", "del", f"{it}/128", "dev", "lo"], check=False)

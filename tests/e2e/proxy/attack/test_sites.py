@@ -1,0 +1,133 @@
+"""Requests that another site has a browser send, and names that somebody led here: at every way in."""
+
+import http.client
+
+import pytest
+from harness.processes import HOST
+from stage import Stage, login, token
+
+pytestmark = [pytest.mark.e2e, pytest.mark.gate]
+FOREIGN = {
+    "site": "Sec-Fetch-Site: cross-site\r\n",
+    "sibling": "Sec-Fetch-Site: same-site\r\n",
+    "origin": "Origin: https://evil.example\r\n",
+    "null": "Origin: null\r\n",
+    "both": "Origin: https://evil.example\r\nSec-Fetch-Site: cross-site\r\n",
+}
+ORDERS = [("POST", "/rest/v1/rollouts/1/pause"), ("POST", "/fwdesk/brake?kind=brake&reason=x")]
+
+
+@pytest.mark.parametrize("kind", FOREIGN)
+@pytest.mark.parametrize("method, path", ORDERS)
+def test_foreign_order_is_refused(quiet: Stage, kind: str, method: str, path: str) -> None:
+    """A login alone isn't enough where a browser says that another site asks."""
+    assert quiet.ask(method, path, login("zoe") + FOREIGN[kind], b"")[0] == 403
+
+
+@pytest.mark.parametrize("kind", FOREIGN)
+@pytest.mark.parametrize("method, path", ORDERS)
+def test_foreign_order_is_refused_near(quiet: Stage, kind: str, method: str, path: str) -> None:
+    """The machine's own way in asks for no login, so it is the one that a web page beside it would take."""
+    with quiet.open_near() as link:
+        assert link.ask(method, quiet.near_base + path, FOREIGN[kind], b"")[0] == 403
+
+
+@pytest.mark.parametrize(
+    "host", ["evil.example", "evil.example:8081", "127.0.0.1.evil.example", ""]
+)
+@pytest.mark.parametrize("method", ["GET", "POST"])
+def test_led_name_is_refused_near(quiet: Stage, host: str, method: str) -> None:
+    """A name that somebody leads to this machine isn't its own."""
+    with quiet.open_near() as link:
+        path = quiet.near_base + "/rest/v1/targets"
+        assert link.ask(method, path, f"Host: {host}\r\n", b"")[0] == 403
+
+
+@pytest.mark.parametrize(
+    "host", ["localhost", "127.0.0.1", "127.0.0.1:8081", "[::1]:8081", "LOCALHOST"]
+)
+def test_own_name_passes_near(quiet: Stage, host: str) -> None:
+    """The machine's own names are taken."""
+    with quiet.open_near() as link:
+        assert link.ask("GET", quiet.near_base + "/rest/v1/targets", f"Host: {host}\r\n")[0] == 200
+
+
+def test_own_order_passes(quiet: Stage) -> None:
+    """The page's own requests say where they come from, and are taken."""
+    fields = f"Host: desk.example\r\nOrigin: https://desk.example\r\nSec-Fetch-Site: same-origin\r\n{login('zoe')}"
+    assert quiet.ask("POST", "/rest/v1/rollouts/77/pause", fields, b"")[0] == 404
+
+
+@pytest.mark.forms("single", "fleets", "failover", "pod")
+@pytest.mark.parametrize(
+    "path",
+    [
+        "/rest/v1/targets",
+        "/desk/v1/rollouts/1/report",
+        "/fwdesk/me",
+        "/fwdesk/brake",
+        "/page/",
+        "/",
+        "/DEFAULT/../rest/v1/targets",
+        "/DEFAULT/%2e%2e/rest/v1/targets",
+        "/DEFAULT/..%2frest/v1/targets",
+        "//DEFAULT/controller/v1/dev-01",
+        "//rest/v1/targets/../../../DEFAULT/x",
+        "/default/controller/v1/dev-01",
+    ],
+)
+@pytest.mark.parametrize("method", ["GET", "POST", "HEAD", "DELETE"])
+def test_devices_door_has_nothing_of_operators(quiet: Stage, method: str, path: str) -> None:
+    """The socket for what stands before devices lets by their own paths alone."""
+    base = quiet.near_base
+    with quiet.open_path(quiet.edge.devices) as link:
+        assert link.ask(method, base + path, login("zoe"), b"")[0] in (400, 404)
+
+
+@pytest.mark.forms("single", "fleets", "failover", "pod")
+def test_devices_door_serves_devices(quiet: Stage) -> None:
+    """A device is served by it, with its token."""
+    path = f"{quiet.near_base}/DEFAULT/controller/v1/dev-01"
+    with quiet.open_path(quiet.edge.devices) as link:
+        assert link.ask("GET", path, token(1))[0] == 200
+        assert link.ask("GET", path, token(2))[0] == 401
+
+
+@pytest.mark.forms("pod")
+@pytest.mark.parametrize(
+    "method, path, wanted",
+    [
+        ("GET", "/ready", 200),
+        ("GET", "/alive", 200),
+        ("POST", "/ready", 405),
+        ("PUT", "/ready", 405),
+        ("DELETE", "/alive", 405),
+        ("GET", "/rest/v1/targets", 404),
+        ("GET", "/ready/../rest/v1/targets", 404),
+        ("GET", "/fwdesk/me", 404),
+    ],
+)
+def test_probes_reach_no_call(quiet: Stage, method: str, path: str, wanted: int) -> None:
+    """What a pod's port for probes answers, which the whole cluster may ask."""
+    client = http.client.HTTPConnection(HOST, quiet.edge.health, timeout=40)
+    client.request(method, path, b"[]" if method in ("POST", "PUT") else None)
+    reply = client.getresponse()
+    told = reply.read()
+    assert reply.status == wanted and b"number" not in told, (reply.status, told)
+
+
+@pytest.mark.forms("pod")
+def test_probe_hands_no_body_on(quiet: Stage) -> None:
+    """A GET with a body isn't one of a probe."""
+    client = http.client.HTTPConnection(HOST, quiet.edge.health, timeout=40)
+    client.request("GET", "/ready", b"[]", {"Content-Length": "2"})
+    assert client.getresponse().status == 400
+
+
+@pytest.mark.gate
+@pytest.mark.forms("fleets", "failover")
+def test_no_desk_answers_for_another(quiet: Stage) -> None:
+    """A fleet that isn't served is told as that, and no other fleet's desk is asked in its place."""
+    with quiet.open_near() as link:
+        status, _, told = link.ask("GET", "/fleets/nobody/rest/v1/targets")
+    assert (status, b"dev-01" in told) == (404 if quiet.form == "fleets" else 503, False)
