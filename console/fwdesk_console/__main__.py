@@ -1,0 +1,45 @@
+"""fwdesk-console [--check] [SETTINGS]: watches a desk through HAProxy and remembers what it saw. It gives no orders.
+
+SETTINGS is a TOML file, /etc/fwdesk/console.toml where it is there and none is named. --check reads it and ends."""
+import argparse
+import asyncio
+import logging
+import os
+import sys
+from pathlib import Path
+
+from . import settings
+from .service import Service
+
+PLACES = ("/etc/fwdesk/console.toml",)
+
+
+def find_settings(named: str | None) -> str | None:
+    """The file that is named, else what systemd hands on, else that of /etc, else none."""
+    if named:
+        return named
+    handed = os.environ.get("CREDENTIALS_DIRECTORY")
+    places = ([f"{handed}/console.toml"] if handed else []) + list(PLACES)
+    return next((it for it in places if Path(it).exists()), None)
+
+
+def main() -> None:
+    asked = argparse.ArgumentParser(
+        prog="fwdesk-console",
+        description=__doc__,
+        formatter_class=argparse.RawDescriptionHelpFormatter,
+    )
+    asked.add_argument("settings", nargs="?", metavar="SETTINGS")
+    asked.add_argument("--check", action="store_true", help="reads the settings and ends")
+    order = asked.parse_args()
+    logging.basicConfig(format="%(levelname)s %(message)s", level=logging.INFO, stream=sys.stderr)
+    try:
+        told = settings.read(find_settings(order.settings))
+        if not order.check:
+            asyncio.run(Service(told).serve())
+    except settings.Wrong as error:
+        sys.exit(f"fwdesk-console: {error}")
+
+
+if __name__ == "__main__":
+    main()

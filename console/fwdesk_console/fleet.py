@@ -1,0 +1,81 @@
+"""How many devices there are, by their state, and how many are silent. Asked only where something was heard since."""
+import asyncio
+import logging
+from collections import Counter
+
+from .clock import Clock
+from .desk import Away, Desk, Json
+from .polls import Polls, Unknown
+
+EVERY = 10.0  # seconds between two countings
+GENTLE = 60.0  # or so many times what one took
+ANYWAY = 3600.0  # where nothing was heard
+
+
+class Fleet:
+    def __init__(self, clock: Clock, desk: Desk, polls: Polls, silent_after: float):
+        self.clock, self.desk, self.polls, self.silent_after = clock, desk, polls, silent_after
+        self.states: dict[str, int] = {}
+        self.total = 0
+        self.counted: float | None = None
+        self.silent: int | None = None
+        self.never: int | None = None
+        self.polls_away = ""
+        self.version = 0
+        self.has_news = True
+        self._next = 0.0
+        self._counted_at = -1e9
+
+    async def count(self) -> None:
+        """Reads the whole list of devices, 500 at a time."""
+        self.has_news = False
+        began = self.clock.steady()
+        devices = await self.desk.every("/rest/v1/targets")
+        took = self.clock.steady() - began
+        self._next = self.clock.steady() + max(EVERY, GENTLE * took)
+        states = dict(Counter(str(it["updateStatus"]) for it in devices))
+        if (states, len(devices)) != (self.states, self.total):
+            self.version += 1
+        self.states, self.total = states, len(devices)
+        self.counted, self._counted_at = self.clock.wall(), self.clock.steady()
+
+    async def look_for_silent(self) -> None:
+        """Of those that were seen since HAProxy keeps its table; the rest never polled, or not since then."""
+        found: tuple[int | None, int | None]
+        try:
+            known = await self.polls.all()
+        except Unknown as error:
+            found, self.polls_away = (None, None), str(error)
+        else:
+            now = self.clock.wall()
+            silent = sum(now - at >= self.silent_after for at in known.values())
+            never = max(0, self.total - len(known)) if self.counted else None
+            found, self.polls_away = (silent, never), ""
+        if found != (self.silent, self.never):
+            self.silent, self.never = found
+            self.version += 1
+
+    def shown(self) -> Json | None:
+        if self.counted is None:
+            return None
+        return {
+            "devices": self.total,
+            "states": self.states,
+            "silent": self.silent,
+            "neverSeen": self.never,
+            "silentAfter": self.silent_after,
+            "pollsAway": self.polls_away,
+        }
+
+    async def keep(self) -> None:
+        while True:
+            now = self.clock.steady()
+            try:
+                if self.has_news and now >= self._next or now - self._counted_at > ANYWAY:
+                    await self.count()
+                await self.look_for_silent()
+            except Away:
+                self.has_news = True
+            except (KeyError, ValueError):
+                logging.exception("the devices can't be counted")
+            await asyncio.sleep(5)

@@ -1,0 +1,92 @@
+"""Chromium by selenium, logged in to a env."""
+import json
+import os
+import time
+from typing import Any
+
+from selenium import webdriver
+from selenium.webdriver.chrome.options import Options
+from selenium.webdriver.chrome.service import Service
+from selenium.webdriver.common.by import By
+
+from environment import HOST, Environment
+
+
+class Browser:
+    def __init__(self, env: Environment, who: str = "anna"):
+        options = Options()
+        options.binary_location = "/usr/bin/chromium"
+        for it in ("--headless=new", "--no-sandbox", "--disable-dev-shm-usage"):
+            options.add_argument(it)
+        options.set_capability("acceptInsecureCerts", True)
+        options.set_capability("goog:loggingPrefs", {"browser": "ALL"})
+        self.env, self.who = env, who
+        self.driver = webdriver.Chrome(service=Service("/usr/bin/chromedriver"), options=options)
+        self.driver.set_window_size(1440, 900)
+
+    def open(self, place: str) -> None:
+        """A view, logged in."""
+        self.driver.get(f"https://{self.who}:secret@{HOST}:{self.env.port}/page/{place}")
+
+    def go(self, place: str) -> None:
+        """Another view of the page that is open."""
+        self.js("location.hash = arguments[0]", place)
+
+    def js(self, script: str, *values: Any) -> Any:
+        return self.driver.execute_script(script, *values)
+
+    def text(self, selector: str = "body") -> str:
+        return str(
+            self.js("return document.querySelector(arguments[0])?.innerText ?? ''", selector)
+        )
+
+    def until(self, words: str, selector: str = "body", seconds: float = 30) -> float:
+        """Waits until a place has these words; when that was."""
+        end = time.monotonic() + seconds
+        while time.monotonic() < end:
+            if words in self.text(selector):
+                return time.time()
+            time.sleep(0.05)
+        raise AssertionError(f"{words!r} never came; {selector} says {self.text(selector)[:900]!r}")
+
+    def until_not(self, words: str, selector: str = "body", seconds: float = 30) -> None:
+        """Waits until a place is there that doesn't have these words."""
+        end = time.monotonic() + seconds
+        while not (text := self.text(selector)) or words in text:
+            assert time.monotonic() < end, f"{words!r} stays in {selector}"
+            time.sleep(0.05)
+
+    def click(self, selector: str) -> None:
+        self.driver.find_element(By.CSS_SELECTOR, selector).click()
+
+    def type(self, selector: str, words: str) -> None:
+        control = self.driver.find_element(By.CSS_SELECTOR, selector)
+        control.clear()
+        control.send_keys(words)
+
+    def wide(self, width: int, height: int = 900) -> None:
+        """The page is so wide, narrower than a window can be too."""
+        values = {"width": width, "height": height, "deviceScaleFactor": 1, "mobile": False}
+        self.driver.execute_cdp_cmd("Emulation.setDeviceMetricsOverride", values)
+
+    def hidden(self, handle: str) -> bool:
+        self.driver.switch_to.window(handle)
+        return bool(self.js("return document.hidden"))
+
+    def picture(self, name: str) -> None:
+        """Where PICTURES names a folder."""
+        if folder := os.environ.get("PICTURES"):
+            self.driver.save_screenshot(f"{folder}/{name}.png")
+
+    def faults(self) -> list[str]:
+        """What the browser's console says, but for answers that a test causes."""
+        lines = [json.dumps(it) for it in self.driver.get_log("browser")]
+        return [it for it in lines if "status of 50" not in it and "status of 404" not in it]
+
+    def asked(self) -> list[str]:
+        """What the page asked for since it was opened."""
+        found = self.js("return performance.getEntriesByType('resource').map((it) => it.name)")
+        return [it.split(f":{self.env.port}")[-1] for it in found]
+
+    def end(self) -> None:
+        self.driver.quit()

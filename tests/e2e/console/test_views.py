@@ -1,0 +1,258 @@
+"""What the web UI shows of what the console tells, in Chromium through the edge before the real program."""
+import os
+import signal
+import threading
+import time
+
+from environment import Environment
+from harness.processes import eventually
+
+
+def test_a_pause_reaches_browser_and_webhook_with_when_who_and_why(env, open_browser):
+    before = len(env.sink.posts)
+    rollout = env.plan(groups=2, error=20, who="ben")
+    browser = open_browser(env, f"#/rollouts/{rollout}")
+    browser.until("started by ben", "main")
+    failed = env.fail(rollout, 2, "disk full")
+    seen = browser.until("by itself: group 1: 2 of 10 failed, and 2 pause it", "main .cause")
+    while not env.sink.posts[before:]:
+        assert time.time() - failed < 10, "no webhook"
+        time.sleep(0.02)
+    told, _, body = env.sink.posts[before]
+    print(
+        f"from the failure to the webhook {told - failed:.2f} s, to the browser {seen - failed:.2f} s"
+    )
+    # a second or two; on a busy machine with a slow program some more
+    assert told - failed < 10 and seen - failed < 12
+    assert body["kind"] == "paused" and body["group"] == 1 and "2 of 10 failed" in body["words"]
+    assert 'Last words: 2 times "disk full"' in body["words"]
+    assert body["link"].endswith(f"/page/#/rollouts/{rollout}/groups/1?state=error")
+    browser.until("2 × “disk full”", "main .words")
+    assert "See the 2 that failed" in browser.text("main a.button.main")
+    assert "main" not in browser.js(
+        "return document.querySelector('[data-command=resume]').className"
+    )
+    browser.click("#see-failed")
+    browser.until("disk full", "main table")
+    browser.go(f"#/rollouts/{rollout}")
+    browser.until("What happened")
+    assert not browser.faults()
+
+
+def test_now_leads_to_what_needs_somebody_and_counts_devices(env, open_browser):
+    rollout = env.plan("canary", groups=2, error=20)
+    for it in env.table(rollout)[5:8]:
+        env.report(it["controllerid"], int(it["action"]), "success", "done")
+        env.poll(it["controllerid"])
+    env.fail(rollout, 2, "no space")
+    browser = open_browser(env, "")
+    browser.until("by itself: group 1: 2 of 10 failed", "#needs")
+    assert browser.js("return location.hash") == ""
+    browser.until("pump 1.0", "#devices")
+    browser.until("failed", "#devices")
+    browser.picture("now")
+    browser.click("#needs a.button")
+    browser.until("no space", "main table")
+    browser.driver.back()
+    browser.until("Needs somebody", "main")
+    browser.click('#devices a[href^="#/devices?set="]')
+    browser.until("Devices with pump 1.0", "h1")
+    browser.until("dev-", "main table")
+    browser.go("#/targets/" + env.table(rollout)[5]["controllerid"])
+    browser.until("pump 1.0, since", "#device-now")
+    browser.until("Last poll", "#device-now")
+    browser.until("just now", "#device-now")
+    browser.picture("device")
+    assert not browser.faults()
+
+
+def test_history_and_audit_are_filtered_and_saved(env, open_browser):
+    rollout = env.plan("told", groups=1, who="ben")
+    browser = open_browser(env, f"#/history?of=happened&rollout={rollout}")
+    browser.until('rollout "told" was started by "ben"', "main table")
+    browser.go(f"#/history?of=audit&rollout={rollout}")
+    browser.until(f"POST /rest/v1/rollouts/{rollout}/start", "main table")
+    browser.until("ben", "main table")
+    browser.picture("audit")
+    link = browser.js("return document.querySelector('main a[download]').getAttribute('href')")
+    path = link.split(f":{env.port}")[-1]
+    status, fields, body = env.ask(path)
+    assert status == 200 and fields["content-type"].startswith("text/csv")
+    assert f"ben,POST,/rest/v1/rollouts/{rollout}/start" in body.decode()
+    assert not browser.faults()
+
+
+def test_hostile_words_are_text_in_each_view(env, open_browser):
+    name = '<img src=x onerror=alert(1)>\u202e"&'
+    rollout = env.plan(name, groups=1, error=10)
+    env.fail(rollout, 2, "</li><script>alert(2)</script>")
+    browser = open_browser(env, f"#/rollouts/{rollout}")
+    browser.until("</li><script>alert(2)</script>", "main .words")
+    for place in ("#/now", "#/rollouts", f"#/history?rollout={rollout}"):
+        browser.go(place)
+        browser.until("<img src=x onerror=alert(1)>", "main")
+    assert browser.js("return document.querySelectorAll('main img, main script').length") == 0
+    assert "\u202e" not in browser.text("main table")
+    log = (env.folder / "console.log").read_text()
+    assert "\u202e" not in log and all(
+        it.split()[0] in ("INFO", "WARNING", "ERROR") for it in log.splitlines()
+    )
+    mail = eventually("the mail", lambda: [it for it in env.box.mails if "onerror" in it], 10)[-1]
+    assert "\u202e" not in mail and "Content-Type: text/plain" in mail
+    chat = eventually(
+        "the chat", lambda: [it for _, _, it in env.chat.posts if "onerror" in it["text"]], 10
+    )
+    assert "<img" not in chat[-1]["text"] and "`&lt;img" in chat[-1]["text"]
+    assert not browser.faults()
+
+
+def test_held_is_said_on_states_and_questions_and_release_is_whole(env, open_browser):
+    rollout = env.plan("held", groups=2, start=False)
+    running = env.plan("under way", groups=1)
+    browser = open_browser(env, f"#/rollouts/{rollout}")
+    browser.until("Hold everything", "#held")
+    assert (
+        browser.js("return getComputedStyle(document.getElementById('hold')).borderTopWidth")
+        == "2px"
+    )
+    assert env.ask("/fwdesk/brake?kind=brake&reason=it+burns", "POST")[0] == 200
+    try:
+        browser.until("Everything is held: by anna", "#held")
+        for width in (1440, 1024, 390):
+            browser.driver.set_window_size(max(width, 500), 900)
+            browser.wide(width)
+            box = browser.js(
+                "const it = document.querySelector('#held .notice button').getBoundingClientRect(); return [it.width, it.height]"
+            )
+            assert box[0] > 70 and box[1] < 50, (width, box)
+            browser.picture(f"held-{width}")
+        browser.wide(1440)
+        browser.click("[data-command=start]")
+        browser.until("Everything is held: no device is told of this before the release.", "dialog")
+        browser.click("dialog [value=no]")
+        browser.go(f"#/rollouts/{running}")
+        browser.until("held: told at the release", "main .line")
+        browser.go("#/now")
+        browser.until("Everything is held by anna", "#needs")
+    finally:
+        assert env.ask("/fwdesk/brake?kind=brake", "DELETE")[0] == 200
+    browser.until("Hold everything", "#held")
+    assert not browser.faults()
+
+
+def test_pages_say_what_they_cannot_know_while_the_console_is_away(env, open_browser):
+    rollout = env.plan("away", groups=1)
+    browser = open_browser(env, f"#/rollouts/{rollout}")
+    browser.until("started by anna", "main .acts")
+    for how in ("killed", "hung"):
+        if how == "killed":
+            env.kill(env.console)
+        else:
+            os.killpg(env.console.pid, signal.SIGSTOP)
+        began = time.time()
+        said = browser.until("The console is away since", "#watching", 20)
+        print(f"{how}: said after {said - began:.1f} s")
+        assert said - began < 10
+        browser.until_not("started by anna", "main")
+        assert "running" in browser.text("main .line") and time.time() - began < 15
+        env.order(rollout, "pause", "ben")
+        browser.until("Paused by an operator", "main .cause", 15)
+        if how == "killed":
+            env.console = env.start_console()
+        else:
+            os.killpg(env.console.pid, signal.SIGCONT)
+        browser.until("started by anna", "main .acts", 20)
+        assert browser.text("#watching") == ""
+        env.order(rollout, "resume", "ben")
+        browser.until("running", "main .line")
+
+
+def test_a_word_finds_devices_by_id_and_name(env, open_browser):
+    browser = open_browser(env, "#/targets")
+    for typed, found in (
+        ("00007", "dev-00007"),
+        ("Device 12", "dev-00012"),
+        ("controllerid==dev-00003", "dev-00003"),
+    ):
+        browser.go("#/targets")
+        browser.until("dev-00001", "main table")
+        browser.type("#fleet-filter", typed)
+        browser.until("1 device matches", "#fleet-filter-told")
+        browser.click("form[role=search] button")
+        browser.until_not("dev-00001", "main table")
+        assert found in browser.text("main table")
+
+
+def test_who_may_only_look_sees_all_of_it_and_no_button(env, open_browser):
+    browser = open_browser(env, "#/now", "eve")
+    browser.until("Devices", "main")
+    for place in ("#/history", "#/history?of=audit"):
+        browser.go(place)
+        browser.until("rollout", "main table")
+    assert "Hold everything" not in browser.text()
+
+
+def test_an_approval_names_who_asks_and_who_approved(tmp_path, open_browser):
+    env = Environment(tmp_path, approval=True)
+    try:
+        env.make_fleet(4)
+        rollout = env.plan("asked", groups=1, who="ben", start=False)
+        browser = open_browser(env, "#/now")
+        browser.until("ben asks for approval", "#needs")
+        browser.go(f"#/rollouts/{rollout}")
+        browser.until("ben asks for approval", "main .cause")
+        browser.go("#/rollouts")
+        browser.until("ben asks for approval", "main .card")
+        env.order(rollout, "approve", "anna")
+        browser.go(f"#/rollouts/{rollout}")
+        browser.until("approved by anna", "main .acts")
+        assert "planned by ben" in browser.text("main .acts").lower()
+        assert "asks for approval" not in browser.text("main")
+        assert not browser.faults()
+    finally:
+        env.end()
+
+
+def test_twenty_pages_cost_the_desk_as_little_as_one(env, open_browser):
+    """One browser, and nineteen that ask as its page does: what they have seen isn't sent again."""
+    paused = env.plan("twenty", groups=2, error=20)
+    env.fail(paused, 2)
+    for it in env.api("/rest/v1/rollouts?limit=500")["content"]:
+        if it["status"] == "running":
+            env.order(it["id"], "pause")
+    browser = open_browser(env, f"#/rollouts/{paused}")
+    browser.until("by itself: group 1: 2 of 10 failed", "main .cause")
+    over, answers, twice = threading.Event(), [], []
+
+    def page():
+        tag = ""
+        while not over.wait(2):
+            path = f"/fwdesk/state?rollout={paused}"
+            status, fields, _ = env.ask(path, fields={"If-None-Match": tag})
+            answers.append(status)
+            if status == 200 and fields["etag"] == tag:
+                twice.append(tag)
+            tag = fields["etag"]
+
+    time.sleep(20)
+    going = env.api("/rest/v1/rollouts?limit=500")["total"]
+    counts = []
+    for pages in (0, 19):
+        threads = [threading.Thread(target=page) for _ in range(pages)]
+        for it in threads:
+            it.start()
+        time.sleep(2)
+        before = env.desk_requests()
+        time.sleep(60)
+        counts.append(env.desk_requests() - before)
+        over.set()
+        for it in threads:
+            it.join()
+        over.clear()
+    print(
+        f"{going} paused rollouts: 1 page {counts[0]}, 20 pages {counts[1]} requests a minute to the desk"
+    )
+    # the list of rollouts each ten seconds, the groups of each paused one each thirty, and once the page's own look
+    assert max(counts) <= 7 + 3 * going + 3
+    # a state that changes is sent to each page once, and none a second time
+    assert not twice and set(answers) == {200, 304} and answers.count(304) > len(answers) / 2

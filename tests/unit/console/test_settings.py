@@ -1,0 +1,43 @@
+"""The settings: each value with a range, and words for what is wrong."""
+import pytest
+from fwdesk_console import settings
+
+
+@pytest.mark.parametrize(
+    "text, words",
+    [
+        ("every = 0", "every is a number from 1 to 60"),
+        ("every = true", "every is a number"),
+        ('rows = "many"', "rows is a number"),
+        ("colour = 1", "unknown: colour"),
+        ('webhooks = "ftp://x/"', "webhooks, chats and link"),
+        ('webhooks = ["https://"]', "webhooks, chats and link"),
+        ('mail_to = "a b@c"', "mail_to and mail_from"),
+        ('mail_to = "ops@example.org\\nBcc: x@y"', "mail_to and mail_from"),
+        ('smtp = "host"', "smtp is a host and a port"),
+        ('tell = ["everything"]', "tell has some of"),
+        ("listen = 1", "listen is a text"),
+        ("x", "Expected"),
+    ],
+)
+def test_a_wrong_value_is_told(tmp_path, text, words):
+    path = tmp_path / "console.toml"
+    path.write_text(text)
+    with pytest.raises(settings.Wrong, match=words.replace("(", ".")):
+        settings.read(str(path))
+
+
+def test_one_text_is_a_list_of_one(tmp_path):
+    path = tmp_path / "console.toml"
+    path.write_text('chats = "https://chat.example/x"\nevery = 5\n')
+    made = settings.read(str(path))
+    assert made.chats == ("https://chat.example/x",) and made.every == 5.0
+
+
+def test_the_file_that_is_delivered_is_taken_and_says_the_defaults():
+    from fakes import ROOT
+
+    path = ROOT / "console/console.toml"
+    assert settings.read(str(path)) == settings.Settings()
+    named = [it.lstrip("# ").split(" = ")[0] for it in path.read_text().splitlines() if " = " in it]
+    assert {"webhooks", "chats", "mail_to", "link", "stands_after"} <= set(named)
