@@ -1,0 +1,369 @@
+"""What the tests of fwdesk-hawkbit run: the desk, HAProxy before it, the gateway, nginx before that; and who watches
+between the gateway and the desk. Each in a folder of its own, on ports that nobody has."""
+
+import base64
+import contextlib
+import hashlib
+import http.client
+import http.server
+import json
+import os
+import shutil
+import socket
+import ssl
+import subprocess
+import sys
+import threading
+import time
+from dataclasses import dataclass, field
+from pathlib import Path
+from typing import Any
+
+ROOT = Path(__file__).resolve().parents[3]
+sys.path.insert(0, str(ROOT / "tests"))
+
+from harness import edge  # noqa: E402
+from harness.processes import (  # noqa: E402
+    HOST,
+    Processes,
+    eventually,
+    free_port,
+    listens,
+    with_places,
+)
+
+GATEWAY = ROOT / "hawkbit/fwdesk-hawkbit"
+PROGRAM = os.environ.get("FWDESK_PROGRAM", str(ROOT / "crates/fwdesk/out/fwdesk"))
+R, B = "/rest/v1", "/DEFAULT/controller/v1"
+THRESHOLD = {"condition": "THRESHOLD", "expression": "100"}
+
+
+def found(program: str) -> str:
+    """A program's path, also where only root looks for it."""
+    path = shutil.which(program, path=f"{os.environ['PATH']}:/usr/sbin:/sbin")
+    assert path, f"{program} isn't installed"
+    return path
+
+
+@dataclass
+class Reply:
+    status: int
+    fields: dict[str, str]
+    body: bytes
+
+    def json(self) -> Any:
+        return json.loads(self.body)
+
+
+class NearConnection(http.client.HTTPConnection):
+    """HTTP over a socket of this machine."""
+
+    def __init__(self, path: Path, timeout: float) -> None:
+        super().__init__("localhost", timeout=timeout)
+        self.path = path
+
+    def connect(self) -> None:
+        self.sock = socket.socket(socket.AF_UNIX)
+        self.sock.settimeout(self.timeout)
+        self.sock.connect(str(self.path))
+
+
+def ask(
+    to: int | Path,
+    method: str,
+    path: str,
+    body: Any = None,
+    fields: dict[str, str] | None = None,
+    tls: bool = False,
+    seconds: float = 90,
+) -> Reply:
+    """One request over a connection of its own, to a port or to a socket's path."""
+    client: http.client.HTTPConnection
+    if isinstance(to, Path):
+        client = NearConnection(to, seconds)
+    elif tls:
+        context = ssl._create_unverified_context()
+        client = http.client.HTTPSConnection(HOST, to, timeout=seconds, context=context)
+    else:
+        client = http.client.HTTPConnection(HOST, to, timeout=seconds)
+    data = json.dumps(body).encode() if isinstance(body, list | dict) else body
+    told = {"Connection": "close"} | (fields or {})
+    if isinstance(body, list | dict):
+        told.setdefault("Content-Type", "application/json")
+    try:
+        # who refuses a body unread answers, and goes
+        with contextlib.suppress(BrokenPipeError):
+            client.request(method, path, data, told)
+        reply = client.getresponse()
+        return Reply(reply.status, {k.lower(): v for k, v in reply.getheaders()}, reply.read())
+    finally:
+        client.close()
+
+
+def basic(login: str, password: str) -> dict[str, str]:
+    return {"Authorization": "Basic " + base64.b64encode(f"{login}:{password}".encode()).decode()}
+
+
+class Desk:
+    """The program, and the calls of its operator."""
+
+    def __init__(self, folder: Path, processes: Processes) -> None:
+        self.port, self.processes = free_port(), processes
+        self.words = [PROGRAM, "serve", "--db", str(folder / "desk.db"), "--port", str(self.port)]
+        self.words += ["--connections", "1000000", "--interface", "both"]
+        self.way = self.port
+        self.start()
+
+    def start(self) -> None:
+        self.child = self.processes.start("desk", self.words)
+        eventually("the desk", lambda: listens(self.port), child=self.child)
+
+    def ask(self, method: str, path: str, body: Any = None) -> Any:
+        told = ask(self.way, method, R + path, body)
+        assert told.status < 300, f"{method} {path}: {told.status} {told.body[:200]!r}"
+        return told.json()
+
+    def target(self, who: str, tags: tuple[str, ...] = ()) -> str:
+        """A target, whose token this answers."""
+        token = f"tok-{who}"
+        row = {"controllerId": who, "name": who, "securityToken": token, "tags": list(tags)}
+        self.ask("POST", "/targets", [row])
+        return token
+
+    def firmware(self, name: str, *files: tuple[str, bytes]) -> tuple[int, int]:
+        """A set of one module with these files: its number, and the module's."""
+        (module,) = self.ask(
+            "POST", "/softwaremodules", [{"name": name, "type": "os", "version": "1"}]
+        )
+        for filename, data in files:
+            place = f"/softwaremodules/{module['id']}/artifacts?filename={filename}"
+            self.ask("POST", place, data)
+        row = {"name": name, "version": "1", "modules": [{"id": module["id"]}]}
+        (bundle,) = self.ask("POST", "/distributionsets", [row])
+        return bundle["id"], module["id"]
+
+    def plan(self, name: str, bundle: int, text: str) -> int:
+        body = {"name": name, "distributionSetId": bundle, "targetFilterQuery": text}
+        body |= {"amountGroups": 1, "successCondition": THRESHOLD, "errorCondition": THRESHOLD}
+        number: int = self.ask("POST", "/rollouts", body)["id"]
+        return number
+
+    def offer(self, who: str, name: str, *files: tuple[str, bytes], text: str = "") -> int:
+        """Rolls files out to one target, and answers its action's number."""
+        bundle, _ = self.firmware(name, *files)
+        number = self.plan(name, bundle, text or f"controllerid=={who}")
+        self.ask("POST", f"/rollouts/{number}/start")
+        return self.actions(who)[-1]["id"]
+
+    def actions(self, who: str) -> list[Any]:
+        return self.ask("GET", f"/targets/{who}/actions?limit=500")["content"]
+
+    def history(self, who: str, action: int) -> list[tuple[str, str, str, list[str]]]:
+        told = self.ask("GET", f"/targets/{who}/actions/{action}/status?limit=500")["content"]
+        return [(it["kind"], it["execution"], it["finished"], it["details"]) for it in told]
+
+    def attributes(self, who: str) -> dict[str, str]:
+        held: dict[str, str] = self.ask("GET", f"/targets/{who}")["attributes"]
+        return held
+
+
+@dataclass
+class Between:
+    """Stands between the gateway and the desk, notes what is asked, and does to it what a test says.
+
+    `rule` is asked before each call: None lets it through, "before" ends the connection unasked, "after" ends it when
+    the desk has answered; a number is so many seconds of delay; anything else is sent in place of an answer.
+    """
+
+    to: int | Path
+    # where what isn't a device's goes, if that is elsewhere
+    reads: Path | None = None
+    rule: Any = None
+    seen: list[str] = field(default_factory=list)
+
+    def __post_init__(self) -> None:
+        outer = self
+
+        class Handler(http.server.BaseHTTPRequestHandler):
+            protocol_version = "HTTP/1.1"
+
+            def answer(self) -> None:
+                outer.pass_on(self)
+
+            do_GET = do_POST = do_PUT = do_DELETE = answer
+
+            def log_message(self, *_: Any) -> None:
+                pass
+
+        self.server = http.server.ThreadingHTTPServer((HOST, 0), Handler)
+        self.server.daemon_threads = True
+        self.port = self.server.server_address[1]
+        self.turn = threading.Lock()
+        threading.Thread(target=self.server.serve_forever, daemon=True).start()
+
+    def pass_on(self, it: http.server.BaseHTTPRequestHandler) -> None:
+        body = it.rfile.read(int(it.headers.get("Content-Length", 0)))
+        call = f"{it.command} {it.path}"
+        with self.turn:
+            self.seen.append(call)
+            does = self.rule(call) if self.rule else None
+        if isinstance(does, int | float):
+            time.sleep(does)
+        if does == "before":
+            it.close_connection = True
+            return
+        if isinstance(does, tuple):
+            self.send(it, *does)
+            return
+        keeps = ("authorization", "content-type", "host", "x-fwdesk-device")
+        to = self.to if it.path.startswith("/DEFAULT/") or self.reads is None else self.reads
+        fields = {key: value for key, value in it.headers.items() if key.lower() in keeps}
+        with self.turn:
+            try:
+                told = ask(to, it.command, it.path, body or None, fields)
+            except OSError:
+                it.close_connection = True
+                return
+        if does == "after":
+            it.close_connection = True
+            return
+        self.send(it, told.status, told.fields.get("content-type", ""), told.body, told.fields)
+
+    @staticmethod
+    def send(
+        it: Any, status: int, kind: str, body: bytes, fields: dict[str, str] | None = None
+    ) -> None:
+        it.send_response(status)
+        it.send_header("Content-Type", kind)
+        it.send_header("Content-Length", str(len(body)))
+        if fields and "retry-after" in fields:
+            it.send_header("Retry-After", fields["retry-after"])
+        it.end_headers()
+        it.wfile.write(body)
+
+    def close(self) -> None:
+        self.server.shutdown()
+        self.server.server_close()
+
+
+class Gateway:
+    """fwdesk-hawkbit on a port of its own; `more` are further words of its command line."""
+
+    def __init__(
+        self, processes: Processes, folder: Path, mode: str, desk: int, *more: str
+    ) -> None:
+        self.processes, self.folder, self.port = processes, folder, free_port()
+        folder.mkdir(parents=True, exist_ok=True)
+        self.words = [str(GATEWAY), f"--{mode}", "--desk", f"http://{HOST}:{desk}"]
+        self.words += ["--listen", f"{HOST}:{self.port}", *more]
+        self.start()
+
+    def start(self) -> None:
+        self.child = self.processes.start(self.folder.name, self.words)
+        eventually("the gateway", lambda: listens(self.port), child=self.child)
+
+    def kill(self) -> None:
+        self.processes.end(self.child)
+
+    def __call__(self, method: str, path: str, body: Any = None, **fields: str) -> Reply:
+        return ask(
+            self.port, method, path, body, {k.replace("_", "-"): v for k, v in fields.items()}
+        )
+
+    def device(
+        self, who: str, method: str, rest: str = "", body: Any = None, **fields: str
+    ) -> Reply:
+        """What a device asks by its own token."""
+        fields = {"Authorization": f"TargetToken tok-{who}"} | fields
+        return self(method, f"{B}/{who}{rest}", body, **fields)
+
+
+def certificate(folder: Path) -> None:
+    words = "openssl req -x509 -newkey ec -pkeyopt ec_paramgen_curve:prime256v1 -nodes -days 2"
+    files = ["-keyout", f"{folder}/server.key", "-out", f"{folder}/server.crt"]
+    told = [*words.split(), "-subj", "/CN=localhost", "-addext", "subjectAltName=DNS:localhost"]
+    subprocess.run([*told, *files], check=True, stderr=subprocess.DEVNULL)
+    pem = (folder / "server.crt").read_bytes() + (folder / "server.key").read_bytes()
+    (folder / "server.pem").write_bytes(pem)
+
+
+def start_nginx(folder: Path, processes: Processes, door: Path, polls: Path, images: Path) -> int:
+    """nginx with deploy/nginx/hawkbit-polls.conf, and its port."""
+    port = free_port()
+    text = (ROOT / "deploy/nginx/hawkbit-polls.conf").read_text()
+    places = {
+        "listen 8444 ssl": f"listen {HOST}:{port} ssl",
+        "unix:/run/fwdesk/devices.sock": f"unix:{polls}",
+        "/srv/firmware": str(images),
+        "/run/fwdesk-hawkbit/devices.sock": str(door),
+        "/etc/fwdesk/": f"{folder}/",
+    }
+    (folder / "polls.conf").write_text(with_places(text, places))
+    kinds = ("client_body", "proxy", "fastcgi", "uwsgi", "scgi")
+    own = "".join(f"{it}_temp_path {folder}/{it};" for it in kinds)
+    user = "user root;" if os.geteuid() == 0 else ""
+    (folder / "nginx.conf").write_text(
+        f"{user} daemon off; worker_processes 1; pid {folder}/nginx.pid; events {{}}\n"
+        f"http {{ access_log off; {own} include {folder}/polls.conf; }}\n"
+    )
+    words = [found("nginx"), "-p", str(folder), "-c", str(folder / "nginx.conf"), "-e", "stderr"]
+    child = processes.start("nginx", words)
+    eventually("nginx", lambda: listens(port), child=child)
+    return port
+
+
+class HAProxy:
+    """Both HAProxys of deploy/haproxy before a desk, and the port of hawkBit's management before a gateway's socket."""
+
+    LOGINS = {"anna": "look,steer,approve,hold", "lou": "look", "ann": "look,approve", "none": ""}
+
+    def __init__(
+        self,
+        folder: Path,
+        desk: int,
+        more: dict[str, str] | None = None,
+        form: str = "single",
+        fleets: dict[str, int] | None = None,
+    ) -> None:
+        self.hawkbit = free_port()
+        own = {
+            "FWDESK_LOCAL_PORT": str(free_port()),
+            "FWDESK_HAWKBIT_BIND": f"{HOST}:{self.hawkbit}",
+        }
+        self.edge = edge.Edge(
+            folder / "edge", desk, self.LOGINS, form=form, more=own | (more or {}), fleets=fleets
+        )
+        self.port = int(own["FWDESK_LOCAL_PORT"])
+        self.reads = self.edge.run / "fwdesk/hawkbit.sock"
+        # the console's part, which no test here asks
+        (self.edge.folder / "edge/50-console.cfg").unlink(missing_ok=True)
+        text = (ROOT / "deploy/haproxy/hawkbit.cfg").read_text()
+        (self.edge.folder / "edge/90-hawkbit.cfg").write_text(text)
+        self.door = self.edge.run / "fwdesk-hawkbit/manage.sock"
+        self.door.parent.mkdir()
+        self.edge.start()
+
+    def brake(self, verb: str) -> None:
+        """Holds or releases, as an operator of the machine does."""
+        own = {
+            "FWDESK_BRAKE_FILE": str(self.edge.held),
+            "FWDESK_BRAKE_SOCKETS": str(self.edge.desks_master),
+        }
+        words = [str(ROOT / "cli/fwdesk-brake"), verb]
+        subprocess.run(words, check=True, env=os.environ | own, stdout=subprocess.DEVNULL)
+
+    def login(self, name: str) -> dict[str, str]:
+        return basic(name, self.edge.password)
+
+
+def sums_of(data: bytes) -> dict[str, str]:
+    return {it: hashlib.new(it, data).hexdigest() for it in ("md5", "sha1", "sha256")}
+
+
+def payload(name: str, size: int) -> bytes:
+    """Bytes that nothing else has."""
+    return hashlib.shake_128(name.encode()).digest(size)
+
+
+def stub(data: bytes) -> bytes:
+    return f"{hashlib.sha256(data).hexdigest()}\n".encode()

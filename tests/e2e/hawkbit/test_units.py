@@ -1,0 +1,146 @@
+"""Both services as the package installs them, in a booted Debian 12: set up by the lines of the pages, a deployment from the
+upload to the report, and what neither of them reaches. As root; left out where systemd-nspawn or debootstrap isn't there.
+
+Its files are made once, in some minutes, by debootstrap, and then stay: /var/tmp/fwdesk-hawkbit-debian."""
+
+import os
+import re
+import shutil
+import subprocess
+from pathlib import Path
+
+import pytest
+
+import stage
+from harness.debian_machine import WITHIN, Debian, make_root
+
+ROOT = Path("/var/tmp/fwdesk-hawkbit-debian")
+NAME = "desk.example"
+SERVICES = ("fwdesk-hawkbit", "fwdesk-hawkbit-manage")
+# the status that a service's user is told at a socket of the proxy, or 000 where it can't connect
+REACH = """
+pid=$(systemctl show -p MainPID --value {unit}); uid=$(awk '/^Uid:/ {{ print $2 }}' /proc/$pid/status)
+groups=$(awk '/^Groups:/ {{ $1 = ""; print }}' /proc/$pid/status | xargs | tr ' ' ,)
+setpriv --reuid=$uid --regid=$uid --groups=$groups \\
+  curl -s -o /dev/null -w '%{{http_code}}' --unix-socket /run/fwdesk/{socket} http://localhost{path} || true
+"""
+
+
+def lines_of(page, after, has):
+    """The commands of a page: the indented block behind these words that has this one."""
+    text = (stage.ROOT / "docs" / page).read_text(encoding="utf-8").partition(after)[2]
+    blocks = re.findall(r"(?m)(?:^    .*\n)+", text)
+    return next(it for it in blocks if has in it).replace("\n    ", "\n")[4:]
+
+
+class Machine(Debian):
+    """The booted Debian with the package, set up, and its operator's password."""
+
+    def set_up(self):
+        self.gives(f"echo '127.0.0.1 {NAME} localhost' >> /etc/hosts; dpkg -i /media/fwdesk_*.deb")
+        told = self.gives(f"fwdesk-setup {NAME} --hawkbit")
+        self.login = f"anna:{re.search(r'password ([^ ]+)', told)[1]}"
+        lines = lines_of("HAWKBIT.md", "## A pipeline", "hawkbit.key")
+        assert lines.startswith("apt install python3-aiohttp\n")
+        self.gives(lines.partition("\n")[2])
+
+    def asks(self, method, path, *more):
+        """What a pipeline is answered."""
+        words = f"curl -sk --fail-with-body -u {self.login} -X {method} {' '.join(more)}"
+        return self.gives(f"{words} https://{NAME}:8445/rest/v1/{path}")
+
+    def device(self, rest="", *more):
+        """What the device is answered."""
+        token = f"-H 'Authorization: TargetToken {self.token}'"
+        place = f"https://{NAME}:8444/DEFAULT/controller/v1/dev-01{rest}"
+        return self.gives(f"curl -sk {token} {' '.join(more)} {place}")
+
+    def reaches(self, unit, socket, path="/rest/v1/rollouts"):
+        return self.gives(REACH.format(unit=unit, socket=socket, path=path))
+
+
+@pytest.fixture(scope="module")
+def machine(tmp_path_factory):
+    lacks = [it for it in ("systemd-nspawn", "debootstrap", "dh") if not shutil.which(it)]
+    if lacks or os.geteuid() != 0:
+        pytest.skip(f"needs root, and {', '.join(lacks) or 'nothing else'}")
+    folder = tmp_path_factory.mktemp("debs")
+    words = [stage.ROOT / "tools/package", "--out", folder, "--program", stage.PROGRAM, "--quick"]
+    subprocess.run([str(it) for it in words], check=True, stdout=subprocess.DEVNULL)
+    make_root(ROOT, f"{WITHIN},python3-aiohttp")
+    with Machine(ROOT, folder) as made:
+        made.set_up()
+        yield made
+
+
+JSON = "-H 'Content-Type: application/json'"
+
+
+def test_a_deployment_through_both_services(machine):
+    machine.gives("head -c 5000000 /dev/urandom > /root/big.swu")
+    machine.asks(
+        "POST", "softwaremodules", JSON, """-d '[{"name":"m","type":"os","version":"1"}]'"""
+    )
+    machine.asks("POST", "softwaremodules/1/artifacts", "-F file=@/root/big.swu")
+    row = """-d '[{"name":"s","version":"1","modules":[{"id":1}]}]'"""
+    machine.asks("POST", "distributionsets", JSON, row)
+    told = machine.asks("POST", "targets", JSON, """-d '[{"controllerId":"dev-01"}]'""")
+    machine.token = re.search(r'"securityToken": "([0-9a-f]{32})"', told)[1]
+    assigned = machine.asks(
+        "POST", "distributionsets/1/assignedTargets", JSON, """-d '[{"id":"dev-01"}]'"""
+    )
+    assert '"assigned": 1' in assigned
+    assert "deploymentBase/1" in machine.device()
+    assert '"size": 5000000' in machine.device("/deploymentBase/1")
+    machine.device("/softwaremodules/1/artifacts/big.swu", "-o /root/got")
+    machine.gives("cmp /root/got /root/big.swu")
+    ended = """-d '{"status":{"execution":"closed","result":{"finished":"success"}}}'"""
+    machine.device("/deploymentBase/1/feedback", JSON, ended)
+    assert '"id": 1' in machine.asks("GET", "targets/dev-01/installedDS")
+    assert '"id": "1"' in machine.device("/installedBase/1")
+
+
+@pytest.mark.parametrize("unit", SERVICES)
+def test_neither_service_reaches_more_than_its_ways(machine, unit):
+    machine.gives(f"systemctl start {unit}")
+    assert machine.reaches(unit, "edge.sock") == "000", "the machine's own way in"
+    assert machine.reaches(unit, "hawkbit.sock") == "403"
+    assert machine.reaches(unit, "hawkbit.sock", "/rest/v1/targets/nobody") == "404"
+    assert machine.reaches(unit, "devices.sock") == "404"
+    assert machine.reaches(unit, "hawkbit-manage.sock") == "401"
+
+
+@pytest.mark.parametrize("unit", SERVICES)
+def test_each_unit_is_as_systemd_wants_it(machine, unit):
+    told = machine.does(f"systemd-analyze verify {unit}.service {unit}.socket")[1]
+    # this Debian has no manual pages
+    said = [it for it in told.splitlines() if unit in it and "man fwdesk(8)" not in it]
+    assert said == []
+    status = machine.gives(
+        f"grep -E '^(CapEff|NoNewPrivs|Seccomp):' /proc/$(systemctl show -p MainPID --value {unit})/status"
+    )
+    assert status.split() == ["CapEff:", "0" * 16, "NoNewPrivs:", "1", "Seccomp:", "2"]
+
+
+def test_what_is_done_by_the_services_is_in_the_audit_by_name(machine):
+    audit = machine.gives("journalctl -u haproxy -g audit --no-pager -o cat").splitlines()
+    assert 'audit 200 unix "anna" POST /rest/v1/rollouts/1/start' in audit
+    assert 'audit 403 unix "fwdesk-hawkbit" GET /rest/v1/rollouts' in audit
+
+
+def test_registration_is_switched_on_by_the_lines_of_the_page(machine):
+    machine.gives("umask 077; openssl rand -hex 32 > /etc/fwdesk/hawkbit.token")
+    folder = "/etc/systemd/system/fwdesk-hawkbit.service.d"
+    drop_in = lines_of("DEVICES.md", "## Switches", "LoadCredential")
+    drop_in = drop_in.replace("%d/token", "%d/token --register")
+    machine.gives(f"mkdir -p {folder}; cat > {folder}/own.conf", drop_in.encode())
+    machine.gives("systemctl daemon-reload && systemctl restart fwdesk-hawkbit")
+    ask = "curl -sk -o /dev/null -w '%{http_code}' -H \"Authorization: GatewayToken $(cat /etc/fwdesk/hawkbit.token)\""
+    place = f"https://{NAME}:8444/DEFAULT/controller/v1/new-01"
+    assert machine.gives(f"{ask} {place}") == "503", "the proxy lets no registration by"
+    machine.gives(
+        "printf 'global\\n    setenv FWDESK_HAWKBIT_REGISTERS 1\\n' >> /etc/fwdesk/haproxy.d/10-own.cfg"
+    )
+    machine.gives("fwdesk-setup --check && systemctl reload haproxy")
+    assert machine.until(lambda: machine.gives(f"{ask} {place}") == "200", 20)
+    assert '"new-01"' in machine.asks("GET", "targets/new-01")
