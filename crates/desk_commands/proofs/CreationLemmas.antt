@@ -1,6 +1,6 @@
 -- The creation of a rollout, from what is read to what is written.
 use Rattle.desk_commands.proofs.Common.{◌≡◌, ◌<◌, ℕ, zero, suc, ◌+◌, Bool, true, false, not, cond, nat_eq, List, [], ◌∷◌, ◌++◌, map, get_or, take, drop, length}
-use Rattle.desk_commands.proofs.Common.{set, slice_get, Some, None, refl, sym, ap, subst, ◌∙◌, arith, list_all, IsSomeAnd, and_parts, nat_tests, length-append}
+use Rattle.desk_commands.proofs.Common.{set, slice_get, Some, None, refl, sym, ap, subst, ◌∙◌, arith, list_all, and_parts, nat_tests, length-append}
 use Rattle.desk_commands.proofs.Common.{length-map, length-take-le, map-append, take_all, command_reply, item_numbered, CommandList, Bytes, CreateRollout}
 use Rattle.desk_commands.proofs.Common.{RolloutPlan, GroupRule, rule_at, rules_of, first_offer, Records, action_in, rollouts_in, new_group, new_rollout}
 use Rattle.desk_commands.proofs.Common.{step_records, bounds_at, chosen, rollouts, RolloutWord, Target, IsValid, check, reply_of, Bounds, ActionRecord}
@@ -29,11 +29,10 @@ use Rattle.desk_commands.proofs.PutLemmas.{one_more}
 
 -- ---- the members
 
-module _ (r : Records) (f : Tree) (text : Bytes) (t : SeenTarget) (entry : ListedTarget) (is_match : Bool)
-    (computed : IsSomeAnd (filter_of text) (λ tree. is_match ≡ holds tree t)) (tree : filter_of text ≡ Some f) (read : t ≡ target_listed r entry) where
-  -- its id is added where it matches
-  pub id_matched : ids_matching f (target_listed r entry ∷ []) ≡ cond is_match (entry.id ∷ []) []
-  id_matched = let is : holds f (target_listed r entry) ≡ is_match = ap (holds f) (sym read) ∙ sym (rw tree at computed) in grind (arith, is)
+-- its id is added where it matches
+pub id_matched : (r : Records) (f : Tree) (entry : ListedTarget) (is_match : Bool) → is_match ≡ holds f (target_listed r entry)
+    → ids_matching f (target_listed r entry ∷ []) ≡ cond is_match (entry.id ∷ []) []
+id_matched r f entry is_match is = grind (arith, is)
 
 ids_grow : (f : Tree) (ts us : List SeenTarget) → ids_matching f (ts ++ us) ≡ ids_matching f ts ++ ids_matching f us
 ids_grow f ts us = grind (arith, filter-append, map-append)

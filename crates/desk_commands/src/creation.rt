@@ -1,6 +1,6 @@
 //! Rollouts: creating one.
 
-ghost use Rattle.std.specs.Prelude.{◌≡◌, ◌≤◌, ◌++◌, [], ◌∷◌, length, map, IfOk, IfSome, Some};
+ghost use Rattle.std.specs.Prelude.{◌≡◌, ◌≤◌, ◌+◌, ◌++◌, [], ◌∷◌, length, map, IfOk, IfSome, Some};
 ghost use Rattle.rollout_machine.specs.Commands.{CreateRollout};
 ghost use Rattle.rollout_machine.specs.GroupRules.{rules_of};
 ghost use Rattle.rollout_machine.specs.Groupings.{cut_by};
@@ -8,7 +8,7 @@ ghost use Rattle.rollout_machine.specs.Rollouts.{chosen};
 ghost use Rattle.target_filter.specs.Grammar.{Tree};
 ghost use Rattle.target_filter.specs.Profile.{filter_of};
 ghost use Rattle.campaign_core.specs.RolloutChecks.{IsPlanView};
-ghost use Rattle.desk_reads.specs.Targets.{target_listed};
+ghost use Rattle.desk_reads.specs.Targets.{parts_named, target_listed};
 ghost use Rattle.desk_commands.specs.Creations.{CreatesRollout, IsChosen, IsWordOf, ids_matching, in_part, shown_new};
 ghost use Rattle.desk_store.specs.Changing.{FindsIn, MakesLedger, StaysIn};
 ghost use Rattle.desk_commands.specs.Changing.{StepsIn};
@@ -18,7 +18,7 @@ ghost use Rattle.desk_store.specs.Failing.{WritesIn};
 
 use crate::step::Step;
 use campaign_core::{NewRollout, PlanView, cut_grouping, new_rollout};
-use desk_reads::read_listed;
+use desk_reads::{named_by, read_asked};
 use desk_store::{Fault, ListedTarget, OpenChange};
 use rollout_machine::Bounds;
 use rollout_model::{
@@ -37,7 +37,7 @@ pub(crate) struct Chosen {
     pub members: Vec<ControllerId>,
 }
 
-/// Adds a target to the members, if it matches.
+/// Adds a target to the members, if it matches. No more is read of it than the filter names.
 fn add_if_match<S: Alter>(
     change: &mut OpenChange<'_, S>,
     filter: &Filter,
@@ -48,9 +48,11 @@ fn add_if_match<S: Alter>(
     ensures reads { FindsIn S.Store change.old change.new result
         (λ r _. (f : Tree) → filter_of filter.now ≡ Some f → members.new.items ≡ members.old.items ++ ids_matching f (target_listed r entry ∷ [])) }
     ensures fails { FailsAtListsIn S.Store change.old change.new result }
+    ensures work { change.new.store.now.calls.work.statements ≤ change.old.store.now.calls.work.statements + parts_named (filter_of filter.now) }
 {
     let id = entry.id;
-    let target = read_listed(change, entry)?;
+    let asked = named_by(filter);
+    let target = read_asked(change, entry, asked)?;
     let matches = filter.matches(&target);
     if !matches {
         return Ok(());

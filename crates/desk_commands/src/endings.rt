@@ -16,7 +16,7 @@ use desk_store::{Fault, OpenChange};
 use rollout_machine::{GroupRecord, Outcome};
 use sqlite::Alter;
 
-/// The group with one more outcome. A count beyond all numbers is a failed store.
+/// The group with one more outcome. A count beyond all numbers is `Broken`.
 fn counted(group: GroupRecord, outcome: Outcome) -> Result<GroupRecord, Fault>
     ensures { MatchResult result
         (λ after. after ≡ counted outcome group.number group)

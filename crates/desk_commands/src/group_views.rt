@@ -10,7 +10,7 @@ use desk_store::Fault;
 use rollout_machine::{GroupRecord, GroupView};
 use rollout_model::GroupRule;
 
-/// How many members the group has. One that reaches beyond all numbers is a failed store.
+/// How many members the group has. One that reaches beyond all numbers is `Broken`.
 fn size_of(group: &GroupRecord) -> Result<u32, Fault>
     ensures { MatchResult result (λ size. size ≡ size_of_group group.now) (λ e. (e ≡ Broken) × EndsBeyond (Some group.now)) }
 {

@@ -3,6 +3,7 @@ pub mod SeenRollouts
 pub mod ListLemmas
 pub mod RuleLemmas
 pub mod ListedTargets
+pub mod AskedTargets
 pub mod KnownDevices
 pub mod HistoryKept
 pub mod TargetRules

@@ -1,16 +1,14 @@
 -- Targets as they are listed, and then read by their ids.
 use Rattle.desk_reads.proofs.Common.{arith, ◌≡◌, ℕ, true, false, List, [], ◌∷◌, map, find, take, drop, Option, Some, None, refl, sym, ap, ◌∙◌, and_parts}
 use Rattle.desk_reads.proofs.Common.{or_parts}
-use Rattle.desk_reads.proofs.Common.{contains_word, Records, Target, IsSorted, not_above, are_sorted, ids_of, in_byte_order, attributes_of}
-use Rattle.desk_reads.proofs.Common.{sorted_from, has_id, tags_of, target_of, Bytes, Attribute, same_refl}
+use Rattle.desk_reads.proofs.Common.{contains_word, Records, Target, IsSorted, not_above, are_sorted, ids_of, in_byte_order}
+use Rattle.desk_reads.proofs.Common.{sorted_from, has_id, same_refl}
 use Rattle.std.proofs.IntoIterSteps.{All-taken}
 use Rattle.std.proofs.lemmas.List.{drop-map, take-map}
 use Rattle.std.specs.Iterator.{Yields}
 use Rattle.std.specs.Vec.Iter.{into_iter_items, into_iter_steps}
 use Rattle.std.specs.declared.vec.IntoIter.{IntoIter}
 use Rattle.rollout_machine.specs.Filters.{seen}
-use Rattle.rollout_machine.specs.Views.{listed}
-use Rattle.desk_records.specs.declared.target_row.ListedTarget.{ListedTarget}
 use Rattle.desk_records.specs.TargetRow.{listed_target}
 use Rattle.desk_reads.specs.Targets.{target_listed}
 
@@ -50,9 +48,3 @@ module _ (r : Records) where
       let ts = drop m r.targets in
       all_seen (take n ts) (sym (take-map (found r.targets) n ts) ∙ ap (take n) (sym (drop-map (found r.targets) m r.targets) ∙ ap (drop m) all
       ∙ drop-map Some m r.targets) ∙ take-map Some n ts)
-
--- a target that was listed, with what was read of its id
-pub listed_is : (r : Records) (listed : ListedTarget) (tags : List Bytes) (attributes : List Attribute) → tags ≡ tags_of (target_of r listed.id) → attributes
-    ≡ attributes_of (target_of r listed.id)
-    → record { id = listed.id; name = listed.name; tags = tags; attributes = attributes } ≡ target_listed r listed
-listed_is r listed tags attributes tagged attributed = λ i. record { id = listed.id; name = listed.name; tags = tagged i; attributes = attributed i }

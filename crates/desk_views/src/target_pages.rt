@@ -12,12 +12,12 @@ ghost use Rattle.target_filter.specs.Profile.{filter_of};
 ghost use Rattle.desk_reads.specs.AtLists.{FailsAtListsIn};
 ghost use Rattle.desk_views.specs.Failing.{FailsWith};
 ghost use Rattle.desk_views.specs.Targets.{matching_shown, worded};
-ghost use Rattle.desk_reads.specs.Targets.{target_listed};
+ghost use Rattle.desk_reads.specs.Targets.{parts_left, target_listed, with_rest};
 ghost use Rattle.desk_store.specs.Changing.{FindsIn, StaysIn};
 
 use crate::pages::is_on;
 use crate::targets::with_word;
-use desk_reads::read_listed;
+use desk_reads::{Asked, named_by, read_asked, read_listed, read_rest};
 use desk_store::{Fault, ListedTarget, OpenChange};
 use rollout_model::limits::TARGET_LIMIT;
 use rollout_model::{FilterText, Page, PageOf, Refusal, Reply, ShownTarget, Target};
@@ -175,7 +175,7 @@ fn add_matching<S: Alter>(
     Ok(())
 }
 
-/// Adds a target to the page, if it matches.
+/// Adds a target to the page, if it matches. Of a target that doesn't match, no more is read than the filter names.
 fn add_if_match<S: Alter>(
     change: &mut OpenChange<'_, S>,
     filter: &Filter,
@@ -190,27 +190,31 @@ fn add_if_match<S: Alter>(
     ensures fails { FailsWith S.Store (λ now. shown.old.total + 1 < 2 ^ 32) change.old change.new result }
     ensures counts { IfOk result (λ _. shown.new.total ≤ shown.old.total + 1) }
 {
-    let target = read_listed(change, entry)?;
+    let asked = named_by(filter);
+    let target = read_asked(change, entry, asked)?;
     let matches = filter.matches(&target);
     if !matches {
         return Ok(());
     }
-    add(change, page, target, shown)?;
+    add(change, page, target, asked, shown)?;
     Ok(())
 }
 
-/// Adds the next target of a list to its page. Its word is read only where it is on the page.
+/// Adds the next target of a list to its page. Its word, and what wasn't asked for of it, are read only where it is on the page.
 fn add<S: Alter>(
     change: &mut OpenChange<'_, S>,
     page: Page,
     target: Target,
+    asked: Asked,
     shown: &mut PageOf<ShownTarget>,
 ) -> Result<(), Fault>
     ensures stays { StaysIn S.Store change.old change.new result }
     ensures reads { FindsIn S.Store change.old change.new result
-        (λ now _. (all : List ShownTarget) → listed shown.old ≡ page_of page all → listed shown.new ≡ page_of page (all ++ worded now target ∷ [])) }
+        (λ now _. (all : List ShownTarget) → listed shown.old ≡ page_of page all
+        → listed shown.new ≡ page_of page (all ++ worded now (with_rest now asked target) ∷ [])) }
     ensures fails { FailsWith S.Store (λ now. shown.old.total + 1 < 2 ^ 32) change.old change.new result }
     ensures counts { IfOk result (λ _. shown.new.total ≤ shown.old.total + 1) }
+    ensures work { change.new.store.now.calls.work.statements ≤ change.old.store.now.calls.work.statements + (parts_left asked + 3) }
 {
     let place = shown.total;
     let Some(total) = place.checked_add(1) else {
@@ -220,7 +224,23 @@ fn add<S: Alter>(
     if !is_on(page, place) {
         return Ok(());
     }
-    let entry = with_word(change, target)?;
+    let entry = show_whole(change, target, asked)?;
     shown.content.push(entry)?;
     Ok(())
+}
+
+/// A target of which some was asked for, as it is shown: with the rest, and with its word.
+fn show_whole<S: Alter>(
+    change: &mut OpenChange<'_, S>,
+    target: Target,
+    asked: Asked,
+) -> Result<ShownTarget, Fault>
+    ensures stays { StaysIn S.Store change.old change.new result }
+    ensures reads { FindsIn S.Store change.old change.new result (λ now shown. shown ≡ worded now (with_rest now asked target)) }
+    ensures fails { FailsAtListsIn S.Store change.old change.new result }
+    ensures work { change.new.store.now.calls.work.statements ≤ change.old.store.now.calls.work.statements + (parts_left asked + 3) }
+{
+    let whole = read_rest(change, target, asked)?;
+    let entry = with_word(change, whole)?;
+    Ok(entry)
 }

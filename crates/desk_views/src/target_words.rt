@@ -1,6 +1,6 @@
 //! The words of targets: what their actions say of their software.
 
-ghost use Rattle.std.specs.Prelude.{◌≡◌, true};
+ghost use Rattle.std.specs.Prelude.{◌≡◌, ◌≤◌, ◌+◌, true};
 ghost use Rattle.rollout_machine.specs.StateWords.{target_word};
 ghost use Rattle.campaign_core.specs.StatusWords.{target_word_from};
 ghost use Rattle.desk_reads.specs.AtLists.{FailsAtListsIn};
@@ -22,6 +22,7 @@ pub(crate) fn read_target_word<S: Alter>(
     ensures stays { StaysIn S.Store change.old change.new result }
     ensures reads { FindsIn S.Store change.old change.new result (λ now word. word ≡ target_word now id.now) }
     ensures fails { FailsAtListsIn S.Store change.old change.new result }
+    ensures work { change.new.store.now.calls.work.statements ≤ change.old.store.now.calls.work.statements + 3 }
 {
     let status = read_status(change, id)?;
     Ok(target_word(&status))
@@ -36,6 +37,7 @@ fn read_status<S: Alter>(
     ensures stays { StaysIn S.Store change.old change.new result }
     ensures reads { FindsIn S.Store change.old change.new result (λ now status. target_word_from status ≡ target_word now id.now) }
     ensures fails { FailsAtListsIn S.Store change.old change.new result }
+    ensures work { change.new.store.now.calls.work.statements ≤ change.old.store.now.calls.work.statements + 3 }
 {
     if change.read_offer(id)?.is_some() {
         return Ok(TargetStatus {
@@ -59,6 +61,7 @@ fn read_last_ending<S: Alter>(
     ensures reads { FindsIn S.Store change.old change.new result
         (λ now last. (has_begun now (last_ended now id.now) ≡ true) × (last ≡ ending_of (last_ended now id.now))) }
     ensures fails { FailsAtListsIn S.Store change.old change.new result }
+    ensures work { change.new.store.now.calls.work.statements ≤ change.old.store.now.calls.work.statements + 2 }
 {
     let Some(listed) = change.read_last_ended(id)? else {
         return Ok(None);
@@ -77,6 +80,7 @@ fn read_is_begun<S: Alter>(
     ensures stays { StaysIn S.Store change.old change.new result }
     ensures reads { FindsIn S.Store change.old change.new result (λ now begun. begun ≡ is_begun now action.now) }
     ensures fails { FailsAtListsIn S.Store change.old change.new result }
+    ensures work { change.new.store.now.calls.work.statements ≤ change.old.store.now.calls.work.statements + 1 }
 {
     match change.read_holding_group(action.rollout, action.position)? {
         Some(group) => Ok(group.started),

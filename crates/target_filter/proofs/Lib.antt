@@ -10,5 +10,6 @@ pub mod ByteRuns
 pub mod AtomReading
 pub mod Profiles
 pub mod Meanings
+pub mod Naming
 pub mod Refusals
 pub mod Precedence

@@ -4,6 +4,7 @@ use Rattle.rollout_model.specs.declared.target.Target.{Target}
 use Rattle.target_filter.specs.Grammar.{Field, Value, Tree, Comparison, Equal, NotEqual, OrLevel, AndLevel, AtomLevel, is_at, spelling, IsFilter, IsInGrammar}
 use Rattle.target_filter.specs.Patterns.{Matches, matches}
 use Rattle.target_filter.specs.Meaning.{holds}
+use Rattle.target_filter.specs.Names.{AreAlikeWhereNamed}
 use Rattle.target_filter.specs.Profile.{IsProfileFilter, IsInProfile, filter_of}
 
 abbrev pub HasOneTree : Type 0
@@ -24,6 +25,10 @@ ComputesNothingElse = (text : List ℕ) → (filter_of text ≡ None) ↔ (IsInP
 abbrev pub NegatesEqual : Type 0
 NegatesEqual = (field : Field) (value : Value) (target : Target)
     → holds (Comparison field NotEqual value) target ≡ not (holds (Comparison field Equal value) target)
+
+-- what a filter doesn't name, it doesn't depend on
+abbrev pub DependsOnNamedAlone : Type 0
+DependsOnNamedAlone = (tree : Tree) (t u : Target) → AreAlikeWhereNamed tree t u → holds tree t ≡ holds tree u
 
 -- the text is a filter, and each tree of it has this meaning
 abbrev pub HasMeaning : List ℕ → (Target → Bool) → Type 0

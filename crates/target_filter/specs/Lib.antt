@@ -1,6 +1,7 @@
 pub mod Grammar
 pub mod Patterns
 pub mod Meaning
+pub mod Names
 pub mod Profile
 pub mod Faults
 pub mod Laws

@@ -5,6 +5,7 @@ ghost use Rattle.std.specs.Option.{IsSomeAnd};
 ghost use Rattle.std.specs.Result.{MatchResult};
 ghost use Rattle.target_filter.specs.Grammar.{Tree, IsFilter};
 ghost use Rattle.target_filter.specs.Meaning.{holds};
+ghost use Rattle.target_filter.specs.Names.{names_attributes, names_tags};
 ghost use Rattle.target_filter.specs.Profile.{IsProfileFilter, IsInProfile, filter_of};
 ghost use Rattle.target_filter.specs.Faults.{IsRefused};
 ghost use Rattle.target_filter.specs.Views.{tree_of};
@@ -101,5 +102,21 @@ impl Filter {
         ensures profile { IsInProfile self.now }
     {
         self.tree.holds(target)
+    }
+
+    /// Does the filter name tags? Where it doesn't, what it says of a target doesn't depend on the target's tags.
+    pub fn names_tags(&self) -> bool
+        ensures meaning { (tree : Tree) → IsFilter self.now tree → result ≡ names_tags tree }
+        ensures computed { IsSomeAnd (filter_of self.now) (λ tree. result ≡ names_tags tree) }
+    {
+        self.tree.names_tags()
+    }
+
+    /// Does the filter name an attribute? Where it doesn't, what it says of a target doesn't depend on the target's attributes.
+    pub fn names_attributes(&self) -> bool
+        ensures meaning { (tree : Tree) → IsFilter self.now tree → result ≡ names_attributes tree }
+        ensures computed { IsSomeAnd (filter_of self.now) (λ tree. result ≡ names_attributes tree) }
+    {
+        self.tree.names_attributes()
     }
 }

@@ -1,7 +1,7 @@
 //! Laws of the definitions, each proved as the contract of a function that does nothing.
 
 ghost use Rattle.target_filter.specs.Laws.{HasOneTree, MatchesByTest, ComputesFilters, ComputesNothingElse, NegatesEqual, BindsAndOnTheRight};
-ghost use Rattle.target_filter.specs.Laws.{BindsAndOnTheLeft};
+ghost use Rattle.target_filter.specs.Laws.{BindsAndOnTheLeft, DependsOnNamedAlone};
 
 /// A text has one tree.
 pub fn one_tree()
@@ -22,6 +22,11 @@ pub fn computed_filter()
 /// `!=` is the negation of `==`.
 pub fn not_equal_negates_equal()
     ensures { NegatesEqual }
+{}
+
+/// What a filter says of a target depends on its id and name, and on its tags and attributes where the filter names them.
+pub fn depends_on_named_alone()
+    ensures { DependsOnNamedAlone }
 {}
 
 /// `;` binds tighter than `,`.

@@ -4,6 +4,7 @@ ghost use Rattle.std.specs.Prelude.{◌≡◌};
 ghost use Rattle.std.specs.List.{list_any};
 ghost use Rattle.target_filter.specs.Patterns.{matches};
 ghost use Rattle.target_filter.specs.Meaning.{holds, field_matches, attribute_matches, compared, pattern_of};
+ghost use Rattle.target_filter.specs.Names.{is_attribute_field, is_tag_field, names_attributes, names_tags};
 ghost use Rattle.target_filter.specs.Views.{tree_of, field_of, operator_of, value_of};
 
 use crate::pattern::matches;
@@ -73,6 +74,24 @@ impl Field {
             ),
         }
     }
+
+    fn is_tag(&self) -> bool
+        ensures { result ≡ is_tag_field (field_of self.now) }
+    {
+        match self {
+            Field::Tag => true,
+            Field::Id | Field::Name | Field::Attribute(_) => false,
+        }
+    }
+
+    fn is_attribute(&self) -> bool
+        ensures { result ≡ is_attribute_field (field_of self.now) }
+    {
+        match self {
+            Field::Attribute(_) => true,
+            Field::Id | Field::Name | Field::Tag => false,
+        }
+    }
 }
 
 impl Operator {
@@ -109,6 +128,30 @@ impl Tree {
                 value.pattern(),
                 target,
             )),
+        }
+    }
+
+    /// Is some comparison of tags?
+    pub(crate) fn names_tags(&self) -> bool
+        ensures { result ≡ names_tags (tree_of self.now) }
+    {
+        match self {
+            Tree::Or(left, right) => left.names_tags() || right.names_tags(),
+            Tree::And(left, right) => left.names_tags() || right.names_tags(),
+            Tree::Group(tree) => tree.names_tags(),
+            Tree::Comparison(field, _, _) => field.is_tag(),
+        }
+    }
+
+    /// Is some comparison of an attribute?
+    pub(crate) fn names_attributes(&self) -> bool
+        ensures { result ≡ names_attributes (tree_of self.now) }
+    {
+        match self {
+            Tree::Or(left, right) => left.names_attributes() || right.names_attributes(),
+            Tree::And(left, right) => left.names_attributes() || right.names_attributes(),
+            Tree::Group(tree) => tree.names_attributes(),
+            Tree::Comparison(field, _, _) => field.is_attribute(),
         }
     }
 }
