@@ -1,5 +1,5 @@
 -- What an order comes to on a machine, from the opening of its desk to the exit status.
-use Rattle.std.specs.Prelude.{◌≡◌, ℕ, Bool, List, [], ◌∷◌, Option, Result, IfOk, IfErr, is_some}
+use Rattle.std.specs.Prelude.{◌≡◌, ℕ, Bool, List, [], ◌∷◌, Option, Result, IfOk, IfErr}
 use Rattle.sqlite.specs.Files.{over_files}
 use Rattle.sqlite.specs.Recovery.{Image}
 use Rattle.sqlite_disk.specs.declared.Disk as disk
@@ -39,11 +39,12 @@ pub record LacksDesk (fault : OpenFault) (input input_new output output_new erro
   pub unwritten : output_new ≡ output
   pub tells : Tells errors.bytes errors_new.bytes errors_new.failed (open_line fault)
 
--- a port of 127.0.0.1, which nobody reaches from another machine, was taken or not, and so many of its connections were served
-abbrev pub ServesPort : {File C : Type 0} → (List ℕ → ℕ → Bool → Type 0) → Network C → ℕ → Interface → ℕ → DeskState File → DeskState File → Stream → Stream → ℕ
+-- a port of 127.0.0.1, which nobody reaches from another machine, was taken or not, and so many of the connections to that port were served
+abbrev pub ServesPort : {File C : Type 0} → (List ℕ → ℕ → Option C → Type 0) → Network C → ℕ → Interface → ℕ → DeskState File → DeskState File → Stream → Stream
+    → ℕ
     → Type 0
 ServesPort {C = C} listens net port interface connections old new errors errors_new status =
-    (listener : Option C) × (after : Option C) × listens (127 ∷ 0 ∷ 0 ∷ 1 ∷ []) port (is_some listener)
+    (listener : Option C) × (after : Option C) × listens (127 ∷ 0 ∷ 0 ∷ 1 ∷ []) port listener
     × CarriesOutOn net interface listener after connections old new errors.bytes errors_new.bytes errors_new.failed status
 
 -- the file at this path was read or not, and its targets were put
@@ -54,7 +55,7 @@ ImportsFile reads path old new output output_new errors errors_new status =
     × CarriesOutImport file old new output.bytes output_new.bytes errors.bytes errors_new.bytes errors_new.failed output.failed output_new.failed status
 
 -- the order was carried out over an opened desk: what each kind of order comes to
-abbrev pub Does : {S C : Type 0} → (g : Ghosts S) → (List ℕ → Option (List ℕ) → Type 0) → (List ℕ → ℕ → Bool → Type 0) → Network C → Order → Desk S → Desk S
+abbrev pub Does : {S C : Type 0} → (g : Ghosts S) → (List ℕ → Option (List ℕ) → Type 0) → (List ℕ → ℕ → Option C → Type 0) → Network C → Order → Desk S → Desk S
     → Stream → Stream → Stream → Stream → Stream → Stream → ℕ → Type 0
 Does g reads listens net (Run setup) before after input input_new output output_new errors errors_new status =
     CarriesOut g setup before after input.bytes input_new.bytes output.bytes output_new.bytes errors.bytes errors_new.bytes errors_new.failed
@@ -76,7 +77,7 @@ Does g reads listens net (Verify db) before after input input_new output output_
 -- The desk at the order's path was opened, with the order's approval where it is new, and the order was carried out over it: this desk is what
 -- that left.
 pub record LeavesDesk {D C : Type 0} (g : disk.Ghosts D) (image : Image) (reads : List ℕ → Option (List ℕ) → Type 0)
-    (listens : List ℕ → ℕ → Bool → Type 0) (net : Network C) (order : Order) (input input_new output output_new errors errors_new : Stream) (status : ℕ)
+    (listens : List ℕ → ℕ → Option C → Type 0) (net : Network C) (order : Order) (input input_new output output_new errors errors_new : Stream) (status : ℕ)
     (after : Desk (FileStore D g)) : Type 0 where
   pub before : Desk (FileStore D g)
   pub opened : ReopensDesk image (desk_state over_files before) (asks_approval order)
@@ -85,7 +86,7 @@ pub record LeavesDesk {D C : Type 0} (g : disk.Ghosts D) (image : Image) (reads 
 -- The order was carried out over its desk, which is left as that says; or the host refused to open it, and that is told: then what is
 -- left of its files is unharmed.
 pub record CarriesOutOrder {D C : Type 0} (g : disk.Ghosts D) (image : List ℕ → Image) (refuses : List ℕ → Bool → PathRefusal D → Type 0)
-    (reads : List ℕ → Option (List ℕ) → Type 0) (listens : List ℕ → ℕ → Bool → Type 0) (net : Network C) (order : Order)
+    (reads : List ℕ → Option (List ℕ) → Type 0) (listens : List ℕ → ℕ → Option C → Type 0) (net : Network C) (order : Order)
     (input input_new output output_new errors errors_new : Stream) (status : ℕ)
     (left : Result (Desk (FileStore D g)) (OpenFault × PathLeftover D g)) : Type 0 where
   pub leaves : IfOk left (LeavesDesk g (image (database_of order)) reads listens net order input input_new output output_new errors errors_new status)

@@ -16,7 +16,8 @@ use Rattle.stream_server.specs.declared.served.Served.{Served}
 use Rattle.stream_server.specs.declared.served.ServeFault.{ServeFault}
 use Rattle.stream_server.specs.declared.served.ServeFault.TheVariants.{Read, Write, Store, Memory}
 use Rattle.stream_server.specs.Headline.{FailsBy}
-use Rattle.stream_server.specs.Listening.{ComesToEnd, Keeps, Sockets, StopsAtStore}
+use Rattle.stream_server.specs.Arrivals.{Befalls, Event}
+use Rattle.stream_server.specs.Listening.{ComesToEnd, Keeps, StopsAtStore}
 use Rattle.stream_server.specs.Parts.{ServesStream}
 
 -- the line of a fault
@@ -71,19 +72,23 @@ pub record CarriesOut {S : Type 0} (g : Ghosts S) (setup : Setup) (before after 
   pub read_failed : FailsBy outcome Read failed_read reading_fails
   pub write_failed : FailsBy outcome Write failed_write writing_fails
 
--- What is known of connections: with what bytes each came and went, how many came, and that no further one can be accepted.
+-- What is known of connections: what befell them up to now, and that no further one can be accepted.
 pub record Network (C : Type 0) : Type 1 where
-  pub comes : Sockets
-  pub goes : Sockets
-  pub counts : C → ℕ → Type 0
+  pub has_seen : C → List Event → Type 0
   pub has_failed : C → Type 0
 
-abbrev pub network : {C : Type 0} → Sockets → Sockets → (C → ℕ → Type 0) → (C → Type 0) → Network C
-network comes goes counts has_failed = record { comes = comes; goes = goes; counts = counts; has_failed = has_failed }
+abbrev pub network : {C : Type 0} → (C → List Event → Type 0) → (C → Type 0) → Network C
+network has_seen has_failed = record { has_seen = has_seen; has_failed = has_failed }
+
+-- it holds of what befell the connections where the port was taken, and of nothing where it wasn't
+abbrev pub BefallsAt : {C : Type 0} → Network C → Option C → Option C → (List Event → Type 0) → Type 0
+BefallsAt net (Some old) (Some new) P = Befalls (net.has_seen old) (net.has_seen new) P
+BefallsAt net (Some old) None P = ⊥
+BefallsAt net None new P = P []
 
 -- where the port was taken: so many connections came, or no further one can be accepted, or the store failed
 abbrev pub EndsOf : {C : Type 0} → Network C → Option C → Option C → ℕ → Result ℕ ListenFault → Type 0
-EndsOf net (Some old) (Some new) connections outcome = ComesToEnd (net.counts old) (net.counts new) (net.has_failed new) connections outcome
+EndsOf net (Some old) (Some new) connections outcome = Befalls (net.has_seen old) (net.has_seen new) (ComesToEnd (net.has_failed new) connections outcome)
 EndsOf net (Some old) None connections outcome = ⊥
 EndsOf net None new connections outcome = Unit {0}
 
@@ -91,7 +96,7 @@ EndsOf net None new connections outcome = Unit {0}
 pub record Listens {File C : Type 0} (net : Network C) (interface : Interface) (listener after : Option C) (connections : ℕ)
     (old new : DeskState File) (outcome : Result ℕ ListenFault) : Type 0 where
   pub clean : new.is_clean → old.is_clean
-  pub keeps : (h : CommandList) → new.is_clean → StandsFor old h → Keeps net.comes net.goes interface new h
+  pub keeps : (h : CommandList) → new.is_clean → StandsFor old h → BefallsAt net listener after (λ events. Keeps interface new h events outcome)
   pub ends : EndsOf net listener after connections outcome
   pub store : StopsAtStore new outcome
   pub stopped : old.is_stopped ≡ true → StaysStopped old new

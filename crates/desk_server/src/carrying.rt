@@ -28,7 +28,7 @@ fn serve_port<H: Host, E: Write, S: Alter>(
     desk: &mut Desk<S>,
     errors: &mut Watched<E>,
 ) -> u8
-    ensures { ServesPort H.listens (network H.Listener.comes H.Listener.goes H.Listener.counts H.Listener.has_failed) port setup.now.interface connections
+    ensures { ServesPort H.listens (network H.Listener.has_seen H.Listener.has_failed) port setup.now.interface connections
         (desk_state S.Store desk.old) (desk_state S.Store desk.new)
         (seen E.contents errors.old) (seen E.contents errors.new) result }
 {
@@ -70,7 +70,7 @@ fn carry_out_over<H: Host, R: Read, W: Write, E: Write, S: Alter>(
     output: &mut Watched<W>,
     errors: &mut Watched<E>,
 ) -> u8
-    ensures { Does S.Store H.reads H.listens (network H.Listener.comes H.Listener.goes H.Listener.counts H.Listener.has_failed) order.now desk.old desk.new
+    ensures { Does S.Store H.reads H.listens (network H.Listener.has_seen H.Listener.has_failed) order.now desk.old desk.new
         (seen R.remaining input.old) (seen R.remaining input.new)
         (seen W.contents output.old) (seen W.contents output.new) (seen E.contents errors.old) (seen E.contents errors.new) result }
 {
@@ -107,7 +107,7 @@ pub fn carry_out<H: Host, R: Read, W: Write, E: Write>(
     errors: &mut Watched<E>,
 ) -> CarriedOut<H::Disk>
     ensures { CarriesOutOrder H.Disk.Disk H.image H.refuses H.reads H.listens
-        (network H.Listener.comes H.Listener.goes H.Listener.counts H.Listener.has_failed) order.now (seen R.remaining input.old) (seen R.remaining input.new)
+        (network H.Listener.has_seen H.Listener.has_failed) order.now (seen R.remaining input.old) (seen R.remaining input.new)
         (seen W.contents output.old) (seen W.contents output.new) (seen E.contents errors.old) (seen E.contents errors.new) result.status result.left }
 {
     match host.open(order.db(), start, order.approval()) {

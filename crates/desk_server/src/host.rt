@@ -1,6 +1,6 @@
 //! The machine that an order is carried out on.
 
-ghost use Rattle.std.specs.Prelude.{ℕ, Bool, List, Option, IfOk, IfErr, is_some, option_map, vec_items};
+ghost use Rattle.std.specs.Prelude.{ℕ, Bool, List, Option, IfOk, IfErr, option_map, vec_items};
 ghost use Rattle.std.specs.Net.Addr.{ipv4_octets};
 ghost use Rattle.sqlite.specs.Files.{over_files};
 ghost use Rattle.sqlite.specs.Recovery.{Image};
@@ -37,8 +37,8 @@ pub trait Host {
     /// The file at a path has these first bytes, or it can't be read.
     ghost reads: { List ℕ → Option (List ℕ) → Type 0 };
 
-    /// Whether a port of an address was taken.
-    ghost listens: { List ℕ → ℕ → Bool → Type 0 };
+    /// A port of an address was taken, and these are its connections; or it wasn't.
+    ghost listens: { List ℕ → ℕ → Option Self.Listener → Type 0 };
 
     /// Opens the desk in the database at a path, with the log beside it. A desk that is made for it asks for approval where it is told so.
     /// A refusal comes with what is left of the files.
@@ -58,5 +58,5 @@ pub trait Host {
 
     /// Takes a port of an address. None where that isn't possible.
     fn listen(&mut self, address: Ipv4Addr, port: u16) -> Option<Self::Listener>
-        ensures { listens (ipv4_octets address) port (is_some result) };
+        ensures { listens (ipv4_octets address) port result };
 }

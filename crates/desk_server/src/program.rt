@@ -120,7 +120,7 @@ pub(crate) fn listen_address(port: u16) -> (Ipv4Addr, u16)
 }
 
 /// Serves the connections to a port, or answers at once where the port wasn't taken.
-#[tactic(auto, using(stream_server::proofs::ListenLemmas::keeps_what_stands, stream_server::proofs::PartLemmas::stays))]
+#[tactic(auto, using(stream_server::proofs::ListenLemmas::keeps_without_net, stream_server::proofs::PartLemmas::stays))]
 fn listen<C: Connections, D: ContentsHandler>(
     alloc: Global,
     desk: &mut D,
@@ -128,7 +128,7 @@ fn listen<C: Connections, D: ContentsHandler>(
     listener: &mut Option<C>,
     connections: u32,
 ) -> Result<u32, ListenFault>
-    ensures { Listens (network C.comes C.goes C.counts C.has_failed) interface listener.old listener.new connections
+    ensures { Listens (network C.has_seen C.has_failed) interface listener.old listener.new connections
         (D.state desk.old) (D.state desk.new) result }
 {
     match listener {
@@ -146,7 +146,7 @@ pub(crate) fn serve_on_port<C: Connections, E: Write, D: ContentsHandler>(
     connections: u32,
     errors: &mut Watched<E>,
 ) -> u8
-    ensures { CarriesOutOn (network C.comes C.goes C.counts C.has_failed) interface listener.old listener.new connections (D.state desk.old) (D.state desk.new)
+    ensures { CarriesOutOn (network C.has_seen C.has_failed) interface listener.old listener.new connections (D.state desk.old) (D.state desk.new)
         (E.contents (inner_of errors.old)) (E.contents (inner_of errors.new)) (has_failed errors.new) result }
 {
     match listen(alloc, desk, interface, listener, connections) {

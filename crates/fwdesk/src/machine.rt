@@ -56,7 +56,7 @@ impl<'a, S: Start> Host for Machine<'a, S> {
 
     ghost reads = { λ path file. Unit {0} };
 
-    ghost listens = { λ address port bound. Unit {0} };
+    ghost listens = { λ address port listener. Unit {0} };
 
     fn open(
         &mut self,

@@ -1,6 +1,6 @@
 //! Streams served from a desk of which no contract says anything.
 
-ghost use Rattle.std.specs.Prelude.{◌≢◌, IfErr};
+ghost use Rattle.std.specs.Prelude.{◌≡◌, ◌≢◌, IfErr};
 ghost use Rattle.rollout_model.specs.declared.refusal.Refusal.TheVariants.{StoreFailed};
 
 use contents_handler::{Answered, ContentsHandler, Download, Handler};
@@ -11,16 +11,33 @@ use std::io;
 use std::io::Write;
 use stream_server::{End, Interface, ServeFault, Served, serve};
 
+/// What a desk counted of its database.
+#[derive(Clone, Copy)]
+struct Counts {
+    statements: u64,
+    rows: u64,
+    failures: u64,
+}
+
+/// A shelf has no database.
+const NONE: Counts = Counts {
+    statements: 0,
+    rows: 0,
+    failures: 0,
+};
+
 /// Adds one module, and says of each further one that it is there.
 #[derive(Drop)]
 struct Shelf {
     is_full: bool,
+    counts: Counts,
     alloc: Global,
 }
 
 impl Shelf {
     fn add(&mut self, label: &ModuleLabel) -> Result<Module, Refusal>
-        ensures { IfErr result (λ refusal. refusal ≢ StoreFailed) }
+        ensures refuses { IfErr result (λ refusal. refusal ≢ StoreFailed) }
+        ensures counts { self.new.counts ≡ self.old.counts }
     {
         if self.is_full {
             return Err(Refusal::Exists);
@@ -37,16 +54,18 @@ impl Shelf {
 }
 
 impl Handler for Shelf {
-    ghost use Rattle.std.specs.Prelude.{⊤};
+    ghost use Rattle.std.specs.Prelude.{⊤, refl};
     ghost use Rattle.library_tests.specs.Unknown.{unknown};
 
     ghost File = { ⊤ };
 
     ghost state = { λ _. unknown };
 
-    ghost statements = { λ _. 0 };
+    ghost statements = { λ shelf. shelf.counts.statements };
 
-    ghost rows = { λ _. 0 };
+    ghost rows = { λ shelf. shelf.counts.rows };
+
+    ghost failures = { λ shelf. shelf.counts.failures };
 
     fn handle(&mut self, request: &Request) -> Reply {
         let added = match request {
@@ -62,6 +81,8 @@ impl Handler for Shelf {
     fn is_stopped(&self) -> bool {
         false
     }
+
+    ghost counts = { λ shelf s r f. (record shelf { counts = record { statements = s; rows = r; failures = f } }, λ h stands. stands, refl, refl, refl) };
 }
 
 impl ContentsHandler for Shelf {
@@ -101,6 +122,7 @@ fn is_ended(end: End, is_cut: bool) -> bool {
 fn serves(alloc: Global, input: &[u8], answered: u64, is_cut: bool) -> bool {
     let mut shelf = Shelf {
         is_full: false,
+        counts: NONE,
         alloc,
     };
     let mut output: Vec<u8> = Vec::new(alloc);
@@ -178,6 +200,7 @@ fn a_flush_that_fails(rt: HostRuntime) {
     let alloc = rt.alloc();
     let mut shelf = Shelf {
         is_full: false,
+        counts: NONE,
         alloc,
     };
     let mut taken: Vec<u8> = Vec::new(alloc);

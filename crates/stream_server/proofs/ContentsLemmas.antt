@@ -13,6 +13,8 @@ use Rattle.http_wire.specs.Replies.{reason}
 use Rattle.stream_server.specs.declared.served.ServeFault.TheVariants as serve_fault
 use Rattle.stream_server.specs.Contents.{contents_head, download_fault, SendsContents, WritesOut}
 use Rattle.stream_server.specs.Interfaces.{reply_text}
+use Rattle.stream_server.specs.Run.{ByMachine}
+use Rattle.stream_server.proofs.AskLemmas.{by_machine}
 use Rattle.stream_server.proofs.PartLemmas.{whole_one, broken_one}
 
 -- the head is made of what stands before the size, the size, and what stands behind it
@@ -33,7 +35,7 @@ begun_or_not contents [] = inl refl
 begun_or_not contents (x ∷ part) = inr (record { contents = contents; shows = refl; none = refl; begun = omega arith })
 
 module _ (File : Type 0) (interface : Interface) (new : DeskState File) (m : WireMessage) (h : CommandList) (contents : Bytes)
-    (may : MayAnswer h (reading interface m) (ContentsShown contents) None) where
+    (may : ByMachine interface h m (ContentsShown contents) None) where
   abbrev C : Conduct File
   C = running File interface
 
@@ -76,7 +78,9 @@ serves_download interface old begun new m d a b fault clean_before begins runs c
       let not_failed : ContentsShown at.contents ≢ Refused StoreFailed = λ e. cc in
       let same : reply_text m (ContentsShown at.contents) ≡ contents_head d.size ++ at.contents = contents_text m at.contents
       ∙ ap (λ (n : ℕ). contents_head n ++ at.contents) (sym at.sends.size) in
-      comes _ interface new m h at.contents (inr (inr (not_failed, sym at.answer))) a b (contents_head d.size ++ at.contents) fault same
+      let may : MayAnswer h (reading interface m) (ContentsShown at.contents) None = inr (inr (not_failed, sym at.answer)) in
+      comes _ interface new m h at.contents (by_machine interface h m (ContentsShown at.contents) None stands.valid may) a b
+      (contents_head d.size ++ at.contents) fault same
       (sends h at.contents clean at.stands at.sends at.start);
   by_stopped = λ h none over. absurd (false≢true (sym runs ∙ over));
   stays = λ over. absurd (false≢true (sym runs ∙ over));

@@ -7,7 +7,9 @@ use Rattle.stream_server.proofs.Common.{Exits, HoldsFirstPart, Stops, Transcript
 use Rattle.stream_server.proofs.Common.{CutsReply, running, stopped, ByStopped, Answers, Serves, ServesStream, WireMessage, Begins, End, Input, Appends}
 use Rattle.stream_server.proofs.Common.{Consumes, Appends-trans, All-nil, All-cons, reply_text, end_text}
 use Rattle.stream_server.specs.declared.served.ServeFault.TheVariants as serve_fault
+use Rattle.std.proofs.lemmas.Bool.{false≢true}
 use Rattle.std.proofs.lemmas.List.{same_from_push}
+use Rattle.rollout_machine.proofs.Once.{repeats_leave_no_trace}
 use Rattle.stream_server.proofs.RunLemmas.{accepted_append, texts_append, led}
 
 is_store_failed : (reply : Reply) → (reply ≡ Refused StoreFailed) ⊎ (reply ≢ Refused StoreFailed)
@@ -132,12 +134,14 @@ headline_of interface h s stream unread out out_new result at =
       | inl on ↦ record {
         transcript = t;
         desk = inr on.stands;
+        traceless = λ runs. repeats_leave_no_trace (followed_by h (accepted_in t.run)) on.stands.valid;
         stops = stops_while_standing s.is_stopped result on.stands.runs on.not_store;
         crash = λ file leaves. all_kept _ s h t.run t.written file (on.stands.crash file leaves);
       }
       | inr last ↦ record {
         transcript = t;
         desk = inl last.doubt.stopped;
+        traceless = λ runs. absurd (false≢true (sym runs ∙ last.doubt.stopped));
         stops = stops_in_doubt s.is_stopped result last.doubt.stopped last.stopped_by;
         crash = λ file leaves. subst (λ (run : List Exchange). HoldsFirstPart s h run t.written file) (sym last.place)
             (kept_in_doubt s h last.before last.last t.written last.lacks last.doubt file leaves);

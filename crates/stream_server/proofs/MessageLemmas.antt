@@ -5,6 +5,7 @@ use Rattle.stream_server.proofs.Common.{reading, Conduct, running, stopped, Answ
 use Rattle.http_wire.specs.Replies.{refusal_text}
 use Rattle.stream_server.specs.declared.served.ServeFault.TheVariants as serve_fault
 use Rattle.stream_server.specs.Interfaces.{reply_text}
+use Rattle.stream_server.proofs.AskLemmas.{by_machine}
 use Rattle.stream_server.proofs.PartLemmas.{whole_one, broken_one}
 
 -- whatever was asked
@@ -48,7 +49,11 @@ module _ (File : Type 0) (interface : Interface) (old new : DeskState File) (m :
   of_machine : (h : CommandList) → new.is_clean → StandsFor old h → AnswersOne (running File interface) h new m reply
   of_machine h clean stands =
       let at = has.applies h clean stands in
-      record { accepted = at.accepted; answers = at.answers; goes_to = record { in_doubt = at.becomes.in_doubt; stands = at.becomes.stands } }
+      record {
+        accepted = at.accepted;
+        answers = by_machine interface h m reply at.accepted stands.valid at.answers;
+        goes_to = record { in_doubt = at.becomes.in_doubt; stands = at.becomes.stands };
+      }
 
   of_stopped : (h : CommandList) → Unit {0} → old.is_stopped ≡ true → AnswersOne (stopped File) h new m reply
   of_stopped h none over =

@@ -10,6 +10,7 @@ use Rattle.rollout_model.specs.declared.refusal.Refusal.{Refusal}
 use Rattle.rollout_model.specs.declared.refusal.Refusal.TheVariants.{StoreFailed, Stopped}
 use Rattle.rollout_machine.specs.Commands.{Bytes, Command}
 use Rattle.rollout_machine.specs.CommandList.{CommandList, followed_by}
+use Rattle.rollout_machine.specs.Repeats.{IsTraceless}
 use Rattle.rollout_machine.specs.Replies.{Refused, ContentsShown}
 use Rattle.rollout_machine.specs.Requests.{one}
 use Rattle.rollout_machine.specs.Standing.{DeskState, StandsFor, StaysStopped}
@@ -149,6 +150,8 @@ pub record Headline {File : Type 0} (interface : Interface) (h : CommandList) (s
   pub transcript : Transcript (IsRun (ByMachine interface) h) stream unread out out_new result
   -- the desk is stopped or stands for the list followed by the accepted commands
   pub desk : (s.is_stopped ≡ true) ⊎ StandsFor s (followed_by h (accepted_in transcript.run))
+  -- what came again leaves no trace: this list and the one without its repeats have the same records, verdicts and answers
+  pub traceless : s.is_stopped ≡ false → IsTraceless (followed_by h (accepted_in transcript.run))
   pub stops : Stops s.is_stopped result
   pub crash : (file : File) → s.may_leave file → HoldsFirstPart s h transcript.run transcript.written file
 

@@ -7,6 +7,7 @@ use Rattle.rollout_machine.specs.Commands.{Command}
 use Rattle.rollout_machine.specs.CommandList.{CommandList, followed_by}
 use Rattle.rollout_machine.specs.Replies.{Reply, Refused}
 use Rattle.rollout_machine.specs.Answers.{MayAnswer}
+use Rattle.rollout_machine.specs.Repeats.{without_repeats}
 use Rattle.rollout_machine.specs.Requests.{one}
 use Rattle.stream_server.specs.declared.interface.Interface.{Interface}
 use Rattle.stream_server.specs.Interfaces.{reading, reply_text}
@@ -31,9 +32,11 @@ texts_of xs = flat_map (λ x. reply_text x.message x.reply) xs
 abbrev pub Answering : Type 1
 Answering = CommandList → WireMessage → Reply → Option Command → Type 0
 
--- the rollout machine's answer to what the message asks; or want of memory; or a failed store
-abbrev pub ByMachine : Interface → Answering
-ByMachine interface h message reply accepted = MayAnswer h (reading interface message) reply accepted
+-- The rollout machine's answer to what the message asks; or want of memory; or a failed store. It is so at the list, and at the list without its
+-- repeats: what comes again leaves no trace in any answer.
+pub record ByMachine (interface : Interface) (h : CommandList) (message : WireMessage) (reply : Reply) (accepted : Option Command) : Type 0 where
+  pub answers : MayAnswer h (reading interface message) reply accepted
+  pub once : MayAnswer (without_repeats h) (reading interface message) reply accepted
 
 -- each message is answered at the list so far, and after a failed store there is no further reply
 abbrev pub IsRun : Answering → CommandList → List Exchange → Type 0

@@ -18,30 +18,22 @@ pub enum Arrival<R, W> {
 
 /// What connections come from, one after the other, seen by the bytes that each gives and by those that were written to it.
 pub trait Connections {
-    ghost use Rattle.std.specs.Prelude.{ℕ, List, Option};
-    ghost use Rattle.http_wire.specs.Watched.{inner_of};
-    ghost use Rattle.stream_server.specs.Arrivals.{HasCome, IfConnection, IfNet};
+    ghost use Rattle.std.specs.Prelude.{List, [], ◌∷◌};
+    ghost use Rattle.stream_server.specs.Arrivals.{Adds, Event, IfNet, Went, arrived, socket_of};
 
     type Reader: Read + Drop;
 
     type Writer: Write + Drop;
 
-    /// A connection came that had these bytes to give, and to which these were written.
-    ghost comes: { Option (List ℕ) → Option (List ℕ) → Type 0 };
-
-    /// A connection was let go of that had these bytes left, and to which these were written.
-    ghost goes: { Option (List ℕ) → Option (List ℕ) → Type 0 };
-
-    /// So many connections came up to now.
-    ghost counts: { Self → ℕ → Type 0 };
+    /// These events befell the connections up to now, in this order.
+    ghost has_seen: { Self → List Event → Type 0 };
 
     /// No further connection can be accepted.
     ghost has_failed: { Self → Type 0 };
 
     /// Waits for the next connection.
     fn accept(&mut self) -> Arrival<Self::Reader, Self::Writer>
-        ensures came { IfConnection result (λ reader writer. comes (Self.Reader.remaining (inner_of reader)) (Self.Writer.contents (inner_of writer))) }
-        ensures one { HasCome result (λ n. counts self.old n) (λ n. counts self.new n) }
+        ensures came { Adds (λ log. has_seen self.old log) (λ log. has_seen self.new log) (arrived Self.Reader.remaining Self.Writer.contents result) }
         ensures none { IfNet result (has_failed self.new) };
 
     /// Lets go of the connection that was accepted last. A client that is waited for may still send what isn't read.
@@ -51,8 +43,8 @@ pub trait Connections {
         writer: Watched<Self::Writer>,
         is_waited_for: bool,
     )
-        ensures went { goes (Self.Reader.remaining (inner_of reader)) (Self.Writer.contents (inner_of writer)) }
-        ensures same { (n : ℕ) → counts self.old n → counts self.new n };
+        ensures went { Adds (λ log. has_seen self.old log) (λ log. has_seen self.new log)
+            (Went (socket_of Self.Reader.remaining Self.Writer.contents reader writer) ∷ []) };
 }
 
 /// The connections to a port. What a socket gives and takes no contract of the standard library says.
@@ -119,11 +111,7 @@ impl Connections for TcpConnections {
 
     type Writer = TcpStream;
 
-    ghost comes = { λ stream out. Unit {0} };
-
-    ghost goes = { λ unread out. Unit {0} };
-
-    ghost counts = { λ connections n. Unit {0} };
+    ghost has_seen = { λ connections log. Unit {0} };
 
     ghost has_failed = { λ connections. Unit {0} };
 

@@ -1,10 +1,10 @@
 //! Serving connections, one after the other.
 
-ghost use Rattle.std.specs.Prelude.{◌≡◌, ◌≢◌, ◌≤◌, ℕ, true, IfOk, Err};
-ghost use Rattle.http_wire.specs.Watched.{inner_of};
+ghost use Rattle.std.specs.Prelude.{◌≡◌, ◌≢◌, ◌≤◌, true, List, [], ◌∷◌, IfOk, Err};
 ghost use Rattle.rollout_machine.specs.CommandList.{CommandList};
 ghost use Rattle.rollout_machine.specs.Standing.{StandsFor, StaysStopped};
-ghost use Rattle.stream_server.specs.Listening.{ComesToEnd, Keeps, KeepsOn, StopsAtStore};
+ghost use Rattle.stream_server.specs.Arrivals.{Adds, Befalls, Came, Socket, Went, socket_of};
+ghost use Rattle.stream_server.specs.Listening.{ComesToEnd, Keeps, KeepsOn, StopsAtStore, told_of};
 
 use crate::connections::{Arrival, Connections};
 use crate::serving::serve;
@@ -32,8 +32,7 @@ fn is_waited_for(outcome: Result<Served, ServeFault>) -> bool {
 
 /// Whether a connection was served to its end.
 fn tell(outcome: Result<Served, ServeFault>) -> Result<bool, ListenFault>
-    ensures store { result ≡ Err ListenFault.Store → outcome ≡ Err ServeFault.Store }
-    ensures net { result ≢ Err ListenFault.Net }
+    ensures { result ≡ told_of outcome }
 {
     match outcome {
         Ok(_) => Ok(true),
@@ -51,9 +50,12 @@ fn serve_connection<C: Connections, D: ContentsHandler>(
     writer: Watched<C::Writer>,
     interface: Interface,
 ) -> Result<bool, ListenFault>
-    ensures keeps { C.comes (C.Reader.remaining (inner_of reader)) (C.Writer.contents (inner_of writer))
-        → KeepsOn C.comes C.goes interface (D.state desk.old) (D.state desk.new) result }
-    ensures same { (n : ℕ) → C.counts connections.old n → C.counts connections.new n }
+    ensures clean { (D.state desk.new).is_clean → (D.state desk.old).is_clean }
+    ensures keeps { (went : Socket) × Adds (λ log. C.has_seen connections.old log) (λ log. C.has_seen connections.new log) (Went went ∷ [])
+        × KeepsOn interface (D.state desk.old) (D.state desk.new) result
+        (Came (socket_of C.Reader.remaining C.Writer.contents reader writer) ∷ Went went ∷ []) }
+    ensures store { StopsAtStore (D.state desk.new) result }
+    ensures stopped { (D.state desk.old).is_stopped ≡ true → StaysStopped (D.state desk.old) (D.state desk.new) }
     ensures net { result ≢ Err ListenFault.Net }
 {
     let mut reader = reader;
@@ -70,8 +72,11 @@ fn serve_next<C: Connections, D: ContentsHandler>(
     connections: &mut C,
     interface: Interface,
 ) -> Result<bool, ListenFault>
-    ensures keeps { KeepsOn C.comes C.goes interface (D.state desk.old) (D.state desk.new) result }
-    ensures ends { ComesToEnd (λ n. C.counts connections.old n) (λ n. C.counts connections.new n) (C.has_failed connections.new) 1 result }
+    ensures clean { (D.state desk.new).is_clean → (D.state desk.old).is_clean }
+    ensures keeps { Befalls (λ log. C.has_seen connections.old log) (λ log. C.has_seen connections.new log)
+        (λ events. KeepsOn interface (D.state desk.old) (D.state desk.new) result events × ComesToEnd (C.has_failed connections.new) 1 result events) }
+    ensures store { StopsAtStore (D.state desk.new) result }
+    ensures stopped { (D.state desk.old).is_stopped ≡ true → StaysStopped (D.state desk.old) (D.state desk.new) }
 {
     match connections.accept() {
         Arrival::Net => Err(ListenFault::Net),
@@ -93,11 +98,13 @@ pub fn serve_on<C: Connections, D: ContentsHandler>(
 ) -> Result<u32, ListenFault>
     ensures clean { (D.state desk.new).is_clean → (D.state desk.old).is_clean }
     ensures keeps { (h : CommandList) → (D.state desk.new).is_clean → StandsFor (D.state desk.old) h
-        → Keeps C.comes C.goes interface (D.state desk.new) h }
+        → Befalls (λ log. C.has_seen connections.old log) (λ log. C.has_seen connections.new log)
+        (λ events. Keeps interface (D.state desk.new) h events result) }
     ensures store { StopsAtStore (D.state desk.new) result }
     ensures stopped { (D.state desk.old).is_stopped ≡ true → StaysStopped (D.state desk.old) (D.state desk.new) }
     ensures counts { IfOk result (λ served. served ≤ count) }
-    ensures ends { ComesToEnd (λ n. C.counts connections.old n) (λ n. C.counts connections.new n) (C.has_failed connections.new) count result }
+    ensures ends { Befalls (λ log. C.has_seen connections.old log) (λ log. C.has_seen connections.new log)
+        (λ events. ComesToEnd (C.has_failed connections.new) count result events) }
 {
     let mut served = 0;
     for _ in 0..count {
