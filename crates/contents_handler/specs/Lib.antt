@@ -1,1 +1,2 @@
 pub mod Downloads
+pub mod Failures

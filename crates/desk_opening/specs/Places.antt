@@ -1,4 +1,4 @@
--- Written by tools/meanings from src/table_texts.rt of desk_records. What it makes is proved; the tool is not trusted.
+-- Written by tools/gen/sql-proofs from src/table_texts.rt of desk_records. What it makes is proved; the tool is not trusted.
 -- The tables of a desk as the code names them.
 use Rattle.desk_records.specs.Schema.{Place, Desk, Modules, Sets, SetModules, Artifacts, Pieces, Targets, TargetTags, TargetAttributes, Rollouts}
 use Rattle.desk_records.specs.Schema.{Members, Groups, Actions, Feedbacks, Offers, Rules, Numbers}

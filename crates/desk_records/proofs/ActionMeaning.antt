@@ -1,4 +1,4 @@
--- Written by tools/meanings. What it makes is proved; the tool is not trusted.
+-- Written by tools/gen/sql-proofs. What it makes is proved; the tool is not trusted.
 -- What the texts of src/action_texts.rt mean, wherever their tables stand.
 use Rattle.desk_records.proofs.Common.{refl, List, [], ◌∷◌, ℕ, codes, pos, true, false, Null, Int, Binary, Schema, Values, Query, inner, counted, end, Term, lit, col, Stands, Means, simple, by}
 use Rattle.sql_front.proofs.TextsWithin.{QueriesWithin, queries_known_within}

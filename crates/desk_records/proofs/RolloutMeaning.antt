@@ -1,4 +1,4 @@
--- Written by tools/meanings. What it makes is proved; the tool is not trusted.
+-- Written by tools/gen/sql-proofs. What it makes is proved; the tool is not trusted.
 -- What the texts of src/rollout_texts.rt mean, wherever their tables stand.
 use Rattle.desk_records.proofs.Common.{refl, List, [], ◌∷◌, ℕ, codes, pos, false, Null, Int, Values, Query, Term, lit, col, simple}
 use Rattle.desk_records.specs.declared.rollout_texts.TheConstants.{FIND_ROLLOUT, LAST_ROLLOUT, GET_ROLLOUT, LIST_MEMBERS, LIST_PLACES, COUNT_MEMBERS, LIST_GROUPS, COUNT_GROUPS, GET_GROUP, HOLDING_GROUP, GROUP_AND_NEXT, PUT_ROLLOUT, SET_ROLLOUT, PUT_MEMBER, PUT_GROUP, SET_GROUP, GET_RULE, LIST_RULES, PUT_RULE}

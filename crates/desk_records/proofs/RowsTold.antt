@@ -1,4 +1,4 @@
--- Written by tools/meanings from rows.txt of desk_records. What it makes is proved; the tool is not trusted.
+-- Written by tools/gen/sql-proofs from rows.txt of desk_records. What it makes is proved; the tool is not trusted.
 -- What is written in a row is what is read of it, a row says one thing, and it breaks no column.
 use Rattle.std.proofs.Common.{◌≡◌, true, Some, None, arith}
 use Rattle.sqlite_value.specs.Order.{Row, column}

@@ -1,4 +1,4 @@
--- Written by tools/meanings. What it makes is proved; the tool is not trusted.
+-- Written by tools/gen/sql-proofs. What it makes is proved; the tool is not trusted.
 -- What the texts of src/set_texts.rt mean, wherever their tables stand.
 use Rattle.desk_records.proofs.Common.{refl, List, [], ◌∷◌, ℕ, codes, pos, false, Null, Int, Values, Query, Term, lit, col, simple, by}
 use Rattle.desk_records.specs.declared.set_texts.TheConstants.{FIND_SET, LAST_SET, GET_SET, LIST_SET_MODULES, MODULE_LOCKED, PUT_SET, PUT_SET_MODULE}

@@ -1,4 +1,4 @@
--- Written by tools/meanings. What it makes is proved; the tool is not trusted.
+-- Written by tools/gen/sql-proofs. What it makes is proved; the tool is not trusted.
 -- What the texts of src/target_texts.rt mean, wherever their tables stand.
 use Rattle.desk_records.proofs.Common.{refl, List, [], ◌∷◌, codes, false, Null, Values, Term, lit, col, simple}
 use Rattle.desk_records.specs.declared.target_texts.TheConstants.{GET_TARGET, COUNT_TARGETS, LIST_TARGETS, LIST_TARGET_TAGS, PUT_TARGET, SET_TARGET, PUT_TARGET_TAG, DROP_TARGET_TAG, LIST_TARGET_ATTRIBUTES, PUT_TARGET_ATTRIBUTE, SET_TARGET_ATTRIBUTE}

@@ -1,4 +1,4 @@
--- Written by tools/meanings from rows.txt of desk_records. What it makes is proved; the tool is not trusted.
+-- Written by tools/gen/sql-proofs from rows.txt of desk_records. What it makes is proved; the tool is not trusted.
 -- The rows that are read: what each says, which column breaks its rule, what is written in it.
 use Rattle.std.specs.Prelude.{◌≡◌, [], ◌∷◌, Option, Some, pos}
 use Rattle.std.specs.Option.{is_some, option_or}

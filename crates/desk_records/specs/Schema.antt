@@ -1,4 +1,4 @@
--- Written by tools/meanings from src/table_texts.rt of desk_records. What it makes is proved; the tool is not trusted.
+-- Written by tools/gen/sql-proofs from src/table_texts.rt of desk_records. What it makes is proved; the tool is not trusted.
 -- The tables of a desk, and their places in the order in which they are made.
 use Rattle.std.specs.Prelude.{true, false, [], ◌∷◌, Some, None, codes, List, ℕ, map}
 use Rattle.sqlite_value.specs.Keys.{plain}

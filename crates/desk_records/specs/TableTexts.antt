@@ -1,4 +1,4 @@
--- Written by tools/meanings from src/table_texts.rt of desk_records. What it makes is proved; the tool is not trusted.
+-- Written by tools/gen/sql-proofs from src/table_texts.rt of desk_records. What it makes is proved; the tool is not trusted.
 -- The text that makes each table.
 use Rattle.std.specs.Prelude.{ℕ, List}
 use Rattle.desk_records.specs.Schema.{Place, Desk, Modules, Sets, SetModules, Artifacts, Pieces, Targets, TargetTags, TargetAttributes, Rollouts}

@@ -20,7 +20,7 @@ pub enum RowFault {
     Broken(Column),
 }
 
-/// What a row that gives no record makes of a call. One that breaks a rule is a failed store.
+/// What a row that gives no record makes of a call. One that breaks a rule is `Broken`.
 pub fn fault_of_row(fault: RowFault) -> Fault
     ensures { result ≡ fault_of_row fault }
 {

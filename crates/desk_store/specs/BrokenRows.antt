@@ -1,4 +1,4 @@
--- Written by tools/meanings from rows.txt of desk_records. What it makes is proved; the tool is not trusted.
+-- Written by tools/gen/sql-proofs from rows.txt of desk_records. What it makes is proved; the tool is not trusted.
 -- Rows of the tables that can't be read.
 use Rattle.std.specs.Prelude.{◌≡◌, ◌⊎◌, false, None}
 use Rattle.sqlite_value.specs.Order.{Row, column}

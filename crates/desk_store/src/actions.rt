@@ -35,7 +35,7 @@ impl<'a, S: Alter> OpenChange<'a, S> {
         last_number(row)
     }
 
-    /// The action of a number, without its history. A row that breaks a column's rule is a failed store.
+    /// The action of a number, without its history. A row that breaks a column's rule is `Broken`.
     pub fn read_action(&mut self, number: ActionNo) -> Result<Option<StoredAction>, Fault>
         ensures stays { StaysIn S.Store self.old self.new result }
         ensures keeps { KeepsTables S.Store self.old self.new result }
@@ -49,7 +49,7 @@ impl<'a, S: Alter> OpenChange<'a, S> {
         read_optional(alloc, row)
     }
 
-    /// The actions of a rollout, a page of them in the order of their numbers. A row that breaks a column's rule is a failed store.
+    /// The actions of a rollout, a page of them in the order of their numbers. A row that breaks a column's rule is `Broken`.
     pub fn read_actions(
         &mut self,
         number: RolloutNo,
@@ -66,7 +66,7 @@ impl<'a, S: Alter> OpenChange<'a, S> {
         read_all(alloc, &rows)
     }
 
-    /// The actions of a target, a page of them in the order of their numbers. A row that breaks a column's rule is a failed store.
+    /// The actions of a target, a page of them in the order of their numbers. A row that breaks a column's rule is `Broken`.
     pub fn read_target_actions(
         &mut self,
         id: &ControllerId,
@@ -86,7 +86,7 @@ impl<'a, S: Alter> OpenChange<'a, S> {
         read_all(alloc, &rows)
     }
 
-    /// The last of a target's actions that ended. A row that breaks a column's rule is a failed store.
+    /// The last of a target's actions that ended. A row that breaks a column's rule is `Broken`.
     pub fn read_last_ended(&mut self, id: &ControllerId) -> Result<Option<ListedAction>, Fault>
         ensures stays { StaysIn S.Store self.old self.new result }
         ensures reads { FindsLedger S.Store self.old self.new result

@@ -53,7 +53,7 @@ impl<'a, S: Alter> OpenChange<'a, S> {
         last_number(row)
     }
 
-    /// What is kept of the artifact of a number, without its contents. A row that breaks a column's rule is a failed store.
+    /// What is kept of the artifact of a number, without its contents. A row that breaks a column's rule is `Broken`.
     pub fn read_artifact(&mut self, number: ArtifactNo) -> Result<Option<StoredArtifact>, Fault>
         ensures stays { StaysIn S.Store self.old self.new result }
         ensures reads { FindsIn S.Store self.old self.new result (λ r found. found ≡ option_map stored (item_numbered r.artifacts number)) }
@@ -66,7 +66,7 @@ impl<'a, S: Alter> OpenChange<'a, S> {
         read_optional(alloc, row)
     }
 
-    /// The artifacts of a module, in the order of their numbers. A row that breaks a column's rule is a failed store.
+    /// The artifacts of a module, in the order of their numbers. A row that breaks a column's rule is `Broken`.
     pub fn read_module_artifacts(&mut self, module_number: ModuleNo) -> Result<Vec<Artifact>, Fault>
         ensures stays { StaysIn S.Store self.old self.new result }
         ensures reads { FindsIn S.Store self.old self.new result (λ r artifacts. artifacts.items ≡ artifacts_shown module_number 1 r.artifacts) }
@@ -79,8 +79,8 @@ impl<'a, S: Alter> OpenChange<'a, S> {
         read_all(alloc, &rows)
     }
 
-    /// The piece at a place of an artifact's contents; places are counted from 1. A row that breaks a column's rule is a
-    /// failed store.
+    /// The piece at a place of an artifact's contents; places are counted from 1. A row that breaks a column's rule is
+    /// `Broken`.
     pub fn read_piece(
         &mut self,
         number: ArtifactNo,

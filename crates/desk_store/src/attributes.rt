@@ -16,7 +16,7 @@ use sqlite::{Alter, params};
 
 impl<'a, S: Alter> OpenChange<'a, S> {
     /// The attributes of the target of an id, by their keys in byte order; none where there is no such target. A row that
-    /// breaks a column's rule is a failed store.
+    /// breaks a column's rule is `Broken`.
     pub fn read_target_attributes(&mut self, id: &ControllerId) -> Result<Attributes, Fault>
         ensures stays { StaysIn S.Store self.old self.new result }
         ensures reads { FindsIn S.Store self.old self.new result (λ r attributes. attributes ≡ attributes_of (target_of r id.now)) }

@@ -20,7 +20,7 @@ use sql_calls::Fault;
 use sqlite::Row;
 use std::alloc::Global;
 
-/// What is read of a row whose columns keep their rules: `None` where one breaks its own, a failed store where one can't be read.
+/// What is read of a row whose columns keep their rules: `None` where one breaks its own, `Broken` where one can't be read.
 pub(crate) trait FromCheckedRow: Sized + Drop {
     ghost is_row: { Row → Self → Type 0 };
 

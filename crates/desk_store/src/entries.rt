@@ -18,7 +18,7 @@ use sql_calls::Fault;
 use sqlite::{Alter, params};
 
 impl<'a, S: Alter> OpenChange<'a, S> {
-    /// The history of an action, a page of it in its order. A row that breaks a column's rule is a failed store.
+    /// The history of an action, a page of it in its order. A row that breaks a column's rule is `Broken`.
     pub fn read_entries(&mut self, number: ActionNo, page: Page) -> Result<Vec<HistoryEntry>, Fault>
         ensures stays { StaysIn S.Store self.old self.new result }
         ensures reads { FindsLedger S.Store self.old self.new result
@@ -32,7 +32,7 @@ impl<'a, S: Alter> OpenChange<'a, S> {
         read_all(alloc, &rows)
     }
 
-    /// The entry at a place of the sequence of an action's history, from 1. A row that breaks a column's rule is a failed store.
+    /// The entry at a place of the sequence of an action's history, from 1. A row that breaks a column's rule is `Broken`.
     pub fn read_entry(
         &mut self,
         number: ActionNo,

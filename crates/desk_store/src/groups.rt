@@ -41,7 +41,7 @@ fn read_both(alloc: Global, rows: &[Row]) -> Result<GroupAndNext, Fault>
 
 impl<'a, S: Alter> OpenChange<'a, S> {
     /// The groups of a rollout, in the order of their numbers, which are counted from 1; none where there is no such rollout. A row that
-    /// breaks a column's rule is a failed store.
+    /// breaks a column's rule is `Broken`.
     pub fn read_groups(&mut self, number: RolloutNo) -> Result<Vec<GroupRecord>, Fault>
         ensures stays { StaysIn S.Store self.old self.new result }
         ensures reads { FindsLedger S.Store self.old self.new result (λ l groups. groups.items ≡ groups_of (item_numbered l.records.rollouts number)) }
@@ -53,7 +53,7 @@ impl<'a, S: Alter> OpenChange<'a, S> {
         read_all(alloc, &rows)
     }
 
-    /// The group of a rollout and a number. A row that breaks a column's rule is a failed store.
+    /// The group of a rollout and a number. A row that breaks a column's rule is `Broken`.
     pub fn read_group(
         &mut self,
         number: RolloutNo,
@@ -70,7 +70,7 @@ impl<'a, S: Alter> OpenChange<'a, S> {
         read_optional(alloc, row)
     }
 
-    /// The first group of a rollout that has a place. A row that breaks a column's rule is a failed store.
+    /// The first group of a rollout that has a place. A row that breaks a column's rule is `Broken`.
     pub fn read_holding_group(
         &mut self,
         number: RolloutNo,
@@ -88,7 +88,7 @@ impl<'a, S: Alter> OpenChange<'a, S> {
     }
 
     /// The group of a rollout that has a place, and the one behind it: the first two groups that reach the place. A row that breaks a
-    /// column's rule is a failed store.
+    /// column's rule is `Broken`.
     pub fn read_group_and_next(
         &mut self,
         number: RolloutNo,

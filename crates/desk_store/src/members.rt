@@ -17,7 +17,7 @@ use sqlite::{Alter, params};
 
 impl<'a, S: Alter> OpenChange<'a, S> {
     /// The members of a rollout, a page of them in the order of their places; none where there is no such rollout. A row that breaks the
-    /// column's rule is a failed store.
+    /// column's rule is `Broken`.
     pub fn read_members(
         &mut self,
         number: RolloutNo,

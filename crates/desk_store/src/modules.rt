@@ -46,7 +46,7 @@ impl<'a, S: Alter> OpenChange<'a, S> {
         last_number(row)
     }
 
-    /// The module of a number. A row that breaks a column's rule is a failed store.
+    /// The module of a number. A row that breaks a column's rule is `Broken`.
     pub fn read_module(&mut self, number: ModuleNo) -> Result<Option<ModuleLabel>, Fault>
         ensures stays { StaysIn S.Store self.old self.new result }
         ensures reads { FindsIn S.Store self.old self.new result (λ r found. found ≡ item_numbered r.modules number) }

@@ -19,7 +19,7 @@ use sql_calls::Fault;
 use sqlite::{Alter, params};
 
 impl<'a, S: Alter> OpenChange<'a, S> {
-    /// The last number of an action, with its place among those of the action. A row that breaks a column's rule is a failed store.
+    /// The last number of an action, with its place among those of the action. A row that breaks a column's rule is `Broken`.
     pub fn read_last_number(&mut self, action: ActionNo) -> Result<Option<LastNumber>, Fault>
         ensures stays { StaysIn S.Store self.old self.new result }
         ensures reads { FindsLedger S.Store self.old self.new result (λ l found. found ≡ last_number (numbers_numbered l.numbers action)) }
@@ -32,7 +32,7 @@ impl<'a, S: Alter> OpenChange<'a, S> {
     }
 
     /// The numbers of an action, in the order of their places; none where there is no such action. Whatever rows there are, they are all that
-    /// the action has, and one that breaks a column's rule is a failed store.
+    /// the action has, and one that breaks a column's rule is `Broken`.
     pub fn read_numbers(&mut self, action: ActionNo) -> Result<Vec<PlacedNumber>, Fault>
         ensures stays { StaysIn S.Store self.old self.new result }
         ensures reads { FindsLedger S.Store self.old self.new result (λ l found. found.items ≡ numbers_numbered l.numbers action) }

@@ -20,7 +20,7 @@ use sql_calls::Fault;
 use sqlite::{Alter, params};
 
 impl<'a, S: Alter> OpenChange<'a, S> {
-    /// What the target of an id is offered. A row that breaks a column's rule is a failed store.
+    /// What the target of an id is offered. A row that breaks a column's rule is `Broken`.
     pub fn read_offer(&mut self, id: &ControllerId) -> Result<Option<Offer>, Fault>
         ensures stays { StaysIn S.Store self.old self.new result }
         ensures keeps { KeepsTables S.Store self.old self.new result }
@@ -35,7 +35,7 @@ impl<'a, S: Alter> OpenChange<'a, S> {
     }
 
     /// What the target of an id is to be offered: the first of its actions that is open and whose place a started group of its rollout
-    /// holds. A row that breaks a column's rule is a failed store.
+    /// holds. A row that breaks a column's rule is `Broken`.
     pub fn read_next_offer(&mut self, id: &ControllerId) -> Result<Option<Offer>, Fault>
         ensures stays { StaysIn S.Store self.old self.new result }
         ensures reads { FindsLedger S.Store self.old self.new result

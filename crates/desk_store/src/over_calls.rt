@@ -40,7 +40,7 @@ pub fn read_last_rollout<S: Alter>(calls: &mut Calls<S>) -> Result<u32, Fault>
     last_number(row)
 }
 
-/// The rollout of a number, without its members and groups. A row that breaks a column's rule is a failed store.
+/// The rollout of a number, without its members and groups. A row that breaks a column's rule is `Broken`.
 pub fn read_rollout<S: Alter>(
     alloc: Global,
     calls: &mut Calls<S>,

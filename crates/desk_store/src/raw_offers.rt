@@ -17,8 +17,8 @@ use sql_calls::Fault;
 use sqlite::{Alter, params};
 
 impl<'a, S: Alter> OpenChange<'a, S> {
-    /// What the target of an id is offered, whatever rows there are. A row that breaks a column's rule, or a
-    /// second row of the id, is a failed store.
+    /// What the target of an id is offered, whatever rows there are. A row that breaks a column's rule is `Broken`, a
+    /// second row of the id a failed store.
     pub fn find_offer(&mut self, id: &ControllerId) -> Result<Option<Offer>, Fault>
         ensures stays { StaysIn S.Store self.old self.new result }
         ensures reads { FindsTables S.Store self.old self.new result (λ t found. FindsOne (t Offers) (has_text_at 1 id.now) (SaysOfferOf id.now) found) }

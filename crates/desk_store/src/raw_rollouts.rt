@@ -17,7 +17,7 @@ use sql_calls::Fault;
 use sqlite::{Alter, params};
 
 impl<'a, S: Alter> OpenChange<'a, S> {
-    /// The rollout of a number, whatever rows there are. A row that breaks a column's rule, or a second row of the number, is a failed store.
+    /// The rollout of a number, whatever rows there are. A row that breaks a column's rule is `Broken`, a second row of the number a failed store.
     pub fn find_rollout(&mut self, number: RolloutNo) -> Result<Option<StoredRollout>, Fault>
         ensures stays { StaysIn S.Store self.old self.new result }
         ensures reads { FindsTables S.Store self.old self.new result (λ t found. FindsOne (t Rollouts) (has_rowid (pos number)) IsRollout found) }

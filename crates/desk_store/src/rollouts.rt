@@ -61,7 +61,7 @@ impl<'a, S: Alter> OpenChange<'a, S> {
         read_last_rollout(&mut self.store.calls)
     }
 
-    /// The rollout of a number, without its members and groups. A row that breaks a column's rule is a failed store.
+    /// The rollout of a number, without its members and groups. A row that breaks a column's rule is `Broken`.
     pub fn read_rollout(&mut self, number: RolloutNo) -> Result<Option<StoredRollout>, Fault>
         ensures stays { StaysIn S.Store self.old self.new result }
         ensures keeps { KeepsTables S.Store self.old self.new result }

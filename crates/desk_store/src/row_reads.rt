@@ -1,4 +1,4 @@
-//! Written by tools/meanings from rows.txt of desk_records. What it makes is proved; the tool is not trusted.
+//! Written by tools/gen/sql-proofs from rows.txt of desk_records. What it makes is proved; the tool is not trusted.
 //! What rows are read as.
 
 ghost use Rattle.desk_records.specs.ReadRows.{IsArtifactRow, IsAttributeRow, IsGroupRow, IsLastNumberRow, IsListedActionRow, IsListedTargetRow};

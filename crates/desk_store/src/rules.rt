@@ -16,7 +16,7 @@ use sql_calls::Fault;
 use sqlite::{Alter, params};
 
 impl<'a, S: Alter> OpenChange<'a, S> {
-    /// What is said of the group of a rollout and a number. A row that breaks a column's rule is a failed store.
+    /// What is said of the group of a rollout and a number. A row that breaks a column's rule is `Broken`.
     pub fn read_rule(&mut self, number: RolloutNo, group: u32) -> Result<Option<GroupRule>, Fault>
         ensures stays { StaysIn S.Store self.old self.new result }
         ensures reads { FindsLedger S.Store self.old self.new result (λ l found. found ≡ rule_numbered l.rules number group) }
@@ -29,7 +29,7 @@ impl<'a, S: Alter> OpenChange<'a, S> {
     }
 
     /// What is said of each group of a rollout, in the order of their numbers; nothing where there is no such rollout. A row that breaks a
-    /// column's rule is a failed store.
+    /// column's rule is `Broken`.
     pub fn read_rules(&mut self, number: RolloutNo) -> Result<Vec<GroupRule>, Fault>
         ensures stays { StaysIn S.Store self.old self.new result }
         ensures reads { FindsLedger S.Store self.old self.new result (λ l found. found.items ≡ rules_numbered l.rules number) }

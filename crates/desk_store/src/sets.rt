@@ -44,7 +44,7 @@ impl<'a, S: Alter> OpenChange<'a, S> {
         last_number(row)
     }
 
-    /// What the set of a number is called. A row that breaks a column's rule is a failed store.
+    /// What the set of a number is called. A row that breaks a column's rule is `Broken`.
     pub fn read_set(&mut self, number: SetNo) -> Result<Option<SetName>, Fault>
         ensures stays { StaysIn S.Store self.old self.new result }
         ensures reads { FindsIn S.Store self.old self.new result (λ r found. found ≡ option_map called (item_numbered r.sets number)) }

@@ -20,7 +20,7 @@ use sql_calls::Fault;
 use sqlite::{Alter, params};
 
 impl<'a, S: Alter> OpenChange<'a, S> {
-    /// What is kept of the target of an id, without its tags and attributes. A row that breaks a column's rule is a failed store.
+    /// What is kept of the target of an id, without its tags and attributes. A row that breaks a column's rule is `Broken`.
     pub fn read_target(&mut self, id: &ControllerId) -> Result<Option<StoredTarget>, Fault>
         ensures stays { StaysIn S.Store self.old self.new result }
         ensures keeps { KeepsTables S.Store self.old self.new result }
@@ -33,7 +33,7 @@ impl<'a, S: Alter> OpenChange<'a, S> {
         read_optional(alloc, row)
     }
 
-    /// The tags of the target of an id, in byte order; none where there is no such target. A row that breaks the column's rule is a failed store.
+    /// The tags of the target of an id, in byte order; none where there is no such target. A row that breaks the column's rule is `Broken`.
     pub fn read_target_tags(&mut self, id: &ControllerId) -> Result<Vec<Word>, Fault>
         ensures stays { StaysIn S.Store self.old self.new result }
         ensures reads { FindsIn S.Store self.old self.new result (λ r tags. tags.items ≡ tags_of (target_of r id.now)) }
@@ -45,8 +45,8 @@ impl<'a, S: Alter> OpenChange<'a, S> {
         read_all(alloc, &rows)
     }
 
-    /// The targets of a page by their ids and names, in byte order of their ids. A row that breaks a column's rule is a
-    /// failed store.
+    /// The targets of a page by their ids and names, in byte order of their ids. A row that breaks a column's rule is
+    /// `Broken`.
     pub fn read_targets(&mut self, page: Page) -> Result<Vec<ListedTarget>, Fault>
         ensures stays { StaysIn S.Store self.old self.new result }
         ensures reads { FindsIn S.Store self.old self.new result

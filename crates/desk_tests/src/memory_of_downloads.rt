@@ -1,4 +1,4 @@
-//! A download of two pieces where a request for memory may be refused: `tools/each-allocation` refuses each in turn. A piece for
+//! A download of two pieces where a request for memory may be refused: `tests/fault/oom` refuses each in turn. A piece for
 //! which memory was wanting is the next one again.
 
 use super::asked::{adds_artifact, adds_module, asks_contents, some_bytes};

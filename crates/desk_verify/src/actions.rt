@@ -52,7 +52,7 @@ impl<S: Alter> ByRollout<S> for Actions {
     }
 }
 
-/// Whether the table of actions agrees. A number of their feedback that breaks a rule is a failed store.
+/// Whether the table of actions agrees. A number of their feedback that breaks a rule is `Broken`.
 pub(crate) fn check_actions<S: Alter>(change: &mut OpenChange<'_, S>) -> Result<bool, Fault>
     ensures stays { StaysIn S.Store change.old change.new result }
     ensures judges { FindsTables S.Store change.old change.new result (λ t agrees. Settles (PassesActions t) (AgreesActions t) agrees) }
@@ -72,7 +72,7 @@ fn count_none(actions: &[ListedAction]) -> Option<usize>
     if actions.is_empty() { Some(0) } else { None }
 }
 
-/// The actions of a rollout, where they keep the columns' rules. Two of one number are a failed store.
+/// The actions of a rollout, where they keep the columns' rules. Two of one number are `Broken`.
 fn actions_of<S: Alter>(
     change: &mut OpenChange<'_, S>,
     number: RolloutNo,
@@ -91,7 +91,7 @@ fn actions_of<S: Alter>(
 }
 
 /// The members of a rollout, whose table was judged before: a row that breaks a rule, and two at one place,
-/// are a failed store.
+/// are `Broken`.
 fn members_of<S: Alter>(
     change: &mut OpenChange<'_, S>,
     number: RolloutNo,

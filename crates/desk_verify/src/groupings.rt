@@ -14,7 +14,7 @@ use rollout_model::{GroupCount, GroupDefinition, GroupDefinitions, GroupRule, Gr
 use sqlite::Alter;
 use std::alloc::{AllocError, Global};
 
-/// How a rollout was cut. Where a group has no rule, or the rules make no grouping, it is a failed store.
+/// How a rollout was cut. Where a group has no rule, or the rules make no grouping, it is `Broken`.
 pub(crate) fn read_grouping<S: Alter>(
     change: &mut OpenChange<'_, S>,
     rollout: &NumberedRollout,
@@ -34,7 +34,7 @@ pub(crate) fn read_grouping<S: Alter>(
     }
 }
 
-/// The rules of all groups of a rollout. Where a group has none, it is a failed store.
+/// The rules of all groups of a rollout. Where a group has none, it is `Broken`.
 fn read_rules<S: Alter>(
     change: &mut OpenChange<'_, S>,
     rollout: &NumberedRollout,

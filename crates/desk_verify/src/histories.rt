@@ -48,7 +48,7 @@ fn fits_history<S: Alter>(
 }
 
 /// The outcome that the history of an action gives, if it gives one. Two entries at one place of its
-/// sequence are a failed store.
+/// sequence are `Broken`.
 fn find_given<S: Alter>(
     change: &mut OpenChange<'_, S>,
     number: ActionNo,

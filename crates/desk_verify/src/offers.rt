@@ -57,7 +57,7 @@ impl<S: Alter> ByRollout<S> for Actions {
     }
 }
 
-/// Whether the table of offers agrees. A row of actions or groups that breaks a rule is a failed store.
+/// Whether the table of offers agrees. A row of actions or groups that breaks a rule is `Broken`.
 pub(crate) fn check_offers<S: Alter>(change: &mut OpenChange<'_, S>) -> Result<bool, Fault>
     ensures stays { StaysIn S.Store change.old change.new result }
     ensures judges { FindsTables S.Store change.old change.new result (λ t agrees. SettlesWhether (AgreesOffers t) agrees) }
@@ -129,7 +129,7 @@ fn fits(action: &StoredAction, owned: &OwnedOffer) -> bool
         && action.canceling == owned.offer.canceling
 }
 
-/// Whether a started group of the rollout holds the place. A row of a group that breaks a rule is a failed store.
+/// Whether a started group of the rollout holds the place. A row of a group that breaks a rule is `Broken`.
 fn is_in_started_group<S: Alter>(
     change: &mut OpenChange<'_, S>,
     kept: &mut KeptGroups,
@@ -145,7 +145,7 @@ fn is_in_started_group<S: Alter>(
     Ok(holds_started(&kept.groups, place))
 }
 
-/// Reads the groups of a rollout, unless they are kept already. A row of a group that breaks a rule is a failed store.
+/// Reads the groups of a rollout, unless they are kept already. A row of a group that breaks a rule is `Broken`.
 fn keep_groups<S: Alter>(
     change: &mut OpenChange<'_, S>,
     kept: &mut KeptGroups,

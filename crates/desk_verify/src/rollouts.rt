@@ -71,7 +71,7 @@ pub(crate) fn check_rollouts<T: ByRollout<S>, S: Alter>(
     Ok(Some(listed))
 }
 
-/// The rollout of a number, which has to be there: none of this number, or one whose row breaks a rule, is a failed store.
+/// The rollout of a number, which has to be there: none of this number, or one whose row breaks a rule, is `Broken`.
 fn rollout_of<S: Alter>(
     change: &mut OpenChange<'_, S>,
     number: u32,

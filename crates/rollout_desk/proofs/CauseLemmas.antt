@@ -19,7 +19,12 @@ use Rattle.desk_store.specs.Changing.{seen_in}
 use Rattle.sql_calls.specs.Calls.{Grows, failures_of}
 use Rattle.desk_store.specs.Breaking.{HasReason}
 use Rattle.desk_store.specs.Readable.{IsReadable}
-use Rattle.rollout_desk.specs.Causes.{FailsByCalls}
+use Rattle.rollout_desk.specs.Causes.{FailsByCall, FailsByCalls, FailsHandingByCall}
+use Rattle.rollout_desk.specs.DeskStates.{desk_state}
+use Rattle.rollout_desk.specs.declared.desk.Desk.{Desk}
+use Rattle.contents_handler.specs.Failures.{HasCause, HasCauseHanding}
+use Rattle.contents_handler.specs.declared.download.Download.{Download}
+use Rattle.sqlite_rules.proofs.ListLemmas.{all_has}
 use Rattle.rollout_desk.proofs.ApplyLemmas.{stood}
 use Rattle.rollout_desk.proofs.VerifyLemmas.{failed_within, stored}
 
@@ -81,3 +86,15 @@ of_list h valid counted = record { readable = readable h valid counted; given = 
 pub stands_running : (s : State) (was : Bool) (h : CommandList) → was ≡ false → StandsFor (desk_state_at HoldsRecords was s) h
     → StandsFor (desk_state_at HoldsRecords false s) h
 stands_running s was h runs stands = subst (λ (b : Bool). StandsFor (desk_state_at HoldsRecords b s) h) runs stands
+
+-- ---- what the server calls
+
+-- the cause that a desk tells is the one that whoever serves it knows of
+pub caused : {S : Type 0} (g : Ghosts S) (old new : Desk S) → FailsByCall g old new
+    → HasCause (desk_state g old) (desk_state g new) old.store.calls.failures new.store.calls.failures
+caused g old new fails = λ h is_clean all stands. fails h is_clean (record { few = λ a has. all_has _ (records h).actions a all has }) stands
+
+pub caused_handing : {S : Type 0} (g : Ghosts S) (p : Download) (old new : Desk S) → FailsHandingByCall g p old new
+    → HasCauseHanding p (desk_state g old) (desk_state g new) old.store.calls.failures new.store.calls.failures
+caused_handing g p old new fails = λ h contents is_clean all stands sends.
+    fails h contents is_clean (record { few = λ a has. all_has _ (records h).actions a all has }) stands sends

@@ -12,3 +12,4 @@ pub mod Verifying
 pub mod Sizes
 pub mod Causes
 pub mod Conduct
+pub mod Counting

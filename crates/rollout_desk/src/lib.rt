@@ -14,6 +14,7 @@ mod verify;
 
 pub use crate::desk::Desk;
 pub use crate::download::downloads_go_on;
+pub use crate::handler::counts_what_its_store_counts;
 pub use crate::opening::goes_on_after_crash;
 pub use contents_handler::Download;
 pub use desk_opening::OpenFault;
