@@ -176,3 +176,27 @@ def test_which_bodies_are_asked_for():
     same(asked(["desk"], ["gate", "hand"], []), [True, True, False])
     same(asked([], ["gate"], ["desk/onehand"]), [False, True, False])
     same(asked(["other"], ["gate"], ["desk/onehand"]), [False, True, True])
+
+
+def test_the_record_of_whole_crates():
+    with written(judged_txt="") as workdir:
+        bodies.JUDGED, before = workdir / "judged.txt", bodies.JUDGED
+        try:
+            same(bodies.judged_before(), {})
+            bodies.record({"rollout_model": [True, True], "sql_front": [True, False]})
+            found = bodies.judged_before()
+            same(sorted(found), ["rollout_model", "sql_front"])
+            same(found["sql_front"][2:], ("1", "2"))
+            same(found["rollout_model"][1], bodies.sum_of("rollout_model"))
+            # one crate more leaves the others' lines as they are
+            bodies.record({"http_wire": [True]})
+            same(sorted(bodies.judged_before()), ["http_wire", "rollout_model", "sql_front"])
+            same(bodies.judged_before()["sql_front"], found["sql_front"])
+        finally:
+            bodies.JUDGED = before
+
+
+def test_at_most_four_of_a_crate_are_in_the_gate():
+    edits, wrong = bodies.all_edits([], ["gate"])
+    same(wrong, [])
+    same({name: len(found) for name, found in edits.items() if len(found) > 4}, {})
