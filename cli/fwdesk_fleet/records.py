@@ -82,6 +82,9 @@ def make_desk(fleet: Fleet, was_there: bool) -> bool:
         )
     # (in a folder that is root's, since the program follows what is in it)
     with tempfile.TemporaryDirectory(prefix=".new-", dir=places.RECORDS) as folder:
+        # (without the package there is none, and the desk gets the program's own pages, of 4,096 bytes)
+        if is_there(places.EMPTY):
+            copy_file(places.EMPTY, Path(folder, BOTH[0]))
         words = [str(fleet.program), "verify", "--db", f"{folder}/{BOTH[0]}"]
         ran = subprocess.run(words, stdin=subprocess.DEVNULL, stdout=subprocess.DEVNULL)
         if ran.returncode:

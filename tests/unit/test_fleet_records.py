@@ -116,3 +116,12 @@ def test_a_backup_that_others_may_change_is_not_run():
             place.chmod(kept)
         os.chown(folder, NOBODY, NOBODY)
         assert fails(records.check_trust, folder)
+
+
+def test_a_desk_is_made_in_the_packages_empty_database():
+    with made_fleet() as (fleet, root):
+        places.EMPTY = root / "empty.db"
+        places.EMPTY.write_text("pages of 2,048 bytes\n")
+        fleet.program.write_text(PROGRAM.replace("echo records >", "echo records >>"))
+        assert records.make_desk(fleet, False) is False
+        assert (fleet.folder / "desk.db").read_text() == "pages of 2,048 bytes\nrecords\n"
