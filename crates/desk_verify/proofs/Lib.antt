@@ -28,7 +28,7 @@ mod Causes
 mod ReadableRows
 mod ReadableArtifacts
 mod ReadableTargets
-mod ReadableRollouts
+pub mod ReadableRollouts
 mod HistoryRules
 mod ReadableActions
 pub mod ReadableRecords

@@ -12,3 +12,4 @@ pub mod DownloadLemmas
 mod VerifyLemmas
 mod CauseLemmas
 mod SizeLemmas
+mod MigrationLemmas

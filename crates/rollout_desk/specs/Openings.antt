@@ -10,7 +10,10 @@ use Rattle.sqlite.specs.Files.{HoldsDatabase, AreFoundIn, image_of, over_files}
 use Rattle.sqlite.specs.FileStore.{files as files_in}
 use Rattle.sqlite_store.specs.declared.store.FileStore.{FileStore}
 use Rattle.rollout_machine.specs.CommandList.{CommandList, Make}
+use Rattle.rollout_machine.specs.Records.{records}
 use Rattle.rollout_machine.specs.Standing.{DeskState, StandsFor}
+use Rattle.rollout_machine.specs.Validity.{IsValid}
+use Rattle.desk_opening.specs.Counting.{AreReadable}
 use Rattle.desk_opening.specs.Reopening.{HoldsNone, IsOpenable, LeavesUnharmed}
 use Rattle.desk_opening.specs.declared.opening.OpenFault.{OpenFault}
 use Rattle.desk_opening.specs.declared.reopening.DeskLeftover.{DeskLeftover}
@@ -33,6 +36,10 @@ module _ {D : Type 0} (g : disk.Ghosts D) (files : Files D) (approval : Bool) wh
   -- .. or what is left of them
   abbrev pub LeavesFiles : OpenFault × DeskLeftover D g → Type 0
   LeavesFiles refused = LeavesUnharmed (outcomes g files.log files.db) (image_of g files) approval refused.0 refused.1
+
+-- Records of accepted commands keep the rules by which a migration reads rollouts, so the cause of an opening's failure has its premise.
+abbrev pub RecordsCanBeMigrated : Type 0
+RecordsCanBeMigrated = (h : CommandList) → IsValid h → AreReadable (records h)
 
 -- ---- given back
 
