@@ -18,7 +18,6 @@ import time
 from pathlib import Path
 
 ROOT = Path(__file__).resolve().parents[2]
-sys.path[:0] = [str(ROOT / "tools/lib"), str(ROOT / "tests")]
 from as_module import as_module
 from harness.debian_machine import Debian, make_root
 

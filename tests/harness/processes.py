@@ -1,7 +1,9 @@
 """What tools share that start servers: free ports, configurations with places of their own,
 what is started and ended. Not run by itself."""
+import contextlib
 import os
 import random
+import shutil
 import signal
 import socket
 import subprocess
@@ -13,6 +15,8 @@ HOST = "127.0.0.1"
 PATIENCE = 90
 # a socket for each of the last hundred ports that this process was given
 RESERVED = []
+# what `eventually` waits for has ended
+ENDED = object()
 
 
 def free_port():
@@ -45,16 +49,40 @@ def listens(port):
         return False
 
 
-def eventually(what, holds, seconds=PATIENCE, child=None):
-    """Waits until it holds, and gives what it then is. The child has to run as long."""
+def wait_for(holds, seconds=PATIENCE, pause=0.05):
+    """Asks until something holds or the time is over, and gives what it then is."""
     until = time.monotonic() + seconds
-    while not (got := holds()):
-        assert (
-            child is None or child.poll() is None
-        ), f"{what}: it has ended with {child.returncode}: {child.log.read_text(errors='replace')[-400:]}"
-        assert time.monotonic() < until, f"{what}: not within {seconds} s"
-        time.sleep(0.2)
+    while not (got := holds()) and time.monotonic() < until:
+        time.sleep(pause)
     return got
+
+
+def eventually(what, holds, seconds=PATIENCE, child=None, pause=0.05):
+    """Waits until it holds, and gives what it then is. The child has to run as long."""
+
+    def ended():
+        return child is not None and child.poll() is not None
+
+    got = wait_for(lambda: holds() or (ENDED if ended() else None), seconds, pause)
+    assert got is not ENDED, f"{what}: it has ended with {child.returncode}: {last_words(child)}"
+    assert got, f"{what}: not within {seconds} s"
+    return got
+
+
+def last_words(child):
+    """The end of what a child said, where it has a log."""
+    log = getattr(child, "log", None)
+    return log.read_text(errors="replace")[-400:] if log else ""
+
+
+def found(program):
+    """The path of a program, also where only root looks for it."""
+    return shutil.which(program, path=f"{os.environ['PATH']}:/usr/sbin:/sbin")
+
+
+def children(process):
+    """The processes that one has started and that still run."""
+    return {int(it) for it in Path(f"/proc/{process}/task/{process}/children").read_text().split()}
 
 
 def with_places(text, places):
@@ -63,6 +91,26 @@ def with_places(text, places):
         assert old in text, f"{old} doesn't stand in the configuration any more"
         text = text.replace(old, new)
     return text
+
+
+def terminate(child):
+    """Ends a child as systemd ends a service: asked first, and killed if it is there ten seconds later."""
+    child.terminate()
+    try:
+        child.wait(10)
+    except subprocess.TimeoutExpired:
+        child.kill()
+        child.wait()
+
+
+def members(session):
+    """The processes of a session, as `setsid` began it."""
+    found = []
+    for it in Path("/proc").glob("[0-9]*/stat"):
+        with contextlib.suppress(OSError):
+            if int(it.read_text().rpartition(")")[2].split()[3]) == session:
+                found.append(int(it.parent.name))
+    return found
 
 
 class Processes:
@@ -82,6 +130,11 @@ class Processes:
         child.log = told
         self.running.append(child)
         return child
+
+    def journal(self):
+        """The end of each log, for a test that fails."""
+        logs = {it.log.name: last_words(it) for it in self.running}
+        return "\n".join(f"--- {name}\n{words}" for name, words in logs.items() if words)
 
     def end(self, child):
         """swupdate doesn't end on SIGTERM while it waits."""

@@ -1,20 +1,13 @@
 """The real proxies with the files of deploy/ before the program, for roles and certificates; not run by itself.
 
 They are the environments of tests/e2e/web, and one more: the edge of many fleets, before the HAProxy that has the desks."""
-import sys
-from pathlib import Path
 from types import SimpleNamespace
 
-ROOT = Path(__file__).resolve().parents[2]
-sys.path[:0] = [str(ROOT / "tools/lib"), str(ROOT / "tests/e2e/web")]
-
-import processes
-from environment import Environment
-from harness.processes import PATIENCE, free_port
+from e2e.web.environment import Environment
+from harness import ROOT
+from harness.processes import free_port
 
 FLEET = "acme"
-# a program that was compiled without its proofs takes a minute to listen on a busy machine
-processes.PATIENCE = 2 * PATIENCE
 
 
 class Edge(Environment):
@@ -46,8 +39,3 @@ def topology(name, order, folder, **ways):
     return made(
         SimpleNamespace(program=order.program, deploy=ROOT / "deploy"), folder, proxy, **ways
     )
-
-
-def children(process):
-    """The processes that one has started and that still run."""
-    return set(Path(f"/proc/{process}/task/{process}/children").read_text().split())

@@ -1,6 +1,6 @@
 """Tests of crates.py: what `rt --help` says of the lines of crates.txt."""
 import crate_graph as crates
-from asserting import same
+from harness.asserting import same
 
 
 def test_lines():

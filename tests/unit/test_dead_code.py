@@ -1,7 +1,7 @@
 """Tests of what tools/lint/dead-code reads of the names that an attribute gives."""
 from as_module import as_module
 from crate_graph import ROOT
-from asserting import same
+from harness.asserting import same
 
 unused = as_module(ROOT / "tools/lint/dead-code")
 LEMMAS = ROOT / "crates/low/proofs/Lists/Few.antt"

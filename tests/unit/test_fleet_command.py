@@ -7,11 +7,10 @@ import tempfile
 from pathlib import Path
 
 from as_module import as_module
-
-ROOT = Path(__file__).resolve().parents[2]
-sys.path.insert(0, str(ROOT / "cli"))
 from fwdesk_fleet import commands, places, proxies, units
 from fwdesk_fleet.fleets import Fleet
+
+ROOT = Path(__file__).resolve().parents[2]
 
 SCRIPT = ROOT / "cli/fwdesk-fleet"
 

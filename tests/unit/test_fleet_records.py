@@ -2,12 +2,9 @@
 import contextlib
 import os
 import stat
-import sys
 import tempfile
 from pathlib import Path
 
-ROOT = Path(__file__).resolve().parents[2]
-sys.path.insert(0, str(ROOT / "cli"))
 from fwdesk_ctl.errors import NotDone
 from fwdesk_fleet import places, records
 from fwdesk_fleet.fleets import Fleet

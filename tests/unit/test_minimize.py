@@ -5,7 +5,7 @@ from tempfile import TemporaryDirectory
 
 from as_module import as_module
 from crate_graph import ROOT
-from asserting import same
+from harness.asserting import same
 
 shorten = as_module(ROOT / "tools/proof/minimize")
 PROOFS = """-- Of lists.

@@ -2,7 +2,7 @@
 and where an edit applies."""
 from as_module import as_module
 from crate_graph import ROOT
-from asserting import refused, same, written
+from harness.asserting import refused, same, written
 
 bodies = as_module(ROOT / "tests/mutation/run")
 DESK = """//! A desk.

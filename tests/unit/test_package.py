@@ -5,7 +5,7 @@ import subprocess
 
 from as_module import as_module
 from crate_graph import ROOT
-from asserting import same, written
+from harness.asserting import same, written
 
 package = as_module(ROOT / "tools/package")
 # 2026-11-27, 20:00

@@ -2,7 +2,7 @@
 from pathlib import Path
 
 from as_module import as_module
-from asserting import same
+from harness.asserting import same
 
 PROMISES = as_module(Path(__file__).resolve().parents[2] / "tools/lint/promises")
 SOURCES = PROMISES.Sources()

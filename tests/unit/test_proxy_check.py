@@ -1,12 +1,9 @@
 """Tests of how HAProxy is asked whether it takes a stage: with the servers of many fleets, where it starts with them."""
-import sys
 import tempfile
 from pathlib import Path
 
-from asserting import same
-from crate_graph import ROOT
+from harness.asserting import same
 
-sys.path.insert(0, str(ROOT / "cli"))
 from fwdesk_ctl import operators
 from fwdesk_setup import parts
 

@@ -4,7 +4,7 @@ import copy
 
 import reference
 from as_module import as_module
-from asserting import refused, same
+from harness.asserting import refused, same
 from crate_graph import ROOT
 
 made = as_module(ROOT / "tools/gen/reference")

@@ -1,7 +1,7 @@
 """Tests of what tools/release tells of the gate: out/gate has the commit in its first line, and what was left out in the
 next ones."""
 
-from asserting import same, written
+from harness.asserting import same, written
 from as_module import as_module
 from crate_graph import ROOT
 

@@ -4,7 +4,7 @@ import contextlib
 import sql_rows as rows
 from as_module import as_module
 from crate_graph import ROOT
-from asserting import refused, same, written
+from harness.asserting import refused, same, written
 
 meanings = as_module(ROOT / "tools/gen/sql-proofs")
 PUMPS = (

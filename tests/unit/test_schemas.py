@@ -1,6 +1,6 @@
 """Tests of schemas.py: each keyword with a value that keeps it and one that doesn't, as JSON Schema has it."""
 from openapi import json_schema as schemas
-from asserting import refused, same
+from harness.asserting import refused, same
 
 # a keyword with its rule, a value that keeps it, and one that doesn't
 RULES = (

@@ -1,13 +1,10 @@
 """Tests of fwdesk-setup's parts that need no machine: what is read of a copied configuration, names, files, passwords."""
 import os
-import sys
 import tempfile
 from pathlib import Path
 
-from crate_graph import ROOT
-from asserting import same
+from harness.asserting import same
 
-sys.path.insert(0, str(ROOT / "cli"))
 from fwdesk_ctl import operators, passwords
 from fwdesk_setup import certificate, earlier, files, parts, places
 

@@ -2,7 +2,7 @@
 import sql_tables as tables
 from as_module import as_module
 from crate_graph import ROOT
-from asserting import refused, same
+from harness.asserting import refused, same
 
 meanings = as_module(ROOT / "tools/gen/sql-proofs")
 TEXT = (

@@ -4,7 +4,7 @@ import zlib
 
 from harness import wire_case
 from harness.wire_case import BadCase
-from asserting import refused, same, written
+from harness.asserting import refused, same, written
 
 
 def read(text):

@@ -1,16 +1,12 @@
 """A stand-in for the desk and for HAProxy's table, and the console before them with a clock that is driven."""
 import asyncio
 import json
-import sys
 from collections.abc import Awaitable, Callable
 from pathlib import Path
 from typing import Any
 
 from aiohttp import web
 from aiohttp.test_utils import TestClient, TestServer
-
-ROOT = Path(__file__).resolve().parents[3]
-sys.path.insert(0, str(ROOT / "console"))
 
 from fwdesk_console.clock import Clock
 from fwdesk_console.service import Service
