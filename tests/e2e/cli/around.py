@@ -1,14 +1,14 @@
-"""Cases of tests/e2e/cli/run: tokens, logins, other ways to a desk, silence, metrics, and what the pages tell."""
+"""Cases of fwdesk-ctl: tokens, logins, other ways to a desk, silence, metrics, and what the pages tell."""
 import csv
 import json
 import os
 import re
-import sys
 import time
 import tomllib
 
-import packages
-from environment import CLI, DEPLOY, HOST, PASSWORD, ROOT, Proxy, Relay, needs
+from e2e.devices import packages
+
+from .environment import CLI, DEPLOY, HOST, PASSWORD, ROOT, Proxy, Relay, needs
 
 
 def makes_tokens(env):
@@ -186,7 +186,6 @@ def tells_metrics(env):
 
 def is_told(env):
     """each verb has its help; the man page has each verb and option, the completion too; each refusal has its words"""
-    sys.path.insert(0, str(CLI))
     from fwdesk_ctl import commands, refusals
 
     page = (ROOT / "cli/fwdesk-ctl.1").read_text().replace("\\-", "-")

@@ -1,5 +1,4 @@
-"""Cases of tests/e2e/cli/run: the service is backed up and restored, here and on another machine, whole or not at all."""
-import http.client
+"""Cases of fwdesk-ctl: the service is backed up and restored, here and on another machine, whole or not at all."""
 import json
 import os
 import resource
@@ -13,8 +12,10 @@ import threading
 import time
 from pathlib import Path
 
-from environment import CLI, HOST, eventually, free_port, listens, needs, packages
+from harness import http_client
 from harness.edge import make_certificate
+
+from .environment import CLI, HOST, eventually, free_port, listens, needs, packages
 
 # it knows which process is the service's, ends it, and writes down what it is told
 SYSTEMCTL = """#!/bin/sh
@@ -274,13 +275,13 @@ def polls_by_tls(machine, authority, name):
     )
     eventually("HAProxy", lambda: listens(port), child=child)
     trusted = ssl.create_default_context(cafile=authority)
-    client = http.client.HTTPSConnection("localhost", port, timeout=60, context=trusted)
+    path, token = f"/DEFAULT/controller/v1/{name}", http_client.token(name)
     try:
-        path = f"/DEFAULT/controller/v1/{name}"
-        client.request("GET", path, headers={"Authorization": f"TargetToken tok-{name}"})
-        return client.getresponse().status
+        reply = http_client.ask(
+            "GET", path, fields=token, port=port, host="localhost", trusted=trusted
+        )
+        return reply.status
     finally:
-        client.close()
         machine.env.processes.end(child)
 
 

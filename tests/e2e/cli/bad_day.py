@@ -1,11 +1,11 @@
-"""Cases of tests/e2e/cli/run: what is open is canceled, who failed is told, and many are tagged."""
+"""Cases of fwdesk-ctl: what is open is canceled, who failed is told, and many are tagged."""
 import json
 import re
 import signal
 import time
 from collections import Counter
 
-from environment import Relay
+from .environment import Relay
 
 
 def mends(env):

@@ -1,4 +1,4 @@
-"""Cases of tests/e2e/cli/run: orders for later and quiet hours, with stand-ins for systemd and for the brake.
+"""Cases of fwdesk-ctl: orders for later and quiet hours, with stand-ins for systemd and for the brake.
 tests/e2e/systemd/timers has systemd itself."""
 import datetime
 import json
@@ -7,7 +7,7 @@ import re
 import signal
 import time
 
-from environment import PASSWORD, Proxy, Relay
+from .environment import PASSWORD, Proxy, Relay
 
 UTC = datetime.timezone.utc
 # it writes down what it is told, and knows which timers were started

@@ -1,17 +1,14 @@
-"""Where tests/e2e/cli/run runs: the program, its fleet, a line that is cut or watched, and the proxies."""
+"""What the cases of fwdesk-ctl run in: the program, its fleet, a line that is cut or watched, and the proxies."""
 import os
 import re
 import socket
 import subprocess
-import sys
 import threading
 from pathlib import Path
 
-sys.dont_write_bytecode = True
-ROOT = Path(__file__).resolve().parents[3]
-sys.path[:0] = [str(ROOT / "tests"), str(ROOT / "tests/e2e/devices")]
-import packages
-from harness import http_client
+from e2e.devices import packages
+from harness import ROOT, http_client
+from harness.desk import start_brake, start_desk
 from harness.edge import Edge
 from harness.processes import HOST, Processes, eventually, free_port, listens
 
@@ -52,9 +49,7 @@ class Environment:
         }
 
     def serve(self):
-        words = f"serve --db {self.folder}/desk.db --port {self.port} --connections 1000000 --interface both".split()
-        self.server = self.processes.start("fwdesk", [self.program, *words, *self.more])
-        eventually("the program", lambda: listens(self.port), child=self.server)
+        self.server = start_desk(self.processes, self.program, self.folder, self.port, *self.more)
 
     def __enter__(self):
         try:
@@ -255,21 +250,9 @@ class Proxy:
     def brake(self, env, programs=CLI):
         """fwdesk-brake behind its socket, as fwdesk-brake.socket has it; answers the environment that leads it here."""
         needs("systemd-socket-activate")
-        own = {"FWDESK_BRAKE_FILE": f"{env.folder}/held.map"}
-        sockets = env.folder / "master.sock", self.edge.run / "haproxy-desks/admin.sock"
-        own["FWDESK_BRAKE_SOCKETS"] = " ".join(map(str, sockets))
-        given = [word for key, value in own.items() for word in ("-E", f"{key}={value}")]
-        listener = [
-            packages.found("systemd-socket-activate"),
-            "--accept",
-            "--inetd",
-            "-l",
-            str(self.brake_socket),
-            *given,
-        ]
-        env.processes.start("brake", [*listener, str(programs / "fwdesk-brake"), "serve"])
-        eventually("the brake's socket", self.brake_socket.exists)
-        return own
+        masters = [env.folder / "master.sock", self.edge.run / "haproxy-desks/admin.sock"]
+        held = env.folder / "held.map"
+        return start_brake(env.processes, self.brake_socket, held, masters, programs)
 
 
 class Adapter:

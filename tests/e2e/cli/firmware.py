@@ -1,11 +1,11 @@
-"""Cases of tests/e2e/cli/run: files for hawkBit's clients, through fwdesk-hawkbit."""
+"""Cases of fwdesk-ctl: files for hawkBit's clients, through fwdesk-hawkbit."""
 import hashlib
 import json
 import signal
 import subprocess
 import sys
 
-from environment import CLI, Adapter
+from .environment import CLI, Adapter
 
 BASE = "/DEFAULT/controller/v1"
 LARGEST = 4_194_304

@@ -1,11 +1,7 @@
-"""Cases of tests/e2e/cli/run: a file of targets is checked before it is imported."""
+"""Cases of fwdesk-ctl: a file of targets is checked before it is imported."""
 import json
 import random
-import sys
 
-from environment import CLI
-
-sys.path.insert(0, str(CLI))
 from fwdesk_ctl.fleet_file import read
 
 HEAD = "controllerid,name,token,tags\n"

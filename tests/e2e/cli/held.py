@@ -1,4 +1,4 @@
-"""Cases of tests/e2e/cli/run: the brake, pressed and released, what passes under it, and how it fails."""
+"""Cases of fwdesk-ctl: the brake, pressed and released, what passes under it, and how it fails."""
 import contextlib
 import fcntl
 import json
@@ -9,8 +9,8 @@ import stat
 import subprocess
 import time
 
-from environment import CLI, DEPLOY, HOST, PASSWORD, Proxy
-from environment import eventually, needs, packages, status
+from .environment import CLI, DEPLOY, HOST, PASSWORD, Proxy
+from .environment import eventually, needs, packages, status
 
 BASE = "/DEFAULT/controller/v1"
 

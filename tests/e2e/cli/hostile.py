@@ -1,11 +1,11 @@
-"""Cases of tests/e2e/cli/run: a program at the desk's address that isn't the desk, texts that aren't printable, answers that are lost."""
+"""Cases of fwdesk-ctl: a program at the desk's address that isn't the desk, texts that aren't printable, answers that are lost."""
 import contextlib
 import json
 import socket
 import threading
 import time
 
-from environment import HOST, Proxy, Relay
+from .environment import HOST, Proxy, Relay
 
 ESCAPE = "\x1b]0;owned\x07"
 # a control character of the upper half, a mark that turns the direction of writing, a mark without a width

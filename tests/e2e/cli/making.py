@@ -1,9 +1,9 @@
-"""Cases of tests/e2e/cli/run: firmware goes in, and a rollout is planned, steered and waited for."""
+"""Cases of fwdesk-ctl: firmware goes in, and a rollout is planned, steered and waited for."""
 import hashlib
 import json
 import time
 
-from environment import Relay, eventually
+from .environment import Relay, eventually
 
 LARGEST = 4_194_304
 

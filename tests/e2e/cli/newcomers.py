@@ -1,8 +1,8 @@
-"""Cases of tests/e2e/cli/run: devices that join are given what a rule names."""
+"""Cases of fwdesk-ctl: devices that join are given what a rule names."""
 import signal
 from collections import Counter
 
-from environment import Relay
+from .environment import Relay
 
 
 def rules(env, *lines):

@@ -1,8 +1,8 @@
-"""Cases of tests/e2e/cli/run: a device gets a new token or is retired; a rollout is rolled back."""
+"""Cases of fwdesk-ctl: a device gets a new token or is retired; a rollout is rolled back."""
 import json
 
-from environment import Relay
-from shipping import cut_off
+from .environment import Relay
+from .shipping import cut_off
 
 BASE = "/DEFAULT/controller/v1"
 

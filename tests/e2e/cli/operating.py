@@ -1,10 +1,11 @@
-"""Cases of tests/e2e/cli/run: operators are added, changed and removed, at a HAProxy that runs."""
-import base64
-import http.client
+"""Cases of fwdesk-ctl: operators are added, changed and removed, at a HAProxy that runs."""
 import json
 import re
 
-from environment import HOST, eventually, free_port, listens, needs, packages
+from harness import http_client
+from harness.edge import hashed
+
+from .environment import HOST, eventually, free_port, listens, needs, packages
 
 OWN = """global
     presetenv FWDESK_OPERATORS {conf}/operators.map
@@ -54,7 +55,7 @@ class Topology:
         self.conf, self.parts = env.folder / "conf", env.folder / "parts"
         for it in (self.conf, self.parts / "edge", env.folder / "programs"):
             it.mkdir(parents=True)
-        digest = packages.said(["openssl", "passwd", "-6", PASSWORD]).strip()
+        digest = hashed(PASSWORD)
         (self.conf / "10-own.cfg").write_text(OWN.format(conf=self.conf))
         (self.conf / "20-operators.cfg").write_text(USERS.format(digest=digest))
         (self.conf / "20-operators.cfg").chmod(0o640)
@@ -90,15 +91,9 @@ class Topology:
 
     def asks(self, name, password):
         """The status that a login gets, and what it may."""
-        client = http.client.HTTPConnection(HOST, self.port, timeout=30)
-        login = base64.b64encode(f"{name}:{password}".encode()).decode()
-        client.request("GET", "/", headers={"Authorization": f"Basic {login}"})
-        reply = client.getresponse()
-        told = reply.read().decode()
-        client.close()
-        return (
-            (reply.status, told.removeprefix("may ")) if reply.status == 200 else (reply.status, "")
-        )
+        login = http_client.login(name, password)
+        reply = http_client.ask("GET", "/", fields=login, port=self.port)
+        return reply.status, reply.text.removeprefix("may ") if reply.status == 200 else ""
 
     def sees(self, name, password, wanted):
         """A reload takes a moment."""

@@ -1,9 +1,9 @@
-"""Cases of tests/e2e/cli/run: an image is shipped in one command, which is cut off anywhere and repeated."""
+"""Cases of fwdesk-ctl: an image is shipped in one command, which is cut off anywhere and repeated."""
 import json
 import re
 import signal
 
-from environment import Relay, eventually
+from .environment import Relay, eventually
 
 LARGEST = 4_194_304
 

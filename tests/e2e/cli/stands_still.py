@@ -1,10 +1,10 @@
-"""Cases of tests/e2e/cli/run: a rollout that stands still, or is paused, says so, and why."""
+"""Cases of fwdesk-ctl: a rollout that stands still, or is paused, says so, and why."""
 import json
 import os
 import re
 import time
 
-from environment import DEPLOY, Relay, needs, packages
+from .environment import DEPLOY, Relay, needs, packages
 from harness.edge import make_certificate
 
 LINK = "https://desk.example:8443"

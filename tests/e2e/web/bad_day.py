@@ -1,8 +1,7 @@
-"""A bad day: a bad firmware that is mended, called back, counted and tried again. For tests/e2e/web/run,
-and not run by itself."""
+"""A bad day: a bad firmware that is mended, called back, counted and tried again. Not run by itself."""
 import time
 
-from steps import case, chosen, compared, confirmed, entered, job_ended
+from .steps import case, chosen, compared, confirmed, entered, job_ended
 
 BASE = "/DEFAULT/controller/v1"
 GOOD, BAD = 2, 1

@@ -1,9 +1,10 @@
-"""How the page behaves: names as text, controls, how often it asks, a server that fails. For tests/e2e/web/run,
-and not run by itself."""
+"""How the page behaves: names as text, controls, how often it asks, a server that fails. Not run by itself."""
 import time
 
-from processes import LOGIN, ended
-from steps import case, compared, confirmed, entered, saved
+from harness.processes import terminate
+
+from .places import LOGIN
+from .steps import case, compared, confirmed, entered, saved
 
 # the roles of what is worked with or looked at: each has to have a name
 NAMED = set(
@@ -296,7 +297,7 @@ def a_server_that_is_away(browser, env):
     env.fleet(3)
     env.plan(groups=1)
     entered(browser, env, "#/rollouts/1")
-    ended(env.server)
+    terminate(env.server)
     browser.until("document.querySelector('#banner .notice')")
     assert "the proxy answers 502" in browser.text("#banner") and browser.text("h1") == "spring"
     browser.forget()

@@ -1,11 +1,11 @@
-"""What is to come by the clock of the proxy's machine. For tests/e2e/web/run, and not run by itself."""
+"""What is to come by the clock of the proxy's machine. Not run by itself."""
 import datetime
 import json
 import os
 import subprocess
 
-from processes import ROOT
-from steps import case, entered
+from harness import ROOT
+from .steps import case, entered
 
 UTC = datetime.timezone.utc
 

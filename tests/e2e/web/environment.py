@@ -1,20 +1,19 @@
-"""A new desk behind a proxy of deploy/, and what an operator and devices ask of it: for tests/e2e/web/run,
-and not run by itself."""
-import base64
+"""A new desk behind a proxy of deploy/, and what an operator and devices ask of it. Not run by itself."""
 import csv
-import http.client
 import json
 import re
 import resource
 import ssl
 import subprocess
-import time
 from pathlib import Path
 
-from operators import with_operators
-from processes import LOGIN, PATIENCE, ROOT, ended, listens
-from harness.edge import ALL, Edge, make_certificate
-from harness.processes import HOST, free_port
+from harness import ROOT, http_client
+from harness.desk import serving, start_brake
+from harness.edge import ALL, Edge, hashed, make_certificate
+from harness.processes import HOST, PATIENCE, Processes, eventually, free_port, listens, terminate
+
+from .operators import with_operators
+from .places import LOGIN
 
 # what the configuration of many fleets has, for two of them that are one desk
 FLEETS = {
@@ -46,9 +45,8 @@ class Environment:
         self.operators, self.edits = operators or {}, edits or (lambda _, text: text)
         self.port, self.behind = free_port(), free_port()
         self.children, self.environment = [], None
-        self.client = http.client.HTTPSConnection(
-            HOST, self.port, timeout=PATIENCE, context=ssl._create_unverified_context()
-        )
+        self.processes = Processes(self.folder)
+        self.client = http_client.connect(self.port, trusted=http_client.trust_all())
         # the browser and the proxies read this folder as users of their own
         self.folder.chmod(0o755)
         try:
@@ -67,22 +65,12 @@ class Environment:
             **how,
         )
         self.children.append(child)
-        listens(port, child)
+        eventually(str(words[0]), lambda: listens(port), 2 * PATIENCE, child=child)
         return child
 
     def serve(self, limit=None):
-        words = [
-            self.order.program,
-            "serve",
-            "--db",
-            self.folder / "desk.db",
-            "--port",
-            self.behind,
-            "--connections",
-            1000000,
-            "--interface",
-            "both",
-        ]
+        more = ["--approval"] if self.approval else []
+        words = serving(self.order.program, self.folder / "desk.db", self.behind, *more)
         how = (
             {
                 "preexec_fn": lambda: resource.setrlimit(resource.RLIMIT_FSIZE, (limit, limit)),
@@ -91,12 +79,13 @@ class Environment:
             if limit
             else {}
         )
-        return self.start([*words, *(["--approval"] if self.approval else [])], self.behind, **how)
+        return self.start(words, self.behind, **how)
 
     def end(self):
         self.client.close()
+        self.processes.end_all()
         for it in self.children:
-            ended(it)
+            terminate(it)
 
     def configured(self, name, changes):
         """A configuration of deploy/, for this folder and these ports; each change has to apply."""
@@ -110,11 +99,6 @@ class Environment:
         (self.folder / name).parent.mkdir(exist_ok=True)
         (self.folder / name).write_text(text)
         return self.folder / name
-
-    def password(self):
-        return subprocess.run(
-            ["openssl", "passwd", "-6", LOGIN[1]], check=True, stdout=subprocess.PIPE, text=True
-        ).stdout.strip()
 
     # which form of the edge it is, and which fleets that has
     form, served = "single", None
@@ -154,40 +138,22 @@ class Environment:
             stderr=open(self.folder / "errors", "ab"),
         )
         self.children.append(child)
-        until = time.monotonic() + PATIENCE
-        while not path.exists():
-            assert time.monotonic() < until and child.poll() is None, f"{words[0]} doesn't listen"
-            time.sleep(0.02)
+        eventually(str(words[0]), path.exists, child=child)
 
     def brake(self):
         """fwdesk-brake behind its socket, as fwdesk-brake.socket has it."""
-        own = (
-            f"FWDESK_BRAKE_FILE={self.folder}/held.map",
-            f"FWDESK_BRAKE_SOCKETS={self.edge.desks_master}",
-        )
-        given = [word for it in own for word in ("-E", it)]
-        words = [
-            "systemd-socket-activate",
-            "--accept",
-            "--inetd",
-            "-l",
-            self.edge.run / "fwdesk-brake.sock",
-            *given,
-            ROOT / "cli/fwdesk-brake",
-            "serve",
-        ]
-        self.children.append(
-            subprocess.Popen(list(map(str, words)), stderr=open(self.folder / "errors", "ab"))
-        )
-        until = time.monotonic() + PATIENCE
-        while not (self.edge.run / "fwdesk-brake.sock").exists():
-            assert time.monotonic() < until, "the brake's socket isn't there"
-            time.sleep(0.05)
+        masters = [self.edge.desks_master]
+        start_brake(self.processes, self.edge.run / "fwdesk-brake.sock", self.edge.held, masters)
+
+    def journal(self):
+        """What the proxies and the program have said."""
+        logs = (self.folder / it for it in ("errors", "said"))
+        return "\n".join(it.read_text(errors="replace")[-2000:] for it in logs if it.exists())
 
     def nginx(self):
         make_certificate(self.folder)
         (self.folder / "operators").write_text(
-            "".join(f"{it}:{self.password()}\n" for it in {LOGIN[0]: "", **self.operators})
+            "".join(f"{it}:{hashed(LOGIN[1])}\n" for it in {LOGIN[0]: "", **self.operators})
         )
         part = self.configured(
             "nginx/fwdesk.conf",
@@ -211,22 +177,17 @@ class Environment:
     def ask(self, method, path, body=None, fields=None):
         """Asks through the proxy. Answers status, fields and body."""
         if fields is None:
-            fields = {
-                "Authorization": f"Basic {base64.b64encode(':'.join(self.login).encode()).decode()}"
-            }
-        if isinstance(body, (dict, list)):
-            body = json.dumps(body)
+            fields = http_client.login(*self.login)
         try:
             return self.once(method, path, body, fields)
-        except (http.client.RemoteDisconnected, ConnectionError, ssl.SSLError):
+        except (ConnectionError, ssl.SSLError):
             # the kept connection was closed in the meantime
             self.client.close()
             return self.once(method, path, body, fields)
 
     def once(self, method, path, body, fields):
-        self.client.request(method, path, body, fields)
-        reply = self.client.getresponse()
-        return reply.status, {key.lower(): value for key, value in reply.getheaders()}, reply.read()
+        reply = http_client.exchange(self.client, method, path, body, fields)
+        return reply.status, reply.fields, reply.body
 
     def api(self, method, path, body=None):
         status, _, told = self.ask(method, path, body)

@@ -1,5 +1,5 @@
-"""The groups of a new rollout: even, one by one, and by a preset. For tests/e2e/web/run, and not run by itself."""
-from steps import case, confirmed, entered
+"""The groups of a new rollout: even, one by one, and by a preset. Not run by itself."""
+from .steps import case, confirmed, entered
 
 
 def groups_of(env, rollout):

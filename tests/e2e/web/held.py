@@ -1,7 +1,8 @@
-"""The brake: pressed, shown to all who look, released. For tests/e2e/web/run, and not run by itself."""
-from browser import Browser
-from processes import LOGIN
-from steps import case, confirmed, entered
+"""The brake: pressed, shown to all who look, released. Not run by itself."""
+from harness.browser import Browser
+
+from .places import LOGIN
+from .steps import case, confirmed, entered
 
 PLACES = (
     "#/rollouts",

@@ -1,5 +1,5 @@
-"""The languages of the UI. For tests/e2e/web/run, and not run by itself."""
-from steps import case, entered
+"""The languages of the UI. Not run by itself."""
+from .steps import case, entered
 
 # what each view says in German: words of its frame, of states and of counts
 GERMAN = {

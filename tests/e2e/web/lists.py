@@ -1,7 +1,7 @@
-"""Lists: parts of them by a press, their order, and the way back. For tests/e2e/web/run, and not run by itself."""
+"""Lists: parts of them by a press, their order, and the way back. Not run by itself."""
 import time
 
-from steps import case, entered
+from .steps import case, entered
 
 LONG = "a-pump-with-a-long-id.of-site-0000000000000000000000000000000001"
 

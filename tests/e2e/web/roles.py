@@ -1,7 +1,6 @@
-"""Who may what: the page offers no button in vain, and shows the words of a refusal. For tests/e2e/web/run,
-and not run by itself."""
+"""Who may what: the page offers no button in vain, and shows the words of a refusal. Not run by itself."""
 from harness.processes import HOST
-from steps import case, commands, confirmed, entered
+from .steps import case, commands, confirmed, entered
 
 OPERATORS = {
     "anna": "look,steer",

@@ -1,5 +1,5 @@
-"""Rollouts: planned, steered, shown. For tests/e2e/web/run, and not run by itself."""
-from steps import case, commands, compared, confirmed, entered, saved
+"""Rollouts: planned, steered, shown. Not run by itself."""
+from .steps import case, commands, compared, confirmed, entered, saved
 
 
 @case()

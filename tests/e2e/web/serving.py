@@ -1,9 +1,11 @@
-"""The files behind the proxies and their logins. For tests/e2e/web/run, and not run by itself."""
+"""The files behind the proxies and their logins. Not run by itself."""
 import base64
 
-from processes import LOGIN, ROOT
+from harness import ROOT
 from harness.processes import HOST
-from steps import case, compared, confirmed, entered
+
+from .places import LOGIN
+from .steps import case, compared, confirmed, entered
 
 SECURITY = {
     "content-security-policy": "default-src 'self'",

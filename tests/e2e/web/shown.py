@@ -1,9 +1,11 @@
-"""The pictures of docs/img/, and the tour that the page is shown by. For tests/e2e/web/run, and not run by itself."""
+"""The pictures of docs/img/, and the tour that the page is shown by. Not run by itself."""
 import signal
 import subprocess
 
-from processes import PICTURES, ROOT
-from steps import case, confirmed, entered
+from harness import ROOT
+
+from .places import PICTURES
+from .steps import case, confirmed, entered
 
 # what devices say that failed
 WORDS = (

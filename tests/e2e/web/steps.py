@@ -1,7 +1,7 @@
-"""The register of cases, and the steps that many of them take: for tests/e2e/web/run, and not run by itself."""
+"""The register of cases, and the steps that many of them take. Not run by itself."""
 import time
 
-from processes import LOGIN
+from .places import LOGIN
 
 # each case by its name, with the ways of its environment
 CASES = {}

@@ -1,9 +1,9 @@
-"""Devices and firmware: imports, uploads, sets, tags. For tests/e2e/web/run, and not run by itself."""
+"""Devices and firmware: imports, uploads, sets, tags. Not run by itself."""
 import hashlib
 import json
 import os
 
-from steps import case, confirmed, entered
+from .steps import case, confirmed, entered
 
 
 @case()

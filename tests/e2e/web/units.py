@@ -1,6 +1,6 @@
-"""One device, and a rollout that is taken back: a new token, retired, rolled back. For tests/e2e/web/run, and not run by itself."""
-from bad_day import BAD, GOOD, polled, stocked, works
-from steps import case, confirmed, entered
+"""One device, and a rollout that is taken back: a new token, retired, rolled back. Not run by itself."""
+from .bad_day import BAD, GOOD, polled, stocked, works
+from .steps import case, confirmed, entered
 
 DEVICE = "/DEFAULT/controller/v1/dev-00001"
 
