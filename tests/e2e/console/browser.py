@@ -9,7 +9,7 @@ from selenium.webdriver.chrome.options import Options
 from selenium.webdriver.chrome.service import Service
 from selenium.webdriver.common.by import By
 
-from environment import HOST, Environment
+from .environment import HOST, Environment
 
 
 class Browser:

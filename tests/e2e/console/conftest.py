@@ -1,13 +1,10 @@
 """What the tests of the console end to end share: environments, one for a file where a test needs none of its own."""
-import sys
-from pathlib import Path
 
 import pytest
 
-sys.path.insert(0, str(Path(__file__).parent))
 
-from browser import Browser
-from environment import PROGRAM, Environment
+from .browser import Browser
+from .environment import PROGRAM, Environment
 
 
 @pytest.fixture(scope="module")

@@ -1,34 +1,17 @@
 """A desk, a real HAProxy and the console in a folder, with those who are told: for the tests of this folder."""
-import base64
-import http.client
 import http.server
 import json
-import os
 import socket
 import socketserver
-import ssl
-import sys
 import threading
 import time
 from pathlib import Path
 from typing import Any
 
-ROOT = Path(__file__).resolve().parents[3]
-sys.path.insert(0, str(ROOT / "tests"))
-
+from harness import ROOT, http_client
+from harness.desk import PROGRAM, start_brake, start_desk
 from harness.edge import ALL, Edge
-from harness.processes import HOST, Processes, eventually, listens
-
-PROGRAM = Path(os.environ.get("FWDESK_PROGRAM", ROOT / "crates/fwdesk/out/fwdesk"))
-
-
-def free_ports(count: int) -> list[int]:
-    """So many ports that nobody listens to, no two alike."""
-    held = [socket.create_server((HOST, 0)) for _ in range(count)]
-    ports = [it.getsockname()[1] for it in held]
-    for it in held:
-        it.close()
-    return ports
+from harness.processes import HOST, Processes, eventually, free_port
 
 
 class Sink:
@@ -100,7 +83,7 @@ class Mailbox:
 class Environment:
     def __init__(self, folder: Path, approval: bool = False, **settings: Any):
         self.folder, self.processes = folder, Processes(folder)
-        self.desk_port, self.metrics_port = free_ports(2)
+        self.desk_port, self.metrics_port = free_port(), free_port()
         self.sink, self.chat, self.box = Sink(), Sink(), Mailbox()
         folder.chmod(0o755)
         self.approval = approval
@@ -145,27 +128,13 @@ class Environment:
     # processes
 
     def start_desk(self) -> Any:
-        words = [PROGRAM, "serve", "--db", self.folder / "desk.db", "--port", self.desk_port]
-        words += ["--connections", 1000000, "--interface", "both"]
-        words += ["--approval"] if self.approval else []
-        child = self.processes.start("desk", list(map(str, words)))
-        eventually("the desk listens", lambda: listens(self.desk_port), child=child)
-        return child
+        more = ["--approval"] if self.approval else []
+        return start_desk(self.processes, PROGRAM, self.folder, self.desk_port, *more)
 
     def start_brake(self) -> None:
         """fwdesk-brake behind its socket, as fwdesk-brake.socket has it."""
-        words = [
-            "systemd-socket-activate",
-            "--accept",
-            "--inetd",
-            "-l",
-            self.run / "fwdesk-brake.sock",
-        ]
-        words += ["-E", f"FWDESK_BRAKE_FILE={self.edge.held}"]
-        words += ["-E", f"FWDESK_BRAKE_SOCKETS={self.edge.desks_master}"]
-        words += [ROOT / "cli/fwdesk-brake", "serve"]
-        self.processes.start("brake", list(map(str, words)))
-        eventually("the brake's socket", (self.run / "fwdesk-brake.sock").exists)
+        socket = self.run / "fwdesk-brake.sock"
+        start_brake(self.processes, socket, self.edge.held, [self.edge.desks_master])
 
     def kill(self, child: Any) -> None:
         """At once, as out of memory does."""
@@ -197,20 +166,14 @@ class Environment:
         patience: float = 60,
     ) -> tuple[int, dict[str, str], bytes]:
         """Through HAProxy; `who` is logged in, or nobody is."""
-        client = http.client.HTTPSConnection(
-            HOST, self.port, timeout=patience, context=ssl._create_unverified_context()
-        )
         sent = dict(fields or {})
         if who is not None:
-            sent["Authorization"] = "Basic " + base64.b64encode(f"{who}:secret".encode()).decode()
-        if isinstance(body, (dict, list)):
-            body = json.dumps(body)
-        try:
-            client.request(method, path, body, sent)
-            reply = client.getresponse()
-            return reply.status, {k.lower(): v for k, v in reply.getheaders()}, reply.read()
-        finally:
-            client.close()
+            sent |= http_client.login(who, "secret")
+        trusted = http_client.trust_all()
+        reply = http_client.ask(
+            method, path, body, sent, port=self.port, trusted=trusted, seconds=patience
+        )
+        return reply.status, reply.fields, reply.body
 
     def api(self, path: str, method: str = "GET", body: Any = None, who: str = "anna") -> Any:
         status, _, told = self.ask(path, method, body, who)
@@ -222,15 +185,9 @@ class Environment:
 
     def look(self, path: str, method: str = "GET") -> tuple[int, bytes]:
         """By the console's own way to the desk."""
-        client = http.client.HTTPConnection(HOST, timeout=30)
-        client.sock = socket.socket(socket.AF_UNIX)
-        client.sock.connect(f"{self.run}/haproxy/fwdesk-looks.sock")
-        try:
-            client.request(method, path)
-            reply = client.getresponse()
-            return reply.status, reply.read()
-        finally:
-            client.close()
+        to = self.run / "haproxy/fwdesk-looks.sock"
+        reply = http_client.ask(method, path, port=to, seconds=30)
+        return reply.status, reply.body
 
     def command(self, line: str, name: str = "haproxy/fwdesk-table.sock") -> str:
         """What a socket of HAProxy answers to a line."""

@@ -4,7 +4,7 @@ import signal
 import threading
 import time
 
-from environment import Environment
+from .environment import Environment
 from harness.processes import eventually
 
 

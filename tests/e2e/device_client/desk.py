@@ -1,15 +1,12 @@
 """The real server with devices that are offered firmware, and a topology whose faults a test chooses. Not run by itself."""
-import http.client
 import json
-import subprocess
-import sys
 import threading
 from http.server import BaseHTTPRequestHandler, ThreadingHTTPServer
 from pathlib import Path
 
-ROOT = Path(__file__).resolve().parents[3]
-sys.path.insert(0, str(ROOT / "tests"))
-from harness.processes import HOST, PATIENCE, eventually, free_port, listens
+from harness import http_client
+from harness.desk import start_desk
+from harness.processes import HOST, Processes, free_port
 
 THRESHOLD = {"condition": "THRESHOLD", "expression": "100"}
 
@@ -19,29 +16,19 @@ class Desk:
 
     def __init__(self, program: Path, folder: Path):
         self.port, self.lock = free_port(), threading.Lock()
-        words = [program, "serve", "--db", folder / "desk.db", "--port", self.port]
-        words += ["--connections", 1000000, "--interface", "both"]
-        with open(folder / "desk.log", "ab") as log:
-            self.child = subprocess.Popen([str(it) for it in words], stdout=log, stderr=log)
-        eventually("the server", lambda: listens(self.port), 2 * PATIENCE)
+        self.processes = Processes(folder)
+        start_desk(self.processes, program, folder, self.port)
         self.names = 0
 
     def close(self) -> None:
-        self.child.kill()
-        self.child.wait()
+        self.processes.end_all()
 
     def ask(self, method: str, path: str, body: bytes | None = None):
         """What a call of an operator answers, which has to succeed."""
         with self.lock:
-            link = http.client.HTTPConnection(HOST, self.port, timeout=PATIENCE)
-            try:
-                link.request(method, path, body)
-                reply = link.getresponse()
-                text = reply.read()
-            finally:
-                link.close()
-        assert reply.status < 300, f"{method} {path}: {reply.status} {text.decode()}"
-        return json.loads(text)
+            reply = http_client.ask(method, path, body, port=self.port)
+        assert reply.status < 300, f"{method} {path}: {reply.status} {reply.text}"
+        return reply.json()
 
     def post(self, path: str, thing: object):
         return self.ask("POST", path, json.dumps(thing).encode())
@@ -161,10 +148,6 @@ class Topology:
 
     def pass_on(self, method: str, path: str, body: bytes | None, token: str) -> tuple[int, bytes]:
         with self.desk.lock:
-            link = http.client.HTTPConnection(HOST, self.desk.port, timeout=PATIENCE)
-            try:
-                link.request(method, path, body, {"Authorization": token})
-                reply = link.getresponse()
-                return reply.status, reply.read()
-            finally:
-                link.close()
+            fields = {"Authorization": token}
+            reply = http_client.ask(method, path, body, fields, port=self.desk.port)
+            return reply.status, reply.body

@@ -8,19 +8,18 @@ import os
 import shutil
 import signal
 import subprocess
-import sys
-import time
 from concurrent.futures import ThreadPoolExecutor
 from pathlib import Path
 
 import pytest
 
-sys.path.insert(0, str(Path(__file__).resolve().parent))
-from desk import ROOT, Desk, Topology
-from harness.processes import HOST
+from harness import ROOT
+from harness.desk import PROGRAM
+from harness.processes import HOST, eventually
+
+from .desk import Desk, Topology
 
 HERE = Path(__file__).resolve().parent
-PROGRAM = Path(os.environ.get("FWDESK_PROGRAM") or ROOT / "crates/fwdesk/out/fwdesk")
 CLIENTS = {"python": ROOT / "device/fwdesk-device", "shell": ROOT / "device/fwdesk-device.sh"}
 # of the calls at which a client is killed, each one, or each so many
 EACH = int(os.environ.get("FWDESK_EACH", "1"))
@@ -292,10 +291,7 @@ def test_status_10_waits_for_the_boot(desk, device):
 def test_a_second_client_waits(desk, device):
     device.write("do", "sleep 2\n")
     first = subprocess.Popen(device.words(), env=device.environment, stderr=subprocess.DEVNULL)
-    deadline = time.monotonic() + SECONDS
-    while not device.installed():
-        assert time.monotonic() < deadline
-        time.sleep(0.05)
+    eventually("the first client installs", device.installed, SECONDS)
     ran = device.run()
     assert "is waited for" in ran.stdout
     assert first.wait(SECONDS) == 0

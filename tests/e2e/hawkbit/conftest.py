@@ -2,22 +2,17 @@
 program (default: crates/fwdesk/out/fwdesk). They need haproxy, nginx and openssl, and test_units.py root, debhelper,
 debootstrap and systemd-container."""
 
-import sys
-from pathlib import Path
-
 import pytest
+from harness.edge import make_certificate
 
-sys.dont_write_bytecode = True
-sys.path.insert(0, str(Path(__file__).resolve().parent))
-
-import stage  # noqa: E402
+from . import stage
 
 
 @pytest.fixture(scope="module")
 def folder(tmp_path_factory):
     made = tmp_path_factory.mktemp("hb")
     (made / "images").mkdir()
-    stage.certificate(made)
+    make_certificate(made)
     return made
 
 

@@ -1,32 +1,24 @@
 """What the tests of fwdesk-hawkbit run: the desk, HAProxy before it, the gateway, nginx before that; and who watches
 between the gateway and the desk. Each in a folder of its own, on ports that nobody has."""
 
-import base64
-import contextlib
 import hashlib
-import http.client
 import http.server
-import json
 import os
-import shutil
-import socket
-import ssl
 import subprocess
-import sys
 import threading
 import time
 from dataclasses import dataclass, field
 from pathlib import Path
 from typing import Any
 
-ROOT = Path(__file__).resolve().parents[3]
-sys.path.insert(0, str(ROOT / "tests"))
-
-from harness import edge  # noqa: E402
-from harness.processes import (  # noqa: E402
+from harness import ROOT, edge, http_client
+from harness.desk import start_desk
+from harness.http_client import Reply
+from harness.processes import (
     HOST,
     Processes,
     eventually,
+    found,
     free_port,
     listens,
     with_places,
@@ -36,36 +28,6 @@ GATEWAY = ROOT / "hawkbit/fwdesk-hawkbit"
 PROGRAM = os.environ.get("FWDESK_PROGRAM", str(ROOT / "crates/fwdesk/out/fwdesk"))
 R, B = "/rest/v1", "/DEFAULT/controller/v1"
 THRESHOLD = {"condition": "THRESHOLD", "expression": "100"}
-
-
-def found(program: str) -> str:
-    """A program's path, also where only root looks for it."""
-    path = shutil.which(program, path=f"{os.environ['PATH']}:/usr/sbin:/sbin")
-    assert path, f"{program} isn't installed"
-    return path
-
-
-@dataclass
-class Reply:
-    status: int
-    fields: dict[str, str]
-    body: bytes
-
-    def json(self) -> Any:
-        return json.loads(self.body)
-
-
-class NearConnection(http.client.HTTPConnection):
-    """HTTP over a socket of this machine."""
-
-    def __init__(self, path: Path, timeout: float) -> None:
-        super().__init__("localhost", timeout=timeout)
-        self.path = path
-
-    def connect(self) -> None:
-        self.sock = socket.socket(socket.AF_UNIX)
-        self.sock.settimeout(self.timeout)
-        self.sock.connect(str(self.path))
 
 
 def ask(
@@ -78,30 +40,11 @@ def ask(
     seconds: float = 90,
 ) -> Reply:
     """One request over a connection of its own, to a port or to a socket's path."""
-    client: http.client.HTTPConnection
-    if isinstance(to, Path):
-        client = NearConnection(to, seconds)
-    elif tls:
-        context = ssl._create_unverified_context()
-        client = http.client.HTTPSConnection(HOST, to, timeout=seconds, context=context)
-    else:
-        client = http.client.HTTPConnection(HOST, to, timeout=seconds)
-    data = json.dumps(body).encode() if isinstance(body, list | dict) else body
     told = {"Connection": "close"} | (fields or {})
     if isinstance(body, list | dict):
         told.setdefault("Content-Type", "application/json")
-    try:
-        # who refuses a body unread answers, and goes
-        with contextlib.suppress(BrokenPipeError):
-            client.request(method, path, data, told)
-        reply = client.getresponse()
-        return Reply(reply.status, {k.lower(): v for k, v in reply.getheaders()}, reply.read())
-    finally:
-        client.close()
-
-
-def basic(login: str, password: str) -> dict[str, str]:
-    return {"Authorization": "Basic " + base64.b64encode(f"{login}:{password}".encode()).decode()}
+    trusted = http_client.trust_all() if tls else None
+    return http_client.ask(method, path, body, told, port=to, trusted=trusted, seconds=seconds)
 
 
 class Desk:
@@ -109,14 +52,11 @@ class Desk:
 
     def __init__(self, folder: Path, processes: Processes) -> None:
         self.port, self.processes = free_port(), processes
-        self.words = [PROGRAM, "serve", "--db", str(folder / "desk.db"), "--port", str(self.port)]
-        self.words += ["--connections", "1000000", "--interface", "both"]
-        self.way = self.port
+        self.folder, self.way = folder, self.port
         self.start()
 
     def start(self) -> None:
-        self.child = self.processes.start("desk", self.words)
-        eventually("the desk", lambda: listens(self.port), child=self.child)
+        self.child = start_desk(self.processes, Path(PROGRAM), self.folder, self.port)
 
     def ask(self, method: str, path: str, body: Any = None) -> Any:
         told = ask(self.way, method, R + path, body)
@@ -278,15 +218,6 @@ class Gateway:
         return self(method, f"{B}/{who}{rest}", body, **fields)
 
 
-def certificate(folder: Path) -> None:
-    words = "openssl req -x509 -newkey ec -pkeyopt ec_paramgen_curve:prime256v1 -nodes -days 2"
-    files = ["-keyout", f"{folder}/server.key", "-out", f"{folder}/server.crt"]
-    told = [*words.split(), "-subj", "/CN=localhost", "-addext", "subjectAltName=DNS:localhost"]
-    subprocess.run([*told, *files], check=True, stderr=subprocess.DEVNULL)
-    pem = (folder / "server.crt").read_bytes() + (folder / "server.key").read_bytes()
-    (folder / "server.pem").write_bytes(pem)
-
-
 def start_nginx(folder: Path, processes: Processes, door: Path, polls: Path, images: Path) -> int:
     """nginx with deploy/nginx/hawkbit-polls.conf, and its port."""
     port = free_port()
@@ -353,7 +284,7 @@ class HAProxy:
         subprocess.run(words, check=True, env=os.environ | own, stdout=subprocess.DEVNULL)
 
     def login(self, name: str) -> dict[str, str]:
-        return basic(name, self.edge.password)
+        return http_client.login(name, self.edge.password)
 
 
 def sums_of(data: bytes) -> dict[str, str]:

@@ -6,17 +6,15 @@ once more by a process that is killed. FWDESK_DEATHS=N: of the assignment of thi
 
 import asyncio
 import os
-import sys
 
 import aiohttp
 import pytest
 from aiohttp.test_utils import TestClient, TestServer
 
-import stage
-from stage import R, Between, Gateway, ask, payload, stub, sums_of
-from test_manage import KIND, form
+from . import stage
+from .stage import R, Between, Gateway, ask, payload, stub, sums_of
+from .test_manage import KIND, form
 
-sys.path.insert(0, str(stage.ROOT / "hawkbit"))
 
 from fwdesk_hawkbit import calls, manage  # noqa: E402
 from fwdesk_hawkbit.desk import Desk  # noqa: E402

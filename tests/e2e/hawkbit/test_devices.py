@@ -8,8 +8,8 @@ import threading
 
 import pytest
 
-import stage
-from stage import B, Between, Gateway, HAProxy, ask, payload, start_nginx, stub, sums_of
+from . import stage
+from .stage import B, Between, Gateway, HAProxy, ask, payload, start_nginx, stub, sums_of
 
 KEY, TOKEN = b"k" * 40, "gateway-token-of-32-letters-or-more"
 KINDS = "soft downloadonly"

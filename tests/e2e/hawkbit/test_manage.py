@@ -1,14 +1,12 @@
 """The management half: what a pipeline written for hawkBit calls, HAProxy with its logins before it, and the program behind."""
 
-import http.client
-import json
 import re
 import socket
 
 import pytest
 
-import stage
-from stage import HOST, R, Between, Gateway, HAProxy, ask, payload, stub, sums_of
+from . import stage
+from .stage import HOST, R, Between, Gateway, HAProxy, ask, payload, stub, sums_of
 
 KEY = b"k" * 40
 FORM = "----boundary"
@@ -622,7 +620,7 @@ def test_hiding(env):
 
 
 def test_who_has_logged_in(env):
-    fields = stage.basic("anna", "x")
+    fields = stage.http_client.login("anna", "x")
     assert env.made("GET", "userinfo", **fields) == {"tenant": "DEFAULT", "username": "anna"}
     assert env.made("GET", "userinfo", Authorization="Basic %%%") == {
         "tenant": "DEFAULT",
@@ -745,7 +743,7 @@ def test_the_service_has_no_other_rights_than_who_asks_it(
 
 
 def test_a_wrong_password_opens_nothing_behind_the_service(env, proxied):
-    fields = {"X-Fwdesk-May": "look,steer"} | stage.basic("anna", "wrong")
+    fields = {"X-Fwdesk-May": "look,steer"} | stage.http_client.login("anna", "wrong")
     assert ask(env.haproxy.door, "GET", f"{R}/targets", fields=fields).status == 401
     assert proxied("anna", "GET", "/targets").status == 200
 
@@ -811,10 +809,5 @@ def test_an_upload_through_haproxy(env, proxied):
 
 
 def test_json_is_json(env):
-    client = http.client.HTTPConnection(HOST, env.gateway.port, timeout=30)
-    client.request("GET", f"{R}/targets?limit=1")
-    reply = client.getresponse()
-    assert reply.getheader("Content-Type").startswith("application/json") and json.loads(
-        reply.read()
-    )
-    client.close()
+    reply = ask(env.gateway.port, "GET", f"{R}/targets?limit=1")
+    assert reply.fields["content-type"].startswith("application/json") and reply.json()

@@ -4,8 +4,8 @@ import concurrent.futures
 
 import pytest
 
-import test_manage
-from test_manage import is_error
+from . import test_manage
+from .test_manage import is_error
 
 # what the fixture `env` makes
 Environment = test_manage.Environment

@@ -11,7 +11,7 @@ from pathlib import Path
 
 import pytest
 
-import stage
+from . import stage
 from harness.debian_machine import WITHIN, Debian, make_root
 
 ROOT = Path("/var/tmp/fwdesk-hawkbit-debian")

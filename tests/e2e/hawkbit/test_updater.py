@@ -6,18 +6,16 @@ The updater is Debian unstable's, with its own libraries, as tests/e2e/devices f
 import configparser
 import os
 import re
-import sys
 import uuid
 
 import pytest
 
-import stage
-from stage import HOST, PROGRAM, R, ask, payload
-from test_manage import KIND, form
+from . import stage
+from .stage import HOST, PROGRAM, R, ask, payload
+from .test_manage import KIND, form
 
-sys.path.insert(0, str(stage.ROOT / "tests/e2e/devices"))
 
-import packages  # noqa: E402
+from e2e.devices import packages
 
 UPDATER = packages.Path("~/.cache/fwdesk-devices").expanduser()
 BUS = """<busconfig><type>system</type><listen>unix:path={0}/bus</listen><policy context="default">

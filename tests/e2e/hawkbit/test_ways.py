@@ -8,8 +8,8 @@ import time
 
 import pytest
 
-import stage
-from stage import Between, Gateway, HAProxy, ask
+from . import stage
+from .stage import Between, Gateway, HAProxy, ask
 
 METHODS = ("GET", "HEAD", "POST", "PUT", "PATCH", "DELETE", "OPTIONS", "TRACE", "get")
 # the desk's calls that the service needs, as docs/openapi.json names them

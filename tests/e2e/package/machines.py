@@ -6,7 +6,6 @@ import sys
 from pathlib import Path
 
 ROOT = Path(__file__).resolve().parents[3]
-sys.path[:0] = [str(ROOT / "tests"), str(ROOT / "tools/lib")]
 sys.dont_write_bytecode = True
 from as_module import as_module
 from harness.debian_machine import ROOT as DEBIAN

@@ -7,13 +7,10 @@ import os
 import re
 import shutil
 import subprocess
-import sys
-from pathlib import Path
 
 import pytest
 
-sys.path.insert(0, str(Path(__file__).resolve().parent))
-from machines import PROGRAM, ROOT, Server, package, repacked, said
+from .machines import PROGRAM, ROOT, Server, package, repacked, said
 
 pytestmark = [
     pytest.mark.skipif(os.geteuid() != 0, reason="systemd-nspawn is for root alone"),

@@ -5,14 +5,11 @@
 It needs debootstrap and systemd-container, once the network, and debhelper."""
 import os
 import re
-import sys
 import time
-from pathlib import Path
 
 import pytest
 
-sys.path.insert(0, str(Path(__file__).resolve().parent))
-from machines import NAME, PROGRAM, ROOT, Packages, Server, make_acme_root
+from .machines import NAME, PROGRAM, ROOT, Packages, Server, make_acme_root
 
 pytestmark = [
     pytest.mark.skipif(os.geteuid() != 0, reason="systemd-nspawn is for root alone"),
