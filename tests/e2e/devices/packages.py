@@ -5,6 +5,8 @@ import shutil
 import subprocess
 from pathlib import Path
 
+from harness.processes import found
+
 # a package of Debian 12 has a program of its name, but for this one
 BINDINGS = {"python3-gi": Path("/usr/lib/python3/dist-packages/gi/__init__.py")}
 UPDATER = "rauc-hawkbit-updater"
@@ -40,11 +42,6 @@ def said(words, **how):
     if ran.returncode:
         raise Missing(f"{' '.join(words[:3])}: {(ran.stdout.strip() or 'failed').splitlines()[-1]}")
     return ran.stdout
-
-
-def found(program):
-    """The path of a program, also where only root looks for it."""
-    return shutil.which(program, path=f"{os.environ['PATH']}:/usr/sbin:/sbin")
 
 
 def absent(wanted):

@@ -15,7 +15,7 @@ import subprocess
 import threading
 import time
 
-from alone import said
+from harness.alone import said
 
 HUB, PORT = "10.77.0.254", 7700
 # EXT4_IOC_SHUTDOWN, and to drop even what the journal has in memory

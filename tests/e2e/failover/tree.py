@@ -4,7 +4,7 @@ import shutil
 import subprocess
 from pathlib import Path
 
-from alone import said
+from harness.alone import said
 
 HERE = Path(__file__).resolve().parent
 DEPLOY = HERE.parents[2] / "deploy"

@@ -7,24 +7,19 @@
 --full runs the floods and the response mix-up at full size, for a machine of one's own."""
 
 import resource
-import sys
 import time
 from pathlib import Path
 from typing import Iterator
 
 import pytest
 
-sys.dont_write_bytecode = True
-ROOT = Path(__file__).resolve().parents[4]
-sys.path[:0] = [str(ROOT / "tests"), str(Path(__file__).parent)]
 from harness import edge as harness
-from stage import Before, Stage, StandIn
+from .stage import Before, Stage, StandIn
 
 
 def pytest_addoption(parser: pytest.Parser) -> None:
-    """The program, the forms, the size, and a configuration of before."""
+    """The forms, the size, and a configuration of before."""
     group = parser.getgroup("edge")
-    group.addoption("--program", type=Path, default=ROOT / "crates/fwdesk/out/fwdesk")
     group.addoption("--form", action="append", choices=sorted(harness.FORMS))
     group.addoption("--full", action="store_true")
     group.addoption("--before", type=Path)
@@ -32,21 +27,10 @@ def pytest_addoption(parser: pytest.Parser) -> None:
 
 
 def pytest_configure(config: pytest.Config) -> None:
-    """The markers, and what is missing."""
-    config.addinivalue_line("markers", "e2e: the real HAProxy before the program")
-    config.addinivalue_line("markers", "forms(names): before these forms alone")
-    config.addinivalue_line("markers", "gate: of the part that is run in five minutes")
-    config.addinivalue_line(
-        "markers", "timed: measures seconds or rates, which a busy machine upsets"
-    )
-    # a thousand connections are files of this process
+    """A thousand connections are files of this process."""
     soft, hard = resource.getrlimit(resource.RLIMIT_NOFILE)
     wanted = max(soft, 4096 if hard == resource.RLIM_INFINITY else min(hard, 4096))
     resource.setrlimit(resource.RLIMIT_NOFILE, (wanted, hard))
-    if not harness.is_there():
-        pytest.exit("left out, since HAProxy or openssl isn't here", returncode=0)
-    if not config.getoption("--program").exists():
-        pytest.exit(f"there is no program at {config.getoption('--program')}", returncode=2)
 
 
 BEGAN = time.monotonic()
@@ -54,7 +38,7 @@ BEGAN = time.monotonic()
 
 def pytest_runtest_setup(item: pytest.Item) -> None:
     """Leaves a test out where the time is over."""
-    seconds = item.config.getoption("--within")
+    seconds = item.config.getoption("--within", None)
     if seconds and time.monotonic() - BEGAN > seconds:
         pytest.skip(f"left out, since {seconds:.0f} s are over")
 
@@ -62,27 +46,25 @@ def pytest_runtest_setup(item: pytest.Item) -> None:
 def pytest_generate_tests(metafunc: pytest.Metafunc) -> None:
     """A test that takes `stage` is run before each form."""
     if "stage" in metafunc.fixturenames:
-        forms = metafunc.config.getoption("--form") or list(harness.FORMS)
+        forms = metafunc.config.getoption("--form", None) or list(harness.FORMS)
         if only := metafunc.definition.get_closest_marker("forms"):
             forms = [it for it in forms if it in only.args]
-        if metafunc.config.getoption("--before"):
+        if metafunc.config.getoption("--before", None):
             forms = ["before"] if forms else []
         metafunc.parametrize("stage", forms, indirect=True, scope="session")
 
 
 @pytest.fixture(scope="session")
 def stage(
-    request: pytest.FixtureRequest, tmp_path_factory: pytest.TempPathFactory
+    request: pytest.FixtureRequest, program: Path, tmp_path_factory: pytest.TempPathFactory
 ) -> Iterator[Stage]:
     """A form of the edge before the program, which has 12 devices and a rollout that runs."""
+    if not harness.is_there():
+        pytest.skip("HAProxy or openssl isn't here")
     folder = tmp_path_factory.mktemp(request.param)
     folder.chmod(0o755)
-    before = request.config.getoption("--before")
-    made = (
-        Before(folder, request.config.getoption("--program"), before)
-        if before
-        else Stage(folder, request.config.getoption("--program"), request.param)
-    )
+    before = request.config.getoption("--before", None)
+    made = Before(folder, program, before) if before else Stage(folder, program, request.param)
     try:
         made.fill()
         yield made
@@ -110,17 +92,17 @@ def quiet(stage: Stage) -> Stage:
 @pytest.fixture(scope="session")
 def size(request: pytest.FixtureRequest) -> int:
     """How much larger than on a shared machine floods are."""
-    return 10 if request.config.getoption("--full") else 1
+    return 10 if request.config.getoption("--full", None) else 1
 
 
 @pytest.fixture(scope="session")
 def seconds(request: pytest.FixtureRequest) -> float:
     """How long a flood lasts whose polls are counted."""
-    return 10 if request.config.getoption("--full") else 3
+    return 10 if request.config.getoption("--full", None) else 3
 
 
 @pytest.fixture(scope="session")
 def least(request: pytest.FixtureRequest) -> float:
     """The share of their polls that devices have beside a flood at least. The flood takes processors itself: the gate's
     machine may have two, which other work shares."""
-    return 1 / 4 if request.config.getoption("--full") else 1 / 10
+    return 1 / 4 if request.config.getoption("--full", None) else 1 / 10

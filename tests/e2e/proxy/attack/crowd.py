@@ -7,7 +7,7 @@ import time
 from dataclasses import dataclass
 from typing import Callable, TypeVar
 
-from stage import DEVICES, Link, Stage
+from .stage import DEVICES, Link, Stage
 
 T = TypeVar("T")
 

@@ -1,21 +1,18 @@
 """A form of the edge before the program, and how it is asked: whole requests as bytes, so that nothing is put right. Not
 run by itself."""
 
-import base64
 import csv
 import json
 import re
 import socket
-import ssl
 import subprocess
-import sys
 import threading
 from pathlib import Path
 from typing import Callable
 
-ROOT = Path(__file__).resolve().parents[4]
-sys.path[:0] = [str(ROOT / "tests")]
+from harness import ROOT, http_client
 from harness import edge as harness
+from harness.http_client import trust_all
 from harness.processes import HOST, PATIENCE, eventually, free_port, listens
 
 PASSWORD = "to-test-the-edge"
@@ -42,20 +39,12 @@ ARTIFACT = 1 << 16
 CONDITION = {"condition": "THRESHOLD", "expression": "50"}
 
 
-def make_context() -> ssl.SSLContext:
-    """TLS that trusts everybody."""
-    context = ssl.create_default_context()
-    context.check_hostname, context.verify_mode = False, ssl.CERT_NONE
-    return context
-
-
-TLS = make_context()
+TLS = trust_all()
 
 
 def login(name: str, password: str = PASSWORD) -> str:
     """The line of a head with a login."""
-    told = base64.b64encode(f"{name}:{password}".encode()).decode()
-    return f"Authorization: Basic {told}\r\n"
+    return f"Authorization: {http_client.login(name, password)['Authorization']}\r\n"
 
 
 def token(device: int) -> str:

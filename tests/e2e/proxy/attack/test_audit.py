@@ -5,7 +5,7 @@ import re
 
 import pytest
 from harness.processes import eventually
-from stage import Stage, login
+from .stage import Stage, login
 
 pytestmark = [pytest.mark.e2e, pytest.mark.gate]
 # what a name may have in it that a reader of the journal, or his terminal, would take for something else

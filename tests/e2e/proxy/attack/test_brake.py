@@ -13,10 +13,10 @@ from collections import Counter
 from typing import Iterator
 
 import pytest
-from crowd import hold, load
+from .crowd import hold, load
 from harness.edge import FLEET
 from harness.processes import HOST, PATIENCE, eventually
-from stage import ROOT, Link, Stage, login
+from .stage import ROOT, Link, Stage, login
 
 pytestmark = [pytest.mark.e2e]
 

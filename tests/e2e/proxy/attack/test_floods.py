@@ -8,9 +8,9 @@ import time
 from typing import Iterator
 
 import pytest
-from crowd import compare, hold, load
+from .crowd import compare, hold, load
 from harness.processes import HOST, eventually
-from stage import DEVICES, Link, Stage, StandIn, token
+from .stage import DEVICES, Link, Stage, StandIn, token
 
 pytestmark = [pytest.mark.e2e]
 MEGABYTE = 1 << 20

@@ -9,9 +9,9 @@ from pathlib import Path
 from typing import Iterator
 
 import pytest
-from crowd import compare, hold, load
+from .crowd import compare, hold, load
 from harness.processes import HOST, PATIENCE, free_port
-from stage import GUESSED, TLS, Link, Stage, login
+from .stage import GUESSED, TLS, Link, Stage, login
 
 pytestmark = [pytest.mark.e2e]
 

@@ -9,10 +9,10 @@ import time
 from typing import Callable
 
 import pytest
-from crowd import load, run_beside
+from .crowd import load, run_beside
 from harness.processes import PATIENCE
-from shapes import make_shapes
-from stage import Stage
+from .shapes import make_shapes
+from .stage import Stage
 
 pytestmark = [pytest.mark.e2e]
 # never polled by a victim: a reply that names it is another's

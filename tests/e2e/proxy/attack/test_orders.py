@@ -14,7 +14,7 @@ from typing import Iterator
 
 import pytest
 from harness.processes import HOST, eventually, free_port, listens
-from stage import PASSWORD, Before, Stage, login
+from .stage import PASSWORD, Before, Stage, login
 
 pytestmark = [pytest.mark.e2e]
 WAYS = ("close", "reset", "in the head")

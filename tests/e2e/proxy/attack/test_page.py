@@ -3,7 +3,7 @@
 import hashlib
 
 import pytest
-from stage import ROOT, Stage, login
+from .stage import ROOT, Stage, login
 
 pytestmark = [pytest.mark.e2e, pytest.mark.gate, pytest.mark.forms("single", "fleets")]
 FILES = sorted(it.name for it in (ROOT / "web").iterdir() if it.is_file())

@@ -6,9 +6,9 @@ import time
 from collections import Counter
 
 import pytest
-from crowd import load
+from .crowd import load
 from harness.processes import eventually
-from stage import Stage, token
+from .stage import Stage, token
 
 pytestmark = [pytest.mark.e2e]
 

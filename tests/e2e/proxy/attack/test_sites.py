@@ -1,10 +1,9 @@
 """Requests that another site has a browser send, and names that somebody led here: at every way in."""
 
-import http.client
-
 import pytest
-from harness.processes import HOST
-from stage import Stage, login, token
+from harness import http_client
+
+from .stage import Stage, login, token
 
 pytestmark = [pytest.mark.e2e, pytest.mark.gate]
 FOREIGN = {
@@ -109,19 +108,16 @@ def test_devices_door_serves_devices(quiet: Stage) -> None:
 )
 def test_probes_reach_no_call(quiet: Stage, method: str, path: str, wanted: int) -> None:
     """What a pod's port for probes answers, which the whole cluster may ask."""
-    client = http.client.HTTPConnection(HOST, quiet.edge.health, timeout=40)
-    client.request(method, path, b"[]" if method in ("POST", "PUT") else None)
-    reply = client.getresponse()
-    told = reply.read()
-    assert reply.status == wanted and b"number" not in told, (reply.status, told)
+    body = b"[]" if method in ("POST", "PUT") else None
+    reply = http_client.ask(method, path, body, port=quiet.edge.health)
+    assert reply.status == wanted and b"number" not in reply.body, reply
 
 
 @pytest.mark.forms("pod")
 def test_probe_hands_no_body_on(quiet: Stage) -> None:
     """A GET with a body isn't one of a probe."""
-    client = http.client.HTTPConnection(HOST, quiet.edge.health, timeout=40)
-    client.request("GET", "/ready", b"[]", {"Content-Length": "2"})
-    assert client.getresponse().status == 400
+    fields = {"Content-Length": "2"}
+    assert http_client.ask("GET", "/ready", b"[]", fields, port=quiet.edge.health).status == 400
 
 
 @pytest.mark.gate

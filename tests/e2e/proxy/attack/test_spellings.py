@@ -3,7 +3,7 @@
 import itertools
 
 import pytest
-from stage import Stage, login
+from .stage import Stage, login
 
 pytestmark = [pytest.mark.e2e]
 METHODS = (
