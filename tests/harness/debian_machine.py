@@ -10,6 +10,8 @@ import time
 from collections.abc import Callable, Iterable
 from pathlib import Path
 
+from harness.processes import wait_for
+
 ROOT = Path("/var/tmp/fwdesk-debian")
 # what it has beside its base
 WITHIN = (
@@ -93,10 +95,11 @@ class Debian:
     @staticmethod
     def until(holds, seconds: float):
         """Waits until something holds, and gives what it then is."""
-        ends = time.monotonic() + seconds
-        while not (told := holds()) and time.monotonic() < ends:
-            time.sleep(0.2)
-        return told
+        return wait_for(holds, seconds, 0.2)
+
+    def journal(self) -> str:
+        """The end of its journal, for a test that fails."""
+        return self.does("journalctl -n 60 --no-pager")[1] if self.first_process() else ""
 
     def does(self, line: str, given: bytes | None = None) -> tuple[int, str]:
         """Runs a line of shell in it, and gives its status and what it says."""

@@ -8,14 +8,14 @@ import shutil
 import signal
 import subprocess
 import sys
-import time
 from dataclasses import dataclass, field
 from pathlib import Path
 from typing import Callable
 
-from harness.processes import HOST, PATIENCE, free_port, listens
+from harness import ROOT
+from harness.processes import HOST, children, eventually, free_port, listens
+from harness.tls import hashed, make_certificate
 
-ROOT = Path(__file__).resolve().parents[2]
 HAPROXY = ROOT / "deploy/haproxy"
 ALL = "look,steer,approve,hold"
 # each form, and the variables that make it
@@ -31,29 +31,6 @@ FLEET = "acme"
 def leave(_: str, text: str) -> str:
     """A file of the package as it is."""
     return text
-
-
-def hashed(password: str, kind: str = "-6") -> str:
-    """A password as a line of a userlist has it."""
-    words = ["openssl", "passwd", kind, password]
-    return subprocess.run(words, check=True, stdout=subprocess.PIPE, text=True).stdout.strip()
-
-
-def make_certificate(folder: Path) -> Path:
-    """server.pem, with a key of its own; also server.crt and server.key."""
-    key, crt, pem = (folder / f"server.{it}" for it in ("key", "crt", "pem"))
-    words = (
-        "req -x509 -nodes -newkey ec -pkeyopt ec_paramgen_curve:prime256v1 -days 2 -subj /CN=localhost "
-        "-addext subjectAltName=IP:127.0.0.1,DNS:localhost"
-    )
-    if not crt.exists():
-        subprocess.run(
-            ["openssl", *words.split(), "-keyout", key, "-out", crt],
-            check=True,
-            stderr=subprocess.DEVNULL,
-        )
-    pem.write_text(crt.read_text() + key.read_text())
-    return pem
 
 
 @dataclass
@@ -202,11 +179,9 @@ class Edge:
                 words, env=self.environment, stdout=audit, stderr=told, start_new_session=True
             )
         self.children.append(child)
-        until = time.monotonic() + PATIENCE
-        while not path.exists() or (name == "edge" and not self.is_open()):
-            said = own.read_text(errors="replace")[-900:]
-            assert child.poll() is None and time.monotonic() < until, f"no {path.name}: {said}"
-            time.sleep(0.02)
+        child.log = own  # type: ignore[attr-defined]
+        is_there = lambda: path.exists() and (name != "edge" or self.is_open())
+        eventually(f"the {name}'s {path.name}", is_there, child=child, pause=0.02)
         return child
 
     def is_open(self) -> bool:
@@ -215,10 +190,7 @@ class Edge:
 
     def workers(self, master: subprocess.Popen) -> list[int]:
         """The processes that a master has started."""
-        return [
-            int(it)
-            for it in Path(f"/proc/{master.pid}/task/{master.pid}/children").read_text().split()
-        ]
+        return sorted(children(master.pid))
 
     def memory(self, master: subprocess.Popen) -> int:
         """Resident memory of a master's processes, in bytes."""
@@ -231,10 +203,8 @@ class Edge:
         """Reloads the edge, as `systemctl reload haproxy` does."""
         before = self.workers(self.edge)
         self.edge.send_signal(signal.SIGUSR2)
-        until = time.monotonic() + PATIENCE
-        while not set(self.workers(self.edge)) - set(before):
-            assert time.monotonic() < until, "the edge isn't reloaded"
-            time.sleep(0.02)
+        is_new = lambda: set(self.workers(self.edge)) - set(before)
+        eventually("the edge's reload", is_new, pause=0.02)
 
     def audit(self) -> list[str]:
         """The lines of the audit so far."""
@@ -243,6 +213,11 @@ class Edge:
             for it in self.log.read_text(errors="replace").splitlines()
             if it.startswith("audit ")
         ]
+
+    def journal(self) -> str:
+        """The end of what both have said."""
+        logs = (self.folder / f"{it}.log" for it in ("edge", "desks"))
+        return "\n".join(it.read_text(errors="replace")[-900:] for it in logs if it.exists())
 
     def end(self) -> None:
         """Ends both, with all that they started."""

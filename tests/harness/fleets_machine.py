@@ -3,22 +3,19 @@ not run by itself.
 
 The package is installed there as on any machine, systemd starts the units, and both HAProxys run from the committed
 files. What asks them is the script itself, which moves into that Debian's network."""
-import base64
 import ctypes
-import http.client
 import json
 import multiprocessing
 import os
 import random
 import signal
-import ssl
 import sys
 import tempfile
 import time
 from pathlib import Path
 
-ROOT = Path(__file__).resolve().parents[2]
 from as_module import as_module
+from harness import ROOT, http_client
 from harness.debian_machine import Debian, make_root
 
 CLONE_NEWNET = 0x40000000
@@ -51,8 +48,6 @@ CapabilityBoundingSet=CAP_FOWNER
 EOF
 """
 BASE = "/DEFAULT/controller/v1"
-# how long a client waits, in seconds: longer than the proxies' own limits
-PATIENCE = 120
 # the longest that clients poll, in seconds: longer than any check takes on a busy machine
 LONGEST = 7200
 
@@ -214,26 +209,16 @@ class Machine(Debian):
 def ask(method, path, body=None, port=LOCAL, user=None, **fields):
     """Asks once, through the port without TLS and logins where nothing else is said,
     and gives the status and the body."""
-    if port == TLS:
-        it = http.client.HTTPSConnection(
-            "127.0.0.1", port, timeout=PATIENCE, context=ssl._create_unverified_context()
-        )
-    else:
-        it = http.client.HTTPConnection("127.0.0.1", port, timeout=PATIENCE)
+    trusted = http_client.trust_all() if port == TLS else None
+    own = {key.replace("_", "-"): value for key, value in fields.items()}
     if user:
-        fields["Authorization"] = login(user)
-    try:
-        it.request(
-            method, path, body, {key.replace("_", "-"): value for key, value in fields.items()}
-        )
-        reply = it.getresponse()
-        return reply.status, reply.read().decode(errors="replace")
-    finally:
-        it.close()
+        own["Authorization"] = login(user)
+    reply = http_client.ask(method, path, body, own, port=port, trusted=trusted)
+    return reply.status, reply.body.decode(errors="replace")
 
 
 def login(user, password=SECRET):
-    return "Basic " + base64.b64encode(f"{user}:{password}".encode()).decode()
+    return http_client.login(user, password)["Authorization"]
 
 
 def requests(names, devices, stop):

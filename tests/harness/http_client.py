@@ -73,13 +73,18 @@ def connect(
     host: str = HOST,
     trusted: ssl.SSLContext | None = None,
     seconds: float = SECONDS,
+    source: str | None = None,
 ) -> http.client.HTTPConnection:
-    """A connection to a port of this machine, by TLS if `trusted` says whom, or to a socket's path."""
+    """A connection to a port of this machine, by TLS if `trusted` says whom, or to a socket's path; from an address of
+    this machine."""
     if isinstance(to, Path):
         return LocalConnection(to, seconds)
+    own = (source, 0) if source else None
     if trusted:
-        return http.client.HTTPSConnection(host, to, timeout=seconds, context=trusted)
-    return http.client.HTTPConnection(host, to, timeout=seconds)
+        return http.client.HTTPSConnection(
+            host, to, timeout=seconds, context=trusted, source_address=own
+        )
+    return http.client.HTTPConnection(host, to, timeout=seconds, source_address=own)
 
 
 def exchange(
@@ -108,9 +113,10 @@ def ask(
     host: str = HOST,
     trusted: ssl.SSLContext | None = None,
     seconds: float = SECONDS,
+    source: str | None = None,
 ) -> Reply:
     """Asks once over a connection of its own: a port of this machine, or a socket's path."""
-    link = connect(port, host, trusted, seconds)
+    link = connect(port, host, trusted, seconds, source)
     try:
         return exchange(link, method, path, body, fields)
     finally:

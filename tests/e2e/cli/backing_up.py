@@ -13,7 +13,7 @@ import time
 from pathlib import Path
 
 from harness import http_client
-from harness.edge import make_certificate
+from harness.tls import make_certificate
 
 from .environment import CLI, HOST, eventually, free_port, listens, needs, packages
 

@@ -3,7 +3,7 @@ import json
 import re
 
 from harness import http_client
-from harness.edge import hashed
+from harness.tls import hashed
 
 from .environment import HOST, eventually, free_port, listens, needs, packages
 

@@ -5,7 +5,7 @@ import re
 import time
 
 from .environment import DEPLOY, Relay, needs, packages
-from harness.edge import make_certificate
+from harness.tls import make_certificate
 
 LINK = "https://desk.example:8443"
 

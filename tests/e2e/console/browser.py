@@ -9,6 +9,8 @@ from selenium.webdriver.chrome.options import Options
 from selenium.webdriver.chrome.service import Service
 from selenium.webdriver.common.by import By
 
+from harness.processes import wait_for
+
 from .environment import HOST, Environment
 
 
@@ -42,19 +44,14 @@ class Browser:
 
     def until(self, words: str, selector: str = "body", seconds: float = 30) -> float:
         """Waits until a place has these words; when that was."""
-        end = time.monotonic() + seconds
-        while time.monotonic() < end:
-            if words in self.text(selector):
-                return time.time()
-            time.sleep(0.05)
-        raise AssertionError(f"{words!r} never came; {selector} says {self.text(selector)[:900]!r}")
+        got = wait_for(lambda: words in self.text(selector) and time.time(), seconds)
+        assert got, f"{words!r} never came; {selector} says {self.text(selector)[:900]!r}"
+        return float(got)
 
     def until_not(self, words: str, selector: str = "body", seconds: float = 30) -> None:
         """Waits until a place is there that doesn't have these words."""
-        end = time.monotonic() + seconds
-        while not (text := self.text(selector)) or words in text:
-            assert time.monotonic() < end, f"{words!r} stays in {selector}"
-            time.sleep(0.05)
+        gone = lambda: (text := self.text(selector)) and words not in text
+        assert wait_for(gone, seconds), f"{words!r} stays in {selector}"
 
     def click(self, selector: str) -> None:
         self.driver.find_element(By.CSS_SELECTOR, selector).click()

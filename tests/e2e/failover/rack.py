@@ -14,8 +14,10 @@ import struct
 import subprocess
 import threading
 import time
+from pathlib import Path
 
 from harness.alone import said
+from harness.processes import wait_for
 
 HUB, PORT = "10.77.0.254", 7700
 # EXT4_IOC_SHUTDOWN, and to drop even what the journal has in memory
@@ -77,13 +79,12 @@ class Node:
             self.child = subprocess.Popen(
                 words, stdin=subprocess.DEVNULL, stdout=out, stderr=out, env=plain
             )
-        ends = time.monotonic() + 30
-        while not (
+        has_network = lambda: (
             self.first() and os.path.exists(f"/proc/{self.first()}/ns/net") and self.has_link()
-        ):
-            if self.child.poll() is not None or time.monotonic() > ends:
-                raise RuntimeError(f"{self.name} doesn't boot: {self.workdir}/{self.name}.out")
-            time.sleep(0.02)
+        )
+        boots = wait_for(lambda: has_network() or self.child.poll() is not None, 30, 0.02)
+        if not boots or self.child.poll() is not None:
+            raise RuntimeError(f"{self.name} doesn't boot: {self.workdir}/{self.name}.out")
         self.wire()
 
     def has_link(self):
@@ -131,14 +132,9 @@ class Node:
             self.child.wait()
         for it in self.loops:
             subprocess.run(["losetup", "-d", it], stderr=subprocess.DEVNULL, check=False)
-        ends = time.monotonic() + 30
-        while any(
-            os.path.exists(f"/sys/block/{os.path.basename(it)}/loop/backing_file")
-            for it in self.loops
-        ):
-            if time.monotonic() > ends:
-                raise TimeoutError("its devices are still in use")
-            time.sleep(0.02)
+        backing = [Path("/sys/block", Path(it).name, "loop/backing_file") for it in self.loops]
+        if not wait_for(lambda: not any(it.exists() for it in backing), 30, 0.02):
+            raise TimeoutError("its devices are still in use")
         self.loops = []
 
     def does(self, order):

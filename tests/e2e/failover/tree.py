@@ -5,6 +5,7 @@ import subprocess
 from pathlib import Path
 
 from harness.alone import said
+from harness.tls import make_certificate
 
 HERE = Path(__file__).resolve().parent
 DEPLOY = HERE.parents[2] / "deploy"
@@ -106,11 +107,8 @@ def put_proxies(root, fleets):
 
 
 def certificate(root):
-    key, crt = root / "etc/fwdesk/server.key", root / "etc/fwdesk/server.crt"
-    key.parent.mkdir(exist_ok=True)
-    words = "openssl req -x509 -newkey ec -pkeyopt ec_paramgen_curve:prime256v1 -nodes -subj /CN=fwdesk -days 30"
-    said(*words.split(), "-keyout", key, "-out", crt)
-    put(root, "etc/fwdesk/server.pem", crt.read_bytes() + key.read_bytes(), 0o644)
+    made = make_certificate(root / "etc/fwdesk", subject="/CN=fwdesk")
+    put(root, "etc/fwdesk/server.pem", made.read_bytes(), 0o644)
 
 
 def prepare(root, program, addresses, token):

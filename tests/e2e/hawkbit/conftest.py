@@ -3,7 +3,7 @@ program (default: crates/fwdesk/out/fwdesk). They need haproxy, nginx and openss
 debootstrap and systemd-container."""
 
 import pytest
-from harness.edge import make_certificate
+from harness.tls import make_certificate
 
 from . import stage
 

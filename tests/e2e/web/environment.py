@@ -9,8 +9,9 @@ from pathlib import Path
 
 from harness import ROOT, http_client
 from harness.desk import serving, start_brake
-from harness.edge import ALL, Edge, hashed, make_certificate
+from harness.edge import ALL, Edge
 from harness.processes import HOST, PATIENCE, Processes, eventually, free_port, listens, terminate
+from harness.tls import hashed, make_certificate
 
 from .operators import with_operators
 from .places import LOGIN

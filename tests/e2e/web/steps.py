@@ -1,5 +1,5 @@
 """The register of cases, and the steps that many of them take. Not run by itself."""
-import time
+from harness.processes import wait_for
 
 from .places import LOGIN
 
@@ -66,9 +66,7 @@ def compared(browser, env, rollout=1):
         "open": sum(left(it) for it in groups if not waits(it)),
         "waiting": sum(left(it) for it in groups if waits(it)),
     }
-    limit = time.monotonic() + 12
-    while shown_counts(browser, "main") != total and time.monotonic() < limit:
-        time.sleep(0.2)
+    wait_for(lambda: shown_counts(browser, "main") == total, 12, 0.2)
     assert shown_counts(browser, "main") == total, (shown_counts(browser, "main"), total)
     browser.until(
         "document.querySelector('main .badge').innerText.includes(arguments[0])",
