@@ -26,12 +26,8 @@ fault:    ## fault injection: memory, reads, writes, syncs; truncated files
 	tests/fault/truncate --program $(PROGRAM) file
 mutants:  ## the prover rejects each mutant of the gate
 	tests/mutation/run
-e2e:      ## end to end, on this machine: command line, web UI in Chromium, proxies
-	tests/e2e/cli/run --program $(PROGRAM)
-	tests/e2e/web/run --program $(PROGRAM)
-	tests/e2e/proxy/roles --program $(PROGRAM)
-	tests/e2e/proxy/mtls --program $(PROGRAM)
-	tests/e2e/proxy/hold-chaos --program $(PROGRAM)
+e2e:      ## end to end, on this machine, four at the same time: command line, web UI, proxies, console, hawkBit
+	tests/run e2e/cli e2e/web e2e/proxy e2e/console e2e/hawkbit e2e/device_client --program $(PROGRAM) -n 4
 load:     ## load: ten thousand devices at the same time, slow clients, wrong passwords
 	tests/load/thundering-herd --program $(PROGRAM)
 bench:    ## speed and memory beside the same server in C

@@ -4,17 +4,22 @@ import pytest
 
 
 from .browser import Browser
-from .environment import PROGRAM, Environment
+from .environment import Environment
 
 
 @pytest.fixture(scope="module")
-def env(tmp_path_factory):
-    """One env for a file, with twenty devices. Without a program the tests fail: FWDESK_PROGRAM names it."""
-    assert PROGRAM.exists(), f"{PROGRAM} isn't there: FWDESK_PROGRAM names the program"
+def console(program, tmp_path_factory):
+    """The console behind the edge before the program, with twenty devices: one for a file."""
     made = Environment(tmp_path_factory.mktemp("env"))
     made.make_fleet(20)
     yield made
     made.end()
+
+
+@pytest.fixture(scope="module")
+def env(console):
+    """The same by the name that the tests of the console have for it."""
+    return console
 
 
 @pytest.fixture
