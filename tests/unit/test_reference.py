@@ -153,6 +153,20 @@ def test_the_description_has_the_refusals():
         made.describe_refusals(found, tables().refusals)
 
 
+def test_a_response_that_a_call_names_by_a_variant_is_made():
+    found = document()
+    found["paths"] = {
+        "/lamps": {"get": {"responses": {"413": {"$ref": "#/components/responses/TooBright"}}}}
+    }
+    made.add_responses(found, tables().refusals)
+    made.describe_refusals(found, tables().refusals)
+    response = found["components"]["responses"]["TooBright"]
+    same(response["description"], "`bright` (2)")
+    schema = response["content"]["application/json"]["schema"]
+    same(schema, {"$ref": "#/components/schemas/bright"})
+    same(found["components"]["schemas"]["bright"]["properties"]["number"], {"const": 2})
+
+
 def test_the_description_has_the_limits_and_no_others():
     found = document()
     made.put_limits(found, limits())
