@@ -7,15 +7,15 @@ import logging
 import re
 import zlib
 from collections.abc import AsyncIterator, Awaitable, Callable
-from dataclasses import dataclass, field
+from dataclasses import dataclass, field, replace
 from pathlib import Path
 from typing import Any
 
 from aiohttp import web
 
 from fwdesk_hawkbit import rsql
-from fwdesk_hawkbit.desk import PAGE, AsOperator, Calls, Desk, R
-from fwdesk_hawkbit.devices import HOST, WORD
+from fwdesk_hawkbit.desk import PAGE, AsOperator, Calls, OfFleet, R
+from fwdesk_hawkbit.devices import HOST, WORD, key_of
 from fwdesk_hawkbit.faults import Fault
 from fwdesk_hawkbit.kept import Kept
 from fwdesk_hawkbit.sums import Artifacts
@@ -30,6 +30,10 @@ GREATEST = 2_147_483_647
 OPTIONAL = ("rollout", "rolloutname", "rollout.id", "rollout.name")
 # the bytes of a request that isn't an upload: 1,000 targets with long names
 BODY = 1 << 20
+# of one of many fleets: its name, what stands before a path that names it, and how many are known at most
+FLEET = re.compile(r"[a-z0-9]{1,24}", re.ASCII)
+PREFIX = re.compile(r"(/fleets/[a-z0-9]{1,24})?", re.ASCII)
+FLEETS = 1000
 GATEWAY = "gateway"
 
 
@@ -37,7 +41,7 @@ GATEWAY = "gateway"
 class Gateway:
     """All that a request of the management needs."""
 
-    desk: Desk
+    desk: Calls
     artifacts: Artifacts
     kept: Kept
     # the key that makes the tokens of targets which come without one
@@ -56,9 +60,23 @@ class Gateway:
     # the actions of rollouts that have ended: they never change again
     ended: dict[int, list[dict[str, str]]] = field(default_factory=dict)
     # the way for what devices ask, where it isn't the desk's
-    door: Desk | None = None
+    door: Calls | None = None
     # what the first order of a login that may steer begins with; None when it is done
     tidies: Callable[["Call"], Awaitable[None]] | None = None
+    # of many fleets each one's own, by its name
+    fleets: dict[str, "Gateway"] = field(default_factory=dict)
+
+    def of(self, fleet: str) -> "Gateway":
+        """The same of one of many fleets, which shares with the others the images alone, and how much is done at once."""
+        if fleet not in self.fleets:
+            if not FLEET.fullmatch(fleet) or len(self.fleets) >= FLEETS:
+                raise Fault("body", "X-Fleet is no fleet")
+            own: dict[str, Any] = {"locks": {}, "ended": {}, "fleets": {}}
+            own |= {"desk": OfFleet(self.desk, fleet), "kept": self.kept.of(fleet)}
+            own |= {"door": OfFleet(self.door, fleet) if self.door else None}
+            own |= {"key": self.key and key_of(self.key, fleet)}
+            self.fleets[fleet] = replace(self, **own)
+        return self.fleets[fleet]
 
     @property
     def devices(self) -> Calls:
@@ -114,6 +132,9 @@ class Call:
     def __init__(self, request: web.Request) -> None:
         self.request, self.query = request, request.query
         self.gateway: Gateway = request.app[GATEWAY]
+        # of many fleets the edge says which; of a single desk it takes this field away
+        if (fleet := request.headers.get("X-Fleet", "")) and not self.gateway.is_lab:
+            self.gateway = self.gateway.of(fleet)
         self.desk, self.kept = AsOperator(self.gateway.desk, self.login()), self.gateway.kept
 
     def login(self) -> dict[str, str]:
@@ -163,10 +184,11 @@ class Call:
         """A whole address, of the host that was asked."""
         fields = self.request.headers
         host = fields.get("X-Forwarded-Host", self.request.host)
-        if not HOST.fullmatch(host):
+        base = fields.get("X-Forwarded-Prefix", "")
+        if not HOST.fullmatch(host) or not PREFIX.fullmatch(base):
             raise Fault("body", "Host is no host")
         scheme = fields.get("X-Forwarded-Proto", self.request.scheme)
-        return {"href": f"{'https' if scheme == 'https' else 'http'}://{host}{R}/{path}"}
+        return {"href": f"{'https' if scheme == 'https' else 'http'}://{host}{base}{R}/{path}"}
 
     def links(self, place: str, *names: str) -> Json:
         """The links of what lies at a place."""

@@ -3,7 +3,7 @@
     fwdesk-hawkbit --devices [--desk URL] [--reads URL] [--firmware FOLDER] [--kept FOLDER] [..]
     fwdesk-hawkbit --manage  [--desk URL] [--door URL] [--firmware FOLDER] [--kept FOLDER] [--key FILE] [--hide] [..]
     fwdesk-hawkbit --lab     [--program PATH] [--port N] [--hide] [--register]
-    fwdesk-hawkbit --tokens ID.. --key FILE
+    fwdesk-hawkbit --tokens ID.. --key FILE [--fleet NAME]
 
 --devices  serves swupdate, rauc-hawkbit-updater and other clients of hawkBit's device interface; nginx stands before it
 --manage   serves what pipelines call of hawkBit's Management API; HAProxy stands before it, and between it and the desk:
@@ -23,7 +23,7 @@ from pathlib import Path
 from aiohttp import web
 
 from fwdesk_hawkbit import devices, lab, manage, serve
-from fwdesk_hawkbit.calls import Gateway
+from fwdesk_hawkbit.calls import FLEET, Gateway
 from fwdesk_hawkbit.desk import Desk
 from fwdesk_hawkbit.kept import Kept
 from fwdesk_hawkbit.sums import Artifacts
@@ -59,6 +59,9 @@ def options() -> argparse.ArgumentParser:
     add("--firmware", metavar="FOLDER", type=Path, default=Path("/srv/firmware"))
     add("--kept", metavar="FOLDER", type=Path, help="what is kept (default: in memory alone)")
     add("--key", metavar="FILE", type=Path, help="32 bytes or more, of which tokens are made")
+    add(
+        "--fleet", metavar="NAME", default="", help="of many fleets the one whose --tokens they are"
+    )
     add("--gateway-token", metavar="FILE", type=Path, help="the token that any device may come by")
     add("--register", action="store_true", help="who comes by it and isn't there is made a target")
     add("--polling", metavar="HH:MM:SS", default="00:05:00", help="told in polls that come by here")
@@ -89,6 +92,8 @@ def check(order: argparse.Namespace) -> None:
         wrong = "--register needs --gateway-token"
     if order.tokens and not order.key:
         wrong = "--tokens needs --key"
+    if order.fleet and not (order.tokens and FLEET.fullmatch(order.fleet)):
+        wrong = "--fleet is for --tokens, and has 1 to 24 small letters and digits"
     if order.hide and not (order.manage or order.lab):
         wrong = "--hide is for --manage and --lab"
     if not re.fullmatch(r"[0-9]{2}:[0-5][0-9]:[0-5][0-9]", order.polling, re.ASCII):
@@ -137,7 +142,7 @@ def main() -> None:
         print(HIDING, file=sys.stderr, flush=True)
     if order.tokens:
         assert key is not None
-        print_tokens(key, order.tokens)
+        print_tokens(devices.key_of(key, order.fleet), order.tokens)
     elif order.lab:
         lab.run(order.program, order.port, order.hide, order.register, order.largest)
     else:

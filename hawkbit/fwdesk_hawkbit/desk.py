@@ -12,6 +12,9 @@ import aiohttp
 from fwdesk_hawkbit.faults import OF_NUMBER, Fault
 
 R = "/rest/v1"
+# the field of how often targets were written: HAProxy before the desk tells it of a read that has the field, and refuses a
+# write that has another number (deploy/haproxy/desks). Without HAProxy nobody tells it
+TARGETS, CHANGED = "X-Fwdesk-Targets", 412
 # the number of seconds until a desk that says nothing is given up
 PATIENCE = 60
 # the number of things that the desk tells in one page at most
@@ -28,6 +31,8 @@ class Reply:
     later: str | None = None
     # where one HAProxy leads to many fleets, the fleet whose desk it was
     fleet: str = ""
+    # how often targets had been written when it was asked, where that was asked too
+    targets: str | None = None
 
     def read(self) -> Any:
         """The object of it; a Fault where it has another form than the desk's answers have."""
@@ -42,6 +47,9 @@ class Calls:
 
     # what a refusal of the edge is to hawkBit, by its status: it has no number. Any other one is a fault of the desk
     refusals: dict[int, str] = {}
+
+    async def close(self) -> None:
+        """Ends its connections, where it has some of its own."""
 
     async def raw(
         self,
@@ -60,6 +68,10 @@ class Calls:
         told = await self.raw(
             method, path, body, query={key: str(it) for key, it in query.items()} or None
         )
+        return self.need_success(told, path)
+
+    def need_success(self, told: Reply, path: str) -> Reply:
+        """An answer that is a success; a Fault in hawkBit's words of anything else."""
         if told.status < 300:
             return told
         said = told.read() if told.kind == "application/json" else {}
@@ -88,6 +100,15 @@ class Calls:
             if why.number == 3:
                 return None
             raise
+
+    async def writes_targets(self, rows: Any, seen: str | None) -> bool:
+        """Writes targets, or tells that others did since `seen` was told. A file of them is an import."""
+        path = "/desk/v1/import" if isinstance(rows, bytes) else f"{R}/targets"
+        told = await self.raw("POST", path, rows, fields={TARGETS: seen} if seen else None)
+        if told.status == CHANGED:
+            return False
+        self.need_success(told, path)
+        return True
 
     async def every(self, path: str, **query: Any) -> list[Any]:
         """All things of a list, by its pages."""
@@ -151,7 +172,8 @@ class Desk(Calls):
                     method, self.url + path, data=data, headers=told, params=query
                 ) as it:
                     later, fleet = it.headers.get("Retry-After"), it.headers.get("X-Fleet", "")
-                    return Reply(it.status, it.content_type, await it.read(), later, fleet)
+                    targets = it.headers.get(TARGETS)
+                    return Reply(it.status, it.content_type, await it.read(), later, fleet, targets)
             except (aiohttp.ClientError, asyncio.TimeoutError, ValueError) as error:
                 if not again or isinstance(error, asyncio.TimeoutError):
                     logging.warning("%s %s: %r", method, path, error)
@@ -175,6 +197,24 @@ class OnBehalf(Calls):
         fields: dict[str, str] | None = None,
     ) -> Reply:
         return await self.desk.raw(method, path, body, token, query, self.fields | (fields or {}))
+
+
+class OfFleet(Calls):
+    """The desk of one of many fleets: its name stands before each path, and HAProxy leads by that."""
+
+    def __init__(self, desk: Calls, fleet: str) -> None:
+        self.desk, self.base = desk, f"/fleets/{fleet}"
+
+    async def raw(
+        self,
+        method: str,
+        path: str,
+        body: Any = None,
+        token: str | None = None,
+        query: dict[str, str] | None = None,
+        fields: dict[str, str] | None = None,
+    ) -> Reply:
+        return await self.desk.raw(method, self.base + path, body, token, query, fields)
 
 
 class AsOperator(OnBehalf):

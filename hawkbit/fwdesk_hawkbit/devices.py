@@ -17,7 +17,7 @@ from typing import Any
 from aiohttp import web
 
 from fwdesk_hawkbit import kinds, words
-from fwdesk_hawkbit.desk import Calls, Desk, OnBehalf, R, Reply
+from fwdesk_hawkbit.desk import TARGETS, Calls, Desk, OnBehalf, R, Reply
 from fwdesk_hawkbit.faults import Fault
 from fwdesk_hawkbit.sums import STUB, Artifacts, Sums
 
@@ -31,6 +31,8 @@ KIND_STAYS, SAID_STAYS = 60.0, 86_400.0
 KNOWN = 20_000
 # a request's body, in bytes
 BODY = 65_536
+# how often a registration is begun anew, since somebody else wrote targets meanwhile
+TRIES = 5
 # of a target, by the limits of the desk
 ATTRIBUTES = 32
 OCTETS = "application/octet-stream"
@@ -59,6 +61,11 @@ def token_of(key: bytes, who: str) -> str:
     return hmac.new(key, who.encode(), hashlib.sha256).hexdigest()[:32]
 
 
+def key_of(key: bytes, fleet: str) -> bytes:
+    """The key of one of many fleets: who is told a token of one knows none of another. A single desk has the key itself."""
+    return hmac.new(key, f"fleet {fleet}".encode(), hashlib.sha256).digest() if fleet else key
+
+
 @dataclass
 class Service:
     """All that a device's request needs."""
@@ -74,6 +81,8 @@ class Service:
     # whether who comes by the gateway token and isn't there yet is made a target
     registers: bool = False
     kind_of_rollout: Recent = field(default_factory=lambda: Recent(KIND_STAYS))
+    # the fleets of those who came by the gateway token
+    fleet_of: Recent = field(default_factory=lambda: Recent(KIND_STAYS))
     said: Recent = field(default_factory=lambda: Recent(SAID_STAYS))
     registering: asyncio.Lock = field(default_factory=asyncio.Lock)
 
@@ -127,16 +136,35 @@ class Device:
             raise web.HTTPUnauthorized()
         if not hmac.compare_digest(right.encode(), self.token.encode(errors="replace")):
             raise web.HTTPUnauthorized()
-        self.token = token_of(key, self.who)
+        fleet = self.service.fleet_of.get(self.who)
         if self.service.registers:
-            await self.register()
+            async with self.service.registering:
+                fleet = await self.register(key)
+        elif fleet is None:
+            fleet = (await self.look()).fleet
+        self.service.fleet_of.put(self.who, fleet)
+        self.token = token_of(key_of(key, fleet), self.who)
 
-    async def register(self) -> None:
-        """Makes a target of it where there is none. One that is there is left as it is."""
-        async with self.service.registering:
-            if await self.reads.maybe(f"{R}/targets/{self.who}") is None:
-                row = {"controllerId": self.who, "name": self.who, "tags": []}
-                await self.reads.ask("POST", f"{R}/targets", [row | {"securityToken": self.token}])
+    async def look(self) -> Reply:
+        """What the desk says of its target, and how often targets were written there."""
+        return await self.reads.raw("GET", f"{R}/targets/{self.who}", fields={TARGETS: "asked"})
+
+    async def register(self, key: bytes) -> str:
+        """Makes a target of it where there is none, and tells its fleet. One that is there is left as it is.
+
+        The desk would write over it, so the HAProxy before the desk refuses what is written behind another writer, and
+        then it is looked for once more."""
+        for _ in range(TRIES):
+            there = await self.look()
+            if there.status == 200:
+                return there.fleet
+            if there.status != 404:
+                raise Fault("desk", f"the desk: {there.status} for target {self.who}")
+            token = token_of(key_of(key, there.fleet), self.who)
+            row = {"controllerId": self.who, "name": self.who, "tags": []}
+            if await self.reads.writes_targets([row | {"securityToken": token}], there.targets):
+                return there.fleet
+        raise Fault("desk", "others write targets all the time: ask again")
 
     async def raw(self, method: str, rest: str = "", body: Any = None) -> bytes:
         """The bytes of a success; the desk's refusals go on as they are."""

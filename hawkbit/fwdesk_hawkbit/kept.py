@@ -14,20 +14,24 @@ class Kept:
     """Names of tags, and what is hidden, in a file that is there whole or not at all."""
 
     def __init__(self, folder: Path | None) -> None:
+        self.folder = folder
         self.path = None if folder is None else folder / "manage.json"
         self.tags: set[str] = set()
         self.hidden: set[tuple[str, int]] = set()
-        if folder is not None:
-            folder.mkdir(parents=True, exist_ok=True)
         if self.path is not None and self.path.exists():
             held: dict[str, Any] = json.loads(self.path.read_text(encoding="utf-8"))
             self.tags = set(held["tags"])
             self.hidden = {(kind, number) for kind, number in held["hidden"]}
 
+    def of(self, fleet: str) -> "Kept":
+        """What one of many fleets keeps, in a folder of its own that is made when there is something."""
+        return Kept(self.folder and self.folder / "fleets" / fleet)
+
     def write(self) -> None:
         """Durable when this is over."""
         if self.path is None:
             return
+        self.path.parent.mkdir(parents=True, exist_ok=True)
         beside = self.path.with_name(f".{self.path.name}.{os.getpid()}.new")
         with open(beside, "w", encoding="utf-8") as file:
             json.dump({"tags": sorted(self.tags), "hidden": sorted(self.hidden)}, file)

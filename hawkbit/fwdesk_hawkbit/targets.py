@@ -22,8 +22,9 @@ from fwdesk_hawkbit.calls import (
     refuse,
     values,
 )
+from fwdesk_hawkbit.desk import TARGETS as TOLD
 from fwdesk_hawkbit.desk import R
-from fwdesk_hawkbit.devices import TOKEN, WORD, token_of
+from fwdesk_hawkbit.devices import TOKEN, TRIES, WORD, token_of
 from fwdesk_hawkbit.faults import Fault
 
 # how many targets the desk takes in one request; more go as a file, which is one command too
@@ -126,10 +127,15 @@ async def add_targets(c: Call) -> tuple[int, list[Json]]:
     if len(rows) > MOST:
         raise Fault("quota", f"a desk has {MOST} targets")
     async with c.gateway.alone("targets"):
-        held = {it["controllerId"] for it in await all_or_these(c, rows)}
-        if held & {it["controllerId"] for it in rows}:
-            raise Fault("exists", "The given entity already exists in database")
-        await write_targets(c, rows)
+        for _ in range(TRIES):
+            seen = await written(c)
+            held = {it["controllerId"] for it in await all_or_these(c, rows)}
+            if held & {it["controllerId"] for it in rows}:
+                raise Fault("exists", "The given entity already exists in database")
+            if await write_targets(c, rows, seen):
+                break
+        else:
+            raise busy()
     shows = c.may_steer()
     fresh = {"attributes": {}, "updateStatus": "unknown"}
     return 201, [
@@ -150,15 +156,25 @@ async def all_or_these(c: Call, rows: list[Json]) -> list[Json]:
     return [it for it in held if it is not None and GONE not in it["tags"]]
 
 
-async def write_targets(c: Call, rows: list[Json]) -> None:
-    """One command, so that all are there or none."""
+def busy() -> Fault:
+    return Fault("desk", "others write targets all the time: ask again")
+
+
+async def written(c: Call) -> str | None:
+    """How often targets have been written by now, where HAProxy before the desk tells that."""
+    path, query = f"{R}/targets", {"limit": "1"}
+    told = await c.desk.raw("GET", path, query=query, fields={TOLD: "asked"})
+    return c.desk.need_success(told, path).targets
+
+
+async def write_targets(c: Call, rows: list[Json], seen: str | None) -> bool:
+    """One command, so that all are there or none. False where others wrote targets since `seen` was told."""
     if len(rows) <= AT_ONCE:
-        await c.desk.ask("POST", f"{R}/targets", rows)
-        return
+        return await c.desk.writes_targets(rows, seen)
     out = csv.writer(text := io.StringIO(), lineterminator="\n")
     out.writerow(("controllerid", "name", "token", "tags"))
     out.writerows((it["controllerId"], it["name"], it["securityToken"], "") for it in rows)
-    await c.desk.ask("POST", "/desk/v1/import", text.getvalue().encode())
+    return await c.desk.writes_targets(text.getvalue().encode(), seen)
 
 
 @on("GET", "targets/{who}")
@@ -172,14 +188,19 @@ async def change_target(c: Call, who: str) -> Json:
     asked = await c.object()
     refuse(asked, targetType="isn't kept", requestAttributes="a device is asked at each poll")
     async with c.gateway.alone("targets"):
-        it = await find_target(c, who)
-        token = asked.get("securityToken") or await own_token(c, who)
-        if not token:
-            why = "a name is written together with the token, which only the device knows here: "
-            raise Fault("read only", f"{why}give securityToken too")
-        named = {"controllerId": who, "name": asked.get("name") or it["name"]}
-        row = row_of(c, named | {"securityToken": token}) | {"tags": it["tags"]}
-        await c.desk.ask("POST", f"{R}/targets", [row])
+        for _ in range(TRIES):
+            seen = await written(c)
+            it = await find_target(c, who)
+            token = asked.get("securityToken") or await own_token(c, who)
+            if not token:
+                why = "a name is written together with the token, which only the device knows here"
+                raise Fault("read only", f"{why}: give securityToken too")
+            named = {"controllerId": who, "name": asked.get("name") or it["name"]}
+            row = row_of(c, named | {"securityToken": token}) | {"tags": it["tags"]}
+            if await c.desk.writes_targets([row], seen):
+                break
+        else:
+            raise busy()
     held = it | {"name": row["name"]}
     return show_target(c, held, token if c.may_steer() else None)
 

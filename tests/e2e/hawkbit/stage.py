@@ -7,6 +7,7 @@ import os
 import subprocess
 import threading
 import time
+from collections.abc import Callable
 from dataclasses import dataclass, field
 from pathlib import Path
 from typing import Any
@@ -155,7 +156,7 @@ class Between:
         if isinstance(does, tuple):
             self.send(it, *does)
             return
-        keeps = ("authorization", "content-type", "host", "x-fwdesk-device")
+        keeps = ("authorization", "content-type", "host", "x-fwdesk-device", "x-fwdesk-targets")
         to = self.to if it.path.startswith("/DEFAULT/") or self.reads is None else self.reads
         fields = {key: value for key, value in it.headers.items() if key.lower() in keeps}
         with self.turn:
@@ -176,8 +177,9 @@ class Between:
         it.send_response(status)
         it.send_header("Content-Type", kind)
         it.send_header("Content-Length", str(len(body)))
-        if fields and "retry-after" in fields:
-            it.send_header("Retry-After", fields["retry-after"])
+        for name in ("retry-after", "x-fwdesk-targets"):
+            if fields and name in fields:
+                it.send_header(name, fields[name])
         it.end_headers()
         it.wfile.write(body)
 
@@ -190,11 +192,12 @@ class Gateway:
     """fwdesk-hawkbit on a port of its own; `more` are further words of its command line."""
 
     def __init__(
-        self, processes: Processes, folder: Path, mode: str, desk: int, *more: str
+        self, processes: Processes, folder: Path, mode: str, desk: int | str, *more: str
     ) -> None:
         self.processes, self.folder, self.port = processes, folder, free_port()
         folder.mkdir(parents=True, exist_ok=True)
-        self.words = [str(GATEWAY), f"--{mode}", "--desk", f"http://{HOST}:{desk}"]
+        place = desk if isinstance(desk, str) else f"http://{HOST}:{desk}"
+        self.words = [str(GATEWAY), f"--{mode}", "--desk", place]
         self.words += ["--listen", f"{HOST}:{self.port}", *more]
         self.start()
 
@@ -255,10 +258,13 @@ class HAProxy:
         more: dict[str, str] | None = None,
         form: str = "single",
         fleets: dict[str, int] | None = None,
+        prepare: Callable[[edge.Edge], None] = lambda _: None,
     ) -> None:
+        """`prepare` changes the files of it before it starts."""
         self.hawkbit = free_port()
         own = {
             "FWDESK_LOCAL_PORT": str(free_port()),
+            "FWDESK_HAWKBIT_MANAGE": "1",
             "FWDESK_HAWKBIT_BIND": f"{HOST}:{self.hawkbit}",
         }
         self.edge = edge.Edge(
@@ -268,10 +274,9 @@ class HAProxy:
         self.reads = self.edge.run / "fwdesk/hawkbit.sock"
         # the console's part, which no test here asks
         (self.edge.folder / "edge/50-console.cfg").unlink(missing_ok=True)
-        text = (ROOT / "deploy/haproxy/hawkbit.cfg").read_text()
-        (self.edge.folder / "edge/90-hawkbit.cfg").write_text(text)
         self.door = self.edge.run / "fwdesk-hawkbit/manage.sock"
         self.door.parent.mkdir()
+        prepare(self.edge)
         self.edge.start()
 
     def brake(self, verb: str) -> None:

@@ -480,6 +480,69 @@ def test_two_gateways_register_one_device_at_once(env):
     assert [it.device("beside", "GET", **fields).status for it in doors] == [200, 200]
 
 
+def imports(env, *names):
+    """A file of these targets, each with a token of its own, as `device` shows it."""
+    rows = "".join(f"{it},Of the file,tok-{it},file\n" for it in names)
+    text = f"controllerid,name,token,tags\n{rows}".encode()
+    told = ask(env.desk.way, "POST", "/desk/v1/import", text)
+    assert told.status == 200, told
+
+
+def is_of_the_file(env, who):
+    it = env.desk.ask("GET", f"/targets/{who}")
+    assert (it["name"], it["tags"]) == ("Of the file", ["file"])
+    assert env.plain.device(who, "GET").status == 200, "its token is another one"
+
+
+def test_a_registration_writes_over_no_target_that_is_imported_meanwhile(env):
+    """Behind the look that found none, and before the write."""
+    fields, who = {"Authorization": f"GatewayToken {TOKEN}"}, "raced"
+
+    def rule(call):
+        if call == "POST /rest/v1/targets":
+            env.between.rule = None
+            imports(env, who)
+
+    env.between.rule = rule
+    assert env.open.device(who, "GET", **fields).status == 401, "it has a token of its own"
+    is_of_the_file(env, who)
+
+
+def test_a_target_that_registered_takes_the_token_of_a_later_import(env):
+    fields, who = {"Authorization": f"GatewayToken {TOKEN}"}, "registered-first"
+    assert env.open.device(who, "GET", **fields).status == 200
+    imports(env, who)
+    assert env.open.device(who, "GET", **fields).status == 401
+    is_of_the_file(env, who)
+
+
+def test_imports_beside_registrations_by_two_services(env):
+    """Past the test's own look, so that all come at the same time. In the end each target is the one of the file."""
+    fields = {"Authorization": f"GatewayToken {TOKEN}"}
+    words = ["--firmware", str(env.images), "--reads", str(env.haproxy.reads), "--register"]
+    words += env.words("key", "gateway-token")
+    door = str(env.haproxy.edge.devices)
+    doors = [
+        Gateway(env.processes, env.folder / f"register-{it}", "devices", door, *words)
+        for it in range(2)
+    ]
+    names = [f"crowd-{it}" for it in range(60)]
+    with concurrent.futures.ThreadPoolExecutor(8) as pool:
+        jobs = [
+            pool.submit(doors[it % 2].device, who, "GET", **fields)
+            for it in range(4)
+            for who in names
+        ]
+        for at in range(0, len(names), 5):
+            imports(env, *names[at : at + 5])
+        told = {it.result().status for it in jobs}
+    assert told <= {200, 401, 503}, told
+    for it in names:
+        is_of_the_file(env, it)
+    for it in doors:
+        it.kill()
+
+
 CALLS = [
     ("GET", "", None),
     ("GET", "/deploymentBase/{action}", None),

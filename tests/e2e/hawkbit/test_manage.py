@@ -292,6 +292,43 @@ def test_targets(env):
     is_error(env("DELETE", f"targets/{own}"), 501, "OperationNotSupportedException")
 
 
+@pytest.mark.parametrize("count", [1, 110])
+def test_targets_that_are_imported_meanwhile_are_left_as_they_are(env, count):
+    """Behind the look that found none, and before the write, which is one of a list or of a file."""
+    name = env.name()
+    ids = [f"{name}-{it}" for it in range(count)]
+    row = f"{ids[-1]},Of the file,tok-of-the-file,file\n".encode()
+
+    def rule(call):
+        if call.startswith("POST "):
+            env.between.rule = None
+            path, text = "/desk/v1/import", b"controllerid,name,token,tags\n" + row
+            assert ask(env.desk.way, "POST", path, text).status == 200
+
+    env.between.rule = rule
+    told = env("POST", "targets", [{"controllerId": it} for it in ids])
+    is_error(told, 409, "EntityAlreadyExistsException")
+    it = env.desk.ask("GET", f"/targets/{ids[-1]}")
+    assert (it["name"], it["tags"]) == ("Of the file", ["file"])
+    assert env.desk.ask("GET", f"/targets?q=controllerid=={name}-*")["total"] == 1
+    fields = {"Authorization": "TargetToken tok-of-the-file"}
+    assert env.devices("GET", f"{stage.B}/{ids[-1]}", **fields).status == 200
+
+
+def test_a_renaming_writes_over_no_token_that_is_imported_meanwhile(env):
+    (who,) = env.targets()
+
+    def rule(call):
+        if call == "POST /rest/v1/targets":
+            env.between.rule = None
+            text = f"controllerid,name,token,tags\n{who},Of the file,tok-of-the-file,\n".encode()
+            assert ask(env.desk.way, "POST", "/desk/v1/import", text).status == 200
+
+    env.between.rule = rule
+    is_error(env("PUT", f"targets/{who}", {"name": "Late"}), 403, "EntityReadOnlyException")
+    assert env.desk.ask("GET", f"/targets/{who}")["name"] == "Of the file"
+
+
 def test_tags(env):
     name, (one, two) = env.name(), env.targets(2)
     (tag,) = env.made("POST", "targettags", [{"name": name, "description": "x"}])

@@ -173,6 +173,32 @@ def test_a_registration_is_here_whole_before_it_passes(registering):
     assert registering.between.seen == []
 
 
+def test_a_write_behind_another_one_is_refused(registering):
+    """By the HAProxy before the desk, of whichever way the other one came."""
+    look, body = "/rest/v1/targets/new-1", json.dumps([TARGET]).encode()
+
+    def written():
+        told = ask(registering.way, "GET", look, fields={"X-Fwdesk-Targets": "asked"})
+        return told.fields["x-fwdesk-targets"]
+
+    post = lambda seen: registering.asks("POST", "/rest/v1/targets", body, X_Fwdesk_Targets=seen)
+    seen = written()
+    assert post(seen) == (200, ["POST /rest/v1/targets"])
+    assert post(seen) == (412, []), "the one before was a write too"
+    for path in ("/rest/v1/targets", "/desk/v1/import"):
+        seen = written()
+        assert ask(registering.haproxy.port, "POST", path, b"[]").status == 200
+        assert post(seen) == (412, []), path
+    seen = written()
+    assert ask(registering.haproxy.port, "GET", "/rest/v1/targets").status == 200
+    assert ask(registering.haproxy.port, "POST", "/rest/v1/rollouts", b"{}").status == 200
+    assert post(seen)[0] == 200
+    for wrong in ("", "x", "0", f"{seen}0"):
+        assert post(wrong) == (412, []), wrong
+    told = ask(registering.way, "GET", look)
+    assert "x-fwdesk-targets" not in told.fields
+
+
 def test_the_service_alone_can_not_switch_registration_on(ways, folder, processes):
     """With --register and without the proxy's switch a device is told to ask later, and no target is made."""
     for name in ("key", "token"):
