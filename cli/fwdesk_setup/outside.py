@@ -5,8 +5,9 @@ import json
 import socket
 import ssl
 import time
+from collections.abc import Callable
 
-from fwdesk_setup import places
+from fwdesk_setup import hawkbit, places
 
 # seconds until a proxy that has just started answers, with the desk behind it, and for one reply
 PATIENCE, REPLY = 120, 30
@@ -61,16 +62,28 @@ class Outside:
                 found.append(self.fault(path, 200, Authorization=f"Basic {words}"))
         return [it for it in found if it]
 
-    def faults_in_the_end(self, login: tuple[str, str] | None, with_desk: bool) -> list[str]:
-        """All that is wrong still once it had time to start."""
-        until = time.monotonic() + PATIENCE
-        while (found := self.faults(login, with_desk)) and time.monotonic() < until:
-            time.sleep(0.3)
-        return found
+    def faults_of_pipelines(self, login: tuple[str, str] | None) -> list[str]:
+        """All that is wrong with the port of hawkBit's Management API."""
+        found = [self.fault("/rest/v1/targets?limit=1", 401)]
+        if login:
+            words = base64.b64encode(":".join(login).encode()).decode()
+            found.append(self.fault("/rest/v1/userinfo", 200, Authorization=f"Basic {words}"))
+        return [f"port {self.port}: {it}" for it in found if it]
+
+
+def in_the_end(look: Callable[[], list[str]]) -> list[str]:
+    """All that is wrong still once it had time to start."""
+    until = time.monotonic() + PATIENCE
+    while (found := look()) and time.monotonic() < until:
+        time.sleep(0.3)
+    return found
 
 
 def look(login: tuple[str, str] | None = None, with_desk: bool = True) -> list[str]:
     """What is wrong with the proxy of this machine, as its choices have it."""
     choices = json.loads(places.CHOICES.read_text(encoding="utf-8"))
-    authority = choices["authority"]
-    return Outside(choices["name"], choices["port"], authority).faults_in_the_end(login, with_desk)
+    name, authority = choices["name"], choices["authority"]
+    found = in_the_end(lambda: Outside(name, choices["port"], authority).faults(login, with_desk))
+    if (port := hawkbit.management_port()) and not found:
+        found = in_the_end(lambda: Outside(name, port, authority).faults_of_pipelines(login))
+    return found

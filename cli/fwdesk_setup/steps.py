@@ -63,7 +63,11 @@ def refuse_machine(order: argparse.Namespace) -> None:
     if not proxy.is_set_up():
         earlier.refuse_others()
     if order.hawkbit:
-        hawkbit.refuse_missing()
+        hawkbit.refuse_missing_nginx()
+        hawkbit.refuse_missing(hawkbit.SOCKET)
+    if order.hawkbit_manage:
+        hawkbit.refuse_many_fleets()
+        hawkbit.refuse_missing(hawkbit.MANAGE_SOCKET)
 
 
 def refuse_name(name: str) -> None:
@@ -209,6 +213,8 @@ def print_end(chosen: dict, login: str, password: str | None, changed: bool) -> 
     if password:
         print(f"login     {login}   password {password}   (shown once)")
     print(f"devices   https://{host}{port}   with their tokens")
+    if pipelines := hawkbit.management_port():
+        print(f"hawkBit   https://{host}:{pipelines}   for pipelines, with the same logins")
     if chosen["authority"]:
         print(
             f"trust     {chosen['authority']}, to be given to devices and to fwdesk-ctl elsewhere"
@@ -226,11 +232,14 @@ def set_up(order: argparse.Namespace) -> int:
     copy = None if proxy.is_set_up() else earlier.copied()
     refuse_changes(copy, order.drop_changes)
     before, own = read_choices(), Snapshot()
-    chosen = make_choices(order, before, copy)
+    chosen, was_open = make_choices(order, before, copy), hawkbit.management_port() is not None
     try:
         changed, password = put_all(order, copy, before, chosen, own)
     except BaseException:
         own.restore()
+        if order.hawkbit_manage and not was_open:
+            hawkbit.close_management()
+            systemctl("try-restart", proxy.EDGE)
         raise
     if order.hawkbit:
         changed = hawkbit.enable() or changed
@@ -251,6 +260,8 @@ def put_all(
     write_whole(places.CHOICES, json.dumps(chosen, indent=1, sort_keys=True) + "\n")
     put_holds()
     password = put_operators(order.operator, copy)
+    if order.hawkbit_manage:
+        changed = hawkbit.open_management() or changed
     login = (order.operator, password) if password else None
     return switch(checked_copy(), changed or password is not None, login, own), password
 
@@ -333,8 +344,11 @@ def check() -> int:
 
 
 def undo() -> int:
-    """Takes the proxy away; the operator's own files stay for the next set-up."""
-    if proxy.remove_units():
+    """Takes the proxy away, and the doors for hawkBit's clients; the operator's own files stay for the next set-up."""
+    hawkbit.close()
+    was_open, was_set_up = hawkbit.close_management(), proxy.remove_units()
+    if was_set_up:
         systemctl("disable", "-q", "--now", proxy.DESKS, *proxy.SOCKETS)
+    if was_set_up or was_open:
         systemctl("try-restart", proxy.EDGE)
     return 0

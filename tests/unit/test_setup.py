@@ -1,12 +1,17 @@
-"""Tests of fwdesk-setup's parts that need no machine: what is read of a copied configuration, names, files, passwords."""
+"""Tests of fwdesk-setup's parts that need no machine: what is read of a copied configuration, names, files, passwords, and
+what the door for hawkBit's pipelines is made of."""
+import argparse
+import contextlib
 import os
+import re
 import tempfile
 from pathlib import Path
 
 from harness.asserting import same
 
 from fwdesk_ctl import operators, passwords
-from fwdesk_setup import certificate, earlier, files, parts, places
+from fwdesk_setup import certificate, earlier, files, hawkbit, parts, places, proxy, steps
+from fwdesk_setup.errors import NotDone, Refused
 
 DELIVERED = earlier.OF_1_0_0.read_text(encoding="utf-8")
 ANNA = "    user anna password @PASSWORD@\n"
@@ -106,3 +111,198 @@ def test_a_file_is_written_once_and_with_its_mode():
         same(path.stat().st_ino, made)
         same(files.write_whole(path, "other\n", 0o600), True)
         same([it.name for it in path.parent.iterdir()], ["key"])
+
+
+class Machine:
+    """Folders of a machine, and a systemctl that notes what it is ordered; `active` are the units that are."""
+
+    def __init__(self, folder):
+        self.etc, self.ordered, self.active = Path(folder) / "etc/fwdesk", [], set()
+        (self.etc / "haproxy.d").mkdir(parents=True)
+
+    def systemctl(self, *words):
+        verb, units = words[0], [it for it in words[1:] if it[0] != "-"]
+        if verb in ("is-active", "is-enabled"):
+            return self.active.issuperset(units)
+        self.ordered.append(" ".join((verb, *units)))
+        if verb == "enable":
+            self.active.update(units)
+        elif verb in ("disable", "stop"):
+            self.active.difference_update(units)
+        return True
+
+    def output_of(self, *words):
+        assert words[0] == "systemctl", words
+        self.systemctl(*words[1:])
+        return ""
+
+    def files(self):
+        """Each file, with what it has, its mode and its number."""
+        found = [it for it in sorted(self.etc.rglob("*")) if it.is_file()]
+        return {
+            it.name: (it.read_text(), it.stat().st_mode & 0o777, it.stat().st_ino) for it in found
+        }
+
+
+@contextlib.contextmanager
+def machine():
+    """A machine in whose place nothing of this one is touched."""
+    with tempfile.TemporaryDirectory() as folder:
+        made = Machine(folder)
+        kept = []
+        for module, name, value in (
+            (places, "ETC", made.etc),
+            (places, "OWN", made.etc / "haproxy.d"),
+            (places, "UNITS", Path(folder) / "units"),
+            (hawkbit, "LINK", Path(folder) / "link"),
+            (hawkbit, "systemctl", made.systemctl),
+            (hawkbit, "output_of", made.output_of),
+            (hawkbit, "make_firmware", lambda: False),
+            (steps, "systemctl", made.systemctl),
+            (proxy, "systemctl", made.systemctl),
+        ):
+            kept.append((module, name, getattr(module, name)))
+            setattr(module, name, value)
+        try:
+            yield made
+        finally:
+            for module, name, value in kept:
+                setattr(module, name, value)
+
+
+def test_the_door_of_pipelines_is_opened_once():
+    with machine() as it:
+        same(hawkbit.management_port(), None)
+        same(hawkbit.open_management(), True)
+        made = it.files()
+        same(sorted(made), ["15-hawkbit-manage.cfg", "hawkbit.key"])
+        same(made["hawkbit.key"][1], 0o600)
+        assert re.fullmatch(r"[0-9a-f]{64}\n", made["hawkbit.key"][0]), made["hawkbit.key"]
+        lines = [one.strip() for one in made["15-hawkbit-manage.cfg"][0].splitlines()]
+        same(
+            lines[1:],
+            ["global", "setenv FWDESK_HAWKBIT_MANAGE 1", "setenv FWDESK_HAWKBIT_BIND :8445"],
+        )
+        same(hawkbit.management_port(), 8445)
+        same(it.ordered, ["enable fwdesk-hawkbit-manage.socket"])
+        same(hawkbit.open_management(), False)
+        same((it.files(), len(it.ordered)), (made, 1))
+
+
+def test_two_machines_have_two_keys():
+    keys = set()
+    for _ in range(2):
+        with machine() as it:
+            hawkbit.open_management()
+            keys.add(it.files()["hawkbit.key"][0])
+    same(len(keys), 2)
+
+
+def test_many_fleets_are_refused_by_name():
+    with machine() as it:
+        own = it.etc / "haproxy.d/10-own.cfg"
+        own.write_text("global\n    setenv FWDESK_HOSTS localhost\n    # setenv FWDESK_MANY 1\n")
+        hawkbit.refuse_many_fleets()
+        for line in (
+            "setenv FWDESK_MANY 1",
+            "presetenv FWDESK_ADDRESSES /etc/fwdesk/addresses.map",
+        ):
+            own.write_text(f"global\n    {line}\n")
+            try:
+                hawkbit.refuse_many_fleets()
+            except Refused as why:
+                assert "docs/HAWKBIT.md" in str(why), why
+            else:
+                raise AssertionError(line)
+
+
+def test_a_key_and_a_port_that_are_there_stay():
+    with machine() as it:
+        (it.etc / "hawkbit.key").write_text("k" * 40)
+        own = hawkbit.SWITCH.replace(":8445", "192.0.2.7:9445")
+        hawkbit.switch().write_text(own)
+        before = it.files()
+        same(hawkbit.open_management(), True)
+        same(it.files(), before)
+        same(hawkbit.management_port(), 9445)
+
+
+def test_a_door_whose_socket_was_stopped_is_opened_again():
+    with machine() as it:
+        hawkbit.open_management()
+        before = it.files()
+        it.active.clear()
+        same((hawkbit.open_management(), it.files() == before), (True, True))
+        same(it.active, {"fwdesk-hawkbit-manage.socket"})
+
+
+def test_undo_shuts_both_doors_and_keeps_the_key():
+    with machine() as it:
+        it.active.update(("fwdesk-hawkbit.socket", "fwdesk-hawkbit-manage.service"))
+        hawkbit.open_management()
+        hawkbit.LINK.symlink_to("/usr/share/fwdesk/nginx/hawkbit-polls.conf")
+        made, it.ordered = it.files(), []
+        same(steps.undo(), 0)
+        same(it.files(), {"hawkbit.key": made["hawkbit.key"]})
+        same(
+            (it.active, hawkbit.LINK.is_symlink(), hawkbit.management_port()), (set(), False, None)
+        )
+        # a reload would keep the variable, and with it the port
+        assert "try-restart haproxy.service" in it.ordered, it.ordered
+        it.ordered = []
+        same(steps.undo(), 0)
+        assert not any("restart" in one for one in it.ordered), it.ordered
+
+
+def test_undo_leaves_a_configuration_of_nginx_that_is_ones_own():
+    with machine() as it:
+        hawkbit.LINK.write_text("# mine\n")
+        same(steps.undo(), 0)
+        assert hawkbit.LINK.exists() and not any("nginx" in one for one in it.ordered), it.ordered
+
+
+def fails(*_):
+    raise NotDone("it isn't well, and is as before again")
+
+
+def try_in_vain(order):
+    """A set-up that HAProxy doesn't come up with."""
+    stubs = {
+        steps: ("refuse_machine", "refuse_changes", "put_certificate", "put_own_file", "put_holds"),
+        parts: ("copy", "faults"),
+    }
+    kept = [
+        (module, name, getattr(module, name)) for module, names in stubs.items() for name in names
+    ]
+    kept += [(steps, "switch", steps.switch), (places, "CHOICES", places.CHOICES)]
+    for module, name, _ in kept:
+        setattr(module, name, lambda *_: None)
+    steps.switch, places.CHOICES = fails, places.ETC / "setup.json"
+    put, steps.put_operators = steps.put_operators, lambda *_: None
+    kept.append((steps, "put_operators", put))
+    copied, earlier.copied = earlier.copied, lambda: None
+    kept.append((earlier, "copied", copied))
+    try:
+        steps.set_up(order)
+    except NotDone:
+        return
+    finally:
+        for module, name, value in kept:
+            setattr(module, name, value)
+    raise AssertionError("it is done")
+
+
+def test_a_door_of_pipelines_that_is_not_well_is_shut_again():
+    order = argparse.Namespace(
+        name="desk.example", operator="anna", hawkbit=False, hawkbit_manage=True
+    )
+    order.port = order.acme = order.certificate = order.key = order.drop_changes = None
+    with machine() as it:
+        try_in_vain(order)
+        same((it.files(), it.active), ({}, set()))
+        assert "try-restart haproxy.service" in it.ordered, it.ordered
+    with machine() as it:
+        hawkbit.open_management()
+        before = it.files()
+        try_in_vain(order)
+        same((it.files(), it.active), (before, {"fwdesk-hawkbit-manage.socket"}))

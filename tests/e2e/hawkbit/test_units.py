@@ -40,9 +40,10 @@ class Machine(Debian):
         self.gives(f"echo '127.0.0.1 {NAME} localhost' >> /etc/hosts; dpkg -i /media/fwdesk_*.deb")
         told = self.gives(f"fwdesk-setup {NAME} --hawkbit")
         self.login = f"anna:{re.search(r'password ([^ ]+)', told)[1]}"
-        lines = lines_of("HAWKBIT.md", "## A pipeline", "hawkbit.key")
-        assert lines.startswith("apt install python3-aiohttp\n")
-        self.gives(lines.partition("\n")[2])
+        lines = lines_of("HAWKBIT.md", "## A pipeline", "fwdesk-setup")
+        assert lines == f"apt install python3-aiohttp\nfwdesk-setup {NAME} --hawkbit-manage\n"
+        told = self.gives(lines.partition("\n")[2])
+        assert f"hawkBit   https://{NAME}:8445 " in told and "done" in told.splitlines()
 
     def asks(self, method, path, *more):
         """What a pipeline is answered."""
@@ -144,3 +145,63 @@ def test_registration_is_switched_on_by_the_lines_of_the_page(machine):
     machine.gives("fwdesk-setup --check && systemctl reload haproxy")
     assert machine.until(lambda: machine.gives(f"{ask} {place}") == "200", 20)
     assert '"new-01"' in machine.asks("GET", "targets/new-01")
+
+
+WRITTEN = (
+    "find /etc/fwdesk /etc/systemd/system /var/lib/fwdesk-proxy -newer /tmp/mark 2> /dev/null; true"
+)
+
+
+def port(machine, number):
+    """The status at a port of the proxies without a login, or 000 where nobody listens."""
+    ask = (
+        f"curl -sk -o /dev/null -w '%{{http_code}}' https://{NAME}:{number}/rest/v1/targets || true"
+    )
+    return machine.gives(ask)
+
+
+def test_a_second_set_up_of_both_doors_changes_nothing(machine):
+    machine.gives("sleep 1; touch /tmp/mark; sleep 0.1")
+    told = machine.gives(f"fwdesk-setup {NAME} --hawkbit --hawkbit-manage")
+    assert "nothing had to be changed" in told and "password" not in told, told
+    assert machine.gives(WRITTEN) == ""
+    assert machine.gives("fwdesk-setup --check") == "valid, and well as seen from outside"
+    assert machine.gives("stat -c '%a %U' /etc/fwdesk/hawkbit.key") == "600 root"
+
+
+def test_the_door_of_pipelines_alone_is_shut_by_the_lines_of_the_page(machine):
+    machine.gives(lines_of("HAWKBIT.md", "To shut this door alone", "15-hawkbit-manage.cfg"))
+    assert (port(machine, 8445), port(machine, 8443)) == ("000", "401")
+    assert machine.does("systemctl is-active fwdesk-hawkbit-manage.socket")[1] == "inactive"
+
+
+def test_a_port_that_is_taken_leaves_all_as_it_was(machine):
+    key = machine.gives("cat /etc/fwdesk/hawkbit.key")
+    taken = "import socket, time; it = socket.create_server(('', 8445)); time.sleep(999)"
+    machine.gives(f'systemd-run -q --unit=taken python3 -c "{taken}"')
+    assert machine.until(lambda: machine.does("ss -ltn | grep -q ':8445 '")[0] == 0, 20)
+    status, told = machine.does(f"fwdesk-setup {NAME} --hawkbit-manage")
+    assert status == 1 and "is as before again" in told, told
+    assert machine.does("test -e /etc/fwdesk/haproxy.d/15-hawkbit-manage.cfg")[0] == 1
+    assert machine.does("systemctl is-enabled fwdesk-hawkbit-manage.socket")[1] == "disabled"
+    assert port(machine, 8443) == "401"
+    machine.gives("systemctl stop taken")
+    assert "done" in machine.gives(f"fwdesk-setup {NAME} --hawkbit-manage").splitlines()
+    assert machine.gives("cat /etc/fwdesk/hawkbit.key") == key
+    assert '"dev-01"' in machine.asks("GET", "targets/dev-01")
+
+
+def test_undo_shuts_both_doors(machine):
+    assert [port(machine, it) for it in (8443, 8444, 8445)] == ["401", "404", "401"]
+    machine.gives("fwdesk-setup --undo")
+    assert [port(machine, it) for it in (8443, 8444, 8445)] == ["000"] * 3
+    units = " ".join(f"{it}.{kind}" for it in SERVICES for kind in ("socket", "service"))
+    assert set(machine.does(f"systemctl is-active {units}")[1].split()) == {"inactive"}
+    assert machine.does("test -e /etc/fwdesk/haproxy.d/15-hawkbit-manage.cfg")[0] == 1
+    machine.gives("fwdesk-setup --undo")
+    # the next set-up has the same key, so devices have the tokens that they had
+    machine.gives(f"fwdesk-setup {NAME} --hawkbit --hawkbit-manage")
+    assert [port(machine, it) for it in (8443, 8444, 8445)] == ["401", "404", "401"]
+    shown = machine.asks("GET", "targets/dev-01")
+    assert f'"securityToken": "{machine.token}"' in shown, shown
+    assert "config" in machine.device()
