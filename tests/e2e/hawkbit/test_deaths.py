@@ -1,22 +1,23 @@
 """The gateway dies before and after each of its calls of the desk; another one begins, the client asks the same again, and
 what the desk then has is what one undisturbed try makes.
 
-Each call of each course: the gateway is within the test, and after its death nothing of it reaches the desk. Some courses
-once more by a process that is killed. FWDESK_DEATHS=N: of the assignment of thirty each N-th call (default: 9)."""
+Each call of each course, of pipelines and of devices: the gateway is within the test, and after its death nothing of it
+reaches the desk. Some courses once more by a process that is killed. FWDESK_DEATHS=N: of the assignment of thirty each N-th call (default: 9)."""
 
 import asyncio
 import os
+import re
 
 import aiohttp
 import pytest
 from aiohttp.test_utils import TestClient, TestServer
 
 from . import stage
-from .stage import R, Between, Gateway, ask, payload, stub, sums_of
+from .stage import B, R, Between, Gateway, ask, payload, stub, sums_of
 from .test_manage import KIND, form
 
 
-from fwdesk_hawkbit import calls, manage  # noqa: E402
+from fwdesk_hawkbit import calls, devices, kinds, manage, serve  # noqa: E402
 from fwdesk_hawkbit.desk import Desk  # noqa: E402
 from fwdesk_hawkbit.devices import token_of  # noqa: E402
 from fwdesk_hawkbit.kept import Kept  # noqa: E402
@@ -25,7 +26,7 @@ from fwdesk_hawkbit.sums import Artifacts  # noqa: E402
 EACH = int(os.environ.get("FWDESK_DEATHS", "9"))
 # more calls than any course has
 BOUND = 400
-KEY = b"k" * 40
+KEY, TOKEN = b"k" * 40, "t" * 40
 
 
 class Died(BaseException):
@@ -95,22 +96,45 @@ class Environment:
         """Nothing is left of what was there for a moment."""
         assert self.desk.ask("GET", "/targets?q=tag==hb.*;tag!=hb.gone")["total"] == 0
 
+    def management(self, desk):
+        kept = Kept(self.folder / "deaths")
+        return manage.make(calls.Gateway(desk, Artifacts(self.images, None), kept, KEY, hides=True))
+
+    def devices(self, desk):
+        service = devices.Service(desk, desk, Artifacts(self.images, None), key=KEY)
+        service.gateway_token, service.registers = TOKEN, True
+        return serve.make_devices(service)
+
+    def offer(self, kind=kinds.FORCED, size=100):
+        """A target that an artifact is offered to: its id, its action, and the path of the artifact."""
+        (who,), name, data = self.targets(), f"{self.name()}.swu", payload("offered", size)
+        if size > 4_194_304:
+            (self.images / name).write_bytes(data)
+            data = stub(data)
+        own = {"data": {kinds.KEY: kinds.VALUE}}
+        fields = {"Authorization": f"TargetToken {token_of(KEY, who)}"}
+        assert ask(self.desk.port, "PUT", f"{B}/{who}/configData", own, fields).status == 200
+        text = kinds.with_kind(f"controllerid=={who}", kind)
+        action = self.desk.offer(who, self.name(), (name, data), text=text)
+        told = ask(self.desk.port, "GET", f"{B}/{who}/deploymentBase/{action}", fields=fields)
+        (chunk,) = told.json()["deployment"]["chunks"]
+        return who, action, chunk["artifacts"][0]["_links"]["download-http"]["href"]
+
     async def life(self, how, at=None, late=False):
         """One gateway from its start to its end, and one request: the status, or None where it died."""
         desk = Mortal(f"http://{stage.HOST}:{self.desk.port}", 1)
-        gateway = calls.Gateway(
-            desk, Artifacts(self.images, None), Kept(self.folder / "deaths"), KEY, hides=True
-        )
-        app = manage.make(gateway)
+        method, path, body, fields = how
+        is_device = path.startswith(B)
+        app = self.devices(desk) if is_device else self.management(desk)
         client = TestClient(TestServer(app))
         await client.start_server()
-        await app["tidies"]
+        if not is_device:
+            await app["tidies"]
+            path, fields = f"{R}/{path}", fields | {"X-Fwdesk-May": "look,steer"}
         desk.left, desk.late = at, late
-        method, path, body, fields = how
-        fields = fields | {"X-Fwdesk-May": "look,steer"}
         data = body if body is None or isinstance(body, bytes) else stage.json.dumps(body).encode()
         try:
-            async with client.request(method, f"{R}/{path}", data=data, headers=fields) as told:
+            async with client.request(method, path, data=data, headers=fields) as told:
                 status = told.status
         except aiohttp.ClientError:
             status = None
@@ -320,7 +344,116 @@ def delete_target(env):
     return ("DELETE", f"targets/{who}", None, {}), {200, 404}, right
 
 
+def own(who):
+    """The fields of a device that shows its own token."""
+    return {"Authorization": f"TargetToken {token_of(KEY, who)}"}
+
+
+def device_registers(env):
+    who = env.name()
+
+    def right():
+        assert env.desk.ask("GET", f"/targets?q=controllerid=={who}")["total"] == 1
+        assert ask(env.desk.port, "GET", f"{B}/{who}", fields=own(who)).status == 200
+
+    return ("GET", f"{B}/{who}", None, {"Authorization": f"GatewayToken {TOKEN}"}), {200}, right
+
+
+def device_looks(rest, size=100):
+    """What changes nothing: the deployment, its artifact, and what is installed."""
+
+    def course(env):
+        who, action, place = env.offer(size=size)
+        path = place if rest == "artifact" else f"{B}/{who}{rest}".format(action=action)
+        before = env.desk.actions(who), env.desk.attributes(who)
+
+        def right():
+            assert (env.desk.actions(who), env.desk.attributes(who)) == before
+            assert env.desk.history(who, action) == []
+
+        return ("GET", path, None, own(who)), {200}, right
+
+    course.__name__ = f"device_looks_at_{re.sub('[^a-zA-Z]+', '_', rest)}_{size}"
+    return course
+
+
+def device_looks_at_what_is_installed(env):
+    who, action, _ = env.offer()
+    body = {"status": {"execution": "closed", "result": {"finished": "success"}}}
+    path = f"{B}/{who}/deploymentBase/{action}/feedback"
+    assert ask(env.desk.port, "POST", path, body, own(who)).status == 200
+
+    def right():
+        assert len(env.desk.history(who, action)) == 1
+
+    return ("GET", f"{B}/{who}/installedBase/{action}", None, own(who)), {200}, right
+
+
+def device_reports(execution, finished, kind=kinds.FORCED, ends="running", **more):
+    """A report is there once, also where it is sent again: by its number, or since it ends the action."""
+
+    def course(env):
+        who, action, _ = env.offer(kind)
+        status = {"execution": execution, "result": {"finished": finished}, "details": ["it is"]}
+
+        def right():
+            assert env.desk.actions(who)[-1]["status"] == ends
+            assert len(env.desk.history(who, action)) == 1
+
+        path = f"{B}/{who}/deploymentBase/{action}/feedback"
+        return ("POST", path, {"status": status} | more, own(who)), {200}, right
+
+    course.__name__ = f"device_reports_{execution}_{finished}_{kind}"
+    return course
+
+
+def device_gives_up(env):
+    who, action, _ = env.offer()
+    env.desk.ask("DELETE", f"/targets/{who}/actions/{action}")
+
+    def right():
+        assert env.desk.actions(who)[-1]["status"] == "canceled"
+        assert len(env.desk.history(who, action)) == 1
+
+    body = {"status": {"execution": "canceled", "result": {"finished": "success"}}}
+    return ("POST", f"{B}/{who}/cancelAction/{action}/feedback", body, own(who)), {200}, right
+
+
+def device_says(mode, wanted):
+    """What a device says of itself, and what of two attributes is there then."""
+
+    def course(env):
+        (who,) = env.targets()
+        held = {"data": {"a": "1", "b": "2"}}
+        assert ask(env.desk.port, "PUT", f"{B}/{who}/configData", held, own(who)).status == 200
+
+        def right():
+            assert env.desk.attributes(who) == wanted | {kinds.KEY: kinds.VALUE}
+
+        body = {"mode": mode, "data": {"a": "3"}}
+        return ("PUT", f"{B}/{who}/configData", body, own(who)), {200}, right
+
+    course.__name__ = f"device_says_{mode}"
+    return course
+
+
 COURSES = [
+    device_registers,
+    device_looks(""),
+    device_looks("/deploymentBase/{action}"),
+    device_looks("/deploymentBase/{action}", 5_000_000),
+    device_looks("artifact"),
+    device_looks("artifact", 5_000_000),
+    device_looks_at_what_is_installed,
+    device_reports("closed", "success", ends="finished"),
+    device_reports("closed", "failure", ends="error"),
+    device_reports("downloaded", "none", "downloadonly", "finished"),
+    device_reports("downloaded", "none", "soft", number=1),
+    device_reports("proceeding", "none", number=1),
+    device_gives_up,
+    device_says("merge", {"a": "3", "b": "2"}),
+    device_says("replace", {"a": "3", "b": ""}),
+    device_says("remove", {"a": "", "b": "2"}),
     upload(10),
     upload(5_000_000),
     new_modules,
