@@ -30,8 +30,7 @@ GREATEST = 2_147_483_647
 OPTIONAL = ("rollout", "rolloutname", "rollout.id", "rollout.name")
 # the bytes of a request that isn't an upload: 1,000 targets with long names
 BODY = 1 << 20
-# of one of many fleets: its name, what stands before a path that names it, and how many are known at most
-FLEET = re.compile(r"[a-z0-9]{1,24}", re.ASCII)
+# what stands before a path that names one of many fleets, and how many are known at most
 PREFIX = re.compile(r"(/fleets/[a-z0-9]{1,24})?", re.ASCII)
 FLEETS = 1000
 GATEWAY = "gateway"
@@ -69,10 +68,11 @@ class Gateway:
     def of(self, fleet: str) -> "Gateway":
         """The same of one of many fleets, which shares with the others the images alone, and how much is done at once."""
         if fleet not in self.fleets:
-            if not FLEET.fullmatch(fleet) or len(self.fleets) >= FLEETS:
-                raise Fault("body", "X-Fleet is no fleet")
+            if len(self.fleets) >= FLEETS:
+                raise Fault("quota", f"one service has {FLEETS} fleets at most")
             own: dict[str, Any] = {"locks": {}, "ended": {}, "fleets": {}}
-            own |= {"desk": OfFleet(self.desk, fleet), "kept": self.kept.of(fleet)}
+            own |= {"desk": OfFleet(self.desk, fleet)}
+            own |= {"kept": self.kept.of(fleet)}
             own |= {"door": OfFleet(self.door, fleet) if self.door else None}
             own |= {"key": self.key and key_of(self.key, fleet)}
             self.fleets[fleet] = replace(self, **own)

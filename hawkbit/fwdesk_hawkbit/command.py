@@ -23,8 +23,8 @@ from pathlib import Path
 from aiohttp import web
 
 from fwdesk_hawkbit import devices, lab, manage, serve
-from fwdesk_hawkbit.calls import FLEET, Gateway
-from fwdesk_hawkbit.desk import Desk
+from fwdesk_hawkbit.calls import Gateway
+from fwdesk_hawkbit.desk import FLEET, Desk
 from fwdesk_hawkbit.kept import Kept
 from fwdesk_hawkbit.sums import Artifacts
 

@@ -3,6 +3,7 @@
 import asyncio
 import json
 import logging
+import re
 from dataclasses import dataclass
 from typing import Any
 from urllib.parse import unquote
@@ -15,6 +16,8 @@ R = "/rest/v1"
 # the field of how often targets were written: HAProxy before the desk tells it of a read that has the field, and refuses a
 # write that has another number (deploy/haproxy/desks). Without HAProxy nobody tells it
 TARGETS, CHANGED = "X-Fwdesk-Targets", 412
+# a name of one of many fleets
+FLEET = re.compile(r"[a-z0-9]{1,24}", re.ASCII)
 # the number of seconds until a desk that says nothing is given up
 PATIENCE = 60
 # the number of things that the desk tells in one page at most
@@ -203,6 +206,8 @@ class OfFleet(Calls):
     """The desk of one of many fleets: its name stands before each path, and HAProxy leads by that."""
 
     def __init__(self, desk: Calls, fleet: str) -> None:
+        if not FLEET.fullmatch(fleet):
+            raise Fault("body", "X-Fleet is no fleet")
         self.desk, self.base = desk, f"/fleets/{fleet}"
 
     async def raw(

@@ -17,7 +17,7 @@ from typing import Any
 from aiohttp import web
 
 from fwdesk_hawkbit import kinds, words
-from fwdesk_hawkbit.desk import TARGETS, Calls, Desk, OnBehalf, R, Reply
+from fwdesk_hawkbit.desk import TARGETS, Calls, Desk, OfFleet, OnBehalf, R, Reply
 from fwdesk_hawkbit.faults import Fault
 from fwdesk_hawkbit.sums import STUB, Artifacts, Sums
 
@@ -113,9 +113,14 @@ class Device:
     def __init__(self, request: web.Request) -> None:
         self.request, self.service = request, request.app[SERVICE]
         self.who: str = request.match_info["who"]
-        self.desk: Desk = self.service.desk
-        # of many fleets the edge finds the device's own by its id
-        self.reads: Calls = OnBehalf(self.service.reads, {"X-Fwdesk-Device": self.who})
+        # of many fleets the edge finds the device's own by its id; on a node of a cluster the proxy before names it
+        self.fleet, fields = request.headers.get("X-Fleet", ""), {"X-Fwdesk-Device": self.who}
+        self.desk: Calls = self.service.desk
+        self.reads: Calls = OnBehalf(self.service.reads, fields)
+        if self.fleet:
+            self.desk, self.reads = OfFleet(self.desk, self.fleet), OfFleet(self.reads, self.fleet)
+        # by which it is known
+        self.name = self.fleet, self.who
         self.path, self.token = f"/DEFAULT/controller/v1/{self.who}", ""
 
     async def identify(self) -> "Device":
@@ -136,13 +141,13 @@ class Device:
             raise web.HTTPUnauthorized()
         if not hmac.compare_digest(right.encode(), self.token.encode(errors="replace")):
             raise web.HTTPUnauthorized()
-        fleet = self.service.fleet_of.get(self.who)
+        fleet = self.service.fleet_of.get(self.name)
         if self.service.registers:
             async with self.service.registering:
                 fleet = await self.register(key)
         elif fleet is None:
             fleet = (await self.look()).fleet
-        self.service.fleet_of.put(self.who, fleet)
+        self.service.fleet_of.put(self.name, fleet)
         self.token = token_of(key_of(key, fleet), self.who)
 
     async def look(self) -> Reply:
@@ -242,7 +247,7 @@ async def poll(d: Device) -> dict[str, Any]:
     """What there is to do. A device that said nothing of itself lately is asked for that."""
     told = await d.ask("GET")
     links = {key: d.link(it["href"].removeprefix(d.path)) for key, it in told["_links"].items()}
-    if not links and d.service.said.get(d.who) is None:
+    if not links and d.service.said.get(d.name) is None:
         links["configData"] = d.link("/configData")
     return {"config": {"polling": {"sleep": d.service.polling}}, "_links": links}
 
@@ -337,7 +342,7 @@ async def take_attributes(d: Device) -> None:
     """
     mode, data = words.attributes(await d.body())
     said = hashlib.sha256(repr((mode, sorted(data.items()))).encode()).digest()
-    if hmac.compare_digest(d.service.said.get(d.who) or b"", said):
+    if hmac.compare_digest(d.service.said.get(d.name) or b"", said):
         await d.ask("GET")
         return
     if mode != "merge":
@@ -347,7 +352,7 @@ async def take_attributes(d: Device) -> None:
         data = there | data if mode == "replace" else {it: "" for it in data if it in there}
     data = {key: it for key, it in data.items() if not key.startswith(kinds.OWN)}
     await put_attributes(d, data)
-    d.service.said.put(d.who, said)
+    d.service.said.put(d.name, said)
 
 
 def send_file(d: Device, path: Path) -> web.StreamResponse:

@@ -221,8 +221,15 @@ class Gateway:
         return self(method, f"{B}/{who}{rest}", body, **fields)
 
 
-def start_nginx(folder: Path, processes: Processes, door: Path, polls: Path, images: Path) -> int:
-    """nginx with deploy/nginx/hawkbit-polls.conf, and its port."""
+def start_nginx(
+    folder: Path,
+    processes: Processes,
+    door: Path,
+    polls: Path,
+    images: Path,
+    more: dict[str, str] | None = None,
+) -> int:
+    """nginx with deploy/nginx/hawkbit-polls.conf, and its port. `more` are further places of the file."""
     port = free_port()
     text = (ROOT / "deploy/nginx/hawkbit-polls.conf").read_text()
     places = {
@@ -231,7 +238,7 @@ def start_nginx(folder: Path, processes: Processes, door: Path, polls: Path, ima
         "/srv/firmware": str(images),
         "/run/fwdesk-hawkbit/devices.sock": str(door),
         "/etc/fwdesk/": f"{folder}/",
-    }
+    } | (more or {})
     (folder / "polls.conf").write_text(with_places(text, places))
     kinds = ("client_body", "proxy", "fastcgi", "uwsgi", "scgi")
     own = "".join(f"{it}_temp_path {folder}/{it};" for it in kinds)

@@ -1,6 +1,6 @@
-"""The management half before many fleets: of one machine, where the path or the host says which, and of a node of a cluster,
-where the address does. Two programs, both HAProxys with the files of deploy/, and one service before them by the ways that
-the package's unit has."""
+"""Both halves before many fleets: of one machine, where the path or the host says which, or how a device's id begins, and of
+a node of a cluster, where the address does. Two programs, both HAProxys with the files of deploy/, and a service of each half
+before them by the ways that the package's units have."""
 
 import http.client
 import json
@@ -14,7 +14,7 @@ import stage
 from stage import HOST, B, HAProxy, R, ask, sums_of
 from test_manage import KIND, form, is_error
 
-KEY = b"k" * 40
+KEY, TOKEN = b"k" * 40, "gateway-token-of-32-letters-or-more"
 FLEETS = {"acme": "127.0.0.1", "other": "127.0.0.2"}
 
 
@@ -30,7 +30,7 @@ class Fleets:
         self.desks = {it: stage.Desk(folder / it, processes) for it in FLEETS}
         # asked by any address of this machine, as a node's floating ones are
         port = stage.free_port()
-        more = {"FWDESK_HAWKBIT_BIND": f"0.0.0.0:{port}"}
+        more = {"FWDESK_HAWKBIT_BIND": f"0.0.0.0:{port}", "FWDESK_HAWKBIT_REGISTERS": "1"}
         ports = {name: it.port for name, it in self.desks.items()}
         self.haproxy = HAProxy(folder, 0, more, form, ports, self.prepare)
         self.port, self.edge = port, self.haproxy.edge
@@ -266,3 +266,95 @@ def test_the_audit_names_the_fleet(fleets):
     for it, comes in zip(audit[-2:], ("unix", "127[.]0[.]0[.][12]")):
         form = rf'audit 201 {comes} "anna" POST \S*/rest/v1/softwaremodules fleet=other'
         assert re.fullmatch(form, it), audit[-2:]
+
+
+class Doors:
+    """The device half behind nginx, with the files of deploy/."""
+
+    def __init__(self, fleets, processes, folder):
+        self.fleets, door = fleets, folder / "devices.sock"
+        (folder / "token").write_text(TOKEN)
+        words = [str(stage.GATEWAY), "--devices", "--desk", str(fleets.edge.devices)]
+        words += ["--reads", str(fleets.haproxy.reads), "--firmware", str(fleets.folder / "images")]
+        words += ["--key", str(fleets.folder / "key"), "--gateway-token", str(folder / "token")]
+        child = processes.start("devices", [*words, "--register", "--listen", str(door)])
+        stage.eventually("the device half", door.exists, child=child)
+        stage.certificate(folder)
+        polls, images, more = fleets.edge.devices, fleets.folder / "images", {}
+        if fleets.form == "failover":
+            lines = "".join(f"{address} {name};" for name, address in FLEETS.items())
+            more = {"#192.0.2.11 acme;": lines, f"listen {HOST}:": "listen 0.0.0.0:"}
+        self.port = stage.start_nginx(folder, processes, door, polls, images, more)
+
+    def __call__(self, fleet, who, token, rest="", method="GET", body=None, **fields):
+        address = FLEETS[fleet] if self.fleets.form == "failover" else HOST
+        context = ssl._create_unverified_context()
+        client = http.client.HTTPSConnection(address, self.port, timeout=60, context=context)
+        data = json.dumps(body).encode() if body is not None else None
+        told = {"Authorization": token, "Connection": "close"} | fields
+        try:
+            client.request(method, f"{B}/{who}{rest}", data, told)
+            reply = client.getresponse()
+            held = {key.lower(): value for key, value in reply.getheaders()}
+            return stage.Reply(reply.status, held, reply.read())
+        finally:
+            client.close()
+
+    def ids(self, fleet):
+        """A device of a fleet, as its id has to begin where that says which."""
+        return f"{fleet}-dev" if self.fleets.form == "fleets" else "dev"
+
+
+@pytest.fixture(scope="module")
+def doors(fleets, tmp_path_factory):
+    folder = tmp_path_factory.mktemp(f"doors-{fleets.form}")
+    processes = stage.Processes(folder)
+    yield Doors(fleets, processes, folder)
+    processes.end_all()
+
+
+def test_devices_are_led_to_their_fleet(fleets, doors):
+    """Polls past the service, and all else by it: of the same id in both, where the address says which."""
+    for fleet in FLEETS:
+        bundle, who = fleets.bundle(fleet, f"led-{fleet}"), doors.ids(fleet)
+        (made,) = fleets.made(fleet, "POST", "targets", [{"controllerId": who}])
+        token = f"TargetToken {made['securityToken']}"
+        rows = [{"id": who}]
+        told = fleets.made(fleet, "POST", f"distributionsets/{bundle}/assignedTargets", rows)
+        action = told["assignedActions"][0]["id"]
+        poll = doors(fleet, who, token)
+        href = poll.json()["_links"]["deploymentBase"]["href"]
+        assert href.endswith(f":{doors.port}{B}/{who}/deploymentBase/{action}"), href
+        it = doors(fleet, who, token, f"/deploymentBase/{action}").json()["deployment"]
+        (artifact,) = it["chunks"][0]["artifacts"]
+        assert artifact["hashes"] == sums_of(f"led-{fleet}".encode())
+        place = artifact["_links"]["download"]["href"].partition(f"/{who}/")[2]
+        assert doors(fleet, who, token, f"/{place}").body == f"led-{fleet}".encode()
+        data = {"data": {"os": "linux"}}
+        assert doors(fleet, who, token, "/configData", "PUT", data).status == 200
+        ended = {"status": {"execution": "closed", "result": {"finished": "success"}}}
+        path = f"/deploymentBase/{action}/feedback"
+        assert doors(fleet, who, token, path, "POST", ended).status == 200
+        assert doors(fleet, who, token, f"/installedBase/{action}").status == 200
+        # what another device of this id said in another fleet isn't what this one said
+        assert fleets.made(fleet, "GET", f"targets/{who}/attributes") == {"os": "linux"}
+        other = next(it for it in FLEETS if it != fleet)
+        if fleets.form == "failover":
+            assert doors(other, who, token).status == 401
+        # no device names a fleet
+        for rest in ("", f"/installedBase/{action}"):
+            assert doors(fleet, who, token, rest, **{"X-Fleet": other}).status == 200, rest
+
+
+def test_a_device_registers_with_its_fleet(fleets, doors):
+    """By one gateway token; the token that the key makes is another one in each fleet."""
+    shown = {}
+    for fleet in FLEETS:
+        who = f"{doors.ids(fleet)}-new"
+        assert doors(fleet, who, f"GatewayToken {TOKEN}", "/deploymentBase/1").status == 404
+        shown[fleet] = fleets.made(fleet, "GET", f"targets/{who}")["securityToken"]
+        assert doors(fleet, who, f"TargetToken {shown[fleet]}").status == 200
+        assert doors(fleet, who, f"GatewayToken {TOKEN}").status == 200
+    assert shown["acme"] != shown["other"]
+    if fleets.form == "fleets":
+        assert doors("acme", "nobody-1", f"GatewayToken {TOKEN}").status in (401, 404)
