@@ -48,9 +48,7 @@ def refuse_many_fleets() -> None:
 def refuse_missing(unit: str) -> None:
     """Refuses a machine without what the service behind a door is made of."""
     if run("systemctl", "cat", unit)[0]:
-        raise Refused(f"{unit}: the package has no such door for hawkBit's clients")
-    if run("/usr/bin/python3", "-c", "import aiohttp")[0]:
-        raise Refused("python3-aiohttp: not there. apt install python3-aiohttp")
+        raise Refused(f"{unit}: not there. It is of the package fwdesk-hawkbit: install that first")
 
 
 def refuse_missing_nginx() -> None:

@@ -38,10 +38,15 @@ class Machine(Debian):
 
     def set_up(self):
         self.gives(f"echo '127.0.0.1 {NAME} localhost' >> /etc/hosts; dpkg -i /media/fwdesk_*.deb")
+        for door in ("--hawkbit", "--hawkbit-manage"):
+            status, told = self.does(f"fwdesk-setup {NAME} {door}")
+            assert status == 2 and "fwdesk-hawkbit" in told, told
+        self.gives("dpkg -i /media/fwdesk-hawkbit_*.deb")
         told = self.gives(f"fwdesk-setup {NAME} --hawkbit")
         self.login = f"anna:{re.search(r'password ([^ ]+)', told)[1]}"
         lines = lines_of("HAWKBIT.md", "## A pipeline", "fwdesk-setup")
-        assert lines == f"apt install python3-aiohttp\nfwdesk-setup {NAME} --hawkbit-manage\n"
+        install = "apt install ./fwdesk-hawkbit_1.0.0-1_all.deb"
+        assert lines == f"{install}\nfwdesk-setup {NAME} --hawkbit-manage\n"
         told = self.gives(lines.partition("\n")[2])
         assert f"hawkBit   https://{NAME}:8445 " in told and "done" in told.splitlines()
 
@@ -205,3 +210,17 @@ def test_undo_shuts_both_doors(machine):
     shown = machine.asks("GET", "targets/dev-01")
     assert f'"securityToken": "{machine.token}"' in shown, shown
     assert "config" in machine.device()
+
+
+def test_an_upgrade_goes_on_with_the_new_service_and_a_removal_ends_it(machine):
+    machine.gives(f"systemctl start {' '.join(SERVICES)}")
+    pids = lambda: machine.gives(f"systemctl show -p MainPID --value {' '.join(SERVICES)}").split()
+    before = pids()
+    machine.gives("dpkg -i /media/fwdesk-hawkbit_*.deb")
+    assert len(set(before + pids())) == 4 and "0" not in pids(), "it runs, and is another process"
+    assert '"dev-01"' in machine.asks("GET", "targets/dev-01")
+    machine.gives("dpkg -r fwdesk-hawkbit")
+    units = " ".join(f"{it}.{kind}" for it in SERVICES for kind in ("socket", "service"))
+    assert "active" not in machine.does(f"systemctl is-active {units}")[1].split()
+    assert port(machine, 8443) == "401", "the server and its proxy go on"
+    assert port(machine, 8445) == "401"

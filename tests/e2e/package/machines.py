@@ -61,7 +61,7 @@ class Packages:
 
     def __init__(self, folder: Path):
         self.folder = folder
-        self.now, self.device = package.make(PROGRAM, folder, "1.0.1-1", quick=True)
+        self.now, self.device, self.hawkbit = package.make(PROGRAM, folder, "1.0.1-1", quick=True)
         self.earlier = earlier_package(folder)
         self.other_page = self.made("1.0.2-1", change_page)
         self.broken = self.made("1.0.3-1", break_parts)

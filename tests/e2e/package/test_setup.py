@@ -327,7 +327,11 @@ def test_a_port_that_is_taken(server, packages):
     server.serves(server.login)
 
 
-def test_the_door_for_hawkbits_devices(ready):
+def test_the_door_for_hawkbits_devices(ready, packages):
+    status, told = ready.does(f"fwdesk-setup {NAME} --hawkbit")
+    assert status == 2 and "of the package fwdesk-hawkbit" in told, told
+    # polls go past the service, whose libraries aren't here
+    ready.gives(f"dpkg -i --force-depends /media/{packages.hawkbit.name} 2>&1")
     assert "done" in ready.gives(f"fwdesk-setup {NAME} --hawkbit")
     ask = ready.ASK.replace("8443", "8444") + " -o /dev/null -w '%{http_code}'"
     token = "-H 'Authorization: TargetToken nobody-0'"
