@@ -24,6 +24,8 @@ FORMS = {
     "fleets": {"FWDESK_MANY": "1"},
     "failover": {"FWDESK_ADDRESSES": "{folder}/addresses.map", "FWDESK_NO_PAGE": "1"},
     "pod": {"FWDESK_NO_PAGE": "1", "FWDESK_NO_BRAKE": "1", "FWDESK_NO_COMING": "1"},
+    # a single machine whose own way in is a port besides
+    "port": {"FWDESK_LOCAL_PORT": "{local_port}"},
 }
 FLEET = "acme"
 
@@ -134,7 +136,8 @@ class Edge:
             **({"FWDESK_HEALTH": f"{HOST}:{self.health}"} if self.form == "pod" else {}),
             **self.more,
         }
-        return os.environ | {key: it.format(folder=self.folder) for key, it in own.items()}
+        places = {"folder": self.folder, "local_port": self.local_port}
+        return os.environ | {key: it.format(**places) for key, it in own.items()}
 
     def desks_words(self) -> list[str]:
         """The HAProxy before the desks, as haproxy-desks.service starts it."""

@@ -25,7 +25,7 @@ class Fleets:
         self.folder, self.form, self.processes = folder, form, processes
         for it in (*FLEETS, "images"):
             (folder / it).mkdir()
-        stage.certificate(folder)
+        make_certificate(folder)
         (folder / "key").write_bytes(KEY)
         self.desks = {it: stage.Desk(folder / it, processes) for it in FLEETS}
         # asked by any address of this machine, as a node's floating ones are
@@ -279,7 +279,7 @@ class Doors:
         words += ["--key", str(fleets.folder / "key"), "--gateway-token", str(folder / "token")]
         child = processes.start("devices", [*words, "--register", "--listen", str(door)])
         stage.eventually("the device half", door.exists, child=child)
-        stage.certificate(folder)
+        make_certificate(folder)
         polls, images, more = fleets.edge.devices, fleets.folder / "images", {}
         if fleets.form == "failover":
             lines = "".join(f"{address} {name};" for name, address in FLEETS.items())

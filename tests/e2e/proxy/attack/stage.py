@@ -233,7 +233,9 @@ class Stage:
         return Link(link)
 
     def open_near(self, timeout: float = 30) -> Link:
-        """A connection to the machine's own way in."""
+        """A connection to the machine's own way in: its socket, or the port that one form has besides."""
+        if self.form == "port":
+            return Link(socket.create_connection((HOST, self.edge.local_port), timeout))
         return self.open_path(self.edge.local, timeout)
 
     def open_path(self, path: Path, timeout: float = 30) -> Link:

@@ -91,7 +91,7 @@ def offered(stage: Stage) -> bool:
 
 @pytest.mark.gate
 @pytest.mark.timed
-@pytest.mark.forms("single", "fleets", "failover")
+@pytest.mark.forms("single", "fleets", "failover", "port")
 @pytest.mark.parametrize("near", [False, True], ids=["login", "near"])
 def test_brake_under_a_thousand_connections(braked: Stage, near: bool) -> None:
     """Beside a thousand connections of one address that say nothing, an order is done, told within ten seconds, and holds at the
@@ -123,7 +123,7 @@ def test_brake_under_a_thousand_connections(braked: Stage, near: bool) -> None:
 
 @pytest.mark.gate
 @pytest.mark.timed
-@pytest.mark.forms("single", "fleets", "failover")
+@pytest.mark.forms("single", "fleets", "failover", "port")
 def test_each_of_many_orders_is_told(braked: Stage, size: int) -> None:
     """A hundred orders at once (a thousand at full size): each is done or refused, and that is told within ten seconds."""
     head = (
@@ -153,7 +153,7 @@ def test_each_of_many_orders_is_told(braked: Stage, size: int) -> None:
 
 @pytest.mark.gate
 @pytest.mark.timed
-@pytest.mark.forms("single", "fleets", "failover")
+@pytest.mark.forms("single", "fleets", "failover", "port")
 def test_locked_holds_are_told(braked: Stage) -> None:
     """Where another program keeps the holds for itself that is told within ten seconds, and nothing is held."""
     with open(braked.edge.held.parent / ".lock", "wb") as lock:
@@ -167,7 +167,7 @@ def test_locked_holds_are_told(braked: Stage) -> None:
 
 @pytest.mark.gate
 @pytest.mark.timed
-@pytest.mark.forms("single", "fleets", "failover")
+@pytest.mark.forms("single", "fleets", "failover", "port")
 def test_hold_that_cannot_be_written_is_told(braked: Stage) -> None:
     """Where no byte can be written it is held all the same, and told within ten seconds that a restart forgets it."""
     with brake_of(braked, "prlimit", "--fsize=0"):
@@ -180,7 +180,7 @@ def test_hold_that_cannot_be_written_is_told(braked: Stage) -> None:
 
 
 @pytest.mark.gate
-@pytest.mark.forms("single", "fleets", "failover")
+@pytest.mark.forms("single", "fleets", "failover", "port")
 @pytest.mark.parametrize("broken", ['{"who":"anna","sin', "", "7", "%ff"])
 def test_broken_map_holds(braked: Stage, broken: str) -> None:
     """A line that a hand broke holds from the next order on, also one of the other kind, and is told as broken."""

@@ -248,7 +248,7 @@ class TestNextGroup:
         eventually("the program", lambda: not doomed.armed and listens(doomed.outer))
         assert (running(quiet, rollout), doomed.came, told) == (2, 1, "502")
 
-    @pytest.mark.forms("single", "fleets")
+    @pytest.mark.forms("single", "fleets", "port")
     @pytest.mark.skipif(not shutil.which("chromedriver"), reason="there is no chromedriver")
     def test_next_group_of_a_browser(self, quiet: Stage, doomed: Doomed, tmp_path: Path) -> None:
         """One press in Chromium, over a connection that it would keep: one group more runs, and 502 is told."""

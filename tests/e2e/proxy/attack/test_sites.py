@@ -1,11 +1,18 @@
 """Requests that another site has a browser send, and names that somebody led here: at every way in."""
 
+import os
+from pathlib import Path
+from typing import Iterator
+
 import pytest
 from harness import http_client
+from harness.processes import HOST
 
-from .stage import Stage, login, token
+from .stage import Stage, StandIn, login, token
 
 pytestmark = [pytest.mark.e2e, pytest.mark.gate]
+# how /proc/net/tcp tells a socket that listens
+LISTENS = "0A"
 FOREIGN = {
     "site": "Sec-Fetch-Site: cross-site\r\n",
     "sibling": "Sec-Fetch-Site: same-site\r\n",
@@ -57,7 +64,71 @@ def test_own_order_passes(quiet: Stage) -> None:
     assert quiet.ask("POST", "/rest/v1/rollouts/77/pause", fields, b"")[0] == 404
 
 
-@pytest.mark.forms("single", "fleets", "failover", "pod")
+def listening(stage: Stage) -> set[tuple[str, int]]:
+    """The addresses and ports at which both HAProxys listen."""
+    own = set()
+    for it in (*stage.edge.workers(stage.edge.edge), *stage.edge.workers(stage.edge.desks)):
+        own |= {os.readlink(link) for link in Path(f"/proc/{it}/fd").iterdir()}
+    found = set()
+    for row in Path("/proc/net/tcp").read_text().splitlines()[1:]:
+        _, local, _, state, *rest = row.split()
+        if state == LISTENS and f"socket:[{rest[5]}]" in own:
+            address, port = local.split(":")
+            bytes_of = bytes.fromhex(address)[::-1]
+            found.add((".".join(map(str, bytes_of)), int(port, 16)))
+    return found
+
+
+def test_no_other_port_is_open(quiet: Stage) -> None:
+    """The machine's own way in is a socket: no port leads past the logins but the one that an operator opens."""
+    edge = quiet.edge
+    wanted = {edge.port, edge.metrics, edge.desks_metrics}
+    wanted |= {edge.health} if quiet.form == "pod" else set()
+    wanted |= {edge.local_port} if quiet.form == "port" else set()
+    assert listening(quiet) == {(HOST, it) for it in wanted}
+
+
+@pytest.fixture(scope="session")
+def named(stage: Stage, tmp_path_factory: pytest.TempPathFactory) -> Iterator[Stage]:
+    """The same form where an operator has said by which names it is reached."""
+    folder = tmp_path_factory.mktemp("named")
+    made = Stage(folder, None, stage.form, {"FWDESK_HOSTS": "desk.example 127.0.0.1"})
+    server = StandIn(made.behind)
+    yield made
+    server.end()
+    made.end()
+
+
+@pytest.mark.parametrize(
+    "host, is_ours",
+    [
+        ("desk.example", True),
+        ("DESK.example:8443", True),
+        ("127.0.0.1:8443", True),
+        ("evil.example", False),
+        ("desk.example.evil.example", False),
+        ("desk.example@evil.example", False),
+        ("", False),
+    ],
+)
+@pytest.mark.parametrize("method", ["GET", "POST"])
+def test_other_names_are_refused(named: Stage, host: str, is_ours: bool, method: str) -> None:
+    """Where the names are said, a login is taken by these alone. Of many fleets a name that nobody has is told as one of
+    another's fleet is."""
+    refused = 403 if named.form == "fleets" else 421
+    fields = f"Host: {host}\r\n{login('zoe')}"
+    status = named.ask(method, "/rest/v1/targets", fields, b"")[0]
+    assert status == (200 if is_ours else refused)
+
+
+def test_other_names_are_taken_of_devices(named: Stage) -> None:
+    """A device may name what it likes: it has a token."""
+    with named.open() as link:
+        path = f"{named.base}/DEFAULT/controller/v1/dev-01"
+        assert link.ask("GET", path, f"Host: evil.example\r\n{token(1)}")[0] == 200
+
+
+@pytest.mark.forms("single", "fleets", "failover", "pod", "port")
 @pytest.mark.parametrize(
     "path",
     [
@@ -83,7 +154,7 @@ def test_devices_door_has_nothing_of_operators(quiet: Stage, method: str, path: 
         assert link.ask(method, base + path, login("zoe"), b"")[0] in (400, 404)
 
 
-@pytest.mark.forms("single", "fleets", "failover", "pod")
+@pytest.mark.forms("single", "fleets", "failover", "pod", "port")
 def test_devices_door_serves_devices(quiet: Stage) -> None:
     """A device is served by it, with its token."""
     path = f"{quiet.near_base}/DEFAULT/controller/v1/dev-01"
