@@ -3,6 +3,7 @@
 Its files are made once by debootstrap. What a test writes in it is gone with it; it has a network of its own, which
 reaches nobody."""
 import os
+import re
 import shutil
 import signal
 import subprocess
@@ -13,6 +14,7 @@ from pathlib import Path
 from harness.processes import wait_for
 
 ROOT = Path("/var/tmp/fwdesk-debian")
+DOCS = Path(__file__).resolve().parents[2] / "docs"
 # what it has beside its base
 WITHIN = (
     "systemd,systemd-sysv,dbus,procps,curl,jq,sqlite3,python3,haproxy,nginx-light,openssl,socat"
@@ -32,6 +34,13 @@ def make_root(root: Path = ROOT, within: str = WITHIN) -> None:
     words = ["debootstrap", "--variant=minbase", f"--include={within}", "bookworm", unfinished]
     subprocess.run([str(it) for it in words], check=True, stdout=subprocess.DEVNULL)
     unfinished.rename(root)
+
+
+def lines_of(page: str, after: str, has: str) -> list[str]:
+    """The commands of a page: the indented block behind these words that has this one, a line each."""
+    text = (DOCS / page).read_text(encoding="utf-8").partition(after)[2]
+    blocks = re.findall(r"(?m)(?:^    .*\n)+", text)
+    return [it[4:] for it in next(it for it in blocks if has in it).splitlines(keepends=True)]
 
 
 def run_checks(checks: Iterable[tuple[Callable[..., None], object]]) -> tuple[int, int]:

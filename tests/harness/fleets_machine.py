@@ -16,36 +16,22 @@ from pathlib import Path
 
 from as_module import as_module
 from harness import ROOT, http_client
-from harness.debian_machine import Debian, make_root
+from harness.debian_machine import ROOT as DEBIANS
+from harness.debian_machine import WITHIN, Debian, lines_of, make_root
 
 CLONE_NEWNET = 0x40000000
-WITHIN = "systemd,systemd-sysv,dbus,curl,jq,sqlite3,haproxy,nginx-light,python3,openssl,procps"
-EXAMPLES = "/usr/share/doc/fwdesk/examples"
+# the Debian of tests/e2e/hawkbit, which has what its services need besides
+DEBIAN = DEBIANS.with_name("fwdesk-hawkbit-debian")
 RECORDS = "/var/lib/private/fwdesk-fleets"
 TLS, LOCAL = 8443, 8081
-SECRET = "secret"
-# the edge of many fleets as docs/FLEETS.md sets it up, with the port of this machine that the checks ask
-PROXIES = """
-own=/etc/fwdesk/haproxy.d; units=/etc/systemd/system
-mkdir -p $own $units/haproxy.service.d $units/haproxy-desks.service.d /var/lib/fwdesk-brake
-cp /usr/share/fwdesk/haproxy/local/fleets/*.cfg $own && touch /var/lib/fwdesk-brake/held.map
-sed -i 's|@NAME@|desk.example|; s|^global$|&\\n    setenv FWDESK_LOCAL_PORT 8081|' $own/10-own.cfg
-# the checks come from this one machine, by any fleet's host
-sed -i '/FWDESK_HOSTS/d' $own/10-own.cfg
-cat > $units/haproxy.service.d/fwdesk.conf <<EOF
-[Unit]
-Wants=haproxy-desks.service
-After=haproxy-desks.service
-[Service]
-Environment="CONFIG=/etc/fwdesk/haproxy.d"
-Environment="EXTRAOPTS=-f /usr/share/fwdesk/haproxy/edge -S /run/haproxy-master.sock"
-EOF
-cat > $units/haproxy-desks.service.d/fleets.conf <<EOF
-[Service]
-Environment="SERVERS=-f /etc/haproxy/fleets/servers.cfg"
-MemoryDenyWriteExecute=no
-CapabilityBoundingSet=CAP_FOWNER
-EOF
+NAME, SECRET = "desk.example", "secret"
+# beside what docs/FLEETS.md sets up: the port of this machine that the checks ask, and passwords in plain words, so that
+# thousands of logins are asked in seconds
+OWN = """
+cd /etc/fwdesk/haproxy.d && echo '127.0.0.1 {name}' >> /etc/hosts
+sed -i 's|^global$|&\\n    setenv FWDESK_LOCAL_PORT {port}|' 10-own.cfg
+printf 'userlist operators\\n{users}' > 20-operators.cfg
+systemctl restart haproxy
 """
 BASE = "/DEFAULT/controller/v1"
 # the longest that clients poll, in seconds: longer than any check takes on a busy machine
@@ -102,7 +88,7 @@ class Machine(Debian):
     """The Debian with the package and both proxies, and this process within its network."""
 
     def __init__(self, root, program, operators):
-        make_root(root, WITHIN)
+        make_root(root, f"{WITHIN},python3-aiohttp")
         super().__init__(root)
         self.program, self.operators = program, operators
 
@@ -118,25 +104,17 @@ class Machine(Debian):
         return self
 
     def install(self):
+        """The package, and the lines of docs/FLEETS.md, all but that of the first fleet."""
         with tempfile.TemporaryDirectory(prefix="fwdesk-fleets-") as out:
-            made = package.make(self.program, Path(out))[0]
+            made = package.make(self.program, Path(out), quick=True)[0]
             self.gives("cat > /tmp/fwdesk.deb", made.read_bytes())
-        self.gives("dpkg -i /tmp/fwdesk.deb && systemctl disable -q --now fwdesk")
+        self.gives("dpkg -i /tmp/fwdesk.deb")
+        lines = lines_of("FLEETS.md", "## Set it up", "fwdesk-setup")
         self.gives(
-            "cd /etc/fwdesk 2>/dev/null || { mkdir -p /etc/fwdesk && cd /etc/fwdesk; }; "
-            "openssl req -x509 -newkey ec -pkeyopt ec_paramgen_curve:prime256v1 -nodes -subj /CN=desk.example "
-            "-addext subjectAltName=DNS:localhost,IP:127.0.0.1 -keyout server.key -out server.crt 2>&1 && "
-            "cat server.crt server.key > server.pem"
+            "set -e\n" + "".join(it for it in lines if not it.startswith("fwdesk-fleet add "))
         )
-        self.gives(PROXIES)
-        # passwords in plain words here, so that thousands of logins are asked in seconds
-        users = "\\n".join(f"    user {it} insecure-password {SECRET}" for it in self.operators)
-        own = "/etc/fwdesk/haproxy.d/20-operators.cfg"
-        self.gives(f"sed -i 's|^ *user anna password @PASSWORD@|{users}|' {own}")
-        self.gives(
-            "fwdesk-fleet settle; systemctl daemon-reload; systemctl enable -q --now haproxy-desks && "
-            "systemctl restart haproxy"
-        )
+        users = "".join(f"    user {it} insecure-password {SECRET}\\n" for it in self.operators)
+        self.gives("set -e" + OWN.format(name=NAME, port=LOCAL, users=users))
         self.enter_network()
 
     def enter_network(self):

@@ -8,7 +8,8 @@ from harness.alone import said
 from harness.tls import make_certificate
 
 HERE = Path(__file__).resolve().parent
-DEPLOY = HERE.parents[2] / "deploy"
+ROOT = HERE.parents[2]
+DEPLOY = ROOT / "deploy"
 CLUSTER = DEPLOY / "pacemaker"
 WITHIN = (
     "pacemaker corosync pacemaker-cli-utils pcs resource-agents haproxy iproute2 e2fsprogs procps psmisc kmod "
@@ -71,9 +72,7 @@ def put_proxies(root, fleets):
     """Both HAProxys of a node, with a login and a server for each fleet, as docs/FAILOVER.md has them."""
     for part in ("edge", "desks"):
         for it in sorted((DEPLOY / "haproxy" / part).glob("*.cfg")):
-            # the console isn't there, nor the page
-            if "console" not in it.name:
-                put(root, f"usr/share/fwdesk/haproxy/{part}/{it.name}", text(it))
+            put(root, f"usr/share/fwdesk/haproxy/{part}/{it.name}", text(it))
     own, password = "etc/fwdesk/haproxy.d", said(
         "openssl", "passwd", "-6", "-salt", "lab", "secret"
     )
@@ -88,12 +87,11 @@ def put_proxies(root, fleets):
     put(root, "etc/haproxy/fleets/servers.cfg", "\n".join([*head, *servers, ""]))
     units = "etc/systemd/system"
     put(root, f"{units}/haproxy-desks.service", text(DEPLOY / "systemd/haproxy-desks.service"))
-    # fwdesk-fleet isn't on these nodes; HAProxy compiles its patterns
+    # fwdesk-fleet isn't on these nodes
     put(
         root,
         f"{units}/haproxy-desks.service.d/lab.conf",
-        '[Service]\nExecStartPre=\nEnvironment="SERVERS=-f /etc/haproxy/fleets/servers.cfg"\n'
-        "MemoryDenyWriteExecute=no\n",
+        '[Service]\nExecStartPre=\nEnvironment="SERVERS=-f /etc/haproxy/fleets/servers.cfg"\n',
     )
     put(
         root,
@@ -102,8 +100,8 @@ def put_proxies(root, fleets):
         'Environment="CONFIG=/etc/fwdesk/haproxy.d"\n'
         'Environment="EXTRAOPTS=-f /usr/share/fwdesk/haproxy/edge -S /run/haproxy-master.sock"\n',
     )
-    put(root, "etc/tmpfiles.d/fwdesk.conf", "d /run/fwdesk 0755 root root -\n")
-    put(root, "etc/sysusers.d/fwdesk.conf", "g fwdesk-admin - -\ng fwdesk-gateway - -\n")
+    put(root, "etc/tmpfiles.d/fwdesk.conf", text(ROOT / "debian/fwdesk.tmpfiles"))
+    put(root, "etc/sysusers.d/fwdesk.conf", text(ROOT / "debian/fwdesk.sysusers"))
 
 
 def certificate(root):
