@@ -11,3 +11,5 @@ METRICS = "/usr/share/fwdesk/fwdesk-metrics"
 EMPTY = Path("/usr/share/fwdesk/empty.db")
 # the administration sockets of the HAProxy before all, and of the one that has the connections to the servers
 EDGE, DESKS = "/run/haproxy/admin.sock", "/run/haproxy-desks/admin.sock"
+# that of the process which starts the edge's others
+EDGE_MASTER = "/run/haproxy-master.sock"

@@ -95,8 +95,32 @@ def replace_map(file: Path, lines: list[str]) -> bool:
     return True
 
 
+def find_processes() -> set[str]:
+    """The processes of the running edge. A reload that has begun is waited for: the process that comes may have read
+    the maps as they were before."""
+    until = time.monotonic() + SECONDS
+    while time.monotonic() < until:
+        try:
+            return haproxy.find_workers(places.EDGE_MASTER)
+        except haproxy.NotRunning:
+            if not Path(places.EDGE_MASTER).exists() or ask(places.EDGE, "show info") is None:
+                break
+        time.sleep(0.05)
+    return set()
+
+
 def tell_edge(all_fleets: list[Fleet]) -> None:
-    """Replaces each map of the running edge."""
+    """Replaces each map of the running edge, again where another process has come meanwhile."""
+    for _ in range(TRIES):
+        before = find_processes()
+        tell_maps(all_fleets)
+        if find_processes() <= before:
+            return
+    raise NotDone("the edge was reloaded each time that it was told: try again")
+
+
+def tell_maps(all_fleets: list[Fleet]) -> None:
+    """Replaces each map of the newest process."""
     if "Unknown map" in (ask(places.EDGE, f"show map {places.PROXIES}/names.map") or ""):
         print(
             "the running haproxy isn't the edge of the fleets: systemctl restart haproxy",

@@ -23,7 +23,7 @@ def made_machine():
         for name in ("FLEETS", "PROXIES", "RECORDS", "PROGRAMS", "WANTED"):
             setattr(places, name, Path(folder) / name)
             getattr(places, name).mkdir()
-        places.EDGE = places.DESKS = f"{folder}/none.sock"
+        places.EDGE = places.DESKS = places.EDGE_MASTER = f"{folder}/none.sock"
         calls = []
         units.systemctl = lambda *words: calls.append(words) or (True, "")
         Fleet("acme", 20001, ["acme.example"], ["acme-"], ["anna"]).write()
