@@ -1,4 +1,4 @@
--- wrk's script: polls of random devices of random fleets, each led to by path, host or prefix; or downloads of what they are offered.
+-- wrk's script: polls of random devices of random fleets, each led to by path, by prefix or, through TLS, by host; or downloads of what they are offered.
 -- wrk .. -s fleets.lua URL -- FIRST LAST DEVICES keep|close|download
 local first, last, devices, close, download
 function init(args)
@@ -8,9 +8,10 @@ end
 function request()
     local fleet = string.format("f%02d", math.random(first, last))
     local id = string.format("%s-%05d", fleet, math.random(devices))
-    local way, headers, path = math.random(3), { ["Authorization"] = "TargetToken tok-" .. id }, "/DEFAULT/controller/v1/" .. id
+    -- the machine's own port answers to the machine's own names alone
+    local way, headers, path = math.random(wrk.scheme == "https" and 3 or 2), { ["Authorization"] = "TargetToken tok-" .. id }, "/DEFAULT/controller/v1/" .. id
     if way == 1 then path = "/fleets/" .. fleet .. path end
-    if way == 2 then headers["Host"] = fleet .. ".desk.example" end
+    if way == 3 then headers["Host"] = fleet .. ".desk.example" end
     if download then path = path .. "/softwaremodules/1/artifacts/app.bin" end
     if close then headers["Connection"] = "close" end
     return wrk.format("GET", path, headers)

@@ -8,6 +8,7 @@ import shutil
 import signal
 import subprocess
 import time
+import traceback
 from collections.abc import Callable, Iterable
 from pathlib import Path
 
@@ -54,7 +55,9 @@ def run_checks(checks: Iterable[tuple[Callable[..., None], object]]) -> tuple[in
             print(f"ok, {time.monotonic() - began:.0f} s: {words}", flush=True)
         except (AssertionError, subprocess.SubprocessError, OSError, ValueError) as error:
             failed += 1
-            print(f"FAILED: {words}\n    {error}", flush=True)
+            # an assertion without words is told by its line
+            *_, place = traceback.extract_tb(error.__traceback__)
+            print(f"FAILED: {words}\n    line {place.lineno}, {place.line}: {error}", flush=True)
     return passed, failed
 
 

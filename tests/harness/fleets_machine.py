@@ -63,6 +63,8 @@ def poll(name, way, number, tls=False):
 
 
 WAYS = ("path", "host", "prefix")
+# at the machine's own port, which answers to the machine's own names alone
+NEAR_WAYS = ("path", "prefix")
 
 # makes the files of fleets f01, f02 .., each with so many devices
 MAKE = """
@@ -200,10 +202,10 @@ def login(user, password=SECRET):
 
 
 def requests(names, devices, stop):
-    """Polls of any of these fleets by any of the ways, until it is told to stop."""
+    """Polls of any of these fleets at the machine's own port, until it is told to stop."""
     chance = random.Random(0)
     while not stop.is_set():
-        yield poll(chance.choice(names), chance.choice(WAYS), chance.randint(1, devices))
+        yield poll(chance.choice(names), chance.choice(NEAR_WAYS), chance.randint(1, devices))
 
 
 def crowd(names, devices, clients, stop, tell):
