@@ -7,6 +7,7 @@ import time
 from dataclasses import dataclass
 from typing import Callable, TypeVar
 
+from harness.processes import HOST, PATIENCE
 from .stage import DEVICES, Link, Stage
 
 T = TypeVar("T")
@@ -109,6 +110,26 @@ def hold(links: list[socket.socket | Link], made: Callable[[], Link], count: int
             links.append(made())
         except OSError:
             pass
+
+
+def silent(port: int, source: str) -> socket.socket:
+    """A connection that says nothing."""
+    it = socket.socket(socket.AF_INET6 if ":" in source else socket.AF_INET)
+    it.settimeout(PATIENCE)
+    it.bind((source, 0))
+    it.connect((source if ":" in source else HOST, port))
+    return it
+
+
+def is_kept(it: socket.socket) -> bool:
+    """Whether a connection that says nothing isn't ended at once."""
+    it.settimeout(0.5)
+    try:
+        return it.recv(1) != b""
+    except TimeoutError:
+        return True
+    except ConnectionResetError:
+        return False
 
 
 def load() -> str:

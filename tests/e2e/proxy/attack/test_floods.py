@@ -8,7 +8,7 @@ import time
 from typing import Iterator
 
 import pytest
-from .crowd import compare, hold, load
+from .crowd import compare, hold, is_kept, load, silent
 from harness.processes import HOST, eventually
 from .stage import DEVICES, Link, Stage, StandIn, token
 
@@ -145,6 +145,64 @@ def test_slow_readers_of_one_device(stocked: Stage, size: int) -> None:
     # four of 4 MiB each, which are held twice for a moment, and what connections cost
     assert most - before < (2 * 4 * 4 + len(links) / 4) * MEGABYTE
     stocked.forget()
+
+
+@pytest.mark.gate
+def test_address_has_half_of_all_downloads(narrow: Stage) -> None:
+    """Of six downloads an address has three under way, of however many devices; another address has its own."""
+    narrow.forget()
+    links: list[Link] = []
+    try:
+        for device in range(1, 4):
+            hold(links, lambda device=device: slow_download(narrow, device, "127.4.1.1"), 1)
+        eventually("three downloads", lambda: narrow.connections() == 3)
+        told = [narrow.ask("GET", DOWNLOAD.format(4), token(4), source="127.4.1.1")[0]]
+        told += [narrow.ask("GET", DOWNLOAD.format(4), token(4), source="127.4.1.2")[0]]
+    finally:
+        for it in links:
+            it.close()
+    assert told == [429, 200]
+
+
+@pytest.mark.gate
+def test_device_has_eight_requests(quiet: Stage) -> None:
+    """A device has eight requests under way at an address, and no poll beside them; another device there has one, and so
+    has it at another address."""
+    links: list[Link] = []
+    path = f"{quiet.base}/DEFAULT/controller/v1/dev-01/configData"
+    head = f"PUT {path} HTTP/1.1\r\nHost: localhost\r\n{token(1)}Content-Length: 2\r\n\r\n"
+
+    def begin() -> Link:
+        link = quiet.open("127.4.2.1")
+        link.send(head)
+        return link
+
+    def polled(device: int, source: str) -> int:
+        with quiet.open(source) as link:
+            return quiet.poll(link, device)[0]
+
+    try:
+        hold(links, begin, 8)
+        eventually("a ninth that is refused", lambda: polled(1, "127.4.2.1") == 429)
+        assert (polled(2, "127.4.2.1"), polled(1, "127.4.2.2")) == (200, 200)
+    finally:
+        for it in links:
+            it.close()
+
+
+@pytest.mark.gate
+def test_address_has_a_thousand_connections(quiet: Stage) -> None:
+    """One connection more than a thousand of an address is ended at once; another address is served."""
+    links: list[socket.socket] = []
+    try:
+        hold(links, lambda: silent(quiet.port, "127.4.3.1"), 1000)
+        eventually("a thousand connections", lambda: quiet.connections() == len(links) == 1000)
+        hold(links, lambda: silent(quiet.port, "127.4.3.1"), 1)
+        hold(links, lambda: silent(quiet.port, "127.4.3.2"), 1)
+        assert (is_kept(links[-2]), is_kept(links[-1])) == (False, True)
+    finally:
+        for it in links:
+            it.close()
 
 
 @pytest.mark.gate

@@ -9,8 +9,8 @@ from pathlib import Path
 from typing import Iterator
 
 import pytest
-from .crowd import compare, hold, load
-from harness.processes import HOST, PATIENCE, free_port
+from .crowd import compare, hold, is_kept, load, silent
+from harness.processes import HOST, PATIENCE, eventually, free_port
 from .stage import GUESSED, TLS, Link, Stage, login
 
 pytestmark = [pytest.mark.e2e]
@@ -175,9 +175,9 @@ def test_both_kinds_of_addresses(both: Stage) -> None:
     assert tried_at_once(both.port, [*those, "127.0.0.6"]) == [429, 429, 401]
 
 
-@pytest.mark.gate
-def test_whole_network_is_one(both: Stage) -> None:
-    """The addresses of 64 bits of IPv6 are one guesser; those of the next 64 are another."""
+@pytest.fixture(scope="module")
+def networks(both: Stage) -> Iterator[tuple[list[str], str]]:
+    """Five addresses of 64 bits of IPv6 that this machine has, and one of the next 64."""
     # networks that no other run of this test on the machine gives and takes
     own = f"2001:db8:{os.getpid() & 0xFFFF:x}"
     those = [f"{own}:1::{it:x}" for it in range(1, 6)] + [f"{own}:2::1"]
@@ -187,11 +187,33 @@ def test_whole_network_is_one(both: Stage) -> None:
             subprocess.run(words, check=True, capture_output=True)
     except (OSError, subprocess.CalledProcessError):
         pytest.skip("addresses can't be given to this machine")
+    yield those[:5], those[5]
+    for it in those:
+        subprocess.run(["ip", "-6", "addr", "del", f"{it}/128", "dev", "lo"], check=False)
+
+
+@pytest.mark.gate
+def test_whole_network_is_one(both: Stage, networks: tuple[list[str], str]) -> None:
+    """The addresses of 64 bits of IPv6 are one guesser; those of the next 64 are another."""
+    own, next_one = networks
+    both.forget()
+    for turn in range(4):
+        assert [tried(both.port, it) for it in own] == [401] * 5, turn
+    assert tried_at_once(both.port, [*own[:2], next_one]) == [429, 429, 401]
+
+
+@pytest.mark.gate
+def test_network_has_a_thousand_connections(both: Stage, networks: tuple[list[str], str]) -> None:
+    """They have a thousand connections together: one more, of any of them, is ended at once."""
+    own, next_one = networks
+    links: list[socket.socket] = []
     try:
-        both.forget()
-        for turn in range(4):
-            assert [tried(both.port, it) for it in those[:5]] == [401] * 5, turn
-        assert tried_at_once(both.port, [*those[:2], those[5]]) == [429, 429, 401]
+        for it in own:
+            hold(links, lambda it=it: silent(both.port, it), 200)
+        eventually("a thousand connections", lambda: both.connections() == len(links) == 1000)
+        hold(links, lambda: silent(both.port, own[0]), 1)
+        hold(links, lambda: silent(both.port, next_one), 1)
+        assert (is_kept(links[-2]), is_kept(links[-1])) == (False, True)
     finally:
-        for it in those:
-            subprocess.run(["ip", "-6", "addr", "del", f"{it}/128", "dev", "lo"], check=False)
+        for it in links:
+            it.close()
