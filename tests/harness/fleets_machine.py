@@ -106,11 +106,11 @@ class Machine(Debian):
         return self
 
     def install(self):
-        """The package, and the lines of docs/FLEETS.md, all but that of the first fleet."""
+        """The packages, and the lines of docs/FLEETS.md, all but that of the first fleet."""
         with tempfile.TemporaryDirectory(prefix="fwdesk-fleets-") as out:
-            made = package.make(self.program, Path(out), quick=True)[0]
-            self.gives("cat > /tmp/fwdesk.deb", made.read_bytes())
-        self.gives("dpkg -i /tmp/fwdesk.deb")
+            for it in package.make(self.program, Path(out), quick=True):
+                self.gives(f"cat > /root/{it.name}", it.read_bytes())
+        self.gives("dpkg -i /root/*.deb")
         lines = lines_of("FLEETS.md", "## Set it up", "fwdesk-setup")
         self.gives(
             "set -e\n" + "".join(it for it in lines if not it.startswith("fwdesk-fleet add "))

@@ -1,0 +1,126 @@
+"""nginx before hawkBit's clients: what isn't a device's path comes to nobody behind it, however it is spelt."""
+
+import shutil
+import socket
+import threading
+from collections.abc import Iterator
+from pathlib import Path
+
+import pytest
+from harness.edge import make_certificate
+from harness.processes import HOST, Processes, eventually, free_port, listens, with_places
+from stage import ROOT, TLS, Link, login
+
+pytestmark = [
+    pytest.mark.e2e,
+    pytest.mark.gate,
+    pytest.mark.skipif(not shutil.which("nginx"), reason="there is no nginx"),
+]
+DEVICE = "/DEFAULT/controller/v1/dev-01"
+FOREIGN = (
+    "/rest/v1/targets",
+    "/fwdesk/brake",
+    "//rest/v1/targets/../../../DEFAULT/x",
+    f"/rest/v1/targets/../../..{DEVICE}",
+    f"/rest/v1/../..{DEVICE}",
+    f"//rest/v1/%2e%2e/%2e%2e{DEVICE}",
+    f"/x/..{DEVICE}",
+    f"/./{DEVICE[1:]}",
+    f"/{DEVICE}",
+    "/%44EFAULT/controller/v1/dev-01",
+    f"{DEVICE}/../../../../rest/v1/targets",
+    f"{DEVICE}/%2e%2e/%2E./../../rest/v1/targets",
+    f"{DEVICE}/./configData",
+    f"{DEVICE}/deploymentBase/..",
+    "/images/app.swu",
+)
+
+
+class Behind:
+    """Whoever is behind nginx: he answers 200, and remembers the first line of each request."""
+
+    def __init__(self, path: Path) -> None:
+        self.seen: list[str] = []
+        self.listener = socket.socket(socket.AF_UNIX)
+        self.listener.bind(str(path))
+        self.listener.listen(64)
+        # the user of nginx's workers comes in
+        path.chmod(0o666)
+        threading.Thread(target=self.accept, daemon=True).start()
+
+    def accept(self) -> None:
+        while True:
+            try:
+                link = self.listener.accept()[0]
+            except OSError:
+                return
+            with link:
+                text = link.recv(65536).decode("latin-1")
+                self.seen.append(text.partition("\r\n")[0])
+                link.sendall(b"HTTP/1.1 200 OK\r\nConnection: close\r\nContent-Length: 2\r\n\r\n{}")
+
+    def end(self) -> None:
+        self.listener.shutdown(socket.SHUT_RDWR)
+        self.listener.close()
+
+
+@pytest.fixture(scope="module")
+def door(tmp_path_factory: pytest.TempPathFactory) -> Iterator[tuple[int, list[Behind]]]:
+    """nginx with hawkbit-polls.conf, by its port, and both that it asks."""
+    folder = tmp_path_factory.mktemp("door")
+    for it in (folder, *folder.parents[:2]):
+        it.chmod(0o755)
+    make_certificate(folder)
+    port, sockets = free_port(), [folder / "polls.sock", folder / "hawkbit.sock"]
+    behind = [Behind(it) for it in sockets]
+    text = with_places(
+        (ROOT / "deploy/nginx/hawkbit-polls.conf").read_text(encoding="utf-8"),
+        {
+            "listen 8444 ssl": f"listen {HOST}:{port} ssl",
+            "/etc/fwdesk/server": f"{folder}/server",
+            "/run/fwdesk/devices.sock": str(sockets[0]),
+            "/run/fwdesk-hawkbit/devices.sock": str(sockets[1]),
+        },
+    )
+    (folder / "polls.conf").write_text(text)
+    kept = " ".join(
+        f"{it}_temp_path {folder}/{it};" for it in ("proxy", "fastcgi", "uwsgi", "scgi")
+    )
+    (folder / "nginx.conf").write_text(
+        f"daemon off; worker_processes 1; pid {folder}/nginx.pid; events {{}}\n"
+        f"http {{ access_log off; client_body_temp_path {folder}/body; {kept} include {folder}/polls.conf; }}\n"
+    )
+    processes = Processes(folder)
+    words = ["nginx", "-p", str(folder), "-c", str(folder / "nginx.conf"), "-e", "stderr"]
+    child = processes.start("nginx", words)
+    eventually("nginx", lambda: listens(port), child=child)
+    yield port, behind
+    processes.end_all()
+    for it in behind:
+        it.end()
+
+
+def told(port: int, method: str, path: str) -> int:
+    """The status of a request as it is."""
+    link = socket.create_connection((HOST, port), 30)
+    with Link(TLS.wrap_socket(link)) as opened:
+        return opened.ask(method, path, login("zoe"), b"" if method == "POST" else None)[0]
+
+
+@pytest.mark.parametrize("path", FOREIGN)
+@pytest.mark.parametrize("method", ["GET", "POST"])
+def test_no_other_path_passes(door: tuple[int, list[Behind]], method: str, path: str) -> None:
+    """A path that only comes to a device's by dots or slashes is 404, and nobody behind sees it."""
+    port, behind = door
+    before = [len(it.seen) for it in behind]
+    assert told(port, method, path) in (400, 404)
+    assert [len(it.seen) for it in behind] == before, behind[0].seen + behind[1].seen
+
+
+def test_device_passes(door: tuple[int, list[Behind]]) -> None:
+    """A poll goes on at once, and all else of a device by the service, each as it was written."""
+    port, (polls, service) = door
+    assert told(port, "GET", DEVICE) == 200
+    assert polls.seen[-1] == f"GET {DEVICE} HTTP/1.1"
+    assert told(port, "POST", f"{DEVICE}/deploymentBase/1/feedback") == 200
+    assert service.seen[-1] == f"POST {DEVICE}/deploymentBase/1/feedback HTTP/1.1"
