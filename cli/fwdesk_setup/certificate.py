@@ -10,10 +10,13 @@ from pathlib import Path
 from fwdesk_setup import places
 from fwdesk_setup.errors import Refused
 from fwdesk_setup.files import write_whole
+from fwdesk_setup.ports import listener_on
 from fwdesk_setup.run import output_of, run
 
 # days; both outlive the machine, since nobody renews them. An alert tells 21 days before the end
 OF_AUTHORITY, OF_SERVER = 7300, 3650
+# where an authority of ACME looks for certbot's proof, and what takes a renewed certificate over
+ACME_PORT, DEPLOY_HOOK = 80, "/usr/share/fwdesk/fwdesk-setup --renewed"
 CURVE = ("-newkey", "ec", "-pkeyopt", "ec_paramgen_curve:prime256v1", "-nodes")
 
 
@@ -101,14 +104,36 @@ def join(certificate: Path, key: Path, name: str) -> bool:
     return write_whole(pem(), text + of_key, 0o600)
 
 
-def ask_acme(name: str, mail: str) -> None:
-    """Has certbot get a certificate, and renew it from then on."""
+def refuse_acme(name: str) -> None:
+    """Refuses a machine on which certbot can't get the first certificate of a name."""
     if not shutil.which("certbot"):
         raise Refused("certbot isn't there: apt install certbot")
+    if files_of_acme(name)[0].exists():
+        return
+    if words := acme_port_fault(name):
+        raise Refused(f"{words}\nNothing was changed")
+
+
+def acme_port_fault(name: str) -> str | None:
+    """What keeps certbot from getting and renewing a certificate, with the way on; None where nothing does."""
+    holder = listener_on(ACME_PORT)
+    if holder is None:
+        return None
+    chain, key = files_of_acme(name)
+    return (
+        f"--acme needs port {ACME_PORT} now and at each renewal, and {holder} listens there. Stop it for good, or have "
+        "certbot put its proof into the folder that it serves, and name the certificate (/var/www/html is Debian's):\n"
+        f"    certbot certonly --webroot -w /var/www/html -d {name} --deploy-hook '{DEPLOY_HOOK}'\n"
+        f"    fwdesk-setup {name} --certificate {chain} --key {key}"
+    )
+
+
+def ask_acme(name: str, mail: str) -> None:
+    """Has certbot get a certificate, and renew it from then on."""
     output_of(
         *("certbot", "certonly", "--standalone", "--non-interactive", "--agree-tos"),
         *("--keep-until-expiring", "--cert-name", name, "-d", name, "-m", mail),
-        *("--deploy-hook", "/usr/share/fwdesk/fwdesk-setup --renewed"),
+        *("--deploy-hook", DEPLOY_HOOK),
     )
 
 

@@ -96,9 +96,14 @@ def refuse_changes(copy: earlier.Copied | None, drop: bool) -> None:
         )
 
 
+def asks_acme(chosen: dict) -> bool:
+    """Whether the certificate is one that certbot gets and renews."""
+    return bool(chosen["acme"]) and not chosen.get("copied")
+
+
 def put_certificate(chosen: dict) -> bool:
     """The certificate by the choices, which ACME is asked for; tells whether it is another one now."""
-    if chosen["acme"] and not chosen.get("copied"):
+    if asks_acme(chosen):
         certificate.ask_acme(chosen["name"], chosen["acme"])
     return take_certificate(chosen)
 
@@ -233,6 +238,8 @@ def set_up(order: argparse.Namespace) -> int:
     refuse_changes(copy, order.drop_changes)
     before, own = read_choices(), Snapshot()
     chosen, was_open = make_choices(order, before, copy), hawkbit.management_port() is not None
+    if asks_acme(chosen):
+        certificate.refuse_acme(chosen["name"])
     try:
         changed, password = put_all(order, copy, before, chosen, own)
     except BaseException:
@@ -332,15 +339,13 @@ def check() -> int:
     """Tells what is wrong, and changes nothing."""
     if not proxy.is_set_up():
         raise Refused("nothing is set up here: fwdesk-setup NAME")
-    found = parts.faults(str(parts.current()))
-    seen = [] if found else outside.look()
-    print(
-        *filter(None, [found, *seen])
-        if found or seen
-        else ["valid, and well as seen from outside"],
-        sep="\n",
-    )
-    return 1 if found or seen else 0
+    chosen = read_choices()
+    faults = [parts.faults(str(parts.current()))]
+    faults = [it for it in faults if it] or outside.look()
+    if asks_acme(chosen) and (words := certificate.acme_port_fault(chosen["name"])):
+        faults.append(words)
+    print(*faults or ["valid, and well as seen from outside"], sep="\n")
+    return 1 if faults else 0
 
 
 def undo() -> int:

@@ -4,13 +4,14 @@ import argparse
 import contextlib
 import os
 import re
+import socket
 import tempfile
 from pathlib import Path
 
 from harness.asserting import same
 
 from fwdesk_ctl import operators, passwords
-from fwdesk_setup import certificate, earlier, files, hawkbit, parts, places, proxy, steps
+from fwdesk_setup import certificate, earlier, files, hawkbit, parts, places, ports, proxy, steps
 from fwdesk_setup.errors import NotDone, Refused
 
 DELIVERED = earlier.OF_1_0_0.read_text(encoding="utf-8")
@@ -61,6 +62,19 @@ def test_a_certificate_names_hosts_and_addresses():
     same(certificate.alternative("desk.example"), "DNS:desk.example")
     same(certificate.alternative("192.0.2.7"), "IP:192.0.2.7")
     same(certificate.alternative("2001:db8::7"), "IP:2001:db8::7")
+
+
+def test_who_listens_on_a_port_is_named():
+    for family, address in ((socket.AF_INET, "127.0.0.1"), (socket.AF_INET6, "::1")):
+        try:
+            held = socket.create_server((address, 0), family=family)
+        except OSError:
+            continue  # a machine without IPv6
+        with held:
+            port = held.getsockname()[1]
+            found = ports.listener_on(port)
+            assert found and found.endswith(f"(process {os.getpid()})"), found
+        same(ports.listener_on(port), None)
 
 
 def test_passwords_differ_and_are_long():

@@ -155,6 +155,39 @@ def test_a_certificate_of_acme_and_its_renewal(packages):
         assert machine.until(lambda: serial() == machine.gives(newest) != first, 30), serial()
         assert machine.processes() == before, "it is taken over by a reload"
         machine.serves(f"anna:{password}")
+        # somebody who takes port 80 later is told of before the certificate ends
+        assert machine.gives("fwdesk-setup --check") == "valid, and well as seen from outside"
+        machine.gives("systemctl start nginx")
+        status, told = machine.does("fwdesk-setup --check")
+        assert status == 1 and "needs port 80" in told and "nginx (process" in told, told
+
+
+def test_acme_beside_a_web_server_on_port_80(packages):
+    """What is in the way is told before anything is changed, with two commands that do."""
+    with Server(root=make_acme_root(), share=packages.folder) as machine:
+        machine.gives(f"echo '127.0.0.1 localhost {NAME}' >> /etc/hosts")
+        machine.install(packages.now)
+        assert machine.gives("systemctl is-active nginx") == "active"
+        machine.gives("sleep 1; touch /tmp/mark")
+        before = machine.gives("systemctl show -p MainPID haproxy nginx")
+        status, told = machine.does(f"fwdesk-setup {NAME} --acme you@example.org")
+        assert status == 2 and "nginx (process" in told and "Nothing was changed" in told, told
+        assert machine.gives(WRITTEN) == ""
+        assert machine.gives("systemctl show -p MainPID haproxy nginx") == before
+        assert machine.does("test -e /etc/letsencrypt/live")[0] == 1, "certbot was asked"
+        ask, use = re.findall(r"^    (.*)", told, re.M)
+        machine.gives("bash -s", PEBBLE)
+        answers = "--non-interactive --agree-tos -m you@example.org"
+        machine.gives(f"{ask} {answers} 2>&1")
+        password = re.search(r"password (\S+)", machine.gives(use))[1]
+        machine.ASK = machine.ASK.replace("--cacert /etc/fwdesk/ca.crt", "")
+        machine.serves(f"anna:{password}")
+        first = machine.gives("cat /etc/fwdesk/server.crt")
+        machine.gives("certbot renew --force-renewal --no-random-sleep-on-renew 2>&1")
+        newest = machine.gives(f"cat /etc/letsencrypt/live/{NAME}/fullchain.pem")
+        assert machine.gives("cat /etc/fwdesk/server.crt") == newest != first
+        assert machine.gives("fwdesk-setup --check") == "valid, and well as seen from outside"
+        assert machine.gives("systemctl is-active nginx") == "active"
 
 
 @pytest.mark.parametrize(
