@@ -2,6 +2,7 @@
 the machine of the ones before them, in this order.
 
     FWDESK_PROGRAM=PATH python3 -m pytest tests/e2e/package/test_service.py      as root; five minutes"""
+import hashlib
 import json
 import os
 import re
@@ -80,10 +81,11 @@ def test_every_unit_is_installed_and_a_choice_is_disabled(debian):
     listed = debian.gives("systemctl list-unit-files --no-legend 'fwdesk*' 'haproxy-desks*'")
     enabled = {it.split()[0] for it in listed.splitlines() if it.split()[1] == "enabled"}
     assert enabled == {"fwdesk.service"}
-    assert (
-        debian.gives("grep -rl /usr/local/ /lib/systemd/system/fwdesk* /usr/share/fwdesk; true")
-        == ""
+    # the places of an installation by hand (programs of fleets' own lie in /usr/local/lib)
+    by_hand = (
+        "grep -rlE '/usr/local/s?bin/fwdesk' /lib/systemd/system/fwdesk* /usr/share/fwdesk; true"
     )
+    assert debian.gives(by_hand) == ""
 
 
 def test_it_keeps_to_its_unit(debian):
@@ -230,7 +232,7 @@ def test_its_command_line_steers_it(debian):
     assert '"version": "1"' in told, told
     assert "fwdesk-ctl failed ROLLOUT" in debian.gives("fwdesk-ctl failed --help")
     status, told = debian.does("fwdesk-ctl --url http://127.0.0.1:9 rollouts")
-    assert status == 6 and "isn't reached" in told, told
+    assert status == 6 and "cannot reach" in told, told
 
 
 def test_its_proxy_tells_who_changed_what(debian):
@@ -449,7 +451,9 @@ def test_lintian_has_nothing_to_say(built):
 
 def test_the_same_program_makes_the_same_package(built, tmp_path):
     again = package.make(PROGRAM, tmp_path, "1.0.0-1", quick=True)[0]
-    assert again.read_bytes() == built.read_bytes()
+    # (pytest would take hours to compare the bytes)
+    digests = {hashlib.sha256(it.read_bytes()).hexdigest() for it in (again, built)}
+    assert len(digests) == 1, "another package of the same program and files"
 
 
 @pytest.fixture(scope="module")
