@@ -1,6 +1,7 @@
 """Cases of fwdesk-ctl: a file of targets is checked before it is imported."""
 import json
 import random
+import re
 
 from fwdesk_ctl.fleet_file import read
 
@@ -110,6 +111,47 @@ def tells_each_fault(env):
     assert records(env) == before
 
 
+# what a hand does to a line of a long file, and what is wrong in it then
+SLIPS = (
+    (lambda it: it.replace(",", ";"), "semicolons stand between its values: commas are needed"),
+    (lambda it: it.replace("dev-", "dev ", 1), "'dev {}' is no id: 1 to 64 of A-Z a-z 0-9 . _ -"),
+    (lambda it: it.replace(",lab", ""), "it has 3 values in place of 4"),
+    (lambda it: f"{it},", "it has 5 values in place of 4"),
+    (lambda it: re.sub("tok-[^,]*", "tok-1", it), "the token has 5 characters: 8 to 64"),
+    (lambda it: it.replace("tok-dev", "tok dev"), "the token has another character"),
+    (lambda it: it.replace(",Pump,", ",,"), "the name is empty"),
+    (lambda it: it.replace(",lab", ",lab  north"), "one space stands between two tags"),
+    (lambda it: it.replace(",lab", ",lab;north"), "'lab;north' is no tag"),
+    (lambda it: it.replace(it.split(",")[0], "dev-00001", 1), "dev-00001 is in line 2 already"),
+)
+
+
+def mistyped_thousand(env):
+    """import --check of 1,000 devices with 40 slips in it: all 40 lines at once, each with its fault, and no other line; a
+    mistyped id that is one is told as new; nothing is changed; mended, the file is imported"""
+    names = env.fleet(1000)
+    before = env.get("targets?limit=500")
+    good = [f"{it},Pump,tok-{it},lab" for it in names]
+    rows, wanted = list(good), {}
+    for count, at in enumerate(range(17, 1000, 25)):
+        slip, words = SLIPS[count % len(SLIPS)]
+        rows[at] = slip(good[at])
+        wanted[at + 2] = words.format(names[at].removeprefix("dev-"))
+    # an O for a 0, which no rule of a file refuses
+    rows[500] = good[500].replace("dev-00501", "dev-O0501", 1)
+    status, out, said = env.ctl("import", "--check", written(env, HEAD + "\n".join(rows) + "\n"))
+    assert status == 1 and "40 faults in 40 lines; nothing is changed" in said, said
+    told = [it.removeprefix("wrong    line ") for it in out.splitlines() if "wrong" in it]
+    found = {int(number): words for number, _, words in (it.partition(": ") for it in told)}
+    assert len(told) == 40 and set(found) == set(wanted), (set(found) ^ set(wanted), out)
+    for line, words in wanted.items():
+        assert words in found[line], f"line {line}: {found[line]!r} in place of {words!r}"
+    assert "new      dev-O0501" in out and "960 devices: 1 new, 0 renamed" in out, out[-300:]
+    assert env.ctl("import", "fleet.csv")[0] == 1
+    assert env.get("targets?limit=500") == before and before["total"] == 1000
+    assert env.gives("import", written(env, HEAD + "\n".join(good) + "\n")) == "1000"
+
+
 def agrees_with_the_desk(env):
     """import --check calls a file good exactly where the desk takes it: 300 files with random changes of letters"""
     letters, dice = '"",,;\n\r\t a.é0', random.Random(71)
@@ -130,4 +172,4 @@ def agrees_with_the_desk(env):
     assert outcomes == {True, False}
 
 
-CASES = [checks_a_file, tells_each_fault, agrees_with_the_desk]
+CASES = [checks_a_file, tells_each_fault, mistyped_thousand, agrees_with_the_desk]
