@@ -10,7 +10,8 @@ export const TEXT = 128;
 const WORD = /^[A-Za-z0-9._-]+$/;
 const LETTERS = "A-Z a-z 0-9 . _ -";
 
-const bytesOf = (text) => new TextEncoder().encode(text).length;
+/** How many bytes a text has on the way. */
+export const bytesOf = (text) => new TextEncoder().encode(text).length;
 
 /** Whether it is an id or a tag. */
 export const isWord = (text) => WORD.test(text) && text.length <= 64;

@@ -155,6 +155,50 @@ def imports_word_by_word(browser, env):
 
 
 @case()
+def an_import_tells_all_faults_and_asks_before_it_changes(browser, env):
+    """All wrong lines at once, each with its fault, as `fwdesk-ctl import --check` tells them. Where devices that are there would be
+    renamed or lose tags that is asked first: nothing is sent without a yes."""
+    rows = "".join(f"dev-{k},Lab {k},tok-dev-{k},lab retired\n" for k in range(9))
+    env.api("POST", "/desk/v1/import", HEADER.decode() + rows)
+    entered(browser, env, "#/targets")
+    browser.open("details:has(#import-file)")
+    button = "details:has(#import-file) button"
+    wrong = ("dev 1,Lab,tok-dev-1,lab", "new-1,Lab,short,lab;north", "dev-2,,tok-dev-2,lab")
+    (env.folder / "wrong.csv").write_text(HEADER.decode() + ONE.decode() + "\n".join(wrong) + "\n")
+    browser.type("#import-file", str(env.folder / "wrong.csv"))
+    browser.click(button)
+    browser.until("document.querySelectorAll('#import-faults li').length === 4")
+    assert "4 faults in 3 lines" in browser.text("#import-faults")
+    assert browser.texts("#import-faults li") == [
+        "line 3: dev 1 is no id: 1 to 64 of A-Z a-z 0-9 . _ -",
+        "line 4: the token has 5 characters: 8 to 64 are needed",
+        "line 4: lab;north is no tag: 1 to 64 of A-Z a-z 0-9 . _ -",
+        "line 5: the name is empty",
+    ]
+    changed = (
+        "dev-0,Lab 0,tok-dev-0,lab\ndev-1,Other,tok-dev-1,lab retired yard\nnew-1,New,tok-new-1,\n"
+    )
+    (env.folder / "right.csv").write_text(HEADER.decode() + changed)
+    before = env.api("GET", "/rest/v1/targets")
+    browser.type("#import-file", str(env.folder / "right.csv"))
+    words = (
+        "3 devices: 1 new, 1 renamed, 1 lose tags, 1 gain tags.",
+        "dev-1 is renamed: Lab 1 \u2192 Other",
+        "dev-0 loses: retired",
+    )
+    browser.forget()
+    confirmed(browser, button, *words, wanted=False)
+    browser.until("document.querySelector('#import-told').innerText === 'Nothing was sent.'")
+    assert not browser.asked("import") and env.api("GET", "/rest/v1/targets") == before
+    assert browser.text("#import-faults") == ""
+    confirmed(browser, button, *words)
+    told = "document.querySelector('#import-told').innerText.includes('Imported: 3 devices.')"
+    browser.until(told)
+    assert env.api("GET", "/rest/v1/targets/dev-1")["name"] == "Other"
+    assert env.api("GET", "/rest/v1/targets/dev-0")["tags"] == ["lab"]
+
+
+@case()
 def uploads_word_by_word(browser, env):
     """What the server would refuse is said when the file is chosen, and isn't sent; the eighth file is the last."""
     env.api("POST", "/rest/v1/softwaremodules", [{"name": "app", "type": "os", "version": "1.0"}])
