@@ -1,4 +1,7 @@
 """HAProxy as the service of this machine: its units, and what it reads."""
+import contextlib
+from pathlib import Path
+
 from fwdesk_setup import parts, places
 from fwdesk_setup.errors import NotDone
 from fwdesk_setup.files import write_whole
@@ -51,10 +54,25 @@ def write_units() -> bool:
 def remove_units() -> bool:
     """Takes the drop-ins away: HAProxy is what its own package makes of it."""
     found = [it for it in drop_ins() if it.exists()]
-    for it in found:
-        it.unlink()
+    for it in (*found, link_file()):
+        it.unlink(missing_ok=True)
+    with contextlib.suppress(OSError):
+        link_file().parent.rmdir()  # (where nobody has put a file of his own there)
     systemctl("daemon-reload")
     return bool(found)
+
+
+def link_file() -> Path:
+    """What has the mails of fwdesk-notify lead to the web UI."""
+    return places.UNITS / "fwdesk-notify.service.d/fwdesk.conf"
+
+
+def write_link(address: str) -> bool:
+    """Has mails lead to an address, and tells whether they led elsewhere."""
+    changed = write_whole(link_file(), f"{MADE}[Service]\nEnvironment=FWDESK_LINK={address}\n")
+    if changed:
+        systemctl("daemon-reload")
+    return changed
 
 
 def own_text(name: str, port: int, certificate: str, local_port: int | None) -> str:

@@ -210,16 +210,21 @@ def go_back(before: str | None, was_set_up: bool, own: Snapshot) -> None:
         systemctl("restart", proxy.EDGE)
 
 
+def address_of(chosen: dict, other_port: int | None = None) -> str:
+    """The address that devices, operators and the web UI have, or one of another port."""
+    port = other_port or chosen["port"]
+    host = f"[{chosen['name']}]" if ":" in chosen["name"] else chosen["name"]
+    return f"https://{host}" if port == 443 else f"https://{host}:{port}"
+
+
 def print_end(chosen: dict, login: str, password: str | None, changed: bool) -> None:
     """What an operator has to know now."""
-    port = "" if chosen["port"] == 443 else f":{chosen['port']}"
-    host = f"[{chosen['name']}]" if ":" in chosen["name"] else chosen["name"]
-    print(f"page      https://{host}{port}/")
+    print(f"page      {address_of(chosen)}/")
     if password:
         print(f"login     {login}   password {password}   (shown once)")
-    print(f"devices   https://{host}{port}   with their tokens")
+    print(f"devices   {address_of(chosen)}   with their tokens")
     if pipelines := hawkbit.management_port():
-        print(f"hawkBit   https://{host}:{pipelines}   for pipelines, with the same logins")
+        print(f"hawkBit   {address_of(chosen, pipelines)}   for pipelines, with the same logins")
     if chosen["authority"]:
         print(
             f"trust     {chosen['authority']}, to be given to devices and to fwdesk-ctl elsewhere"
@@ -270,7 +275,8 @@ def put_all(
     if order.hawkbit_manage:
         changed = hawkbit.open_management() or changed
     login = (order.operator, password) if password else None
-    return switch(checked_copy(), changed or password is not None, login, own), password
+    changed = switch(checked_copy(), changed or password is not None, login, own)
+    return proxy.write_link(address_of(chosen)) or changed, password
 
 
 def upgrade() -> int:

@@ -125,8 +125,10 @@ def units_tell_it(env):
     mail.write_text('#!/bin/sh\ncat >> "$HOME/mails"\n')
     mail.chmod(0o755)
     own = {**env.environment, "FWDESK_URL": env.url, "MAIL": str(mail)}
+    link = re.search(r'^Environment="FWDESK_LINK=(.*)"$', unit, re.M)[1]
+    own["FWDESK_LINK"] = link.replace("%H", "desk.example")
     for it in commands:
-        line = it.replace("/var/lib/fwdesk-told", str(env.folder)).replace("%H", "desk.example")
+        line = it.replace("/var/lib/fwdesk-told", str(env.folder))
         packages.said(["/bin/sh", "-c", f"{env.words()[0]} {line}"], env=own)
     mails = (env.folder / "mails").read_text()
     assert mails.startswith(

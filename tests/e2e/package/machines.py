@@ -13,8 +13,8 @@ from harness.debian_machine import WITHIN, Debian, make_root
 
 PROGRAM = Path(os.environ.get("FWDESK_PROGRAM") or ROOT / "crates/fwdesk/out/fwdesk")
 NAME = "desk.example"
-# the Debian that has certbot, and an ACME server for it, too
-ACME = DEBIAN.with_name("fwdesk-debian-acme")
+# the Debian that has more: certbot, an ACME server for it, and autopkgtest
+MORE = DEBIAN.with_name("fwdesk-debian-more")
 package = as_module(ROOT / "tools/package")
 
 
@@ -87,9 +87,9 @@ def break_parts(tree: Path) -> None:
         file.write("    unheard of\n")
 
 
-def make_acme_root() -> Path:
-    make_root(ACME, f"{WITHIN},certbot,pebble,ca-certificates")
-    return ACME
+def make_root_with_more() -> Path:
+    make_root(MORE, f"{WITHIN},certbot,pebble,ca-certificates,autopkgtest")
+    return MORE
 
 
 class Server(Debian):

@@ -5,11 +5,12 @@
 It needs debootstrap and systemd-container, once the network, and debhelper."""
 import os
 import re
+import subprocess
 import time
 
 import pytest
 
-from .machines import NAME, PROGRAM, ROOT, Packages, Server, make_acme_root
+from .machines import NAME, PROGRAM, ROOT, Packages, Server, make_root_with_more
 
 pytestmark = [
     pytest.mark.skipif(os.geteuid() != 0, reason="systemd-nspawn is for root alone"),
@@ -56,6 +57,18 @@ def test_from_the_package_to_an_updated_device(server, packages, capsys):
         print("", *seconds, *re.findall(r"^\d+ ms: .*", told, re.M), sep="\n")
 
 
+def test_autopkgtest_passes(packages):
+    """As Debian runs debian/tests, on a machine that is thrown away: so what asks for one is granted."""
+    with Server(root=make_root_with_more(), share=packages.folder) as machine:
+        packed = ["tar", "-C", str(ROOT), "-cz", "debian"]
+        source = subprocess.run(packed, stdout=subprocess.PIPE, check=True).stdout
+        machine.gives("mkdir /srv/source && tar -C /srv/source -xz", source)
+        debs = f"/media/{packages.now.name} /media/{packages.device.name}"
+        granted = "--ignore-restrictions=isolation-machine,breaks-testbed"
+        told = machine.gives(f"autopkgtest -B {granted} {debs} /srv/source/ -- null 2>&1")
+        assert re.search(r"(?m)^serves +PASS$", told), told[-2000:]
+
+
 def test_again_it_changes_nothing(ready):
     before = ready.processes()
     ready.gives("sleep 1; touch /tmp/mark; sleep 0.1")
@@ -69,7 +82,10 @@ def test_again_it_changes_nothing(ready):
 def test_another_port_and_another_name(ready):
     authority = ready.gives("cat /etc/fwdesk/ca.crt")
     ready.gives("echo 127.0.0.1 other.example >> /etc/hosts")
+    link = lambda: ready.gives("systemctl show -p Environment --value fwdesk-notify")
+    assert f"FWDESK_LINK=https://{NAME}:8443 " in f"{link()} ", link()
     assert "done" in ready.gives("fwdesk-setup other.example --port 443")
+    assert "FWDESK_LINK=https://other.example " in f"{link()} ", "mails lead elsewhere"
     ask = "curl -sS --cacert /etc/fwdesk/ca.crt -o /dev/null -w '%{http_code}' https://other.example/page/"
     assert ready.gives(f"{ask} -u {ready.login}") == "200"
     # devices that trust the authority stay as they are
@@ -130,7 +146,7 @@ printf 'server = https://localhost:14000/dir\nno-verify-ssl = true\n' >> /etc/le
 
 
 def test_a_certificate_of_acme_and_its_renewal(packages):
-    with Server(root=make_acme_root(), share=packages.folder) as machine:
+    with Server(root=make_root_with_more(), share=packages.folder) as machine:
         machine.gives(f"echo '127.0.0.1 localhost {NAME}' >> /etc/hosts")
         machine.install(packages.now)
         # certbot serves port 80 itself
@@ -164,7 +180,7 @@ def test_a_certificate_of_acme_and_its_renewal(packages):
 
 def test_acme_beside_a_web_server_on_port_80(packages):
     """What is in the way is told before anything is changed, with two commands that do."""
-    with Server(root=make_acme_root(), share=packages.folder) as machine:
+    with Server(root=make_root_with_more(), share=packages.folder) as machine:
         machine.gives(f"echo '127.0.0.1 localhost {NAME}' >> /etc/hosts")
         machine.install(packages.now)
         assert machine.gives("systemctl is-active nginx") == "active"
