@@ -215,9 +215,9 @@ def ship(desk: Desk, order: argparse.Namespace, image: bytes) -> int:
         return status
     steps.tell(f"waiting: fwdesk-ctl wait {rollout['id']} does so too")
     left = None if order.timeout is None else max(0.0, until - time.monotonic())
-    words = argparse.ArgumentParser()
-    wait.options(words)
-    given = words.parse_args([str(rollout["id"]), "--every", str(order.every)])
+    of_wait = argparse.ArgumentParser()
+    wait.options(of_wait)
+    given = of_wait.parse_args([str(rollout["id"]), "--every", str(order.every)])
     given.timeout, given.json = left, order.json
     return wait.run(desk, given)
 
