@@ -3,7 +3,7 @@
     FWDESK_PROGRAM=PATH python3 -m pytest tests/e2e/device_client     (default: crates/fwdesk/out/fwdesk)
 
 Some minutes with the proved program; it needs curl, jq and flock. FWDESK_EACH=7 kills at each seventh call alone, for a
-slow program."""
+slow program, and FWDESK_AT_ONCE=2 has two clients beside one another, for a busy machine."""
 import os
 import shutil
 import signal
@@ -24,7 +24,7 @@ CLIENTS = {"python": ROOT / "device/fwdesk-device", "shell": ROOT / "device/fwde
 # of the calls at which a client is killed, each one, or each so many
 EACH = int(os.environ.get("FWDESK_EACH", "1"))
 # beside one another
-AT_ONCE = 4
+AT_ONCE = int(os.environ.get("FWDESK_AT_ONCE", "4"))
 SECONDS = 300
 INSTALL = """#!/bin/sh
 # writes down that it was run, and what it was given; FILE.status has its status, FILE.do what it does besides
