@@ -1,0 +1,114 @@
+"""What becomes of a look, and of a command, under which a kept connection between the two HAProxys ends. Without the program:
+a stand-in answers in its place, or in that of the second HAProxy."""
+import http.client
+import signal
+import socket
+import threading
+import time
+from collections import Counter
+
+import pytest
+
+from harness.edge import Edge
+from harness.processes import HOST, PATIENCE
+
+EMPTY = b"HTTP/1.1 200 OK\r\nContent-Type: application/json\r\nContent-Length: 2\r\n\r\n{}"
+
+
+def read_head(connection):
+    """A request without a body, or nothing where the connection has ended."""
+    told = b""
+    while not told.endswith(b"\r\n\r\n"):
+        if not (piece := connection.recv(65536)):
+            return b""
+        told += piece
+    return told
+
+
+class StandIn:
+    """Answers so many requests of each connection, and ends it under the next one, which it has read. `asked` counts what was
+    read, by method and path."""
+
+    def __init__(self, listener, most):
+        self.listener, self.most, self.asked = listener, most, Counter()
+        threading.Thread(target=self.run, daemon=True).start()
+
+    def run(self):
+        while True:
+            try:
+                connection, _ = self.listener.accept()
+            except OSError:
+                return
+            threading.Thread(target=self.serve, args=(connection,), daemon=True).start()
+
+    def serve(self, connection):
+        with connection:
+            answered = 0
+            while head := read_head(connection):
+                method, path, _ = head.decode().split(" ", 2)
+                self.asked[method, path] += 1
+                if answered == self.most:
+                    return
+                connection.sendall(EMPTY)
+                answered += 1
+
+
+def ask(path, socket_path, method="GET"):
+    client = http.client.HTTPConnection("localhost", timeout=PATIENCE)
+    client.sock = socket.socket(socket.AF_UNIX)
+    client.sock.connect(str(socket_path))
+    try:
+        client.request(method, path)
+        reply = client.getresponse()
+        reply.read()
+        return reply.status
+    finally:
+        client.close()
+
+
+@pytest.fixture
+def edge(tmp_path):
+    tmp_path.chmod(0o755)
+    desk = StandIn(socket.create_server((HOST, 0)), 10**9)
+    made = Edge(tmp_path, desk.listener.getsockname()[1], more={"FWDESK_CONSOLE": "1"})
+    yield made
+    made.end()
+    desk.listener.close()
+
+
+def test_a_look_whose_connection_ends_is_asked_again_and_a_command_is_not(edge):
+    path = edge.run / "haproxy-desks/desks.sock"
+    listener = socket.socket(socket.AF_UNIX)
+    listener.bind(str(path))
+    listener.listen()
+    second = StandIn(listener, 1)
+    edge.edge = edge.begin("edge", edge.edge_words(), edge.local)
+    looks = edge.run / "haproxy/fwdesk-looks.sock"
+    assert [ask("/rest/v1/rollouts", looks) for _ in range(4)] == [200] * 4
+    # each of the connections ended under one of them, so some were read twice
+    assert second.asked["GET", "/rest/v1/rollouts"] > 4
+    # a command is read once for each time that it is given, whatever is answered
+    start = "/rest/v1/rollouts/1/start"
+    statuses = [ask(start, edge.local, "POST") for _ in range(4)]
+    assert set(statuses) == {200, 502} and second.asked["POST", start] == 4, statuses
+    listener.close()
+
+
+def test_a_kept_connection_ends_behind_a_reply_where_the_second_haproxy_is_reloaded(edge):
+    edge.start()
+    with socket.socket(socket.AF_UNIX) as kept:
+        kept.settimeout(PATIENCE)
+        kept.connect(str(edge.run / "haproxy-desks/desks.sock"))
+        request = b"GET /rest/v1/rollouts HTTP/1.1\r\nHost: localhost\r\n\r\n"
+        kept.sendall(request)
+        assert kept.recv(65536).startswith(b"HTTP/1.1 200 ")
+        before = edge.workers(edge.desks)
+        edge.desks.send_signal(signal.SIGUSR2)
+        until = time.monotonic() + PATIENCE
+        while not set(edge.workers(edge.desks)) - set(before):
+            assert time.monotonic() < until, "it isn't reloaded"
+            time.sleep(0.02)
+        time.sleep(0.5)
+        kept.sendall(request)
+        told = kept.recv(65536)
+        assert told.startswith(b"HTTP/1.1 200 ") and b"\r\nconnection: close\r\n" in told.lower()
