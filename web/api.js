@@ -1,30 +1,31 @@
 // Asks the server: one request at a time, gently, and says in words what it refuses.
+import {inLanguage, t} from "./language.js";
 import {doubt, known, state, told} from "./live.js";
 import {urlOf} from "./place.js";
-import {REFUSALS} from "./refusals.js";
+import {OF_PROXY, REFUSALS} from "./refusals.js";
 
-// what the proxy refuses itself, by the status
-const OF_PROXY = {401: "the server doesn't know this login", 413: REFUSALS[9]};
-
-const LOST = "It may be done or not: look before you press again.";
+const words = inLanguage(REFUSALS);
+// what the proxy refuses itself: by its words, and by the status
+const proxyWords = inLanguage({en: {}, de: OF_PROXY});
+const byStatus = {401: t("refused.login"), 413: words[9]};
 
 /**
  * What the server, or the proxy before it, doesn't do: its number (0 of the proxy), its words, and the line of an import.
  * An order is lost where its answer didn't come, or says that nobody knows: it may be done all the same.
  */
 export class Refusal extends Error {
-  constructor(status, told, isOrder) {
-    const number = told?.number ?? 0;
-    const plain = told?.words ?? OF_PROXY[status] ?? `the proxy answers ${status}`;
-    super(number ? REFUSALS[number] ?? told.error : status ? plain : "the server can't be reached");
+  constructor(status, reply, isOrder) {
+    const number = reply?.number ?? 0, said = reply?.words;
+    const plain = said ? proxyWords[said] ?? said : byStatus[status] ?? t("refused.proxy", {status});
+    super(number ? words[number] ?? reply.error : status ? plain : t("refused.away"));
     const isLost = isOrder && (!status || status === 502 || status === 504 || number === 16);
-    Object.assign(this, {status, number, line: told?.line, isFault: !number && !told?.words, isLost});
+    Object.assign(this, {status, number, line: reply?.line, isFault: !number && !said, isLost});
   }
 
   /** The refusal as a sentence. */
   get sentence() {
-    const what = this.number ? `Refused, number ${this.number}` : this.isLost ? "No answer" : "Not done";
-    return `${what}: ${this.message}.${this.isLost ? ` ${LOST}` : ""}`;
+    const key = this.number ? "refused.number" : this.isLost ? "refused.lost" : "refused.plain";
+    return t(key, {number: String(this.number), words: this.message, more: this.isLost ? t("refused.look") : ""});
   }
 
   /** Whether the database failed: the program says no more until it is started anew. */

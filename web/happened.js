@@ -1,6 +1,6 @@
 // When, who and why: what the console tells of a rollout.
 import {h, p} from "./drawing.js";
-import {ago, nodes, number, t, when, written} from "./language.js";
+import {ago, has, nodes, number, t, when, written} from "./language.js";
 import {state} from "./live.js";
 
 /** A moment, with its exact time for who points at it. */
@@ -21,6 +21,23 @@ function pausedWords(act) {
   }
   const {group, failed, size, limit} = act;
   return t(act.guess ? "paused.guess" : "paused.itself", {...said, why: t("paused.why", {group, failed, size, limit})});
+}
+
+const MOMENTS = ["from", "to"];
+const STRANGERS = ["name", "words", "reason", "path"];
+
+/** A value of an event's sentence: a moment, a stranger's words in quotes, or what is the console's own. */
+function valueOf([key, value]) {
+  const isQuoted = STRANGERS.includes(key) || key === "who" && value !== "-";
+  const words = isQuoted ? t("quoted.words", {words: value}) : key === "who" ? t("quoted.machine") : value;
+  return [key, MOMENTS.includes(key) ? when(value) : words];
+}
+
+/** What happened, in the reader's language; a console that has other sentences says it in English. */
+export function happenedWords({words, more}) {
+  const said = more?.say ?? [];
+  const isKnown = said.length && said.every(([key]) => has(`event.${key}`));
+  return isKnown ? said.map(([key, values]) => t(`event.${key}`, Object.fromEntries(Object.entries(values).map(valueOf)))).join("") : words;
 }
 
 const ACTS = ["made", "approve", "start", "resume", "finished"];
@@ -113,7 +130,7 @@ export function history(rollout) {
   if (now?.rollout?.id !== rollout.id || !now.events?.length) {
     return null;
   }
-  const line = (it) => h("li", {"data-key": it.id}, time(it.at), ": ", it.words);
+  const line = (it) => h("li", {"data-key": it.id}, time(it.at), ": ", happenedWords(it));
   return h("details", {class: "card", id: "happened"}, h("summary", {}, t("happened.entries", {entries: t("n.entries", {n: now.events.length})})),
     p("hint", t("happened.from", {begun: when(now.begun)})), h("ul", {class: "history"}, now.events.map(line)));
 }

@@ -12,6 +12,9 @@ const messages = MESSAGES[language];
 
 const MINUTE = 60, HOUR = 3600, DAY = 86_400;
 
+/** What a table of languages has for the one that is shown. */
+export const inLanguage = (table) => table[language];
+
 /** A number with thin spaces between its thousands. */
 export const number = (it) => String(it).replace(/\B(?=(\d{3})+$)/g, "\u202f");
 
@@ -27,8 +30,11 @@ export const nodes = (key, values) => split(key, values).map((it, k) => (k % 2 ?
 /** A message as a text. */
 export const t = (key, values = {}) => nodes(key, values).join("");
 
+/** Whether there is a message of this key. */
+export const has = (key) => Object.hasOwn(messages, key);
+
 /** A message, or the key's last part where there is none: for what others name. */
-export const known = (prefix, it) => (Object.hasOwn(messages, `${prefix}.${it}`) ? t(`${prefix}.${it}`) : it.replaceAll("_", " "));
+export const known = (prefix, it) => (has(`${prefix}.${it}`) ? t(`${prefix}.${it}`) : it.replaceAll("_", " "));
 
 /** Things joined by commas, with a word before the last. */
 export const listed = (things) => new Intl.ListFormat(language, {type: "conjunction"}).format(things);

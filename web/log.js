@@ -1,7 +1,7 @@
 // What happened, and who changed what: as the console saw it, with filters, and as files.
 import {urlOf} from "./place.js";
 import {field, h, link, p, table, typed} from "./drawing.js";
-import {time} from "./happened.js";
+import {happenedWords, time} from "./happened.js";
 import {t, when} from "./language.js";
 import {askConsole, lastTold} from "./live.js";
 
@@ -33,7 +33,7 @@ function controls(of, query) {
 const whoOf = ({who}) => (who === "-" ? t("log.machine") : who);
 
 const rowOf = {
-  happened: (it) => [time(it.at), it.rollout ? link(`#/rollouts/${it.rollout}`, it.words) : it.words, whoOf(it)],
+  happened: (it) => [time(it.at), it.rollout ? link(`#/rollouts/${it.rollout}`, happenedWords(it)) : happenedWords(it), whoOf(it)],
   audit: (it) => [time(it.at), whoOf(it), it.address, h("code", {}, `${it.method} ${it.path}`), it.status],
 };
 

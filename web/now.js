@@ -1,7 +1,7 @@
 // The first view: what needs somebody, what runs, which devices have what; each number leads on.
 import {countsOf, sum} from "./counts.js";
 import {bar, h, inWords, link, p} from "./drawing.js";
-import {askedLine, pausedLine, standsLine, time, whenOf} from "./happened.js";
+import {askedLine, happenedWords, pausedLine, standsLine, time, whenOf} from "./happened.js";
 import {heldBadge} from "./held.js";
 import {number, t, when} from "./language.js";
 import {awayFrom, lastTold, state} from "./live.js";
@@ -75,7 +75,7 @@ export const view = {
         told.fleet?.pollsAway ? p("hint", t("now.polls", {words: told.fleet.pollsAway})) : null),
       told.events.length ? h("section", {class: "card", id: "lately"}, h("h2", {}, t("now.lately")),
         h("ul", {class: "history"}, told.events.slice(0, 8).map((it) => h("li", {"data-key": it.id}, time(it.at), ": ",
-          it.rollout ? link(`#/rollouts/${it.rollout}`, it.words) : it.words))), p("under", link("#/history", t("now.all")))) : null,
+          it.rollout ? link(`#/rollouts/${it.rollout}`, happenedWords(it)) : happenedWords(it)))), p("under", link("#/history", t("now.all")))) : null,
     ];
   },
 };

@@ -7,8 +7,9 @@ from collections.abc import Sequence
 from typing import Any
 
 from .clock import Clock
+from .sentences import Saying, as_parts, cleaned
 from .store import Row, Store, Writes
-from .texts import Part, as_text, clean
+from .texts import as_text, clean
 
 RECENT = 200
 
@@ -26,7 +27,7 @@ class History:
     def tell(
         self,
         kind: str,
-        parts: Sequence[Part],
+        said: Sequence[Saying],
         *,
         at: float | None = None,
         rollout: int | None = None,
@@ -36,7 +37,8 @@ class History:
         also: Writes = (),
     ) -> Row:
         """Keeps it in one go with `also`. Where the disk refuses it is told all the same, out of memory."""
-        shown: list[Part] = [it if isinstance(it, str) else [clean(it[0])] for it in parts]
+        say = cleaned(said)
+        shown = as_parts([(key, values) for key, values in say])
         event: Row = {
             "id": self.store.next_event(),
             "at": self.clock.wall() if at is None else at,
@@ -45,7 +47,7 @@ class History:
             "group": group,
             "who": clean(who, 100),
             "parts": shown,
-            "more": more or {},
+            "more": {**(more or {}), "say": say},
         }
         row = (
             event["id"],

@@ -1,7 +1,6 @@
 """What is known of each rollout: its state and since when, who did what to it, why it paused, whether it stands still."""
 import asyncio
 import json
-import time
 from collections import Counter
 from dataclasses import dataclass, field
 from typing import Any
@@ -10,8 +9,9 @@ from .clock import Clock
 from .desk import Desk, Json
 from .ear import Ear
 from .history import History
+from .sentences import Saying, say
 from .store import Row, Store, Writes
-from .texts import Part, clean
+from .texts import clean
 
 FINAL = ("finished", "approval_denied")
 GOING = ("running", "paused")
@@ -31,13 +31,8 @@ ORDERS = {
     "ready": ("approve",),
     "approval_denied": ("deny",),
 }
-DONE = {
-    "start": "was started",
-    "resume": "was resumed",
-    "pause": "was paused",
-    "approve": "was approved",
-    "deny": "was denied",
-}
+# the state that each leads to
+DONE = {verb: state for state, verbs in ORDERS.items() for verb in verbs}
 
 
 def limit_of(group: Json) -> int:
@@ -53,10 +48,6 @@ def needed_of(group: Json) -> int:
 def silent_of(group: Json) -> int:
     """So many have reported no outcome."""
     return int(group["size"]) - sum(int(group[it]) for it in OUTCOMES)
-
-
-def time_of(at: float) -> str:
-    return time.strftime("%Y-%m-%d %H:%M:%S UTC", time.gmtime(at))
 
 
 @dataclass
@@ -175,21 +166,15 @@ class Rollouts:
                 self._tell_group(number, it, key, group)
 
     def _tell_group(self, number: int, it: Known, key: int, group: Json) -> None:
-        said = {"running": "began", "finished": "has its success"}.get(group["status"])
-        if not said:
+        done = {"running": "began", "finished": "succeeded"}.get(group["status"])
+        if not done:
             return
-        order = self.ear.take_order(number, "triggerNextGroup") if said == "began" else None
+        order = self.ear.take_order(number, "triggerNextGroup") if done == "began" else None
         who = order[1].who if order else ""
-        by: list[Part] = [" by the order of ", [who]] if order else []
-        counts = f": {group['ok']} of {group['size']} succeeded, {group['bad']} failed"
-        parts: list[Part] = [
-            "rollout ",
-            [str(it.about["name"])],
-            f": group {key} {said}",
-            *by,
-            counts,
-        ]
-        self.history.tell("group", parts, rollout=number, group=key, who=who)
+        said = [say(done, name=it.about["name"], group=key)]
+        said += [say("order", who=who)] if order else []
+        said += [say("counts", ok=group["ok"], size=group["size"], failed=group["bad"])]
+        self.history.tell("group", said, rollout=number, group=key, who=who)
 
     async def _appear(self, number: int, it: Known, looked: float | None) -> bool:
         """A rollout that wasn't there before. Where the console itself is new nobody knows since when it is. Answers
@@ -202,11 +187,10 @@ class Rollouts:
         order = await self._explained(self.ear.take_maker)
         it.since, it.seen_from = (order.at, order.at) if order else (self.clock.wall(), looked)
         it.acts["made"] = {"at": it.since, "from": it.seen_from, "who": order.who if order else ""}
-        by: list[Part] = [" by ", [order.who]] if order else [" (who did isn't known)"]
-        parts: list[Part] = ["rollout ", [str(it.about["name"])], " was planned", *by]
-        who = order.who if order else ""
+        name, who = it.about["name"], order.who if order else ""
+        said = say("made", name=name, who=who) if order else say("madeUnseen", name=name)
         now, it.status = it.status, it.status if it.status in PLANNED else "ready"
-        self.history.tell("made", parts, rollout=number, who=who, also=self.writes(number))
+        self.history.tell("made", [said], rollout=number, who=who, also=self.writes(number))
         return now != it.status
 
     async def _explained(self, take: Any) -> Any:
@@ -225,18 +209,17 @@ class Rollouts:
         )
         it.status, it.sums, it.still, it.changed = status, "", False, self.clock.steady()
         self._note_passed(number, it)
-        name: list[Part] = ["rollout ", [str(it.about["name"])]]
+        name = it.about["name"]
         if taken:
             verb, order = taken
             it.since = it.seen_from = order.at
             act = {"at": order.at, "from": order.at, "who": order.who, "by": "order"}
             it.acts[verb if verb != "pause" else "paused"] = act
-            said: list[Part] = [*name, f" {DONE[verb]} by ", [order.who]]
-            self._tell(number, status, said, who=order.who)
+            self._tell(number, status, [say(verb, name=name, who=order.who)], who=order.who)
             return
         it.since, it.seen_from = now, looked if looked is not None else now
         if status == "paused":
-            await self._tell_pause(number, it, name)
+            await self._tell_pause(number, it)
             return
         act = {"at": now, "from": it.seen_from, "who": "", "by": "itself"}
         if status != "finished":
@@ -244,21 +227,25 @@ class Rollouts:
         it.acts[
             {"running": "start" if "start" not in it.acts else "resume"}.get(status, status)
         ] = act
-        unseen = "" if status == "finished" else " (who did it isn't known)"
-        self._tell(number, status, [*name, f" is {status.replace('_', ' ')}{unseen}"])
+        self._tell(
+            number, status, [say({"approval_denied": "denied"}.get(status, status), name=name)]
+        )
 
     def _note_passed(self, number: int, it: Known) -> None:
         """Orders whose state was over before it was looked at: who started what paused at once."""
         for verb in DONE:
             if found := self.ear.take_order(number, verb):
-                act = {"at": found[1].at, "from": found[1].at, "who": found[1].who, "by": "order"}
+                at, who = found[1].at, found[1].who
+                act = {"at": at, "from": at, "who": who, "by": "order"}
                 it.acts[verb if verb != "pause" else "paused"] = act
+                said = say(verb, name=it.about["name"], who=who)
+                self._tell(number, DONE[verb], [said], who=who, at=at)
 
-    def _tell(self, number: int, kind: str, parts: list[Part], **more: Any) -> None:
+    def _tell(self, number: int, kind: str, said: list[Saying], **more: Any) -> None:
         kind = "denied" if kind == "approval_denied" else kind
-        self.history.tell(kind, parts, rollout=number, also=self.writes(number), **more)
+        self.history.tell(kind, said, rollout=number, also=self.writes(number), **more)
 
-    async def _tell_pause(self, number: int, it: Known, name: list[Part]) -> None:
+    async def _tell_pause(self, number: int, it: Known) -> None:
         """Nobody's order was heard. A guess is told as one: where the console didn't look for a while, or where no
         group's failures rose since it looked last."""
         assert it.since is not None and it.seen_from is not None
@@ -267,17 +254,12 @@ class Rollouts:
         group = (risen or full)[-1] if full else None
         is_guess = not risen or it.since - it.seen_from > NEAR
         act: Json = {"at": it.since, "from": it.seen_from, "who": "", "guess": is_guess}
-        when = (
-            f" between {time_of(it.seen_from)} and {time_of(it.since)}"
-            if it.since - it.seen_from > NEAR
-            else ""
-        )
+        said = [say("paused", name=it.about["name"])]
+        if it.since - it.seen_from > NEAR:
+            said.append(say("between", from_=it.seen_from, to=it.since))
         if group is None:
             act |= {"by": "unknown"}
-            said: list[Part] = [
-                *name,
-                f" paused{when}, cause not seen: no group is at its error threshold",
-            ]
+            said.append(say("unseen"))
         else:
             words, read = await self._last_words(number, int(group["id"]))
             act |= {
@@ -289,23 +271,19 @@ class Rollouts:
                 "words": words,
                 "read": read,
             }
-            how = "cause not seen; perhaps by itself" if is_guess else "by itself"
-            counts = f"{group['bad']} of {group['size']} failed, {limit_of(group)} are too many"
-            said = [*name, f" paused{when}, {how}: group {group['id']}: {counts}"]
-            said += self._words_as_parts(words, read, int(group["bad"]))
+            counts = {key: act[key] for key in ("group", "failed", "size", "limit")}
+            said += [say("guess" if is_guess else "itself"), say("failed", **counts)]
+            said += self._say_words(words, read, int(group["bad"]))
         it.acts["paused"] = act
         self._tell(number, "paused", said, group=group and group["id"], more=act)
 
     @staticmethod
-    def _words_as_parts(words: list[list[Any]], read: int, failed: int) -> list[Part]:
+    def _say_words(words: list[list[Any]], read: int, failed: int) -> list[Saying]:
         if not words:
             return []
-        parts: list[Part] = [
-            ". Last words" + (f" of {read} of them" if read < failed else "") + ":"
-        ]
-        for n, (text, count) in enumerate(words[:5]):
-            parts += [f"{',' if n else ''} {count} times ", [text]]
-        return parts
+        keys = ["times", *["next"] * 4]
+        counted = [say(key, count=n, words=it) for key, (it, n) in zip(keys, words)]
+        return [say("lastOf", read=read) if read < failed else say("last"), *counted]
 
     async def _last_words(self, number: int, group: int) -> tuple[list[list[Any]], int]:
         """The last words of failed members, counted, the most frequent first; and of how many they were read."""
@@ -350,14 +328,8 @@ class Rollouts:
         self.version += 1
         found = self.stands(it)
         hours = (self.clock.steady() - it.changed) / 3600
-        name: list[Part] = ["rollout ", [str(it.about["name"])]]
-        about = (
-            f": group {found['group']}: {found['silent']} of {found['size']} have reported no outcome; "
-            f"{found['ok']} succeeded, {found['needed']} are needed"
-            if found
-            else ""
-        )
-        said: list[Part] = [*name, f" stands still: no outcome for {hours:.1f} h{about}"]
+        said = [say("stands", name=it.about["name"], hours=round(hours, 1))]
+        said += [say("silent", **found)] if found else []
         group = found["group"] if found else None
         self._tell(number, "stands", said, group=group, more=found or {})
 

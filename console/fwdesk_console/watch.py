@@ -11,9 +11,9 @@ from .ear import Ear
 from .fleet import Fleet
 from .history import History
 from .rollouts import Rollouts
+from .sentences import say
 from .settings import Settings
 from .store import Store
-from .texts import Part
 
 SOON = (
     0.1  # seconds from what is heard to the look, so that what is heard together is looked at once
@@ -56,11 +56,9 @@ class Watch:
         self._wake.set()
 
     def hear_brake(self, kind: str, who: str, which: str, reason: str) -> None:
-        what = "quiet hours" if which == "quiet" else "everything"
-        done = "is held" if kind == "held" else "is released"
-        why: list[Part] = [": ", [reason]] if reason else []
-        parts: list[Part] = [f"{what} {done} by ", [who], *why]
-        self.history.tell(kind, parts, who=who, more={"which": which[:20]})
+        key = {"held": "quietHeld", "released": "quietReleased"}[kind] if which == "quiet" else kind
+        said = [say(key, who=who), *([say("why", reason=reason)] if reason else [])]
+        self.history.tell(kind, said, who=who, more={"which": which[:20]})
 
     def age(self) -> float | None:
         """Seconds since the last look that was answered."""
@@ -70,8 +68,8 @@ class Watch:
         heard, self._heard = self._heard, False
         self._wake.clear()
         if moved := self.clock.jumped():
-            parts: list[Part] = [f"the clock of this machine was set by {moved:+.0f} s"]
-            self.history.tell("clock", parts, more={"seconds": round(moved)})
+            said = [say("clock", seconds=f"{moved:+.0f}")]
+            self.history.tell("clock", said, more={"seconds": round(moved)})
         await self.rollouts.look(self.looked, heard)
         await self._look_at_brake()
         self.looked, self.looked_steady = self.clock.wall(), self.clock.steady()
@@ -94,7 +92,7 @@ class Watch:
         except Away as error:
             if not self.away:
                 self.away, self.away_since = str(error), self.clock.wall()
-                self.history.tell("desk", ["the desk doesn't answer: ", [self.away]])
+                self.history.tell("desk", [say("desk", words=self.away)])
             return
         except (KeyError, TypeError, ValueError):  # a fault of ours mustn't end the watch
             logging.exception("a look failed")
@@ -102,7 +100,7 @@ class Watch:
         if self.away:
             seconds = max(0.0, self.clock.wall() - self.away_since)
             self.away = ""
-            self.history.tell("desk", [f"the desk answers again, after {seconds:.0f} s"])
+            self.history.tell("desk", [say("deskAgain", seconds=round(seconds))])
 
     async def keep(self) -> None:
         pruned = -1e9
@@ -130,26 +128,20 @@ def tell_of_records(store: Store, history: History) -> Callable[[], None]:
     state = {"problem": "", "disk": ""}
     folder = str(Path(store.path).parent)
     if store.put_aside:
-        history.tell(
-            "console", ["the records of before can't be used; they are kept as ", [store.put_aside]]
-        )
+        history.tell("console", [say("putAside", path=store.put_aside)])
 
     def look() -> None:
         if bool(store.problem) != bool(state["problem"]):
             state["problem"] = store.problem
-            said: list[Part] = (
-                ["what is seen isn't kept: ", [store.problem]]
-                if store.problem
-                else ["what is seen is kept again"]
-            )
-            history.tell("console", said)
+            said = say("notKept", words=store.problem) if store.problem else say("keptAgain")
+            history.tell("console", [said])
 
         found = os.statvfs(folder)
         left = found.f_bavail * found.f_frsize
         # told again once there was twice as much
         if left < DISK_LEAST and not state["disk"]:
             state["disk"] = "told"
-            history.tell("console", ["the disk of ", [folder], f" has {left // 2**20} MB left"])
+            history.tell("console", [say("disk", path=folder, left=left // 2**20)])
         elif left > 2 * DISK_LEAST:
             state["disk"] = ""
 

@@ -32,6 +32,7 @@ variant = "Dark"
 status = 404
 when = "no lamp is lit"
 words = "it's dark"
+german = "es ist dunkel"
 [[refusal]]
 number = 2
 name = "bright"
@@ -39,7 +40,10 @@ variant = "TooBright"
 status = 413
 ends = true
 when = "over <lamp_limit> lamps"
-words = "too bright"
+words = "too bright for <lamp_limit>"
+german = "zu hell für <lamp_limit>"
+[proxy]
+"no plug" = "kein Stecker"
 """
 
 
@@ -48,7 +52,8 @@ def limits(text=LIMITS):
 
 
 def tables():
-    return reference.Reference(*reference.read_refusals(REFUSALS, limits()), limits())
+    proxy = {"no plug": "kein Stecker"}
+    return reference.Reference(*reference.read_refusals(REFUSALS, limits()), limits(), proxy)
 
 
 def document():
@@ -89,7 +94,10 @@ def test_a_number_of_a_limit_is_filled_in():
     same(limits().rows, [("lamps", "1,200, of 1 to 7 bulbs")])
     same(
         [(it.told, it.words) for it in tables().refusals],
-        [("no lamp is lit", "it's dark"), ("over 1,200 lamps; the connection ends", "too bright")],
+        [
+            ("no lamp is lit", "it's dark"),
+            ("over 1,200 lamps; the connection ends", "too bright for 1,200"),
+        ],
     )
 
 
@@ -99,7 +107,9 @@ def test_faulty_tables_are_refused():
         ('"bright"', '"dark"', "two refusals have the name dark"),
         ('"TooBright"', '"Dark"', "two refusals have the variant Dark"),
         ("status = 413", "status = 418", "status 418 has no reason phrase"),
-        ('words = "too bright"', "", "refusal bright has no words"),
+        ('words = "too bright for <lamp_limit>"', "", "refusal bright has no words"),
+        ('german = "es ist dunkel"', "", "refusal dark has no german"),
+        ("hell für <lamp_limit>", "hell", "refusal bright: words and german name other limits"),
         ("ends = true", "end = true", "refusal bright: end isn't known"),
         ("<lamp_limit>", "<lump_limit>", "there is no limit lump_limit"),
     ):
@@ -193,8 +203,11 @@ def test_the_code_that_is_written_has_the_tables():
     same((model["LAMP_LIMIT"], model["BULB_LIMIT"]), (1200, 7))
     cli = {}
     exec(made.cli_module(tables()), cli)
-    same(cli["REFUSALS"], {"dark": "it's dark", "bright": "too bright"})
-    assert '\n  1: "it\'s dark",\n  2: "too bright",\n};\n' in made.web_module(tables())
+    same(cli["REFUSALS"], {"dark": "it's dark", "bright": "too bright for 1,200"})
+    web = made.web_module(tables())
+    assert '\n  en: {\n    1: "it\'s dark",\n    2: "too bright for 1,200",\n  },\n' in web
+    assert '\n  de: {\n    1: "es ist dunkel",\n    2: "zu hell für 1.200",\n  },\n};\n' in web
+    assert '{\n  "no plug": "kein Stecker",\n};\n' in web
 
 
 def test_rows_of_sources_are_read():

@@ -2,7 +2,7 @@
 import re
 import tomllib
 from collections import Counter
-from dataclasses import dataclass
+from dataclasses import dataclass, field
 from pathlib import Path
 from typing import Any
 
@@ -10,7 +10,7 @@ ROOT = Path(__file__).resolve().parents[2]
 FOLDER = ROOT / "docs/reference"
 NAMED = re.compile(r"<(\w+)>")
 # what a row of a table has, and what it may have
-REQUIRED = {"number", "name", "variant", "status", "when", "words"}
+REQUIRED = {"number", "name", "variant", "status", "when", "words", "german"}
 OPTIONAL = {"ends"}
 
 
@@ -28,6 +28,7 @@ class Refusal:
     status: int
     when: str
     words: str
+    german: str
     ends: bool = False
 
     @property
@@ -44,9 +45,9 @@ class Limits:
     rows: list[tuple[str, str]]
     openapi: dict[str, str]
 
-    def fill(self, text: str) -> str:
-        """A text with the numbers in place of their names."""
-        return NAMED.sub(lambda it: f"{self.number(it[1]):,}", text)
+    def fill(self, text: str, mark: str = ",") -> str:
+        """A text with the numbers in place of their names, with a mark between their thousands."""
+        return NAMED.sub(lambda it: f"{self.number(it[1]):,}".replace(",", mark), text)
 
     def number(self, name: str) -> int:
         if name not in self.numbers:
@@ -59,6 +60,8 @@ class Reference:
     refusals: list[Refusal]
     reasons: dict[int, str]
     limits: Limits
+    # the words of HAProxy's own refusals, in German by the English ones
+    proxy: dict[str, str] = field(default_factory=dict)
 
 
 def read_limits(text: str) -> Limits:
@@ -98,6 +101,9 @@ def read_row(row: dict[str, Any], limits: Limits) -> Refusal:
     filled = dict(row)
     for key in ("when", "words"):
         filled[key] = limits.fill(row[key])
+    filled["german"] = limits.fill(row["german"], ".")
+    if NAMED.findall(row["words"]) != NAMED.findall(row["german"]):
+        raise BadTable(f"refusal {name}: words and german name other limits")
     return Refusal(**filled)
 
 
@@ -105,4 +111,4 @@ def read_reference(folder: Path = FOLDER) -> Reference:
     limits = read_limits((folder / "limits.toml").read_text(encoding="utf-8"))
     text = (folder / "refusals.toml").read_text(encoding="utf-8")
     refusals, reasons = read_refusals(text, limits)
-    return Reference(refusals, reasons, limits)
+    return Reference(refusals, reasons, limits, tomllib.loads(text).get("proxy", {}))

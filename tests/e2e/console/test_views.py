@@ -69,7 +69,7 @@ def test_now_leads_to_what_needs_somebody_and_counts_devices(env, open_browser):
 def test_history_and_audit_are_filtered_and_saved(env, open_browser):
     rollout = env.plan("told", groups=1, who="ben")
     browser = open_browser(env, f"#/history?of=happened&rollout={rollout}")
-    browser.until('rollout "told" was started by "ben"', "main table")
+    browser.until("rollout “told” was started by “ben”", "main table")
     browser.go(f"#/history?of=audit&rollout={rollout}")
     browser.until(f"POST /rest/v1/rollouts/{rollout}/start", "main table")
     browser.until("ben", "main table")
@@ -80,6 +80,25 @@ def test_history_and_audit_are_filtered_and_saved(env, open_browser):
     assert status == 200 and fields["content-type"].startswith("text/csv")
     assert f"ben,POST,/rest/v1/rollouts/{rollout}/start" in body.decode()
     assert not browser.faults()
+
+
+def test_what_happened_and_what_is_refused_is_said_in_german_too(env, open_browser):
+    rollout = env.plan("deutsch", groups=2, error=20, who="ben")
+    env.fail(rollout, 2, "disk full")
+    browser = open_browser(env, "#/now", "eve")
+    browser.js("localStorage.setItem('fwdesk-language', 'de'); location.reload()")
+    browser.until(
+        "Rollout „deutsch“ hielt an, von selbst: Gruppe 1: 2 von 10 fehlgeschlagen", "#lately"
+    )
+    browser.go(f"#/history?rollout={rollout}")
+    browser.until("Rollout „deutsch“ wurde von „ben“ gestartet", "main table")
+    browser.until("Letzte Worte: 2 mal „disk full“", "main table")
+    browser.js(
+        "import('./api.js').then(({ask}) => ask('POST', '/rest/v1/rollouts/1/pause'))"
+        ".catch((it) => (document.title = it.sentence))"
+    )
+    said = "Nicht getan: dieser Login darf nicht planen oder steuern."
+    eventually("it is refused", lambda: browser.driver.title == said, 10)
 
 
 def test_hostile_words_are_text_in_each_view(env, open_browser):

@@ -1,4 +1,6 @@
 """The languages of the UI. Not run by itself."""
+import json
+
 from .steps import case, entered
 
 # what each view says in German: words of its frame, of states and of counts
@@ -45,6 +47,9 @@ def the_browsers_language_and_the_switch(browser, env):
             shown = all_words(browser)
             assert all(it.lower() in shown for it in words), (place, words, shown[:600])
             assert browser.js("return document.documentElement.lang") == "de"
+        entered(browser, env, "#/targets?filter=name%3D%3D")
+        refused = "Abgelehnt, Nummer 11: der Filter ist nicht lesbar."
+        browser.until(f"document.querySelector('main').innerText.includes({json.dumps(refused)})")
         browser.js("localStorage.removeItem('fwdesk-language')")
     finally:
         accept("en-US,en")

@@ -4,6 +4,7 @@ import re
 import pytest
 from fakes import START, play
 from fwdesk_console import polls
+from fwdesk_console.texts import as_text
 
 
 @pytest.mark.parametrize(
@@ -179,6 +180,9 @@ def test_a_disk_that_is_nearly_full_is_told_once(tmp_path, monkeypatch):
             monkeypatch.setattr("fwdesk_console.watch.os.statvfs", lambda _, it=found: it)
             stand.service._look_at_records()
         told = [it for it in stand.service.history.recent if it["kind"] == "console"]
-        assert [it["parts"][-1] for it in told] == [" has 150 MB left", " has 100 MB left"]
+        assert [as_text(it["parts"]).partition('" ')[2] for it in told] == [
+            "has 150 MB left",
+            "has 100 MB left",
+        ]
 
     play(tmp_path, course)

@@ -1,5 +1,6 @@
 """What the console says of rollouts: when, who, why; a guess as a guess; what stands still; nothing twice."""
 from fakes import START, play
+from fwdesk_console.texts import as_text
 
 
 def test_a_pause_by_its_threshold_names_group_counts_and_counted_words(tmp_path):
@@ -184,8 +185,11 @@ def test_the_desk_away_is_told_once_and_its_return_too(tmp_path):
         assert state["away"] == "it answers 503" and state["awaySince"]
         stand.desk.fails = False
         await stand.look(7)
-        said = [it["parts"][0] for it in stand.service.history.recent if it["kind"] == "desk"]
-        assert said == ["the desk doesn't answer: ", "the desk answers again, after 9 s"]
+        said = [as_text(it["parts"]) for it in stand.service.history.recent if it["kind"] == "desk"]
+        assert said == [
+            'the desk doesn\'t answer: "it answers 503"',
+            "the desk answers again, after 9 s",
+        ]
 
     play(tmp_path, course)
 
@@ -245,5 +249,8 @@ def test_a_rollout_that_is_planned_started_and_paused_between_two_looks_is_no_gu
         assert (act["by"], act["guess"]) == ("itself", False)
         acts = (await stand.get(f"/fwdesk/state?rollout={number}"))[2]["rollout"]["acts"]
         assert (acts["made"]["who"], acts["start"]["who"]) == ("anna", "ben")
+        # the start was over when it was looked at, and is told all the same
+        happened = [(it["kind"], it["who"]) for it in stand.service.history.of(number)]
+        assert happened == [("paused", ""), ("running", "ben"), ("made", "anna")]
 
     play(tmp_path, course)
