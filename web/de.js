@@ -209,6 +209,7 @@ export const DE = {
   "list.set": "Geräte mit {set}",
   "list.silent": "Geräte, seit {hours} h oder länger stumm",
   "list.device": "Gerät",
+  "list.asOf": "wie gezählt um {at}",
   "list.since": "Seit",
   "list.name": "Name",
   "list.stateHead": "Zustand",

@@ -206,6 +206,7 @@ export const EN = {
   "list.set": "Devices with {set}",
   "list.silent": "Devices silent for {hours} h or longer",
   "list.device": "Device",
+  "list.asOf": "as counted at {at}",
   "list.since": "Since",
   "list.name": "Name",
   "list.stateHead": "State",

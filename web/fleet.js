@@ -2,9 +2,9 @@
 import {all, page as pageOf} from "./api.js";
 import {field, h, link, p, pager, settle, table, typed} from "./drawing.js";
 import {importForm} from "./imports.js";
-import {nodes, number, t} from "./language.js";
+import {nodes, number, t, when} from "./language.js";
 import {isWord} from "./limits.js";
-import {lastTold} from "./live.js";
+import {askConsole, lastTold} from "./live.js";
 import {filterField, matching, searched} from "./matching.js";
 import {ifSteers, may} from "./me.js";
 import {sortChips, sorted} from "./sorting.js";
@@ -79,7 +79,7 @@ function listForm(page) {
 
 export const view = {
   title: () => t("frame.fleet"),
-  /** In an order of their own all are asked for, once. */
+  /** In another order than that of ids the console has all of them, and else all are asked for, once. */
   async load(_, query, before) {
     const filter = query.get("q") ?? "";
     const offset = Number(query.get("offset") ?? 0);
@@ -90,6 +90,10 @@ export const view = {
       }
       return {refusal, content: [], total: 0};
     };
+    const told = sort && !filter ? await askConsole(`/fwdesk/devices?${new URLSearchParams({sort, offset, limit: SHOWN})}`) : null;
+    if (told) {
+      return {filter, offset, sort, targets: told};
+    }
     if (sort) {
       const whole = before?.whole && before.filter === filter ? before.whole : await all(matching(searched(filter))).catch(none);
       return {filter, offset, sort, whole, targets: whole.refusal ? whole : pageIn(sorted(whole, sort, KEYS), offset)};
@@ -108,6 +112,7 @@ export const view = {
       ifSteers(() => [page.kept("import", () => importForm(page)), page.kept("list", () => listForm(page))]),
       chips(targets.content, filter, (text) => address(0, text)),
       targets.total > 1 ? sortChips(COLUMNS, sort, (order) => address(0, filter, order)) : null,
+      targets.at ? p("hint", t("list.asOf", {at: when(targets.at)})) : null,
       shownTargets(targets, filter),
       pager(targets.total, offset, SHOWN, address),
       targets.total && may("steer") ? page.kept("tag", () => h("details", {class: "card"}, h("summary", {}, t("tag.all")),

@@ -1,6 +1,8 @@
-"""fwdesk-console [--check] [SETTINGS]: watches a desk through HAProxy and remembers what it saw. It gives no orders.
+"""fwdesk-console [--check] [--fleet NAME] [SETTINGS]: watches a desk through HAProxy and remembers what it saw. It gives no orders.
 
-SETTINGS is a TOML file, /etc/fwdesk/console.toml where it is there and none is named. --check reads it and ends."""
+SETTINGS is a TOML file, /etc/fwdesk/console.toml where it is there and none is named. --check reads it and ends.
+Of many fleets on one machine each has a console, by --fleet NAME; --lead is the service that leads HAProxy's lines and
+questions to them."""
 import argparse
 import asyncio
 import logging
@@ -8,7 +10,7 @@ import os
 import sys
 from pathlib import Path
 
-from . import settings
+from . import lead, settings
 from .service import Service
 
 PLACES = ("/etc/fwdesk/console.toml",)
@@ -31,12 +33,16 @@ def main() -> None:
     )
     asked.add_argument("settings", nargs="?", metavar="SETTINGS")
     asked.add_argument("--check", action="store_true", help="reads the settings and ends")
+    asked.add_argument("--fleet", metavar="NAME", help="the console of one fleet of many")
+    asked.add_argument("--lead", action="store_true", help="leads to the consoles of many fleets")
     order = asked.parse_args()
     logging.basicConfig(format="%(levelname)s %(message)s", level=logging.INFO, stream=sys.stderr)
     try:
         told = settings.read(find_settings(order.settings))
+        if order.fleet is not None:
+            told = settings.of_fleet(told, order.fleet)
         if not order.check:
-            asyncio.run(Service(told).serve())
+            asyncio.run(lead.serve(told) if order.lead else Service(told).serve())
     except settings.Wrong as error:
         sys.exit(f"fwdesk-console: {error}")
 

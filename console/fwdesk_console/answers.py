@@ -14,7 +14,7 @@ from . import metrics
 from .clock import Clock
 from .desk import Desk
 from .ear import Ear, unquoted
-from .fleet import Fleet
+from .fleet import ORDERS, WORST, Fleet
 from .history import History
 from .polls import Polls, Unknown
 from .rollouts import Rollouts
@@ -38,6 +38,9 @@ PATH = re.compile(r"/[\x21-\x7e]{0,400}")
 WHO = re.compile(r"[^\x00-\x1f]{1,100}")
 CSV = re.compile(r"csv")
 KIND = re.compile(r"[a-z]{1,20}")
+STATE = re.compile("|".join(WORST))
+ORDER = re.compile(f"-?(?:{'|'.join(ORDERS)})")
+OFFSET = re.compile(r"[0-9]{1,10}")
 
 
 class Refused(Exception):
@@ -109,6 +112,7 @@ class Console:
                 get("/fwdesk/audit", self.audit, allow_head=False),
                 get("/fwdesk/seen", self.seen, allow_head=False),
                 get("/fwdesk/versions", self.which, allow_head=False),
+                get("/fwdesk/devices", self.devices, allow_head=False),
                 get("/metrics", self.numbers, allow_head=False),
             ]
         )
@@ -253,6 +257,16 @@ class Console:
         now = self.clock.wall()
         rows = sorted(known.items(), key=lambda it: it[1])
         return tells({it: round(at, 1) for it, at in rows if now - at >= least})
+
+    async def devices(self, request: web.Request) -> web.Response:
+        """A page of the devices as they were counted last, in an order that no call of the desk has."""
+        taken = read_query(request, state=STATE, sort=ORDER, offset=OFFSET, limit=NUMBER)
+        if self.fleet.counted is None:
+            return tells({"error": "devices", "words": "the devices aren't counted yet"}, 503)
+        found = self.fleet.listed(taken.get("state", ""), taken.get("sort", ""))
+        begin, most = int(taken.get("offset", 0)), min(500, int(taken.get("limit", 50)))
+        page = found[begin : begin + most]
+        return tells({"at": self.fleet.counted, "total": len(found), "content": page})
 
     async def which(self, request: web.Request) -> web.Response:
         taken = read_query(request, device=DEVICE, set=NUMBER)

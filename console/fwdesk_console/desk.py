@@ -19,8 +19,9 @@ class Away(Exception):
 
 
 class Desk:
-    def __init__(self, socket: str):
-        self.socket, self.asked = socket, 0
+    def __init__(self, socket: str, base: str = ""):
+        """`base` stands before each path: of many fleets it names one."""
+        self.socket, self.base, self.asked = socket, base, 0
         self._session: aiohttp.ClientSession | None = None
         self._turn = asyncio.Semaphore(4)
 
@@ -42,7 +43,7 @@ class Desk:
         async with self._turn:
             self.asked += path.startswith(("/rest/", "/desk/"))
             try:
-                url = URL(f"http://desk{path}", encoded=True)
+                url = URL(f"http://desk{self.base}{path}", encoded=True)
                 async with self._session.get(url, allow_redirects=False) as reply:
                     told = await reply.content.read(LARGEST + 1)
                     while not reply.content.at_eof() and len(told) <= LARGEST:

@@ -14,7 +14,7 @@ from .texts import clean
 
 # HAProxy quotes a name (`%{+Q,+E}`). One datagram is one record, so a line feed in a name makes no second one
 LINE = re.compile(
-    r'audit (\d{3}|-1) ([0-9a-fA-F.:]{2,45}|-) (?:"((?:[^"\\]|\\.){0,400})"|(-)) ([A-Z]{1,10}) (\S{1,4000})(?: fleet=\S{0,64})?\n?',
+    r'audit (\d{3}|-1) ([0-9a-fA-F.:]{2,45}|-) (?:"((?:[^"\\]|\\.){0,400})"|(-)) ([A-Z]{1,10}) (\S{1,4000})(?: fleet=(\S{0,64}))?\n?',
     re.S,
 )
 REPORT = re.compile(
@@ -39,8 +39,9 @@ class Order:
 class Ear(asyncio.DatagramProtocol):
     """What is heard is gathered, and written once a second in one go."""
 
-    def __init__(self, store: Store, clock: Clock):
-        self.store, self.clock = store, clock
+    def __init__(self, store: Store, clock: Clock, fleet: str = ""):
+        """Of many fleets it hears one."""
+        self.store, self.clock, self.fleet = store, clock, fleet
         self.counts = {"audit": 0, "report": 0, "unread": 0, "dropped": 0}
         self.on_news: Callable[[], None] = lambda: None
         self.on_change: Callable[[str], None] = lambda _: None
@@ -55,7 +56,11 @@ class Ear(asyncio.DatagramProtocol):
         if not found:
             self.counts["unread"] += 1
             return
-        status, address, name, _, method, path = found.groups()
+        status, address, name, _, method, path, fleet = found.groups()
+        if self.fleet:
+            if fleet != self.fleet:
+                return
+            path = path.removeprefix(f"/fleets/{fleet}") or "/"
         if path.startswith("/DEFAULT/"):
             self._hear_device(status, path)
             if status != "403":

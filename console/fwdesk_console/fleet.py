@@ -1,7 +1,10 @@
-"""How many devices there are, by their state, and how many are silent. Asked only where something was heard since."""
+"""Which devices there are, by their state, and how many are silent. Asked only where something was heard since."""
 import asyncio
 import logging
+import re
 from collections import Counter
+from collections.abc import Callable
+from typing import Any
 
 from .clock import Clock
 from .desk import Away, Desk, Json
@@ -10,13 +13,24 @@ from .polls import Polls, Unknown
 EVERY = 10.0  # seconds between two countings
 GENTLE = 60.0  # or so many times what one took
 ANYWAY = 3600.0  # where nothing was heard
+KEPT = ("controllerId", "name", "updateStatus", "tags", "attributes")  # of each device
+WORST = ("error", "pending", "in_sync", "unknown")
+ORDERS = ("id", "name", "state")
+
+
+def natural(text: str) -> list[tuple[int, int, str]]:
+    """By which texts are ordered as people do: dev-9 before dev-10, small letters as capital ones."""
+    parts = re.split(r"([0-9]+)", text.casefold())
+    return [(0, int(it), "") if n % 2 else (1, 0, it) for n, it in enumerate(parts)]
 
 
 class Fleet:
     def __init__(self, clock: Clock, desk: Desk, polls: Polls, silent_after: float):
         self.clock, self.desk, self.polls, self.silent_after = clock, desk, polls, silent_after
+        self.devices: list[Json] = []
         self.states: dict[str, int] = {}
         self.total = 0
+        self._listed: dict[tuple[str, str], list[Json]] = {}
         self.counted: float | None = None
         self.silent: int | None = None
         self.never: int | None = None
@@ -37,6 +51,8 @@ class Fleet:
         if (states, len(devices)) != (self.states, self.total):
             self.version += 1
         self.states, self.total = states, len(devices)
+        self.devices = [{key: it[key] for key in KEPT if key in it} for it in devices]
+        self._listed.clear()
         self.counted, self._counted_at = self.clock.wall(), self.clock.steady()
 
     async def look_for_silent(self) -> None:
@@ -54,6 +70,19 @@ class Fleet:
         if found != (self.silent, self.never):
             self.silent, self.never = found
             self.version += 1
+
+    def listed(self, state: str, order: str) -> list[Json]:
+        """Those of a state, or all, in an order: `id`, `name`, `state`, or with a `-` before it the other way round."""
+        if (state, order) not in self._listed:
+            of_state = [it for it in self.devices if not state or it["updateStatus"] == state]
+            keys: dict[str, Callable[[Json], Any]] = {
+                "id": lambda it: natural(it["controllerId"]),
+                "name": lambda it: natural(it["name"]),
+                "state": lambda it: WORST.index(it["updateStatus"]),
+            }
+            found = sorted(of_state, key=keys[order.lstrip("-")]) if order else of_state
+            self._listed[state, order] = found[::-1] if order.startswith("-") else found
+        return self._listed[state, order]
 
     def shown(self) -> Json | None:
         if self.counted is None:

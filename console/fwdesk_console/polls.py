@@ -4,7 +4,7 @@ import re
 
 from .clock import Clock
 
-LINE = re.compile(r"key=([A-Za-z0-9._-]{1,64}) .*?\bexp=(\d{1,12})\b")
+LINE = r"key={}([A-Za-z0-9._-]{{1,64}}) .*?\bexp=(\d{{1,12}})\b"
 KEPT = 24 * 86400  # seconds that the table keeps a device for: `expire` of backend seen
 FRESH = 10.0  # seconds for which a reading is used
 LARGEST = 16 * 2**20
@@ -33,8 +33,10 @@ async def ask(path: str, line: str, seconds: float = 10.0) -> str:
 class Polls:
     """Asked at most once in ten seconds, however many want to know."""
 
-    def __init__(self, path: str, clock: Clock):
+    def __init__(self, path: str, clock: Clock, fleet: str = ""):
+        """Of many fleets the table has each device by FLEET/ID."""
         self.path, self.clock = path, clock
+        self._line = re.compile(LINE.format(re.escape(f"{fleet}/" if fleet else "")))
         self._known: dict[str, float] = {}
         self._at = -FRESH
         self._turn = asyncio.Lock()
@@ -50,6 +52,8 @@ class Polls:
                 if not text.lstrip().startswith("# table: seen"):
                     raise Unknown("HAProxy has no table of last polls")
                 now = self.clock.wall()
-                self._known = {it: now - KEPT + int(left) / 1000 for it, left in LINE.findall(text)}
+                self._known = {
+                    it: now - KEPT + int(left) / 1000 for it, left in self._line.findall(text)
+                }
                 self._at = self.clock.steady()
             return self._known

@@ -2,10 +2,8 @@
 import asyncio
 import contextlib
 import logging
-import os
 import signal
 import socket
-from pathlib import Path
 
 from aiohttp import web
 
@@ -18,6 +16,7 @@ from .history import History
 from .polls import Polls
 from .rollouts import Rollouts
 from .settings import Settings
+from .sockets import bind_socket, given_sockets
 from .stock import Stock
 from .store import Store
 from .tell import Teller, ways_of
@@ -25,35 +24,16 @@ from .versions import Versions
 from .watch import Watch, tell_of_records
 
 
-def given_sockets() -> dict[socket.SocketKind, socket.socket]:
-    """Those of systemd, by their kind; without systemd none."""
-    if os.environ.get("LISTEN_PID") != str(os.getpid()):
-        return {}
-    found = [socket.socket(fileno=3 + n) for n in range(int(os.environ.get("LISTEN_FDS", "0")))]
-    return {it.type: it for it in found}
-
-
-def bind_socket(path: str, kind: socket.SocketKind) -> socket.socket:
-    """A socket of our own, for who runs it by hand."""
-    Path(path).unlink(missing_ok=True)
-    it = socket.socket(socket.AF_UNIX, kind)
-    before = os.umask(0o117)
-    try:
-        it.bind(path)
-    finally:
-        os.umask(before)
-    return it
-
-
 class Service:
     def __init__(self, settings: Settings, clock: Clock | None = None):
         self.settings, self.clock = settings, clock or Clock()
         self.store = Store(settings.records, settings.rows)
-        self.desk = Desk(settings.looks)
-        self.ear = Ear(self.store, self.clock)
+        fleet = settings.fleet
+        self.desk = Desk(settings.looks, f"/fleets/{fleet}" if fleet else "")
+        self.ear = Ear(self.store, self.clock, fleet)
         self.history = History(self.store, self.clock, ways_of(settings), settings.tell)
         self.teller = Teller(settings, self.store, self.clock, self.history)
-        self.polls = Polls(settings.table, self.clock)
+        self.polls = Polls(settings.table, self.clock, fleet)
         self.fleet = Fleet(self.clock, self.desk, self.polls, settings.silent_after)
         self.rollouts = Rollouts(
             self.store, self.clock, self.desk, self.ear, self.history, settings.stands_after

@@ -1,11 +1,15 @@
 """What the console is told: one TOML file. Each value has a default and a range; a wrong one ends the start in words."""
 import dataclasses
+import re
 import tomllib
 from pathlib import Path
 from typing import Any
 from urllib.parse import urlsplit
 
 KINDS = ("paused", "stands", "desk", "console", "held", "released", "running", "finished", "denied")
+
+
+FLEET = re.compile(r"[a-z0-9]{1,24}")
 
 
 class Wrong(Exception):
@@ -34,6 +38,7 @@ class Settings:
     stands_after: float = 86400.0  # a rollout that didn't move for so long stands still
     silent_after: float = 86400.0  # a device that didn't poll for so long is silent
     rows: int = 100_000  # of each kind of record
+    fleet: str = ""  # of many fleets on one machine: whose console this is
 
 
 RANGES: dict[str, tuple[float, float]] = {
@@ -76,6 +81,8 @@ def check_all(told: dict[str, Any]) -> Settings:
             raise Wrong(
                 "webhooks, chats and link are addresses that begin with https:// or http://"
             )
+    if made.fleet and not FLEET.fullmatch(made.fleet):
+        raise Wrong("fleet is the name of a fleet, of 1 to 24 small letters and digits")
     for kind in made.tell:
         if kind not in KINDS:
             raise Wrong(f"tell has some of {', '.join(KINDS)}")
@@ -86,6 +93,18 @@ def check_all(told: dict[str, Any]) -> Settings:
     if not (host and colon and port.isdigit() and 0 < int(port) < 65536):
         raise Wrong("smtp is a host and a port, as 127.0.0.1:25")
     return made
+
+
+def of_fleet(told: Settings, fleet: str) -> Settings:
+    """The settings that one fleet of many has: its records, and the address of its own web UI."""
+    if not FLEET.fullmatch(fleet):
+        raise Wrong(f"{fleet!r} is no name of a fleet")
+    own: dict[str, str] = {"fleet": fleet}
+    if told.records == Settings.records:
+        own["records"] = f"/var/lib/fwdesk-consoles/{fleet}/console.db"
+    if told.link.endswith("/page/") and "/fleets/" not in told.link:
+        own["link"] = f"{told.link.removesuffix('page/')}fleets/{fleet}/page/"
+    return dataclasses.replace(told, **own)
 
 
 def read(path: str | None) -> Settings:

@@ -49,6 +49,11 @@ class Teller:
     def waiting(self) -> int:
         return len(self.history.waiting)
 
+    @property
+    def named(self) -> str:
+        """What a message begins with: of many fleets the one that it is of."""
+        return f"fwdesk {self.settings.fleet}".strip()
+
     def link(self, event: Row) -> str:
         if not self.settings.link:
             return ""
@@ -62,6 +67,7 @@ class Teller:
         return {
             "id": f"{self.store.name}-{event['id']}",
             "at": email.utils.formatdate(event["at"]),
+            "fleet": self.settings.fleet,
             "kind": event["kind"],
             "rollout": event["rollout"],
             "group": event["group"],
@@ -73,14 +79,15 @@ class Teller:
 
     def as_chat_json(self, event: Row) -> Row:
         """The form of a chat: one member `text`, in which strangers' words stand as code."""
-        return {"text": f"{as_chat(event['parts'])} {self.link(event)}".strip()}
+        fleet = f"{self.named}: " if self.settings.fleet else ""
+        return {"text": f"{fleet}{as_chat(event['parts'])} {self.link(event)}".strip()}
 
     def as_mail(self, event: Row) -> email.message.EmailMessage:
         message = email.message.EmailMessage()
         message["From"] = self.settings.mail_from
         message["To"] = ", ".join(self.settings.mail_to)
         words = as_text(event["parts"])
-        message["Subject"] = f"fwdesk: {words}"[:150]
+        message["Subject"] = f"{self.named}: {words}"[:150]
         message["Date"] = email.utils.formatdate(event["at"])
         message["Message-ID"] = f"<{self.store.name}-{event['id']}@fwdesk-console>"
         message["Auto-Submitted"] = "auto-generated"

@@ -36,6 +36,11 @@ class FakeDesk:
     """One rollout of a group of ten devices, as the calls of the desk tell it."""
 
     def __init__(self) -> None:
+        self.base = ""
+        self.targets: list[dict[str, Any]] = [
+            {"controllerId": f"dev-{k:02}", "name": f"Device {k}", "updateStatus": "pending"}
+            for k in range(1, 11)
+        ]
         self.rollouts: list[dict[str, Any]] = []
         self.groups: dict[int, list[dict[str, Any]]] = {}
         self.actions: dict[int, dict[int, list[str]]] = {}
@@ -74,11 +79,13 @@ class FakeDesk:
         self.groups[rollout][0][{"finished": "ok", "error": "bad"}[state]] += 1
 
     async def answer(self, request: web.Request) -> web.StreamResponse:
-        self.asked.append(request.path)
+        path = request.path.removeprefix(self.base)
+        assert request.path.startswith(self.base)
+        self.asked.append(path)
         if self.fails:
             return web.Response(status=503, text="<html>no server</html>")
-        parts = request.path.strip("/").split("/")
-        if request.path == "/fwdesk/brake":
+        parts = path.strip("/").split("/")
+        if path == "/fwdesk/brake":
             return web.json_response(self.held)
         if parts[-1] == "actions":
             rows = self.actions[int(parts[-2])].items()
@@ -96,8 +103,8 @@ class FakeDesk:
             sets = [{"id": n, "name": "pump", "version": f"{n}.0", "modules": []} for n in (1, 2)]
             return self.page(sets, request)
         if parts[-1] == "targets":
-            return self.page([{"updateStatus": "pending"}] * 10, request)
-        assert request.path == "/rest/v1/rollouts", request.path
+            return self.page(self.targets, request)
+        assert path == "/rest/v1/rollouts", path
         return self.page(self.rollouts, request)
 
     @staticmethod

@@ -14,6 +14,10 @@ from fwdesk_console.texts import as_text
         "/fwdesk/state?rollout=0",
         "/fwdesk/state?rollout=1&rollout=2",
         "/fwdesk/state?since=1",
+        "/fwdesk/devices?state=failed",
+        "/fwdesk/devices?sort=token",
+        "/fwdesk/devices?sort=--id",
+        "/fwdesk/devices?offset=-1",
         "/fwdesk/audit?limit=x",
         "/fwdesk/audit?limit=-1",
         "/fwdesk/audit?before=99999999999999999999",
@@ -184,5 +188,32 @@ def test_a_disk_that_is_nearly_full_is_told_once(tmp_path, monkeypatch):
             "has 150 MB left",
             "has 100 MB left",
         ]
+
+    play(tmp_path, course)
+
+
+def test_devices_are_listed_by_state_and_in_an_order_of_people(tmp_path):
+    async def course(stand):
+        assert (await stand.get("/fwdesk/devices"))[0] == 503
+        made = (("dev-10", "b", "error"), ("dev-9", "C", "in_sync"), ("DEV-1", "a", "error"))
+        stand.desk.targets = [
+            {"controllerId": it, "name": name, "updateStatus": state, "tags": [], "attributes": {}}
+            for it, name, state in made
+        ]
+        await stand.service.fleet.count()
+        ask = lambda it: stand.get(f"/fwdesk/devices?{it}")
+        ids = lambda told: [it["controllerId"] for it in told[2]["content"]]
+        assert ids(await ask("sort=id")) == ["DEV-1", "dev-9", "dev-10"]
+        assert ids(await ask("sort=-id")) == ["dev-10", "dev-9", "DEV-1"]
+        assert ids(await ask("sort=name")) == ["DEV-1", "dev-10", "dev-9"]
+        assert ids(await ask("sort=state&limit=2")) == ["dev-10", "DEV-1"]
+        assert ids(await ask("sort=id&offset=1&limit=1")) == ["dev-9"]
+        told = (await ask("state=error&sort=id"))[2]
+        assert told["total"] == 2 and told["at"] == stand.clock.wall()
+        assert told["content"][0] == stand.desk.targets[2]
+        # counted anew the lists are others
+        del stand.desk.targets[0]
+        await stand.service.fleet.count()
+        assert ids(await ask("state=error&sort=id")) == ["DEV-1"]
 
     play(tmp_path, course)
