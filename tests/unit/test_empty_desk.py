@@ -5,7 +5,7 @@ import subprocess
 import tempfile
 from pathlib import Path
 
-from asserting import same
+from harness.asserting import same
 from crate_graph import ROOT
 
 MAKES = ROOT / "tools/gen/empty-database"

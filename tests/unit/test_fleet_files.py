@@ -10,7 +10,7 @@ import tempfile
 from pathlib import Path
 
 from crate_graph import ROOT
-from asserting import same
+from harness.asserting import same
 
 sys.path.insert(0, str(ROOT / "cli"))
 from fwdesk_ctl import fleet_file

@@ -1,6 +1,6 @@
 """Tests of the list that tools/proof/margin keeps, and of what it reads of a check."""
 from as_module import as_module
-from asserting import same
+from harness.asserting import same
 from crate_graph import ROOT
 
 margin = as_module(ROOT / "tools/proof/margin")

@@ -3,8 +3,8 @@ import json
 
 import pytest
 
-from browser import Browser
-from environment import PROGRAM, ROOT, Environment, free_ports
+from .browser import Browser
+from .environment import PROGRAM, ROOT, Environment
 from harness.edge import ALL, Edge
 from harness.processes import HOST, Processes, eventually, listens
 

@@ -5,7 +5,7 @@ import time
 
 import pytest
 
-from environment import Environment
+from .environment import Environment
 from harness.processes import eventually
 
 DEVICES = int(os.environ.get("DEVICES", 10_000))

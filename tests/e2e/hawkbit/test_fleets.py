@@ -9,10 +9,11 @@ import ssl
 import subprocess
 
 import pytest
+from harness.tls import make_certificate
 
-import stage
-from stage import HOST, B, HAProxy, R, ask, sums_of
-from test_manage import KIND, form, is_error
+from . import stage
+from .stage import HOST, B, HAProxy, R, ask, sums_of
+from .test_manage import KIND, form, is_error
 
 KEY, TOKEN = b"k" * 40, "gateway-token-of-32-letters-or-more"
 FLEETS = {"acme": "127.0.0.1", "other": "127.0.0.2"}

@@ -7,9 +7,9 @@ from collections.abc import Iterator
 from pathlib import Path
 
 import pytest
-from harness.edge import make_certificate
+from harness.tls import make_certificate
 from harness.processes import HOST, Processes, eventually, free_port, listens, with_places
-from stage import ROOT, TLS, Link, login
+from .stage import ROOT, TLS, Link, login
 
 pytestmark = [
     pytest.mark.e2e,
