@@ -6,7 +6,7 @@ import pytest
 from .browser import Browser
 from .environment import PROGRAM, ROOT, Environment
 from harness.edge import ALL, Edge
-from harness.processes import HOST, Processes, eventually, listens
+from harness.processes import HOST, Processes, eventually, free_port, listens
 
 FLEETS = ("acme", "other")
 
@@ -51,7 +51,7 @@ class Room:
     def __init__(self, folder):
         folder.chmod(0o755)
         self.folder, self.processes = folder, Processes(folder)
-        *ports, self.metrics = free_ports(len(FLEETS) + 1)
+        *ports, self.metrics = (free_port() for _ in range(len(FLEETS) + 1))
         self.desk_ports = dict(zip(FLEETS, ports))
         self.edge = Edge(
             folder,
