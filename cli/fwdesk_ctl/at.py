@@ -26,8 +26,7 @@ def options(parser):
     settings(parser)
     for it in ("--list", "--ended", "--json"):
         parser.add_argument(it, action="store_true")
-    for it in ("--metrics", "--answer"):
-        parser.add_argument(it, action="store_true", help=argparse.SUPPRESS)
+    parser.add_argument("--metrics", action="store_true", help=argparse.SUPPRESS)
     parser.add_argument("--cancel", metavar="N", type=int)
     parser.add_argument("--do", type=int, help=argparse.SUPPRESS)
     parser.add_argument("words", metavar="TIME VERB ..", nargs=argparse.REMAINDER)
@@ -68,12 +67,10 @@ def cancel(number):
 def run(_, asked):
     if asked.do is not None:
         return run_scheduled.run(asked.do)
-    if asked.metrics:
-        return print(coming.metrics())
-    if asked.answer:
-        return coming.answer()
     if asked.list or asked.ended:
         return show(asked)
+    if asked.metrics:
+        return print(coming.metrics())
     if asked.cancel is not None:
         return cancel(asked.cancel)
     order = order_of(asked)

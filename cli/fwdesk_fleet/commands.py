@@ -17,33 +17,28 @@ a program and its lines in the proxies.
     fwdesk-fleet upgrade NAME FOLDER [--program PATH]
                                                the same, and then serves it by the installed program
     fwdesk-fleet restore NAME FOLDER           serves the records of a backup, by the program that they were made with
-    fwdesk-fleet metrics FOLDER                a text for Prometheus of each fleet, into fwdesk-NAME.prom
-                                               (node_exporter's textfile collector)
     fwdesk-fleet settle [--files]              makes all as the fleets' files have it; --files: what the proxies start
                                                with alone
 
 Other words for the same: route, unroute (lead, unlead), grant, revoke (allow, forbid), apply (settle).
 
-What holds stands in /etc/fwdesk/fleets/NAME.conf alone. Each call but `list` and `metrics` makes the rest as
+What holds stands in /etc/fwdesk/fleets/NAME.conf alone. Each call but `list` makes the rest as
 these files have it: what the proxies start with, what the running ones know, and which units run. So a call that
 was cut short is mended by the next one, and nothing is ever reloaded. A unit that is enabled but was stopped is
 left as it is."""
 import argparse
 import contextlib
 import os
-import re
 import shutil
-import subprocess
 import sys
 from pathlib import Path
 
 from fwdesk_ctl import atomic
-from fwdesk_ctl.connection import find_near
 from fwdesk_ctl.errors import NotDone, Wrong
 from fwdesk_ctl.terminal import guard_output
 from fwdesk_fleet import places, proxies, records, units
 from fwdesk_fleet.fleets import NAME, OPERATOR, USER, Fleet
-from fwdesk_fleet.fleets import add_routes, check, choose_port, find_fleet, open_folder, put
+from fwdesk_fleet.fleets import add_routes, check, choose_port, find_fleet, open_folder
 from fwdesk_fleet.fleets import read_fleets, split_operator
 
 # the field's words for verbs
@@ -187,36 +182,11 @@ def restore(asked: argparse.Namespace) -> None:
     print(f"what was there before is in {before}")
 
 
-def name_fleet(text: str, name: str) -> str:
-    """A text for Prometheus, with a fleet's name at each figure."""
-
-    def label(found: re.Match[str]) -> str:
-        others = f",{found[2]}" if found[2] else ""
-        return f'{found[1]}{{fleet="{name}"{others}}} '
-
-    return re.sub(r"^(\w+)(?:\{(.*)\})? ", label, text, flags=re.M)
-
-
-def metrics(asked: argparse.Namespace) -> None:
-    """Writes each fleet's text. That of one that doesn't answer stays as it is, and grows old."""
-    names = {it.name for it in read_fleets()}
-    for name in sorted(names):
-        words = [places.METRICS, f"{find_near()}/fleets/{name}"]
-        ran = subprocess.run(words, stdout=subprocess.PIPE, text=True)
-        if ran.returncode == 0:
-            # (the collector has a user of its own)
-            put(asked.folder / f"fwdesk-{name}.prom", name_fleet(ran.stdout, name), 0o644)
-    for file in asked.folder.glob("fwdesk-*.prom"):
-        if file.stem.partition("-")[2] not in names:
-            file.unlink()
-
-
 VERBS = {
     "add": add,
     "remove": remove,
     "list": show_list,
     "settle": lambda asked: settle(asked.files),
-    "metrics": metrics,
     "lead": lead,
     "unlead": unlead,
     "allow": allow,
@@ -237,14 +207,14 @@ def read_command_line() -> argparse.Namespace:
         aliases = [ALIASES[verb]] if verb in ALIASES else []
         own[verb] = parts.add_parser(verb, aliases=aliases)
         own[verb].set_defaults(verb=verb)
-    for verb in VERBS.keys() - {"list", "settle", "metrics"}:
+    for verb in VERBS.keys() - {"list", "settle"}:
         own[verb].add_argument("name")
     for verb in ("add", "lead", "unlead"):
         own[verb].add_argument("--host", action="append", default=[])
         own[verb].add_argument("--prefix", action="append", default=[])
     for verb in ("allow", "forbid"):
         own[verb].add_argument("user", nargs="+")
-    for verb in ("backup", "upgrade", "restore", "metrics"):
+    for verb in ("backup", "upgrade", "restore"):
         own[verb].add_argument("folder", type=Path)
     own["add"].add_argument("--operator", action="append", default=[])
     own["add"].add_argument("--anew", action="store_true")

@@ -6,7 +6,6 @@ PROXIES = Path("/etc/haproxy/fleets")
 RECORDS = Path("/var/lib/private/fwdesk-fleets")
 PROGRAMS = Path("/usr/local/lib/fwdesk")
 WANTED = Path("/etc/systemd/system/multi-user.target.wants")
-METRICS = "/usr/share/fwdesk/fwdesk-metrics"
 # a database without tables, in whose pages a new desk is made
 EMPTY = Path("/usr/share/fwdesk/empty.db")
 # the administration sockets of the HAProxy before all, and of the one that has the connections to the servers

@@ -8,7 +8,7 @@ from fwdesk_setup.files import write_whole
 from fwdesk_setup.run import run, systemctl
 
 EDGE, DESKS = "haproxy.service", "haproxy-desks.service"
-SOCKETS = ("fwdesk-brake.socket", "fwdesk-coming.socket")
+SOCKETS = ("fwdesk-brake.socket", "fwdesk-console.socket")
 MADE = "# written by fwdesk-setup, which also takes it away: fwdesk-setup --undo\n"
 
 

@@ -16,6 +16,7 @@ from .desk import Desk
 from .ear import Ear, unquoted
 from .fleet import ORDERS, WORST, Fleet
 from .history import History
+from .machine import Machine
 from .polls import Polls, Unknown
 from .rollouts import Rollouts
 from .stock import Stock
@@ -95,10 +96,11 @@ class Console:
         watch: Watch,
         teller: Teller,
         stock: Stock,
+        machine: Machine,
     ):
         self.store, self.clock, self.desk, self.ear, self.history = store, clock, desk, ear, history
         self.rollouts, self.versions, self.fleet, self.polls = rollouts, versions, fleet, polls
-        self.watch, self.teller, self.stock = watch, teller, stock
+        self.watch, self.teller, self.stock, self.machine = watch, teller, stock, machine
         self._made: dict[int, tuple[Any, str, str]] = {}
 
     def app(self) -> web.Application:
@@ -113,6 +115,7 @@ class Console:
                 get("/fwdesk/seen", self.seen, allow_head=False),
                 get("/fwdesk/versions", self.which, allow_head=False),
                 get("/fwdesk/devices", self.devices, allow_head=False),
+                get("/fwdesk/coming", self.coming, allow_head=False),
                 get("/metrics", self.numbers, allow_head=False),
             ]
         )
@@ -285,9 +288,14 @@ class Console:
             return tells(rows)
         return tells({"versions": self.versions.counts()})
 
+    async def coming(self, request: web.Request) -> web.Response:
+        read_query(request)
+        return tells(await self.machine.coming())
+
     async def numbers(self, request: web.Request) -> web.Response:
         read_query(request)
-        return web.Response(text=metrics.text(self), content_type="text/plain", headers=FIELDS)
+        text = metrics.text(self, await self.machine.orders())
+        return web.Response(text=text, content_type="text/plain", headers=FIELDS)
 
 
 def show_event(event: Row) -> Row:

@@ -3,7 +3,8 @@ from datetime import datetime
 from collections.abc import Iterable, Mapping
 from typing import TYPE_CHECKING
 
-from .rollouts import GOING
+from .desk import Json
+from .rollouts import GOING, needed_of, silent_of
 from .stock import LIMITS
 from .texts import clean
 
@@ -35,7 +36,11 @@ def begun_of(held: object) -> int | None:
         return None
 
 
-def text(console: "Console") -> str:
+def has_begun(group: Json) -> bool:
+    return group["status"] not in ("ready", "scheduled")
+
+
+def text(console: "Console", orders: tuple[int, dict[str, int]] | None = None) -> str:
     watch, rollouts, fleet = console.watch, console.rollouts.known, console.fleet
     going = {n: it for n, it in rollouts.items() if it.status in GOING}
     age = watch.age()
@@ -86,6 +91,22 @@ def text(console: "Console") -> str:
                 for n, known in going.items()
                 for key, group in known.groups.items()
                 for it in ("size", "ok", "bad", "gone")
+            ]
+            + [
+                ({"rollout": n, "group": key, "outcome": "open"}, silent_of(group))
+                for n, known in going.items()
+                for key, group in known.groups.items()
+                if has_begun(group)
+            ],
+        ),
+        *metric(
+            "fwdesk_group_needed",
+            "Members of a group that have to succeed until the next one starts.",
+            [
+                ({"rollout": n, "group": key}, needed_of(group))
+                for n, known in going.items()
+                for key, group in known.groups.items()
+                if has_begun(group)
             ],
         ),
         *metric(
@@ -130,6 +151,18 @@ def text(console: "Console") -> str:
             "fwdesk_held_since",
             "When a hold began.",
             [({"kind": it}, begun) for it, told in watch.held.items() if (begun := begun_of(told))],
+        )
+    if orders is not None:
+        waiting, ended = orders
+        words = "Scheduled commands that wait for their time."
+        lines += metric("fwdesk_orders_waiting", words, [({}, waiting)])
+        words = "Scheduled commands that ended, by what became of them."
+        counts = [({"outcome": it}, n) for it, n in ended.items()]
+        lines += metric("fwdesk_orders_total", words, counts, "counter")
+    if (ends := console.machine.certificate_ends) is not None:
+        words = "When the certificate of the proxy ends."
+        lines += metric(
+            "fwdesk_certificate_ends", words, [({"at": console.machine.tls}, round(ends))]
         )
     lines += metric(
         "fwdesk_console_kept",

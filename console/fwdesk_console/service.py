@@ -13,6 +13,7 @@ from .desk import Desk
 from .ear import Ear
 from .fleet import Fleet
 from .history import History
+from .machine import Machine
 from .polls import Polls
 from .rollouts import Rollouts
 from .settings import Settings
@@ -41,6 +42,7 @@ class Service:
         self.versions = Versions(
             self.store, self.clock, self.desk, self.ear, self.rollouts, settings.table_every
         )
+        self.machine = Machine(self.clock, settings.tls, fleet)
         self.stock = Stock(self.clock, self.desk, self.fleet, self.rollouts)
         self.ear.on_change = self.stock.note_change
         self.watch = Watch(
@@ -66,6 +68,7 @@ class Service:
             self.watch,
             self.teller,
             self.stock,
+            self.machine,
         )
         self._look_at_records = tell_of_records(self.store, self.history)
 
@@ -96,6 +99,7 @@ class Service:
             self.fleet.keep,
             self.teller.keep,
             self.stock.keep,
+            self.machine.keep,
             self._keep_records,
         )
         works: list[asyncio.Task[None]] = [asyncio.create_task(it()) for it in parts]

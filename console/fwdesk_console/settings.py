@@ -25,6 +25,7 @@ class Settings:
     looks: str = "/run/haproxy/fwdesk-looks.sock"  # HAProxy's frontend that lets looks alone by
     table: str = "/run/haproxy/fwdesk-table.sock"  # HAProxy's table of last polls
     records: str = "/var/lib/fwdesk-console/console.db"
+    tls: str = "127.0.0.1:8443"  # where HAProxy listens, whose certificate is looked at
     link: str = ""  # where the web UI is; what messages lead to
     webhooks: tuple[str, ...] = ()
     chats: tuple[str, ...] = ()
@@ -89,9 +90,11 @@ def check_all(told: dict[str, Any]) -> Settings:
     for address in (*made.mail_to, made.mail_from):
         if not address.isprintable() or address.count("@") != 1 or " " in address:
             raise Wrong("mail_to and mail_from are addresses as ops@example.org")
-    host, colon, port = made.smtp.rpartition(":")
-    if not (host and colon and port.isdigit() and 0 < int(port) < 65536):
-        raise Wrong("smtp is a host and a port, as 127.0.0.1:25")
+    for name, value, like in (("smtp", made.smtp, ":25"), ("tls", made.tls, ":8443, or nothing")):
+        host, colon, port = value.rpartition(":")
+        is_place = host and colon and port.isdigit() and 0 < int(port) < 65536
+        if not is_place and (value or name == "smtp"):
+            raise Wrong(f"{name} is a host and a port, as 127.0.0.1{like}")
     return made
 
 

@@ -23,7 +23,7 @@ FORMS = {
     "single": {},
     "fleets": {"FWDESK_MANY": "1"},
     "failover": {"FWDESK_ADDRESSES": "{folder}/addresses.map", "FWDESK_NO_PAGE": "1"},
-    "pod": {"FWDESK_NO_PAGE": "1", "FWDESK_NO_BRAKE": "1", "FWDESK_NO_COMING": "1"},
+    "pod": {"FWDESK_NO_PAGE": "1", "FWDESK_NO_BRAKE": "1"},
     # a single machine whose own way in is a port besides
     "port": {"FWDESK_LOCAL_PORT": "{local_port}"},
 }

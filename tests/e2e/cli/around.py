@@ -1,4 +1,4 @@
-"""Cases of fwdesk-ctl: tokens, logins, other ways to a desk, silence, metrics, and what the pages tell."""
+"""Cases of fwdesk-ctl: tokens, logins, other ways to a desk, silence, and what the pages tell."""
 import csv
 import json
 import os
@@ -8,7 +8,7 @@ import tomllib
 
 from e2e.devices import packages
 
-from .environment import CLI, DEPLOY, HOST, PASSWORD, ROOT, Proxy, Relay, needs
+from .environment import CLI, HOST, PASSWORD, ROOT, Proxy, Relay
 
 
 def makes_tokens(env):
@@ -139,51 +139,6 @@ def tells_silence(env):
     )
 
 
-def tells_metrics(env):
-    """fwdesk-metrics: what counts towards limits; groups of rollouts that go on alone; no text where nobody answers"""
-    needs("curl", "jq")
-    names = env.fleet(4)
-    ended = env.rollout("ended", text=f"controllerid=={names[0]}")
-    env.report(names[0], "success")
-    going = env.rollout('a "quoted" \\ name', groups=3)
-    env.rollout("ready", started=False)
-    assert [env.get(f"rollouts/{it}")["status"] for it in (ended, going)] == ["finished", "running"]
-    (module,) = env.ask(
-        "POST", "/rest/v1/softwaremodules", [{"name": "empty", "type": "os", "version": "1"}]
-    )
-    for it in ("a", "b"):
-        env.ask("POST", f"/rest/v1/softwaremodules/{module['id']}/artifacts?filename={it}", it)
-    script = str(DEPLOY / "bin/fwdesk-metrics")
-    text = packages.said([script, f"{env.url}/"]).splitlines()
-    used = {"modules": 4, "artifacts": 5, "sets": 3, "targets": 4, "rollouts": 3}
-    used |= {"module_artifacts": 2, "rollout_groups": 3}
-    limits = {"modules": 1000, "artifacts": 256, "sets": 1000, "targets": 10000, "rollouts": 1000}
-    limits |= {"module_artifacts": 8, "rollout_groups": 50}
-    wanted = ["fwdesk_targets 4"]
-    wanted += [
-        f'fwdesk_rollout{{rollout="{going}",name="a \\"quoted\\" \\\\ name",status="running"}} 1'
-    ]
-    wanted += [f'fwdesk_used{{of="{it}"}} {count}' for it, count in used.items()]
-    wanted += [f'fwdesk_limit{{of="{it}"}} {count}' for it, count in limits.items()]
-    wanted += [f'fwdesk_group_targets{{rollout="{going}",group="3",outcome="size"}} 2']
-    assert not (missing := [it for it in wanted if it not in text]), (missing, text)
-    Relay(env.port, path=env.folder / "desk.sock")
-    near = "http+unix://" + str(env.folder / "desk.sock").replace("/", "%2F")
-    assert packages.said([script, near]).splitlines() == text
-    of_groups = {
-        re.search(r'rollout="(\d+)"', it)[1]
-        for it in text
-        if it.startswith("fwdesk_group_targets{")
-    }
-    assert of_groups == {str(going)}, of_groups
-    env.processes.end(env.server)
-    try:
-        told = packages.said([script, env.url])
-        raise AssertionError(f"nobody answers, and it is well: {told}")
-    except packages.Missing as told:
-        assert "fwdesk_" not in str(told), told
-
-
 def is_told(env):
     """each verb has its help; the man page has each verb and option, the completion too; each refusal has its words"""
     from fwdesk_ctl import commands, refusals
@@ -210,4 +165,4 @@ def is_told(env):
     assert all(it in env.gives("--help") for it in commands.VERBS)
 
 
-CASES = [makes_tokens, logs_in, goes_other_ways, tells_silence, tells_metrics, is_told]
+CASES = [makes_tokens, logs_in, goes_other_ways, tells_silence, is_told]

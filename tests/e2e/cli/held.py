@@ -9,7 +9,7 @@ import stat
 import subprocess
 import time
 
-from .environment import CLI, DEPLOY, HOST, PASSWORD, Proxy
+from .environment import CLI, HOST, PASSWORD, Proxy
 from .environment import eventually, needs, packages, status
 
 BASE = "/DEFAULT/controller/v1"
@@ -284,31 +284,6 @@ def refuses_to_hold(env):
     env.refuses(1, "nobody answers at fwdesk-brake.socket", "hold", **topology.near)
 
 
-def tells_metrics_of_holds(env):
-    """fwdesk-metrics: each kind of hold, and since when; where the proxy has no brake nothing is told of it"""
-    env.fleet(1)
-    script = str(DEPLOY / "bin/fwdesk-metrics")
-    assert "fwdesk_held" not in packages.said([script, env.url])
-    topology = Topology(env)
-    url = topology.near["FWDESK_URL"]
-    lines = packages.said([script, url]).splitlines()
-    assert (
-        'fwdesk_held{kind="brake"} 0' in lines
-        and 'fwdesk_held{kind="quiet"} 0' in lines
-        and not any(it.startswith("fwdesk_held_since") for it in lines)
-    )
-    before = int(time.time())
-    env.gives("hold", **topology.near)
-    lines = packages.said([script, url]).splitlines()
-    assert 'fwdesk_held{kind="brake"} 1' in lines and 'fwdesk_held{kind="quiet"} 0' in lines
-    (since,) = [
-        int(it.rpartition(" ")[2])
-        for it in lines
-        if it.startswith('fwdesk_held_since{kind="brake"}')
-    ]
-    assert before <= since <= time.time(), since
-
-
 def holds_under_foreign_locks(env):
     """a user of the machine locks the folder and the file of the holds for good: who holds is answered all the same"""
     needs("flock", "setpriv")
@@ -417,5 +392,4 @@ CASES = [
     knows_who_holds,
     holds_without_the_proxy,
     refuses_to_hold,
-    tells_metrics_of_holds,
 ]

@@ -1,11 +1,6 @@
 """Cases of fwdesk-ctl: a rollout that stands still, or is paused, says so, and why."""
 import json
-import os
-import re
 import time
-
-from .environment import DEPLOY, Relay, needs, packages
-from harness.tls import make_certificate
 
 LINK = "https://desk.example:8443"
 
@@ -114,55 +109,4 @@ def explains_a_pause(env):
     assert "http" not in env.gives("rollouts", "--status", "paused", "--why")
 
 
-def units_tell_it(env):
-    """fwdesk-notify.service: its commands run as they are written, and each mail has what it is to have"""
-    unit = (DEPLOY / "systemd/fwdesk-notify.service").read_text()
-    half_silent(env)
-    env.gives("pause", 1)
-    commands = re.findall(r"^ExecStart=/usr/bin/fwdesk-ctl (.*)$", unit, re.M)
-    assert len(commands) == 2, commands
-    mail = env.folder / "mail"
-    mail.write_text('#!/bin/sh\ncat >> "$HOME/mails"\n')
-    mail.chmod(0o755)
-    own = {**env.environment, "FWDESK_URL": env.url, "MAIL": str(mail)}
-    link = re.search(r'^Environment="FWDESK_LINK=(.*)"$', unit, re.M)[1]
-    own["FWDESK_LINK"] = link.replace("%H", "desk.example")
-    for it in commands:
-        line = it.replace("/var/lib/fwdesk-told", str(env.folder))
-        packages.said(["/bin/sh", "-c", f"{env.words()[0]} {line}"], env=own)
-    mails = (env.folder / "mails").read_text()
-    assert mails.startswith(
-        "To: root\nSubject: a rollout is paused\n\nrollout 1, spring, is paused: "
-    ), mails
-    assert "by an operator" in mails and "https://desk.example:8443/page/#/rollouts/1\n" in mails
-    assert mails.count("Subject:") == 1, "a rollout that is paused doesn't stand still"
-
-
-def measures_it(env):
-    """fwdesk-metrics: the open and the needed of groups that have begun; when the certificate ends; by a socket too"""
-    needs("curl", "jq", "openssl")
-    half_silent(env)
-    script = str(DEPLOY / "bin/fwdesk-metrics")
-    make_certificate(env.folder)
-    own = {**os.environ, "FWDESK_CERTIFICATE": f"{env.folder}/server.crt"}
-    Relay(env.port, path=env.folder / "desk.sock")
-    address = "http+unix://" + str(env.folder / "desk.sock").replace("/", "%2F")
-    for url in (env.url, address):
-        text = packages.said([script, url], env=own).splitlines()
-        group = 'rollout="1",group="1"'
-        assert f'fwdesk_group_targets{{{group},outcome="open"}} 2' in text, text
-        assert f"fwdesk_group_needed{{{group}}} 9" in text
-        assert not [
-            it
-            for it in text
-            if 'group="2",outcome="open"' in it or 'needed{rollout="1",group="2"' in it
-        ]
-        (ends,) = [it for it in text if it.startswith("fwdesk_certificate_ends{")]
-        assert ends.startswith(f'fwdesk_certificate_ends{{file="{env.folder}/server.crt"}} ')
-        left = int(ends.split()[-1]) - time.time()
-        assert 1.9 * 86400 < left < 2.1 * 86400, left
-    own["FWDESK_CERTIFICATE"] = f"{env.folder}/none"
-    assert "certificate" not in packages.said([script, env.url], env=own)
-
-
-CASES = [wait_tells_it, lists_those, explains_a_pause, units_tell_it, measures_it]
+CASES = [wait_tells_it, lists_those, explains_a_pause]

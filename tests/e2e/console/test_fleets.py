@@ -6,7 +6,7 @@ import pytest
 from .browser import Browser
 from .environment import PROGRAM, ROOT, Environment
 from harness.edge import ALL, Edge
-from harness.processes import HOST, Processes, eventually, free_port, listens
+from harness.processes import HOST, Processes, eventually, free_port
 
 FLEETS = ("acme", "other")
 

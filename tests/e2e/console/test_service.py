@@ -6,10 +6,15 @@ import json
 import os
 import signal
 import socket
+import subprocess
 import threading
 import time
+import urllib.error
+import urllib.request
 
-from harness.processes import eventually
+import pytest
+
+from harness.processes import HOST, eventually
 
 
 class Polling:
@@ -264,3 +269,40 @@ def test_a_reload_of_haproxy_fails_no_poll_beside_twenty_pages(env):
         f"two reloads: {polling.count} polls, 0 failed, at most {polling.slowest:.2f} s; {len(pages)} pages"
     )
     assert polling.slowest < 3
+
+
+def test_metrics_are_those_of_the_desk_and_promtool_reads_them(env):
+    rollout = env.plan('a "quoted" \\ name', groups=3)
+    env.plan("ready", groups=1, start=False)
+    size = env.api(f"/rest/v1/rollouts/{rollout}/deploygroups")["content"][0]["size"]
+    needed = -(-size * 90 // 100)
+    url = f"http://{HOST}:{env.metrics_port}/metrics"
+    text = lambda: urllib.request.urlopen(url, timeout=10).read().decode()
+    name = 'name="a \\"quoted\\" \\\\ name"'
+    wanted = [
+        "fwdesk_up 1",
+        f'fwdesk_rollout{{rollout="{rollout}",{name},status="running"}} 1',
+        f'fwdesk_group_targets{{rollout="{rollout}",group="1",outcome="size"}} {size}',
+        f'fwdesk_group_targets{{rollout="{rollout}",group="1",outcome="open"}} {size}',
+        f'fwdesk_group_needed{{rollout="{rollout}",group="1"}} {needed}',
+        'fwdesk_limit{of="targets"} 10000',
+        'fwdesk_limit{of="module_artifacts"} 8',
+        "fwdesk_targets 20",
+        'fwdesk_used{of="targets"} 20',
+        'fwdesk_used{of="sets"} 2',
+        'fwdesk_held{kind="brake"} 0',
+    ]
+    missing = lambda: [it for it in wanted if it not in text().splitlines()]
+    until = time.monotonic() + 90
+    while missing():
+        assert time.monotonic() < until, (missing(), text())
+        time.sleep(1)
+    assert f'needed{{rollout="{rollout}",group="2"' not in text()
+    status = subprocess.run(
+        ["promtool", "check", "metrics"], input=text(), text=True, capture_output=True
+    )
+    assert status.returncode == 0, status.stderr
+    # what isn't this machine's own name is refused: a page elsewhere may ask a port of 127.0.0.1
+    asked = urllib.request.Request(url, headers={"Host": "evil.example"})
+    with pytest.raises(urllib.error.HTTPError):
+        urllib.request.urlopen(asked, timeout=10)

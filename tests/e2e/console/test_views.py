@@ -1,10 +1,13 @@
 """What the web UI shows of what the console tells, in Chromium through the edge before the real program."""
+import datetime
+import json
 import os
 import signal
+import subprocess
 import threading
 import time
 
-from .environment import Environment
+from .environment import ROOT, Environment
 from harness.processes import eventually
 
 
@@ -275,3 +278,76 @@ def test_twenty_pages_cost_the_desk_as_little_as_one(env, open_browser):
     assert max(counts) <= 7 + 3 * going + 3
     # a state that changes is sent to each page once, and none a second time
     assert not twice and set(answers) == {200, 304} and answers.count(304) > len(answers) / 2
+
+
+def clock_of(folder):
+    """A folder for timers, and what leads fwdesk-ctl and the console to it; nothing is told to systemd."""
+    for it in ("units", "book", "programs"):
+        (folder / it).mkdir()
+    for it in ("systemctl", "systemd-analyze", "fwdesk-brake"):
+        (folder / "programs" / it).symlink_to("/bin/true")
+    return {"FWDESK_UNITS": f"{folder}/units", "FWDESK_CLOCK": f"{folder}/book"}
+
+
+def test_what_is_to_come_is_listed_in_this_browsers_times(tmp_path, open_browser, monkeypatch):
+    """Scheduled commands, quiet hours and what wasn't done lately; where nothing is to come there is nothing."""
+    own = clock_of(tmp_path)
+    for name, value in own.items():
+        monkeypatch.setenv(name, value)
+    env = Environment(tmp_path)
+    try:
+        browser = open_browser(env, "#/now")
+        browser.until("Nothing needs you.", "#needs")
+        assert browser.js("return document.getElementById('coming').hidden")
+        path = f"{tmp_path}/programs:{os.environ['PATH']}"
+        order = lambda *words: subprocess.run(
+            [ROOT / "cli/fwdesk-ctl", *words],
+            env={**os.environ, "PATH": path},
+            check=True,
+            stdout=subprocess.DEVNULL,
+        )
+        later = "2030-01-02T03:04:05+00:00"
+        order("at", later, "hold", "--reason", "a <b>night</b>", "--if-missed", "do")
+        order("quiet", "00:00-23:59", "--zone", "UTC")
+        book = tmp_path / "book/orders.json"
+        told = json.loads(book.read_text())
+        now = datetime.datetime.now(datetime.timezone.utc)
+        ago = (now - datetime.timedelta(hours=1)).isoformat(timespec="seconds")
+        one = {
+            "number": 9,
+            "at": ago,
+            "words": ["start", "7"],
+            "zone": "UTC",
+            "missed": "tell",
+            "who": "anna",
+            "url": "http://127.0.0.1:8081",
+            "ended": ago,
+        }
+        old = {"words": ["start", "6"], "ended": "2026-01-01T00:00:00+00:00", "told": "long ago"}
+        told["ended"] = [
+            {**one, **old, "outcome": "refused"},
+            {**one, "words": ["start", "5"], "outcome": "done", "told": ""},
+            {**one, "outcome": "refused", "told": "409 wrong_state: x"},
+        ]
+        book.write_text(json.dumps(told))
+        look = lambda count: browser.js(
+            "document.dispatchEvent(new Event('visibilitychange'));"
+            "return document.querySelectorAll('#coming li').length === arguments[0]",
+            count,
+        )
+        eventually("three are listed", lambda: look(3), 20)
+        lines = browser.text("#coming ul").splitlines()
+        assert lines[0].startswith(("Quiet until ", "Quiet from ")), lines
+        assert lines[0].endswith(": no firmware is handed out then (00:00-23:59, UTC)"), lines
+        assert ": hold --reason a <b>night</b> (" in lines[1], lines
+        assert lines[1].endswith("), later where it is missed"), lines
+        assert lines[2].endswith(": start 7 (anna) refused: 409 wrong_state: x"), lines
+        when = "return document.querySelectorAll('#coming time')[1].dateTime"
+        assert browser.js(when) == later
+        order("at", "--cancel", "1")
+        order("quiet", "off")
+        eventually("one is listed", lambda: look(1), 20)
+        assert browser.text("#coming h2") == "To come"
+        assert not browser.faults()
+    finally:
+        env.end()

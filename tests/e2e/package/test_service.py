@@ -212,9 +212,12 @@ def test_it_tells_metrics(debian):
     ):
         debian.gives(f"{ASK}/rest/v1/{path} -f -d @-", body.encode())
     debian.gives(f"{ASK}/rest/v1/rollouts/1/start -f -X POST")
-    text = debian.gives("/usr/share/fwdesk/fwdesk-metrics http://127.0.0.1:8080")
+    told = "curl -fsS http://127.0.0.1:8407/metrics"
+    is_counted = lambda: "fwdesk_targets 1" in debian.does(told)[1].splitlines()
+    assert debian.until(is_counted, 90), debian.does(f"{told}; journalctl -u fwdesk-console -n 20")
+    text = debian.gives(told)
     for line in (
-        "fwdesk_targets 1",
+        "fwdesk_orders_waiting 0",
         'fwdesk_rollout{rollout="1",name="a \\"quoted\\" \\\\ name",status="running"} 1',
         'fwdesk_group_targets{rollout="1",group="1",outcome="size"} 1',
     ):
@@ -222,8 +225,6 @@ def test_it_tells_metrics(debian):
     if shutil.which("promtool"):
         checked = ["promtool", "check", "metrics"]
         subprocess.run(checked, input=f"{text}\n", text=True, check=True, stderr=subprocess.STDOUT)
-    status, text = debian.does("/usr/share/fwdesk/fwdesk-metrics http://127.0.0.1:9")
-    assert status and "fwdesk_" not in text, text
 
 
 def test_its_command_line_steers_it(debian):
@@ -281,20 +282,7 @@ def test_holds_outlast_restarts_and_kills(debian):
 def timers():
     """The timers that are a choice, and their services, but for those that tests of their own have."""
     names = sorted(it.stem for it in (ROOT / "deploy/systemd").glob("*.timer"))
-    return [
-        it
-        for it in names
-        if it in ("fwdesk-metrics", "fwdesk-watch", "fwdesk-notify", "fwdesk-follow")
-    ]
-
-
-# as an operator changes them: who is told, and a look more often than each five minutes
-OWN = {
-    "fwdesk-notify.service": "[Service]\nExecStart=\n"
-    "ExecStart=/usr/bin/fwdesk-ctl rollouts --status paused --new /var/lib/fwdesk-told/paused"
-    " --tell 'cat >> /var/lib/fwdesk-told/letters'\n",
-    "fwdesk-watch.timer": "[Timer]\nOnCalendar=\nOnCalendar=*:*:0/10\n",
-}
+    return [it for it in names if it == "fwdesk-follow"]
 
 
 def was_started(debian, unit):
@@ -313,36 +301,44 @@ def was_started(debian, unit):
 
 
 def test_each_timer_starts_its_service(debian):
-    """Texts for Prometheus, a look from outside, a letter for a pause, a rollout for newcomers."""
-    debian.gives("fwdesk-ctl pause 1")
+    """A rollout for newcomers."""
     debian.gives(
         "printf 'controllerid,name,token,tags\\ndev-02,Yard,tok-dev-02,yard\\n' > /tmp/yard.csv"
     )
     debian.gives("fwdesk-ctl import /tmp/yard.csv")
     rule = "yard --filter tag==yard --set 1 --success 50 --error 50 --groups 1"
     debian.gives(f"echo '{rule}' > /etc/fwdesk/follow.rules")
-    debian.gives("install -d /var/lib/prometheus/node-exporter /var/lib/systemd/timers")
+    debian.gives("install -d /var/lib/systemd/timers")
     debian.gives("touch -d '2 days ago' /var/lib/systemd/timers/stamp-fwdesk-follow.timer")
-    for unit, text in OWN.items():
-        folder = f"/etc/systemd/system/{unit}.d"
-        debian.gives(f"mkdir -p {folder} && cat > {folder}/own.conf", text.encode())
     enabled = " ".join(f"{it}.timer" for it in timers())
     debian.gives(f"systemctl daemon-reload && systemctl enable --now {enabled}")
     for it in timers():
         seen = f"systemctl status {it}.timer; journalctl -u {it} -n 20"
         assert debian.until(lambda unit=it: was_started(debian, unit), 130), debian.does(seen)[1]
-    texts = debian.gives("cat /var/lib/prometheus/node-exporter/*.prom").splitlines()
-    assert {"fwdesk_targets 2", "fwdesk_orders_waiting 0"} <= set(texts), texts
-    assert 'fwdesk_silent_targets{hours="24"} 0' in texts, texts
-    assert any(
-        it.startswith("fwdesk_rollout{") and 'status="paused"} 1' in it for it in texts
-    ), texts
-    assert "paused" in debian.gives("cat /var/lib/fwdesk-told/letters")
     assert "yard-1-1" in debian.gives("fwdesk-ctl rollouts --status running")
     debian.gives(f"systemctl disable --now {enabled}")
-    debian.gives(
-        "rm -r /etc/systemd/system/fwdesk-*.d /etc/fwdesk/follow.rules; systemctl daemon-reload"
-    )
+    debian.gives("rm /etc/fwdesk/follow.rules; systemctl daemon-reload")
+
+
+def test_the_console_remembers_a_pause_and_tells_it_to_prometheus(debian):
+    """As fwdesk-setup enables it, in its confinement, by what HAProxy's audit and the desk tell it."""
+    assert debian.gives("systemctl is-enabled fwdesk-console.socket").strip() == "enabled"
+    debian.gives("fwdesk-ctl pause 1")
+    told = "curl -fsS http://127.0.0.1:8407/metrics"
+    paused = lambda: 'rollout="1"' in debian.gives(f"{told} | grep paused || true")
+    assert debian.until(paused, 60), debian.does("journalctl -u fwdesk-console -n 30")
+    log = debian.gives("journalctl -u fwdesk-console -o cat")
+    assert "was paused by somebody on the machine" in log, log
+    unit = "systemctl show fwdesk-console -p MainPID --value"
+    before = debian.gives(unit)
+    debian.gives("systemctl kill -s KILL fwdesk-console")
+    assert debian.until(lambda: debian.gives(unit) not in (before, "0"), 30)
+    assert debian.until(paused, 60)
+    assert exposure(debian, "fwdesk-console.service") <= 1.1
+    texts = debian.gives(told).splitlines()
+    assert 'fwdesk_silent_targets{hours="24"} 0' in texts and "fwdesk_up 1" in texts, texts
+    assert any(it.startswith("fwdesk_certificate_ends{") for it in texts), texts
+    debian.gives("fwdesk-ctl resume 1")
 
 
 def test_it_serves_each_connection_by_a_process(debian):

@@ -24,7 +24,6 @@ for subject in (
     "behaviour",
     "held",
     "shown",
-    "clock",
     "roles",
     "languages",
     "lists",

@@ -138,6 +138,7 @@ class Stand:
                 "table": str(folder / "table.sock"),
                 "records": str(folder / "console.db"),
                 "table_every": 0.0,
+                "tls": "",
                 **settings,
             }
         )

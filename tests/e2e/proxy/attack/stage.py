@@ -380,7 +380,6 @@ class OneFile(harness.Edge):
             r"/usr/share/fwdesk/page": f"{ROOT}/web",
             r"/var/lib/fwdesk-brake/": f"{self.folder}/",
             r"/run/fwdesk-brake\.sock": f"{self.run}/fwdesk-brake.sock",
-            r"/run/fwdesk-coming\.sock": f"{self.run}/fwdesk-coming.sock",
         }.items():
             text = re.sub(old, lambda _, it=new: it, text)
         (self.folder / "one.cfg").write_text(text)
