@@ -28,7 +28,7 @@ REASONS = [
     (r"\S+ \S*/autoConfirm", "fwdesk asks nobody: the device decides when it installs"),
     (
         r"\S+ \S*/statistics",
-        "GET rollouts/ID has its counts; fwdesk-metrics tells them to Prometheus",
+        "GET rollouts/ID has its counts; fwdesk-console tells them to Prometheus",
     ),
     (
         r"\S+ \S*/(assignedTargets|installedTargets|autoAssignTargetFilters)",
