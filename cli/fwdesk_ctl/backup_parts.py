@@ -12,13 +12,11 @@ from fwdesk_ctl.atomic import synced
 from fwdesk_ctl.errors import NotDone, Wrong
 
 DESK, FILES, MANIFEST, FORM = "desk.db", "files.tar", "manifest.json", 1
-# certificate, key, operators, the adapter's lines, rules; holds; orders and what became of them; what was told; and of
-# systemd the timers of orders and quiet hours, which units are enabled, and settings of one's own
+# certificate, key, operators, rules; holds; orders and what became of them; and of systemd the timers of orders and quiet hours, which units are enabled, and settings of one's own
 PLACES = (
     "etc/fwdesk/**/*",
     "var/lib/fwdesk-brake/**/*",
     "var/lib/fwdesk-clock/**/*",
-    "var/lib/fwdesk-told/**/*",
     "etc/systemd/system/fwdesk-at-*.timer",
     "etc/systemd/system/fwdesk-quiet.timer",
     "etc/systemd/system/*.wants/fwdesk*",

@@ -7,7 +7,7 @@ that weren't at the last time: FILE keeps what was. With --tell a command of the
 anything on it, and what it fails to tell is listed again. With --why each paused one is told with its cause, the last
 words of failed devices, counted, and with --link its address in the web UI. So a timer tells each pause once:
 
-    fwdesk-ctl rollouts --status paused --why --link https://desk.example:8443 --new /var/lib/fwdesk-told/paused \\
+    fwdesk-ctl rollouts --status paused --why --link https://desk.example:8443 --new /var/lib/me/paused \\
       --tell 'mail -s "A rollout is paused" root'"""
 import json
 import os

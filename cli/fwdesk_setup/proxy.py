@@ -63,15 +63,17 @@ def remove_units() -> bool:
 
 
 def link_file() -> Path:
-    """What has the mails of fwdesk-notify lead to the web UI."""
-    return places.UNITS / "fwdesk-notify.service.d/fwdesk.conf"
+    """What has the console's messages lead to the web UI."""
+    return places.UNITS / "fwdesk-console.service.d/fwdesk.conf"
 
 
 def write_link(address: str) -> bool:
-    """Has mails lead to an address, and tells whether they led elsewhere."""
-    changed = write_whole(link_file(), f"{MADE}[Service]\nEnvironment=FWDESK_LINK={address}\n")
+    """Has the console's messages lead to the web UI of an address, and tells whether they led elsewhere."""
+    line = f"Environment=FWDESK_LINK={address}/page/\n"
+    changed = write_whole(link_file(), f"{MADE}[Service]\n{line}")
     if changed:
         systemctl("daemon-reload")
+        systemctl("try-restart", "fwdesk-console.service")
     return changed
 
 

@@ -1,5 +1,6 @@
 """What the console is told: one TOML file. Each value has a default and a range; a wrong one ends the start in words."""
 import dataclasses
+import os
 import re
 import tomllib
 from pathlib import Path
@@ -111,10 +112,11 @@ def of_fleet(told: Settings, fleet: str) -> Settings:
 
 
 def read(path: str | None) -> Settings:
-    """Of the file; without one all defaults."""
+    """Of the file; without one all defaults. A file without a link has that of FWDESK_LINK, which fwdesk-setup sets."""
     if path is None:
         return Settings()
     try:
-        return check_all(tomllib.loads(Path(path).read_text(encoding="utf-8")))
+        told = tomllib.loads(Path(path).read_text(encoding="utf-8"))
+        return check_all({"link": os.environ.get("FWDESK_LINK", ""), **told})
     except (OSError, UnicodeDecodeError, tomllib.TOMLDecodeError, Wrong) as error:
         raise Wrong(f"{path}: {error}") from None

@@ -1,4 +1,4 @@
-"""fwdesk-ctl and fwdesk-metrics against the real program: each verb, and how it fails.
+"""fwdesk-ctl against the real program: each verb, and how it fails.
 
 What is expected comes of docs/API.md and of the verbs' own help; what became of it is asked of the program. Lines
 that break or lose a byte, a program that is killed, commands that are killed at each of their calls: environment.py has

@@ -415,7 +415,7 @@ def test_an_upgrade_without_room_for_the_copy_is_refused(debian, built):
 def test_it_is_removed_and_purged_and_its_records_stay(debian, built):
     """The next one serves them."""
     debian.gives("fwdesk-setup --undo && rm -r /etc/fwdesk && rmdir /etc/systemd/system/haproxy*.d")
-    debian.gives("systemctl enable -q --now fwdesk-metrics.timer fwdesk-backup.timer")
+    debian.gives("systemctl enable -q --now fwdesk-backup.timer")
     debian.gives("dpkg --remove fwdesk")
     running = "systemctl list-units --plain --no-legend --state=active 'fwdesk*'"
     assert debian.gives(running) == ""

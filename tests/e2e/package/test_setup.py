@@ -82,10 +82,10 @@ def test_again_it_changes_nothing(ready):
 def test_another_port_and_another_name(ready):
     authority = ready.gives("cat /etc/fwdesk/ca.crt")
     ready.gives("echo 127.0.0.1 other.example >> /etc/hosts")
-    link = lambda: ready.gives("systemctl show -p Environment --value fwdesk-notify")
-    assert f"FWDESK_LINK=https://{NAME}:8443 " in f"{link()} ", link()
+    link = lambda: ready.gives("systemctl show -p Environment --value fwdesk-console")
+    assert f"FWDESK_LINK=https://{NAME}:8443/page/ " in f"{link()} ", link()
     assert "done" in ready.gives("fwdesk-setup other.example --port 443")
-    assert "FWDESK_LINK=https://other.example " in f"{link()} ", "mails lead elsewhere"
+    assert "FWDESK_LINK=https://other.example/page/ " in f"{link()} ", "messages lead elsewhere"
     ask = "curl -sS --cacert /etc/fwdesk/ca.crt -o /dev/null -w '%{http_code}' https://other.example/page/"
     assert ready.gives(f"{ask} -u {ready.login}") == "200"
     # devices that trust the authority stay as they are

@@ -41,3 +41,12 @@ def test_the_file_that_is_delivered_is_taken_and_says_the_defaults():
     assert settings.read(str(path)) == settings.Settings()
     named = [it.lstrip("# ").split(" = ")[0] for it in path.read_text().splitlines() if " = " in it]
     assert {"webhooks", "chats", "mail_to", "link", "stands_after"} <= set(named)
+
+
+def test_messages_lead_to_the_address_that_was_set_up(tmp_path, monkeypatch):
+    monkeypatch.setenv("FWDESK_LINK", "https://desk.example/page/")
+    silent, telling = tmp_path / "silent.toml", tmp_path / "telling.toml"
+    silent.write_text("")
+    telling.write_text('link = "https://other.example/page/"')
+    assert settings.read(str(silent)).link == "https://desk.example/page/"
+    assert settings.read(str(telling)).link == "https://other.example/page/"
