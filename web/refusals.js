@@ -61,4 +61,5 @@ export const OF_PROXY = {
   "nobody has confirmed it: look whether it is done, or order it again": "niemand hat es bestätigt: nachsehen, ob es getan ist, oder noch einmal befehlen",
   "the console is away": "die Konsole ist fort",
   "the console does not answer": "die Konsole antwortet nicht",
+  "others wrote targets meanwhile: look again": "inzwischen wurden Geräte geändert: noch einmal nachsehen",
 };

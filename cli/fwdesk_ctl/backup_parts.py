@@ -12,7 +12,8 @@ from fwdesk_ctl.atomic import synced
 from fwdesk_ctl.errors import NotDone, Wrong
 
 DESK, FILES, MANIFEST, FORM = "desk.db", "files.tar", "manifest.json", 1
-# certificate, key, operators, rules; holds; orders and what became of them; and of systemd the timers of orders and quiet hours, which units are enabled, and settings of one's own
+# certificate, key, operators, rules; holds; orders and what became of them; and of systemd the timers of orders and quiet
+# hours, which units are enabled, and settings of one's own
 PLACES = (
     "etc/fwdesk/**/*",
     "var/lib/fwdesk-brake/**/*",

@@ -11,7 +11,7 @@ GROUPS = ROOT / "debian/fwdesk.sysusers"
 # of 10: what `systemd-analyze security` says of a unit without any confinement is 9.6
 MOST = 4.0
 # those that only ask the desk need no root
-UNPRIVILEGED = ("coming@", "follow", "notify", "once@", "watch")
+UNPRIVILEGED = ("console", "console@", "consoles", "follow", "once@")
 
 
 def measure_exposure(unit: Path) -> float:
