@@ -126,7 +126,7 @@ def test_a_haproxy_without_the_table_is_503_in_words(tmp_path):
 
 
 def test_kept_24_days_as_the_configuration_has_it():
-    from fakes import ROOT
+    from harness import ROOT
 
     texts = [it.read_text() for it in (ROOT / "deploy/haproxy").rglob("*.cfg")]
     kept = [it for text in texts for it in re.findall(r"backend seen.*\n.* expire (\S+)", text)]

@@ -35,7 +35,7 @@ def test_one_text_is_a_list_of_one(tmp_path):
 
 
 def test_the_file_that_is_delivered_is_taken_and_says_the_defaults():
-    from fakes import ROOT
+    from harness import ROOT
 
     path = ROOT / "console/console.toml"
     assert settings.read(str(path)) == settings.Settings()
