@@ -3,7 +3,7 @@ import {view as action} from "./action.js";
 import {events, gently, Refusal} from "./api.js";
 import {showBrake} from "./brake.js";
 import {showComing} from "./coming.js";
-import {h, settle} from "./drawing.js";
+import {h, plain, settle} from "./drawing.js";
 import {view as devices} from "./devices.js";
 import {view as firmware} from "./firmware.js";
 import {view as fleet} from "./fleet.js";
@@ -99,7 +99,7 @@ const page = {
 
 function draw(view) {
   const title = view.view.title(view.data);
-  document.title = `${title} · fwdesk`;
+  document.title = `${plain(title)} · fwdesk`;
   settle(place("main"), [h("h1", {tabindex: -1}, title), view.view.draw(view.data, page)]);
 }
 

@@ -3,6 +3,11 @@ import {number, t} from "./language.js";
 import {longText, TEXT} from "./limits.js";
 
 const SVG = "http://www.w3.org/2000/svg";
+/** Control characters, and what turns the direction of a line: in a stranger's words a sign stands in their place. */
+const TURNING = /[\u0000-\u0008\u000b\u000c\u000e-\u001f\u007f-\u009f\u061c\u200e\u200f\u202a-\u202e\u2066-\u2069]/gu;
+
+/** A text as it is shown; a node as it is. */
+export const plain = (it) => (it instanceof Node ? it : String(it).replace(TURNING, "\ufffd"));
 
 function filled(element, attributes, children) {
   for (const [key, value] of Object.entries(attributes)) {
@@ -12,7 +17,7 @@ function filled(element, attributes, children) {
       element.setAttribute(key, value === true && !key.startsWith("aria-") ? "" : value);
     }
   }
-  element.append(...children.flat(Infinity).filter((it) => it !== null && it !== undefined && it !== false));
+  element.append(...children.flat(Infinity).filter((it) => it !== null && it !== undefined && it !== false).map(plain));
   return element;
 }
 
@@ -54,7 +59,7 @@ function patch(old, fresh) {
 export function settle(place, drawn) {
   const fresh = drawn.flat(Infinity).filter((it) => it !== null && it !== undefined && it !== false);
   fresh.forEach((it, at) => {
-    const node = it instanceof Node ? it : document.createTextNode(it);
+    const node = it instanceof Node ? it : document.createTextNode(plain(it));
     const old = place.childNodes[at];
     if (node === old) {
       return;

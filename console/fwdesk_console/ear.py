@@ -65,7 +65,8 @@ class Ear(asyncio.DatagramProtocol):
             self._hear_device(status, path)
             if status != "403":
                 return
-        who = clean(re.sub(r"\\(.)", r"\1", name), 100) if name is not None else "-"
+        # without a login, as on the machine itself, HAProxy writes "" or -
+        who = clean(re.sub(r"\\(.)", r"\1", name or ""), 100) or "-"
         self._hear_change(int(status), address, who, method, clean(path, 500))
 
     def _hear_device(self, status: str, path: str) -> None:

@@ -1,7 +1,9 @@
 """Chromium by selenium, logged in to a env."""
+import base64
 import json
 import os
 import time
+from pathlib import Path
 from typing import Any
 
 from selenium import webdriver
@@ -74,6 +76,13 @@ class Browser:
         """Where PICTURES names a folder."""
         if folder := os.environ.get("PICTURES"):
             self.driver.save_screenshot(f"{folder}/{name}.png")
+
+    def whole_picture(self, name: str) -> None:
+        """Of the whole page, however long, where PICTURES names a folder."""
+        told = self.driver.execute_cdp_cmd(
+            "Page.captureScreenshot", {"captureBeyondViewport": True, "format": "png"}
+        )
+        Path(os.environ["PICTURES"], f"{name}.png").write_bytes(base64.b64decode(told["data"]))
 
     def faults(self) -> list[str]:
         """What the browser's console says, but for answers that a test causes."""

@@ -140,9 +140,11 @@ class Environment:
         """At once, as out of memory does."""
         self.processes.end(child)
 
-    def start_console(self) -> Any:
+    def start_console(self, **more: str) -> Any:
+        """With more variables of the environment, where some are named."""
         words = ["/usr/bin/python3", ROOT / "console/fwdesk-console", self.folder / "console.toml"]
-        child = self.processes.start("console", list(map(str, words)))
+        how = {"env": os.environ | more} if more else {}
+        child = self.processes.start("console", list(map(str, words)), **how)
         eventually(
             "the console answers", lambda: self.ask("/fwdesk/state")[0] == 200, 20, child=child
         )

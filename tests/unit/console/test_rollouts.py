@@ -1,4 +1,5 @@
 """What the console says of rollouts: when, who, why; a guess as a guess; what stands still; nothing twice."""
+import pytest
 from fakes import START, play
 from fwdesk_console.texts import as_text
 
@@ -252,5 +253,22 @@ def test_a_rollout_that_is_planned_started_and_paused_between_two_looks_is_no_gu
         # the start was over when it was looked at, and is told all the same
         happened = [(it["kind"], it["who"]) for it in stand.service.history.of(number)]
         assert happened == [("paused", ""), ("running", "ben"), ("made", "anna")]
+
+    play(tmp_path, course)
+
+
+@pytest.mark.parametrize("written", ['""', "-"])
+def test_who_orders_on_the_machine_is_somebody_there(tmp_path, written):
+    """Without a login HAProxy 2.6 writes an empty name in quotes."""
+
+    async def course(stand):
+        await stand.look()
+        stand.hear(
+            f"audit 200 unix {written} POST /rest/v1/rollouts/1/pause\n".replace("unix", "-")
+        )
+        stand.desk.rollouts[0]["status"] = "paused"
+        await stand.look()
+        assert stand.words("paused") == 'rollout "spring" was paused by somebody on the machine'
+        assert (await stand.get("/fwdesk/audit"))[2][0]["who"] == "-"
 
     play(tmp_path, course)

@@ -1,0 +1,72 @@
+"""Pictures of each view at three widths, light and dark, where PICTURES names a folder; and that none is wider than its window."""
+import os
+
+import pytest
+
+from environment import Environment
+from harness.processes import eventually
+
+WIDTHS = (1440, 1024, 390)
+VIEWS = {
+    "now": "#/now",
+    "rollouts": "#/rollouts",
+    "rollout": "#/rollouts/2",
+    "members": "#/rollouts/2/groups/1?state=error",
+    "plan": "#/rollouts/new?like=2",
+    "fleet": "#/targets",
+    "search": "#/targets?q=0003",
+    "devices": "#/devices?set=1",
+    "device": "#/targets/dev-00001",
+    "action": "#/targets/dev-00001/actions/61",
+    "firmware": "#/firmware",
+    "happened": "#/history",
+    "audit": "#/history?of=audit",
+}
+
+
+@pytest.fixture(scope="module")
+def played(tmp_path_factory):
+    """Sixty devices: a rollout that is over, one that paused by itself, one that is planned."""
+    made = Environment(tmp_path_factory.mktemp("played"))
+    made.make_fleet(60)
+    first = made.plan("spring", groups=1, success=50, error=90, who="ben")
+    for it in made.table(first):
+        made.report(it["controllerid"], int(it["action"]), "success", "done")
+    second = made.plan("summer", groups=3, success=80, error=20, set_=2)
+    for it in made.table(second)[:9]:
+        made.poll(it["controllerid"])
+        made.report(it["controllerid"], int(it["action"]), "success", "installed")
+    rows = made.table(second)[9:13]
+    for it, words in zip(rows, ("disk full", "disk full", "no power", "disk full")):
+        made.report(it["controllerid"], int(it["action"]), "failure", words)
+    made.plan("autumn", groups=4, start=False)
+    paused = lambda: made.ask("/fwdesk/state?rollout=2")[0] == 200 and (
+        made.state(2)["rollout"]["status"] == "paused"
+    )
+    eventually("it is paused", paused, 30)
+    counted = lambda: made.state()["versions"] and made.state()["fleet"]
+    eventually("devices and versions are counted", counted, 60)
+    yield made
+    made.end()
+
+
+def test_no_view_is_wider_than_its_window(played, open_browser):
+    browser = open_browser(played, "#/now")
+    browser.until("summer", "#needs")
+    scheme = lambda it: browser.driver.execute_cdp_cmd(
+        "Emulation.setEmulatedMedia", {"features": [{"name": "prefers-color-scheme", "value": it}]}
+    )
+    whole = "return document.documentElement.scrollWidth <= innerWidth"
+    for name, address in VIEWS.items():
+        browser.go(address)
+        browser.until("", "main h1")
+        busy = "return !document.getElementById('main').hasAttribute('aria-busy')"
+        eventually(f"{name} is drawn", lambda: browser.js(busy), 20)
+        for width in WIDTHS:
+            browser.wide(width)
+            assert browser.js(whole), (name, width)
+            for colours in ("light", "dark") if "PICTURES" in os.environ else ():
+                scheme(colours)
+                browser.whole_picture(f"{name}-{width}-{colours}")
+        scheme("light")
+    assert not browser.faults()
