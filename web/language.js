@@ -1,9 +1,10 @@
 // The language of the UI: the one that was chosen, else the first of the browser's that there is, else English.
 import {DE} from "./de.js";
 import {EN} from "./en.js";
+import {HAPPENED} from "./happenings.js";
 
 const LANGUAGES = {en: "English", de: "Deutsch"};
-const MESSAGES = {en: EN, de: DE};
+const MESSAGES = {en: {...EN, ...HAPPENED.en}, de: {...DE, ...HAPPENED.de}};
 const KEPT = "fwdesk-language";
 
 const isKnown = (it) => Object.hasOwn(LANGUAGES, it ?? "");

@@ -32,6 +32,7 @@ export function searched(text) {
 /** The control; where a filter goes wrong is shown below it. */
 export function filterField(id, filter, counted = () => {}, meant = (text) => text) {
   let timer, asked = 0;
+  const isSearch = meant === searched;
   const told = h("p", {class: "told", id: `${id}-told`, "aria-live": "polite"});
   const input = h("input", {name: "filter", value: filter, maxlength: 512, autocomplete: "off", spellcheck: "false", class: "code", placeholder: "name==*"});
 
@@ -61,7 +62,7 @@ export function filterField(id, filter, counted = () => {}, meant = (text) => te
   if (filter) {
     count();
   }
-  const whole = field(id, t("filter.label"), input, t("filter.hint"));
+  const whole = field(id, t(isSearch ? "fleet.search" : "filter.label"), input, isSearch ? t("fleet.hint", {filter: t("filter.hint")}) : t("filter.hint"));
   input.setAttribute("aria-describedby", `${id}-told ${id}-hint`);
   input.after(told);
   return whole;

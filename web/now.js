@@ -61,7 +61,7 @@ export const view = {
     }
     const open = needs(told), runs = told.rollouts.filter((it) => it.status === "running");
     const later = told.rollouts.filter((it) => it.status === "ready");
-    const isEmpty = told.fleet && !told.fleet.devices;
+    const isEmpty = told.fleet && !told.fleet.devices && !told.rollouts.length && !told.versions.length;
     return [
       isEmpty ? firstSteps() : null,
       h("section", {class: open.length ? "card urgent" : "card", id: "needs"}, h("h2", {}, t("now.needs")),

@@ -13,6 +13,7 @@ from .polls import Polls, Unknown
 EVERY = 10.0  # seconds between two countings
 GENTLE = 60.0  # or so many times what one took
 ANYWAY = 3600.0  # where nothing was heard
+CHANGES = ("/desk/v1/import", "/rest/v1/targets")
 KEPT = ("controllerId", "name", "updateStatus", "tags", "attributes")  # of each device
 WORST = ("error", "pending", "in_sync", "unknown")
 ORDERS = ("id", "name", "state")
@@ -39,6 +40,11 @@ class Fleet:
         self.has_news = True
         self._next = 0.0
         self._counted_at = -1e9
+
+    def note_change(self, path: str) -> None:
+        """An operator changed what is at a path: devices that came or have another name are counted soon."""
+        if path.startswith(CHANGES):
+            self._next = min(self._next, self._counted_at + EVERY)
 
     async def count(self) -> None:
         """Reads the whole list of devices, 500 at a time."""

@@ -44,7 +44,7 @@ class Service:
         )
         self.machine = Machine(self.clock, settings.tls, fleet)
         self.stock = Stock(self.clock, self.desk, self.fleet, self.rollouts)
-        self.ear.on_change = self.stock.note_change
+        self.ear.on_change = self._note_change
         self.watch = Watch(
             settings,
             self.store,
@@ -71,6 +71,10 @@ class Service:
             self.machine,
         )
         self._look_at_records = tell_of_records(self.store, self.history)
+
+    def _note_change(self, path: str) -> None:
+        self.stock.note_change(path)
+        self.fleet.note_change(path)
 
     async def _keep_records(self) -> None:
         while True:

@@ -227,7 +227,8 @@ def test_hostile_names_paths_and_logins_are_text_everywhere(env, open_browser):
     chats = [body["text"] for _, _, body in env.chat.posts if "channel" in body["text"]]
     assert chats and all("<!channel>" not in it and "&lt;!channel&gt;" in it for it in chats)
     log = (env.folder / "console.log").read_text()
-    assert all(it.split(" ", 1)[0] in ("INFO", "WARNING", "ERROR") for it in log.splitlines())
+    levels = ("INFO ", "WARNING ", "ERROR ")
+    assert not (other := [it for it in log.splitlines() if not it.startswith(levels)]), other[:9]
     assert "\u202e" not in log and "\x1b" not in log
 
 

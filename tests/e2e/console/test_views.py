@@ -28,7 +28,7 @@ def test_a_pause_reaches_browser_and_webhook_with_when_who_and_why(env, open_bro
     # a second or two; on a busy machine with a slow program some more
     assert told - failed < 10 and seen - failed < 12
     assert body["kind"] == "paused" and body["group"] == 1 and "2 of 10 failed" in body["words"]
-    assert 'Last words: 2 times "disk full"' in body["words"]
+    assert 'Last words: 2 × "disk full"' in body["words"]
     assert body["link"].endswith(f"/page/#/rollouts/{rollout}/groups/1?state=error")
     browser.until("2 × “disk full”", "main .words")
     assert "See the 2 that failed" in browser.text("main a.button.main")
@@ -95,7 +95,7 @@ def test_what_happened_and_what_is_refused_is_said_in_german_too(env, open_brows
     )
     browser.go(f"#/history?rollout={rollout}")
     browser.until("Rollout „deutsch“ wurde von „ben“ gestartet", "main table")
-    browser.until("Letzte Worte: 2 mal „disk full“", "main table")
+    browser.until("Letzte Worte: 2 × „disk full“", "main table")
     browser.js(
         "import('./api.js').then(({ask}) => ask('POST', '/rest/v1/rollouts/1/pause'))"
         ".catch((it) => (document.title = it.sentence))"

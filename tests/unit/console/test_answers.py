@@ -217,3 +217,16 @@ def test_devices_are_listed_by_state_and_in_an_order_of_people(tmp_path):
         assert ids(await ask("state=error&sort=id")) == ["DEV-1"]
 
     play(tmp_path, course)
+
+
+def test_devices_that_are_imported_are_counted_soon_however_long_a_count_takes(tmp_path):
+    async def course(stand):
+        fleet = stand.service.fleet
+        await fleet.count()
+        fleet._next = stand.clock.steady() + 600  # as after a count that took ten seconds
+        stand.hear('audit 200 192.0.2.7 "anna" POST /rest/v1/rollouts/1/pause\n')
+        assert fleet.has_news and fleet._next > stand.clock.steady() + 10
+        stand.hear('audit 200 192.0.2.7 "anna" POST /desk/v1/import\n')
+        assert fleet.has_news and fleet._next <= stand.clock.steady() + 10
+
+    play(tmp_path, course)

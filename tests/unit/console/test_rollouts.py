@@ -12,7 +12,7 @@ def test_a_pause_by_its_threshold_names_group_counts_and_counted_words(tmp_path)
         stand.desk.rollouts[0]["status"] = "paused"
         await stand.look()
         assert "by itself: group 1: 2 of 10 failed, 2 are too many" in stand.words("paused")
-        assert '2 times "disk full"' in stand.words("paused")
+        assert '2 × "disk full"' in stand.words("paused")
         act = stand.last("paused")["more"]
         assert (act["by"], act["guess"], act["words"], act["read"]) == (
             "itself",
