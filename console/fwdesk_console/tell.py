@@ -1,6 +1,7 @@
 """Tells others of an event: by webhook, chat or mail. What isn't taken is tried again for a day, over restarts too; it may
 come twice where the console is killed between, and carries a number by which a receiver knows."""
 import asyncio
+import contextlib
 import email.message
 import email.utils
 import logging
@@ -103,8 +104,11 @@ class Teller:
 
     def _send_mail(self, message: email.message.EmailMessage) -> None:
         host, _, port = self.settings.smtp.rpartition(":")
-        with smtplib.SMTP(host, int(port), timeout=PATIENCE) as it:
+        with contextlib.closing(smtplib.SMTP(host, int(port), timeout=PATIENCE)) as it:
             it.send_message(message)
+            # it is taken: whatever the relay says at the end, it isn't sent again
+            with contextlib.suppress(smtplib.SMTPException, OSError):
+                it.quit()
 
     async def _send(self, way: str, event: Row) -> None:
         kind, _, n = way.partition(" ")

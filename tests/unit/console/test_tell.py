@@ -1,5 +1,9 @@
 """Messages: tried again until they are taken, over restarts too, no way held up by another, no secret in the journal."""
+import asyncio
+import dataclasses
 import logging
+
+import pytest
 
 from aiohttp import web
 from aiohttp.test_utils import TestServer
@@ -76,3 +80,50 @@ def test_the_pause_between_tries_doubles_and_it_is_given_up_after_a_day(tmp_path
 
     # a port at which nobody listens
     play(tmp_path, course, webhooks=("http://127.0.0.1:1/",))
+
+
+class Relay:
+    """An SMTP server that takes mails, and ends a connection as it is told to."""
+
+    def __init__(self, at_quit):
+        self.at_quit, self.mails = at_quit, []
+
+    async def serve(self, reader, writer):
+        writer.write(b"220 relay\r\n")
+        is_mail, text = False, b""
+        while line := await reader.readline():
+            if is_mail and line != b".\r\n":
+                text += line
+                continue
+            if is_mail:
+                self.mails.append(text.decode())
+            is_mail = line.upper() == b"DATA\r\n"
+            if line.upper() == b"QUIT\r\n":
+                writer.write(self.at_quit)
+                break
+            writer.write(b"354 go on\r\n" if is_mail else b"250 yes\r\n")
+        writer.close()
+
+
+@pytest.mark.parametrize("at_quit", [b"221 bye\r\n", b"250 yes\r\n", b""])
+def test_a_mail_that_is_taken_is_sent_once_whatever_is_said_at_the_end(tmp_path, at_quit):
+    relay = Relay(at_quit)
+
+    async def course(stand):
+        server = await asyncio.start_server(relay.serve, "127.0.0.1", 0)
+        port = server.sockets[0].getsockname()[1]
+        told = {"mail_to": ("ops@example.org",), "smtp": f"127.0.0.1:{port}"}
+        stand.settings = dataclasses.replace(stand.settings, **told)
+        await stand.anew()
+        await stand.look()
+        stand.order("pause", "ben")
+        stand.desk.rollouts[0]["status"] = "paused"
+        await stand.look()
+        for _ in range(3):
+            await stand.service.teller.send_due("mail")
+            stand.clock.go(700)
+        assert len(relay.mails) == 1 and "was paused by" in relay.mails[0]
+        assert stand.service.teller.waiting() == 0
+        server.close()
+
+    play(tmp_path, course)
