@@ -43,7 +43,7 @@ VIEWS = (
     ("#/devices?state=unknown", "Devices: no rollout yet", "dev-"),
     ("#/devices?state=error", "Devices: failed", "dev-"),
     ("#/devices?set=1", "Devices with pump 1.0", "dev-"),
-    ("#/devices?silent=0", "Devices silent for 0 h", "dev-"),
+    ("#/devices?silent=0", "Devices silent for 0 h or longer", "dev-"),
     ("#/targets/dev-00001", "dev-00001", "large"),
     ("#/firmware", "Firmware", "pump"),
     ("#/history", "History", "large"),
