@@ -95,8 +95,15 @@ def own_text(name: str, port: int, certificate: str, local_port: int | None) -> 
     return "\n".join(lines) + "\n"
 
 
+def forgive() -> None:
+    """Has systemd start a stage again that failed so often that it would refuse to."""
+    for unit in (DESKS, EDGE):
+        systemctl("reset-failed", unit)
+
+
 def start() -> None:
     """Starts both stages, now and at each boot, and the sockets behind them."""
+    forgive()
     for unit in (DESKS, EDGE):
         status, said = run("systemctl", "restart", unit)
         if status:

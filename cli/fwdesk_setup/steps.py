@@ -207,6 +207,7 @@ def go_back(before: str | None, was_set_up: bool, own: Snapshot) -> None:
     else:
         proxy.remove_units()
         systemctl("disable", "-q", "--now", proxy.DESKS, *proxy.SOCKETS)
+        proxy.forgive()
         systemctl("restart", proxy.EDGE)
 
 
