@@ -1,16 +1,19 @@
 """Honest devices beside an attack: how many polls a second they are told, and the slowest. Not run by itself."""
 
+import itertools
 import multiprocessing
 import os
 import socket
 import time
 from dataclasses import dataclass
-from typing import Callable, TypeVar
+from typing import Callable, Iterator, TypeVar
 
 from harness.processes import HOST, PATIENCE
 from .stage import DEVICES, Link, Stage
 
 T = TypeVar("T")
+# of <linux/in6.h>
+IPV6_FREEBIND = 78
 
 
 def run_beside(work: list[Callable[[], T]]) -> list[T]:
@@ -112,12 +115,24 @@ def hold(links: list[socket.socket | Link], made: Callable[[], Link], count: int
             pass
 
 
+def make_sources(count: int) -> Iterator[str]:
+    """So many addresses, one after the other and again, that no other process of an attack has."""
+    own = os.getpid()
+    return itertools.cycle(
+        f"127.{64 + own // 250 % 64}.{own % 250}.{it}" for it in range(1, count + 1)
+    )
+
+
 def silent(port: int, source: str) -> socket.socket:
     """A connection that says nothing."""
-    it = socket.socket(socket.AF_INET6 if ":" in source else socket.AF_INET)
+    kind = socket.AF_INET6 if ":" in source else socket.AF_INET
+    it = socket.socket(kind)
     it.settimeout(PATIENCE)
+    if kind == socket.AF_INET6:
+        # this machine has a route to the address, and not the address
+        it.setsockopt(socket.IPPROTO_IPV6, IPV6_FREEBIND, 1)
     it.bind((source, 0))
-    it.connect((source if ":" in source else HOST, port))
+    it.connect(("::1" if kind == socket.AF_INET6 else HOST, port))
     return it
 
 

@@ -8,7 +8,7 @@ import time
 from typing import Iterator
 
 import pytest
-from .crowd import compare, hold, is_kept, load, silent
+from .crowd import compare, hold, is_kept, load, make_sources, silent
 from harness.processes import HOST, eventually
 from .stage import DEVICES, Link, Stage, StandIn, token
 
@@ -20,9 +20,9 @@ LINE = "X: " + "a" * 8000 + "\r\n"
 DOWNLOAD = "/DEFAULT/controller/v1/dev-{0:02}/softwaremodules/1/artifacts/abc.bin"
 
 
-def unfinished_head(stage: Stage) -> Link:
+def unfinished_head(stage: Stage, source: str = HOST) -> Link:
     """A head of 4 MB that never ends, to a device's path, without a token. What isn't taken isn't waited for."""
-    link = stage.open(timeout=1)
+    link = stage.open(source, timeout=1)
     path = f"{stage.base}/DEFAULT/controller/v1/x{next(NUMBERS)}"
     try:
         link.send(f"GET {path} HTTP/1.1\r\nHost: localhost\r\n" + LINE * 520 + "Y: ")
@@ -31,9 +31,9 @@ def unfinished_head(stage: Stage) -> Link:
     return link
 
 
-def unfinished_body(stage: Stage) -> Link:
+def unfinished_body(stage: Stage, source: str = HOST) -> Link:
     """A body of 4 MB in chunks of which the last one never comes, without a token."""
-    link = stage.open(timeout=1)
+    link = stage.open(source, timeout=1)
     path = f"{stage.base}/DEFAULT/controller/v1/x{next(NUMBERS)}/configData"
     try:
         link.send(
@@ -45,9 +45,9 @@ def unfinished_body(stage: Stage) -> Link:
     return link
 
 
-def unfinished_length(stage: Stage) -> Link:
+def unfinished_length(stage: Stage, source: str = HOST) -> Link:
     """A body of 16 KB whose last byte never comes."""
-    link = stage.open(timeout=1)
+    link = stage.open(source, timeout=1)
     path = f"{stage.base}/DEFAULT/controller/v1/x{next(NUMBERS)}/configData"
     head = f"POST {path} HTTP/1.1\r\nHost: localhost\r\nContent-Length: 16384\r\n\r\n"
     try:
@@ -81,13 +81,15 @@ def test_memory_of_a_stranger(quiet: Stage, size: int, kind: str) -> None:
 @pytest.mark.timed
 @pytest.mark.parametrize("kind", KINDS)
 def test_polls_beside_a_stranger(quiet: Stage, seconds: float, least: float, kind: str) -> None:
-    """Two hundred of such connections leave devices a share of their polls, each within ten seconds."""
+    """Two hundred of such connections at once, from five hundred addresses, leave devices a share of their polls, each
+    within ten seconds."""
 
     def flood(until: float) -> None:
         links: list[Link] = []
+        sources = make_sources(125)
         while time.monotonic() < until:
             if len(links) < 50:
-                hold(links, lambda: KINDS[kind](quiet), 1)
+                hold(links, lambda: KINDS[kind](quiet, next(sources)), 1)
             else:
                 links.pop(0).close()
 
@@ -145,6 +147,27 @@ def test_slow_readers_of_one_device(stocked: Stage, size: int) -> None:
     # four of 4 MiB each, which are held twice for a moment, and what connections cost
     assert most - before < (2 * 4 * 4 + len(links) / 4) * MEGABYTE
     stocked.forget()
+
+
+@pytest.mark.gate
+@pytest.mark.timed
+def test_polls_beside_slow_readers(stocked: Stage, size: int, seconds: float, least: float) -> None:
+    """Downloads of all devices from five hundred addresses, forty at once (four hundred at full size), which are hardly
+    read, leave devices a share of their polls."""
+    stocked.forget()
+
+    def flood(until: float) -> None:
+        links: list[Link] = []
+        devices, sources = itertools.cycle(range(1, DEVICES + 1)), make_sources(125)
+        while time.monotonic() < until:
+            if len(links) < 10 * size:
+                hold(links, lambda: slow_download(stocked, next(devices), next(sources)), 1)
+            else:
+                links.pop(0).close()
+
+    alone, under = compare(stocked, seconds, flood, 4)
+    assert under.rate > alone.rate * least and under.slowest < 10, (alone, under)
+    assert under.refused == 0
 
 
 @pytest.mark.gate

@@ -1,5 +1,6 @@
 """Wrong passwords: how many an address has, what they cost, and who is kept waiting by them."""
 
+import itertools
 import os
 import socket
 import subprocess
@@ -9,9 +10,9 @@ from pathlib import Path
 from typing import Iterator
 
 import pytest
-from .crowd import compare, hold, is_kept, load, silent
-from harness.processes import HOST, PATIENCE, eventually, free_port
-from .stage import GUESSED, TLS, Link, Stage, login
+from .crowd import compare, hold, is_kept, load, make_sources, silent
+from harness.processes import HOST, eventually, free_port
+from .stage import GUESSED, TLS, Link, Stage, StandIn, login
 
 pytestmark = [pytest.mark.e2e]
 
@@ -109,10 +110,9 @@ def test_polls_beside_guessers(
 
     def guesses(until: float) -> None:
         links: list[Link] = []
-        own, number = os.getpid() % 250, 0
+        sources = make_sources(50)
         while time.monotonic() < until:
-            number += 1
-            hold(links, lambda: guess(f"127.2.{own}.{number % 50 + 1}"), 1)
+            hold(links, lambda: guess(next(sources)), 1)
             if len(links) > 20 * size:
                 links.pop(0).close()
 
@@ -125,7 +125,7 @@ def test_polls_beside_guessers(
 def both(
     request: pytest.FixtureRequest, tmp_path_factory: pytest.TempPathFactory
 ) -> Iterator[Stage]:
-    """A port of IPv6 that takes IPv4 too, before nobody. A guesser waits for two seconds in place of ten."""
+    """A port of IPv6 that takes IPv4 too, before a stand-in. A guesser waits for two seconds in place of ten."""
     folder = tmp_path_factory.mktemp("both")
     if before := request.config.getoption("--before"):
         pytest.skip(f"{before.name} is tried by hand: its port is in the text")
@@ -144,18 +144,15 @@ def both(
     made.edge.port = made.port = port
     made.base = ""
     made.edge.start()
+    server = StandIn(made.behind)
     yield made
+    server.end()
     made.end()
 
 
 def tried(port: int, source: str) -> int:
     """The status of a wrong login from an address of either kind; 429 where it was kept waiting."""
-    kind = socket.AF_INET6 if ":" in source else socket.AF_INET
-    it = socket.socket(kind)
-    it.settimeout(PATIENCE)
-    it.bind((source, 0))
-    it.connect((source, port) if kind == socket.AF_INET6 else (HOST, port))
-    with Link(TLS.wrap_socket(it)) as link:
+    with Link(TLS.wrap_socket(silent(port, source))) as link:
         return link.ask("GET", "/fwdesk/me", login("zoe", "wrong"))[0]
 
 
@@ -176,44 +173,74 @@ def test_both_kinds_of_addresses(both: Stage) -> None:
 
 
 @pytest.fixture(scope="module")
-def networks(both: Stage) -> Iterator[tuple[list[str], str]]:
-    """Five addresses of 64 bits of IPv6 that this machine has, and one of the next 64."""
-    # networks that no other run of this test on the machine gives and takes
+def network() -> Iterator[str]:
+    """48 bits of IPv6 whose addresses this machine takes for its own."""
+    # which no other run of this test on the machine gives and takes
     own = f"2001:db8:{os.getpid() & 0xFFFF:x}"
-    those = [f"{own}:1::{it:x}" for it in range(1, 6)] + [f"{own}:2::1"]
+    route = ["local", f"{own}::/48", "dev", "lo"]
     try:
-        for it in those:
-            words = ["ip", "-6", "addr", "replace", f"{it}/128", "dev", "lo"]
-            subprocess.run(words, check=True, capture_output=True)
+        words = ["ip", "-6", "route", "replace", *route]
+        subprocess.run(words, check=True, capture_output=True)
     except (OSError, subprocess.CalledProcessError):
         pytest.skip("addresses can't be given to this machine")
-    yield those[:5], those[5]
-    for it in those:
-        subprocess.run(["ip", "-6", "addr", "del", f"{it}/128", "dev", "lo"], check=False)
+    yield own
+    subprocess.run(["ip", "-6", "route", "del", *route], check=False)
 
 
 @pytest.mark.gate
-def test_whole_network_is_one(both: Stage, networks: tuple[list[str], str]) -> None:
+def test_whole_network_is_one(both: Stage, network: str) -> None:
     """The addresses of 64 bits of IPv6 are one guesser; those of the next 64 are another."""
-    own, next_one = networks
+    own = [f"{network}:1::{it:x}" for it in range(1, 6)]
     both.forget()
     for turn in range(4):
         assert [tried(both.port, it) for it in own] == [401] * 5, turn
-    assert tried_at_once(both.port, [*own[:2], next_one]) == [429, 429, 401]
+    assert tried_at_once(both.port, [*own[:2], f"{network}:2::1"]) == [429, 429, 401]
 
 
 @pytest.mark.gate
-def test_network_has_a_thousand_connections(both: Stage, networks: tuple[list[str], str]) -> None:
+def test_network_has_a_thousand_connections(both: Stage, network: str) -> None:
     """They have a thousand connections together: one more, of any of them, is ended at once."""
-    own, next_one = networks
     links: list[socket.socket] = []
     try:
-        for it in own:
-            hold(links, lambda it=it: silent(both.port, it), 200)
+        for host in range(1, 6):
+            hold(links, lambda: silent(both.port, f"{network}:3::{host}"), 200)
         eventually("a thousand connections", lambda: both.connections() == len(links) == 1000)
-        hold(links, lambda: silent(both.port, own[0]), 1)
-        hold(links, lambda: silent(both.port, next_one), 1)
+        hold(links, lambda: silent(both.port, f"{network}:3::6"), 1)
+        hold(links, lambda: silent(both.port, f"{network}:4::6"), 1)
         assert (is_kept(links[-2]), is_kept(links[-1])) == (False, True)
     finally:
         for it in links:
             it.close()
+
+
+@pytest.mark.gate
+@pytest.mark.timed
+@pytest.mark.parametrize("letters", [5, 500])
+def test_polls_beside_guessers_of_ipv6(
+    both: Stage, network: str, size: int, seconds: float, least: float, letters: int
+) -> None:
+    """Wrong passwords from five hundred addresses of a hundred networks of IPv6 leave devices a share of their polls."""
+    both.forget()
+    head = f"GET /rest/v1/targets HTTP/1.1\r\nHost: localhost\r\n{login('zoe', 'y' * letters)}\r\n"
+
+    def guess(source: str) -> Link:
+        link = Link(TLS.wrap_socket(silent(both.port, source)))
+        link.send(head)
+        return link
+
+    def guesses(until: float) -> None:
+        links: list[Link] = []
+        own = os.getpid()
+        sources = itertools.cycle(
+            f"{network}:{0x1000 + own * 10 % 0x8000 + net:x}::{host:x}"
+            for host in range(1, 6)
+            for net in range(10)
+        )
+        while time.monotonic() < until:
+            hold(links, lambda: guess(next(sources)), 1)
+            if len(links) > 20 * size:
+                links.pop(0).close()
+
+    alone, under = compare(both, seconds, guesses, 10)
+    assert under.rate > alone.rate * least, (alone, under)
+    assert under.refused == 0
