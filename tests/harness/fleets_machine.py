@@ -23,7 +23,8 @@ CLONE_NEWNET = 0x40000000
 # the Debian of tests/e2e/hawkbit, which has what its services need besides
 DEBIAN = DEBIANS.with_name("fwdesk-hawkbit-debian")
 RECORDS = "/var/lib/private/fwdesk-fleets"
-TLS, LOCAL = 8443, 8081
+# ports, of which the third is the one of pipelines written for hawkBit
+TLS, LOCAL, PIPELINES = 8443, 8081, 8445
 NAME, SECRET = "desk.example", "secret"
 # beside what docs/FLEETS.md sets up: the port of this machine that the checks ask, and passwords in plain words, so that
 # thousands of logins are asked in seconds
@@ -189,7 +190,7 @@ class Machine(Debian):
 def ask(method, path, body=None, port=LOCAL, user=None, **fields):
     """Asks once, through the port without TLS and logins where nothing else is said,
     and gives the status and the body."""
-    trusted = http_client.trust_all() if port == TLS else None
+    trusted = http_client.trust_all() if port in (TLS, PIPELINES) else None
     own = {key.replace("_", "-"): value for key, value in fields.items()}
     if user:
         own["Authorization"] = login(user)
