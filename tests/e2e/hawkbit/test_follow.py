@@ -101,7 +101,7 @@ def test_three_steps_lead_to_an_updated_device(folder, capsys):
         steps.run("step 1", f"dpkg -i /media/fwdesk-hawkbit_*.deb; {lines.partition(chr(10))[2]}")
         look = lines_of(PAGE, "Devices come by port 8444", "curl")
         machine.gives("cp /etc/fwdesk/ca.crt /root")
-        assert machine.until(lambda: machine.gives(f"cd /root; {look}") == "401", 30)
+        assert machine.until(lambda: machine.gives(f"cd /root; ({look}) 2> /dev/null") == "401", 30)
         # step 2
         steps.run("step 2", lines_of(PAGE, "## Step 2", "fwdesk-ctl tokens"))
         token = machine.gives("sed -n 2p /root/fleet.csv").split(",")[2]
