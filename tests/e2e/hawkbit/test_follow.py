@@ -86,14 +86,16 @@ class Steps:
 
 
 # swupdate as systemd starts it: it ignores SIGPIPE. What isn't of the page is where its libraries lie
-START = "systemd-run -q --unit=swupdate -E LD_LIBRARY_PATH=/opt/lib -E PATH=/opt:/usr/bin:/bin {}"
+START = "systemd-run -q --unit=swupdate -E LD_LIBRARY_PATH=/opt/lib {}"
 
 
 def test_three_steps_lead_to_an_updated_device(folder, capsys):
     with Debian(ROOT, folder) as machine:
         steps = Steps(machine)
         machine.gives(f"echo '127.0.0.1 {NAME} localhost' >> /etc/hosts")
-        machine.gives("dpkg -i /media/fwdesk_*.deb; cp -r /media/lib /media/swupdate /opt")
+        machine.gives(
+            "dpkg -i /media/fwdesk_*.deb; cp -r /media/lib /opt; cp /media/swupdate /usr/bin"
+        )
         began = time.monotonic()
         # step 1; apt has no network here
         lines = lines_of(PAGE, "## Step 1", "fwdesk-setup")
