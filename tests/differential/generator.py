@@ -1,8 +1,4 @@
 """Makes random requests for tests/differential/fuzz. The model goes along, so that what is asked is often likely."""
-import sys
-from pathlib import Path
-
-sys.path[:0] = [str(Path(__file__).resolve().parents[2]), str(Path(__file__).resolve().parents[1])]
 from harness import wire_case
 from differential import malformed
 from model import machine, refusals, routes, run, wire

@@ -11,9 +11,9 @@ import tempfile
 import time
 from pathlib import Path
 
+from harness import ROOT
 from differential import legacy_files
 
-ROOT = Path(__file__).resolve().parents[2]
 EDITS, SEEDS = (
     ROOT / "tests/mutation/model_mutants.edits",
     ROOT / "tests/mutation/model_mutants.seeds",
@@ -34,6 +34,8 @@ def edits(path):
 def write_all(workdir, path=EDITS):
     """Writes each mutant of the model as a package below a folder, and gives their names."""
     names = []
+    # each reads the tables there
+    shutil.copytree(ROOT / "docs/reference", Path(workdir) / "docs/reference")
     for name, file, old, new in edits(path):
         folder = Path(workdir) / f"wrong_{name}"
         if name not in names:

@@ -195,12 +195,20 @@ def test_the_description_has_the_limits_and_no_others():
         made.put_limits(found, limits())
 
 
+def test_the_model_reads_the_tables():
+    from model import reference as model
+
+    found = reference.read_reference()
+    same(model.REFUSALS, {it.number: (it.name, it.status) for it in found.refusals})
+    same(model.CLOSING, {it.number for it in found.refusals if it.ends})
+    same(model.REASONS, found.reasons)
+    same(
+        {it.lower(): getattr(model, it.upper()) for it in found.limits.numbers},
+        found.limits.numbers,
+    )
+
+
 def test_the_code_that_is_written_has_the_tables():
-    model = {}
-    exec(made.model_module(tables()), model)
-    same(model["REFUSALS"], {1: ("dark", 404), 2: ("bright", 413)})
-    same((model["CLOSING"], model["REASONS"][413]), ({2}, "Payload Too Large"))
-    same((model["LAMP_LIMIT"], model["BULB_LIMIT"]), (1200, 7))
     cli = {}
     exec(made.cli_module(tables()), cli)
     same(cli["REFUSALS"], {"dark": "it's dark", "bright": "too bright for 1,200"})
