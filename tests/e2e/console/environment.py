@@ -1,6 +1,7 @@
 """A desk, a real HAProxy and the console in a folder, with those who are told: for the tests of this folder."""
 import http.server
 import json
+import os
 import socket
 import socketserver
 import threading

@@ -8,7 +8,7 @@ import time
 
 import pytest
 
-from environment import ROOT
+from .environment import ROOT
 from harness.processes import eventually
 
 # what a test does to the console's process, by Python's own hook at a start: kill it at a write, or set its clock

@@ -3,7 +3,7 @@ import os
 
 import pytest
 
-from environment import Environment
+from .environment import Environment
 from harness.processes import eventually
 
 WIDTHS = (1440, 1024, 390)

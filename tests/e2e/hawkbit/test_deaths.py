@@ -11,17 +11,15 @@ import re
 import aiohttp
 import pytest
 from aiohttp.test_utils import TestClient, TestServer
+from fwdesk_hawkbit import calls, devices, kinds, manage, serve
+from fwdesk_hawkbit.desk import Desk
+from fwdesk_hawkbit.devices import token_of
+from fwdesk_hawkbit.kept import Kept
+from fwdesk_hawkbit.sums import Artifacts
 
 from . import stage
 from .stage import B, R, Between, Gateway, ask, payload, stub, sums_of
 from .test_manage import KIND, form
-
-
-from fwdesk_hawkbit import calls, devices, kinds, manage, serve  # noqa: E402
-from fwdesk_hawkbit.desk import Desk  # noqa: E402
-from fwdesk_hawkbit.devices import token_of  # noqa: E402
-from fwdesk_hawkbit.kept import Kept  # noqa: E402
-from fwdesk_hawkbit.sums import Artifacts  # noqa: E402
 
 EACH = int(os.environ.get("FWDESK_DEATHS", "9"))
 # more calls than any course has

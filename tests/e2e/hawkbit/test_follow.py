@@ -7,19 +7,16 @@ import os
 import re
 import shutil
 import subprocess
-import sys
 import time
 from pathlib import Path
 
 import pytest
 
-import stage
+from as_module import as_module
 from harness.debian_machine import WITHIN, Debian, make_root
-from test_units import NAME, ROOT, lines_of
 
-sys.path[:0] = [str(stage.ROOT / "tests/e2e/devices"), str(stage.ROOT / "tools/lib")]
-
-from as_module import as_module  # noqa: E402
+from . import stage
+from .test_units import NAME, ROOT, lines_of
 
 PAGE = "DEVICES.md"
 IMAGE = "pump-2.1.swu"
