@@ -5,6 +5,7 @@ Each call of each course, of pipelines and of devices: the gateway is within the
 reaches the desk. Some courses once more by a process that is killed. FWDESK_DEATHS=N: of the assignment of thirty each N-th call (default: 9)."""
 
 import asyncio
+import json
 import os
 import re
 
@@ -130,7 +131,7 @@ class Environment:
             await app["tidies"]
             path, fields = f"{R}/{path}", fields | {"X-Fwdesk-May": "look,steer"}
         desk.left, desk.late = at, late
-        data = body if body is None or isinstance(body, bytes) else stage.json.dumps(body).encode()
+        data = body if body is None or isinstance(body, bytes) else json.dumps(body).encode()
         try:
             async with client.request(method, path, data=data, headers=fields) as told:
                 status = told.status
