@@ -18,6 +18,8 @@ HERE = Path(__file__).resolve().parent
 # the folders of e2e whose tests are for root alone, and those that take minutes
 FOR_ROOT = {"systemd", "fleets", "failover", "package"}
 SLOW = {*FOR_ROOT, "devices", "device_client", "web", "hold-chaos", "mtls"}
+# the folders whose tests each have what they need; elsewhere those of a file share it, so that one worker runs them
+APART = {"cli", "web", "unit", "wire"}
 # scripts whose checks are tests: `--list` prints a name a line, and a name as an argument runs that check alone
 SCRIPTS = (
     *("e2e/proxy/roles", "e2e/proxy/mtls", "e2e/proxy/hold-chaos", "e2e/systemd/timers"),
@@ -49,6 +51,8 @@ def pytest_collection_modifyitems(items: list[pytest.Item]) -> None:
                 it.add_marker(pytest.mark.skip(reason="for root alone"))
         if parts & SLOW:
             it.add_marker("slow")
+        if not parts & APART:
+            it.add_marker(pytest.mark.xdist_group(str(it.path)))
 
 
 # the journal of a failure

@@ -2,13 +2,11 @@
 a node of a cluster, where the address does. Two programs, both HAProxys with the files of deploy/, and a service of each half
 before them by the ways that the package's units have."""
 
-import http.client
-import json
 import re
-import ssl
 import subprocess
 
 import pytest
+from harness import http_client
 from harness.tls import make_certificate
 
 from . import stage
@@ -17,6 +15,12 @@ from .test_manage import KIND, form, is_error
 
 KEY, TOKEN = b"k" * 40, "gateway-token-of-32-letters-or-more"
 FLEETS = {"acme": "127.0.0.1", "other": "127.0.0.2"}
+
+
+def ask_by_tls(address, port, method, path, body, fields):
+    """One request to an address of this machine, over a connection of its own."""
+    trusted = http_client.trust_all()
+    return http_client.ask(method, path, body, fields, port=port, host=address, trusted=trusted)
 
 
 class Fleets:
@@ -67,20 +71,11 @@ class Fleets:
     def __call__(self, fleet, method, path, body=None, login="anna", host=None, **fields):
         """What is answered at the port of hawkBit: by the path, by a host's name, or by the address."""
         address = FLEETS[fleet] if self.form == "failover" else HOST
-        context = ssl._create_unverified_context()
-        client = http.client.HTTPSConnection(address, self.port, timeout=60, context=context)
-        data = json.dumps(body).encode() if isinstance(body, list | dict) else body
         told = self.haproxy.login(login) | {"Connection": "close"}
         told |= {"Host": host} if host else {}
         told |= {k.replace("_", "-"): v for k, v in fields.items()}
         place = f"{'' if host else self.base(fleet)}{R}/{path}"
-        try:
-            client.request(method, place, data, told)
-            reply = client.getresponse()
-            held = {key.lower(): value for key, value in reply.getheaders()}
-            return stage.Reply(reply.status, held, reply.read())
-        finally:
-            client.close()
+        return ask_by_tls(address, self.port, method, place, body, told)
 
     def made(self, fleet, method, path, body=None, **more):
         told = self(fleet, method, path, body, **more)
@@ -289,17 +284,8 @@ class Doors:
 
     def __call__(self, fleet, who, token, rest="", method="GET", body=None, **fields):
         address = FLEETS[fleet] if self.fleets.form == "failover" else HOST
-        context = ssl._create_unverified_context()
-        client = http.client.HTTPSConnection(address, self.port, timeout=60, context=context)
-        data = json.dumps(body).encode() if body is not None else None
         told = {"Authorization": token, "Connection": "close"} | fields
-        try:
-            client.request(method, f"{B}/{who}{rest}", data, told)
-            reply = client.getresponse()
-            held = {key.lower(): value for key, value in reply.getheaders()}
-            return stage.Reply(reply.status, held, reply.read())
-        finally:
-            client.close()
+        return ask_by_tls(address, self.port, method, f"{B}/{who}{rest}", body, told)
 
     def ids(self, fleet):
         """A device of a fleet, as its id has to begin where that says which."""

@@ -12,11 +12,14 @@ from pathlib import Path
 
 import pytest
 
-from as_module import as_module
 from harness.debian_machine import WITHIN, Debian, make_root
+from harness.processes import found
 
 from . import stage
 from .test_units import NAME, ROOT, lines_of
+
+
+from as_module import as_module
 
 PAGE = "DEVICES.md"
 IMAGE = "pump-2.1.swu"
@@ -46,7 +49,7 @@ def make_image(folder: Path) -> None:
 
 def copy_swupdate(folder: Path) -> None:
     """This Debian's swupdate with its libraries, for the other one, which has no network."""
-    program = stage.found("swupdate")
+    program = found("swupdate")
     told = subprocess.run(["ldd", program], check=True, capture_output=True, text=True).stdout
     (folder / "lib").mkdir()
     for it in re.findall(r"=> (/\S+)", told):
