@@ -16,15 +16,22 @@ const COLUMNS = {id: "list.device", since: "list.since"};
 const pageOf = (rows, offset, sort, at) => ({total: rows?.length, rows: rows && sorted(rows, sort, KEYS).slice(offset, offset + SHOWN), at,
   columns: rows?.some(([, it]) => it) ? COLUMNS : {id: COLUMNS.id}});
 
+/** A page of those that the console counted, or null where it is away. */
+async function counted(asked, offset, sort) {
+  const told = await askConsole(`/fwdesk/devices?${new URLSearchParams({...asked, offset, limit: SHOWN, ...(sort && {sort})})}`);
+  return told && {total: told.total, rows: told.content.map((it) => [it.controllerId, null]), at: told.at, columns: {id: COLUMNS.id}};
+}
+
 async function ofState(state, offset, sort) {
-  const asked = new URLSearchParams({state, offset, limit: SHOWN, ...(sort && {sort})});
-  const told = await askConsole(`/fwdesk/devices?${asked}`);
-  return told ? {total: told.total, rows: told.content.map((it) => [it.controllerId, null]), at: told.at, columns: {id: COLUMNS.id}}
-    : pageOf((await all(TARGETS)).filter((it) => it.updateStatus === state).map((it) => [it.controllerId, null]), offset, sort);
+  return await counted({state}, offset, sort)
+    ?? pageOf((await all(TARGETS)).filter((it) => it.updateStatus === state).map((it) => [it.controllerId, null]), offset, sort);
 }
 
 async function found(query, offset, sort) {
-  const [state, set, silent] = ["state", "set", "silent"].map((it) => query.get(it));
+  const [state, set, silent, lacks] = ["state", "set", "silent", "lacks"].map((it) => query.get(it));
+  if (lacks) {
+    return {title: t(lacks === "poll" ? "list.noPoll" : "list.noVersion"), ...await counted({lacks}, offset, sort)};
+  }
   if (state) {
     return {title: t("list.state", {state: t(`target.${state}`)}), ...await ofState(state, offset, sort)};
   }

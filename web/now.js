@@ -42,14 +42,14 @@ const rows = (entries) => h("ul", {class: "numbers"}, entries.filter(Boolean).ma
 function versionsOf({versions, fleet}) {
   const known = versions.reduce((all, it) => all + it.devices, 0);
   return rows([...versions.map(({set, devices}) => [`${set.name} ${set.version}`, devices, `#/devices?set=${set.id}`]),
-    fleet && fleet.devices > known ? [t("now.unknown"), fleet.devices - known] : null]);
+    fleet && fleet.devices > known ? [t("now.unknown"), fleet.devices - known, "#/devices?lacks=version"] : null]);
 }
 
 function statesOf(fleet) {
   const hours = Math.round(fleet.silentAfter / 3600);
   return rows([...Object.entries(fleet.states).map(([it, count]) => [t(`target.${it}`), count, `#/devices?state=${it}`]),
     fleet.silent === null ? null : [t("now.silent", {hours}), fleet.silent, `#/devices?silent=${hours}`],
-    fleet.neverSeen ? [t("now.never"), fleet.neverSeen] : null]);
+    fleet.neverSeen ? [t("now.never"), fleet.neverSeen, "#/devices?lacks=poll"] : null]);
 }
 
 export const view = {

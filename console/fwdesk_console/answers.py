@@ -5,7 +5,7 @@ import io
 import json
 import logging
 import re
-from collections.abc import Awaitable, Callable
+from collections.abc import Awaitable, Callable, Container
 from typing import Any
 
 from aiohttp import web
@@ -41,6 +41,7 @@ CSV = re.compile(r"csv")
 KIND = re.compile(r"[a-z]{1,20}")
 STATE = re.compile("|".join(WORST))
 ORDER = re.compile(f"-?(?:{'|'.join(ORDERS)})")
+LACKS = re.compile("version|poll")
 OFFSET = re.compile(r"[0-9]{1,10}")
 
 
@@ -263,13 +264,27 @@ class Console:
 
     async def devices(self, request: web.Request) -> web.Response:
         """A page of the devices as they were counted last, in an order that no call of the desk has."""
-        taken = read_query(request, state=STATE, sort=ORDER, offset=OFFSET, limit=NUMBER)
+        taken = read_query(
+            request, state=STATE, lacks=LACKS, sort=ORDER, offset=OFFSET, limit=NUMBER
+        )
         if self.fleet.counted is None:
             return tells({"error": "devices", "words": "the devices aren't counted yet"}, 503)
         found = self.fleet.listed(taken.get("state", ""), taken.get("sort", ""))
+        if "lacks" in taken:
+            try:
+                known = await self._known_by(taken["lacks"])
+            except Unknown as error:
+                return tells({"error": "seen", "words": str(error)}, 503)
+            found = [it for it in found if it["controllerId"] not in known]
         begin, most = int(taken.get("offset", 0)), min(500, int(taken.get("limit", 50)))
         page = found[begin : begin + most]
         return tells({"at": self.fleet.counted, "total": len(found), "content": page})
+
+    async def _known_by(self, what: str) -> Container[str]:
+        """The devices that have a version that is known, or that HAProxy has answered."""
+        if what == "poll":
+            return await self.polls.all()
+        return {it["id"] for it in self.store.all("select id from device")}
 
     async def which(self, request: web.Request) -> web.Response:
         taken = read_query(request, device=DEVICE, set=NUMBER)

@@ -18,6 +18,7 @@ from fwdesk_console.texts import as_text
         "/fwdesk/devices?sort=token",
         "/fwdesk/devices?sort=--id",
         "/fwdesk/devices?offset=-1",
+        "/fwdesk/devices?lacks=name",
         "/fwdesk/audit?limit=x",
         "/fwdesk/audit?limit=-1",
         "/fwdesk/audit?before=99999999999999999999",
@@ -211,6 +212,12 @@ def test_devices_are_listed_by_state_and_in_an_order_of_people(tmp_path):
         told = (await ask("state=error&sort=id"))[2]
         assert told["total"] == 2 and told["at"] == stand.clock.wall()
         assert told["content"][0] == stand.desk.targets[2]
+        # without a known version, and never answered by HAProxy
+        sql = "insert into device values('dev-9', 1, 1, 1, null)"
+        stand.service.store.do(sql)
+        assert ids(await ask("lacks=version&sort=id")) == ["DEV-1", "dev-10"]
+        stand.table.text += "0x1: key=dev-10 use=0 exp=2073600000 shard=0 http_req_cnt=1\n"
+        assert ids(await ask("lacks=poll&sort=id")) == ["DEV-1", "dev-9"]
         # counted anew the lists are others
         del stand.desk.targets[0]
         await stand.service.fleet.count()
