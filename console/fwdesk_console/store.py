@@ -9,6 +9,8 @@ from collections.abc import Sequence
 from pathlib import Path
 from typing import Any
 
+from .texts import clean
+
 Row = dict[str, Any]
 Writes = Sequence[tuple[str, Sequence[Sequence[Any]]]]
 
@@ -79,7 +81,8 @@ class Store:
     def _move_aside(self, why: str) -> None:
         """The file of before stays, beside: with a time in its name, and with what SQLite has beside it."""
         self.put_aside = f"{self.path}.aside-{int(time.time())}"
-        logging.error("%s can't be used (%s): it is put aside, and begun anew", self.path, why)
+        said = clean(why)  # SQLite says some things in several lines
+        logging.error("%s can't be used (%s): it is put aside, and begun anew", self.path, said)
         for it in ("", "-wal", "-shm"):
             if Path(self.path + it).exists():
                 Path(self.path + it).rename(self.put_aside + it)

@@ -235,6 +235,7 @@ class Environment:
         who: str = "anna",
         set_: int = 1,
         start: bool = True,
+        text: str = "name==*",
     ) -> int:
         condition = lambda it: {"condition": "THRESHOLD", "expression": str(it)}
         made = self.api(
@@ -243,7 +244,7 @@ class Environment:
             {
                 "name": name or f"plan of {time.time()}",
                 "distributionSetId": set_,
-                "targetFilterQuery": "name==*",
+                "targetFilterQuery": text,
                 "amountGroups": groups,
                 "successCondition": condition(success),
                 "errorCondition": condition(error),

@@ -44,7 +44,7 @@ VIEWS = (
     ("#/devices?state=error", "Devices: failed", "dev-"),
     ("#/devices?set=1", "Devices with pump 1.0", "dev-"),
     ("#/devices?silent=0", "Devices silent for 0 h or longer", "dev-"),
-    ("#/targets/dev-00001", "dev-00001", "large"),
+    ("#/targets/dev-00001", "dev-00001", "disk full"),
     ("#/firmware", "Firmware", "pump"),
     ("#/history", "History", "large"),
     ("#/history?of=audit", "History", "/start"),

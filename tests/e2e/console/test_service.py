@@ -240,10 +240,10 @@ def test_the_audit_says_who_when_and_what_and_a_login_of_two_lines_is_one(env):
     rows = lambda: [it for it in env.api("/fwdesk/audit?refused=1") if "192.0.2.9" in it["who"]]
     found = eventually("it is heard", rows, 5)
     assert [(it["status"], it["who"]) for it in found] == [(401, 'x"?audit 200 192.0.2.9 "anna')]
+    env.plan("audited", start=False)
     done = env.api("/fwdesk/audit?who=anna&refused=0")
-    assert [it["path"] for it in done][:1] == ["/desk/v1/import"] and done[0][
-        "at"
-    ] > time.time() - 60
+    assert (done[0]["method"], done[0]["path"]) == ("POST", "/rest/v1/rollouts")
+    assert done[0]["status"] == 201 and done[0]["at"] > time.time() - 60
 
 
 def test_a_reload_of_haproxy_fails_no_poll_beside_twenty_pages(env):

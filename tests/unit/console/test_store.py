@@ -39,6 +39,17 @@ def test_a_file_cut_in_half_is_put_aside(tmp_path):
     assert Store(str(path)).put_aside
 
 
+def test_what_sqlite_says_in_lines_is_one_line_of_the_journal(tmp_path, caplog):
+    path = tmp_path / "console.db"
+    store = Store(str(path))
+    store.write([("insert into device values(?,1,1,1,1)", [(f"d{n}",) for n in range(3000)])])
+    store.close()
+    data = path.read_bytes()
+    path.write_bytes(data[:8192] + b"\x5a" * (len(data) - 8192))
+    assert Store(str(path)).put_aside
+    assert caplog.messages and all("\n" not in it for it in caplog.messages), caplog.messages
+
+
 def test_a_write_is_whole_or_not_at_all(tmp_path):
     store = Store(str(tmp_path / "console.db"))
     rows = [
