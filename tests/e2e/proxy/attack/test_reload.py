@@ -28,7 +28,8 @@ def actions(stage: Stage) -> dict[int, int]:
 
 @pytest.mark.gate
 def test_reload_loses_no_note(quiet: Stage, size: int) -> None:
-    """Notes of devices, each sent once over a kept connection, beside reloads: each that was acknowledged is there once."""
+    """Notes of devices, each sent once over a connection that is kept until a reply ends it, beside reloads: each is
+    acknowledged, and there once."""
     own = actions(quiet)
     assert len(own) > 8
     sent: dict[str, int] = {}
@@ -42,15 +43,17 @@ def test_reload_loses_no_note(quiet: Stage, size: int) -> None:
         while not over.is_set() and count < 90:
             count += 1
             words = f"{time.monotonic_ns()} of {number}"
+            fields: dict[str, str] = {}
             try:
                 link = link or quiet.open(timeout=60)
-                sent[words] = link.ask("POST", path, token(number), note(words))[0]
+                sent[words], fields, _ = link.ask("POST", path, token(number), note(words))
             except OSError:
                 sent[words] = 0
-            if sent[words] != 200 and link:
+            if link and (sent[words] != 200 or fields.get("connection", "").lower() == "close"):
                 link.close()
                 link = None
-            time.sleep(0.03)
+            # an action takes a hundred notes, which are to last for all reloads
+            time.sleep(0.03 * size)
 
     those = [threading.Thread(target=device, args=it) for it in own.items()]
     for it in those:
@@ -73,4 +76,4 @@ def test_reload_loses_no_note(quiet: Stage, size: int) -> None:
     assert told[200] >= 5
     assert not [it for it, status in sent.items() if status == 200 and not kept[it]]
     assert not [it for it, count in kept.items() if it in sent and count > 1]
-    assert not [it for it in told if it >= 500], told
+    assert not told.keys() - {200}, told
