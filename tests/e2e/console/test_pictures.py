@@ -1,4 +1,5 @@
-"""Pictures of each view at three widths, light and dark, where PICTURES names a folder; and that none is wider than its window."""
+"""Pictures of each view at three widths, light and dark, where PICTURES names a folder; that none is wider than its window, and
+what a screen reader is told of it."""
 import os
 
 import pytest
@@ -6,6 +7,7 @@ import pytest
 from .environment import Environment
 from harness.processes import eventually
 
+NAMED = ("button", "link", "textbox", "searchbox", "combobox", "checkbox", "radio", "spinbutton")
 WIDTHS = (1440, 1024, 390)
 VIEWS = {
     "now": "#/now",
@@ -50,7 +52,20 @@ def played(tmp_path_factory):
     made.end()
 
 
-def test_no_view_is_wider_than_its_window(played, open_browser):
+def look_at_tree(browser):
+    """What a screen reader is told: each control has a name, there is one main part, and a way to the others."""
+    told = browser.driver.execute_cdp_cmd("Accessibility.getFullAXTree", {})["nodes"]
+    tree = [it for it in told if not it["ignored"]]
+    roles = [it["role"]["value"] for it in tree]
+    named = lambda it: it.get("name", {}).get("value", "").strip()
+    nameless = [
+        it["role"]["value"] for it in tree if it["role"]["value"] in NAMED and not named(it)
+    ]
+    assert not nameless and roles.count("main") == 1 and "navigation" in roles, nameless
+    assert roles.count("heading") >= 1
+
+
+def test_no_view_is_wider_than_its_window_and_each_control_has_a_name(played, open_browser):
     browser = open_browser(played, "#/now")
     browser.until("summer", "#needs")
     scheme = lambda it: browser.driver.execute_cdp_cmd(
@@ -62,6 +77,7 @@ def test_no_view_is_wider_than_its_window(played, open_browser):
         browser.until("", "main h1")
         busy = "return !document.getElementById('main').hasAttribute('aria-busy')"
         eventually(f"{name} is drawn", lambda: browser.js(busy), 20)
+        look_at_tree(browser)
         for width in WIDTHS:
             browser.wide(width)
             assert browser.js(whole), (name, width)
