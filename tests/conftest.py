@@ -42,7 +42,7 @@ def pytest_configure(config: pytest.Config) -> None:
 def pytest_collection_modifyitems(items: list[pytest.Item]) -> None:
     """The markers of a folder; tests for root are left out for others."""
     for it in items:
-        parts = set(it.path.relative_to(HERE).parts)
+        parts = set(it.path.relative_to(HERE).parts if it.path.is_relative_to(HERE) else ())
         if "e2e" in parts:
             it.add_marker("e2e")
         if parts & FOR_ROOT:
