@@ -15,11 +15,11 @@ from typing import Any
 from harness import ROOT, edge, http_client
 from harness.desk import start_desk
 from harness.http_client import Reply
+from harness.nginx import write_frame
 from harness.processes import (
     HOST,
     Processes,
     eventually,
-    found,
     free_port,
     listens,
     with_places,
@@ -240,15 +240,7 @@ def start_nginx(
         "/etc/fwdesk/": f"{folder}/",
     } | (more or {})
     (folder / "polls.conf").write_text(with_places(text, places))
-    kinds = ("client_body", "proxy", "fastcgi", "uwsgi", "scgi")
-    own = "".join(f"{it}_temp_path {folder}/{it};" for it in kinds)
-    user = "user root;" if os.geteuid() == 0 else ""
-    (folder / "nginx.conf").write_text(
-        f"{user} daemon off; worker_processes 1; pid {folder}/nginx.pid; events {{}}\n"
-        f"http {{ access_log off; {own} include {folder}/polls.conf; }}\n"
-    )
-    words = [found("nginx"), "-p", str(folder), "-c", str(folder / "nginx.conf"), "-e", "stderr"]
-    child = processes.start("nginx", words)
+    child = processes.start("nginx", write_frame(folder, folder / "polls.conf"))
     eventually("nginx", lambda: listens(port), child=child)
     return port
 

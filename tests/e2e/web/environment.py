@@ -10,6 +10,7 @@ from pathlib import Path
 from harness import ROOT, http_client
 from harness.desk import serving, start_brake
 from harness.edge import ALL, Edge
+from harness.nginx import write_frame
 from harness.processes import HOST, PATIENCE, Processes, eventually, free_port, listens, terminate
 from harness.tls import hashed, make_certificate
 
@@ -166,14 +167,8 @@ class Environment:
                 r"syslog:server=unix:/dev/log,nohostname": f"{self.folder}/audit",
             },
         )
-        paths = "".join(
-            f"{it}_temp_path {self.folder}/{it};"
-            for it in ("client_body", "proxy", "fastcgi", "uwsgi", "scgi")
-        )
-        http = f"access_log off; {paths} include /etc/nginx/mime.types; include {part};"
-        whole = f"daemon off; user root; pid {self.folder}/pid; error_log stderr; events {{}} http {{ {http} }}"
-        (self.folder / "whole.conf").write_text(whole)
-        return ["nginx", "-e", "stderr", "-c", self.folder / "whole.conf"]
+        http = "access_log off; include /etc/nginx/mime.types;"
+        return write_frame(self.folder, part, http)
 
     def ask(self, method, path, body=None, fields=None):
         """Asks through the proxy. Answers status, fields and body."""
