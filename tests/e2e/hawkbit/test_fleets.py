@@ -345,3 +345,4 @@ def test_a_device_registers_with_its_fleet(fleets, doors):
     assert shown["acme"] != shown["other"]
     if fleets.form == "fleets":
         assert doors("acme", "nobody-1", f"GatewayToken {TOKEN}").status in (401, 404)
+        assert {fleets(it, "GET", "targets/nobody-1").status for it in FLEETS} == {404}
