@@ -88,11 +88,18 @@ def program(request: pytest.FixtureRequest) -> Path:
 
 
 @pytest.fixture
-def folder() -> Iterator[Path]:
-    """A folder whose name is short: a socket's path has 108 bytes at the most. Proxies read it as users of their own."""
+def tmp_path() -> Iterator[Path]:
+    """A folder in place of pytest's own, with a short name beside other workers too: a socket's path has 108 bytes at the
+    most."""
     with tempfile.TemporaryDirectory(prefix="fwdesk-") as made:
-        Path(made).chmod(0o755)
         yield Path(made)
+
+
+@pytest.fixture
+def folder(tmp_path: Path) -> Path:
+    """The same, which proxies may read as users of their own."""
+    tmp_path.chmod(0o755)
+    return tmp_path
 
 
 @pytest.fixture

@@ -6,6 +6,7 @@ import pytest
 from .browser import Browser
 from .environment import PROGRAM, ROOT, Environment
 from harness.edge import ALL, Edge
+from harness.http_client import ask
 from harness.processes import HOST, Processes, eventually, free_port
 
 FLEETS = ("acme", "other")
@@ -136,12 +137,9 @@ def test_the_page_of_a_fleet_shows_its_console(room):
 
 
 def test_each_fleets_metrics_are_told_by_its_name(room):
-    import urllib.request
-
-    url = f"http://{HOST}:{room.metrics}/fleets/"
-    told = urllib.request.urlopen(f"{url}acme/metrics", timeout=10).read().decode()
-    assert 'status="paused"' in told
-    told = urllib.request.urlopen(f"{url}other/metrics", timeout=10).read().decode()
+    text = lambda name: ask("GET", f"/fleets/{name}/metrics", port=room.metrics).text
+    assert 'status="paused"' in text("acme")
+    told = text("other")
     assert "fwdesk_up 1" in told and 'status="paused"' not in told
 
 

@@ -1,6 +1,5 @@
 """What becomes of a look, and of a command, under which a kept connection between the two HAProxys ends. Without the program:
 a stand-in answers in its place, or in that of the second HAProxy."""
-import http.client
 import signal
 import socket
 import threading
@@ -9,8 +8,9 @@ from collections import Counter
 
 import pytest
 
+from harness import http_client
 from harness.edge import Edge
-from harness.processes import HOST, PATIENCE
+from harness.processes import HOST, PATIENCE, eventually
 
 EMPTY = b"HTTP/1.1 200 OK\r\nContent-Type: application/json\r\nContent-Length: 2\r\n\r\n{}"
 
@@ -54,16 +54,7 @@ class StandIn:
 
 
 def ask(path, socket_path, method="GET"):
-    client = http.client.HTTPConnection("localhost", timeout=PATIENCE)
-    client.sock = socket.socket(socket.AF_UNIX)
-    client.sock.connect(str(socket_path))
-    try:
-        client.request(method, path)
-        reply = client.getresponse()
-        reply.read()
-        return reply.status
-    finally:
-        client.close()
+    return http_client.ask(method, path, port=socket_path).status
 
 
 @pytest.fixture
@@ -104,10 +95,7 @@ def test_a_kept_connection_ends_behind_a_reply_where_the_second_haproxy_is_reloa
         assert kept.recv(65536).startswith(b"HTTP/1.1 200 ")
         before = edge.workers(edge.desks)
         edge.desks.send_signal(signal.SIGUSR2)
-        until = time.monotonic() + PATIENCE
-        while not set(edge.workers(edge.desks)) - set(before):
-            assert time.monotonic() < until, "it isn't reloaded"
-            time.sleep(0.02)
+        eventually("a reload", lambda: set(edge.workers(edge.desks)) - set(before))
         time.sleep(0.5)
         kept.sendall(request)
         told = kept.recv(65536)

@@ -9,12 +9,10 @@ import socket
 import subprocess
 import threading
 import time
-import urllib.error
-import urllib.request
 
-import pytest
 
-from harness.processes import HOST, eventually
+from harness import http_client
+from harness.processes import eventually, wait_for
 
 
 class Polling:
@@ -276,8 +274,10 @@ def test_metrics_are_those_of_the_desk_and_promtool_reads_them(env):
     env.plan("ready", groups=1, start=False)
     size = env.api(f"/rest/v1/rollouts/{rollout}/deploygroups")["content"][0]["size"]
     needed = -(-size * 90 // 100)
-    url = f"http://{HOST}:{env.metrics_port}/metrics"
-    text = lambda: urllib.request.urlopen(url, timeout=10).read().decode()
+    ask = lambda fields=None: http_client.ask(
+        "GET", "/metrics", fields=fields, port=env.metrics_port
+    )
+    text = lambda: ask().text
     name = 'name="a \\"quoted\\" \\\\ name"'
     wanted = [
         "fwdesk_up 1",
@@ -293,16 +293,11 @@ def test_metrics_are_those_of_the_desk_and_promtool_reads_them(env):
         'fwdesk_held{kind="brake"} 0',
     ]
     missing = lambda: [it for it in wanted if it not in text().splitlines()]
-    until = time.monotonic() + 90
-    while missing():
-        assert time.monotonic() < until, (missing(), text())
-        time.sleep(1)
+    assert wait_for(lambda: not missing(), 90, 1), (missing(), text())
     assert f'needed{{rollout="{rollout}",group="2"' not in text()
     status = subprocess.run(
         ["promtool", "check", "metrics"], input=text(), text=True, capture_output=True
     )
     assert status.returncode == 0, status.stderr
     # what isn't this machine's own name is refused: a page elsewhere may ask a port of 127.0.0.1
-    asked = urllib.request.Request(url, headers={"Host": "evil.example"})
-    with pytest.raises(urllib.error.HTTPError):
-        urllib.request.urlopen(asked, timeout=10)
+    assert ask({"Host": "evil.example"}).status >= 400

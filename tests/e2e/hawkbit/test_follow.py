@@ -14,6 +14,7 @@ import pytest
 
 from harness.debian_machine import WITHIN, Debian, make_root
 from harness.processes import found
+from harness.tls import self_sign
 
 from . import stage
 from .test_units import NAME, ROOT, lines_of
@@ -32,11 +33,8 @@ def make_image(folder: Path) -> None:
         filename = "payload"; path = "/root/installed"; type = "rawfile";
         sha256 = "{hashlib.sha256(payload).hexdigest()}"; }} ); }}"""
     (folder / "sw-description").write_text(described)
-    key, crt = folder / "signer.key", folder / "signer.crt"
-    words = "openssl req -x509 -newkey rsa:2048 -nodes -days 2 -subj /CN=signer"
-    more = ["-addext", "extendedKeyUsage=emailProtection"]
-    files = ["-keyout", str(key), "-out", str(crt)]
-    subprocess.run([*words.split(), *more, *files], check=True, stderr=subprocess.DEVNULL)
+    use = "extendedKeyUsage=emailProtection"
+    key, crt = self_sign(folder, "signer", "/CN=signer", use, ("-newkey", "rsa:2048"))
     words = "openssl cms -sign -binary -nosmimecap -outform DER"
     files = ["-signer", str(crt), "-inkey", str(key), "-in", str(folder / "sw-description")]
     subprocess.run([*words.split(), *files, "-out", str(folder / "signed")], check=True)

@@ -8,6 +8,7 @@ from pathlib import Path
 
 import pytest
 from harness.tls import make_certificate
+from harness.nginx import write_frame
 from harness.processes import HOST, Processes, eventually, free_port, listens, with_places
 from .stage import ROOT, TLS, Link, login
 
@@ -83,16 +84,8 @@ def door(tmp_path_factory: pytest.TempPathFactory) -> Iterator[tuple[int, list[B
         },
     )
     (folder / "polls.conf").write_text(text)
-    kept = " ".join(
-        f"{it}_temp_path {folder}/{it};" for it in ("proxy", "fastcgi", "uwsgi", "scgi")
-    )
-    (folder / "nginx.conf").write_text(
-        f"daemon off; worker_processes 1; pid {folder}/nginx.pid; events {{}}\n"
-        f"http {{ access_log off; client_body_temp_path {folder}/body; {kept} include {folder}/polls.conf; }}\n"
-    )
     processes = Processes(folder)
-    words = ["nginx", "-p", str(folder), "-c", str(folder / "nginx.conf"), "-e", "stderr"]
-    child = processes.start("nginx", words)
+    child = processes.start("nginx", write_frame(folder, folder / "polls.conf"))
     eventually("nginx", lambda: listens(port), child=child)
     yield port, behind
     processes.end_all()
