@@ -1,10 +1,12 @@
 // The import of a file of devices: what it would change is asked first, and all that is wrong with a file that is refused is told.
-import {all, ask} from "./api.js";
+import {all, ask, askText} from "./api.js";
 import {field, h, p, settle, sure} from "./drawing.js";
 import {changesOf, HEADER, isUtf16, isUtf8, readFleet} from "./fleetfile.js";
 import {nodes, number, t} from "./language.js";
 import {LARGEST, tooLarge} from "./limits.js";
 
+/** So many bytes the proxy has read before it asks who sends them. */
+const READ_WHOLE = 8_192;
 // so many faults are told, and so many changes in the question
 const FAULTS = 500;
 const CHANGES = 8;
@@ -97,6 +99,10 @@ export function importForm(page) {
       if (!faults.length && !(await isWanted(devices))) {
         settle(told, [p("notice", t("import.left"))]);
         return;
+      }
+      if (file.size > READ_WHOLE) {
+        // (there is no such call) a browser sends its login along where it was asked for it; else the proxy refuses the file half-way
+        await askText("GET", "/desk/v1/import").catch(() => null);
       }
       const {accepted} = await ask("POST", "/desk/v1/import", file);
       settle(told, [p("notice ok", t("import.done", {devices: t("n.devices", {n: accepted})}))]);

@@ -146,6 +146,7 @@ def test_an_operators_day_takes_few_clicks(day, tmp_path):
         browser.link("Who changed what")
         browser.until("/start", "main table")
         browser.task("who pressed what", 2, 0)
-        assert not browser.faults()
+        # the file that is wrong is refused, and before a large one the login is asked for at its address
+        assert not [it for it in browser.faults() if "/desk/v1/import - Failed to load" not in it]
     finally:
         browser.end()
