@@ -561,7 +561,7 @@ export const DE = {
       "{n} Aktionen warten in nicht gestarteten Gruppen: danach noch einmal ausmustern.",
   "unit.tags": "{id} hat {most} Tags, mehr nimmt der Server nicht: zuerst einen entfernen.",
   "unit.changed": "{id} wurde inzwischen von jemand anderem geändert: Name und Tags ansehen.",
-  "refused.number": "Abgelehnt, Nummer {number}: {words}.{more}",
+  "refused.number": "Abgelehnt: {words} (Nummer {number}).{more}",
   "refused.lost": "Keine Antwort: {words}.{more}",
   "refused.plain": "Nicht getan: {words}.{more}",
   "refused.look": " Es ist getan oder nicht: nachsehen, bevor noch einmal gedrückt wird.",

@@ -553,7 +553,7 @@ export const EN = {
       "groups that haven't started: retire it again once they have.",
   "unit.tags": "{id} has {most} tags, and the server takes no more: remove one first.",
   "unit.changed": "{id} was changed by somebody else meanwhile: look at its name and tags.",
-  "refused.number": "Refused, number {number}: {words}.{more}",
+  "refused.number": "Refused: {words} (number {number}).{more}",
   "refused.lost": "No answer: {words}.{more}",
   "refused.plain": "Not done: {words}.{more}",
   "refused.look": " It may be done or not: look before you press again.",

@@ -109,7 +109,7 @@ def a_mending_rollout_that_asks(browser, env):
     )
     # the action of a device that finished meanwhile isn't canceled, and its name is told
     assert job_ended(browser).startswith("Cancel: 6 of 7 done.")
-    assert "dev-00004: Refused, number 8: the action has its outcome already." in browser.text(
+    assert "dev-00004: Refused: the action has its outcome already (number 8)." in browser.text(
         "#work"
     )
     browser.until("document.querySelector('[data-command=pause]')")
@@ -371,7 +371,7 @@ def tags_on_many(browser, env):
         browser, "#tag-matching button[value=put]", f"Puts the tag retry on {len(left)} devices."
     )
     assert job_ended(browser).startswith(f"Tag: retry: {len(left) - 1} of {len(left)} done.")
-    assert "dev-00007: Refused, number 10: a limit of the server is reached." in browser.text(
+    assert "dev-00007: Refused: a limit of the server is reached (number 10)." in browser.text(
         "#work"
     )
     tagged = [
@@ -386,7 +386,7 @@ def tags_on_many(browser, env):
     confirmed(browser, "#tag-pasted button[value=take]", "Takes the tag retry off 4 devices.")
     assert job_ended(browser).startswith("Untag: retry: 3 of 4 done.")
     assert (
-        "gone-1: Refused, number 3: there is nothing of this number or name (any more)."
+        "gone-1: Refused: there is nothing of this number or name (any more) (number 3)."
         in browser.text("#work")
     )
     tagged = [it for it in tagged if it not in ("dev-00002", "dev-00003", "dev-00004")]

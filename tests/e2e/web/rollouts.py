@@ -190,7 +190,7 @@ def approval(browser, env):
     env.api("POST", "/rest/v1/rollouts/2/approve")
     browser.click("#dialog-yes")
     browser.until("document.querySelector('#notice .bad')")
-    assert "Refused, number 7: the state doesn't allow it (any more)." in browser.text("#notice")
+    assert "Refused: the state doesn't allow it (any more) (number 7)." in browser.text("#notice")
     env.plan("winter", groups=2, start=False)
     entered(browser, env, "#/rollouts/3")
     confirmed(browser, "[data-command=deny]", "Denies winter for good")
@@ -230,7 +230,7 @@ def filters_that_are_refused(browser, env):
         )
     browser.until("document.querySelector('#plan').innerText.includes('fill')")
     entered(browser, env, "#/targets?q=tag%3D%3D")
-    assert "Refused, number 11" in browser.text("main")
+    assert "(number 11)" in browser.text("main")
 
 
 @case()

@@ -26,7 +26,7 @@ def an_import_with_a_wrong_line(browser, env):
         )
         is_shown = "document.querySelector('#import-told mark').innerText === arguments[1]"
         browser.until(f"{is_line} && {is_shown}", str(line), shown)
-        assert "Refused, number 14" in browser.text("#import-told")
+        assert "(number 14)" in browser.text("#import-told")
     assert env.api("GET", "/rest/v1/targets")["total"] == 0
     (env.folder / "right.csv").write_text(
         "controllerid,name,token,tags\n"
@@ -129,7 +129,7 @@ def imports_word_by_word(browser, env):
         assert (told[0], json.loads(told[2])["line"]) == (400, line), (name, told)
         browser.type("#import-file", str(env.folder / f"{name}.csv"))
         browser.click("details:has(#import-file) button")
-        said = f"Refused, number 14: a line of the file is wrong, and nothing of it was imported. {words}"
+        said = f"Refused: a line of the file is wrong, and nothing of it was imported (number 14). {words}"
         try:
             browser.until(
                 "document.querySelector('#import-told').innerText.replace(/\\s+/g, "
