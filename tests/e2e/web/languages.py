@@ -48,7 +48,7 @@ def the_browsers_language_and_the_switch(browser, env):
             assert all(it.lower() in shown for it in words), (place, words, shown[:600])
             assert browser.js("return document.documentElement.lang") == "de"
         entered(browser, env, "#/targets?q=name%3D%3D")
-        refused = "Abgelehnt, Nummer 11: der Filter ist nicht lesbar."
+        refused = "Abgelehnt: der Filter ist nicht lesbar (Nummer 11)."
         browser.until(f"document.querySelector('main').innerText.includes({json.dumps(refused)})")
         browser.js("localStorage.removeItem('fwdesk-language')")
     finally:
