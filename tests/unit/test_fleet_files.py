@@ -5,14 +5,12 @@ import random
 import re
 import shutil
 import subprocess
-import sys
 import tempfile
 from pathlib import Path
 
 from crate_graph import ROOT
 from harness.asserting import same
 
-sys.path.insert(0, str(ROOT / "cli"))
 from fwdesk_ctl import fleet_file
 from fwdesk_ctl.import_targets import changes_of
 
