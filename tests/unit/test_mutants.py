@@ -178,6 +178,22 @@ def test_which_bodies_are_asked_for():
     same(asked(["other"], ["gate"], ["desk/onehand"]), [False, True, True])
 
 
+def test_words_of_a_name_that_is_gone():
+    for words in (
+        "error: `returns`: record `Lts.After-self` has no field `run-reply` (nearest: .run)",
+        "error: `returns`: record `Rattle.desk.proofs.migrating.migrate.Lts.After-from` (nearest: .in_ok-run)",
+        "error: `returns`: `Lts.After-new` is not in scope",
+    ):
+        assert bodies.NAMES.search(words), words
+    assert not bodies.NAMES.search("error: `returns`: as printed, the two types first differ")
+    text = "pub returns : goal.returns\nreturns c = grind (c.in_ok-run.kept)\n"
+    for words in ("record `After` has no field `in_ok-run`", "record `After` (nearest: .in_ok)"):
+        same(
+            bodies.carried(text, [(2, 24, words)]),
+            "pub returns : goal.returns\nreturns c = grind ((search))\n",
+        )
+
+
 def test_the_record_of_whole_crates():
     with written(judged_txt="") as workdir:
         bodies.JUDGED, before = workdir / "judged.txt", bodies.JUDGED
