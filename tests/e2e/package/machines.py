@@ -88,7 +88,7 @@ def break_parts(tree: Path) -> None:
 
 
 def make_root_with_more() -> Path:
-    make_root(MORE, f"{WITHIN},certbot,pebble,ca-certificates,python3-cffi-backend,autopkgtest")
+    make_root(MORE, f"{WITHIN},certbot,pebble,ca-certificates,python3-cffi-backend,autopkgtest,dpkg-dev")
     return MORE
 
 

@@ -72,10 +72,15 @@ def test_it_is_installed_and_serves(debian, built):
     status, told = debian.does("fwdesk")
     assert status == 2 and "Usage: fwdesk" in told, told
     assert debian.gives("dpkg --verify fwdesk") == "", "its files aren't as they were packed"
+    desk = "/var/lib/private/fwdesk/desk.db"
+    assert debian.gives(f"sqlite3 file:{desk}?immutable=1 'PRAGMA page_size'") == "2048"
+    assert debian.gives(f"stat -c %a {desk}") == "600"
 
 
 def test_every_unit_is_installed_and_a_choice_is_disabled(debian):
     files = {it.name for it in (ROOT / "deploy/systemd").iterdir()}
+    # (those of hawkBit's clients are another package's, of tests/e2e/hawkbit/test_units.py)
+    files -= {it for it in files if it.startswith("fwdesk-hawkbit")}
     there = set(debian.gives("ls /lib/systemd/system").split())
     assert files <= there, files - there
     listed = debian.gives("systemctl list-unit-files --no-legend 'fwdesk*' 'haproxy-desks*'")
