@@ -18,7 +18,8 @@ ROOT = Path("/var/tmp/fwdesk-debian")
 DOCS = Path(__file__).resolve().parents[2] / "docs"
 # what it has beside its base
 WITHIN = (
-    "systemd,systemd-sysv,dbus,procps,curl,jq,sqlite3,python3,haproxy,nginx-light,openssl,socat"
+    "systemd,systemd-sysv,dbus,procps,curl,jq,sqlite3,python3,python3-aiohttp,haproxy,nginx-light,"
+    "openssl,socat"
 )
 # seconds until its first process is there, until systemd is up, and for one command
 FIRST, UP, COMMAND = 30, 90, 300
@@ -27,7 +28,8 @@ FIRST, UP, COMMAND = 30, 90, 300
 def make_root(root: Path = ROOT, within: str = WITHIN) -> None:
     """Makes the files, which takes some minutes, where they aren't there."""
     if root.is_dir():
-        assert (root / "usr/sbin/haproxy").is_file(), f"{root} has no HAProxy: remove it"
+        for it in ("usr/sbin/haproxy", "usr/lib/python3/dist-packages/aiohttp"):
+            assert (root / it).exists(), f"{root} has no {it}: remove it"
         return
     print(f"debootstrap makes {root}, which takes some minutes", flush=True)
     unfinished = root.with_name(f"{root.name}.unfinished")

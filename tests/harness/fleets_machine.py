@@ -17,7 +17,7 @@ from pathlib import Path
 from as_module import as_module
 from harness import ROOT, http_client
 from harness.debian_machine import ROOT as DEBIANS
-from harness.debian_machine import WITHIN, Debian, lines_of, make_root
+from harness.debian_machine import Debian, lines_of, make_root
 
 CLONE_NEWNET = 0x40000000
 # the Debian of tests/e2e/hawkbit, which has what its services need besides
@@ -91,7 +91,7 @@ class Machine(Debian):
     """The Debian with the package and both proxies, and this process within its network."""
 
     def __init__(self, root, program, operators):
-        make_root(root, f"{WITHIN},python3-aiohttp")
+        make_root(root)
         super().__init__(root)
         self.program, self.operators = program, operators
 

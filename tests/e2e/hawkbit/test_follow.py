@@ -12,7 +12,7 @@ from pathlib import Path
 
 import pytest
 
-from harness.debian_machine import WITHIN, Debian, make_root
+from harness.debian_machine import Debian, make_root
 from harness.processes import found
 from harness.tls import self_sign
 
@@ -64,7 +64,7 @@ def folder(tmp_path):
         pytest.skip(f"needs root, and {', '.join(lacks) or 'nothing else'}")
     words = [stage.ROOT / "tools/package", "--out", tmp_path, "--program", stage.PROGRAM, "--quick"]
     subprocess.run([str(it) for it in words], check=True, stdout=subprocess.DEVNULL)
-    make_root(ROOT, f"{WITHIN},python3-aiohttp")
+    make_root(ROOT)
     make_image(tmp_path)
     copy_swupdate(tmp_path)
     return tmp_path

@@ -12,7 +12,7 @@ from pathlib import Path
 import pytest
 
 from . import stage
-from harness.debian_machine import WITHIN, Debian, make_root
+from harness.debian_machine import Debian, make_root
 
 ROOT = Path("/var/tmp/fwdesk-hawkbit-debian")
 NAME = "desk.example"
@@ -73,7 +73,7 @@ def machine(tmp_path_factory):
     folder = tmp_path_factory.mktemp("debs")
     words = [stage.ROOT / "tools/package", "--out", folder, "--program", stage.PROGRAM, "--quick"]
     subprocess.run([str(it) for it in words], check=True, stdout=subprocess.DEVNULL)
-    make_root(ROOT, f"{WITHIN},python3-aiohttp")
+    make_root(ROOT)
     with Machine(ROOT, folder) as made:
         made.set_up()
         yield made

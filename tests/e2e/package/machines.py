@@ -88,7 +88,9 @@ def break_parts(tree: Path) -> None:
 
 
 def make_root_with_more() -> Path:
-    make_root(MORE, f"{WITHIN},certbot,pebble,ca-certificates,python3-cffi-backend,autopkgtest,dpkg-dev")
+    make_root(
+        MORE, f"{WITHIN},certbot,pebble,ca-certificates,python3-cffi-backend,autopkgtest,dpkg-dev"
+    )
     return MORE
 
 

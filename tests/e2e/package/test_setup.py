@@ -60,6 +60,7 @@ def test_from_the_package_to_an_updated_device(server, packages, capsys):
 def test_autopkgtest_passes(packages):
     """As Debian runs debian/tests, on a machine that is thrown away: so what asks for one is granted."""
     with Server(root=make_root_with_more(), share=packages.folder) as machine:
+        machine.gives("echo '127.0.0.1 localhost' >> /etc/hosts")
         packed = ["tar", "-C", str(ROOT), "-cz", "debian"]
         source = subprocess.run(packed, stdout=subprocess.PIPE, check=True).stdout
         machine.gives("mkdir /srv/source && tar -C /srv/source -xz", source)
