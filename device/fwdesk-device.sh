@@ -52,11 +52,16 @@ get() {
   jq -r --arg name "$1" '.[$name] // empty' "$state"
 }
 
-# keep FILTER [ARGUMENTS OF JQ]: changes the state, whole or not at all
+# put: what $state.new has becomes the state, whole or not at all
+put() {
+  sync "$state.new" && mv "$state.new" "$state" && sync "$folder"
+}
+
+# keep FILTER [ARGUMENTS OF JQ]: changes the state
 keep() {
   filter=$1
   shift
-  jq -cS "$@" "$filter" "$state" > "$state.new" && sync "$state.new" && mv "$state.new" "$state" && sync "$folder"
+  jq -cS "$@" "$filter" "$state" > "$state.new" && put
 }
 
 # begin ACTION: begins an action anew, without anything of the one before
@@ -338,9 +343,10 @@ wait_for() {
 # nobody else works here: no other client, and no installation that outlived its client
 exec 9> "$folder/lock"
 flock -n 9 || { say "another process is at work here, and is waited for" && flock 9; }
-jq -e 'type == "object"' "$state" > "$folder/reply" 2>&1 || {
+# (jq takes an empty file for a good one, unless it is asked how many things are in it)
+jq -es 'length == 1 and (.[0] | type == "object")' "$state" > "$folder/reply" 2>&1 || {
   [ ! -e "$state" ] || say "$state can't be read, and is begun anew"
-  echo '{}' > "$state"
+  echo '{}' > "$state.new" && put || exit 2
 }
 if [ -n "$once" ]; then
   while go_on; do

@@ -219,13 +219,14 @@ def test_what_is_canceled_or_held_during_the_download_is_not_installed(desk, top
     assert device.installed() == [] and desk.action(device.name)["status"] == "canceled"
 
 
-def test_a_device_whose_state_is_lost_goes_on_with_free_numbers(desk, topology, device):
+@pytest.mark.parametrize("text", ["{no json", "", "[]"])
+def test_a_device_whose_state_is_lost_goes_on_with_free_numbers(desk, topology, device, text):
     topology.faults = [("status", "GET", "1.bin", 503)]
     assert device.run().returncode == 1
     shutil.rmtree(device.folder / "state")
     topology.faults = [("status", "GET", "1.bin", 503)]
     assert device.run().returncode == 1
-    (device.folder / "state/state.json").write_text("{no json")
+    (device.folder / "state/state.json").write_text(text)
     assert device.run().returncode == 0
     assert device.installed() == ["0.bin", "1.bin"]
     assert desk.action(device.name)["status"] == "finished"
