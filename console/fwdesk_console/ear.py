@@ -12,9 +12,10 @@ from .clock import Clock
 from .store import Store
 from .texts import clean
 
-# HAProxy quotes a name (`%{+Q,+E}`). One datagram is one record, so a line feed in a name makes no second one
+# HAProxy quotes a name (`%{+Q,+E}`), and has `unix` or `-` for the address of who asks by a socket of the machine. One datagram is one
+# record, so a line feed in a name makes no second one
 LINE = re.compile(
-    r'audit (\d{3}|-1) ([0-9a-fA-F.:]{2,45}|-) (?:"((?:[^"\\]|\\.){0,400})"|(-)) ([A-Z]{1,10}) (\S{1,4000})(?: fleet=(\S{0,64}))?\n?',
+    r'audit (\d{3}|-1) ([0-9a-fA-F.:]{2,45}|unix|-) (?:"((?:[^"\\]|\\.){0,400})"|(-)) ([A-Z]{1,10}) (\S{1,4000})(?: fleet=(\S{0,64}))?\n?',
     re.S,
 )
 REPORT = re.compile(

@@ -203,8 +203,8 @@ def test_it_outlasts_a_mount_that_is_late_or_read_only(debian):
     serves(debian)
 
 
-def test_it_tells_metrics(debian):
-    """A text for Prometheus, and none where nobody answers."""
+def test_it_starts_a_rollout(debian):
+    """Of a name with quotes, which the tests behind it look at."""
     put_one = '[{"controllerId":"dev-01","name":"Pump 1","securityToken":"tok-dev-01","tags":[]}]'
     half = {"condition": "THRESHOLD", "expression": "50"}
     rollout = {"name": 'a "quoted" \\ name', "distributionSetId": 1, "targetFilterQuery": "name==*"}
@@ -217,19 +217,6 @@ def test_it_tells_metrics(debian):
     ):
         debian.gives(f"{ASK}/rest/v1/{path} -f -d @-", body.encode())
     debian.gives(f"{ASK}/rest/v1/rollouts/1/start -f -X POST")
-    told = "curl -fsS http://127.0.0.1:8407/metrics"
-    is_counted = lambda: "fwdesk_targets 1" in debian.does(told)[1].splitlines()
-    assert debian.until(is_counted, 90), debian.does(f"{told}; journalctl -u fwdesk-console -n 20")
-    text = debian.gives(told)
-    for line in (
-        "fwdesk_orders_waiting 0",
-        'fwdesk_rollout{rollout="1",name="a \\"quoted\\" \\\\ name",status="running"} 1',
-        'fwdesk_group_targets{rollout="1",group="1",outcome="size"} 1',
-    ):
-        assert line in text.splitlines(), text
-    if shutil.which("promtool"):
-        checked = ["promtool", "check", "metrics"]
-        subprocess.run(checked, input=f"{text}\n", text=True, check=True, stderr=subprocess.STDOUT)
 
 
 def test_its_command_line_steers_it(debian):
@@ -259,6 +246,23 @@ def test_its_proxy_tells_who_changed_what(debian):
     debian.gives("sleep 8; systemctl reload haproxy; sleep 3")
     after = int(debian.gives(seen))
     assert before - 60_000 < after < before - 1000, (before, after)
+
+
+def test_it_tells_metrics(debian):
+    """A text for Prometheus, by the console that fwdesk-setup has enabled."""
+    told = "curl -fsS http://127.0.0.1:8407/metrics"
+    is_counted = lambda: "fwdesk_targets 1" in debian.does(told)[1].splitlines()
+    assert debian.until(is_counted, 90), debian.does(f"{told}; journalctl -u fwdesk-console -n 20")
+    text = debian.gives(told)
+    for line in (
+        "fwdesk_orders_waiting 0",
+        'fwdesk_rollout{rollout="1",name="a \\"quoted\\" \\\\ name",status="running"} 1',
+        'fwdesk_group_targets{rollout="1",group="1",outcome="size"} 1',
+    ):
+        assert line in text.splitlines(), text
+    if shutil.which("promtool"):
+        checked = ["promtool", "check", "metrics"]
+        subprocess.run(checked, input=f"{text}\n", text=True, check=True, stderr=subprocess.STDOUT)
 
 
 def test_holds_outlast_restarts_and_kills(debian):
