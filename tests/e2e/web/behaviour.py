@@ -323,7 +323,7 @@ def a_failed_store(browser, env):
     browser.click("#upload button")
     browser.until("document.querySelector('#banner [data-key=store]')")
     assert (
-        "number 16: the server's database failed; the command may be kept or not."
+        "the server's database failed; the command may be kept or not (number 16)."
         in browser.text("#banner")
     )
     env.server.wait(10)
