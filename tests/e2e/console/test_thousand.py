@@ -1,0 +1,79 @@
+"""A desk that has all the rollouts of its life, with one browser and nineteen that ask as its page does: what runs is told, the views
+are drawn in time, and the desk is asked as little as with a few."""
+import threading
+import time
+
+import pytest
+from harness.processes import eventually
+
+from .environment import Environment
+from .test_large import LIMIT, TRIES, seconds_to
+
+ROLLOUTS = 1000
+# what the console may ask the desk in a minute: the list of rollouts by two pages each ten seconds, the groups of each that isn't over
+# each thirty, devices and firmware now and then
+REQUESTS = 60
+VIEWS = (
+    ("#/now", "Now", "last of all"),
+    ("#/rollouts", "Rollouts", "last of all"),
+    (f"#/rollouts/{ROLLOUTS}", "last of all", "Group 1"),
+    ("#/history", "History", "last of all"),
+)
+
+
+@pytest.fixture(scope="module")
+def full(tmp_path_factory):
+    made = Environment(tmp_path_factory.mktemp("full"))
+    made.make_fleet(ROLLOUTS + 10)
+    for number in range(1, ROLLOUTS):
+        # of one device each, whose success ends it
+        made.plan(f"old {number}", groups=1, text=f"controllerid==dev-{number:05d}")
+        made.report(f"dev-{number:05d}", number, "success", "done")
+    last = made.plan("last of all", groups=2, error=20, text="controllerid==dev-010*")
+    assert last == ROLLOUTS
+    known = lambda: ROLLOUTS in {it["id"] for it in made.state()["rollouts"]}
+    eventually("the last rollout is known", known, 60)
+    yield made
+    made.end()
+
+
+def test_what_runs_is_told_among_a_thousand(full, open_browser):
+    browser = open_browser(full, "#/firmware")
+    browser.until("pump", "main")
+    slow = {}
+    for address, title, words in VIEWS:
+        times = sorted(seconds_to(browser, address, title, words) for _ in range(TRIES))
+        print(f"{address}: {times[0]:.2f} s, {times[TRIES // 2]:.2f} s in the middle")
+        if times[0] >= LIMIT:
+            slow[address] = times
+    assert not slow, slow
+    over = threading.Event()
+
+    def page():
+        tag = ""
+        while not over.wait(2):
+            _, fields, _ = full.ask("/fwdesk/state", fields={"If-None-Match": tag})
+            tag = fields["etag"]
+
+    threads = [threading.Thread(target=page) for _ in range(19)]
+    for it in threads:
+        it.start()
+    try:
+        time.sleep(10)
+        before = full.desk_requests()
+        time.sleep(60)
+        asked = full.desk_requests() - before
+        began = time.monotonic()
+        full.fail(ROLLOUTS, 2)
+        browser.go(f"#/rollouts/{ROLLOUTS}")
+        browser.until("by itself", "main .cause", seconds=30)
+        seconds = time.monotonic() - began
+    finally:
+        over.set()
+        for it in threads:
+            it.join()
+    print(
+        f"20 pages: {asked} requests a minute to the desk; a pause is there after {seconds:.1f} s"
+    )
+    assert asked <= REQUESTS and seconds < 20
+    assert not browser.faults()
