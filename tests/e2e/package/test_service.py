@@ -350,7 +350,7 @@ def test_the_console_remembers_a_pause_and_tells_it_to_prometheus(debian):
     assert "was paused by somebody on the machine" in log, log
     unit = "systemctl show fwdesk-console -p MainPID --value"
     before = debian.gives(unit)
-    debian.gives("systemctl kill -s KILL fwdesk-console")
+    debian.gives("systemctl kill --kill-whom=main -s KILL fwdesk-console")
     assert debian.until(lambda: debian.gives(unit) not in (before, "0"), 30)
     assert debian.until(paused, 60)
     assert exposure(debian, "fwdesk-console.service") <= 1.1
