@@ -23,7 +23,7 @@ ASK_SCRIPT = b"""#!/bin/sh
 path=$1
 shift
 near=/run/fwdesk/edge.sock
-if systemctl -q is-active haproxy && [ -S "$near" ]; then set -- --unix-socket "$near" "$@"; fi
+if systemctl -q is-active haproxy-desks && [ -S "$near" ]; then set -- --unix-socket "$near" "$@"; fi
 exec curl -sS --max-time 60 "http://127.0.0.1:8080$path" "$@"
 """
 ASK = "sh /tmp/ask "
@@ -356,7 +356,7 @@ def test_the_console_remembers_a_pause_and_tells_it_to_prometheus(debian):
     assert exposure(debian, "fwdesk-console.service") <= 1.1
     # (a console that begins anew looks at devices and at the certificate some seconds later)
     texts = lambda: debian.gives(told).splitlines()
-    for line in ('fwdesk_silent_targets{hours="24"} 0', "fwdesk_up 1", "fwdesk_certificate_ends{"):
+    for line in ('fwdesk_silent_targets{hours="24"} ', "fwdesk_up 1", "fwdesk_certificate_ends{"):
         is_there = lambda line=line: any(it.startswith(line) for it in texts())
         assert debian.until(is_there, 60), (line, texts())
     debian.gives("fwdesk-ctl resume 1")
