@@ -80,15 +80,21 @@ def seconds_to(browser, address, title, words):
     return eventually(f"{address} is drawn", seen, 30) / 1000
 
 
+def slow_views(browser, views):
+    """The views that take too long, with their times. The machine may have something else to do in between: the best of some
+    tells what a view takes."""
+    slow = {}
+    for address, title, words in views:
+        times = sorted(seconds_to(browser, address, title, words) for _ in range(TRIES))
+        print(f"{address}: {times[0]:.2f} s, {times[TRIES // 2]:.2f} s in the middle")
+        if times[0] >= LIMIT:
+            slow[address] = times
+    return slow
+
+
 def test_views_are_drawn_in_time(large, open_browser):
     browser = open_browser(large, "#/firmware")
     browser.until("pump", "main")
-    slow = {}
-    for address, title, words in VIEWS:
-        times = sorted(seconds_to(browser, address, title, words) for _ in range(TRIES))
-        print(f"{address}: {times[0]:.2f} s, {times[TRIES // 2]:.2f} s in the middle")
-        # the machine may have something else to do in between: the best of some tells what the view takes
-        if times[0] >= LIMIT:
-            slow[address] = times
+    slow = slow_views(browser, VIEWS)
     assert not slow, slow
     assert not browser.faults()

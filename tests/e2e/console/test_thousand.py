@@ -7,7 +7,7 @@ import pytest
 from harness.processes import eventually
 
 from .environment import Environment
-from .test_large import LIMIT, TRIES, seconds_to
+from .test_large import slow_views
 
 ROLLOUTS = 1000
 # what the console may ask the desk in a minute: the list of rollouts by two pages each ten seconds, the groups of each that isn't over
@@ -40,12 +40,7 @@ def full(tmp_path_factory):
 def test_what_runs_is_told_among_a_thousand(full, open_browser):
     browser = open_browser(full, "#/firmware")
     browser.until("pump", "main")
-    slow = {}
-    for address, title, words in VIEWS:
-        times = sorted(seconds_to(browser, address, title, words) for _ in range(TRIES))
-        print(f"{address}: {times[0]:.2f} s, {times[TRIES // 2]:.2f} s in the middle")
-        if times[0] >= LIMIT:
-            slow[address] = times
+    slow = slow_views(browser, VIEWS)
     assert not slow, slow
     over = threading.Event()
 
