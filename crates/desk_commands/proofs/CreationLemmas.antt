@@ -22,26 +22,35 @@ use Rattle.target_filter.specs.Meaning.{holds}
 use Rattle.campaign_core.specs.declared.rollout_checks.plans.NewRollout.{NewRollout}
 use Rattle.campaign_core.specs.declared.rollout_checks.plans.PlanView.{PlanView}
 use Rattle.desk_records.specs.declared.target_row.ListedTarget.{ListedTarget}
+use Rattle.desk_reads.proofs.AskedTargets.{holds_asked}
 use Rattle.desk_reads.proofs.ListedTargets.{part_seen}
+use Rattle.desk_reads.specs.Targets.{IsNamedBy, asked_listed}
+use Rattle.desk_reads.specs.declared.targets.Asked.{Asked}
+use Rattle.std.specs.Prelude.{Option}
+use Rattle.std.specs.Option.{IsSomeAnd}
 use Rattle.desk_commands.specs.declared.creation.Chosen.{Chosen}
 use Rattle.desk_commands.proofs.ArtifactLemmas.{last_there}
 use Rattle.desk_commands.proofs.PutLemmas.{one_more}
 
 -- ---- the members
 
--- its id is added where it matches
-pub id_matched : (r : Records) (f : Tree) (entry : ListedTarget) (is_match : Bool) → is_match ≡ holds f (target_listed r entry)
-    → ids_matching f (target_listed r entry ∷ []) ≡ cond is_match (entry.id ∷ []) []
-id_matched r f entry is_match is = grind (arith, is)
-
-ids_grow : (f : Tree) (ts us : List SeenTarget) → ids_matching f (ts ++ us) ≡ ids_matching f ts ++ ids_matching f us
+pub ids_grow : (f : Tree) (ts us : List SeenTarget) → ids_matching f (ts ++ us) ≡ ids_matching f ts ++ ids_matching f us
 ids_grow f ts us = grind (arith, filter-append, map-append)
 
--- of one more
-pub one_more_matched : (r : Records) (f : Tree) (entries : List ListedTarget) (entry : ListedTarget) (items more : List Bytes)
-    → items ≡ ids_matching f (map (target_listed r) entries) → more ≡ items ++ ids_matching f (target_listed r entry ∷ [])
-    → more ≡ ids_matching f (map (target_listed r) (entries ++ entry ∷ []))
-one_more_matched r f entries entry items more is one = grind (arith, map-append, ids_grow)
+-- its id is added where it matches
+pub one_matched : (o : Option Tree) (f : Tree) (t : SeenTarget) (is_match : Bool) → IsSomeAnd o (λ f. is_match ≡ holds f t) → o ≡ Some f
+    → ids_matching f (t ∷ []) ≡ cond is_match (t.id ∷ []) []
+one_matched o f t is_match computed tree = let matched : is_match ≡ holds f t = (rw tree at computed) in grind (arith, matched)
+
+-- of targets of which is known what the filter names
+same_ids : (r : Records) (f : Tree) (asked : Asked) → IsNamedBy f asked → (ls : List ListedTarget) → ids_matching f (map (asked_listed r asked) ls)
+    ≡ ids_matching f (map (target_listed r) ls)
+same_ids r f asked named [] = refl
+same_ids r f asked named (l ∷ ls) = grind (arith, same_ids r f asked named ls, holds_asked r asked l f named)
+
+pub ids_asked : (r : Records) (f : Tree) (asked : Asked) → IsNamedBy f asked → (ls : List ListedTarget) (ts : List SeenTarget) (ids : List Bytes)
+    → ts ≡ map (asked_listed r asked) ls → ids ≡ ids_matching f ts → ids ≡ ids_matching f (map (target_listed r) ls)
+ids_asked r f asked named ls ts ids is matched = matched ∙ ap (ids_matching f) is ∙ same_ids r f asked named ls
 
 ids_seen : (f : Tree) (ts : List Target) → ids_matching f (map seen ts) ≡ chosen (Some f) ts
 ids_seen f [] = refl

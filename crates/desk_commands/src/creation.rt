@@ -1,6 +1,7 @@
 //! Rollouts: creating one.
 
-ghost use Rattle.std.specs.Prelude.{◌≡◌, ◌≤◌, ◌+◌, ◌++◌, [], ◌∷◌, length, map, IfOk, IfSome, Some};
+ghost use Rattle.std.specs.Prelude.{◌≡◌, ◌≤◌, ◌++◌, [], ◌∷◌, length, IfErr, IfOk, IfSome, Some};
+ghost use Rattle.sql_calls.specs.declared.fault.Fault.TheVariants.{Memory};
 ghost use Rattle.rollout_machine.specs.Commands.{CreateRollout};
 ghost use Rattle.rollout_machine.specs.GroupRules.{rules_of};
 ghost use Rattle.rollout_machine.specs.Groupings.{cut_by};
@@ -8,7 +9,6 @@ ghost use Rattle.rollout_machine.specs.Rollouts.{chosen};
 ghost use Rattle.target_filter.specs.Grammar.{Tree};
 ghost use Rattle.target_filter.specs.Profile.{filter_of};
 ghost use Rattle.campaign_core.specs.RolloutChecks.{IsPlanView};
-ghost use Rattle.desk_reads.specs.Targets.{parts_named, target_listed};
 ghost use Rattle.desk_commands.specs.Creations.{CreatesRollout, IsChosen, IsWordOf, ids_matching, in_part, shown_new};
 ghost use Rattle.desk_store.specs.Changing.{FindsIn, MakesLedger, StaysIn};
 ghost use Rattle.desk_commands.specs.Changing.{StepsIn};
@@ -18,11 +18,11 @@ ghost use Rattle.desk_store.specs.Failing.{WritesIn};
 
 use crate::step::Step;
 use campaign_core::{NewRollout, PlanView, cut_grouping, new_rollout};
-use desk_reads::{named_by, read_asked};
-use desk_store::{Fault, ListedTarget, OpenChange};
+use desk_reads::{named_by, read_all_asked};
+use desk_store::{Fault, OpenChange};
 use rollout_machine::Bounds;
 use rollout_model::{
-    Approval, ControllerId, FilterText, Page, Reply, Rollout, RolloutPlan, RolloutWord,
+    Approval, ControllerId, FilterText, Page, Reply, Rollout, RolloutPlan, RolloutWord, Target,
 };
 use sqlite::Alter;
 use std::alloc::{AllocError, Global};
@@ -37,52 +37,42 @@ pub(crate) struct Chosen {
     pub members: Vec<ControllerId>,
 }
 
-/// Adds a target to the members, if it matches. No more is read of it than the filter names.
-fn add_if_match<S: Alter>(
-    change: &mut OpenChange<'_, S>,
+/// Adds a target to the members, if it matches.
+fn add_if_match(
     filter: &Filter,
-    entry: ListedTarget,
+    target: &Target,
     members: &mut Vec<ControllerId>,
 ) -> Result<(), Fault>
-    ensures stays { StaysIn S.Store change.old change.new result }
-    ensures reads { FindsIn S.Store change.old change.new result
-        (λ r _. (f : Tree) → filter_of filter.now ≡ Some f → members.new.items ≡ members.old.items ++ ids_matching f (target_listed r entry ∷ [])) }
-    ensures fails { FailsAtListsIn S.Store change.old change.new result }
-    ensures work { change.new.store.now.calls.work.statements ≤ change.old.store.now.calls.work.statements + parts_named (filter_of filter.now) }
+    ensures ok { IfOk result (λ _. (f : Tree) → filter_of filter.now ≡ Some f → members.new.items ≡ members.old.items ++ ids_matching f (target.now ∷ [])) }
+    ensures err { IfErr result (λ fault. fault ≡ Memory) }
 {
-    let id = entry.id;
-    let asked = named_by(filter);
-    let target = read_asked(change, entry, asked)?;
-    let matches = filter.matches(&target);
+    let matches = filter.matches(target);
     if !matches {
         return Ok(());
     }
-    match members.push(id) {
+    match members.push(target.id) {
         Ok(()) => Ok(()),
         Err(_) => Err(Fault::Memory),
     }
 }
 
 /// Those of the targets that match.
-fn matching<S: Alter>(
+fn matching(
     alloc: Global,
-    change: &mut OpenChange<'_, S>,
     filter: &Filter,
-    entries: Vec<ListedTarget>,
+    targets: Vec<Target>,
 ) -> Result<Vec<ControllerId>, Fault>
-    ensures stays { StaysIn S.Store change.old change.new result }
-    ensures reads { FindsIn S.Store change.old change.new result
-        (λ r members. (f : Tree) → filter_of filter.now ≡ Some f → members.items ≡ ids_matching f (map (target_listed r) entries.items)) }
-    ensures fails { FailsAtListsIn S.Store change.old change.new result }
+    ensures ok { IfOk result (λ members. (f : Tree) → filter_of filter.now ≡ Some f → members.items ≡ ids_matching f targets.items) }
+    ensures err { IfErr result (λ fault. fault ≡ Memory) }
 {
     let mut members = Vec::new(alloc);
-    for entry in entries {
-        add_if_match(change, filter, entry, &mut members)?;
+    for target in targets {
+        add_if_match(filter, &target, &mut members)?;
     }
     Ok(members)
 }
 
-/// All targets that match.
+/// All targets that match. No more is read of them than the filter names.
 fn all_matching<S: Alter>(
     alloc: Global,
     change: &mut OpenChange<'_, S>,
@@ -95,7 +85,9 @@ fn all_matching<S: Alter>(
 {
     let limit = change.read_target_count()?;
     let entries = change.read_targets(Page { offset: 0, limit })?;
-    let members = matching(alloc, change, filter, entries)?;
+    let asked = named_by(filter);
+    let targets = read_all_asked(change, entries, asked)?;
+    let members = matching(alloc, filter, targets)?;
     Ok(members)
 }
 

@@ -1,7 +1,7 @@
 -- Targets of which some is asked for, and what a filter names.
 use Rattle.desk_reads.proofs.Common.{◌≡◌, ◌+◌, Bool, true, false, [], List, Option, Some, None, refl, ap, ◌∙◌, Records, attributes_of, tags_of, target_of}
 use Rattle.desk_reads.proofs.Common.{arith, Bytes, Attribute}
-use Rattle.std.specs.Prelude.{cond, not}
+use Rattle.std.specs.Prelude.{cond, map, not, ◌∷◌}
 use Rattle.std.specs.Option.{IsSomeAnd}
 use Rattle.rollout_model.specs.declared.target.Target.{Target}
 use Rattle.target_filter.proofs.Naming.{holds_alike}
@@ -55,6 +55,17 @@ module _ (r : Records) (asked : Asked) (listed : ListedTarget) where
     attributes = swapped asked.attributes [] (attributes_of (target_of r listed.id)) i;
   })
 
+  -- .. where its tags are known
+  pub tagged_is : (t : Target) (tags : List Bytes) → t ≡ record { id = listed.id; name = listed.name; tags = tags; attributes = [] }
+      → tags ≡ cond asked.tags (tags_of (target_of r listed.id)) []
+      → with_rest r (record { tags = true; attributes = not asked.attributes }) t ≡ asked_listed r asked listed
+  tagged_is t tags bare its = ap (with_rest r (record { tags = true; attributes = not asked.attributes })) bare ∙ (λ i. record {
+    id = listed.id;
+    name = listed.name;
+    tags = its i;
+    attributes = swapped asked.attributes [] (attributes_of (target_of r listed.id)) i;
+  })
+
   -- with the rest it is whole
   pub whole_is : with_rest r asked (asked_listed r asked listed) ≡ target_listed r listed
   whole_is = λ i. record {
@@ -73,9 +84,22 @@ module _ (r : Records) (asked : Asked) (listed : ListedTarget) where
     attributes = λ e. chosen_where asked.attributes (names_attributes f) (attributes_of (target_of r listed.id)) [] named.attributes e;
   })
 
--- .. so that it matches where the whole target does
-pub matched_is : (r : Records) (asked : Asked) (listed : ListedTarget) (o : Option Tree) (f : Tree) (t : Target) (matched : Bool)
-    → IsSomeAnd o (λ f. IsNamedBy f asked) → IsSomeAnd o (λ f. matched ≡ holds f t) → o ≡ Some f → t ≡ asked_listed r asked listed → matched
-    ≡ holds f (target_listed r listed)
-matched_is r asked listed o f t matched named computed tree is =
-    (rw tree at computed) ∙ ap (holds f) is ∙ holds_asked r asked listed f (named_of o asked f named tree)
+-- ---- a target of which is known what a filter names
+
+kept_where : {X : Type 0} (b c : Bool) (x y : X) → b ≡ c → c ≡ true → x ≡ cond b x y
+kept_where b c x y e h = grind arith
+
+-- it matches where it matches with the rest
+pub rest_matched : (r : Records) (asked : Asked) (o : Option Tree) (f : Tree) (t : Target) (matched : Bool) → IsNamedBy f asked
+    → IsSomeAnd o (λ f. matched ≡ holds f t) → o ≡ Some f → matched ≡ holds f (with_rest r asked t)
+rest_matched r asked o f t matched named computed tree = (rw tree at computed) ∙ holds_alike f t (with_rest r asked t) (record {
+  id = refl;
+  name = refl;
+  tags = λ e. kept_where asked.tags (names_tags f) t.tags (tags_of (target_of r t.id)) named.tags e;
+  attributes = λ e. kept_where asked.attributes (names_attributes f) t.attributes (attributes_of (target_of r t.id)) named.attributes e;
+})
+
+-- the listed targets, as far as they are asked for, with the rest
+pub all_whole : (r : Records) (asked : Asked) (ls : List ListedTarget) → map (with_rest r asked) (map (asked_listed r asked) ls) ≡ map (target_listed r) ls
+all_whole r asked [] = refl
+all_whole r asked (l ∷ ls) = λ i. whole_is r asked l i ∷ all_whole r asked ls i

@@ -4,6 +4,7 @@ pub mod ListLemmas
 pub mod RuleLemmas
 pub mod ListedTargets
 pub mod AskedTargets
+pub mod OwnTags
 pub mod KnownDevices
 pub mod HistoryKept
 pub mod TargetRules

@@ -33,3 +33,13 @@ module _ {S : Type 0} (g : Ghosts S) where
   -- what reads: where such a ledger is seen and can be read, a failed store is a call that failed
   abbrev pub FailsAtListsIn : {A : Type 0} → OpenChange S → OpenChange S → Result A Fault → Type 0
   FailsAtListsIn = FailsGiven g IsOfList
+
+-- the ledger is that of a list of accepted commands, whose records are as wanted
+pub record IsOfListWith (Want : Records → Type 0) (l : Ledger) : Type 0 where
+  pub of_list : IsOfList l
+  pub wanted : Want l.records
+
+module _ {S : Type 0} (g : Ghosts S) where
+  -- .. where these are as wanted
+  abbrev pub FailsWith : {A : Type 0} → (Records → Type 0) → OpenChange S → OpenChange S → Result A Fault → Type 0
+  FailsWith Want = FailsGiven g (IsOfListWith Want)

@@ -1,12 +1,18 @@
 -- Targets as they are read.
-use Rattle.std.specs.Prelude.{◌≡◌, ℕ, ◌+◌, cond, [], Option, Some, None}
+use Rattle.std.specs.Prelude.{◌≡◌, ◌⊎◌, ℕ, ◌+◌, Bool, true, ◌-◌, cond, length, List, [], ◌∷◌, map, slice_get, Option, Some, None}
+use Rattle.std.specs.Int.{div_ceil}
+use Rattle.std.specs.List.{AllByRecursion}
+use Rattle.std.specs.Option.{IsSomeAnd}
 use Rattle.rollout_machine.specs.Records.{Records}
 use Rattle.rollout_machine.specs.Verdicts.{tags_of, target_of}
 use Rattle.rollout_model.specs.declared.target.Target.{Target}
 use Rattle.target_filter.specs.Grammar.{Tree}
 use Rattle.target_filter.specs.Names.{names_attributes, names_tags}
-use Rattle.desk_records.specs.Targets.{attributes_of}
+use Rattle.rollout_machine.specs.ByteStrings.{same_bytes}
+use Rattle.rollout_machine.specs.Commands.{Bytes}
+use Rattle.desk_records.specs.Targets.{attributes_of, in_byte_order}
 use Rattle.desk_records.specs.declared.target_row.ListedTarget.{ListedTarget}
+use Rattle.desk_records.specs.declared.target_row.OwnedTag.{OwnedTag}
 use Rattle.desk_reads.specs.declared.targets.Asked.{Asked}
 
 -- a target that was listed, with the tags and attributes of its id
@@ -43,6 +49,34 @@ with_rest r asked t = record {
   attributes = cond asked.attributes t.attributes (attributes_of (target_of r t.id));
 }
 
+-- ---- the tags of many targets
+
+abbrev pub listed_ids : List ListedTarget → List Bytes
+listed_ids ls = map (λ (l : ListedTarget). l.id) ls
+
+-- those of the tags that are of the target of an id
+abbrev pub own : Bytes → List OwnedTag → List Bytes
+own id [] = []
+own id (o ∷ os) = cond (same_bytes o.id id) (o.tag ∷ own id os) (own id os)
+
+-- of each target they are all of its tags, or none
+pub record AreOwned (r : Records) (owned : List OwnedTag) : Type 0 where
+  pub whole : (id : Bytes) → (own id owned ≡ tags_of (target_of r id)) ⊎ (own id owned ≡ [])
+
+-- the listed target's own are its tags, where they are wanted, and else none
+abbrev pub HasItsTags : Records → Bool → List OwnedTag → ListedTarget → Type 0
+HasItsTags r wanted owned l = own l.id owned ≡ cond wanted (tags_of (target_of r l.id)) []
+
+-- the ids of the first and of the last
+pub record AreEnds (listed : List ListedTarget) (first last : Bytes) : Type 0 where
+  pub starts : IsSomeAnd (slice_get listed 0) (λ (l : ListedTarget). first ≡ l.id)
+  pub ends : IsSomeAnd (slice_get listed (length listed - 1)) (λ (l : ListedTarget). last ≡ l.id)
+
+-- what is read of them all: each whole, and those of each that was listed, where these come in byte order
+pub record AreTagsOf (r : Records) (wanted : Bool) (listed : List ListedTarget) (owned : List OwnedTag) : Type 0 where
+  pub owned_whole : AreOwned r owned
+  pub each : in_byte_order (listed_ids listed) ≡ true → AllByRecursion (HasItsTags r wanted owned) listed
+
 -- ---- how many statements it takes
 
 abbrev pub parts_asked : Asked → ℕ
@@ -55,3 +89,7 @@ parts_left asked = cond asked.tags 0 1 + cond asked.attributes 0 1
 abbrev pub parts_named : Option Tree → ℕ
 parts_named None = 0
 parts_named (Some f) = cond (names_tags f) 1 0 + cond (names_attributes f) 1 0
+
+-- of so many targets: the tags of up to 32 by one statement, the attributes of each by one
+abbrev pub parts_listed : Asked → ℕ → ℕ
+parts_listed asked size = cond asked.tags (div_ceil size 32) 0 + cond asked.attributes size 0

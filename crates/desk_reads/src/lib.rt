@@ -7,4 +7,4 @@ mod targets;
 
 pub use crate::devices::knows_device;
 pub use crate::rollouts::{SeenRollout, read_seen_rollout, size_of};
-pub use crate::targets::{Asked, named_by, read_asked, read_listed, read_rest};
+pub use crate::targets::{Asked, named_by, read_all_asked, read_asked, read_listed, read_rest};

@@ -26,6 +26,7 @@ pub mod SetRecords
 pub mod WholeArtifacts
 pub mod ArtifactRecords
 pub mod TargetRecords
+pub mod TagsBetween
 pub mod AttributeRecords
 pub mod RolloutRecords
 pub mod ActionRecords

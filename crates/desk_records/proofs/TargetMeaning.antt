@@ -1,9 +1,9 @@
 -- Written by tools/gen/sql-proofs. What it makes is proved; the tool is not trusted.
 -- What the texts of src/target_texts.rt mean, wherever their tables stand.
-use Rattle.desk_records.proofs.Common.{refl, List, [], ◌∷◌, codes, false, Null, Values, Term, lit, col, simple}
-use Rattle.desk_records.specs.declared.target_texts.TheConstants.{GET_TARGET, COUNT_TARGETS, LIST_TARGETS, LIST_TARGET_TAGS, PUT_TARGET, SET_TARGET, PUT_TARGET_TAG, DROP_TARGET_TAG, LIST_TARGET_ATTRIBUTES, PUT_TARGET_ATTRIBUTE, SET_TARGET_ATTRIBUTE}
+use Rattle.desk_records.proofs.Common.{refl, List, [], ◌∷◌, ℕ, codes, pos, negsuc, false, Null, Int, Binary, Values, Query, Term, lit, col, simple, by}
+use Rattle.desk_records.specs.declared.target_texts.TheConstants.{GET_TARGET, COUNT_TARGETS, LIST_TARGETS, LIST_TARGET_TAGS, LIST_TAGS_BETWEEN, PUT_TARGET, SET_TARGET, PUT_TARGET_TAG, DROP_TARGET_TAG, LIST_TARGET_ATTRIBUTES, PUT_TARGET_ATTRIBUTE, SET_TARGET_ATTRIBUTE}
 use Rattle.desk_records.specs.Schema.{Targets, TargetTags, TargetAttributes}
-use Rattle.desk_records.proofs.MeaningWords.{compiling, Asks, Counts, Puts, Changes, Drops, at_key, in_order, changing, no_limit, no_offset}
+use Rattle.desk_records.proofs.MeaningWords.{compiling, Asks, Counts, Puts, Changes, Drops, at_key, at_least, at_most, in_order, changing, no_limit, no_offset}
 
 abbrev pub of_target : List Term
 of_target = at_key 1 0 ∷ []
@@ -22,6 +22,18 @@ list_targets_is = unfold compiling in record { queries = λ tree. record { parse
 
 pub list_target_tags_is : Asks TargetTags LIST_TARGET_TAGS.now (in_order 2 false of_target (col 1 2 ∷ []) no_limit no_offset) (codes "tag" ∷ [])
 list_target_tags_is = unfold compiling in record { queries = λ tree. record { parsed = _; select = _; source = _; page = _; shown = _; read = refl; is = (refl, refl, refl, refl); core = (refl, refl, refl); from = (refl, refl, refl, refl, refl); shows = (tt, tt); filter = ((refl, λ cx how x y. refl), tt, tt); sorts = (tt, tt); paged = λ s. refl; named = (refl, refl); becomes = (refl, (refl, refl, refl)) }; shape = λ tree. refl }
+
+abbrev pub between_ids : List Term
+between_ids = at_least 1 0 ∷ at_most 1 1 ∷ []
+
+abbrev pub owned_tag_columns : List Term
+owned_tag_columns = col 1 1 ∷ col 1 2 ∷ []
+
+abbrev pub tags_between : ℕ → Query
+tags_between tree = by (simple tree between_ids owned_tag_columns) ((col 1 1, record { descending = false; collation = Binary }) ∷ (col 1 2, record { descending = false; collation = Binary }) ∷ []) (lit (Int (negsuc 0))) (lit (Int (pos 0)))
+
+pub list_tags_between_is : Asks TargetTags LIST_TAGS_BETWEEN.now tags_between (codes "controller" ∷ codes "tag" ∷ [])
+list_tags_between_is = unfold compiling in record { queries = λ tree. record { parsed = _; select = _; source = _; page = _; shown = _; read = refl; is = (refl, refl, refl, refl); core = (refl, refl, refl); from = (refl, refl, refl, refl, refl); shows = (tt, (tt, tt)); filter = ((refl, λ cx how x y. refl), ((refl, λ cx how x y. refl), tt, tt), ((refl, λ cx how x y. refl), tt, tt)); sorts = (tt, (tt, tt)); paged = λ s. refl; named = (refl, refl); becomes = (refl, (refl, refl, refl)) }; shape = λ tree. refl }
 
 abbrev pub target_terms : List Term
 target_terms = lit Null ∷ col 0 0 ∷ col 0 1 ∷ col 0 2 ∷ []

@@ -14,6 +14,7 @@ pub use Rattle.desk_records.specs.declared.artifact_row.StoredArtifact.{StoredAr
 pub use Rattle.rollout_model.specs.declared.artifact.Artifact.{Artifact}
 pub use Rattle.desk_records.specs.declared.target_row.StoredTarget.{StoredTarget}
 pub use Rattle.desk_records.specs.declared.target_row.ListedTarget.{ListedTarget}
+pub use Rattle.desk_records.specs.declared.target_row.OwnedTag.{OwnedTag}
 pub use Rattle.rollout_model.specs.declared.target.Attribute.{Attribute}
 pub use Rattle.desk_records.specs.declared.rollout_row.StoredRollout.{StoredRollout}
 pub use Rattle.rollout_machine.specs.declared.records.GroupRecord.{GroupRecord}
@@ -60,6 +61,11 @@ pub record IsStoredTargetRow (row : Row) (x : StoredTarget) : Type 0 where
 pub record IsListedTargetRow (row : Row) (x : ListedTarget) : Type 0 where
   pub id : column row 0 ≡ Text x.id
   pub name : column row 1 ≡ Text x.name
+
+-- the row of controller, tag of target_tag
+pub record IsOwnedTagRow (row : Row) (x : OwnedTag) : Type 0 where
+  pub id : column row 0 ≡ Text x.id
+  pub tag : column row 1 ≡ Text x.tag
 
 -- the row of key, value of target_attribute
 pub record IsAttributeRow (row : Row) (x : Attribute) : Type 0 where
@@ -149,6 +155,9 @@ broken_stored_target_column row = first_broken ((has_text (column row 0), rule.T
 abbrev pub broken_listed_target_column : Row → Option Column
 broken_listed_target_column row = first_broken ((has_word (column row 0), rule.TargetId) ∷ (has_text (column row 1), rule.TargetName) ∷ [])
 
+abbrev pub broken_owned_tag_column : Row → Option Column
+broken_owned_tag_column row = first_broken ((has_word (column row 0), rule.TargetId) ∷ (has_word (column row 1), rule.TargetTag) ∷ [])
+
 abbrev pub broken_attribute_column : Row → Option Column
 broken_attribute_column row = first_broken ((has_word (column row 0), rule.AttributeKey) ∷ (has_value (column row 1), rule.AttributeValue) ∷ [])
 
@@ -208,6 +217,9 @@ shown_stored_target x = Text x.name ∷ Blob x.digest ∷ []
 abbrev pub shown_listed_target : ListedTarget → Row
 shown_listed_target x = Text x.id ∷ Text x.name ∷ []
 
+abbrev pub shown_owned_tag : OwnedTag → Row
+shown_owned_tag x = Text x.id ∷ Text x.tag ∷ []
+
 abbrev pub shown_attribute : Attribute → Row
 shown_attribute x = Text x.key ∷ Text x.value ∷ []
 
@@ -258,6 +270,9 @@ columns_of_stored_target row = column row 2 ∷ column row 3 ∷ []
 
 abbrev pub columns_of_listed_target : Row → Row
 columns_of_listed_target row = column row 1 ∷ column row 2 ∷ []
+
+abbrev pub columns_of_owned_tag : Row → Row
+columns_of_owned_tag row = column row 1 ∷ column row 2 ∷ []
 
 abbrev pub columns_of_attribute : Row → Row
 columns_of_attribute row = column row 2 ∷ column row 3 ∷ []

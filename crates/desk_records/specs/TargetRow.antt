@@ -1,7 +1,10 @@
 -- What rows of targets are read as.
+use Rattle.std.specs.Prelude.{List, map}
+use Rattle.rollout_machine.specs.Commands.{Bytes}
 use Rattle.rollout_machine.specs.Targets.{Target}
 use Rattle.desk_records.specs.declared.target_row.StoredTarget.{StoredTarget}
 use Rattle.desk_records.specs.declared.target_row.ListedTarget.{ListedTarget}
+use Rattle.desk_records.specs.declared.target_row.OwnedTag.{OwnedTag}
 
 -- without its id, tags and attributes
 abbrev pub stored_target : Target → StoredTarget
@@ -10,3 +13,7 @@ stored_target t = record { name = t.name; digest = t.digest }
 -- its id and name alone
 abbrev pub listed_target : Target → ListedTarget
 listed_target t = record { id = t.id; name = t.name }
+
+-- its tags, each with its id
+abbrev pub owned_tags : Target → List OwnedTag
+owned_tags t = map (λ (w : Bytes). record { id = t.id; tag = w }) t.tags

@@ -1,5 +1,5 @@
 -- Targets in records and in rows.
-use Rattle.std.specs.Prelude.{◌≡◌, ◌&&◌, Bool, true, false, List, [], ◌∷◌, map, Option, Some, None, is_some}
+use Rattle.std.specs.Prelude.{◌≡◌, ◌&&◌, Bool, true, false, not, List, [], ◌∷◌, filter, map, Option, Some, None, is_some}
 use Rattle.std.specs.List.{list_all}
 use Rattle.sqlite_value.specs.declared.value.Value.TheVariants.{Text, Blob}
 use Rattle.sqlite_value.specs.Order.{Row}
@@ -50,6 +50,14 @@ are_sorted ts = in_byte_order (ids_of ts) && list_all is_sorted ts
 abbrev pub attributes_of : Option Target → List Attribute
 attributes_of None = []
 attributes_of (Some t) = t.attributes
+
+-- the target's id is not below the first and not above the last
+abbrev pub is_between : Bytes → Bytes → Target → Bool
+is_between first last t = not (bytes_below t.id first) && not (bytes_below last t.id)
+
+-- the targets from an id to another
+abbrev pub targets_between : Bytes → Bytes → Records → List Target
+targets_between first last r = filter (is_between first last) r.targets
 
 -- ---- what is written
 

@@ -3,11 +3,11 @@
 
 ghost use Rattle.std.specs.Prelude.{◌≡◌, ◌⊎◌, IfOk, IfErr, None, Some};
 ghost use Rattle.desk_records.specs.ReadRows.{IsArtifactRow, IsAttributeRow, IsGroupRow, IsLastNumberRow, IsListedActionRow, IsListedTargetRow};
-ghost use Rattle.desk_records.specs.ReadRows.{IsModuleLabelRow, IsNumberRow, IsOfferRow, IsRuleRow, IsSetNameRow, IsStoredActionRow, IsStoredArtifactRow};
-ghost use Rattle.desk_records.specs.ReadRows.{IsStoredRolloutRow, IsStoredTargetRow, broken_artifact_column, broken_attribute_column, broken_group_column};
-ghost use Rattle.desk_records.specs.ReadRows.{broken_last_number_column, broken_listed_action_column, broken_listed_target_column};
-ghost use Rattle.desk_records.specs.ReadRows.{broken_module_label_column, broken_number_column, broken_offer_column, broken_rule_column};
-ghost use Rattle.desk_records.specs.ReadRows.{broken_set_name_column, broken_stored_action_column, broken_stored_artifact_column};
+ghost use Rattle.desk_records.specs.ReadRows.{IsModuleLabelRow, IsNumberRow, IsOfferRow, IsOwnedTagRow, IsRuleRow, IsSetNameRow, IsStoredActionRow};
+ghost use Rattle.desk_records.specs.ReadRows.{IsStoredArtifactRow, IsStoredRolloutRow, IsStoredTargetRow, broken_artifact_column, broken_attribute_column};
+ghost use Rattle.desk_records.specs.ReadRows.{broken_group_column, broken_last_number_column, broken_listed_action_column, broken_listed_target_column};
+ghost use Rattle.desk_records.specs.ReadRows.{broken_module_label_column, broken_number_column, broken_offer_column, broken_owned_tag_column};
+ghost use Rattle.desk_records.specs.ReadRows.{broken_rule_column, broken_set_name_column, broken_stored_action_column, broken_stored_artifact_column};
 ghost use Rattle.desk_records.specs.ReadRows.{broken_stored_rollout_column, broken_stored_target_column};
 
 use crate::artifact_row::{StoredArtifact, digest_at, filename_at, own_number_at, size_at};
@@ -20,7 +20,7 @@ use crate::number_row::{LastNumber, PlacedNumber};
 use crate::rollout_row::{ListedAction, StoredAction, StoredRollout, ToldPlan, filter_at};
 use crate::set_row::SetName;
 use crate::table_columns::Column;
-use crate::target_row::{ListedTarget, StoredTarget, id_at, value_at, word_at};
+use crate::target_row::{ListedTarget, OwnedTag, StoredTarget, id_at, value_at, word_at};
 use rollout_machine::{Bounds, GroupRecord};
 use rollout_model::{Artifact, Attribute, GroupRule, ModuleLabel, Offer};
 use sqlite::Row;
@@ -109,6 +109,17 @@ pub fn read_listed_target(alloc: Global, row: &Row) -> Result<ListedTarget, RowF
     let id = id_at(row, 0, Column::TargetId)?;
     let name = text_at(alloc, row, 1, Column::TargetName)?;
     Ok(ListedTarget { id, name })
+}
+
+/// What a row of controller, tag says. Takes no memory.
+pub fn read_owned_tag(row: &Row) -> Result<OwnedTag, RowFault>
+    ensures ok { IfOk result (IsOwnedTagRow row.now) }
+    ensures kept { IfOk result (λ it. broken_owned_tag_column row.now ≡ None) }
+    ensures err { IfErr result (λ e. (c : _) × (e ≡ RowFault.Broken c) × (broken_owned_tag_column row.now ≡ Some c)) }
+{
+    let id = id_at(row, 0, Column::TargetId)?;
+    let tag = word_at(row, 1, Column::TargetTag)?;
+    Ok(OwnedTag { id, tag })
 }
 
 /// What a row of key, value says.

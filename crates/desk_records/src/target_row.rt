@@ -27,6 +27,13 @@ pub struct ListedTarget {
     pub name: Text,
 }
 
+/// A tag, with the id of the target that has it.
+#[derive(Clone, Copy, Drop)]
+pub struct OwnedTag {
+    pub id: ControllerId,
+    pub tag: Word,
+}
+
 /// The member of a rollout in a row of its id. Takes no memory.
 pub fn read_member(row: &Row) -> Result<ControllerId, RowFault>
     ensures ok { IfOk result (λ id. column row.now 0 ≡ StoredText id) }

@@ -70,14 +70,13 @@ pub use Rattle.desk_store.specs.Rows.{IfRowsBroken}
 pub use Rattle.desk_reads.proofs.ListLemmas.{group_within, groups_are, made}
 pub use Rattle.desk_reads.proofs.ListedTargets.{all_given, part_seen}
 pub use Rattle.desk_reads.proofs.RuleLemmas.{rule_is, rule_there, rules_there, said_of, same_number}
-pub use Rattle.desk_reads.specs.AtLists.{AreOfList, FailsAtListsIn, FindsAtListsIn, IsOfList}
+pub use Rattle.desk_reads.specs.AtLists.{AreOfList, FailsAtListsIn, FailsWith, FindsAtListsIn, IsOfList, IsOfListWith}
 pub use Rattle.desk_reads.specs.Rollouts.{IsSeenOf}
 pub use Rattle.desk_reads.specs.Targets.{target_listed}
 pub use Rattle.desk_reads.specs.declared.rollouts.SeenRollout.{SeenRollout}
 pub use Rattle.desk_views.specs.Actions.{entry_by, listed_shown, number_at, reports_of, shown_among, shown_in, stored_in}
 pub use Rattle.desk_views.specs.Contents.{contents_found}
 pub use Rattle.desk_views.specs.Downloads.{downloadable, named, or_not_found}
-pub use Rattle.desk_views.specs.Failing.{FailsWith, IsOfListWith}
 pub use Rattle.desk_views.specs.Groups.{HasUnshown, IsGroupOf}
 pub use Rattle.desk_views.specs.Sizes.{IsOfName}
 pub use Rattle.desk_views.specs.TargetWords.{ending_of, has_begun, is_begun, last_ended}

@@ -1,17 +1,12 @@
 -- Why a view of a list of accepted commands is no failed store by itself.
-use Rattle.desk_views.proofs.Common.{◌≡◌, ◌≤◌, ℕ, List, length, None, Result, Ok, Err, IfErr, ap, arith, Broken, number_of, Records, HoldsLedger, Ledger}
-use Rattle.desk_views.proofs.Common.{ledger_of, seen_in, FindsIn, IsReadable, IfRowsBroken, IsOfList, AreOfList, item_numbered, Fault, IsOfListWith, IsErrAnd}
+use Rattle.desk_views.proofs.Common.{◌≡◌, ◌≤◌, ℕ, List, length, None, Result, Ok, IfErr, arith, Broken, number_of, Records, HoldsLedger, Ledger}
+use Rattle.desk_views.proofs.Common.{ledger_of, FindsIn, IsReadable, IfRowsBroken, IsOfList, AreOfList, item_numbered, Fault, IsErrAnd}
 use Rattle.std.proofs.lemmas.Option.{slice_get_cases}
 use Rattle.sqlite.specs.Store.{Ghosts}
-use Rattle.sql_calls.specs.Standing.{Wears}
 use Rattle.desk_records.proofs.NumberColumns.{is_in_range}
 use Rattle.desk_store.specs.Breaking.{BreaksOnly}
 use Rattle.desk_store.specs.Failing.{FailsGiven, nothing}
 use Rattle.desk_store.specs.declared.change.OpenChange.{OpenChange}
-
--- the ledger of such records
-pub listed : {r : Records} → AreOfList r → IsOfList (ledger_of r)
-listed of = record { list = of.list; valid = of.valid; is = ap ledger_of of.are }
 
 -- where broken rows are always told so
 pub told : {Why : Type 0} → (fault : Fault) → (fault ≡ Broken) × Why → IfRowsBroken fault Why
@@ -26,14 +21,6 @@ module _ {S A : Type 0} {g : Ghosts S} {Given : Ledger → Type 0} (at : (l : Le
       → ((r : Records) → P r x → AreOfList r → Given (ledger_of r) → IsReadable (ledger_of r) → Why → ⊥)
       → (out : Result B Fault) → IsErrAnd out (λ other. other ≡ fault) → FailsGiven g Given old new out
   never_fails read fault why reason out is = grind arith
-
-  -- what is wanted of a call's records is known by what was read before it
-  pub fails_when : {B C : Type 0} {Want : Records → Type 0} {mid new : OpenChange S} → FindsIn g {E = Fault} old mid (Ok x) P
-      → Wears (seen_in g mid) (seen_in g new)
-      → (fault : Fault) → FailsGiven g (IsOfListWith Want) {A = C} mid new (Err fault)
-      → ((r : Records) → P r x → AreOfList r → Given (ledger_of r) → Want r) → (out : Result B Fault) → IsErrAnd out (λ other. other ≡ fault)
-      → FailsGiven g Given old new out
-  fails_when read wears fault fails means out is = grind (arith, listed)
 
 -- ---- where the answer is a call's
 

@@ -12,6 +12,8 @@ use Rattle.rollout_model.specs.declared.request.Reply.TheVariants as reply
 use Rattle.rollout_model.specs.declared.target.Target.{Target as SeenTarget}
 use Rattle.target_filter.specs.Meaning.{holds}
 use Rattle.desk_records.specs.Targets.{are_sorted}
+use Rattle.desk_reads.specs.Targets.{with_rest}
+use Rattle.desk_reads.specs.declared.targets.Asked.{Asked}
 
 -- ---- what is found by its id
 
@@ -41,10 +43,10 @@ module _ (r : Records) where
     pub matching_join : (ts us : List SeenTarget) → matching_shown r f (ts ++ us) ≡ matching_shown r f ts ++ matching_shown r f us
     matching_join ts us = ap (map (worded r)) (filter-append (holds f) ts us) ∙ map-append (worded r) (filter (holds f) ts) (filter (holds f) us)
 
-    pub matching_grow : (all : List ShownTarget) (entries : List ListedTarget) (entry : ListedTarget)
-        → (all ++ matching_shown r f (map (target_listed r) entries)) ++ matching_shown r f (target_listed r entry ∷ [])
-        ≡ all ++ matching_shown r f (map (target_listed r) (entries ++ entry ∷ []))
-    matching_grow all entries entry = grind (arith, append_assoc, map-append, matching_join)
+    pub rest_grow : (asked : Asked) (all : List ShownTarget) (ts : List SeenTarget) (t : SeenTarget)
+        → (all ++ matching_shown r f (map (with_rest r asked) ts)) ++ matching_shown r f (with_rest r asked t ∷ [])
+        ≡ all ++ matching_shown r f (map (with_rest r asked) (ts ++ t ∷ []))
+    rest_grow asked all ts t = grind (arith, append_assoc, map-append, matching_join)
 
     -- those of a chunk after those before it
     pub chunk_matched : are_sorted r.targets ≡ true → (offset n : ℕ) (entries : List ListedTarget) → entries

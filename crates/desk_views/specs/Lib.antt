@@ -6,5 +6,4 @@ pub mod Actions
 pub mod TargetWords
 pub mod Downloads
 pub mod Groups
-pub mod Failing
 pub mod Kept

@@ -7,9 +7,8 @@ ghost use Rattle.rollout_machine.specs.Answers.{artifact_of_module, query_reply}
 ghost use Rattle.rollout_machine.specs.ByteStrings.{item_numbered};
 ghost use Rattle.rollout_machine.specs.Requests.{ShowArtifacts, ShowArtifact, ShowContents};
 ghost use Rattle.rollout_machine.specs.Views.{reply_of};
-ghost use Rattle.desk_reads.specs.AtLists.{FailsAtListsIn};
+ghost use Rattle.desk_reads.specs.AtLists.{FailsAtListsIn, FailsWith};
 ghost use Rattle.desk_views.specs.Contents.{contents_found};
-ghost use Rattle.desk_views.specs.Failing.{FailsWith};
 ghost use Rattle.rollout_model.specs.Limits.{artifact_size_limit, piece_length};
 ghost use Rattle.rollout_model.specs.Rules.{is_contents};
 ghost use Rattle.sql_calls.specs.declared.fault.Fault.TheVariants.{Broken, Memory};

@@ -8,9 +8,8 @@ ghost use Rattle.rollout_machine.specs.Objects.{numbered, page_of};
 ghost use Rattle.rollout_machine.specs.Records.{Records, records};
 ghost use Rattle.rollout_machine.specs.Validity.{IsValid};
 ghost use Rattle.rollout_machine.specs.Views.{listed};
-ghost use Rattle.desk_reads.specs.AtLists.{AreOfList, FailsAtListsIn};
+ghost use Rattle.desk_reads.specs.AtLists.{AreOfList, FailsAtListsIn, FailsWith};
 ghost use Rattle.desk_store.specs.Changing.{FindsIn, StaysIn};
-ghost use Rattle.desk_views.specs.Failing.{FailsWith};
 
 use desk_store::{Fault, OpenChange};
 use rollout_model::{Number, Page, PageOf};

@@ -1,6 +1,6 @@
 //! Pages of targets: of all, or of those that match a filter.
 
-ghost use Rattle.std.specs.Prelude.{◌≡◌, ◌≤◌, ◌<◌, ◌^◌, ◌+◌, ◌++◌, [], ◌∷◌, List, length, map, take, IfOk, Some, None};
+ghost use Rattle.std.specs.Prelude.{◌≡◌, ◌≤◌, ◌<◌, ◌^◌, ◌+◌, ◌++◌, [], ◌∷◌, List, length, map, take, true, IfOk, Some, None};
 ghost use Rattle.rollout_machine.specs.Answers.{query_reply};
 ghost use Rattle.rollout_machine.specs.Filters.{seen};
 ghost use Rattle.rollout_machine.specs.Objects.{page_of};
@@ -9,15 +9,15 @@ ghost use Rattle.rollout_machine.specs.Views.{listed, reply_of};
 ghost use Rattle.rollout_model.specs.declared.shown_target.ShownTarget.{ShownTarget};
 ghost use Rattle.target_filter.specs.Grammar.{Tree};
 ghost use Rattle.target_filter.specs.Profile.{filter_of};
-ghost use Rattle.desk_reads.specs.AtLists.{FailsAtListsIn};
-ghost use Rattle.desk_views.specs.Failing.{FailsWith};
+ghost use Rattle.desk_reads.specs.AtLists.{FailsAtListsIn, FailsWith};
 ghost use Rattle.desk_views.specs.Targets.{matching_shown, worded};
-ghost use Rattle.desk_reads.specs.Targets.{parts_left, target_listed, with_rest};
+ghost use Rattle.desk_records.specs.Targets.{in_byte_order};
+ghost use Rattle.desk_reads.specs.Targets.{IsNamedBy, listed_ids, parts_left, target_listed, with_rest};
 ghost use Rattle.desk_store.specs.Changing.{FindsIn, StaysIn};
 
 use crate::pages::is_on;
 use crate::targets::with_word;
-use desk_reads::{Asked, named_by, read_asked, read_listed, read_rest};
+use desk_reads::{Asked, named_by, read_all_asked, read_listed, read_rest};
 use desk_store::{Fault, ListedTarget, OpenChange};
 use rollout_model::limits::TARGET_LIMIT;
 use rollout_model::{FilterText, Page, PageOf, Refusal, Reply, ShownTarget, Target};
@@ -155,7 +155,7 @@ fn add_chunk<S: Alter>(
     Ok(())
 }
 
-/// Adds to the page those of the targets that match.
+/// Adds to the page those of the listed targets that match. No more is read of them than the filter names, before they are on the page.
 fn add_matching<S: Alter>(
     change: &mut OpenChange<'_, S>,
     filter: &Filter,
@@ -165,33 +165,53 @@ fn add_matching<S: Alter>(
 ) -> Result<(), Fault>
     ensures stays { StaysIn S.Store change.old change.new result }
     ensures reads { FindsIn S.Store change.old change.new result
-        (λ now _. (f : Tree) → filter_of filter.now ≡ Some f → (all : List ShownTarget) → listed shown.old ≡ page_of page all
-        → listed shown.new ≡ page_of page (all ++ matching_shown now f (map (target_listed now) entries.items))) }
+        (λ now _. in_byte_order (listed_ids entries.items) ≡ true → (f : Tree) → filter_of filter.now ≡ Some f → (all : List ShownTarget)
+        → listed shown.old ≡ page_of page all → listed shown.new ≡ page_of page (all ++ matching_shown now f (map (target_listed now) entries.items))) }
     ensures fails { FailsWith S.Store (λ now. shown.old.total + length entries.items < 2 ^ 32) change.old change.new result }
 {
-    for entry in entries {
-        add_if_match(change, filter, page, entry, shown)?;
-    }
+    let asked = named_by(filter);
+    let targets = read_all_asked(change, entries, asked)?;
+    add_targets(change, filter, page, targets, asked, shown)?;
     Ok(())
 }
 
-/// Adds a target to the page, if it matches. Of a target that doesn't match, no more is read than the filter names.
-fn add_if_match<S: Alter>(
+/// Adds to the page those of the targets that match, of which is known what the filter names.
+fn add_targets<S: Alter>(
     change: &mut OpenChange<'_, S>,
     filter: &Filter,
     page: Page,
-    entry: ListedTarget,
+    targets: Vec<Target>,
+    asked: Asked,
     shown: &mut PageOf<ShownTarget>,
 ) -> Result<(), Fault>
     ensures stays { StaysIn S.Store change.old change.new result }
     ensures reads { FindsIn S.Store change.old change.new result
-        (λ now _. (f : Tree) → filter_of filter.now ≡ Some f → (all : List ShownTarget) → listed shown.old ≡ page_of page all
-        → listed shown.new ≡ page_of page (all ++ matching_shown now f (target_listed now entry ∷ []))) }
+        (λ now _. (f : Tree) → filter_of filter.now ≡ Some f → IsNamedBy f asked → (all : List ShownTarget) → listed shown.old ≡ page_of page all
+        → listed shown.new ≡ page_of page (all ++ matching_shown now f (map (with_rest now asked) targets.items))) }
+    ensures fails { FailsWith S.Store (λ now. shown.old.total + length targets.items < 2 ^ 32) change.old change.new result }
+{
+    for target in targets {
+        add_if_match(change, filter, page, target, asked, shown)?;
+    }
+    Ok(())
+}
+
+/// Adds a target to the page, if it matches.
+fn add_if_match<S: Alter>(
+    change: &mut OpenChange<'_, S>,
+    filter: &Filter,
+    page: Page,
+    target: Target,
+    asked: Asked,
+    shown: &mut PageOf<ShownTarget>,
+) -> Result<(), Fault>
+    ensures stays { StaysIn S.Store change.old change.new result }
+    ensures reads { FindsIn S.Store change.old change.new result
+        (λ now _. (f : Tree) → filter_of filter.now ≡ Some f → IsNamedBy f asked → (all : List ShownTarget) → listed shown.old ≡ page_of page all
+        → listed shown.new ≡ page_of page (all ++ matching_shown now f (with_rest now asked target ∷ []))) }
     ensures fails { FailsWith S.Store (λ now. shown.old.total + 1 < 2 ^ 32) change.old change.new result }
     ensures counts { IfOk result (λ _. shown.new.total ≤ shown.old.total + 1) }
 {
-    let asked = named_by(filter);
-    let target = read_asked(change, entry, asked)?;
     let matches = filter.matches(&target);
     if !matches {
         return Ok(());
