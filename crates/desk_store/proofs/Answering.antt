@@ -22,14 +22,14 @@ pub use Rattle.desk_store.proofs.GroupOfferCalls.{knows_put_group_offers}
 pub use Rattle.desk_store.proofs.Known.{in_ledgers, known}
 pub use Rattle.desk_store.proofs.LedgerReads.{both_mapped}
 pub use Rattle.desk_store.proofs.NextOfferCalls.{next_offer_read}
-pub use Rattle.desk_store.proofs.RawBlames.{all_blamed, count_blamed, last_blamed, long_action, no_offer, place_count_blamed}
+pub use Rattle.desk_store.proofs.RawBlames.{all_blamed, count_blamed, last_blamed, long_action, no_offer, place_count_blamed, two_blamed}
 pub use Rattle.desk_store.proofs.RawCalls.{count_read}
 pub use Rattle.desk_store.proofs.RawLists.{finds_first, finds_one, said_if_found, says_numbered, says_offer_of, says_stored, all_of, each_in_order, each_read}
 pub use Rattle.desk_store.proofs.RawLists.{judges_action, judges_artifact, judges_entry, judges_group, judges_number, kept_action, kept_artifact, kept_group}
 pub use Rattle.desk_store.proofs.RawLists.{kept_offer, rows_in_order, rows_read, says_action, says_artifact, says_entry, says_group, says_offer}
 pub use Rattle.desk_store.proofs.ReadLemmas.{all_at, first_at, few_asks, all_read, all_tell, first_tells, pick_more, read_mapped, reads_all, reads_last}
 pub use Rattle.desk_store.proofs.ReadLemmas.{reads_one, reads_whether, told_broken}
-pub use Rattle.desk_store.proofs.RolloutCalls.{approval_read, group_and_next_read, rollout_read, last_read}
+pub use Rattle.desk_store.proofs.RolloutCalls.{approval_read, group_and_next_read, never_three_groups, rollout_read, last_read}
 pub use Rattle.desk_store.proofs.RowFails.{approval_fails, count_fails, last_tells_only, last_fails, next_fails, no_key}
 pub use Rattle.desk_store.proofs.StayLemmas.{put_advances, read_keeps, read_stays}
 pub use Rattle.desk_store.proofs.TargetCalls.{rows_listed}
@@ -63,7 +63,8 @@ pub use Rattle.desk_records.specs.SetRow.{called}
 pub use Rattle.desk_records.specs.TableRows.{IsRollout}
 pub use Rattle.desk_records.specs.TargetRow.{stored_target}
 pub use Rattle.desk_store.specs.RawLists.{SaysListed, SaysNumber, SaysRule, SaysStored}
-pub use Rattle.desk_store.specs.Unreadable.{broken_entry, broken_number, broken_piece, broken_rollout, broken_rule, large_count}
+pub use Rattle.desk_store.specs.Unreadable.{broken_entry, broken_number, broken_piece, broken_rollout, broken_rule, large_count, two_actions, two_offers}
+pub use Rattle.desk_store.specs.Unreadable.{two_rollouts, two_rules}
 pub use Rattle.sql_calls.proofs.Ends.{begin_is, commit_is, rollback_is}
 pub use Rattle.sql_calls.proofs.FrameEnds.{begins, commits, fails_to_begin, gives_up}
 pub use Rattle.sql_calls.proofs.Framing.{ask_frames, few_frames, first_frames, run_frames}

@@ -1,6 +1,6 @@
 -- What a failed read of a table is blamed on.
 use Rattle.desk_store.proofs.FailLemmas.{told_alone, broken_so, from_table, tells_by}
-use Rattle.std.specs.Prelude.{◌&&◌}
+use Rattle.std.specs.Prelude.{◌&&◌, Err, filter}
 use Rattle.desk_store.proofs.Common.{◌≡◌, ◌≤◌, ◌<◌, ◌⊎◌, ◌^◌, inl, inr, ℕ, min, pos, negsuc, Bool, true, false, not, List, [], ◌∷◌, length, Option, Some, None}
 use Rattle.desk_store.proofs.Common.{Ok, Result, IfErr, Vec, refl, subst, arith, and_parts, nat_tests, number_in_good, number_in_is, Global, Value, Null, Int}
 use Rattle.desk_store.proofs.Common.{Row, column, Database, Query, Ghosts, lit, Has, Fault, AsksText, TakesFirst, ShowsFirst, passes, shown_of, Members, Place}
@@ -8,7 +8,7 @@ use Rattle.desk_store.proofs.Common.{Rollouts, HoldsTables, Tables, are_entries,
 use Rattle.desk_store.proofs.Common.{broken_offer_column, Offer, Column, StoredAction, LAST_ROLLOUT, LIST_PLACES, count_shown, list_places_is, of_rollout}
 use Rattle.desk_store.proofs.Common.{placed_columns, places_query, BlamesGiven, seen_in, HasBroken, HasNoNumber, IfRowsBroken, large_number, many_rows}
 use Rattle.desk_store.proofs.Common.{OpenChange, State, last_rollout_is, HasUnreadable, Reading, ReadsOf, Broken, Asks, Counts, counted_at}
-use Rattle.desk_store.proofs.Common.{columns_of_stored_action}
+use Rattle.desk_store.proofs.Common.{AsksFew, columns_of_stored_action, page}
 use Rattle.std.proofs.lemmas.List.Filters.{length-filter_both}
 use Rattle.sqlite.specs.Effect.{Reads as Shows}
 use Rattle.desk_records.specs.TableRows.{IsAction, IsOffer}
@@ -16,9 +16,10 @@ use Rattle.desk_store.proofs.BlameLemmas.{blamed, found_reading, unread}
 use Rattle.desk_records.specs.ReadRows.{columns_of_offer}
 use Rattle.desk_store.specs.Blaming.{HoldsReading}
 use Rattle.desk_store.specs.Breaking.{TellsOnly}
-use Rattle.desk_store.proofs.Known.{known, tables_know}
+use Rattle.desk_store.specs.Unreadable.{HasTwo}
+use Rattle.desk_store.proofs.Known.{answer_of, known, over, tables_know}
 use Rattle.desk_store.proofs.RawCalls.{count_shown as row_of_count}
-use Rattle.desk_store.proofs.ReadLemmas.{all_tell, first_tells}
+use Rattle.desk_store.proofs.ReadLemmas.{all_tell, first_tells, many_asks}
 use Rattle.desk_store.proofs.RawLists.{small_or_wide}
 use Rattle.desk_records.specs.declared.table_columns.Column.TheVariants as rule
 
@@ -38,6 +39,24 @@ module _ {p : Place} {sql : List ℕ} {query : ℕ → Query} {names : List (Lis
         (λ db t holds shows u is. from_table text params db t holds rows.items shows) h (Ok (tt {0})) tt) out
         (broken_so {Spoiled = HasBroken is_broken rows.items}
         (λ it reading of given. let its = of it.row it.among in blames reading its.0 its.1 (subst is_broken its.2 it.broken) given) out is)
+
+-- ---- two rows of one key
+
+module _ {p : Place} {sql : List ℕ} {query : ℕ → Query} {names : List (List ℕ)} (text : Asks p sql query names) {params : Row}
+    (whole : (tree : ℕ) (xs : List Row) → page (over query tree) params xs ≡ xs) {passing : Row → Bool}
+    (judged : (db : Database) (t : Tables) → HoldsTables db t → (row : Row) → Has (t p) row → passes (query 0).filter params row ≡ passing row) where
+  pub two_blamed : {S B : Type 0} {g : Ghosts S} {Given : Reading → Type 0} {old new : OpenChange S}
+      → AsksFew (seen_in g old) (seen_in g new) sql params 1 (Ok None)
+      → ((reading : Reading) → HasTwo (reading.tables p) passing → Given reading → HasUnreadable reading) → BlamesGiven g Given {A = B} old new (Err Broken)
+  two_blamed h blames =
+      let many = many_asks h in
+      blamed (all_tell (known text) {Answer = λ t u. HasTwo (t p) passing} {Read = λ u. Unit {0}}
+      (λ db t holds shows u is. omega (arith, many.2, counted db t holds many.0.items shows)) many.1 (Ok (tt {0})) tt) (Err Broken) blames
+    where
+      counted : (db : Database) (t : Tables) (holds : HoldsTables db t) (shown : List Row) → Shows (known text db t holds).command db params shown
+          → length shown ≡ length (filter passing (t p))
+      counted db t holds shown shows = count_shown _ _ _ _ _ _ params db.trees (t p) (holds.rows p) (whole (holds.spot p).tree) passing (judged db t holds)
+          shown (answer_of text holds shows)
 
 -- ---- rows of tables that were judged
 

@@ -29,7 +29,7 @@ use Rattle.desk_records.specs.declared.table_columns.Column.TheVariants as rule
 
 -- ---- any read of one table
 
-one_at_most : (rows : Vec Row Global) (answer : Result (Vec Row Global) Fault) → Ok rows ≡ few_of 1 answer → length rows.items ≤ 1
+one_at_most : (rows : Vec Row Global) (answer : Result (Vec Row Global) Fault) → Ok (Some rows) ≡ few_of 1 answer → length rows.items ≤ 1
 one_at_most rows answer e = grind (arith, nat_tests)
 
 module _ {p : Place} {sql : List ℕ} {query : ℕ → Query} {names : List (List ℕ)} (text : Asks p sql query names) {params : Row}
@@ -86,7 +86,7 @@ module _ {p : Place} {sql : List ℕ} {query : ℕ → Query} {names : List (Lis
         go db t holds shows None read = tt
 
   -- the only one that passes, or none does
-  pub finds_one : {old new : State} {rows : Vec Row Global} → AsksFew old new sql params 1 (Ok rows) → (out : Result (Option A) Fault)
+  pub finds_one : {old new : State} {rows : Vec Row Global} → AsksFew old new sql params 1 (Ok (Some rows)) → (out : Result (Option A) Fault)
       → IfOk out (λ found. IsReadAs is found (slice_get rows.items 0))
       → Finds HoldsTables (λ (t : Tables). t) old new out (λ t found. FindsOne (t p) passing says found)
   finds_one {rows = rows} h = all_tell (known text)

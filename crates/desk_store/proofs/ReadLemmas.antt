@@ -4,7 +4,7 @@ use Rattle.desk_store.proofs.Common.{Some, None, option_map, Ok, Result, IfErr, 
 use Rattle.desk_store.proofs.Common.{Global, Row, IsLastRow, Database, HasCleanDisk, IsUnchanged, State, Fault, AsksFew, AsksText, TakesFirst, Finds, Sees}
 use Rattle.desk_store.proofs.Common.{Wears, Known, Knows, ShowsFirst, ask_finds, first_finds, HoldsLedger, Ledger, HoldsTables, AreReadAs, HasBroken, Bool}
 use Rattle.desk_store.proofs.Common.{is_some, Place, Query, IfRowsBroken, IsReadAs, Asks}
-use Rattle.std.specs.Prelude.{IsErrAnd}
+use Rattle.std.specs.Prelude.{Err, IsErrAnd}
 use Rattle.std.proofs.lemmas.List.{take_more}
 use Rattle.std.proofs.lemmas.Slice.Zip.{all_zipped_more}
 use Rattle.sqlite.specs.Effect.{Reads as Shows}
@@ -66,7 +66,7 @@ rows_of_first command db params (Some row) shown = (row ∷ shown.0, refl, shown
 
 -- ---- what is found by the rows that a text shows
 
-few_kept : (most : ℕ) (rows : Vec Row Global) (answer : Result (Vec Row Global) Fault) → Ok rows ≡ few_of most answer → answer ≡ Ok rows
+few_kept : (most : ℕ) (rows : Vec Row Global) (answer : Result (Vec Row Global) Fault) → Ok (Some rows) ≡ few_of most answer → answer ≡ Ok rows
 few_kept most rows answer e = grind (arith, nat_tests)
 
 module _ {old new : State} {sql : List ℕ} {given params : Row} where
@@ -78,9 +78,19 @@ module _ {old new : State} {sql : List ℕ} {given params : Row} where
   all_at {rows} h same = subst (λ its. AsksText old new sql its (Ok rows)) same h
 
 -- few rows are all of them
-pub few_asks : {old new : State} {sql : List ℕ} {params : Row} {rows : Vec Row Global} {most : ℕ} → AsksFew old new sql params most (Ok rows)
+pub few_asks : {old new : State} {sql : List ℕ} {params : Row} {rows : Vec Row Global} {most : ℕ} → AsksFew old new sql params most (Ok (Some rows))
     → AsksText old new sql params (Ok rows)
 few_asks {rows = rows} {most = most} h = subst (AsksText _ _ _ _) (few_kept most rows h.answer h.few) h.asks
+
+-- none are given where there are more
+pub many_asks : {old new : State} {sql : List ℕ} {params : Row} {most : ℕ} → AsksFew old new sql params most (Ok None)
+    → (rows : Vec Row Global) × AsksText old new sql params (Ok rows) × (most < length rows.items)
+many_asks {old} {new} {sql} {params} {most} h = go h.answer h.asks h.few
+  where
+    go : (answer : Result (Vec Row Global) Fault) → AsksText old new sql params answer → Ok None ≡ few_of most answer
+        → (rows : Vec Row Global) × AsksText old new sql params (Ok rows) × (most < length rows.items)
+    go (Ok rows) asks few = (rows, asks, grind (arith, nat_tests))
+    go (Err fault) asks few = absurd cc
 
 module _ {R Q : Type 0} {Holds : Database → R → Type 0} {of : Q → R} {sql : List ℕ} {params : Row} {old new : State} (knows : Knows Holds sql)
     {A : Type 0} {Answer : Q → A → Type 0} {Read : A → Type 0} where
@@ -154,8 +164,9 @@ module _ {R : Type 0} (Holds : Database → R → Type 0) {sql : List ℕ} (para
   pub ask_sees : (rows : Vec Row Global) → AsksText old new sql params (Ok rows) → (r : R) → Sees Holds old r → Sees Holds new r
   ask_sees rows h = still_seen h.survives.clean (λ k clean. unchanged_by sql k.command params old new k.means rows.items (h.answers clean))
 
-  pub few_sees : (most : ℕ) (rows : Vec Row Global) → AsksFew old new sql params most (Ok rows) → (r : R) → Sees Holds old r → Sees Holds new r
-  few_sees most rows h = ask_sees rows (few_asks h)
+  pub few_sees : (most : ℕ) (found : Option (Vec Row Global)) → AsksFew old new sql params most (Ok found) → (r : R) → Sees Holds old r → Sees Holds new r
+  few_sees most None h = let many = many_asks h in ask_sees many.0 many.1
+  few_sees most (Some rows) h = ask_sees rows (few_asks h)
 
 -- .. of a ledger, by what is known of tables
 module _ {sql : List ℕ} (params : Row) (old new : State) (knows : Knows HoldsTables sql) where
@@ -165,6 +176,6 @@ module _ {sql : List ℕ} (params : Row) (old new : State) (knows : Knows HoldsT
   pub ask_keeps : (rows : Vec Row Global) → AsksText old new sql params (Ok rows) → (l : Ledger) → Sees HoldsLedger old l → Sees HoldsLedger new l
   ask_keeps = ask_sees HoldsLedger params old new (in_ledgers knows)
 
-  pub few_keeps : (most : ℕ) (rows : Vec Row Global) → AsksFew old new sql params most (Ok rows) → (l : Ledger) → Sees HoldsLedger old l
+  pub few_keeps : (most : ℕ) (found : Option (Vec Row Global)) → AsksFew old new sql params most (Ok found) → (l : Ledger) → Sees HoldsLedger old l
       → Sees HoldsLedger new l
   few_keeps = few_sees HoldsLedger params old new (in_ledgers knows)

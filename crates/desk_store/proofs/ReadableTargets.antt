@@ -2,7 +2,6 @@
 use Rattle.desk_store.proofs.Common.{◌≡◌, ◌<◌, ◌^◌, ℕ, pos, true, Option, None, Some, List, [], ◌∷◌, length, sym, ap, subst, ◌∙◌, arith, list_all, and_parts}
 use Rattle.desk_store.proofs.Common.{length-map, Row, Int, Text, test_has, Has, is_word, Bytes, Records, Target, ledger_of, Actions, Artifacts, Feedbacks}
 use Rattle.desk_store.proofs.Common.{Groups, Members, Numbers, Offers, Place, Rollouts, Targets, Column, has_mapped, BreaksColumn, IsReadable}
-use Rattle.std.proofs.Common.{true≢false}
 use Rattle.sql_calls.proofs.Counts.{length_held}
 use Rattle.rollout_model.specs.Pairs.{is_attribute}
 use Rattle.rollout_model.specs.Rules.{is_digest, is_text}
@@ -31,7 +30,7 @@ module _ (r : Records) (w : IsReadable (ledger_of r)) (ts : List Target) (keep :
   of_target n x keeps h3 = grind (arith, unbroken)
 
   of_tag : (n : ℕ) (x : Target) (tag : Bytes) → KeepsTarget x → Has x.tags tag → BreaksColumn TargetTags (Int (pos n) ∷ Text x.id ∷ Text tag ∷ []) → ⊥
-  of_tag n x tag keeps its broken = true≢false (sym (test_has is_word x.tags tag keeps.tags its) ∙ broken)
+  of_tag n x tag keeps its broken = grind (arith, test_has, unbroken)
 
   of_attribute : (n : ℕ) (x : Target) (a : Attribute) → KeepsTarget x → Has x.attributes a
       → BreaksColumn TargetAttributes (Int (pos n) ∷ Text x.id ∷ Text a.key ∷ Text a.value ∷ []) → ⊥

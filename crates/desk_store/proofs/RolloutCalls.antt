@@ -1,15 +1,18 @@
 -- The calls on rollouts and groups.
-use Rattle.desk_store.proofs.ReadLemmas.{all_tell, first_tells, one_read, reads_last, reads_one}
+use Rattle.desk_store.proofs.ReadLemmas.{all_at, all_tell, first_tells, many_asks, one_read, reads_last, reads_one}
 use Rattle.desk_store.proofs.Common.{◌≡◌, ◌<◌, ◌≤◌, ℕ, Bool, pos, take, List, slice_get, arith, [], ◌∷◌, length, map, Option, Some, Ok, Result, IfOk}
 use Rattle.desk_store.proofs.Common.{option_map, refl, ap, ◌∙◌, Global, Vec, Int, Row, column, State, slice_get-map, Fault, AsksText, TakesFirst, Finds}
 use Rattle.desk_store.proofs.Common.{item_numbered, GroupRecord, GET_DESK, LAST_ROLLOUT, GET_ROLLOUT, GROUP_AND_NEXT, StoredRollout, HoldsLedger, Ledger}
 use Rattle.desk_store.proofs.Common.{IsLastRow, IsStoredRolloutRow, IsGroupRow, stored_rollout, groups_of, that_reach, last_rollout_is, get_rollout_is}
 use Rattle.desk_store.proofs.Common.{group_and_next_is, lasts_rollout, gets_rollout, shown_group, gets_group_and_next, group_and_next, GroupAndNext, IsApproval}
-use Rattle.desk_store.proofs.Common.{IsReadAs, gets_desk, told_desk, get_desk_is}
+use Rattle.desk_store.proofs.Common.{IsReadAs, gets_desk, told_desk, get_desk_is, AsksFew, Broken, FailsIn, Ghosts, None, OpenChange, length-map, seen_in}
+use Rattle.std.specs.Prelude.{Err}
+use Rattle.std.proofs.lemmas.List.{length-take}
 use Rattle.sqlite.proofs.MarkLemmas.{slice_get-take}
 use Rattle.desk_records.proofs.KeptColumns.{kept_flag}
 use Rattle.desk_records.proofs.RowsTold.{one_group, one_stored_rollout}
 use Rattle.desk_records.specs.ReadRows.{shown_stored_rollout}
+use Rattle.desk_store.proofs.FailLemmas.{never_by}
 use Rattle.desk_store.proofs.Known.{in_ledgers, known}
 use Rattle.desk_store.proofs.LedgerReads.{both_mapped}
 
@@ -54,3 +57,14 @@ group_and_next_read number place least {rows = rows} = all_tell (in_ledgers (kno
         one_read IsGroupRow shown_group ◌≡◌ refl (λ a b same. ap Some (one_group a b same)) found (slice_get (take 2 its) i) (slice_get rows.items i) is
         (ap (λ all. slice_get all i) shown ∙ slice_get-map shown_group (take 2 its) i)
         ∙ slice_get-take 2 its i within
+
+-- .. so there are no more than two
+pub never_three_groups : (number place : ℕ) → 1 ≤ number → {given : Row} → given ≡ Int (pos number) ∷ Int (pos place) ∷ [] → {S B : Type 0} {g : Ghosts S}
+    {old new : OpenChange S} → AsksFew (seen_in g old) (seen_in g new) GROUP_AND_NEXT.now given 2 (Ok None) → FailsIn g {A = B} old new (Err Broken)
+never_three_groups number place least same h =
+    let many = many_asks h in
+    never_by {Spoiled = Unit {0}} (all_tell (in_ledgers (known group_and_next_is)) {Read = λ u. Unit {0}}
+    (λ db l holds shown u is readable spoiled.
+    let all = gets_group_and_next db l holds [] number place least many.0.items shown in
+    let its = that_reach place (groups_of (item_numbered l.records.rollouts number)) in
+    omega (arith, many.2, ap length all, length-map (take 2 its) shown_group, length-take 2 its)) (all_at many.1 same) (Ok (tt {0})) tt) (Err Broken) tt

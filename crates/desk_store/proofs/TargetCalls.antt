@@ -2,7 +2,11 @@
 use Rattle.desk_store.proofs.Common.{◌≡◌, ◌<◌, ◌^◌, ℕ, min, pos, List, [], ◌∷◌, length, map, Option, Some, Ok, Result, IfOk, refl, ap, arith, Int, Row, column}
 use Rattle.desk_store.proofs.Common.{State, Fault, TakesFirst, Finds, COUNT_TARGETS, HoldsLedger, ledger_of, listed_target, IsCount, count_targets_is}
 use Rattle.desk_store.proofs.Common.{counted_at, Target}
-use Rattle.desk_records.specs.ReadRows.{shown_listed_target}
+use Rattle.std.specs.Prelude.{Bool, true, false}
+use Rattle.desk_records.specs.Columns.{has_word}
+use Rattle.desk_records.specs.ReadRows.{broken_owned_tag_column, columns_of_owned_tag, shown_listed_target}
+use Rattle.desk_records.specs.RowFaults.{BreaksRule}
+use Rattle.desk_records.specs.declared.table_columns.Column.TheVariants as rule
 use Rattle.desk_records.proofs.TargetRecords.{listed_row, counts_targets}
 use Rattle.desk_store.proofs.ReadLemmas.{first_tells}
 use Rattle.desk_store.proofs.Known.{in_ledgers, tables_know}
@@ -25,3 +29,13 @@ count_read {row = row} = first_tells (in_ledgers (tables_know (counted_at count_
 pub rows_listed : (ts : List Target) → map listed_row ts ≡ map shown_listed_target (map listed_target ts)
 rows_listed [] = refl
 rows_listed (t ∷ ts) = ap (λ l. listed_row t ∷ l) (rows_listed ts)
+
+-- ---- tags
+
+-- a row whose tag breaks its rule breaks one
+pub tag_breaks : (row : Row) → has_word (column row 2) ≡ false → BreaksRule (broken_owned_tag_column (columns_of_owned_tag row))
+tag_breaks row is = go (has_word (column row 1)) refl
+  where
+    go : (b : Bool) → has_word (column row 1) ≡ b → BreaksRule (broken_owned_tag_column (columns_of_owned_tag row))
+    go true e = record { first = rule.TargetTag; is = rw (e, is) refl }
+    go false e = record { first = rule.TargetId; is = rw e refl }

@@ -1,18 +1,21 @@
 -- What tables have that can't be read.
-use Rattle.std.specs.Prelude.{◌≡◌, ◌≤◌, ◌^◌, ◌&&◌, ℕ, nat_lt, Bool, true, false, List, [], ◌∷◌, length, map, None}
+use Rattle.std.specs.Prelude.{◌≡◌, ◌≤◌, ◌^◌, ◌&&◌, ℕ, nat_lt, Bool, true, false, List, [], ◌∷◌, filter, length, map, None, pos}
 use Rattle.std.specs.List.Sorted.{IsNonDecreasingBy}
 use Rattle.sqlite_value.specs.Order.{Row, column}
 use Rattle.sqlite_rules.specs.Lists.{Has}
+use Rattle.sqlite_trees.specs.Tree.{has_rowid}
+use Rattle.rollout_machine.specs.Commands.{Bytes}
 use Rattle.desk_records.specs.CheckedRows.{is_too_long}
 use Rattle.desk_records.specs.Codes.{number_in}
 use Rattle.desk_records.specs.Columns.{has_bytes}
 use Rattle.desk_records.specs.EntryRow.{BreaksSequenced}
 use Rattle.rollout_model.specs.declared.group_rule.GroupRule.{GroupRule}
-use Rattle.desk_records.specs.Listings.{AreSaid, HasNumber, has_at}
+use Rattle.desk_records.specs.FoundPieces.{lies_at}
+use Rattle.desk_records.specs.Listings.{AreSaid, HasNumber, has_at, has_text_at}
 use Rattle.desk_records.specs.PlaceLists.{SaysMember, is_of}
 use Rattle.desk_records.specs.ReadRows.{broken_number_column, broken_stored_rollout_column, broken_rule_column, columns_of_stored_action, columns_of_number}
 use Rattle.desk_records.specs.ReadRows.{columns_of_stored_rollout, columns_of_rule}
-use Rattle.desk_records.specs.Schema.{Actions, Feedbacks, Members, Numbers, Pieces, Place, Rollouts, Rules}
+use Rattle.desk_records.specs.Schema.{Actions, Feedbacks, Members, Numbers, Offers, Pieces, Place, Rollouts, Rules}
 use Rattle.desk_records.specs.Tables.{Tables}
 use Rattle.desk_records.specs.declared.entry_row.SequencedEntry.{SequencedEntry}
 use Rattle.desk_records.specs.declared.member_row.PlacedMember.{PlacedMember}
@@ -38,8 +41,12 @@ pub record HasTwins {A : Type 0} (rows : List Row) (test : Row → Bool) (says :
   pub in_order : IsNonDecreasingBy key found
   pub twins : rise 0 (map key found) ≡ false
 
--- Rows that are read and that nothing is recomputed of: one that breaks a rule, a number that is missing or is there twice, rules that make no grouping,
--- and what is past its limit.
+-- two rows, or more, pass a test by a key
+abbrev pub HasTwo : List Row → (Row → Bool) → Type 0
+HasTwo rows test = 2 ≤ length (filter test rows)
+
+-- Rows that are read and that nothing is recomputed of: one that breaks a rule, a number that is missing or is there twice, two of one key, rules that make
+-- no grouping, and what is past its limit.
 pub data IsUnreadable (t : Tables) : Type 0 where
   broken_rollout : (row : Row) → Has (t Rollouts) row → BreaksRule (broken_stored_rollout_column (columns_of_stored_rollout row)) → IsUnreadable t
   broken_rule : (row : Row) → Has (t Rules) row → BreaksRule (broken_rule_column (columns_of_rule row)) → IsUnreadable t
@@ -49,6 +56,10 @@ pub data IsUnreadable (t : Tables) : Type 0 where
   twin_members : (rollout : ℕ) → HasTwins (t Members) (is_of rollout) (SaysMember rollout) (λ (m : PlacedMember). m.place) → IsUnreadable t
   twin_actions : (rollout : ℕ) → HasTwins (t Actions) (has_at 2 rollout) SaysAction (λ (a : ListedAction). a.number) → IsUnreadable t
   twin_entries : (action : ℕ) → HasTwins (t Feedbacks) (has_at 1 action) SaysEntry (λ (e : SequencedEntry). e.sequence) → IsUnreadable t
+  two_rollouts : (number : ℕ) → HasTwo (t Rollouts) (has_rowid (pos number)) → IsUnreadable t
+  two_actions : (number : ℕ) → HasTwo (t Actions) (has_rowid (pos number)) → IsUnreadable t
+  two_offers : (id : Bytes) → HasTwo (t Offers) (has_text_at 1 id) → IsUnreadable t
+  two_rules : (rollout group : ℕ) → HasTwo (t Rules) (lies_at rollout group) → IsUnreadable t
   missing_rollout : (number last : ℕ) → 1 ≤ number → number ≤ last → HasNumber (t Rollouts) last → (HasNumber (t Rollouts) number → ⊥) → IsUnreadable t
   missing_rule : (rollout n i : ℕ) → HasGroupCount t rollout n → 1 ≤ i → i ≤ n → HasNoRule t rollout i → IsUnreadable t
   no_grouping : (rollout : ℕ) (rules : List GroupRule) → HasGroupCount t rollout (length rules) → HaveRules (HasRule t rollout) 1 rules
@@ -67,6 +78,10 @@ place_of (broken_number row among breaks) = Numbers
 place_of (twin_members rollout twins) = Members
 place_of (twin_actions rollout twins) = Actions
 place_of (twin_entries action twins) = Feedbacks
+place_of (two_rollouts number two) = Rollouts
+place_of (two_actions number two) = Actions
+place_of (two_offers id two) = Offers
+place_of (two_rules rollout group two) = Rules
 place_of (missing_rollout number last low high there none) = Rollouts
 place_of (missing_rule rollout n i has low high none) = Rules
 place_of (no_grouping rollout rules has have none) = Rules

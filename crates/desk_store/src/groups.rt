@@ -101,7 +101,9 @@ impl<'a, S: Alter> OpenChange<'a, S> {
         ensures work { AddsIn 1 2 self.old self.new }
     {
         let alloc = self.store.alloc;
-        let rows = self.few(GROUP_AND_NEXT, params![number.get(), place], 2)?;
+        let Some(rows) = self.few(GROUP_AND_NEXT, params![number.get(), place], 2)? else {
+            return Err(Fault::Broken);
+        };
         read_both(alloc, &rows)
     }
 

@@ -37,7 +37,7 @@ pub use crate::over_calls::{read_last_rollout, read_rollout, write_rule};
 pub use crate::store::DeskStore;
 pub use desk_records::{
     CheckedArtifact, CountedAction, LastNumber, ListedAction, ListedTarget, NewEntry, OwnedOffer,
-    PlacedMember, PlacedNumber, SequencedEntry, SetName, StoredAction, StoredArtifact,
+    OwnedTag, PlacedMember, PlacedNumber, SequencedEntry, SetName, StoredAction, StoredArtifact,
     StoredRollout, StoredTarget, ToldPlan, tell_entry,
 };
 pub use sql_calls::{Fault, Work};

@@ -44,8 +44,8 @@ fn read_counted(alloc: Global, rows: &[Row]) -> Result<Vec<CountedAction>, Fault
 }
 
 impl<'a, S: Alter> OpenChange<'a, S> {
-    /// The action of a number, whatever rows there are. A row that breaks a column's rule is `Broken`, a second row of the
-    /// number a failed store.
+    /// The action of a number, whatever rows there are. A row that breaks a column's rule is `Broken`, and so is a
+    /// second row of the number.
     pub fn find_action(&mut self, number: ActionNo) -> Result<Option<StoredAction>, Fault>
         ensures stays { StaysIn S.Store self.old self.new result }
         ensures reads { FindsTables S.Store self.old self.new result (λ t found. FindsOne (t Actions) (has_rowid (pos number)) SaysNumbered found) }
@@ -53,7 +53,9 @@ impl<'a, S: Alter> OpenChange<'a, S> {
         ensures work { AddsIn 1 1 self.old self.new }
     {
         let alloc = self.store.alloc;
-        let rows = self.few(GET_ACTION, params![number.get()], 1)?;
+        let Some(rows) = self.few(GET_ACTION, params![number.get()], 1)? else {
+            return Err(Fault::Broken);
+        };
         read_at(alloc, &rows, 0)
     }
 

@@ -3,7 +3,7 @@
 ghost use Rattle.std.specs.Prelude.{◌≤◌, ◌+◌, option_map, vec_items};
 ghost use Rattle.desk_records.specs.Listings.{FindsOne, has_text_at};
 ghost use Rattle.desk_records.specs.Schema.{Offers};
-ghost use Rattle.desk_store.specs.Blaming.{Blames, BlamesGiven};
+ghost use Rattle.desk_store.specs.Blaming.{Blames, BlamesGiven, ReadsOf};
 ghost use Rattle.desk_store.specs.Changing.{FindsTables, StaysIn};
 ghost use Rattle.desk_store.specs.Counting.{AddsIn};
 ghost use Rattle.desk_store.specs.RawLists.{AreOffers, ListsRows, SaysOffer, SaysOfferOf, any_row};
@@ -17,16 +17,18 @@ use sql_calls::Fault;
 use sqlite::{Alter, params};
 
 impl<'a, S: Alter> OpenChange<'a, S> {
-    /// What the target of an id is offered, whatever rows there are. A row that breaks a column's rule is `Broken`, a
-    /// second row of the id a failed store.
+    /// What the target of an id is offered, whatever rows there are. A row that breaks a column's rule is `Broken`, and so
+    /// is a second row of the id.
     pub fn find_offer(&mut self, id: &ControllerId) -> Result<Option<Offer>, Fault>
         ensures stays { StaysIn S.Store self.old self.new result }
         ensures reads { FindsTables S.Store self.old self.new result (λ t found. FindsOne (t Offers) (has_text_at 1 id.now) (SaysOfferOf id.now) found) }
-        ensures blames { BlamesGiven S.Store (λ reading. AreOffers reading.tables) self.old self.new result }
+        ensures blames { BlamesGiven S.Store (λ reading. AreOffers reading.tables × ReadsOf Offers reading) self.old self.new result }
         ensures work { AddsIn 1 1 self.old self.new }
     {
         let alloc = self.store.alloc;
-        let rows = self.few(GET_OFFER, params![id.as_str()], 1)?;
+        let Some(rows) = self.few(GET_OFFER, params![id.as_str()], 1)? else {
+            return Err(Fault::Broken);
+        };
         read_at(alloc, &rows, 0)
     }
 

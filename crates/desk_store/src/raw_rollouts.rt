@@ -17,7 +17,7 @@ use sql_calls::Fault;
 use sqlite::{Alter, params};
 
 impl<'a, S: Alter> OpenChange<'a, S> {
-    /// The rollout of a number, whatever rows there are. A row that breaks a column's rule is `Broken`, a second row of the number a failed store.
+    /// The rollout of a number, whatever rows there are. A row that breaks a column's rule is `Broken`, and so is a second row of the number.
     pub fn find_rollout(&mut self, number: RolloutNo) -> Result<Option<StoredRollout>, Fault>
         ensures stays { StaysIn S.Store self.old self.new result }
         ensures reads { FindsTables S.Store self.old self.new result (λ t found. FindsOne (t Rollouts) (has_rowid (pos number)) IsRollout found) }
@@ -25,7 +25,9 @@ impl<'a, S: Alter> OpenChange<'a, S> {
         ensures work { AddsIn 1 1 self.old self.new }
     {
         let alloc = self.store.alloc;
-        let rows = self.few(GET_ROLLOUT, params![number.get()], 1)?;
+        let Some(rows) = self.few(GET_ROLLOUT, params![number.get()], 1)? else {
+            return Err(Fault::Broken);
+        };
         read_at(alloc, &rows, 0)
     }
 }

@@ -16,8 +16,8 @@ use sql_calls::Fault;
 use sqlite::{Alter, params};
 
 impl<'a, S: Alter> OpenChange<'a, S> {
-    /// What is said of the group of a rollout and a number, whatever rows there are. A row that breaks a column's rule is `Broken`, a second row of
-    /// the group a failed store.
+    /// What is said of the group of a rollout and a number, whatever rows there are. A row that breaks a column's rule is `Broken`, and so is a
+    /// second row of the group.
     pub fn find_rule(&mut self, number: RolloutNo, group: u32) -> Result<Option<GroupRule>, Fault>
         ensures stays { StaysIn S.Store self.old self.new result }
         ensures reads { FindsTables S.Store self.old self.new result (λ t found. FindsOne (t Rules) (lies_at number group) SaysRule found) }
@@ -25,7 +25,9 @@ impl<'a, S: Alter> OpenChange<'a, S> {
         ensures work { AddsIn 1 1 self.old self.new }
     {
         let alloc = self.store.alloc;
-        let rows = self.few(GET_RULE, params![number.get(), group], 1)?;
+        let Some(rows) = self.few(GET_RULE, params![number.get(), group], 1)? else {
+            return Err(Fault::Broken);
+        };
         read_at(alloc, &rows, 0)
     }
 }

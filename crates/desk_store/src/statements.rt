@@ -47,13 +47,13 @@ impl<'a, S: Alter> OpenChange<'a, S> {
         self.store.calls.ask(sql, params)
     }
 
-    /// Runs one query that has at most so many rows, and takes them. More are a failed store.
+    /// Runs one query, and takes its rows; `None` where there are more than so many.
     pub(crate) fn few(
         &mut self,
         sql: &str,
         params: &[ValueRef<'_>],
         most: usize,
-    ) -> Result<Vec<Row>, Fault>
+    ) -> Result<Option<Vec<Row>>, Fault>
         requires { Knows HoldsTables sql.now }
         ensures stays { StaysIn S.Store self.old self.new result }
         ensures asks { AsksFew (seen_in S.Store self.old) (seen_in S.Store self.new) sql.now (bound params.now) most result }

@@ -26,7 +26,7 @@ pub keeps_target_tags : (h : CommandList) → IsValid h → Keeps (records h) Ta
 keeps_target_tags h valid rows held =
     of_lists (λ row. BreaksColumn TargetTags row → ⊥) (λ (x : Target) (w : Bytes). Text x.id ∷ Text w ∷ []) (λ (x : Target). x.tags) (records h).targets rows
     held
-    (λ n x w among its. fails_not (is_word w) (test_has is_word x.tags w (targets_keep h valid x among).tags its))
+    (λ n x w among its bad. grind (arith, unbroken, test_has is_word x.tags w, targets_keep h valid x among))
 
 -- ---- attributes
 

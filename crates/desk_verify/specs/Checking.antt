@@ -1,5 +1,5 @@
 -- What is known while a table is checked: which tables are read, and that those before it agree.
-use Rattle.desk_records.specs.Schema.{Actions, Feedbacks, Groups, Members, Numbers, Pieces, Rollouts, Rules}
+use Rattle.desk_records.specs.Schema.{Actions, Feedbacks, Groups, Members, Numbers, Offers, Pieces, Rollouts, Rules}
 use Rattle.desk_store.specs.Blaming.{Reading, ReadsOf}
 use Rattle.desk_store.specs.RawLists.{AreOffers}
 use Rattle.desk_verify.specs.Agreement.{AgreeBefore}
@@ -23,6 +23,7 @@ pub record ChecksOffers (reading : Reading) : Type 0 where
   pub agree : AgreeBefore Offer reading.tables
   pub rollouts : ReadsOf Rollouts reading
   pub actions : ReadsOf Actions reading
+  pub offers : ReadsOf Offers reading
 
 -- .. once each row was found to be an offer
 pub record ChecksDueActions (reading : Reading) : Type 0 where

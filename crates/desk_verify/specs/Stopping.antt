@@ -2,7 +2,7 @@
 use Rattle.std.specs.Prelude.{Bool, true, false, Result}
 use Rattle.sqlite.specs.Store.{Ghosts}
 use Rattle.sql_calls.specs.declared.fault.Fault.{Fault}
-use Rattle.desk_records.specs.Schema.{Actions, Feedbacks, Groups, Members, Numbers, Pieces, Place, Rollouts, Rules}
+use Rattle.desk_records.specs.Schema.{Actions, Feedbacks, Groups, Members, Numbers, Offers, Pieces, Place, Rollouts, Rules}
 use Rattle.desk_records.specs.Tables.{HoldsTables, Tables}
 use Rattle.desk_store.specs.Breaking.{BreaksOnly}
 use Rattle.desk_store.specs.Unreadable.{IsUnreadableIn}
@@ -27,6 +27,7 @@ is_read_for Action Feedbacks = true
 is_read_for Action Numbers = true
 is_read_for Offer Rollouts = true
 is_read_for Offer Actions = true
+is_read_for Offer Offers = true
 is_read_for table place = false
 
 -- The tables before some table agree, and what its check reads can't be read.

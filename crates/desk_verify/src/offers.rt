@@ -6,7 +6,6 @@ ghost use Rattle.std.specs.List.Sorted.{IsPermutation};
 ghost use Rattle.desk_records.specs.Schema.{Actions};
 ghost use Rattle.desk_store.specs.Blaming.{BlamesGiven};
 ghost use Rattle.desk_store.specs.Changing.{FindsTables, StaysIn};
-ghost use Rattle.desk_store.specs.RawLists.{AreOffers};
 ghost use Rattle.desk_verify.specs.Agreement.{SettlesWhether};
 ghost use Rattle.desk_verify.specs.Checking.{ChecksDueActions, ChecksOffers};
 ghost use Rattle.desk_verify.specs.OfferChecks.{AreGroupsOf, AreKeptGroups, Fits, IsOfferedIfDue, IsRight, IsRowOffered};
@@ -199,7 +198,7 @@ fn are_offered_if_due<S: Alter>(
     ensures stays { StaysIn S.Store change.old change.new result }
     ensures judges { FindsTables S.Store change.old change.new result
         (λ t offered. SettlesWhether (AllByRecursion (IsOfferedIfDue t groups.now) actions.now) offered) }
-    ensures blames { BlamesGiven S.Store (λ reading. AreOffers reading.tables) change.old change.new result }
+    ensures blames { BlamesGiven S.Store ChecksDueActions change.old change.new result }
 {
     for listed in actions {
         if !is_offered_if_due(change, groups, listed)? {
@@ -216,7 +215,7 @@ fn is_offered_if_due<S: Alter>(
 ) -> Result<bool, Fault>
     ensures stays { StaysIn S.Store change.old change.new result }
     ensures judges { FindsTables S.Store change.old change.new result (λ t offered. SettlesWhether (IsOfferedIfDue t groups.now listed.now) offered) }
-    ensures blames { BlamesGiven S.Store (λ reading. AreOffers reading.tables) change.old change.new result }
+    ensures blames { BlamesGiven S.Store ChecksDueActions change.old change.new result }
 {
     if !is_due(groups, &listed.action) {
         return Ok(true);
@@ -239,7 +238,7 @@ fn is_offered<S: Alter>(
 ) -> Result<bool, Fault>
     ensures stays { StaysIn S.Store change.old change.new result }
     ensures judges { FindsTables S.Store change.old change.new result (λ t offered. SettlesWhether (IsOffered t id.now number) offered) }
-    ensures blames { BlamesGiven S.Store (λ reading. AreOffers reading.tables) change.old change.new result }
+    ensures blames { BlamesGiven S.Store ChecksDueActions change.old change.new result }
 {
     match change.find_offer(id)? {
         Some(offer) => Ok(offer.action.get() <= number.get()),

@@ -79,12 +79,12 @@ module _ {R : Type 0} (Holds : Database → R → Type 0) where
     ask_frames (Err fault) h = λ kept opens. reads_off kept opens h.survives
         (λ k clean. let failed = h.answers clean in unanswered sql params old new failed.0 failed.2)
 
-    pub few_frames : (most : ℕ) (out : Result (Vec Row Global) Fault) → AsksFew old new sql params most out → FrameTo Holds old new out
+    pub few_frames : (most : ℕ) (out : Result (Option (Vec Row Global)) Fault) → AsksFew old new sql params most out → FrameTo Holds old new out
     few_frames most out h = subst (λ it. FrameTo Holds old new it) (sym h.few) (go h.answer (ask_frames h.answer h.asks))
       where
         go : (answer : Result (Vec Row Global) Fault) → FrameTo Holds old new answer → FrameTo Holds old new (few_of most answer)
         go (Err fault) frame = frame
-        go (Ok rows) frame = vain Fault old new rows frame (few_of most (Ok rows))
+        go (Ok rows) frame = frame
 
     pub took : (row : Option Row) (k : Known old.now.schema sql) → TakesTo old new sql params (Ok row) → IsUnchanged old new
     took (Some row) k h = first_unchanged sql k.command params old new k.means row h

@@ -32,6 +32,11 @@ abbrev pub rows_in : Result (Vec Row Global) Fault → ℕ
 rows_in (Ok rows) = length rows.items
 rows_in (Err fault) = 0
 
+abbrev pub few_in : Result (Option (Vec Row Global)) Fault → ℕ
+few_in (Ok (Some rows)) = length rows.items
+few_in (Ok None) = 0
+few_in (Err fault) = 0
+
 abbrev pub row_in : Result (Option Row) Fault → ℕ
 row_in (Ok (Some row)) = 1
 row_in (Ok None) = 0
@@ -86,13 +91,13 @@ pub record AsksText (old new : State) (sql : List ℕ) (params : Row) (result : 
   pub answers : HasCleanDisk new → AsksTo old new sql params result
   pub survives : Survives old new (CommitsShowing sql params old)
 
--- more than so many rows are a failed store
-abbrev pub few_of : ℕ → Result (Vec Row Global) Fault → Result (Vec Row Global) Fault
-few_of most (Ok rows) = cond (nat_le (length rows.items) most) (Ok rows) (Err Store)
+-- the rows where they are at most so many
+abbrev pub few_of : ℕ → Result (Vec Row Global) Fault → Result (Option (Vec Row Global)) Fault
+few_of most (Ok rows) = Ok (cond (nat_le (length rows.items) most) (Some rows) None)
 few_of most (Err fault) = Err fault
 
--- a query that is to answer at most so many rows
-pub record AsksFew (old new : State) (sql : List ℕ) (params : Row) (most : ℕ) (result : Result (Vec Row Global) Fault) : Type 0 where
+-- a query, and all its rows where they are at most so many
+pub record AsksFew (old new : State) (sql : List ℕ) (params : Row) (most : ℕ) (result : Result (Option (Vec Row Global)) Fault) : Type 0 where
   pub answer : Result (Vec Row Global) Fault
   pub asks : AsksText old new sql params answer
   pub few : result ≡ few_of most answer

@@ -1,9 +1,9 @@
 //! The one owner of a connection.
 
-ghost use Rattle.std.specs.Prelude.{◌≡◌, ◌≢◌, ◌≤◌, not, [], IfOk, IfErr, length};
+ghost use Rattle.std.specs.Prelude.{◌≡◌, ◌≢◌, ◌≤◌, not, [], IfOk, IfErr, IfSome, length};
 ghost use Rattle.sqlite.specs.Held.{state};
 ghost use Rattle.sqlite.specs.Values.{bound};
-ghost use Rattle.sql_calls.specs.Calls.{RunsText, AsksText, AsksFew, TakesFirst, Grows, counts, no_work, since, rows_in, row_in, few_of};
+ghost use Rattle.sql_calls.specs.Calls.{RunsText, AsksText, AsksFew, TakesFirst, Grows, counts, no_work, since, rows_in, row_in, few_in, few_of};
 ghost use Rattle.sql_calls.specs.Calls.{fails, failures_of, failures_in, errors_in};
 
 use crate::fault::{Fault, fault_of};
@@ -123,22 +123,35 @@ impl<S: Alter> Calls<S> {
         self.taken(answer)
     }
 
-    /// Runs one query, and takes all its rows. More rows than `most` are a failed store, and none of them is counted.
+    /// Runs one query, and takes all its rows; `None` where there are more than `most`, and then none of them is counted.
     pub fn few(
         &mut self,
         sql: &str,
         params: &[ValueRef<'_>],
         most: usize,
-    ) -> Result<Vec<Row>, Fault>
+    ) -> Result<Option<Vec<Row>>, Fault>
         ensures asks { AsksFew (state S.Store self.old.conn) (state S.Store self.new.conn) sql.now (bound params.now) most result }
         ensures sound { IfErr result (λ fault. fault ≢ Fault.Broken) }
-        ensures few { IfOk result (λ rows. length rows.items ≤ most) }
-        ensures work { self.new.work ≡ counts self.old.work (rows_in result) }
+        ensures few { IfOk result (λ found. IfSome found (λ rows. length rows.items ≤ most)) }
+        ensures work { self.new.work ≡ counts self.old.work (few_in result) }
         ensures failures { self.new.failures ≡ fails (failures_in result) self.old.failures }
         ensures grows { Grows (failures_in result) self.old self.new }
     {
-        let answer = ask_on(&mut self.conn, sql, params);
-        self.taken(few_of(answer, most))
+        match few_of(ask_on(&mut self.conn, sql, params), most) {
+            Ok(Some(few)) => {
+                self.count(few.len() as u64);
+                Ok(Some(few))
+            }
+            Ok(None) => {
+                self.count(0);
+                Ok(None)
+            }
+            Err(fault) => {
+                self.count(0);
+                self.failed(fault);
+                Err(fault)
+            }
+        }
     }
 
     /// Runs one query, and takes its first row, if there is one.
@@ -303,16 +316,16 @@ fn ask_on<S: Alter>(
     }
 }
 
-fn few_of(answer: Result<Vec<Row>, Fault>, most: usize) -> Result<Vec<Row>, Fault>
+fn few_of(answer: Result<Vec<Row>, Fault>, most: usize) -> Result<Option<Vec<Row>>, Fault>
     ensures few { result ≡ few_of most answer }
     ensures sound { IfErr answer (λ fault. fault ≢ Fault.Broken) → IfErr result (λ fault. fault ≢ Fault.Broken) }
-    ensures at_most { IfOk result (λ rows. length rows.items ≤ most) }
+    ensures at_most { IfOk result (λ found. IfSome found (λ rows. length rows.items ≤ most)) }
 {
     let rows = answer?;
     if rows.len() <= most {
-        Ok(rows)
+        Ok(Some(rows))
     } else {
-        Err(Fault::Store)
+        Ok(None)
     }
 }
 
