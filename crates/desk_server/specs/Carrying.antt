@@ -15,9 +15,9 @@ use Rattle.desk_opening.specs.Reopening.{LeavesPath}
 use Rattle.rollout_desk.specs.Openings.{ReopensDesk}
 use Rattle.rollout_desk.specs.declared.desk.Desk.{Desk}
 use Rattle.stream_server.specs.declared.interface.Interface.{Interface}
-use Rattle.desk_server.specs.declared.order.Order.{Order}
-use Rattle.desk_server.specs.declared.order.Order.TheVariants.{Run, Serve, Import, Report, Verify}
-use Rattle.desk_server.specs.Orders.{asks_approval, database_of}
+use Rattle.command_line.specs.declared.order.Order.{Order}
+use Rattle.command_line.specs.declared.order.Order.TheVariants.{Run, Serve, Import, Report, Verify}
+use Rattle.command_line.specs.Orders.{asks_approval, database_of}
 use Rattle.desk_server.specs.Program.{CarriesOut, CarriesOutOn, Network, Tells, open_line}
 use Rattle.desk_server.specs.Imports.{CarriesOutImport}
 use Rattle.desk_server.specs.Refusals.{PathRefusal, refusal_of}

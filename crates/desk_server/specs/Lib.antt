@@ -1,4 +1,3 @@
-pub mod Orders
 pub mod Program
 pub mod Imports
 pub mod Telling

@@ -9,7 +9,7 @@ use Rattle.rollout_desk.specs.DeskStates.{desk_state}
 use Rattle.desk_opening.specs.declared.opening.OpenFault.{OpenFault}
 use Rattle.desk_opening.specs.declared.opening.OpenFault.TheVariants as open_fault
 use Rattle.stream_server.specs.declared.interface.Interface.{Interface}
-use Rattle.desk_server.specs.declared.order.Setup.{Setup}
+use Rattle.command_line.specs.declared.order.Setup.{Setup}
 use Rattle.stream_server.specs.declared.listening.ListenFault.{ListenFault}
 use Rattle.stream_server.specs.declared.listening.ListenFault.TheVariants as listen_fault
 use Rattle.stream_server.specs.declared.served.Served.{Served}

@@ -6,10 +6,10 @@ ghost use Rattle.desk_server.specs.Program.{network};
 
 use crate::host::Host;
 use crate::import::import_given;
-use crate::order::{Order, Setup};
 use crate::program::{FAILED, listen_address, open_line, run, serve_on_port, tell};
 use crate::report::report;
 use crate::verify::verify;
+use command_line::{Order, Setup};
 use desk_opening::{OpenFault, PathLeftover};
 use http_wire::Watched;
 use rollout_desk::Desk;

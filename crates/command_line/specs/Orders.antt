@@ -5,9 +5,9 @@ use Rattle.clap.specs.declared.builder.ArgAction.TheVariants.{Set, SetTrue}
 use Rattle.request_target.specs.Numbers.{decimal_number}
 use Rattle.stream_server.specs.declared.interface.Interface.{Interface}
 use Rattle.stream_server.specs.declared.interface.Interface.TheVariants.{Devices, Management, Both}
-use Rattle.desk_server.specs.declared.order.Setup.{Setup}
-use Rattle.desk_server.specs.declared.order.Order.{Order}
-use Rattle.desk_server.specs.declared.order.Order.TheVariants.{Run, Serve, Import, Report, Verify}
+use Rattle.command_line.specs.declared.order.Setup.{Setup}
+use Rattle.command_line.specs.declared.order.Order.{Order}
+use Rattle.command_line.specs.declared.order.Order.TheVariants.{Run, Serve, Import, Report, Verify}
 
 -- ---- what the command line is made of
 

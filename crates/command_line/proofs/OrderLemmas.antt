@@ -7,9 +7,9 @@ use Rattle.clap.specs.Words.{Row, Text, first_of, kind_of, takes}
 use Rattle.clap.specs.declared.error.Error.{Error}
 use Rattle.clap.specs.declared.error.kind.ErrorKind.{ErrorKind}
 use Rattle.clap.specs.declared.error.kind.ErrorKind.TheVariants.{OutOfMemory}
-use Rattle.desk_server.specs.declared.order.Order.TheVariants.{Run, Serve, Import, Report, Verify}
+use Rattle.command_line.specs.declared.order.Order.TheVariants.{Run, Serve, Import, Report, Verify}
 use Rattle.stream_server.specs.declared.interface.Interface.{Interface}
-use Rattle.desk_server.specs.Orders.{AreRefused, IsImport, IsReport, IsVerify, NamesOrder, NamesSetup, interface_word, number_in_range, program_app}
+use Rattle.command_line.specs.Orders.{AreRefused, IsImport, IsReport, IsVerify, NamesOrder, NamesSetup, interface_word, number_in_range, program_app}
 
 -- no value is given
 pub no_value : {A : Type 0} (found : Option A) (value : A) → None ≡ found → found ≡ Some value → ⊥

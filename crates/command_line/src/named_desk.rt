@@ -1,13 +1,13 @@
 //! The desk that an order names.
 
 ghost use Rattle.std.specs.Prelude.{◌≡◌};
-ghost use Rattle.desk_server.specs.Orders.{asks_approval, database_of};
+ghost use Rattle.command_line.specs.Orders.{asks_approval, database_of};
 
 use crate::order::Order;
 
 impl<'a> Order<'a> {
     /// The path of the database.
-    pub(crate) fn db(&self) -> &'a str
+    pub fn db(&self) -> &'a str
         ensures { result.now ≡ database_of self.now }
     {
         match self {
@@ -20,7 +20,7 @@ impl<'a> Order<'a> {
     }
 
     /// Whether a new desk asks for approval of each rollout.
-    pub(crate) fn approval(&self) -> bool
+    pub fn approval(&self) -> bool
         ensures { result ≡ asks_approval self.now }
     {
         match self {

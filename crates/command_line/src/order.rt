@@ -4,9 +4,9 @@ ghost use Rattle.std.specs.Prelude.{◌≡◌, ◌≢◌, IfErr, IfOk, IfSome, I
 ghost use Rattle.std.specs.Option.{option_map};
 ghost use Rattle.clap.specs.Words.{rule_of, app_of, rows_of, found_of, first_of, kind_of, subcommand_of, subcommand_rows_of};
 ghost use Rattle.clap.specs.declared.builder.command.Command.TheViews.{out-Command as fields_of};
-ghost use Rattle.desk_server.specs.Orders.{db_rule, interface_rule, approval_rule, port_rule, connections_rule, file_rule, run_app, port_app};
-ghost use Rattle.desk_server.specs.Orders.{serve_app, import_app, rollout_rule, report_app, verify_app, serving_app, asking_app, program_app};
-ghost use Rattle.desk_server.specs.Orders.{interface_word, is_given, number_in_range, IsSetup, NamesSetup, IsOrder, NamesOrder, AreFaultless, AreRefused};
+ghost use Rattle.command_line.specs.Orders.{db_rule, interface_rule, approval_rule, port_rule, connections_rule, file_rule, run_app, port_app};
+ghost use Rattle.command_line.specs.Orders.{serve_app, import_app, rollout_rule, report_app, verify_app, serving_app, asking_app, program_app};
+ghost use Rattle.command_line.specs.Orders.{interface_word, is_given, number_in_range, IsSetup, NamesSetup, IsOrder, NamesOrder, AreFaultless, AreRefused};
 
 use clap::error::ErrorKind;
 use clap::{Arg, ArgAction, ArgMatches, Command, Error};

@@ -1,8 +1,8 @@
 use Rattle.std.proofs.Common.{refl, sym, ap, ◌∙◌, codes}
 use Rattle.clap.specs.Words.{first_of, found_of, rows_of}
 use Rattle.clap.proofs.WalkLemmas.{first_value-rows}
-use Rattle.desk_server.proofs.OrderLemmas.{no_import, no_value, values_of}
-use Rattle.desk_server.proofs.order.import_of.Goals as goal
+use Rattle.command_line.proofs.OrderLemmas.{no_import, no_value, values_of}
+use Rattle.command_line.proofs.order.import_of.Goals as goal
 
 pub returns-in_default-clause-err : goal.returns-in_default-clause-err
 returns-in_default-clause-err c =

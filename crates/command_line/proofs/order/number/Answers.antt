@@ -1,8 +1,8 @@
 use Rattle.std.proofs.Common.{ap, ◌∙◌}
 use Rattle.clap.specs.Words.{found_of}
 use Rattle.clap.proofs.WalkLemmas.{first_value-rows}
-use Rattle.desk_server.specs.Orders.{number_in_range}
-use Rattle.desk_server.proofs.order.number.Goals as goal
+use Rattle.command_line.specs.Orders.{number_in_range}
+use Rattle.command_line.proofs.order.number.Goals as goal
 
 pub returns : goal.returns
 returns c =

@@ -1,7 +1,7 @@
 use Rattle.std.proofs.Common.{map, refl, sym, ap, ◌∙◌}
 use Rattle.clap.specs.Words.{fault_of, is_simple_and_free, takes}
-use Rattle.desk_server.proofs.OrderLemmas.{where_clap_refuses, where_no_memory}
-use Rattle.desk_server.proofs.order.read_order.Goals as goal
+use Rattle.command_line.proofs.OrderLemmas.{where_clap_refuses, where_no_memory}
+use Rattle.command_line.proofs.order.read_order.Goals as goal
 
 pub returns-in_err-matches-clause-refused : goal.returns-in_err-matches-clause-refused
 returns-in_err-matches-clause-refused g c =

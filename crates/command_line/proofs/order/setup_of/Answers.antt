@@ -2,9 +2,9 @@ use Rattle.std.proofs.Common.{List, ℕ, Some, sym, ap, ◌∙◌, codes, Bor}
 use Rattle.std.specs.Option.{option_map}
 use Rattle.clap.specs.Words.{found_of, rows_of}
 use Rattle.clap.proofs.WalkLemmas.{first_value-rows}
-use Rattle.desk_server.specs.Orders.{NamesSetup, is_given}
-use Rattle.desk_server.proofs.OrderLemmas.{no_value, unknown_interface, where_none}
-use Rattle.desk_server.proofs.order.setup_of.Goals as goal
+use Rattle.command_line.specs.Orders.{NamesSetup, is_given}
+use Rattle.command_line.proofs.OrderLemmas.{no_value, unknown_interface, where_none}
+use Rattle.command_line.proofs.order.setup_of.Goals as goal
 
 pub returns-clause-some : goal.returns-clause-some
 returns-clause-some c =

@@ -1,9 +1,9 @@
 use Rattle.std.proofs.Common.{refl, sym, ap, ◌∙◌, codes}
 use Rattle.clap.specs.Words.{first_of, found_of, rows_of}
 use Rattle.clap.proofs.WalkLemmas.{first_value-rows}
-use Rattle.desk_server.specs.Orders.{number_in_range}
-use Rattle.desk_server.proofs.OrderLemmas.{no_report, no_value, values_of}
-use Rattle.desk_server.proofs.order.report_of.Goals as goal
+use Rattle.command_line.specs.Orders.{number_in_range}
+use Rattle.command_line.proofs.OrderLemmas.{no_report, no_value, values_of}
+use Rattle.command_line.proofs.order.report_of.Goals as goal
 
 pub returns-in_default-clause-err : goal.returns-in_default-clause-err
 returns-in_default-clause-err c =
