@@ -81,7 +81,7 @@ def own_text(name: str, port: int, certificate: str, local_port: int | None) -> 
     """The operator's own settings, by the package's template. Who set 1.0.0 up by hand is reached by more names than one,
     and by port 8081 of this machine, so there no name is compared. `setenv`, since a reload keeps what `presetenv` set.
     """
-    template = places.SHARE / "haproxy/local/single/10-own.cfg"
+    template = places.SHARE / "haproxy/local/10-own.cfg"
     lines = []
     for line in template.read_text(encoding="utf-8").splitlines():
         name_of = line.split()[1] if line.startswith("    setenv ") else None
