@@ -39,8 +39,9 @@ def pytest_configure(config: pytest.Config) -> None:
     os.environ["FWDESK_PROGRAM"] = str(config.getoption("--program").resolve())
 
 
+@pytest.hookimpl(tryfirst=True)
 def pytest_collection_modifyitems(items: list[pytest.Item]) -> None:
-    """The markers of a folder; tests for root are left out for others."""
+    """The markers of a folder; tests for root are left out for others. Before xdist, which goes by its own marker here."""
     for it in items:
         parts = set(it.path.relative_to(HERE).parts if it.path.is_relative_to(HERE) else ())
         if "e2e" in parts:

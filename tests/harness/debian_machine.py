@@ -66,10 +66,13 @@ def run_checks(checks: Iterable[tuple[Callable[..., None], object]]) -> tuple[in
 class Debian:
     """The machine, from its start to its end."""
 
-    def __init__(self, root: Path = ROOT, share: Path | None = None):
-        """`share` is a folder that it has as /media, to read."""
+    def __init__(
+        self, root: Path = ROOT, share: Path | None = None, kept: dict[str, Path] | None = None
+    ):
+        """`share` is a folder that it has as /media, to read; `kept` are those that it writes on this machine's disk, by
+        its paths."""
         make_root(root)
-        self.root, self.share = root, share
+        self.root, self.share, self.kept = root, share, kept or {}
 
     def __enter__(self):
         words = ["systemd-nspawn", "-q", "--boot", "--volatile=overlay", "--register=no"]
@@ -78,6 +81,7 @@ class Debian:
         words += ["--capability=CAP_BPF", "--system-call-filter=bpf"]
         words += ["-M", f"fwdesk-try-{os.getpid()}", "-D", str(self.root)]
         words += [f"--bind-ro={self.share}:/media"] if self.share else []
+        words += [f"--bind={it.resolve()}:{path}" for path, it in self.kept.items()]
         self.child = subprocess.Popen(
             words,
             env={**os.environ, "SYSTEMD_NSPAWN_UNIFIED_HIERARCHY": "1"},

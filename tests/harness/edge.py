@@ -13,7 +13,7 @@ from pathlib import Path
 from typing import Callable
 
 from harness import ROOT
-from harness.processes import HOST, children, eventually, free_port, listens
+from harness.processes import HOST, children, eventually, free_port, keep_priority, listens
 from harness.tls import hashed, make_certificate
 
 HAPROXY = ROOT / "deploy/haproxy"
@@ -182,6 +182,7 @@ class Edge:
                 words, env=self.environment, stdout=audit, stderr=told, start_new_session=True
             )
         self.children.append(child)
+        keep_priority(child)
         child.log = own  # type: ignore[attr-defined]
         is_there = lambda: path.exists() and (name != "edge" or self.is_open())
         eventually(f"the {name}'s {path.name}", is_there, child=child, pause=0.02)

@@ -63,6 +63,14 @@ def poll(name, way, number, tls=False):
     return f"GET {path}{BASE}/{id} HTTP/1.1\r\nHost: {host}\r\nAuthorization: TargetToken tok-{id}\r\n\r\n".encode()
 
 
+def report(name, number, action, said):
+    """The bytes of a device's report on an action, led to its fleet by its id."""
+    own = device(name, number)
+    head = f"POST {BASE}/{own}/deploymentBase/{action}/feedback HTTP/1.1\r\nHost: localhost\r\n"
+    fields = f"Authorization: TargetToken tok-{own}\r\nContent-Length: {len(said)}\r\n\r\n"
+    return f"{head}{fields}{said}".encode()
+
+
 WAYS = ("path", "host", "prefix")
 # at the machine's own port, which answers to the machine's own names alone
 NEAR_WAYS = ("path", "prefix")
@@ -90,9 +98,10 @@ stdout=subprocess.DEVNULL)
 class Machine(Debian):
     """The Debian with the package and both proxies, and this process within its network."""
 
-    def __init__(self, root, program, operators):
+    def __init__(self, root, program, operators, records=None):
+        """`records` is an empty folder of this machine's disk for the fleets' files, which are in memory otherwise."""
         make_root(root)
-        super().__init__(root)
+        super().__init__(root, kept={RECORDS: records} if records else {})
         self.program, self.operators = program, operators
 
     def __enter__(self):

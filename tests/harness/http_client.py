@@ -51,6 +51,21 @@ class LocalConnection(http.client.HTTPConnection):
         self.sock.connect(str(self.path))
 
 
+class TlsConnection(http.client.HTTPSConnection):
+    """HTTP by TLS, which takes up a session of before where one is named."""
+
+    def __init__(
+        self, *place: Any, context: ssl.SSLContext, session: ssl.SSLSession | None, **more: Any
+    ) -> None:
+        super().__init__(*place, context=context, **more)
+        self.trusted, self.session = context, session
+
+    def connect(self) -> None:
+        http.client.HTTPConnection.connect(self)
+        name = self.host
+        self.sock = self.trusted.wrap_socket(self.sock, server_hostname=name, session=self.session)
+
+
 def trust_all() -> ssl.SSLContext:
     """TLS that doesn't look at the server's certificate."""
     context = ssl.create_default_context()
@@ -74,15 +89,16 @@ def connect(
     trusted: ssl.SSLContext | None = None,
     seconds: float = SECONDS,
     source: str | None = None,
+    session: ssl.SSLSession | None = None,
 ) -> http.client.HTTPConnection:
     """A connection to a port of this machine, by TLS if `trusted` says whom, or to a socket's path; from an address of
-    this machine."""
+    this machine, and with a session of TLS that is taken up again."""
     if isinstance(to, Path):
         return LocalConnection(to, seconds)
     own = (source, 0) if source else None
     if trusted:
-        return http.client.HTTPSConnection(
-            host, to, timeout=seconds, context=trusted, source_address=own
+        return TlsConnection(
+            host, to, timeout=seconds, context=trusted, source_address=own, session=session
         )
     return http.client.HTTPConnection(host, to, timeout=seconds, source_address=own)
 

@@ -103,6 +103,14 @@ def terminate(child):
         child.wait()
 
 
+def keep_priority(child):
+    """A session of its own competes for processors as one, by a priority of its own: it gets that of this process's session.
+    Where the kernel doesn't have sessions compete, it tells none."""
+    with contextlib.suppress(OSError):
+        if own := Path("/proc/self/autogroup").read_text().split():
+            Path(f"/proc/{child.pid}/autogroup").write_text(own[-1])
+
+
 def members(session):
     """The processes of a session, as `setsid` began it."""
     found = []

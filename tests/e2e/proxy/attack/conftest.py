@@ -14,7 +14,7 @@ from typing import Iterator
 import pytest
 
 from harness import edge as harness
-from .stage import Before, Stage, StandIn
+from .stage import Before, Plain, Stage
 
 
 def pytest_addoption(parser: pytest.Parser) -> None:
@@ -76,7 +76,7 @@ def stage(
 def stocked(stage: Stage, tmp_path_factory: pytest.TempPathFactory) -> Iterator[Stage]:
     """The same form before a stand-in whose artifacts have 4 MiB."""
     made = stage.bare(tmp_path_factory.mktemp("stocked"))
-    server = StandIn(made.behind)
+    server = Plain(made.behind)
     yield made
     server.end()
     made.end()

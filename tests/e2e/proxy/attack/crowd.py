@@ -1,11 +1,14 @@
 """Honest devices beside an attack: how many polls a second they are told, and the slowest. Not run by itself."""
 
+import contextlib
 import itertools
 import multiprocessing
 import os
+import select
 import socket
 import time
 from dataclasses import dataclass
+from pathlib import Path
 from typing import Callable, Iterator, TypeVar
 
 from harness.processes import HOST, PATIENCE
@@ -76,19 +79,53 @@ def polled(stage: Stage, seconds: float) -> Polls:
     )
 
 
-def beside(stage: Stage, seconds: float, attack: Callable[[float], None], count: int) -> Polls:
-    """The polls of honest devices while an attack, which is told until when, runs in so many processes."""
+def keep_to(stage: Stage, processors: set[int]) -> None:
+    """Has each thread of this process and of all that a stage has started run on these processors."""
+    for process in (os.getpid(), *stage.processes()):
+        for thread in Path(f"/proc/{process}/task").iterdir():
+            with contextlib.suppress(ProcessLookupError):
+                os.sched_setaffinity(int(thread.name), processors)
+
+
+@contextlib.contextmanager
+def set_apart(stage: Stage) -> Iterator[set[int]]:
+    """Half of the processors, for an attack. The edge, what is behind it and honest devices, which are children of this
+    process, have the other half as long: an attacker's own machine takes nothing of theirs."""
+    every = sorted(os.sched_getaffinity(0))
+    own = len(every) - len(every) // 2
+    keep_to(stage, {*every[:own]})
+    try:
+        yield {*every[own:]} or {*every}
+    finally:
+        keep_to(stage, {*every})
+
+
+def beside(
+    stage: Stage,
+    seconds: float,
+    attack: Callable[[float], None],
+    count: int,
+    processors: set[int],
+) -> Polls:
+    """The polls of honest devices while an attack, which is told until when, runs in so many processes on processors of its
+    own."""
     context = multiprocessing.get_context("fork")
     until = time.monotonic() + seconds + 1
-    those = [context.Process(target=attack, args=(until,), daemon=True) for _ in range(count)]
+
+    def run() -> None:
+        os.sched_setaffinity(0, processors)
+        attack(until)
+
+    those = [context.Process(target=run, daemon=True) for _ in range(count)]
     for it in those:
         it.start()
     time.sleep(0.5)
     try:
         return polled(stage, seconds)
     finally:
+        # one that is kept waiting doesn't end by itself
         for it in those:
-            it.join(30)
+            it.join(max(0.0, until + 1 - time.monotonic()))
             if it.is_alive():
                 it.kill()
 
@@ -98,11 +135,18 @@ def compare(
 ) -> tuple[Polls, Polls]:
     """The polls of honest devices alone, and beside an attack. Alone they are measured before and after, of which the lower
     rate counts: a machine that other work shares isn't as quick all the time."""
-    before = polled(stage, seconds / 2)
-    under = beside(stage, seconds, attack, count)
-    stage.forget()
-    alone = min(before, polled(stage, seconds / 2), key=lambda it: it.rate)
-    print(f"{stage.form}: {alone.rate:.0f} alone, {under.rate:.0f} beside, {under}; {load()}")
+    with set_apart(stage) as theirs:
+        before = polled(stage, seconds / 2)
+        made, spent = stage.accepted(), stage.processor()
+        under = beside(stage, seconds, attack, count, theirs)
+        made, spent = stage.accepted() - made, stage.processor() - spent
+        stage.forget()
+        alone = min(before, polled(stage, seconds / 2), key=lambda it: it.rate)
+    took = f"{made / (seconds + 1):.0f} connections and {spent / (seconds + 1):.2f} s of a processor a second"
+    print(
+        f"{stage.form}: {alone.rate:.0f} alone, {under.rate:.0f} beside,"
+        f" {under.rate / max(alone.rate, 1):.2f}; {under}; {took}; {load()}"
+    )
     return alone, under
 
 
@@ -136,15 +180,13 @@ def silent(port: int, source: str) -> socket.socket:
     return it
 
 
-def is_kept(it: socket.socket) -> bool:
-    """Whether a connection that says nothing isn't ended at once."""
-    it.settimeout(0.5)
-    try:
-        return it.recv(1) != b""
-    except TimeoutError:
-        return True
-    except ConnectionResetError:
-        return False
+def ended(links: list[socket.socket]) -> int:
+    """How many of these connections, to which nobody says anything, were ended. The edge's threads take new ones in any order,
+    so where there is one too many it may be another than the last."""
+    poll = select.poll()
+    for it in links:
+        poll.register(it, select.POLLIN)
+    return len(poll.poll(0))
 
 
 def load() -> str:

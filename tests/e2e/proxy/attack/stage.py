@@ -3,10 +3,10 @@ run by itself."""
 
 import csv
 import json
+import os
 import re
 import socket
 import subprocess
-import threading
 from pathlib import Path
 from typing import Callable
 
@@ -14,6 +14,7 @@ from harness import ROOT, http_client
 from harness import edge as harness
 from harness.http_client import trust_all
 from harness.processes import HOST, PATIENCE, eventually, free_port, listens
+from harness.stand_in import StandIn, send_reply
 
 PASSWORD = "to-test-the-edge"
 OPERATORS = {
@@ -26,8 +27,9 @@ OPERATORS = {
 # the tables that count requests of before, and how an entry is set to nothing
 COUNTS = {
     "guesses": "data.gpc0_rate 0 data.gpt0 0",
-    "all_guesses": "data.gpc0_rate 0",
-    "devices_of_address": "data.gpc0_rate 0",
+    "all_guesses": "data.gpc0_rate 0 data.gpc1_rate 0",
+    "addresses": "data.gpc0_rate 0 data.gpt0 0",
+    "devices_of_address": "data.gpc0_rate 0 data.gpc1_rate 0",
 }
 # by which `show sess` marks a request that is kept waiting since its login is refused
 TARPIT = "200"
@@ -112,41 +114,13 @@ class Link:
         self.close()
 
 
-class StandIn:
-    """A desk whose artifacts abc.bin have 4 MiB, and where everything else is an empty object: where it is the edge that is measured."""
+class Plain(StandIn):
+    """A desk whose artifacts abc.bin have 4 MiB, and where everything else is one small object: where it is the edge that is measured."""
 
-    def __init__(self, port: int) -> None:
-        self.listener = socket.create_server((HOST, port))
-        threading.Thread(target=self.accept, daemon=True).start()
-
-    def accept(self) -> None:
-        while True:
-            try:
-                link = self.listener.accept()[0]
-            except OSError:
-                return
-            threading.Thread(target=self.serve, args=(link,), daemon=True).start()
-
-    def serve(self, link: socket.socket) -> None:
-        text = b""
-        try:
-            while piece := link.recv(1 << 20):
-                text += piece
-                while (end := text.find(b"\r\n\r\n")) >= 0:
-                    found = re.search(rb"content-length: (\d+)", text[:end], re.I)
-                    whole = end + 4 + int(found[1] if found else 0)
-                    if len(text) < whole:
-                        break
-                    body = b"x" * (4 << 20) if b"/artifacts/abc" in text[:end] else b"{}"
-                    text = text[whole:]
-                    head = f"HTTP/1.1 200 OK\r\nContent-Type: application/json\r\nContent-Length: {len(body)}\r\n\r\n"
-                    link.sendall(head.encode() + body)
-        except OSError:
-            pass
-
-    def end(self) -> None:
-        self.listener.shutdown(socket.SHUT_RDWR)
-        self.listener.close()
+    def answer(self, link: socket.socket, request: bytes) -> bool:
+        head = request.partition(b"\r\n\r\n")[0]
+        send_reply(link, b"x" * (4 << 20) if b"/artifacts/abc" in head else b'{"id":1}')
+        return True
 
 
 class Stage:
@@ -341,6 +315,24 @@ class Stage:
     def memory(self) -> int:
         """Resident memory of both HAProxys, in bytes."""
         return self.edge.memory(self.edge.edge) + self.edge.memory(self.edge.desks)
+
+    def processes(self) -> list[int]:
+        """The processes of both HAProxys, and the program's."""
+        masters = (self.edge.edge, self.edge.desks)
+        own = [self.server.pid] if self.server else []
+        return [process for it in masters for process in self.edge.workers(it)] + own
+
+    def processor(self) -> float:
+        """Seconds of a processor that the edge has taken."""
+        ticks = 0
+        for it in self.edge.workers(self.edge.edge):
+            fields = Path(f"/proc/{it}/stat").read_text().rpartition(")")[2].split()
+            ticks += sum(map(int, fields[11:13]))
+        return ticks / os.sysconf("SC_CLK_TCK")
+
+    def accepted(self) -> int:
+        """How many connections the edge has accepted, those that it refused at once too."""
+        return int(re.search(r"(?m)^CumConns: (\d+)$", self.told("show info"))[1])
 
     def end(self) -> None:
         self.edge.end()

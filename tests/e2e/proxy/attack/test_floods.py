@@ -8,9 +8,9 @@ import time
 from typing import Iterator
 
 import pytest
-from .crowd import compare, hold, is_kept, load, make_sources, silent
+from .crowd import compare, ended, hold, load, make_sources, silent
 from harness.processes import HOST, eventually
-from .stage import DEVICES, Link, Stage, StandIn, token
+from .stage import DEVICES, Link, Plain, Stage, token
 
 pytestmark = [pytest.mark.e2e]
 MEGABYTE = 1 << 20
@@ -221,8 +221,10 @@ def test_address_has_a_thousand_connections(quiet: Stage) -> None:
         hold(links, lambda: silent(quiet.port, "127.4.3.1"), 1000)
         eventually("a thousand connections", lambda: quiet.connections() == len(links) == 1000)
         hold(links, lambda: silent(quiet.port, "127.4.3.1"), 1)
+        eventually("one that is ended", lambda: ended(links) == 1, 5)
         hold(links, lambda: silent(quiet.port, "127.4.3.2"), 1)
-        assert (is_kept(links[-2]), is_kept(links[-1])) == (False, True)
+        time.sleep(0.5)
+        assert (len(links), ended(links), ended(links[-1:])) == (1002, 1, 0)
     finally:
         for it in links:
             it.close()
@@ -275,6 +277,28 @@ def test_device_has_twenty_downloads_of_late(stocked: Stage) -> None:
         assert link.ask("GET", path, token(1))[0] == 200
 
 
+@pytest.mark.gate
+def test_device_that_asks_on_waits(stocked: Stage) -> None:
+    """A device that is refused is answered at once a hundred times within ten seconds, and then kept waiting. Its polls over
+    another connection aren't, nor is another device."""
+    path, refused = stocked.base + DOWNLOAD.format(1).replace("abc", "small"), 0
+    for _ in range(5):
+        stocked.forget()
+        began, refused = time.monotonic(), 0
+        with stocked.open("127.0.0.93", timeout=3) as link, pytest.raises(TimeoutError):
+            assert [link.ask("GET", path, token(1))[0] for _ in range(20)] == [200] * 20
+            while time.monotonic() < began + 60:
+                assert link.ask("GET", path, token(1))[0] == 429
+                refused += 1
+        # on a machine that stands still for seconds the first ones aren't of late any more
+        if time.monotonic() - began < 10:
+            break
+    assert refused == 100
+    with stocked.open("127.0.0.93") as link:
+        assert [stocked.poll(link, it)[0] for it in (1, 2)] == [200, 200]
+    stocked.forget()
+
+
 def keep_silent_ones(_: str, text: str) -> str:
     """A configuration that ends silent connections after a minute and a half."""
     return re.sub(r"timeout (client|http-request) 10s", r"timeout \1 90s", text)
@@ -291,7 +315,7 @@ def narrow(
     folder = tmp_path_factory.mktemp("narrow")
     more = {"FWDESK_CONNECTIONS": "60", "FWDESK_DOWNLOADS": "6"}
     made = Stage(folder, None, "single", more, keep_silent_ones)
-    server = StandIn(made.behind)
+    server = Plain(made.behind)
     yield made
     server.end()
     made.end()

@@ -6,15 +6,15 @@ import socket
 import subprocess
 import time
 from concurrent.futures import ThreadPoolExecutor
-from pathlib import Path
 from typing import Iterator
 
 import pytest
-from .crowd import compare, hold, is_kept, load, make_sources, silent
+from .crowd import compare, ended, hold, load, make_sources, silent
 from harness.processes import HOST, eventually, free_port
-from .stage import GUESSED, TLS, Link, Stage, StandIn, login
+from .stage import GUESSED, TLS, Link, Plain, Stage, login
 
 pytestmark = [pytest.mark.e2e]
+WRONG = login("ben", "wrong")
 
 
 def wrong(stage: Stage, source: str = HOST, password: str = "wrong", name: str = "zoe") -> int:
@@ -42,14 +42,115 @@ def test_guesser_waits(quiet: Stage) -> None:
     assert 9.5 < time.monotonic() - began < 20
 
 
-def processor(stage: Stage) -> float:
-    """Seconds of a processor that the edge has taken."""
-    ticks = 0
-    for it in stage.edge.workers(stage.edge.edge):
-        ticks += sum(
-            map(int, Path(f"/proc/{it}/stat").read_text().rpartition(")")[2].split()[11:13])
-        )
-    return ticks / os.sysconf("SC_CLK_TCK")
+def guess(stage: Stage, source: str) -> Link:
+    """A wrong login over a connection of its own, whose answer isn't waited for."""
+    link = stage.open(source)
+    link.send(f"GET {stage.base}/rest/v1/targets HTTP/1.1\r\nHost: localhost\r\n{WRONG}\r\n")
+    return link
+
+
+def lets_in(stage: Stage, source: str) -> bool:
+    """Whether an address gets as far as TLS."""
+    try:
+        stage.open(source).close()
+    except OSError:
+        return False
+    return True
+
+
+def serves_device(stage: Stage, device: int, source: str) -> bool:
+    """Whether a poll over a connection of its own is answered."""
+    with stage.open(source) as link:
+        return stage.poll(link, device)[0] == 200
+
+
+def use_up(stage: Stage, source: str) -> None:
+    """All passwords that an address may try in a minute. Those of `ben` cost HAProxy little."""
+    assert [wrong(stage, source, name="ben") for _ in range(20)] == [401] * 20
+
+
+@pytest.mark.gate
+@pytest.mark.timed
+def test_stranger_who_guesses_gets_no_tls(stocked: Stage) -> None:
+    """An address that was refused a hundred times unread within ten seconds isn't let in any more. One where a device was answered
+    is, and so is one where an operator was, and any other."""
+    stocked.forget()
+    stranger, devices, operators, other = (f"127.12.0.{it}" for it in range(1, 5))
+    assert serves_device(stocked, 1, devices)
+    assert stocked.ask("GET", "/fwdesk/me", login("ben"), source=operators)[0] == 200
+    links: list[Link] = []
+    try:
+        for it in (stranger, devices, operators):
+            use_up(stocked, it)
+            hold(links, lambda it=it: guess(stocked, it), 100)
+        eventually("a stranger who isn't let in", lambda: not lets_in(stocked, stranger), 5)
+        assert len(links) == 300
+        assert [lets_in(stocked, it) for it in (devices, operators, other)] == [True] * 3
+        assert serves_device(stocked, 2, devices)
+    finally:
+        for link in links:
+            link.close()
+    stocked.forget()
+    assert serves_device(stocked, 1, stranger)
+
+
+@pytest.mark.gate
+@pytest.mark.timed
+def test_strangers_get_no_tls_while_many_guess(stocked: Stage) -> None:
+    """Where all together were refused unread a hundred times within ten seconds, a stranger is let in no more once he was.
+    Who wasn't is."""
+    stocked.forget()
+    operators, links = "127.13.1.1", []
+    assert stocked.ask("GET", "/fwdesk/me", login("ben"), source=operators)[0] == 200
+    for it in range(1, 16):
+        use_up(stocked, f"127.13.0.{it}")
+    sources = [f"127.13.2.{it}" for it in range(1, 102)]
+    try:
+        for it in sources:
+            hold(links, lambda it=it: guess(stocked, it), 1)
+        eventually("strangers who aren't let in", lambda: not lets_in(stocked, sources[-1]), 5)
+        assert len(links) == len(sources)
+        assert not any(lets_in(stocked, it) for it in sources[:10])
+        assert serves_device(stocked, 1, "127.13.1.2")
+        assert stocked.ask("GET", "/fwdesk/me", login("ben"), source=operators)[0] == 200
+    finally:
+        for link in links:
+            link.close()
+    stocked.forget()
+
+
+@pytest.mark.gate
+def test_fleet_behind_one_router_is_served(stocked: Stage, size: int) -> None:
+    """A hundred devices (a thousand at full size) that come back at the same moment, each by a connection of its own, from an
+    address that nobody knows yet; then thirty (three hundred), one after the other, beside one who guesses there.
+    """
+    stocked.forget()
+    router, links = "127.14.0.1", []
+
+    def come(device: int) -> int:
+        link = stocked.open(router)
+        links.append(link)
+        return stocked.poll(link, device)[0]
+
+    try:
+        with ThreadPoolExecutor(32) as those:
+            told = list(those.map(come, range(1, 100 * size + 1)))
+    finally:
+        for link in links:
+            link.close()
+    assert told == [200] * len(told)
+    use_up(stocked, router)
+    guesses: list[Link] = []
+    try:
+        for device in range(1, 30 * size + 1):
+            hold(guesses, lambda: guess(stocked, router), 2)
+            assert serves_device(stocked, device, router)
+            if len(guesses) > 100:
+                guesses.pop(0).close()
+    finally:
+        for link in guesses:
+            link.close()
+    stocked.forget()
 
 
 @pytest.mark.gate
@@ -60,9 +161,9 @@ def test_long_password_is_cheap(quiet: Stage, letters: int) -> None:
     spent, source = [], f"127.0.8.{letters % 250}"
     for password in ("short", "x" * letters):
         quiet.forget()
-        began = processor(quiet)
+        began = quiet.processor()
         assert [wrong(quiet, source, password) for _ in range(19)] == [401] * 19
-        spent.append(processor(quiet) - began)
+        spent.append(quiet.processor() - began)
     quiet.forget()
     assert spent[1] <= spent[0] * 1.5 + 0.03, spent
     for _ in range(20):
@@ -80,14 +181,14 @@ def test_time_tells_no_name(quiet: Stage) -> None:
     quickest, spent = dict.fromkeys(names, 90.0), dict.fromkeys(names, 0.0)
     for turn in range(6):
         for name in names:
-            since = processor(quiet)
+            since = quiet.processor()
             for number in range(20):
                 with quiet.open(f"127.10.{turn}.{number + 1}") as link:
                     began = time.perf_counter()
                     path = f"{quiet.base}/rest/v1/targets"
                     assert link.ask("GET", path, login(name, "wrong"))[0] == 401
                     quickest[name] = min(quickest[name], time.perf_counter() - began)
-            spent[name] += processor(quiet) - since
+            spent[name] += quiet.processor() - since
     print(f"{quiet.form}: quickest {quickest}, of the processor {spent}; {load()}")
     # where the password of an absent name isn't checked these are a fifth and a third
     assert 0.5 < quickest["absent"] / quickest[GUESSED] < 2, quickest
@@ -144,7 +245,7 @@ def both(
     made.edge.port = made.port = port
     made.base = ""
     made.edge.start()
-    server = StandIn(made.behind)
+    server = Plain(made.behind)
     yield made
     server.end()
     made.end()
@@ -206,8 +307,10 @@ def test_network_has_a_thousand_connections(both: Stage, network: str) -> None:
             hold(links, lambda: silent(both.port, f"{network}:3::{host}"), 200)
         eventually("a thousand connections", lambda: both.connections() == len(links) == 1000)
         hold(links, lambda: silent(both.port, f"{network}:3::6"), 1)
+        eventually("one that is ended", lambda: ended(links) == 1, 5)
         hold(links, lambda: silent(both.port, f"{network}:4::6"), 1)
-        assert (is_kept(links[-2]), is_kept(links[-1])) == (False, True)
+        time.sleep(0.5)
+        assert (len(links), ended(links), ended(links[-1:])) == (1002, 1, 0)
     finally:
         for it in links:
             it.close()

@@ -14,6 +14,7 @@ from typing import Iterator
 
 import pytest
 from harness.processes import HOST, eventually, free_port, listens
+from harness.stand_in import StandIn, send_reply
 from .stage import PASSWORD, Before, Stage, login
 
 pytestmark = [pytest.mark.e2e]
@@ -28,7 +29,7 @@ SCRIPT = """const [at, done] = arguments;
       done(said); })();"""
 
 
-class Mortal:
+class Mortal(StandIn):
     """A desk that ends its connection in place of a reply to what names a mark that ends in 9. It counts each mark that
     comes."""
 
@@ -37,34 +38,17 @@ class Mortal:
     def __init__(self, port: int) -> None:
         self.seen: Counter[str] = Counter()
         self.way = WAYS[0]
-        self.listener = socket.create_server((HOST, port))
-        threading.Thread(target=self.accept, daemon=True).start()
+        super().__init__(port)
 
-    def accept(self) -> None:
-        while True:
-            try:
-                link = self.listener.accept()[0]
-            except OSError:
-                return
-            threading.Thread(target=self.serve, args=(link,), daemon=True).start()
-
-    def serve(self, link: socket.socket) -> None:
-        text = b""
-        while piece := link.recv(65536):
-            text += piece
-            while (found := re.search(rb"\r\n\r\n", text)) is not None:
-                length = re.search(rb"content-length: (\d+)", text[: found.end()], re.I)
-                whole = found.end() + int(length[1] if length else 0)
-                if len(text) < whole:
-                    break
-                mark = re.search(rb"mark-(\d+)", text)
-                self.seen[mark[1].decode() if mark else ""] += 1
-                text = text[whole:]
-                if mark and mark[1].endswith(b"9"):
-                    return self.die(link)
-                link.sendall(
-                    b"HTTP/1.1 200 OK\r\nContent-Type: application/json\r\nContent-Length: 2\r\n\r\n{}"
-                )
+    def answer(self, link: socket.socket, request: bytes) -> bool:
+        found = re.search(rb"mark-(\d+)", request)
+        mark = found[1].decode() if found else ""
+        self.seen[mark] += 1
+        if mark.endswith("9"):
+            self.die(link)
+            return False
+        send_reply(link)
+        return True
 
     def die(self, link: socket.socket) -> None:
         if self.way == "reset":
@@ -72,10 +56,6 @@ class Mortal:
         if self.way == "in the head":
             link.sendall(b"HTTP/1.1 200 OK\r\nContent-Le")
         link.close()
-
-    def end(self) -> None:
-        self.listener.shutdown(socket.SHUT_RDWR)
-        self.listener.close()
 
 
 @pytest.fixture(scope="class")

@@ -8,7 +8,7 @@ import pytest
 from harness import http_client
 from harness.processes import HOST
 
-from .stage import Stage, StandIn, login, token
+from .stage import Plain, Stage, login, token
 
 pytestmark = [pytest.mark.e2e, pytest.mark.gate]
 # how /proc/net/tcp tells a socket that listens
@@ -93,7 +93,7 @@ def named(stage: Stage, tmp_path_factory: pytest.TempPathFactory) -> Iterator[St
     """The same form where an operator has said by which names it is reached."""
     folder = tmp_path_factory.mktemp("named")
     made = Stage(folder, None, stage.form, {"FWDESK_HOSTS": "desk.example 127.0.0.1"})
-    server = StandIn(made.behind)
+    server = Plain(made.behind)
     yield made
     server.end()
     made.end()
