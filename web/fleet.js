@@ -79,7 +79,7 @@ function listForm(page) {
 
 export const view = {
   title: () => t("frame.fleet"),
-  /** In another order than that of ids the console has all of them, and else all are asked for, once. */
+  /** In another order than that of ids the console has those that match, and else all of these are asked for, once. */
   async load(_, query, before) {
     const filter = query.get("q") ?? "";
     const offset = Number(query.get("offset") ?? 0);
@@ -90,15 +90,16 @@ export const view = {
       }
       return {refusal, content: [], total: 0};
     };
-    const told = sort && !filter ? await askConsole(`/fwdesk/devices?${new URLSearchParams({sort, offset, limit: SHOWN})}`) : null;
+    const text = searched(filter);
+    const told = sort ? await askConsole(`/fwdesk/devices?${new URLSearchParams({...(text && {q: text}), sort, offset, limit: SHOWN})}`) : null;
     if (told) {
       return {filter, offset, sort, targets: told};
     }
     if (sort) {
-      const whole = before?.whole && before.filter === filter ? before.whole : await all(matching(searched(filter))).catch(none);
+      const whole = before?.whole && before.filter === filter ? before.whole : await all(matching(text)).catch(none);
       return {filter, offset, sort, whole, targets: whole.refusal ? whole : pageIn(sorted(whole, sort, KEYS), offset)};
     }
-    return {filter, offset, sort, targets: await pageOf(matching(searched(filter)), offset, SHOWN).catch(none)};
+    return {filter, offset, sort, targets: await pageOf(matching(text), offset, SHOWN).catch(none)};
   },
   draw({filter, offset, sort, targets}, page) {
     const address = (at, text = filter, order = sort) => `#/targets?${new URLSearchParams({q: text, offset: at, ...(order && {sort: order})})}`;

@@ -14,8 +14,10 @@ from . import metrics
 from .clock import Clock
 from .desk import Desk
 from .ear import Ear, unquoted
-from .fleet import ORDERS, WORST, Fleet
+from .filters import NoFilter
+from .fleet import Fleet
 from .history import History
+from .listing import ORDERS, WORST, TakesTooLong
 from .machine import Machine
 from .polls import Polls, Unknown
 from .rollouts import Rollouts
@@ -42,6 +44,7 @@ KIND = re.compile(r"[a-z]{1,20}")
 STATE = re.compile("|".join(WORST))
 ORDER = re.compile(f"-?(?:{'|'.join(ORDERS)})")
 LACKS = re.compile("version|poll")
+FILTER = re.compile(r"[^\x00-\x1f\x7f]{1,512}")
 OFFSET = re.compile(r"[0-9]{1,10}")
 
 
@@ -263,13 +266,22 @@ class Console:
         return tells({it: round(at, 1) for it, at in rows if now - at >= least})
 
     async def devices(self, request: web.Request) -> web.Response:
-        """A page of the devices as they were counted last, in an order that no call of the desk has."""
+        """A page of the devices as they were counted last, by a filter and in an order that no call of the desk has."""
         taken = read_query(
-            request, state=STATE, lacks=LACKS, sort=ORDER, offset=OFFSET, limit=NUMBER
+            request, state=STATE, lacks=LACKS, q=FILTER, sort=ORDER, offset=OFFSET, limit=NUMBER
         )
-        if self.fleet.counted is None:
+        listing = self.fleet.look()
+        if listing is None:
             return tells({"error": "devices", "words": "the devices aren't counted yet"}, 503)
-        found = self.fleet.listed(taken.get("state", ""), taken.get("sort", ""))
+        found = listing.ordered(taken.get("state", ""), taken.get("sort", ""))
+        if "q" in taken:
+            try:
+                matching = await listing.matching(taken["q"])
+            except NoFilter as error:
+                raise Refused(f"q is no filter: {error}") from None
+            except TakesTooLong as error:
+                return tells({"error": "filter", "words": str(error)}, 503)
+            found = [it for it in found if it["controllerId"] in matching]
         if "lacks" in taken:
             try:
                 known = await self._known_by(taken["lacks"])
@@ -278,7 +290,7 @@ class Console:
             found = [it for it in found if it["controllerId"] not in known]
         begin, most = int(taken.get("offset", 0)), min(500, int(taken.get("limit", 50)))
         page = found[begin : begin + most]
-        return tells({"at": self.fleet.counted, "total": len(found), "content": page})
+        return tells({"at": listing.at, "total": len(found), "content": page})
 
     async def _known_by(self, what: str) -> Container[str]:
         """The devices that have a version that is known, or that HAProxy has answered."""

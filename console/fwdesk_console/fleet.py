@@ -1,13 +1,11 @@
-"""Which devices there are, by their state, and how many are silent. Asked only where something was heard since."""
+"""Which devices there are, by their state, and how many are silent. Asked only where something was heard since, or somebody looks."""
 import asyncio
 import logging
-import re
 from collections import Counter
-from collections.abc import Callable
-from typing import Any
 
 from .clock import Clock
 from .desk import Away, Desk, Json
+from .listing import Listing
 from .polls import Polls, Unknown
 
 EVERY = 10.0  # seconds between two countings
@@ -15,24 +13,14 @@ GENTLE = 60.0  # or so many times what one took
 ANYWAY = 3600.0  # where nothing was heard
 CHANGES = ("/desk/v1/import", "/rest/v1/targets")
 KEPT = ("controllerId", "name", "updateStatus", "tags", "attributes")  # of each device
-WORST = ("error", "pending", "in_sync", "unknown")
-ORDERS = ("id", "name", "state")
-
-
-def natural(text: str) -> list[tuple[int, int, str]]:
-    """By which texts are ordered as people do: dev-9 before dev-10, small letters as capital ones."""
-    parts = re.split(r"([0-9]+)", text.casefold())
-    return [(0, int(it), "") if n % 2 else (1, 0, it) for n, it in enumerate(parts)]
 
 
 class Fleet:
     def __init__(self, clock: Clock, desk: Desk, polls: Polls, silent_after: float):
         self.clock, self.desk, self.polls, self.silent_after = clock, desk, polls, silent_after
-        self.devices: list[Json] = []
+        self.listing: Listing | None = None
         self.states: dict[str, int] = {}
         self.total = 0
-        self._listed: dict[tuple[str, str], list[Json]] = {}
-        self.counted: float | None = None
         self.silent: int | None = None
         self.never: int | None = None
         self.polls_away = ""
@@ -46,6 +34,11 @@ class Fleet:
         if path.startswith(CHANGES):
             self._next = min(self._next, self._counted_at + EVERY)
 
+    def look(self) -> Listing | None:
+        """The newest count. No line of HAProxy tells of attributes, so what is looked at is counted again soon."""
+        self.has_news = True
+        return self.listing
+
     async def count(self) -> None:
         """Reads the whole list of devices, 500 at a time."""
         self.has_news = False
@@ -57,9 +50,8 @@ class Fleet:
         if (states, len(devices)) != (self.states, self.total):
             self.version += 1
         self.states, self.total = states, len(devices)
-        self.devices = [{key: it[key] for key in KEPT if key in it} for it in devices]
-        self._listed.clear()
-        self.counted, self._counted_at = self.clock.wall(), self.clock.steady()
+        kept = [{key: it[key] for key in KEPT if key in it} for it in devices]
+        self.listing, self._counted_at = Listing(self.clock.wall(), kept), self.clock.steady()
 
     async def look_for_silent(self) -> None:
         """Of those that were seen since HAProxy keeps its table; the rest never polled, or not since then."""
@@ -71,27 +63,14 @@ class Fleet:
         else:
             now = self.clock.wall()
             silent = sum(now - at >= self.silent_after for at in known.values())
-            never = max(0, self.total - len(known)) if self.counted else None
+            never = max(0, self.total - len(known)) if self.listing else None
             found, self.polls_away = (silent, never), ""
         if found != (self.silent, self.never):
             self.silent, self.never = found
             self.version += 1
 
-    def listed(self, state: str, order: str) -> list[Json]:
-        """Those of a state, or all, in an order: `id`, `name`, `state`, or with a `-` before it the other way round."""
-        if (state, order) not in self._listed:
-            of_state = [it for it in self.devices if not state or it["updateStatus"] == state]
-            keys: dict[str, Callable[[Json], Any]] = {
-                "id": lambda it: natural(it["controllerId"]),
-                "name": lambda it: natural(it["name"]),
-                "state": lambda it: WORST.index(it["updateStatus"]),
-            }
-            found = sorted(of_state, key=keys[order.lstrip("-")]) if order else of_state
-            self._listed[state, order] = found[::-1] if order.startswith("-") else found
-        return self._listed[state, order]
-
     def shown(self) -> Json | None:
-        if self.counted is None:
+        if self.listing is None:
             return None
         return {
             "devices": self.total,

@@ -58,7 +58,7 @@ def text(console: "Console", orders: tuple[int, dict[str, int]] | None = None) -
         *metric(
             "fwdesk_targets",
             "Devices that the desk knows.",
-            [({}, fleet.total)] if fleet.counted else [],
+            [({}, fleet.total)] if fleet.listing else [],
         ),
         *metric(
             "fwdesk_targets_by_state",

@@ -51,7 +51,7 @@ class Stock:
 
     def used(self) -> dict[str, int]:
         """How much there is of each; nothing before the first count."""
-        if self.sets is None or self.fleet.counted is None:
+        if self.sets is None or self.fleet.listing is None:
             return {}
         groups = [int(it.about["totalGroups"]) for it in self.rollouts.known.values()]
         return {

@@ -78,7 +78,8 @@ class Browser:
             self.driver.save_screenshot(f"{folder}/{name}.png")
 
     def whole_picture(self, name: str) -> None:
-        """Of the whole page, however long, where PICTURES names a folder."""
+        """Of the whole page, however long, where PICTURES names a folder. A bar to scroll by would cut its right end off."""
+        self.driver.execute_cdp_cmd("Emulation.setScrollbarsHidden", {"hidden": True})
         told = self.driver.execute_cdp_cmd(
             "Page.captureScreenshot", {"captureBeyondViewport": True, "format": "png"}
         )

@@ -243,6 +243,8 @@ def test_a_refused_parameter_is_400_and_no_header_has_a_version(env):
         "/fwdesk/seen?device=a/b",
         "/fwdesk/versions?set=0",
         "/fwdesk/devices?sort=token",
+        "/fwdesk/devices?q=",
+        "/fwdesk/devices?q=name%3D%3Da%0A",
         "/fwdesk/coming?fleet=other",
     ):
         status, fields, body = env.ask(path)

@@ -108,9 +108,9 @@ def test_each_fleet_has_a_console_that_knows_it_alone(room):
     acme, other = room.fleets.values()
     rollout = acme.plan("of acme", groups=1, error=20)
     acme.fail(rollout, 2, "disk full")
-    paused = lambda: acme.state(rollout)["rollout"]["status"] == "paused"
+    paused = lambda: "paused" in acme.state(rollout)["rollout"]["acts"]
     known = lambda: acme.ask(f"/fwdesk/state?rollout={rollout}")[0] == 200 and paused()
-    eventually("it is paused", known, 20)
+    eventually("it is known to be paused", known, 20)
     acts = acme.state(rollout)["rollout"]["acts"]
     assert acts["start"]["who"] == "anna" and acts["paused"]["by"] == "itself"
     seen = lambda it: it.api("/fwdesk/seen?device=dev-00001")["at"]

@@ -2,7 +2,6 @@
 a stand-in answers in its place, or in that of the second HAProxy."""
 import signal
 import socket
-import threading
 import time
 from collections import Counter
 
@@ -11,46 +10,25 @@ import pytest
 from harness import http_client
 from harness.edge import Edge
 from harness.processes import HOST, PATIENCE, eventually
-
-EMPTY = b"HTTP/1.1 200 OK\r\nContent-Type: application/json\r\nContent-Length: 2\r\n\r\n{}"
-
-
-def read_head(connection):
-    """A request without a body, or nothing where the connection has ended."""
-    told = b""
-    while not told.endswith(b"\r\n\r\n"):
-        if not (piece := connection.recv(65536)):
-            return b""
-        told += piece
-    return told
+from harness.stand_in import StandIn, send_reply
 
 
-class StandIn:
+class Mortal(StandIn):
     """Answers so many requests of each connection, and ends it under the next one, which it has read. `asked` counts what was
     read, by method and path."""
 
     def __init__(self, listener, most):
-        self.listener, self.most, self.asked = listener, most, Counter()
-        threading.Thread(target=self.run, daemon=True).start()
+        self.most, self.asked, self.answered = most, Counter(), Counter()
+        super().__init__(listener)
 
-    def run(self):
-        while True:
-            try:
-                connection, _ = self.listener.accept()
-            except OSError:
-                return
-            threading.Thread(target=self.serve, args=(connection,), daemon=True).start()
-
-    def serve(self, connection):
-        with connection:
-            answered = 0
-            while head := read_head(connection):
-                method, path, _ = head.decode().split(" ", 2)
-                self.asked[method, path] += 1
-                if answered == self.most:
-                    return
-                connection.sendall(EMPTY)
-                answered += 1
+    def answer(self, link, request):
+        method, path, _ = request.decode().split(" ", 2)
+        self.asked[method, path] += 1
+        if self.answered[link] == self.most:
+            return False
+        self.answered[link] += 1
+        send_reply(link)
+        return True
 
 
 def ask(path, socket_path, method="GET"):
@@ -60,11 +38,11 @@ def ask(path, socket_path, method="GET"):
 @pytest.fixture
 def edge(tmp_path):
     tmp_path.chmod(0o755)
-    desk = StandIn(socket.create_server((HOST, 0)), 10**9)
+    desk = Mortal(socket.create_server((HOST, 0)), 10**9)
     made = Edge(tmp_path, desk.listener.getsockname()[1], more={"FWDESK_CONSOLE": "1"})
     yield made
     made.end()
-    desk.listener.close()
+    desk.end()
 
 
 def test_a_look_whose_connection_ends_is_asked_again_and_a_command_is_not(edge):
@@ -72,7 +50,7 @@ def test_a_look_whose_connection_ends_is_asked_again_and_a_command_is_not(edge):
     listener = socket.socket(socket.AF_UNIX)
     listener.bind(str(path))
     listener.listen()
-    second = StandIn(listener, 1)
+    second = Mortal(listener, 1)
     edge.edge = edge.begin("edge", edge.edge_words(), edge.local)
     looks = edge.run / "haproxy/fwdesk-looks.sock"
     assert [ask("/rest/v1/rollouts", looks) for _ in range(4)] == [200] * 4

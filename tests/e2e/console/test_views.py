@@ -298,6 +298,27 @@ def clock_of(folder):
     return {"FWDESK_UNITS": f"{folder}/units", "FWDESK_CLOCK": f"{folder}/book"}
 
 
+def test_a_filtered_list_in_another_order_is_the_consoles(env, open_browser):
+    """All devices that match are read from the desk by nobody; what is no filter is refused by the desk, as in its own order."""
+    first = lambda: browser.text("main tbody tr td")
+    browser = open_browser(env, "#/targets?q=name%3D%3D*1*&sort=-name")
+    # of 20 devices 1 and 10 to 19
+    browser.until("dev-00019", "main table")
+    browser.until("as counted at", "main")
+    assert first() == "dev-00019" and len(browser.text("main tbody").splitlines()) >= 11
+    browser.go("#/targets?q=name%3D%3D*1*&sort=name")
+    eventually("the other way round", lambda: first() == "dev-00001", 20)
+    browser.go("#/targets?q=Device&offset=0&sort=-id")
+    eventually("by a word", lambda: first() == "dev-00020", 20)
+    asked = browser.asked()
+    assert sum(it.startswith("/fwdesk/devices?q=") for it in asked) >= 3, asked
+    assert not any("/rest/v1/targets?q=" in it and "limit=500" in it for it in asked), asked
+    browser.go("#/targets?q=name%3D%3D&sort=name")
+    browser.until("Refused: the filter can't be read (number 11).", "main")
+    lines = browser.faults()
+    assert all("status of 400" in it for it in lines), lines
+
+
 def test_what_is_to_come_is_listed_in_this_browsers_times(tmp_path, open_browser, monkeypatch):
     """Scheduled commands, quiet hours and what wasn't done lately; where nothing is to come there is nothing."""
     own = clock_of(tmp_path)
