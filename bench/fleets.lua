@@ -1,9 +1,16 @@
 -- wrk's script: polls of random devices of random fleets, each led to by path, by prefix or, through TLS, by host; or downloads of what they are offered.
--- wrk .. -s fleets.lua URL -- FIRST LAST DEVICES keep|close|download
-local first, last, devices, close, download
+-- wrk .. -s fleets.lua URL -- FIRST LAST DEVICES keep|close|download PAUSE
+-- PAUSE: milliseconds from one poll of a connection to its next one, on the average; 0 for none
+local first, last, devices, close, download, pause
 function init(args)
     first, last, devices, close, download = tonumber(args[1]), tonumber(args[2]), tonumber(args[3]), args[4] == "close", args[4] == "download"
+    pause = tonumber(args[5])
     math.randomseed(os.time())
+    if pause == 0 then delay = nil end
+end
+-- wrk counts no reply's wait from before this
+function delay()
+    return math.random(0, 2 * pause)
 end
 function request()
     local fleet = string.format("f%02d", math.random(first, last))

@@ -264,7 +264,7 @@ def is_whole(got):
 
 
 def connected(port):
-    """A connection to the port, once something listens there."""
+    """A connection to the port, once something listens there: a bare socket, since an HTTP client's time would be measured too."""
     for _ in range(6000):
         try:
             made = socket.create_connection((HOST, port))

@@ -9,6 +9,7 @@ import stat
 import subprocess
 import time
 
+from harness import http_client
 from .environment import CLI, HOST, PASSWORD, Proxy
 from .environment import eventually, needs, packages, status
 
@@ -35,14 +36,8 @@ class Topology:
         }, answer
         return [*answer[1]["_links"]]
 
-    def fields(self, path, name):
-        """The head of a reply."""
-        with socket.create_connection((HOST, self.proxy.near)) as it:
-            it.sendall(
-                f"GET {path} HTTP/1.1\r\nHost: localhost\r\nConnection: close\r\n"
-                f"Authorization: TargetToken tok-{name}\r\n\r\n".encode()
-            )
-            return b"".join(iter(lambda: it.recv(65536), b"")).decode()
+    def reply(self, path, name):
+        return http_client.ask("GET", path, fields=http_client.token(name), port=self.proxy.near)
 
     def seconds(self):
         """How long fwdesk-brake takes here to begin and end, which is much on a busy machine."""
@@ -84,15 +79,12 @@ def holds(env):
         assert topology.device(name) == idle, name
     assert topology.device(names[1], token="tok-other-1")[0] == 401
     for spelt in (names[1], names[1].replace("-", "%2D"), f"{names[1]}?x=1"):
-        assert "deploymentBase" not in topology.fields(f"{BASE}/{spelt}", names[1]), spelt
-    refused = topology.fields(link, names[1]).lower()
-    assert (
-        refused.startswith("http/1.1 503 ")
-        and "\r\nretry-after: 300\r\n" in refused
-        and "chunks" not in refused
-    ), refused
+        assert "deploymentBase" not in topology.reply(f"{BASE}/{spelt}", names[1]).text, spelt
+    refused = topology.reply(link, names[1])
+    assert refused.status == 503 and refused.fields["retry-after"] == "300", refused
+    assert "chunks" not in refused.text, refused
     for spelt in (f"{link}?x=1", link.replace(names[1], names[1].replace("-", "%2D"))):
-        assert "chunks" not in topology.fields(spelt, names[1]), spelt
+        assert "chunks" not in topology.reply(spelt, names[1]).text, spelt
     rest = link.removeprefix(f"{BASE}/{names[1]}")
     assert (
         topology.device(names[1], rest, token="tok-other-1")[0] == 401

@@ -2,51 +2,38 @@
 modules, and its devices send numbered feedback, until it is ended. Each command is sent until it is acknowledged, and
 then written to FOLDER/FLEET.acks: time, kind, what, how often it was sent. `compared` says how all of it differs from
 what a fleet keeps."""
-import base64
-import http.client
 import json
-import ssl
 import sys
 import threading
 import time
 from collections import Counter
+from pathlib import Path
+
+sys.path.insert(0, str(Path(__file__).resolve().parents[2]))
+from harness import http_client
 
 NOTES, MODULES = 100, 900
-LOGIN = {"Authorization": "Basic " + base64.b64encode(b"anna:secret").decode()}
+LOGIN = http_client.login("anna", "secret")
 PORT = 8443
-
-
-def trusting():
-    context = ssl.create_default_context()
-    context.check_hostname, context.verify_mode = False, ssl.CERT_NONE
-    return context
 
 
 class Fleet:
     """A fleet as its clients reach it, over one connection that is made anew where it failed."""
 
     def __init__(self, name, address, patience=4):
-        self.name, self.address, self.patience, self.kept, self.context = (
-            name,
-            address,
-            patience,
-            None,
-            trusting(),
-        )
+        self.name, self.address, self.patience, self.kept = name, address, patience, None
+        self.trusted = http_client.trust_all()
 
     def asks(self, method, path, body=None, head=LOGIN):
         """Status and body of an answer."""
         try:
             if not self.kept:
-                self.kept = http.client.HTTPSConnection(
-                    self.address, PORT, timeout=1, context=self.context
-                )
+                self.kept = http_client.connect(PORT, self.address, self.trusted, seconds=1)
                 self.kept.connect()
                 self.kept.sock.settimeout(self.patience)
-            self.kept.request(method, path, body, head)
-            answer = self.kept.getresponse()
-            return answer.status, answer.read()
-        except (OSError, http.client.HTTPException):
+            reply = http_client.exchange(self.kept, method, path, body, head)
+            return reply.status, reply.body
+        except http_client.BROKEN:
             self.drop()
             raise
 
@@ -67,14 +54,14 @@ class Fleet:
                 # 408 and 5xx say that it may be kept or not: of the proxy, and of a desk whose store failed
                 if status < 500 and status != 408:
                     raise SystemExit(f"{self.name} {method} {path} {body}: {status} {told}")
-            except (OSError, http.client.HTTPException):
+            except http_client.BROKEN:
                 pass
             time.sleep(0.1)
 
     def answers(self):
         try:
             return self.asks("GET", "/rest/v1/softwaremodules?limit=1")[0] == 200
-        except (OSError, http.client.HTTPException):
+        except http_client.BROKEN:
             return False
 
     def looks(self, path, seconds=180):
@@ -85,7 +72,7 @@ class Fleet:
                 status, told = self.asks("GET", path)
                 if status < 500 or time.monotonic() > ends:
                     return status, told
-            except (OSError, http.client.HTTPException):
+            except http_client.BROKEN:
                 if time.monotonic() > ends:
                     raise
             time.sleep(0.2)
@@ -180,7 +167,7 @@ def reports(folder, fleet, pause, devices):
         name = name_of(fleet.name, device)
         path, head = (
             f"/DEFAULT/controller/v1/{name}/deploymentBase/{device}/feedback",
-            {"Authorization": f"TargetToken tok-{name}"},
+            http_client.token(name),
         )
         for n in range(1, NOTES + 1):
             body = {
@@ -231,8 +218,6 @@ def compared(folder, fleet, most):
 
 
 def main():
-    from pathlib import Path
-
     folder, devices, fleets = (
         Path(sys.argv[1]),
         int(sys.argv[2]),

@@ -76,7 +76,7 @@ def put_proxies(root, fleets):
     own, password = "etc/fwdesk/haproxy.d", said(
         "openssl", "passwd", "-6", "-salt", "lab", "secret"
     )
-    local = DEPLOY / "haproxy/local/single"
+    local = DEPLOY / "haproxy/local"
     put(root, f"{own}/10-own.cfg", text(CLUSTER / "haproxy.cfg"))
     users = text(local / "20-operators.cfg").replace("@PASSWORD@", password)
     put(root, f"{own}/20-operators.cfg", users)
