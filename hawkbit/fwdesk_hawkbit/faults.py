@@ -30,7 +30,7 @@ ERRORS = {
     "permission": (403, "InsufficientPermissionException", "insufficientpermission"),
     "desk": (503, "GenericSpServerException", "repo.generic"),
 }
-# what a refusal of the desk is to hawkBit, by its number; any other one is a fault of the desk
+# what a refusal of the desk is to hawkBit, by its number
 OF_NUMBER = {
     1: "body",
     3: "not found",
@@ -44,6 +44,8 @@ OF_NUMBER = {
     13: "digest sha256",
     14: "constraint",
 }
+# the others, which are told by their status alone, or as a fault of the desk
+BY_STATUS = {2, 4, 8, 15, 16, 17, 18, 19, 20, 21, 22}
 
 
 class Fault(Exception):

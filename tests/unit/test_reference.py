@@ -134,6 +134,18 @@ def test_the_tables_of_the_page_are_written():
         made.api_page("no table\n", tables())
 
 
+def test_the_rows_of_the_tests_of_crates_are_written():
+    before = "use a;\n\nconst ROWS: [(Refusal, u8, &str, u16, bool); 1] = [\n    (Refusal::TooBright(3), 9, {}),\n];\n\nb\n"
+    same(
+        made.tests_of_crates(before.replace("{}", '"dim", 400, false'), tables()),
+        "use a;\n\nconst ROWS: [(Refusal, u8, &str, u16, bool); 2] = [\n"
+        '    (Refusal::Dark, 1, "dark", 404, false),\n'
+        '    (Refusal::TooBright(3), 2, "bright", 413, true),\n];\n\nb\n',
+    )
+    with refused(reference.BadTable, "has no table ROWS"):
+        made.tests_of_crates("const LINES: u8 = 1;\n", tables())
+
+
 def test_the_description_has_the_refusals():
     found = document()
     made.describe_refusals(found, tables().refusals)
@@ -229,10 +241,6 @@ def test_rows_of_sources_are_read():
         ' { number = 2; name = codes "bright"; status = 413; ends = true }\n'
     )
     same(literals.rows_of_definitions(definitions), rows)
-    tests = (
-        '(Refusal::Dark, 1, "dark", 404, false),\n(Refusal::TooBright(3), 2, "bright", 413, true),'
-    )
-    same(literals.rows_of_tests(tests), rows)
     code = (
         "pub enum Refusal {\n    /// No lamp.\n    Dark,\n    /// Too many.\n    TooBright(u64),\n}\n"
         "    pub fn number(&self) -> u8\n    {\n        match self {\n"
@@ -250,9 +258,8 @@ def test_rows_of_sources_are_read():
 
 
 def test_differing_rows_are_told():
-    dark, bright = literals.rows_of_tests(
-        '(Refusal::Dark, 1, "dark", 404, false), (Refusal::TooBright, 2, "bright", 413, true)'
-    )
+    dark = literals.Row("Dark", 1, "dark", 404, False)
+    bright = literals.Row("TooBright", 2, "bright", 413, True)
     same(list(literals.differences([dark, bright], tables())), [])
     same(
         list(literals.differences([bright, dark], tables())),
