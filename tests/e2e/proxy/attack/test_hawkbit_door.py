@@ -2,7 +2,6 @@
 
 import shutil
 import socket
-import threading
 from collections.abc import Iterator
 from pathlib import Path
 
@@ -10,6 +9,7 @@ import pytest
 from harness.tls import make_certificate
 from harness.nginx import write_frame
 from harness.processes import HOST, Processes, eventually, free_port, listens, with_places
+from harness.stand_in import StandIn
 from .stage import ROOT, TLS, Link, login
 
 pytestmark = [
@@ -37,32 +37,23 @@ FOREIGN = (
 )
 
 
-class Behind:
+class Behind(StandIn):
     """Whoever is behind nginx: he answers 200, and remembers the first line of each request."""
 
     def __init__(self, path: Path) -> None:
         self.seen: list[str] = []
-        self.listener = socket.socket(socket.AF_UNIX)
-        self.listener.bind(str(path))
-        self.listener.listen(64)
+        listener = socket.socket(socket.AF_UNIX)
+        listener.bind(str(path))
+        listener.listen(64)
         # the user of nginx's workers comes in
         path.chmod(0o666)
-        threading.Thread(target=self.accept, daemon=True).start()
+        super().__init__(listener)
 
-    def accept(self) -> None:
-        while True:
-            try:
-                link = self.listener.accept()[0]
-            except OSError:
-                return
-            with link:
-                text = link.recv(65536).decode("latin-1")
-                self.seen.append(text.partition("\r\n")[0])
-                link.sendall(b"HTTP/1.1 200 OK\r\nConnection: close\r\nContent-Length: 2\r\n\r\n{}")
-
-    def end(self) -> None:
-        self.listener.shutdown(socket.SHUT_RDWR)
-        self.listener.close()
+    def answer(self, link: socket.socket, request: bytes) -> bool:
+        self.seen.append(request.partition(b"\r\n")[0].decode("latin-1"))
+        # of no type in which nginx would look for links, since it would pass that on in chunks
+        link.sendall(b"HTTP/1.1 200 OK\r\nContent-Length: 2\r\n\r\n{}")
+        return True
 
 
 @pytest.fixture(scope="module")
