@@ -4,6 +4,7 @@ import errno
 import fcntl
 import os
 import shutil
+import stat
 import time
 from collections.abc import Iterable, Iterator
 from pathlib import Path
@@ -45,6 +46,24 @@ def placed(
             beside.unlink(missing_ok=True)
         raise NotDone(f"cannot write {path}: {error.strerror}") from None
     synced(path.parent)
+
+
+def copy_file(source: Path, new: Path, owner: os.stat_result | None = None) -> None:
+    """Makes a new file, for its owner alone, with the bytes of a regular one; they are on the disk then. Symbolic links are
+    followed at neither name."""
+    flags = os.O_NOFOLLOW | os.O_CLOEXEC
+    with contextlib.ExitStack() as opened:
+        given = os.open(source, os.O_RDONLY | os.O_NONBLOCK | flags)
+        reads = opened.enter_context(open(given, "rb"))
+        if not stat.S_ISREG(os.fstat(given).st_mode):
+            raise NotDone(f"{source} is no regular file: look who made it")
+        made = os.open(new, os.O_WRONLY | os.O_CREAT | os.O_EXCL | flags, 0o600)
+        writes = opened.enter_context(open(made, "wb"))
+        shutil.copyfileobj(reads, writes, 1 << 20)
+        writes.flush()
+        if owner:
+            os.fchown(made, owner.st_uid, owner.st_gid)
+        os.fsync(made)
 
 
 def open_lock(folder: Path, name: str = LOCK) -> int:

@@ -11,17 +11,19 @@ up certificate come back once the name or address leads here.
 Where it fails before the replacing, nothing is changed; where a file can't be replaced, what was there is put back. After
 a kill or a loss of power the same command again makes it whole."""
 import argparse
+import contextlib
 import os
 import shutil
 import subprocess
 import sys
 import tarfile
 import tempfile
+from collections.abc import Iterator
 from pathlib import Path
 
 from fwdesk_ctl import backup, desk_copy, operators
 from fwdesk_ctl import backup_parts as parts
-from fwdesk_ctl.atomic import placed, synced
+from fwdesk_ctl.atomic import copy_file, placed, synced
 from fwdesk_ctl.client import Desk
 from fwdesk_ctl.errors import NotDone, Wrong
 
@@ -105,21 +107,30 @@ def lay_desk_ready(root: Path, folder: Path, looks: bool) -> Path | None:
     if not place.is_dir():
         place.parent.mkdir(mode=0o700, parents=True, exist_ok=True)
         place.mkdir(mode=0o700)
-    file = ready(place / parts.DESK)
-    for it in (file, desk_copy.log_of(file)):
-        it.unlink(missing_ok=True)
-    shutil.copyfile(folder / parts.DESK, file)
-    if desk_copy.log_of(folder / parts.DESK).exists():
-        shutil.copyfile(desk_copy.log_of(folder / parts.DESK), desk_copy.log_of(file))
-    desk_copy.merge(file)
-    file.chmod(0o600)
-    if looks:
-        desk_copy.verify(file)
-    with open(file, "rb") as made:
-        os.fsync(made.fileno())
-    about = place.stat()
-    os.chown(file, about.st_uid, about.st_gid)
+    with own_folder(place) as made:
+        # (until it is stopped the service's user may put symbolic links into its folder)
+        for it in (parts.DESK, desk_copy.log_of(Path(parts.DESK)).name):
+            if (folder / it).exists():
+                copy_file(folder / it, made / it)
+        desk_copy.merge(made / parts.DESK)
+        if looks:
+            desk_copy.verify(made / parts.DESK)
+        file = ready(place / parts.DESK)
+        file.unlink(missing_ok=True)
+        copy_file(made / parts.DESK, file, place.stat())
     return file
+
+
+@contextlib.contextmanager
+def own_folder(place: Path) -> Iterator[Path]:
+    """A folder beside a place that nobody else may write to. What a kill left of it goes at the next time."""
+    folder = place.with_name(f".{place.name}{ENDS}")
+    shutil.rmtree(folder, ignore_errors=True)
+    folder.mkdir(mode=0o700)
+    try:
+        yield folder
+    finally:
+        shutil.rmtree(folder, ignore_errors=True)
 
 
 def unpack(archive: Path, members: list[tarfile.TarInfo], folder: Path) -> None:
@@ -174,13 +185,15 @@ def put(root: Path, names: list[str], desk: Path | None) -> None:
         synced(folder)
     if desk:
         place = parts.desk_folder(root) / parts.DESK
-        if place.exists():
+        if place.is_file() and not place.is_symlink():
             # its log goes into it first, so that no log is ever beside another desk
             try:
                 desk_copy.merge(place)
             except NotDone:
                 # a damaged one; both files were copied aside
                 desk_copy.log_of(place).unlink(missing_ok=True)
+        else:
+            desk_copy.log_of(place).unlink(missing_ok=True)
         os.replace(desk, place)
         synced(place.parent)
 

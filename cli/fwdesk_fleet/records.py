@@ -3,8 +3,6 @@
 A fleet's folder is its own user's, and root works in it. So nothing in it is followed that is a symbolic link, and no
 file in it is opened for writing that was there before."""
 import contextlib
-import os
-import shutil
 import stat
 import subprocess
 import tempfile
@@ -13,6 +11,7 @@ from collections.abc import Iterator
 from pathlib import Path
 
 from fwdesk_ctl import atomic
+from fwdesk_ctl.atomic import copy_file
 from fwdesk_ctl.client import Desk
 from fwdesk_ctl.connection import find_near
 from fwdesk_ctl.errors import NotDone, Refused, Unreached
@@ -36,23 +35,6 @@ def is_there(file: Path) -> bool:
 
 def is_filled(file: Path) -> bool:
     return is_there(file) and file.lstat().st_size > 0
-
-
-def copy_file(source: Path, new: Path, owner: os.stat_result | None = None) -> None:
-    """Makes a new file, for its owner alone, with the bytes of a regular one; they are on the disk then."""
-    flags = os.O_NOFOLLOW | os.O_CLOEXEC
-    with contextlib.ExitStack() as opened:
-        given = os.open(source, os.O_RDONLY | os.O_NONBLOCK | flags)
-        reads = opened.enter_context(open(given, "rb"))
-        if not stat.S_ISREG(os.fstat(given).st_mode):
-            raise NotDone(f"{source} is no regular file: look who made it")
-        made = os.open(new, os.O_WRONLY | os.O_CREAT | os.O_EXCL | flags, 0o600)
-        writes = opened.enter_context(open(made, "wb"))
-        shutil.copyfileobj(reads, writes, 1 << 20)
-        writes.flush()
-        if owner:
-            os.fchown(made, owner.st_uid, owner.st_gid)
-        os.fsync(made)
 
 
 def place_records(folder: Path, fleet: Fleet) -> None:
