@@ -23,11 +23,14 @@ LONGEST = 300  # seconds for a request and its whole reply, an artifact over a s
 
 @contextlib.contextmanager
 def limit_time(link: http.client.HTTPConnection, seconds: float) -> Iterator[None]:
-    """Ends the connection if the block takes longer: what waits for a byte of it is told that it broke off."""
+    """Ends the connection if the block takes longer, which raises TimeoutError then. The connection is open before."""
+    # (a reply that ends the connection takes its socket from it)
+    sock, is_late = link.sock, threading.Event()
 
     def end() -> None:
-        with contextlib.suppress(OSError, AttributeError):
-            link.sock.shutdown(socket.SHUT_RDWR)
+        is_late.set()
+        with contextlib.suppress(OSError):
+            sock.shutdown(socket.SHUT_RDWR)
 
     timer = threading.Timer(seconds, end)
     timer.daemon = True
@@ -36,13 +39,17 @@ def limit_time(link: http.client.HTTPConnection, seconds: float) -> Iterator[Non
         yield
     finally:
         timer.cancel()
+    if is_late.is_set():
+        raise TimeoutError(f"over {seconds} s")
 
 
 def read_body(reply: http.client.HTTPResponse) -> bytes:
-    """The bytes of a reply, of which no more than MOST_BYTES are taken."""
+    """The bytes of a whole reply, of which no more than MOST_BYTES are taken. IncompleteRead where it broke off."""
     body = reply.read(MOST_BYTES + 1)
     if len(body) > MOST_BYTES:
         raise ForeignReply(f"it has more than {MOST_BYTES:,} bytes")
+    if reply.length:
+        raise http.client.IncompleteRead(body, reply.length)
     return body
 
 
