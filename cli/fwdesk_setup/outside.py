@@ -7,10 +7,11 @@ import ssl
 import time
 from collections.abc import Callable
 
+from fwdesk_ctl.client import limit_time
 from fwdesk_setup import hawkbit, places
 
-# seconds until a proxy that has just started answers, with the desk behind it, and for one reply
-PATIENCE, REPLY = 120, 30
+# seconds until a proxy that has just started answers, with the desk behind it, and for one reply; bytes of a reply that are read
+PATIENCE, REPLY, MOST = 120, 30, 1 << 20
 
 
 class Outside:
@@ -34,9 +35,10 @@ class Outside:
         plain = socket.create_connection((self.address or "127.0.0.1", self.port), REPLY)
         link.sock = self.context.wrap_socket(plain, server_hostname=self.name)
         try:
-            link.request("GET", path, headers={"Connection": "close", **fields})
-            reply = link.getresponse()
-            return reply.status, reply.read()
+            with limit_time(link, REPLY):
+                link.request("GET", path, headers={"Connection": "close", **fields})
+                reply = link.getresponse()
+                return reply.status, reply.read(MOST)
         finally:
             link.close()
 

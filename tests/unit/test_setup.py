@@ -5,14 +5,21 @@ import contextlib
 import os
 import re
 import socket
+import ssl
+import subprocess
+import sys
 import tempfile
+import threading
 from pathlib import Path
 
+from harness import ROOT
 from harness.asserting import same
-from harness.processes import free_port
+from harness.processes import HOST, free_port
+from harness.tls import make_certificate
 
 from fwdesk_ctl import operators, passwords
-from fwdesk_setup import certificate, earlier, files, hawkbit, parts, places, ports, proxy, steps
+from fwdesk_setup import certificate, earlier, files, hawkbit, outside
+from fwdesk_setup import parts, places, ports, proxy, steps
 from fwdesk_setup.errors import NotDone, Refused
 
 DELIVERED = earlier.OF_1_0_0.read_text(encoding="utf-8")
@@ -77,6 +84,33 @@ def test_who_listens_on_a_port_is_named():
             assert found and found.endswith(f"(process {os.getpid()})"), found
         # (the one that was held may be somebody else's by now)
         same(ports.listener_on(free_port()), None)
+
+
+def test_only_printable_characters_are_shown():
+    words = [sys.executable, ROOT / "cli/fwdesk-setup", "desk\x1b]0;owned\x07\u202e.example"]
+    ran = subprocess.run(words, capture_output=True, text=True)
+    assert ran.returncode == 2 and "is no name of a host" in ran.stderr, ran
+    assert ran.stderr.replace("\n", "").isprintable(), ran.stderr
+
+
+def serve_endlessly(listener, context):
+    """Answers a request by TLS with a reply that has no end."""
+    with contextlib.suppress(OSError), listener.accept()[0] as plain:
+        with context.wrap_socket(plain, server_side=True) as link:
+            link.recv(65536)
+            link.sendall(b"HTTP/1.1 200 OK\r\nContent-Length: 9999999999\r\n\r\n")
+            while True:
+                link.sendall(b"x" * 65536)
+
+
+def test_no_more_of_a_foreign_reply_is_read_than_a_reply_has():
+    context = ssl.SSLContext(ssl.PROTOCOL_TLS_SERVER)
+    with tempfile.TemporaryDirectory() as folder, socket.create_server((HOST, 0)) as listener:
+        context.load_cert_chain(make_certificate(Path(folder)))
+        threading.Thread(target=serve_endlessly, args=(listener, context), daemon=True).start()
+        port, authority = listener.getsockname()[1], f"{folder}/server.crt"
+        found = outside.Outside(HOST, port, authority).fault("/fwdesk/me", 401)
+        assert found and found.startswith("/fwdesk/me: 200 and not 401"), found
 
 
 def test_passwords_differ_and_are_long():
