@@ -15,7 +15,7 @@ from typing import Iterator
 import pytest
 from harness.processes import HOST, eventually, free_port, listens
 from harness.stand_in import StandIn, send_reply
-from .stage import PASSWORD, Before, Stage, login
+from .stage import PASSWORD, Before, Stage, login, token
 
 pytestmark = [pytest.mark.e2e]
 WAYS = ("close", "reset", "in the head")
@@ -126,6 +126,19 @@ class TestLostReply:
             status, said, _ = link.ask("POST", f"{quiet.base}/rest/v1/mark-{mark}", "", b"{}")
             assert status == 401 and said.get("connection", "").lower() == "close"
             assert mortal.seen[mark] == 0
+
+    @pytest.mark.gate
+    @pytest.mark.parametrize(
+        "field", ["Sec-Fetch-Site: cross-site", "Origin: https://evil.example"]
+    )
+    def test_browser_keeps_no_connection(self, mortal: Mortal, field: str) -> None:
+        """A browser that asks for a device's path, as another site has it do, keeps no connection for its next order."""
+        quiet = mortal.stage
+        path = f"{quiet.base}/DEFAULT/controller/v1/dev-01"
+        with quiet.open() as link:
+            assert link.ask("GET", path, token(1))[1].get("connection", "").lower() != "close"
+            status, said, _ = link.ask("GET", path, f"{token(1)}{field}\r\n")
+            assert status == 200 and said.get("connection", "").lower() == "close"
 
 
 class Doomed:
