@@ -23,7 +23,7 @@ After={DESKS}
 Environment="CONFIG={own}" "EXTRAOPTS=-f {copy}/edge -S /run/haproxy-master.sock"
 RuntimeDirectory=fwdesk
 RuntimeDirectoryPreserve=yes
-MemoryMax=1536M
+MemoryMax=2G
 """
     desks = f"""{MADE}[Service]
 ExecStartPre=
