@@ -4,6 +4,7 @@ No file is rewritten for a test: all places are variables of the configuration. 
 files, for tests that play a wrong configuration."""
 
 import os
+import resource
 import shutil
 import signal
 import subprocess
@@ -28,6 +29,8 @@ FORMS = {
     "port": {"FWDESK_LOCAL_PORT": "{local_port}"},
 }
 FLEET = "acme"
+# files that the edge has open at the most: two of each connection of its `maxconn`, and its own
+FILES = 20_000
 
 
 def leave(_: str, text: str) -> str:
@@ -201,7 +204,7 @@ class Edge:
         pages = (
             int(Path(f"/proc/{it}/statm").read_text().split()[1]) for it in self.workers(master)
         )
-        return sum(pages) * 4096
+        return sum(pages) * resource.getpagesize()
 
     def reload(self) -> None:
         """Reloads the edge, as `systemctl reload haproxy` does."""
@@ -234,6 +237,25 @@ class Edge:
         self.children.clear()
 
 
+def may_open_files() -> bool:
+    """Whether this process, and what it starts, may have as many files open as the edge; root is allowed to allow it."""
+    soft, hard = resource.getrlimit(resource.RLIMIT_NOFILE)
+    if hard != resource.RLIM_INFINITY and hard < FILES:
+        try:
+            resource.setrlimit(resource.RLIMIT_NOFILE, (soft, FILES))
+        except (OSError, ValueError):
+            return False
+    return True
+
+
+def missing() -> str:
+    """What HAProxy, or a test of it, needs and this machine hasn't."""
+    lacks = [it for it in ("haproxy", "openssl") if not shutil.which(it)]
+    if not may_open_files():
+        lacks.append(f"limit of {FILES} open files (ulimit -Hn)")
+    return lacks[0] if lacks else ""
+
+
 def is_there() -> bool:
-    """Whether HAProxy and what a test of it needs are installed."""
-    return all(shutil.which(it) for it in ("haproxy", "openssl"))
+    """Whether HAProxy and what a test of it needs are here."""
+    return not missing()

@@ -59,8 +59,8 @@ def stage(
     request: pytest.FixtureRequest, program: Path, tmp_path_factory: pytest.TempPathFactory
 ) -> Iterator[Stage]:
     """A form of the edge before the program, which has 12 devices and a rollout that runs."""
-    if not harness.is_there():
-        pytest.skip("HAProxy or openssl isn't here")
+    if lacks := harness.missing():
+        pytest.skip(f"there is no {lacks}")
     folder = tmp_path_factory.mktemp(request.param)
     folder.chmod(0o755)
     before = request.config.getoption("--before", None)

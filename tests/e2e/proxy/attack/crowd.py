@@ -82,9 +82,11 @@ def polled(stage: Stage, seconds: float) -> Polls:
 def keep_to(stage: Stage, processors: set[int]) -> None:
     """Has each thread of this process and of all that a stage has started run on these processors."""
     for process in (os.getpid(), *stage.processes()):
-        for thread in Path(f"/proc/{process}/task").iterdir():
-            with contextlib.suppress(ProcessLookupError):
-                os.sched_setaffinity(int(thread.name), processors)
+        # (a thread may end meanwhile, as may a HAProxy of before a reload)
+        with contextlib.suppress(FileNotFoundError, ProcessLookupError):
+            for thread in list(Path(f"/proc/{process}/task").iterdir()):
+                with contextlib.suppress(ProcessLookupError):
+                    os.sched_setaffinity(int(thread.name), processors)
 
 
 @contextlib.contextmanager

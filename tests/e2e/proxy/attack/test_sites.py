@@ -1,5 +1,7 @@
 """Requests that another site has a browser send, and names that somebody led here: at every way in."""
 
+import contextlib
+import ipaddress
 import os
 from pathlib import Path
 from typing import Iterator
@@ -58,24 +60,51 @@ def test_own_name_passes_near(quiet: Stage, host: str) -> None:
         assert link.ask("GET", quiet.near_base + "/rest/v1/targets", f"Host: {host}\r\n")[0] == 200
 
 
+@pytest.mark.parametrize("host", ["evil.example", "127.0.0.1.evil.example", ""])
+@pytest.mark.parametrize("which", ["metrics", "desks_metrics"])
+def test_led_name_is_refused_of_metrics(quiet: Stage, which: str, host: str) -> None:
+    """The ports of metrics, which ask for no login, are no other site's either."""
+    port = getattr(quiet.edge, which)
+    told = [
+        http_client.ask("GET", "/metrics", fields={"Host": it}, port=port).status
+        for it in (host, "localhost", f"127.0.0.1:{port}")
+    ]
+    assert told == [403, 200, 200]
+
+
 def test_own_order_passes(quiet: Stage) -> None:
     """The page's own requests say where they come from, and are taken."""
     fields = f"Host: desk.example\r\nOrigin: https://desk.example\r\nSec-Fetch-Site: same-origin\r\n{login('zoe')}"
     assert quiet.ask("POST", "/rest/v1/rollouts/77/pause", fields, b"")[0] == 404
 
 
-def listening(stage: Stage) -> set[tuple[str, int]]:
-    """The addresses and ports at which both HAProxys listen."""
-    own = set()
-    for it in (*stage.edge.workers(stage.edge.edge), *stage.edge.workers(stage.edge.desks)):
-        own |= {os.readlink(link) for link in Path(f"/proc/{it}/fd").iterdir()}
+def sockets_of(process: int) -> set[str]:
+    """The sockets that a process has, by their names. One of them, or the process, may end meanwhile."""
     found = set()
-    for row in Path("/proc/net/tcp").read_text().splitlines()[1:]:
-        _, local, _, state, *rest = row.split()
-        if state == LISTENS and f"socket:[{rest[5]}]" in own:
-            address, port = local.split(":")
-            bytes_of = bytes.fromhex(address)[::-1]
-            found.add((".".join(map(str, bytes_of)), int(port, 16)))
+    with contextlib.suppress(FileNotFoundError):
+        for it in Path(f"/proc/{process}/fd").iterdir():
+            with contextlib.suppress(FileNotFoundError):
+                found.add(os.readlink(it))
+    return found
+
+
+def listening(stage: Stage) -> set[tuple[str, int]]:
+    """The addresses and ports at which both HAProxys listen, of IPv4 and, where the machine has it, of IPv6."""
+    masters = (stage.edge.edge, stage.edge.desks)
+    own = {
+        name for it in masters for process in stage.edge.workers(it) for name in sockets_of(process)
+    }
+    found = set()
+    for table in filter(Path.exists, (Path("/proc/net/tcp"), Path("/proc/net/tcp6"))):
+        for row in table.read_text().splitlines()[1:]:
+            _, local, _, state, *rest = row.split()
+            if state == LISTENS and f"socket:[{rest[5]}]" in own:
+                address, port = local.split(":")
+                # the kernel tells each word of four bytes turned
+                words = (
+                    bytes.fromhex(address[it : it + 8])[::-1] for it in range(0, len(address), 8)
+                )
+                found.add((str(ipaddress.ip_address(b"".join(words))), int(port, 16)))
     return found
 
 
