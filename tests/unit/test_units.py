@@ -48,8 +48,9 @@ def test_no_user_of_its_own_has_the_name_of_a_group():
     assert groups & users == set()
 
 
-def test_no_socket_is_given_up_under_many_connections():
-    for unit in UNITS.glob("*.socket"):
-        lines = unit.read_text().splitlines()
-        if "Accept=yes" in lines:
-            assert "TriggerLimitIntervalSec=0" in lines, unit.name
+def test_no_socket_is_given_up_for_good():
+    """Neither under many connections, each of which starts a service, nor where a service ends as soon as it is started."""
+    units = sorted(UNITS.glob("*.socket"))
+    assert len(units) > 5
+    for it in units:
+        assert "TriggerLimitIntervalSec=0" in it.read_text().splitlines(), it.name
