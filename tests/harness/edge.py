@@ -93,7 +93,7 @@ class Edge:
     def write_fleets(self) -> None:
         """Of many fleets what fwdesk-fleet writes, of a cluster the map of its addresses; both have a fleet that isn't there."""
         fleets = self.fleets or {FLEET: self.behind, "other": free_port()}
-        (self.folder / "addresses.map").write_text(f"{self.host} {FLEET}\n")
+        (self.folder / "addresses.map").write_text(f"{self.host} {FLEET}\n::1 {FLEET}\n")
         maps = self.folder / "maps"
         maps.mkdir(exist_ok=True)
         named = {name: groups for name, groups in self.operators.items() if groups}

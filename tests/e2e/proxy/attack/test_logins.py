@@ -224,9 +224,9 @@ def test_polls_beside_guessers(
 
 @pytest.fixture(scope="module")
 def both(
-    request: pytest.FixtureRequest, tmp_path_factory: pytest.TempPathFactory
+    request: pytest.FixtureRequest, stage: Stage, tmp_path_factory: pytest.TempPathFactory
 ) -> Iterator[Stage]:
-    """A port of IPv6 that takes IPv4 too, before a stand-in. A guesser waits for two seconds in place of ten."""
+    """The same form with a port of IPv6 that takes IPv4 too, before a stand-in. A guesser waits for two seconds in place of ten."""
     folder = tmp_path_factory.mktemp("both")
     if before := request.config.getoption("--before"):
         pytest.skip(f"{before.name} is tried by hand: its port is in the text")
@@ -235,15 +235,14 @@ def both(
     except OSError:
         pytest.skip("this machine has no IPv6")
     made = Stage.__new__(Stage)
-    made.folder, made.program, made.form, made.server = folder, None, "single", None
+    made.folder, made.program, made.form, made.server = folder, None, stage.form, None
     made.behind = free_port()
     port = free_port()
     made.edge = made.make_edge(
         {"FWDESK_BIND": f":::{port}", "FWDESK_BIND_OPTIONS": "v4v6 alpn http/1.1"},
         lambda _, text: text.replace("timeout tarpit 10s", "timeout tarpit 2s"),
     )
-    made.edge.port = made.port = port
-    made.base = ""
+    made.edge.port, made.port, made.base = port, port, made.edge.base
     made.edge.start()
     server = Plain(made.behind)
     yield made
@@ -265,8 +264,12 @@ def tried_at_once(port: int, sources: list[str]) -> list[int]:
 
 @pytest.mark.gate
 def test_both_kinds_of_addresses(both: Stage) -> None:
-    """An IPv6 address has as many wrong logins as an IPv4 one, and each IPv4 address its own, behind one port for both."""
+    """An IPv6 address has as many wrong logins as an IPv4 one, and each IPv4 address its own, behind one port for both. Devices
+    are served at either."""
     both.forget()
+    for it in ("::1", "127.0.0.5"):
+        with Link(TLS.wrap_socket(silent(both.port, it))) as link:
+            assert both.poll(link, 1)[0] == 200, it
     those = ["::1", "127.0.0.5"]
     for it in those:
         assert [tried(both.port, it) for _ in range(20)] == [401] * 20, it
