@@ -4,7 +4,6 @@ The desk is new and in a temporary folder, and all is gone when the command ends
 listens to this machine alone."""
 
 import ctypes
-import logging
 import secrets
 import shutil
 import signal
@@ -18,7 +17,7 @@ from typing import Any
 
 from aiohttp import web
 
-from fwdesk_hawkbit import devices, manage
+from fwdesk_hawkbit import devices, journal, manage
 from fwdesk_hawkbit.calls import BODY, Gateway
 from fwdesk_hawkbit.desk import Desk
 from fwdesk_hawkbit.faults import Fault
@@ -105,7 +104,7 @@ def build(url: str, folder: Path, hides: bool, registers: bool, largest: int) ->
 
 def run(program: str, port: int, hides: bool, registers: bool, largest: int) -> None:
     """Serves until a signal; the first line says where."""
-    logging.basicConfig(level=logging.WARNING, format="%(levelname)s %(message)s")
+    journal.begin()
     with tempfile.TemporaryDirectory(prefix="fwdesk-lab-") as made:
         folder = Path(made)
         (folder / "images").mkdir()

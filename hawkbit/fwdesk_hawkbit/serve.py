@@ -8,7 +8,7 @@ from typing import Any
 
 from aiohttp import web
 
-from fwdesk_hawkbit import devices
+from fwdesk_hawkbit import devices, journal
 from fwdesk_hawkbit.faults import Fault
 
 Handler = Callable[[web.Request], Awaitable[web.StreamResponse]]
@@ -68,5 +68,5 @@ async def made(build: Callable[[], web.Application]) -> web.Application:
 
 def run(build: Callable[[], web.Application], listen: str) -> None:
     """Serves until a signal."""
-    logging.basicConfig(level=logging.WARNING, format="%(levelname)s %(message)s")
+    journal.begin()
     web.run_app(made(build), print=lambda *_: None, access_log=None, **place_of(listen))
