@@ -190,3 +190,34 @@ def test_broken_map_holds(braked: Stage, broken: str) -> None:
     assert status == 200 and "broken line" in json.loads(told)["brake"]["reason"], told
     assert order(braked, "DELETE", "quiet")[0] == 200
     assert not offered(braked)
+
+
+@pytest.mark.gate
+@pytest.mark.forms("single", "fleets", "failover", "port")
+@pytest.mark.parametrize(
+    "broken",
+    [
+        '{"who":"anna","sin',
+        "",
+        "7",
+        "%22",
+        '{"who":"a"b","since":"2026-11-30T00:00:00Z","reason":""}',
+    ],
+)
+def test_broken_map_is_told_from_the_start(
+    stage: Stage, tmp_path_factory: pytest.TempPathFactory, broken: str
+) -> None:
+    """HAProxy that starts with a broken line tells of a hold, as JSON; of the other kind it tells what holds."""
+    folder = tmp_path_factory.mktemp("broken")
+    fleet = f"{FLEET}/" if stage.edge.named else ""
+    whole = '{"who":"an%5c%22na","since":"2026-11-30T00:00:00Z","reason":"it%20burns%5cu00e9"}'
+    (folder / "held.map").write_text(f"{fleet}brake {broken}\n{fleet}quiet {whole}\n")
+    made = Stage(folder, None, stage.form)
+    try:
+        with made.open_near() as link:
+            status, _, told = link.ask("GET", f"{made.near_base}/fwdesk/brake")
+    finally:
+        made.end()
+    held = json.loads(told)
+    assert status == 200 and "broken line" in held["brake"]["reason"], told
+    assert (held["quiet"]["who"], held["quiet"]["reason"]) == ('an"na', "it burns\u00e9"), told
