@@ -167,7 +167,7 @@ class Desk(Calls):
 
         What only asks is asked once more where a kept connection had ended. Nothing else is, since it may have been
         done."""
-        told = {"Authorization": f"TargetToken {token}"} if token else fields or {}
+        told = (fields or {}) | ({"Authorization": f"TargetToken {token}"} if token else {})
         data = body if body is None or isinstance(body, bytes) else json.dumps(body).encode()
         for again in (method == "GET", False):
             try:

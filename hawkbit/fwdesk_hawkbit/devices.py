@@ -115,7 +115,9 @@ class Device:
         self.who: str = request.match_info["who"]
         # of many fleets the edge finds the device's own by its id; on a node of a cluster the proxy before names it
         self.fleet, fields = request.headers.get("X-Fleet", ""), {"X-Fwdesk-Device": self.who}
-        self.desk: Calls = self.service.desk
+        # the edge counts what a device has under way by its address too, which nginx names
+        at = {it: request.headers[it] for it in ("X-Real-IP",) if it in request.headers}
+        self.desk: Calls = OnBehalf(self.service.desk, at)
         self.reads: Calls = OnBehalf(self.service.reads, fields)
         if self.fleet:
             self.desk, self.reads = OfFleet(self.desk, self.fleet), OfFleet(self.reads, self.fleet)

@@ -51,6 +51,31 @@ def test_the_kind_of_a_rollout_is_that_of_its_own_fleet(service):
     assert rollouts == [("a", "/rest/v1/rollouts/7"), ("b", "/rest/v1/rollouts/7")]
 
 
+class Desk(Calls):
+    """A desk that remembers with which fields it was asked."""
+
+    def __init__(self):
+        self.fields = []
+
+    async def raw(self, method, path, body=None, token=None, query=None, fields=None):
+        self.fields.append((token, fields))
+        return Reply(200, "application/json", b"{}", None)
+
+
+@pytest.mark.parametrize("told", [{}, {"X-Real-IP": "192.0.2.7"}])
+def test_the_desk_is_told_the_address_of_a_device(tmp_path, told):
+    async def work():
+        desk, app = Desk(), web.Application()
+        app[devices.SERVICE] = devices.Service(desk, desk, Artifacts(tmp_path, None))
+        own = told | {"Authorization": f"TargetToken {TOKEN}"}
+        match = {"tenant": "DEFAULT", "who": "dev-1"}
+        request = make_mocked_request("GET", "/", own, app=app, match_info=match)
+        await (await devices.Device(request).identify()).raw("GET")
+        return desk.fields
+
+    assert asyncio.run(work()) == [(TOKEN, told)]
+
+
 KEY, TOKEN = b"k" * 40, "t" * 40
 
 

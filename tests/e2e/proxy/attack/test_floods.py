@@ -331,6 +331,18 @@ def test_device_has_twenty_downloads_of_late(stocked: Stage) -> None:
 
 
 @pytest.mark.gate
+def test_door_counts_each_address_by_itself(stocked: Stage) -> None:
+    """Of devices that come by another proxy of this machine too nobody uses a device's downloads up from another address."""
+    path, told = stocked.near_base + DOWNLOAD.format(1).replace("abc", "small"), []
+    for address in ("192.0.2.1", "192.0.2.2"):
+        with stocked.open_path(stocked.edge.devices) as link:
+            own = f"X-Real-IP: {address}\r\n{token(1)}"
+            told.append([link.ask("GET", path, own)[0] for _ in range(21)])
+    assert told == [[200] * 20 + [429]] * 2
+    stocked.forget()
+
+
+@pytest.mark.gate
 def test_device_that_asks_on_waits(stocked: Stage) -> None:
     """A device that is refused is answered at once a hundred times within ten seconds, and then kept waiting. Its polls over
     another connection aren't, nor is another device."""

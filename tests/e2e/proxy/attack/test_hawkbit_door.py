@@ -38,10 +38,11 @@ FOREIGN = (
 
 
 class Behind(StandIn):
-    """Whoever is behind nginx: he answers 200, and remembers the first line of each request."""
+    """Whoever is behind nginx: he answers 200, and remembers the first line of each request, and its other ones."""
 
     def __init__(self, path: Path) -> None:
         self.seen: list[str] = []
+        self.fields: list[list[str]] = []
         listener = socket.socket(socket.AF_UNIX)
         listener.bind(str(path))
         listener.listen(64)
@@ -50,7 +51,9 @@ class Behind(StandIn):
         super().__init__(listener)
 
     def answer(self, link: socket.socket, request: bytes) -> bool:
-        self.seen.append(request.partition(b"\r\n")[0].decode("latin-1"))
+        first, *fields = request.decode("latin-1").split("\r\n")
+        self.seen.append(first)
+        self.fields.append(fields)
         # of no type in which nginx would look for links, since it would pass that on in chunks
         link.sendall(b"HTTP/1.1 200 OK\r\nContent-Length: 2\r\n\r\n{}")
         return True
@@ -72,6 +75,7 @@ def door(tmp_path_factory: pytest.TempPathFactory) -> Iterator[tuple[int, list[B
             "/etc/fwdesk/server": f"{folder}/server",
             "/run/fwdesk/devices.sock": str(sockets[0]),
             "/run/fwdesk-hawkbit/devices.sock": str(sockets[1]),
+            "limit_conn fwdesk_hawkbit 1000;": "limit_conn fwdesk_hawkbit 3;",
         },
     )
     (folder / "polls.conf").write_text(text)
@@ -84,11 +88,12 @@ def door(tmp_path_factory: pytest.TempPathFactory) -> Iterator[tuple[int, list[B
         it.end()
 
 
-def told(port: int, method: str, path: str) -> int:
+def told(port: int, method: str, path: str, more: str = "") -> int:
     """The status of a request as it is."""
     link = socket.create_connection((HOST, port), 30)
+    fields = f"Connection: close\r\n{login('zoe')}{more}"
     with Link(TLS.wrap_socket(link)) as opened:
-        return opened.ask(method, path, login("zoe"), b"" if method == "POST" else None)[0]
+        return opened.ask(method, path, fields, b"" if method == "POST" else None)[0]
 
 
 @pytest.mark.parametrize("path", FOREIGN)
@@ -108,3 +113,23 @@ def test_device_passes(door: tuple[int, list[Behind]]) -> None:
     assert polls.seen[-1] == f"GET {DEVICE} HTTP/1.1"
     assert told(port, "POST", f"{DEVICE}/deploymentBase/1/feedback") == 200
     assert service.seen[-1] == f"POST {DEVICE}/deploymentBase/1/feedback HTTP/1.1"
+    # whose address it is, whatever he says himself
+    assert told(port, "GET", DEVICE, "X-Real-IP: 192.0.2.1\r\n") == 200
+    for it in (polls.fields[-1], service.fields[-1]):
+        assert [line for line in it if "-ip:" in line.lower()] == [f"X-Real-IP: {HOST}"], it
+
+
+def test_address_has_so_many_requests(door: tuple[int, list[Behind]]) -> None:
+    """One more at the same time, three here, is told 429."""
+    port, links = door[0], []
+    try:
+        for _ in range(3):
+            links.append(Link(TLS.wrap_socket(socket.create_connection((HOST, port), 30))))
+            links[-1].send(
+                f"PUT {DEVICE}/configData HTTP/1.1\r\nHost: a\r\nContent-Length: 9\r\n\r\n"
+            )
+        eventually("a fourth that is refused", lambda: told(port, "GET", DEVICE) == 429, 5)
+    finally:
+        for it in links:
+            it.close()
+    eventually("one that is served", lambda: told(port, "GET", DEVICE) == 200, 20)
