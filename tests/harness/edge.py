@@ -3,6 +3,7 @@
 No file is rewritten for a test: all places are variables of the configuration. `edits` changes a copy of the package's
 files, for tests that play a wrong configuration."""
 
+import contextlib
 import os
 import resource
 import shutil
@@ -201,10 +202,12 @@ class Edge:
 
     def memory(self, master: subprocess.Popen) -> int:
         """Resident memory of a master's processes, in bytes."""
-        pages = (
-            int(Path(f"/proc/{it}/statm").read_text().split()[1]) for it in self.workers(master)
-        )
-        return sum(pages) * resource.getpagesize()
+        pages = 0
+        for it in self.workers(master):
+            # (one of before a reload may end meanwhile)
+            with contextlib.suppress(FileNotFoundError, ProcessLookupError):
+                pages += int(Path(f"/proc/{it}/statm").read_text().split()[1])
+        return pages * resource.getpagesize()
 
     def reload(self) -> None:
         """Reloads the edge, as `systemctl reload haproxy` does."""
