@@ -1,6 +1,7 @@
 """Connections that cost memory or places without a login, and downloads of one device: what both HAProxys take by them, and
 what is left to others."""
 
+import csv
 import itertools
 import os
 import re
@@ -11,7 +12,7 @@ from typing import Iterator
 
 import pytest
 from .crowd import compare, ended, hold, load, make_sources, silent
-from harness.processes import HOST, eventually
+from harness.processes import HOST, eventually, free_port
 from harness.stand_in import StandIn
 from .stage import DEVICES, Link, Plain, Stage, token
 
@@ -411,6 +412,24 @@ def test_way_in_of_the_machine_stays_open(narrow: Stage) -> None:
     finally:
         for it in links:
             it.close()
+
+
+@pytest.mark.gate
+@pytest.mark.parametrize("more", [{}, {"FWDESK_HAWKBIT_MANAGE": "1"}], ids=["", "with pipelines"])
+def test_ports_leave_room_for_the_machine(
+    stage: Stage, tmp_path_factory: pytest.TempPathFactory, more: dict[str, str]
+) -> None:
+    """All ports that are open to all take 100 connections less than the edge has."""
+    own = more and {**more, "FWDESK_HAWKBIT_BIND": f"{HOST}:{free_port()}"}
+    made = Stage(tmp_path_factory.mktemp("room"), None, stage.form, own)
+    try:
+        most = int(re.search(r"(?m)^Maxconn: (\d+)$", made.told("show info"))[1])
+        rows = csv.DictReader(made.told("show stat -1 1 -1").removeprefix("# ").splitlines())
+        limits = {it["pxname"]: int(it["slim"]) for it in rows}
+    finally:
+        made.end()
+    open_ones = [limits[it] for it in ("fwdesk", "hawkbit") if it in limits]
+    assert len(open_ones) == 1 + len(more) and sum(open_ones) + 100 <= most, (limits, most)
 
 
 @pytest.mark.gate
