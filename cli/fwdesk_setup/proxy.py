@@ -10,6 +10,29 @@ from fwdesk_setup.run import run, systemctl
 EDGE, DESKS = "haproxy.service", "haproxy-desks.service"
 SOCKETS = ("fwdesk-brake.socket", "fwdesk-console.socket")
 MADE = "# written by fwdesk-setup, which also takes it away: fwdesk-setup --undo\n"
+# what the edge is left with, as haproxy-desks.service has it: it makes its sockets in /run, some in folders of the user haproxy
+CONFINED = """ProtectSystem=strict
+ReadWritePaths=/run
+ProtectHome=read-only
+CapabilityBoundingSet=CAP_SETUID CAP_SETGID CAP_CHOWN CAP_FOWNER CAP_DAC_OVERRIDE CAP_KILL CAP_SYS_RESOURCE CAP_NET_BIND_SERVICE CAP_SYS_CHROOT
+RestrictAddressFamilies=AF_UNIX AF_INET AF_INET6
+PrivateTmp=yes
+PrivateDevices=yes
+ProtectClock=yes
+ProtectControlGroups=yes
+ProtectHostname=yes
+ProtectKernelLogs=yes
+ProtectKernelModules=yes
+ProtectKernelTunables=yes
+NoNewPrivileges=yes
+RestrictNamespaces=yes
+RestrictRealtime=yes
+RestrictSUIDSGID=yes
+LockPersonality=yes
+SystemCallArchitectures=native
+SystemCallFilter=@system-service chroot
+SystemCallErrorNumber=EPERM
+"""
 
 
 def drop_ins() -> dict:
@@ -24,7 +47,7 @@ Environment="CONFIG={own}" "EXTRAOPTS=-f {copy}/edge -S /run/haproxy-master.sock
 RuntimeDirectory=fwdesk
 RuntimeDirectoryPreserve=yes
 MemoryMax=2G
-"""
+{CONFINED}"""
     desks = f"""{MADE}[Service]
 ExecStartPre=
 ExecStartPre=+/bin/sh -c 'test ! -d /etc/fwdesk/fleets || exec /usr/sbin/fwdesk-fleet settle --files'

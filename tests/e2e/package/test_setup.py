@@ -9,6 +9,7 @@ import subprocess
 import time
 
 import pytest
+from harness.debian_machine import exposure
 
 from .machines import NAME, PROGRAM, ROOT, Packages, Server, make_root_with_more
 
@@ -68,6 +69,11 @@ def test_autopkgtest_passes(packages):
         granted = "--ignore-restrictions=isolation-machine,breaks-testbed"
         told = machine.gives(f"autopkgtest -B {granted} {debs} /srv/source/ -- null 2>&1")
         assert re.search(r"(?m)^serves +PASS$", told), told[-2000:]
+
+
+def test_the_edge_is_confined(ready):
+    """As the HAProxy before the desk is. That it serves so is what the tests here look at."""
+    assert exposure(ready, "haproxy.service") < 4
 
 
 def test_again_it_changes_nothing(ready):
