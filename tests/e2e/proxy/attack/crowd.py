@@ -102,6 +102,23 @@ def set_apart(stage: Stage) -> Iterator[set[int]]:
         keep_to(stage, {*every})
 
 
+@contextlib.contextmanager
+def attacked(attack: Callable[[float], None], count: int) -> Iterator[None]:
+    """An attack in so many processes, which ends with what is done meanwhile."""
+    until = time.monotonic() + PATIENCE
+    context = multiprocessing.get_context("fork")
+    those = [context.Process(target=attack, args=(until,), daemon=True) for _ in range(count)]
+    for it in those:
+        it.start()
+    time.sleep(1)
+    try:
+        yield
+    finally:
+        for it in those:
+            it.kill()
+            it.join()
+
+
 def beside(
     stage: Stage,
     seconds: float,

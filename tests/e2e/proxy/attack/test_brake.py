@@ -10,13 +10,14 @@ import socket
 import subprocess
 import time
 from collections import Counter
-from typing import Iterator
+from typing import Callable, Iterator
 
 import pytest
-from .crowd import hold, load
+from .crowd import attacked, hold, load, make_sources
 from harness.edge import FLEET
 from harness.processes import HOST, PATIENCE, eventually
-from .stage import ROOT, Link, Stage, login
+from .stage import GUESSED, ROOT, Link, Stage, login
+from .test_floods import waiting_head
 
 pytestmark = [pytest.mark.e2e]
 
@@ -119,6 +120,41 @@ def test_brake_under_a_thousand_connections(braked: Stage, near: bool) -> None:
         f"{braked.form}: {len(links)} connections, {held[2]:.1f} and {released[2]:.1f} s; {load()}"
     )
     assert len(links) == 1000
+
+
+def guess(stage: Stage, source: str) -> Link:
+    """A wrong login whose answer isn't waited for."""
+    link = stage.open(source, timeout=1)
+    fields = f"Host: localhost\r\n{login(GUESSED, 'wrong')}"
+    link.send(f"GET {stage.base}/rest/v1/targets HTTP/1.1\r\n{fields}\r\n")
+    return link
+
+
+@pytest.mark.gate
+@pytest.mark.timed
+@pytest.mark.forms("single", "fleets", "failover", "port")
+@pytest.mark.parametrize("kind", [waiting_head, guess])
+def test_brake_beside_a_flood(braked: Stage, kind: Callable[..., Link]) -> None:
+    """Beside heads that never end, and wrong passwords, of five hundred addresses an order is done, and told within ten seconds:
+    of an operator who has logged in before, and by the machine's own way in."""
+
+    def flood(until: float) -> None:
+        links: list[Link] = []
+        sources = make_sources(125)
+        while time.monotonic() < until:
+            hold(links, lambda: kind(braked, next(sources)), 1)
+            if len(links) > 50:
+                links.pop(0).close()
+
+    assert order(braked, "DELETE", near=False)[0] == 200
+    with attacked(flood, 4):
+        held = order(braked, "POST", near=False)
+        with braked.open_near() as link:
+            _, _, told = link.ask("GET", f"{braked.near_base}/fwdesk/brake")
+        released = order(braked, "DELETE")
+    print(f"{braked.form}: {held[2]:.1f} and {released[2]:.1f} s; {load()}")
+    assert (held[0], released[0]) == (200, 200), (held, released)
+    assert json.loads(told)["brake"], told
 
 
 @pytest.mark.gate
