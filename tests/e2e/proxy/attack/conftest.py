@@ -7,6 +7,8 @@
 --full runs the floods and the response mix-up at full size, for a machine of one's own."""
 
 import resource
+import shutil
+import tempfile
 import time
 from pathlib import Path
 from typing import Iterator
@@ -26,8 +28,13 @@ def pytest_addoption(parser: pytest.Parser) -> None:
     group.addoption("--within", type=float, help="seconds after which no test begins any more")
 
 
+@pytest.hookimpl(tryfirst=True)
 def pytest_configure(config: pytest.Config) -> None:
-    """A thousand connections are files of this process."""
+    """A thousand connections are files of this process; and HAProxy's sockets, in the folders of tests, have short paths."""
+    if not config.option.basetemp and len(tempfile.gettempdir()) > 24:
+        folder = tempfile.mkdtemp(prefix="fwdesk-", dir="/tmp")
+        config.option.basetemp = folder
+        config.add_cleanup(lambda: shutil.rmtree(folder, ignore_errors=True))
     soft, hard = resource.getrlimit(resource.RLIMIT_NOFILE)
     wanted = max(soft, 4096 if hard == resource.RLIM_INFINITY else min(hard, 4096))
     resource.setrlimit(resource.RLIMIT_NOFILE, (wanted, hard))
