@@ -1,7 +1,6 @@
 """The console's own records, in SQLite. To lose them loses history, never a state: what is, is looked at anew."""
 import json
 import logging
-import os
 import secrets
 import sqlite3
 import time
@@ -28,7 +27,39 @@ create index event_rollout on event(rollout, id);
 create index report_at on report(at);
 create index audit_refused on audit(id) where status >= 400;
 """
+# what SQLite says of a disk that is full, broken or not to be written to: the file itself may be whole
+OF_DISK = (
+    sqlite3.SQLITE_FULL,
+    sqlite3.SQLITE_IOERR,
+    sqlite3.SQLITE_CANTOPEN,
+    sqlite3.SQLITE_READONLY,
+    sqlite3.SQLITE_BUSY,
+)
+AGAIN = 5.0  # seconds between two tries to open a file that the disk refused
 REFUSED_PART = 4  # what was refused may fill a quarter of the audit, so that guesses don't push out what was done
+
+
+def is_of_disk(error: Exception) -> bool:
+    """Whether the disk refuses, and not what the file has."""
+    return getattr(error, "sqlite_errorcode", 0) & 0xFF in OF_DISK
+
+
+def create(db: sqlite3.Connection) -> None:
+    """The tables of a file that is new, all or none."""
+    about = f"('name', '{secrets.token_hex(6)}'), ('begun', '{time.time()}')"
+    tables = f"{SCHEMA} insert into meta values {about};"
+    db.executescript(f"begin; {tables} pragma user_version={VERSION}; commit;")
+
+
+def check(db: sqlite3.Connection) -> None:
+    """Refuses a file that can't be used."""
+    found = int(db.execute("pragma user_version").fetchone()[0])
+    if found != VERSION:
+        raise ValueError(f"it is of version {found}, and {VERSION} is read")
+    if (told := db.execute("pragma quick_check(1)").fetchone()[0]) != "ok":
+        raise sqlite3.DatabaseError(told)
+    if not db.execute("select value from meta where key='name'").fetchone():
+        raise sqlite3.DatabaseError("it has no name")
 
 
 class Store:
@@ -37,46 +68,75 @@ class Store:
     def __init__(self, path: str, rows: int = 100_000):
         self.path, self.rows, self.problem, self.put_aside = path, rows, "", ""
         self._said = -1e9
+        self._refusal, self._tried = "", 0.0  # of the disk, to open the file
+        self._event = 0
         try:
-            self.db = self._open()
-        except (sqlite3.DatabaseError, ValueError) as error:
-            if isinstance(error, sqlite3.OperationalError) and not self._is_there():
+            self.db = self._begin()
+        except sqlite3.Error as error:
+            if not is_of_disk(error):
                 raise
+            self._refusal, self._tried = str(error), time.monotonic()
+            self.problem = self._refusal
+            logging.error("%s can't be opened (%s): nothing is kept", path, clean(self._refusal))
+            self.db = self._open_nothing()
+        self._note_numbers()
+
+    def _begin(self) -> sqlite3.Connection:
+        """The file, or a new one where it can't be used."""
+        try:
+            return self._open()
+        except (sqlite3.DatabaseError, ValueError) as error:
+            if is_of_disk(error):
+                # a full disk has no room for the log's index, a file that is done without here
+                return self._open("exclusive")
             self._move_aside(str(error))
-            self.db = self._open()
+        return self._open()
+
+    def _note_numbers(self) -> None:
         self.name = str(self.one("select value from meta where key='name'")["value"])
-        self._event = int(self.one("select coalesce(max(id), 0) n from event")["n"])
         kept = self.all("select value from meta where key='event'")
-        self._event = max([self._event, *(int(it["value"]) for it in kept)])
+        last = int(self.one("select coalesce(max(id), 0) n from event")["n"])
+        self._event = max([self._event, last, *(int(it["value"]) for it in kept)])
 
-    def _is_there(self) -> bool:
-        return Path(self.path).exists() and os.access(self.path, os.R_OK | os.W_OK)
-
-    def _open(self) -> sqlite3.Connection:
+    def _open(self, locking: str = "normal") -> sqlite3.Connection:
         db = sqlite3.connect(self.path, isolation_level=None, timeout=1)
         try:
             db.row_factory = sqlite3.Row
+            db.execute(f"pragma locking_mode={locking}")
             db.execute("pragma journal_mode=wal")
             db.execute("pragma synchronous=normal")
             db.execute("pragma trusted_schema=off")
             found = int(db.execute("pragma user_version").fetchone()[0])
-            tables = int(db.execute("select count(*) from sqlite_master").fetchone()[0])
-            if found == 0 and tables == 0:
-                db.executescript(f"begin; {SCHEMA} pragma user_version={VERSION}; commit;")
-                db.execute("insert into meta values('name', ?)", (secrets.token_hex(6),))
-                db.execute("insert into meta values('begun', ?)", (str(time.time()),))
-            elif found != VERSION:
-                raise ValueError(f"it is of version {found}, and {VERSION} is read")
-            if (told := db.execute("pragma quick_check(1)").fetchone()[0]) != "ok":
-                raise sqlite3.DatabaseError(told)
-            db.execute("select value from meta where key='name'").fetchone()["value"]
+            if found == 0 and not db.execute("select count(*) from sqlite_master").fetchone()[0]:
+                create(db)
+            check(db)
             return db
-        except TypeError:
-            db.close()
-            raise sqlite3.DatabaseError("it has no name") from None
         except BaseException:
             db.close()
             raise
+
+    @staticmethod
+    def _open_nothing() -> sqlite3.Connection:
+        """Tables without a row, which take none."""
+        db = sqlite3.connect(":memory:", isolation_level=None)
+        db.row_factory = sqlite3.Row
+        create(db)
+        db.execute("pragma query_only=1")
+        return db
+
+    def _is_open(self) -> bool:
+        """Whether the file is open; where the disk refused it is tried again now and again."""
+        if self._refusal and time.monotonic() - self._tried > AGAIN:
+            self._tried = time.monotonic()
+            try:
+                opened = self._begin()
+            except sqlite3.Error as error:
+                self._refusal = str(error)
+                return False
+            self.db.close()
+            self.db, self._refusal = opened, ""
+            self._note_numbers()
+        return not self._refusal
 
     def _move_aside(self, why: str) -> None:
         """The file of before stays, beside: with a time in its name, and with what SQLite has beside it."""
@@ -97,6 +157,9 @@ class Store:
 
     def write(self, writes: Writes) -> bool:
         """All of it, or nothing; whether it is kept."""
+        if not self._is_open():
+            self.problem = self._refusal
+            return False
         try:
             before = self.db.total_changes
             self.db.execute("begin immediate")

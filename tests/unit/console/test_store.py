@@ -1,9 +1,23 @@
 """The records: whole or not at all, with a cap of rows, put aside where they can't be used, and done without where the disk is full."""
+import contextlib
+import resource
 import sqlite3
 
 import pytest
 from fakes import play
+from fwdesk_console import store as records
 from fwdesk_console.store import Store
+
+
+@contextlib.contextmanager
+def full_disk():
+    """No file grows beyond 1,000 bytes, as on a disk that is full."""
+    before = resource.getrlimit(resource.RLIMIT_FSIZE)
+    resource.setrlimit(resource.RLIMIT_FSIZE, (1000, before[1]))
+    try:
+        yield
+    finally:
+        resource.setrlimit(resource.RLIMIT_FSIZE, before)
 
 
 def test_a_file_that_is_torn_is_put_aside_and_told(tmp_path):
@@ -95,5 +109,53 @@ def test_a_full_disk_is_told_and_answers_go_on(tmp_path):
         stand.service.store.db.execute("pragma query_only=0")
         stand.service.store.prune()
         assert (await stand.get("/fwdesk/state"))[2]["kept"] is None
+
+    play(tmp_path, course, webhooks=("http://127.0.0.1:9/",))
+
+
+INSERT = "insert into device values(?,1,1,1,1)"
+
+
+@pytest.mark.parametrize("known", [0, 3000])
+def test_begun_on_a_full_disk_it_has_what_was_kept_and_keeps_again_once_there_is_room(
+    tmp_path, monkeypatch, known
+):
+    path, count = tmp_path / "console.db", "select count(*) n from device"
+    if known:
+        store = Store(str(path))
+        store.write([(INSERT, [(f"d{n}",) for n in range(known)])])
+        last = store.next_event()
+        store.prune()
+        store.close()
+    with full_disk():
+        store = Store(str(path))
+        assert not store.put_aside and store.one(count)["n"] == known
+        assert store.next_event() == (last + 1 if known else 1)
+        assert not store.do(INSERT, "new") and store.one(count)["n"] == known
+        assert store.problem
+        # tried again while it is full
+        monkeypatch.setattr(records, "AGAIN", -1.0)
+        assert not store.do(INSERT, "new") and store.problem
+    assert store.do(INSERT, "new") and not store.problem
+    assert store.one(count)["n"] == known + 1
+    store.close()
+    assert Store(str(path)).one(count)["n"] == known + 1
+    assert not list(tmp_path.glob("*.aside-*"))
+
+
+def test_begun_on_a_full_disk_the_console_answers_and_tells_it(tmp_path):
+    async def course(stand):
+        await stand.look()
+        stand.service.store.write([(INSERT, [(f"d{n}",) for n in range(3000)])])
+        with full_disk():
+            await stand.anew()
+            stand.desk.rollouts[0]["status"] = "paused"
+            await stand.look(10)
+            stand.service._look_at_records()
+            state = (await stand.get("/fwdesk/state?rollout=1"))[2]
+            assert state["rollout"]["status"] == "paused" and state["kept"]
+            assert state["events"][0]["kind"] == "paused"
+            assert "what is seen isn't kept" in stand.words("console")
+            assert len(stand.service.history.waiting) == 2
 
     play(tmp_path, course, webhooks=("http://127.0.0.1:9/",))
