@@ -9,7 +9,7 @@ import {view as firmware} from "./firmware.js";
 import {view as fleet} from "./fleet.js";
 import {showFleets} from "./fleets.js";
 import {showLanguages, t, translateFrame, written} from "./language.js";
-import {begun, isInstalled, looked, ready, state, told} from "./live.js";
+import {begun, isInstalled, lastTold, looked, ready, state, told} from "./live.js";
 import {introduce} from "./me.js";
 import {view as log} from "./log.js";
 import {view as members} from "./members.js";
@@ -103,6 +103,16 @@ function draw(view) {
   settle(place("main"), [h("h1", {tabindex: -1}, title), view.view.draw(view.data, page)]);
 }
 
+/** What a console alone tells is as old as its last look, whatever the server has answered since. */
+const isOld = () => shown?.view.isTold && lastTold();
+
+/** While the console tells what is, the page is as old as its last look. */
+function tellAge() {
+  if (state() || isOld()) {
+    place("asked").textContent = t("app.asOf", {clock: written(looked(), CLOCK)});
+  }
+}
+
 /** Asks for what a view shows, and draws it where the view is still the one that is shown. */
 async function update(view) {
   if (view.data && view.view.still) {
@@ -123,6 +133,7 @@ async function update(view) {
     view.data = data;
     place("main").removeAttribute("aria-busy");
     draw(view);
+    tellAge();
     if (first && view.moved) {
       place("main").querySelector("h1").focus({preventScroll: true});
       scrollTo(0, scrolled.get(location.hash) ?? 0);
@@ -166,7 +177,9 @@ events.addEventListener("fault", ({detail}) => {
 });
 
 events.addEventListener("answer", () => {
-  place("asked").textContent = t("app.asOf", {clock: clock()});
+  if (!isOld()) {
+    place("asked").textContent = t("app.asOf", {clock: clock()});
+  }
   if (place("banner").querySelector("[data-key=away]")) {
     settle(place("banner"), []);
   }
@@ -175,12 +188,7 @@ events.addEventListener("answer", () => {
 /** Views that only a console can show are led to where there is one. */
 told.addEventListener("look", () => document.querySelectorAll("#pages .console").forEach((it) => (it.hidden = !isInstalled())));
 
-/** While the console tells what is, the page is as old as its last look. */
-told.addEventListener("look", () => {
-  if (state()) {
-    place("asked").textContent = t("app.asOf", {clock: written(looked(), CLOCK)});
-  }
-});
+told.addEventListener("look", tellAge);
 
 place("skip").onclick = (event) => {
   event.preventDefault();

@@ -181,6 +181,7 @@ export const DE = {
   "watch.server": "Der Server antwortet nicht seit {since} ({words}). Gezeigt wird der Stand davor.",
   "watch.notKept": "Die Konsole kann nicht speichern, was sie sieht ({words}).",
   "watch.none": "Die Konsole ist fort: hier ist nichts zu zeigen. Rollouts, Flotte und Firmware kommen wie immer vom Server.",
+  "now.before": "Gezeigt wird der Stand von {at}, den die Konsole zuletzt meldete. Rollouts, Flotte und Firmware fragen den Server.",
   "now.needs": "Braucht jemanden",
   "now.needsNone": "Es ist nichts zu tun.",
   "now.waits": "wartet auf eine Freigabe",

@@ -178,6 +178,7 @@ export const EN = {
   "watch.server": "The server doesn't answer since {since} ({words}). What is shown is from before.",
   "watch.notKept": "The console can't keep what it sees ({words}).",
   "watch.none": "The console is away: this view has nothing to show. Rollouts, fleet and firmware are asked of the server as always.",
+  "now.before": "What is shown here is of {at}, when the console last told it. Rollouts, fleet and firmware ask the server.",
   "now.needs": "Needs somebody",
   "now.needsNone": "Nothing needs you.",
   "now.waits": "waits for an approval",

@@ -4,7 +4,7 @@ import {bar, h, inWords, link, p} from "./drawing.js";
 import {askedLine, happenedWords, pausedLine, standsLine, time, whenOf} from "./happened.js";
 import {heldBadge} from "./held.js";
 import {number, t, when} from "./language.js";
-import {awayFrom, lastTold, state} from "./live.js";
+import {awayFrom, lastTold, looked, state} from "./live.js";
 import {stateBadge} from "./states.js";
 import {firstSteps} from "./steps.js";
 
@@ -54,6 +54,7 @@ function statesOf(fleet) {
 
 export const view = {
   title: () => t("frame.now"),
+  isTold: true,
   load: async () => ({told: state()?.rollouts ? state() : lastTold()?.rollouts ? lastTold() : null}),
   draw({told}) {
     if (!told) {
@@ -63,6 +64,7 @@ export const view = {
     const later = told.rollouts.filter((it) => it.status === "ready");
     const isEmpty = told.fleet && !told.fleet.devices && !told.rollouts.length && !told.versions.length;
     return [
+      state() ? null : p("cause", t("now.before", {at: when(looked() / 1000)})),
       isEmpty ? firstSteps() : null,
       h("section", {class: open.length ? "card urgent" : "card", id: "needs"}, h("h2", {}, t("now.needs")),
         open.length ? h("ul", {class: "needs"}, open) : p("empty", t("now.needsNone")), told.more ? p("hint", t("now.more", {count: told.more})) : null),

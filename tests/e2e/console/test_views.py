@@ -2,6 +2,7 @@
 import datetime
 import json
 import os
+import re
 import signal
 import subprocess
 import threading
@@ -196,6 +197,77 @@ def test_pages_say_what_they_cannot_know_while_the_console_is_away(env, open_bro
         assert browser.text("#watching") == ""
         env.order(rollout, "resume", "ben")
         browser.until("running", "main .line")
+
+
+def test_the_first_view_says_of_when_it_is_while_the_console_is_away(env, open_browser):
+    env.plan("first view", groups=1)
+    browser = open_browser(env, "#/now")
+    browser.until("first view", "#runs")
+    assert "What is shown here is of" not in browser.text("main")
+    assert browser.text("#asked").startswith("as of ")
+    moment = lambda: sum(
+        60**k * int(it) for k, it in enumerate(re.findall(r"\d+", browser.text("#asked"))[::-1])
+    )
+    env.kill(env.console)
+    try:
+        browser.until("What is shown here is of", "main", 10)
+        told = moment()
+        # the server is asked for what is held, and its answers make nothing else newer
+        before = len(browser.asked())
+        eventually("the server answers", lambda: len(browser.asked()) > before + 6, 30)
+        assert abs(moment() - told) <= 1 and "first view" in browser.text("#runs")
+    finally:
+        env.console = env.start_console()
+    browser.until_not("What is shown here is of", "main", 20)
+    assert not browser.faults()
+
+
+def test_what_stands_still_is_shown_with_the_ways_on(tmp_path, open_browser):
+    env = Environment(tmp_path, stands_after=3)
+    try:
+        env.make_fleet(4)
+        rollout = env.plan("still", groups=1, success=90)
+        for it in env.table(rollout)[:2]:
+            env.report(it["controllerid"], int(it["action"]), "success", "done")
+        browser = open_browser(env, f"#/rollouts/{rollout}")
+        said = "2 of 4 in group 1 have reported no outcome. 2 succeeded, 4 are needed."
+        browser.until(said, "main .stands")
+        assert browser.text("main .stands").startswith("Stands still since ")
+        assert "wait, start the next group, or cancel what is in progress" in browser.text("main")
+        browser.go("#/now")
+        browser.until(said, "#needs")
+        told = lambda: [it for _, _, it in env.sink.posts if it["kind"] == "stands"]
+        assert len(eventually("it is told", told, 10)) == 1 and told()[0]["rollout"] == rollout
+        for it in env.table(rollout)[2:]:
+            env.report(it["controllerid"], int(it["action"]), "success", "done")
+        browser.until("Nothing needs you.", "#needs")
+        assert not browser.faults()
+    finally:
+        env.end()
+
+
+def test_a_dead_desk_and_a_full_disk_are_said_on_the_page(tmp_path, open_browser):
+    env = Environment(tmp_path)
+    try:
+        env.make_fleet(4)
+        rollout = env.plan("said", groups=1)
+        browser = open_browser(env, "#/now")
+        browser.until("said", "#runs")
+        os.system(f"prlimit --pid {env.console.pid} --fsize=1000:")
+        env.order(rollout, "pause")
+        browser.until("The console can't keep what it sees (", "#watching", 30)
+        os.system(f"prlimit --pid {env.console.pid} --fsize=unlimited:")
+        eventually("it is kept again", lambda: browser.text("#watching") == "", 60)
+        env.kill(env.desk)
+        browser.until("The server doesn't answer since ", "#watching", 60)
+        browser.until("What is shown here is of", "main")
+        assert "said" in browser.text("#needs")
+        env.desk = env.start_desk()
+        eventually("it answers again", lambda: browser.text("#watching") == "", 60)
+        browser.until_not("What is shown here is of", "main")
+        assert not browser.faults()
+    finally:
+        env.end()
 
 
 def test_a_word_finds_devices_by_id_and_name(env, open_browser):
