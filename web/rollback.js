@@ -1,6 +1,7 @@
 // Rolls back: the devices that succeeded in a rollout get the set that each had before, as `fwdesk-ctl rollback` does it.
 import {all, ask, beside, get} from "./api.js";
 import {h, sure} from "./drawing.js";
+import {heldWords} from "./held.js";
 import {listed, t} from "./language.js";
 import {TARGETS} from "./matching.js";
 import {ifSteers} from "./me.js";
@@ -82,7 +83,7 @@ async function press(rollout, page) {
   }
   const way = async ([set, devices]) => t("rollback.way", {devices: t("n.devices", {n: devices.length}), set: titleOf(await setOf(set))});
   const ways = await Promise.all([...to].map(way));
-  if (!await sure(t("rollback.title", {name: rollout.name}), [...ways, ...left, t("rollback.says")], t("rollback.yes"))) {
+  if (!await sure(t("rollback.title", {name: rollout.name}), [...ways, ...left, t("rollback.says"), ...heldWords()], t("rollback.yes"))) {
     return;
   }
   const made = [];

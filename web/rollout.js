@@ -23,7 +23,7 @@ const thresholds = ({size, success, error, ok, bad}) =>
 function groupRow(rollout, group) {
   const counts = countsOf(group);
   return h("li", {class: isAtErrorThreshold(group) ? "group faulty" : "group", "data-key": group.id, "data-group": group.id},
-    h("div", {class: "line"}, h("h3", {}, t("group.name", {group: group.id})), stateBadge("group", group.status),
+    h("div", {class: "line"}, h("h3", {}, t("group.name", {group: group.id})), stateBadge("group", group.status), heldBadge(group.status),
       link(`#/rollouts/${rollout.id}/groups/${group.id}`, t("n.devices", {n: group.size}))),
     bar(counts, t("group.name", {group: group.id}), group),
     p("under", countsIn(counts, group.size)),

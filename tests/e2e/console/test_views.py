@@ -141,6 +141,9 @@ def test_hostile_words_are_text_in_each_view(env, open_browser):
 def test_held_is_said_on_states_and_questions_and_release_is_whole(env, open_browser):
     rollout = env.plan("held", groups=2, start=False)
     running = env.plan("under way", groups=1)
+    for version in (1, 2):
+        over = env.plan(groups=1, set_=version, text="controllerid==dev-00020")
+        env.report("dev-00020", int(env.table(over)[0]["action"]), "success", "done")
     browser = open_browser(env, f"#/rollouts/{rollout}")
     browser.until("Hold everything", "#held")
     assert (
@@ -160,10 +163,17 @@ def test_held_is_said_on_states_and_questions_and_release_is_whole(env, open_bro
             browser.picture(f"held-{width}")
         browser.wide(1440)
         browser.click("[data-command=start]")
-        browser.until("Everything is held: no device is told of this before the release.", "dialog")
+        question = "Everything is held: no device is told of this before the release."
+        browser.until(question, "dialog[open]")
+        browser.click("dialog [value=no]")
+        browser.go(f"#/rollouts/{over}")
+        browser.until("Roll back", "main .buttons")
+        browser.click("#rollback")
+        browser.until(question, "dialog[open]")
         browser.click("dialog [value=no]")
         browser.go(f"#/rollouts/{running}")
         browser.until("held: told at the release", "main .line")
+        browser.until("held: told at the release", "main .group")
         browser.go("#/now")
         browser.until("Everything is held by anna", "#needs")
     finally:
