@@ -31,6 +31,10 @@ def chips_and_order(browser, env):
     browser.click("#tags a:nth-of-type(2)")
     browser.until("document.querySelectorAll('tbody tr').length === 40")
     assert first_column(browser)[0] == "dev-00003"
+    ground = lambda k: browser.js(
+        f"return getComputedStyle(document.querySelector('#tags a:nth-of-type({k})')).backgroundColor"
+    )
+    assert ground(1) != ground(2), "nothing shows which tag is chosen"
     browser.click("#tags a:nth-of-type(2)")
     browser.until("document.querySelectorAll('tbody tr').length === 50")
     # a word is searched for, and a tag narrows what it finds
