@@ -109,7 +109,7 @@ export const view = {
     };
     return [
       page.kept("filter", () => h("form", {onsubmit: search, role: "search"}, filterField("fleet-filter", filter, undefined, searched),
-        p("buttons", h("button", {class: "main"}, t("show.these"))))),
+        p("buttons", h("button", {class: "main"}, t("fleet.find"))))),
       ifSteers(() => [page.kept("import", () => importForm(page)), page.kept("list", () => listForm(page))]),
       chips(targets.content, filter, (text) => address(0, text)),
       targets.total > 1 ? sortChips(COLUMNS, sort, (order) => address(0, filter, order)) : null,

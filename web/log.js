@@ -57,7 +57,7 @@ export const view = {
     const found = () => (rows.length ? table(t(TITLES[of]), HEADS[of].map((it) => t(it)), rows.map(rowOf[of])) : p("empty", t("log.none")));
     return [
       h("nav", {class: "choices states", "aria-label": t("frame.history")}, choice("happened"), choice("audit")),
-      page.kept(`filters ${of}`, () => h("form", {class: "row", onsubmit: search, role: "search"}, controls(of, query), h("button", {}, t("show.these")))),
+      page.kept(`filters ${of}`, () => h("form", {class: "row", onsubmit: search, role: "search"}, controls(of, query), h("button", {}, t("log.show")))),
       rows ? found() : p("empty", t("watch.none")),
       rows ? h("nav", {class: "pager", "aria-label": t("pager.label")}, asked.has("before") ? link(newest, t("log.newest")) : null,
         rows.length === SHOWN ? link(address({before: rows.at(-1).id}), t("log.older")) : null,

@@ -130,7 +130,7 @@ def test_an_operators_day_takes_few_clicks(day, tmp_path):
 
         browser.link("Fleet")
         browser.fill("#fleet-filter", "00900")
-        browser.link("Show these")
+        browser.link("Search")
         browser.link("dev-00900")
         browser.until("Last words", "#device-now")
         browser.task("find a device by its id: version, last poll, last words", 3, 1)
@@ -143,7 +143,7 @@ def test_an_operators_day_takes_few_clicks(day, tmp_path):
         browser.until("is retired", "#notice", 60)
         browser.task("retire it", 2, 0)
         browser.link("History")
-        browser.link("Who changed what")
+        browser.link("Audit log")
         browser.until("/start", "main table")
         browser.task("who pressed what", 2, 0)
         # the file that is wrong is refused, and before a large one the login is asked for at its address

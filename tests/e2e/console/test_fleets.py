@@ -129,7 +129,7 @@ def test_the_page_of_a_fleet_shows_its_console(room):
         browser.driver.get(f"https://anna:secret@{HOST}:{room.port}/fleets/acme/page/#/now")
         browser.until("of acme", "#needs", 30)
         browser.driver.get(f"https://anna:secret@{HOST}:{room.port}/fleets/other/page/#/now")
-        browser.until("Nothing needs you.", "#needs")
+        browser.until("Nothing needs attention.", "#needs")
         assert "of acme" not in browser.text()
         assert not browser.faults()
     finally:

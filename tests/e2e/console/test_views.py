@@ -39,7 +39,7 @@ def test_a_pause_reaches_browser_and_webhook_with_when_who_and_why(env, open_bro
     browser.click("#see-failed")
     browser.until("disk full", "main table")
     browser.go(f"#/rollouts/{rollout}")
-    browser.until("What happened")
+    browser.until("Events (")
     assert not browser.faults()
 
 
@@ -58,7 +58,7 @@ def test_now_leads_to_what_needs_somebody_and_counts_devices(env, open_browser):
     browser.click("#needs a.button")
     browser.until("no space", "main table")
     browser.driver.back()
-    browser.until("Needs somebody", "main")
+    browser.until("Needs attention", "main")
     browser.click('#devices a[href^="#/devices?set="]')
     browser.until("Devices with pump 1.0", "h1")
     browser.until("dev-", "main table")
@@ -250,7 +250,7 @@ def test_what_stands_still_is_shown_with_the_ways_on(tmp_path, open_browser):
         assert len(eventually("it is told", told, 10)) == 1 and told()[0]["rollout"] == rollout
         for it in env.table(rollout)[2:]:
             env.report(it["controllerid"], int(it["action"]), "success", "done")
-        browser.until("Nothing needs you.", "#needs")
+        browser.until("Nothing needs attention.", "#needs")
         assert not browser.faults()
     finally:
         env.end()
@@ -409,7 +409,7 @@ def test_what_is_to_come_is_listed_in_this_browsers_times(tmp_path, open_browser
     env = Environment(tmp_path)
     try:
         browser = open_browser(env, "#/now")
-        browser.until("Nothing needs you.", "#needs")
+        browser.until("Nothing needs attention.", "#needs")
         assert browser.js("return document.getElementById('coming').hidden")
         path = f"{tmp_path}/programs:{os.environ['PATH']}"
         order = lambda *words: subprocess.run(
@@ -459,7 +459,7 @@ def test_what_is_to_come_is_listed_in_this_browsers_times(tmp_path, open_browser
         order("at", "--cancel", "1")
         order("quiet", "off")
         eventually("one is listed", lambda: look(1), 20)
-        assert browser.text("#coming h2") == "To come"
+        assert browser.text("#coming h2") == "Scheduled"
         assert not browser.faults()
     finally:
         env.end()

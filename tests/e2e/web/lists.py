@@ -116,7 +116,7 @@ def a_sign_of_loading(browser, env):
         browser.js("location.hash = '#/targets'")
         busy = "document.getElementById('main').getAttribute('aria-busy') === 'true'"
         browser.until(
-            f"{busy} && document.getElementById('asked').innerText === 'Asking…'", seconds=1
+            f"{busy} && document.getElementById('asked').innerText === 'Loading…'", seconds=1
         )
         shown = browser.js(
             "return getComputedStyle(document.getElementById('main'), '::before').height"

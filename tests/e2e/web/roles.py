@@ -23,7 +23,7 @@ STEERED = {
     "#/firmware/modules/2": ("#upload-file",),
 }
 # what may be pressed by whoever looks: ways to show or save something
-SHOWS = ("Show these", "save-groups", "save-devices")
+SHOWS = ("Search", "save-groups", "save-devices")
 
 
 def shown(browser, place):
