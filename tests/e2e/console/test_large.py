@@ -6,6 +6,7 @@ import time
 import pytest
 
 from .environment import Environment
+from .pages import Pages
 from harness.processes import eventually
 
 DEVICES = int(os.environ.get("DEVICES", 10_000))
@@ -62,6 +63,8 @@ VIEWS = (
     ("#/history?of=audit", "History", "/start"),
 )
 
+BESIDE = ("#/now", "#/rollouts/1", "#/rollouts/1/groups/1", "#/targets?q=&offset=0&sort=state")
+
 
 @pytest.fixture(scope="module")
 def large(tmp_path_factory):
@@ -109,4 +112,23 @@ def test_views_are_drawn_in_time(large, open_browser):
     browser.until("pump", "main")
     slow = slow_views(browser, VIEWS)
     assert not slow, slow
+    assert not browser.faults()
+
+
+def test_views_are_drawn_in_time_beside_nineteen_windows(large, open_browser):
+    """Each of these has the rollout of 50 groups in sight, while devices report on it."""
+    browser = open_browser(large, "#/firmware")
+    browser.until("pump", "main")
+    rows = [it for it in large.table(1) if it["state"] == "running"]
+    with Pages(large, 19, "/fwdesk/state?rollout=1") as pages:
+        for it in rows[:20]:
+            large.report(it["controllerid"], int(it["action"]), "success", "done")
+        before, began = large.desk_requests(), time.monotonic()
+        slow = slow_views(browser, [it for it in VIEWS if it[0] in BESIDE])
+        asked, minutes = large.desk_requests() - before, (time.monotonic() - began) / 60
+    print(
+        f"20 windows: {asked / minutes:.0f} requests a minute to the desk, the views' own among them"
+    )
+    assert not slow, slow
+    assert set(pages.statuses) <= {200, 304} and len(pages.statuses) > 19 and not pages.sent_twice
     assert not browser.faults()

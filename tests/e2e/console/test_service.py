@@ -14,6 +14,8 @@ import time
 from harness import http_client
 from harness.processes import eventually, wait_for
 
+from .pages import Pages
+
 
 class Polling:
     """Devices that poll all the time, and what became of it."""
@@ -244,29 +246,26 @@ def test_the_audit_says_who_when_and_what_and_a_login_of_two_lines_is_one(env):
     assert done[0]["status"] == 201 and done[0]["at"] > time.time() - 60
 
 
-def test_a_reload_of_haproxy_fails_no_poll_beside_twenty_pages(env):
-    pages, over = [], threading.Event()
-
-    def page():
-        while not over.wait(2):
-            pages.append(env.ask("/fwdesk/state")[0])
-
-    threads = [threading.Thread(target=page) for _ in range(20)]
-    for it in threads:
-        it.start()
-    with Polling(env, 10) as polling:
+def test_a_reload_of_haproxy_fails_no_poll_beside_twenty_pages(env, open_browser):
+    """A browser and nineteen that ask as it does: none keeps HAProxy's old process."""
+    browser = open_browser(env, "#/now")
+    browser.until("Devices", "main")
+    gone = lambda: len(env.edge.workers(env.edge.edge)) == 1
+    with Pages(env, 19) as pages, Polling(env, 10) as polling:
         for _ in range(2):
             time.sleep(3)
             env.edge.reload()
+            began = time.monotonic()
+            eventually("the old process is gone", gone, 30)
+            print(f"the old process is gone after {time.monotonic() - began:.2f} s")
+            assert time.monotonic() - began < 10
         time.sleep(5)
-    over.set()
-    for it in threads:
-        it.join()
-    assert not polling.failed and set(pages) == {200}, (polling.failed, set(pages))
+    assert not polling.failed and set(pages.statuses) == {200, 304}, polling.failed
     print(
-        f"two reloads: {polling.count} polls, 0 failed, at most {polling.slowest:.2f} s; {len(pages)} pages"
+        f"two reloads: {polling.count} polls, 0 failed, at most {polling.slowest:.2f} s; {len(pages.statuses)} pages"
     )
-    assert polling.slowest < 3
+    assert polling.slowest < 10
+    assert browser.text("#watching") == "" and not browser.faults()
 
 
 def test_metrics_are_those_of_the_desk_and_promtool_reads_them(env):

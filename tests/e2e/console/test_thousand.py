@@ -1,12 +1,12 @@
 """A desk that has all the rollouts of its life, with one browser and nineteen that ask as its page does: what runs is told, the views
 are drawn in time, and the desk is asked as little as with a few."""
-import threading
 import time
 
 import pytest
 from harness.processes import eventually
 
 from .environment import Environment
+from .pages import Pages
 from .test_large import slow_views
 
 ROLLOUTS = 1000
@@ -42,18 +42,7 @@ def test_what_runs_is_told_among_a_thousand(full, open_browser):
     browser.until("pump", "main")
     slow = slow_views(browser, VIEWS)
     assert not slow, slow
-    over = threading.Event()
-
-    def page():
-        tag = ""
-        while not over.wait(2):
-            _, fields, _ = full.ask("/fwdesk/state", fields={"If-None-Match": tag})
-            tag = fields["etag"]
-
-    threads = [threading.Thread(target=page) for _ in range(19)]
-    for it in threads:
-        it.start()
-    try:
+    with Pages(full, 19):
         time.sleep(10)
         before = full.desk_requests()
         time.sleep(60)
@@ -63,10 +52,6 @@ def test_what_runs_is_told_among_a_thousand(full, open_browser):
         browser.go(f"#/rollouts/{ROLLOUTS}")
         browser.until("by itself", "main .cause", seconds=30)
         seconds = time.monotonic() - began
-    finally:
-        over.set()
-        for it in threads:
-            it.join()
     print(
         f"20 pages: {asked} requests a minute to the desk; a pause is there after {seconds:.1f} s"
     )

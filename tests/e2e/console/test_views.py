@@ -5,10 +5,10 @@ import os
 import re
 import signal
 import subprocess
-import threading
 import time
 
 from .environment import ROOT, Environment
+from .pages import Pages
 from harness.processes import eventually
 
 
@@ -335,40 +335,23 @@ def test_twenty_pages_cost_the_desk_as_little_as_one(env, open_browser):
             env.order(it["id"], "pause")
     browser = open_browser(env, f"#/rollouts/{paused}")
     browser.until("by itself: group 1: 2 of 10 failed", "main .cause")
-    over, answers, twice = threading.Event(), [], []
-
-    def page():
-        tag = ""
-        while not over.wait(2):
-            path = f"/fwdesk/state?rollout={paused}"
-            status, fields, _ = env.ask(path, fields={"If-None-Match": tag})
-            answers.append(status)
-            if status == 200 and fields["etag"] == tag:
-                twice.append(tag)
-            tag = fields["etag"]
-
     time.sleep(20)
     going = env.api("/rest/v1/rollouts?limit=500")["total"]
     counts = []
-    for pages in (0, 19):
-        threads = [threading.Thread(target=page) for _ in range(pages)]
-        for it in threads:
-            it.start()
-        time.sleep(2)
-        before = env.desk_requests()
-        time.sleep(60)
-        counts.append(env.desk_requests() - before)
-        over.set()
-        for it in threads:
-            it.join()
-        over.clear()
+    for count in (0, 19):
+        with Pages(env, count, f"/fwdesk/state?rollout={paused}") as pages:
+            time.sleep(2)
+            before = env.desk_requests()
+            time.sleep(60)
+            counts.append(env.desk_requests() - before)
     print(
         f"{going} paused rollouts: 1 page {counts[0]}, 20 pages {counts[1]} requests a minute to the desk"
     )
     # the list of rollouts each ten seconds, the groups of each paused one each thirty, and once the page's own look
     assert max(counts) <= 7 + 3 * going + 3
     # a state that changes is sent to each page once, and none a second time
-    assert not twice and set(answers) == {200, 304} and answers.count(304) > len(answers) / 2
+    assert not pages.sent_twice and set(pages.statuses) == {200, 304}
+    assert pages.statuses.count(304) > len(pages.statuses) / 2
 
 
 def clock_of(folder):
