@@ -67,6 +67,7 @@ class Store:
 
     def __init__(self, path: str, rows: int = 100_000):
         self.path, self.rows, self.problem, self.put_aside = path, rows, "", ""
+        self.grown = 0  # rows written since the last pruning
         self._said = -1e9
         self._refusal, self._tried = "", 0.0  # of the disk, to open the file
         self._event = 0
@@ -176,6 +177,7 @@ class Store:
             return False
         if self.db.total_changes > before:  # what changes nothing is taken by a full disk too
             self.problem = ""
+            self.grown += self.db.total_changes - before
         return True
 
     def do(self, sql: str, *values: Any) -> bool:
@@ -197,7 +199,7 @@ class Store:
         ]
 
     def prune(self) -> None:
-        """Keeps so many rows of each kind, the newest."""
+        """Keeps so many rows of each kind, the newest. It is time for it at the latest once a tenth of them was written."""
         oldest = "(select id from {0} order by id desc limit 1 offset {1})"
         refused = f"(select id from audit where status >= 400 order by id desc limit 1 offset {self.rows // REFUSED_PART})"
         self.write(
@@ -215,3 +217,7 @@ class Store:
                 ("insert or replace into meta values('event', ?)", [(str(self._event),)]),
             ]
         )
+        self.grown = 0
+
+    def is_to_prune(self) -> bool:
+        return self.grown > self.rows // 10

@@ -107,7 +107,7 @@ class Watch:
         while True:
             began = self.clock.steady()
             await self.turn()
-            if self.clock.steady() - pruned > 600:
+            if self.clock.steady() - pruned > 600 or self.store.is_to_prune():
                 pruned = self.clock.steady()
                 self.store.prune()
             took = self.clock.steady() - began

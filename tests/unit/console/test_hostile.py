@@ -37,6 +37,19 @@ def test_a_login_name_with_a_line_feed_is_one_record_on_one_line(tmp_path):
     play(tmp_path, course)
 
 
+ADDRESSES = ("192.0.2.7", "2001:db8::7", "::ffff:192.0.2.7", "unix", "-")
+
+
+@pytest.mark.parametrize("address", [*ADDRESSES, "<b>", "192.0.2.7,x", "a" * 46, "fe80::1%<b>"])
+def test_an_address_of_each_kind_is_kept_and_no_other_text(tmp_path, address):
+    async def course(stand):
+        stand.hear(f'audit 200 {address} "anna" POST /rest/v1/targets\n')
+        rows = (await stand.get("/fwdesk/audit"))[2]
+        assert [it["address"] for it in rows] == [address] * (address in ADDRESSES)
+
+    play(tmp_path, course)
+
+
 def test_what_turns_or_hides_text_is_a_question_mark():
     assert clean("a\u202eb\u0000c\u2028d\u200be\ud800") == "a?b?c?d?e?"
     assert clean("Pümpe 泵 🚰") == "Pümpe 泵 🚰"

@@ -1,4 +1,5 @@
 """The records: whole or not at all, with a cap of rows, put aside where they can't be used, and done without where the disk is full."""
+import asyncio
 import contextlib
 import resource
 import sqlite3
@@ -85,6 +86,27 @@ def test_rows_have_a_cap_and_guesses_push_out_no_orders(tmp_path):
     store.write([(insert, [(n, 200) for n in range(5000)])])
     store.prune()
     assert store.one("select count(*) n from audit")["n"] == 1000
+
+
+def test_many_lines_at_once_are_pruned_soon(tmp_path):
+    """However many guess: it doesn't take ten minutes until the cap is kept."""
+
+    async def course(stand):
+        watching = asyncio.create_task(stand.service.watch.keep())
+        await asyncio.sleep(0.2)
+        for n in range(4000):
+            stand.hear(f'audit 200 192.0.2.7 "anna" POST /rest/v1/targets/{n}\n')
+        stand.service.ear.flush()
+        count = lambda: stand.service.store.one("select count(*) n from audit")["n"]
+        assert count() == 4000
+        for _ in range(100):
+            await asyncio.sleep(0.1)
+            if count() <= 1000:
+                break
+        watching.cancel()
+        assert count() == 1000
+
+    play(tmp_path, course, rows=1000, pause=0.05, every=1.0)
 
 
 def test_an_event_has_a_number_of_its_own_also_after_pruning_and_a_restart(tmp_path):
