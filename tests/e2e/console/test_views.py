@@ -7,6 +7,8 @@ import signal
 import subprocess
 import time
 
+from selenium.webdriver.common.keys import Keys
+
 from .environment import ROOT, Environment
 from .pages import Pages
 from harness.processes import eventually
@@ -76,6 +78,29 @@ def test_now_leads_to_what_needs_somebody_and_counts_devices(env, open_browser):
     browser.until("just now", "#device-now")
     browser.until("done (action ", "#device-said")
     browser.picture("device")
+    assert not browser.faults()
+
+
+def test_keys_lead_through_the_first_view(env, open_browser):
+    """From its heading to the first rollout, into it, and by the link to the content past the head of the page."""
+    rollout = env.plan("by keys", groups=1, error=10)
+    env.fail(rollout, 2, "no key")
+    browser = open_browser(env, "#/now")
+    browser.until("by keys", "#needs")
+    press = lambda *keys: browser.driver.switch_to.active_element.send_keys(*keys)
+    focused = "return document.activeElement.innerText"
+    browser.js("document.querySelector('h1').focus()")
+    first = browser.js("return document.querySelector('#needs a').innerText")
+    press(Keys.TAB)
+    assert browser.js(focused) == first
+    ring = "return getComputedStyle(document.activeElement).outlineWidth"
+    assert browser.js(ring) == "3px"
+    press(Keys.ENTER)
+    heading = "return document.activeElement.tagName === 'H1' && document.activeElement.innerText"
+    eventually("it is opened", lambda: browser.js(heading) == first, 20)
+    browser.js("document.getElementById('skip').focus()")
+    press(Keys.ENTER)
+    assert browser.js("return document.activeElement.id") == "main"
     assert not browser.faults()
 
 
@@ -439,6 +464,12 @@ def test_what_is_to_come_is_listed_in_this_browsers_times(tmp_path, open_browser
         assert lines[2].endswith(": start 7 (anna) refused: 409 wrong_state: x"), lines
         when = "return document.querySelectorAll('#coming time')[1].dateTime"
         assert browser.js(when) == later
+        # while the console is away what it told last stays
+        env.kill(env.console)
+        look(3)
+        browser.until("The console is away since", "#watching", 20)
+        assert look(3) and not browser.js("return document.getElementById('coming').hidden")
+        env.console = env.start_console()
         order("at", "--cancel", "1")
         order("quiet", "off")
         eventually("one is listed", lambda: look(1), 20)
