@@ -43,3 +43,25 @@ def test_a_changelog_gets_another_version():
             (workdir / "changelog.txt").read_text(),
             "fwdesk (1.0.1-1) unstable; urgency=medium\n\n  * It has fwdesk (1.0.0-1).\n",
         )
+
+
+def test_an_upgrade_leaves_no_link_to_a_unit_that_the_console_replaces(tmp_path):
+    """postinst as dpkg runs it in another root, where no systemd is asked."""
+    wants = tmp_path / "etc/systemd/system/timers.target.wants"
+    gone = ["fwdesk-notify.timer", "fwdesk-watch.timer", "fwdesk-metrics.timer"]
+    kept = ["fwdesk-backup.timer", "fwdesk-notify-own.timer"]
+
+    def upgraded(*before):
+        wants.mkdir(parents=True, exist_ok=True)
+        for it in (*gone, *kept):
+            if not (wants / it).is_symlink():
+                (wants / it).symlink_to(f"/lib/systemd/system/{it}")
+        words = ["sh", ROOT / "debian/fwdesk.postinst", "configure", *before]
+        subprocess.run(words, env=os.environ | {"DPKG_ROOT": str(tmp_path)}, check=True)
+        return sorted(it.name for it in wants.iterdir())
+
+    if os.path.exists("/usr/bin/dpkg"):
+        same(upgraded("1.0.0~pre+20261127.2000"), kept)
+        same(upgraded("1.0.0-1"), kept)
+        same(upgraded("1.0.1-1"), sorted(gone + kept))
+    same(len([it for it in gone if (ROOT / "deploy/systemd" / it).exists()]), 0)
