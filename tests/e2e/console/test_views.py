@@ -1,5 +1,6 @@
 """What the web UI shows of what the console tells, in Chromium through the edge before the real program."""
 import datetime
+import email
 import json
 import os
 import re
@@ -33,6 +34,12 @@ def test_a_pause_reaches_browser_and_webhook_with_when_who_and_why(env, open_bro
     assert body["kind"] == "paused" and body["group"] == 1 and "2 of 10 failed" in body["words"]
     assert 'Last words: 2 × "disk full"' in body["words"]
     assert body["link"].endswith(f"/page/#/rollouts/{rollout}/groups/1?state=error")
+    # a mail and a chat have the same words and the same link
+    texts = lambda: [email.message_from_string(it).get_payload(decode=True) for it in env.box.mails]
+    wanted = f"{body['words']}\n\n{body['link']}".encode()
+    eventually("a mail", lambda: [it for it in texts() if wanted in it], 20)
+    chats = lambda: [it["text"] for _, _, it in env.chat.posts if body["link"] in it["text"]]
+    assert "2 × `disk full`" in eventually("a chat", chats, 20)[0]
     browser.until("2 × “disk full”", "main .words")
     assert "See the 2 that failed" in browser.text("main a.button.main")
     assert "main" not in browser.js(
@@ -171,10 +178,12 @@ def test_held_is_said_on_states_and_questions_and_release_is_whole(env, open_bro
         env.report("dev-00020", int(env.table(over)[0]["action"]), "success", "done")
     browser = open_browser(env, f"#/rollouts/{rollout}")
     browser.until("Hold everything", "#held")
-    assert (
-        browser.js("return getComputedStyle(document.getElementById('hold')).borderTopWidth")
-        == "2px"
+    outline = (
+        "const it = getComputedStyle(document.getElementById('hold')); return [it.borderTopWidth, "
+        "it.borderTopColor, it.color]"
     )
+    red = "rgb(196, 41, 28)"  # --bad of web/style.css
+    assert browser.js(outline) == ["2px", red, red]
     assert env.ask("/fwdesk/brake?kind=brake&reason=it+burns", "POST")[0] == 200
     try:
         browser.until("Everything is held: by anna", "#held")
