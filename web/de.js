@@ -171,6 +171,8 @@ export const DE = {
   "acts.approve": "freigegeben{by} {moment}",
   "acts.start": "gestartet{by} {moment}",
   "acts.resume": "fortgesetzt{by} {moment}",
+  "acts.began": "begonnen{by} {moment}",
+  "acts.ended": "beendet {moment}",
   "acts.finished": "beendet {moment}",
   "acts.since": "seit {time}, {ago}",
   "acts.asks": "{who} bittet um Freigabe: {moment}.",

@@ -169,6 +169,8 @@ export const EN = {
   "acts.approve": "approved{by} {moment}",
   "acts.start": "started{by} {moment}",
   "acts.resume": "resumed{by} {moment}",
+  "acts.began": "began{by} {moment}",
+  "acts.ended": "finished {moment}",
   "acts.finished": "finished {moment}",
   "acts.since": "since {time}, {ago}",
   "acts.asks": "{who} asks for approval: {moment}.",

@@ -99,6 +99,13 @@ export function actsLine(rollout) {
   return said ? p("facts acts", `${said[0].toUpperCase()}${said.slice(1)}.`) : null;
 }
 
+/** When a group began and was finished, and by whose order it began. */
+export function groupLine(rollout, group) {
+  const known = state()?.rollout, acts = known?.id === rollout.id ? known.groupActs?.[group.id] : null;
+  const said = ["began", "ended"].filter((it) => acts?.[it]).map((it) => actWords(it, acts[it])).join("; ");
+  return said ? p("under", `${said[0].toUpperCase()}${said.slice(1)}.`) : null;
+}
+
 /** Why it is paused, as the console saw it: null where it didn't. */
 export function pauseOf(rollout) {
   const act = actsOf(rollout)?.paused;

@@ -4,7 +4,7 @@ import {cancelOpenButton} from "./cancel.js";
 import {cause, countsOf, isAtErrorThreshold, limit, needed, percent, sum} from "./counts.js";
 import {bar, h, legend, link, p, PARTS, partWord} from "./drawing.js";
 import {exportButtons} from "./exports.js";
-import {actsLine, askedLine, history, pauseOf, seeFailed, sinceOf, standsOf} from "./happened.js";
+import {actsLine, askedLine, groupLine, history, pauseOf, seeFailed, sinceOf, standsOf} from "./happened.js";
 import {heldBadge} from "./held.js";
 import {nodes, t} from "./language.js";
 import {ifSteers} from "./me.js";
@@ -27,7 +27,7 @@ function groupRow(rollout, group) {
       link(`#/rollouts/${rollout.id}/groups/${group.id}`, t("n.devices", {n: group.size}))),
     bar(counts, t("group.name", {group: group.id}), group),
     p("under", countsIn(counts, group.size)),
-    p("under thresholds", thresholds(group)));
+    p("under thresholds", thresholds(group)), groupLine(rollout, group));
 }
 export const view = {
   title: ({rollout}) => rollout.name,

@@ -156,25 +156,32 @@ class Rollouts:
     async def _look_at_groups(self, number: int, it: Known) -> None:
         told = await self.desk.get(f"/rest/v1/rollouts/{number}/deploygroups?limit=500")
         groups = {int(g["id"]): g for g in told["content"]}
-        it.asked = self.clock.steady()
+        now = self.clock.steady()
+        apart, it.asked = now - it.asked, now
         before, it.groups = it.groups, groups
         it.rose = {key for key, g in groups.items() if before and g["bad"] > before[key]["bad"]}
         if groups != before:
             self.version += 1
         for key, group in groups.items():
             if before and before[key]["status"] != group["status"]:
-                self._tell_group(number, it, key, group)
+                self._tell_group(number, it, group, apart)
 
-    def _tell_group(self, number: int, it: Known, key: int, group: Json) -> None:
-        done = {"running": "began", "finished": "succeeded"}.get(group["status"])
+    def _tell_group(self, number: int, it: Known, group: Json, apart: float) -> None:
+        """A group began, or each of its devices has its outcome; it was looked at so many seconds ago, before that."""
+        key = int(group["id"])
+        done = {"running": "began", "finished": "ended"}.get(group["status"])
         if not done:
             return
         order = self.ear.take_order(number, "triggerNextGroup") if done == "began" else None
         who = order[1].who if order else ""
+        at, apart = (order[1].at, 0.0) if order else (self.clock.wall(), apart)
+        acts = it.acts.setdefault("groups", {}).setdefault(str(key), {})
+        acts[done] = {"at": at, "from": at - apart, "who": who}
         said = [say(done, name=it.about["name"], group=key)]
         said += [say("order", who=who)] if order else []
         said += [say("counts", ok=group["ok"], size=group["size"], failed=group["bad"])]
-        self.history.tell("group", said, rollout=number, group=key, who=who)
+        kept = self.writes(number)
+        self.history.tell("group", said, rollout=number, group=key, who=who, also=kept)
 
     async def _appear(self, number: int, it: Known, looked: float | None) -> bool:
         """A rollout that wasn't there before. Where the console itself is new nobody knows since when it is. Answers
@@ -349,8 +356,12 @@ class Rollouts:
             "seenFrom": it.seen_from,
             "changed": round(self.changed_at(it)),
             "stands": self.stands(it),
-            "acts": it.acts,
+            "acts": {key: act for key, act in it.acts.items() if key != "groups"},
             "counts": counts,
             "groupsDone": sum(g["status"] == "finished" for g in it.groups.values()),
-            **({"groups": list(it.groups.values())} if with_groups else {}),
+            **(self._shown_groups(it) if with_groups else {}),
         }
+
+    @staticmethod
+    def _shown_groups(it: Known) -> Json:
+        return {"groups": list(it.groups.values()), "groupActs": it.acts.get("groups", {})}

@@ -31,7 +31,7 @@ SENTENCES = {
     "times": " {count} × {words}",
     "next": ", {count} × {words}",
     "began": "rollout {name}: group {group} began",
-    "succeeded": "rollout {name}: group {group} has its success",
+    "ended": "rollout {name}: group {group} is finished",
     "order": " by the order of {who}",
     "counts": ": {ok} of {size} succeeded, {failed} failed",
     "stands": "rollout {name} stands still: no outcome for {hours} h",

@@ -88,6 +88,16 @@ def test_now_leads_to_what_needs_somebody_and_counts_devices(env, open_browser):
     assert not browser.faults()
 
 
+def test_a_group_says_when_it_began_and_who_had_it_begin(env, open_browser):
+    rollout = env.plan("by groups", groups=2)
+    browser = open_browser(env, f"#/rollouts/{rollout}")
+    browser.until("waiting", "[data-group='2']")
+    env.order(rollout, "triggerNextGroup", "ben")
+    browser.until("Began by ben ", "[data-group='2']")
+    browser.until("just now", "[data-group='2']")
+    assert not browser.faults()
+
+
 def test_keys_lead_through_the_first_view(env, open_browser):
     """From its heading to the first rollout, into it, and by the link to the content past the head of the page."""
     rollout = env.plan("by keys", groups=1, error=10)

@@ -137,6 +137,39 @@ def test_who_asked_and_who_approved_are_both_named(tmp_path):
     play(tmp_path, course)
 
 
+def test_a_group_has_when_it_began_by_whom_and_when_each_device_had_its_outcome(tmp_path):
+    """Finished isn't successful: here six of ten are under the nine that are needed."""
+
+    async def course(stand):
+        group = stand.desk.groups[1][0]
+        group["status"] = "scheduled"
+        await stand.look()
+        stand.order("triggerNextGroup", "ben")
+        began, group["status"] = stand.clock.wall(), "running"
+        await stand.look()
+        assert 'rollout "spring": group 1 began by the order of "ben"' in stand.words("group")
+        for device in range(1, 11):
+            stand.desk.finish(1, device, "finished" if device < 7 else "error")
+        group["status"] = "finished"
+        await stand.look(30)
+        said = 'rollout "spring": group 1 is finished: 6 of 10 succeeded, 4 failed'
+        assert stand.words("group") == said
+        await stand.anew()
+        await stand.look()
+        shown = (await stand.get("/fwdesk/state?rollout=1"))[2]["rollout"]
+        assert shown["groupActs"] == {
+            "1": {
+                "began": {"at": began, "from": began, "who": "ben"},
+                "ended": {"at": began + 31, "from": began + 1, "who": ""},
+            }
+        }
+        # of all rollouts each has its own acts alone
+        whole = (await stand.get("/fwdesk/state"))[2]["rollouts"][0]
+        assert "groups" not in whole["acts"] and "groupActs" not in whole
+
+    play(tmp_path, course)
+
+
 def test_what_stands_still_is_told_once_with_who_is_silent_and_what_is_needed(tmp_path):
     async def course(stand):
         await stand.look()
