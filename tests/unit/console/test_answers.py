@@ -125,6 +125,8 @@ def test_a_haproxy_without_the_table_is_503_in_words(tmp_path):
         assert status == 503 and told["words"] == "HAProxy has no table of last polls"
         stand.server.close()
         stand.clock.go(11)
+        status, _, told = await stand.get("/fwdesk/seen?device=dev-01")
+        assert status == 503 and told["words"].startswith("HAProxy doesn't tell it: ")
 
     play(tmp_path, course)
 
