@@ -65,15 +65,19 @@ class Desk:
             raise Away("its answer can't be read")
         return told
 
-    async def every(self, path: str, begin: int = 0) -> list[Json]:
-        """A whole list from a place on, 500 at a time."""
+    async def every(self, path: str) -> list[Json]:
+        """A whole list, 500 at a time."""
+        return (await self.rest(path, 0))[0]
+
+    async def rest(self, path: str, begin: int) -> tuple[list[Json], int]:
+        """A list from a place on, and how long it is as a whole."""
         found: list[Json] = []
         while True:
             mark = "&" if "?" in path else "?"
             page = await self.get(f"{path}{mark}offset={begin + len(found)}&limit=500")
             found += page["content"]
             if not page["content"] or begin + len(found) >= page["total"]:
-                return found
+                return found, int(page["total"])
 
     async def table(self, rollout: int) -> tuple[list[Json], float]:
         """The actions of a rollout, and how many seconds that took."""

@@ -2,6 +2,7 @@
 import asyncio
 import json
 from collections import Counter
+from collections.abc import Callable
 from dataclasses import dataclass, field
 from typing import Any
 
@@ -84,6 +85,7 @@ class Rollouts:
         self.known: dict[int, Known] = {}
         self.low = 0  # all rollouts up to this number are final
         self.version = 0
+        self.on_other_desk: Callable[[], None] = lambda: None
         self._kept = {int(it["id"]): it for it in store.all("select * from rollout")}
 
     # what is kept
@@ -126,10 +128,24 @@ class Rollouts:
 
     async def look(self, looked: float | None, heard: bool) -> None:
         """`looked` is when the last look was, by the wall's clock, or None where there was none ever."""
-        for about in await self.desk.every("/rest/v1/rollouts", self.low):
+        found, total = await self.desk.rest("/rest/v1/rollouts", self.low)
+        if total < max([0, *self.known, *self._kept]):
+            self._forget()
+            looked, (found, _) = None, await self.desk.rest("/rest/v1/rollouts", 0)
+        for about in found:
             await self._note(about, looked, heard)
         while (it := self.known.get(self.low + 1)) and it.status in FINAL:
             self.low += 1
+
+    def _forget(self) -> None:
+        """No desk loses a rollout: this one is of before, from a backup, or another one. What was known of devices goes too."""
+        self.known.clear()
+        self._kept.clear()
+        self.low = 0
+        self.version += 1
+        gone: Writes = [(f"delete from {it}", [()]) for it in ("rollout", "device", "report")]
+        self.history.tell("desk", [say("otherDesk")], also=gone)
+        self.on_other_desk()
 
     async def _note(self, about: Json, looked: float | None, heard: bool) -> None:
         number, status = int(about["id"]), str(about["status"])

@@ -43,6 +43,7 @@ SENTENCES = {
     "why": ": {reason}",
     "clock": "the clock of this machine was set by {seconds} s",
     "desk": "the desk doesn't answer: {words}",
+    "otherDesk": "the desk has fewer rollouts than before: it was restored, or is another one. What was known of them is forgotten",
     "deskAgain": "the desk answers again, after {seconds} s",
     "putAside": "the records of before can't be used; they are kept as {path}",
     "notKept": "what is seen isn't kept: {words}",

@@ -38,6 +38,14 @@ class Versions:
         self._finished: OrderedDict[int, set[int]] = OrderedDict()
         self._next: dict[int, float] = {}
         self._counts: tuple[int, list[Row]] = (-1, [])
+        rollouts.on_other_desk = self.forget
+
+    def forget(self) -> None:
+        """All rollouts and sets are others; the records have no device any more."""
+        self.sets.clear()
+        self._finished.clear()
+        self._next.clear()
+        self.version += 1
 
     @staticmethod
     def _mark(it: Known) -> str:

@@ -1,5 +1,6 @@
 """Which device has which set: what it finished last, also after the records are lost."""
 
+import pytest
 from fakes import START, play
 
 
@@ -72,6 +73,33 @@ def test_lost_records_are_derived_again_but_for_times(tmp_path):
         await stand.look()
         assert await versions(stand) == [("1.0", 5)]
         assert (await versions(stand, "dev-01"))["at"] is None
+
+    play(tmp_path, course)
+
+
+@pytest.mark.parametrize("is_anew", [False, True])
+def test_of_a_desk_that_was_restored_nothing_of_later_is_left(tmp_path, is_anew):
+    """A backup has one rollout of two: neither the other one nor the version that it gave a device is shown any more."""
+
+    async def course(stand):
+        stand.desk.finish(1, 7)
+        stand.desk.add_rollout("second", set_=2)
+        await stand.look()
+        stand.desk.finish(2, 7)
+        await stand.look()
+        assert (await versions(stand, "dev-07"))["set"]["version"] == "2.0"
+        stand.desk.rollouts.pop()
+        if is_anew:
+            await stand.anew()
+        await stand.look()
+        assert "it was restored, or is another one" in stand.words("desk")
+        assert [it["id"] for it in (await stand.get("/fwdesk/state"))[2]["rollouts"]] == [1]
+        assert (await versions(stand, "dev-07"))["set"]["version"] == "1.0"
+        # what is planned from then on is news as ever, and is told once
+        stand.hear('audit 201 192.0.2.7 "anna" POST /rest/v1/rollouts\n')
+        stand.desk.add_rollout("another", "ready")
+        await stand.look()
+        assert [it["kind"] for it in stand.service.history.recent][-2:] == ["desk", "made"]
 
     play(tmp_path, course)
 
