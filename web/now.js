@@ -1,5 +1,4 @@
 // The first view: what needs somebody, what runs, which devices have what; each number leads on.
-import {countsOf, sum} from "./counts.js";
 import {bar, h, inWords, link, p} from "./drawing.js";
 import {askedLine, happenedWords, pausedLine, standsLine, time, whenOf} from "./happened.js";
 import {heldBadge} from "./held.js";
@@ -8,17 +7,16 @@ import {awayFrom, lastTold, looked, state} from "./live.js";
 import {stateBadge} from "./states.js";
 import {firstSteps} from "./steps.js";
 
-
-/** The counts of a rollout as one bar has them. What its groups that haven't begun have isn't told here, and is shown as open. */
-const countsIn = ({counts}) => inWords(sum([{...counts, status: "running"}]));
-const barOf = ({counts, name}) => bar({...countsOf({...counts, status: "running"})}, name);
+/** The counts of a rollout in the parts of a bar. */
+const partsOf = ({size, ok, bad, gone, waiting}) => ({size, ok, bad, gone, waiting, open: size - ok - bad - gone - waiting});
+const progress = ({id, name, counts}) => [bar(partsOf(counts), name), p("under", link(`#/rollouts/${id}`, inWords(partsOf(counts))))];
 
 function line(rollout, ...more) {
   const failed = rollout.status === "paused" && rollout.counts.bad;
   return h("li", {"data-key": rollout.id, class: "need"},
     h("div", {class: "line"}, h("strong", {}, link(`#/rollouts/${rollout.id}`, rollout.name)), stateBadge("rollout", rollout.status),
       heldBadge(rollout.status), whenOf(rollout)),
-    more, failed ? p("buttons", h("a", {class: "button", href: failedOf(rollout)}, t("failed.see", {n: rollout.counts.bad}))) : null);
+    more, failed ? p("buttons", h("a", {class: "button", href: failedOf(rollout)}, t("failed.see", {n: rollout.pausedBad ?? failed}))) : null);
 }
 
 const failedOf = ({id, acts}) => (acts.paused?.group ? `#/rollouts/${id}/groups/${acts.paused.group}?state=error` : `#/rollouts/${id}`);
@@ -67,9 +65,10 @@ export const view = {
       state() ? null : p("cause", t("now.before", {at: when(looked() / 1000)})),
       isEmpty ? firstSteps() : null,
       h("section", {class: open.length ? "card urgent" : "card", id: "needs"}, h("h2", {}, t("now.needs")),
-        open.length ? h("ul", {class: "needs"}, open) : p("empty", t("now.needsNone")), told.more ? p("hint", t("now.more", {count: told.more})) : null),
+        open.length ? h("ul", {class: "needs"}, open) : p("empty", t("now.needsNone")),
+        told.more ? p("hint", link("#/rollouts", t("now.more", {count: told.more}))) : null),
       h("section", {class: "card", id: "runs"}, h("h2", {}, t("now.runs")),
-        runs.length ? h("ul", {class: "needs"}, runs.map((it) => line(it, barOf(it), p("under", countsIn(it))))) : p("empty", t("now.runsNone")),
+        runs.length ? h("ul", {class: "needs"}, runs.map((it) => line(it, progress(it)))) : p("empty", t("now.runsNone")),
         later.length ? [h("h3", {}, t("now.later")), h("ul", {class: "needs"}, later.map((it) => line(it)))] : null),
       h("section", {class: "card", id: "devices"}, h("h2", {}, t("now.devices"), told.fleet ? [" ", link("#/targets", number(told.fleet.devices))] : null),
         h("h3", {}, t("now.versions")), versionsOf(told), p("hint", t("now.versionsHint")),

@@ -4,7 +4,7 @@ from collections.abc import Iterable, Mapping
 from typing import TYPE_CHECKING
 
 from .desk import Json
-from .rollouts import GOING, needed_of, silent_of
+from .rollouts import GOING, UNBEGUN, needed_of, silent_of
 from .stock import LIMITS
 from .texts import clean
 
@@ -37,7 +37,7 @@ def begun_of(held: object) -> int | None:
 
 
 def has_begun(group: Json) -> bool:
-    return group["status"] not in ("ready", "scheduled")
+    return group["status"] not in UNBEGUN
 
 
 def text(console: "Console", orders: tuple[int, dict[str, int]] | None = None) -> str:

@@ -18,6 +18,7 @@ FINAL = ("finished", "approval_denied")
 GOING = ("running", "paused")
 PLANNED = ("ready", "waiting_for_approval")
 OUTCOMES = ("ok", "bad", "gone")
+UNBEGUN = ("ready", "scheduled")  # groups
 READ = 20  # histories of failed members that are read for their last words
 NEAR = 15.0  # seconds: a change that was seen within so many is told with one time
 LATER = 0.1  # seconds that HAProxy's line may come after the desk's answer
@@ -335,7 +336,7 @@ class Rollouts:
 
     def stands(self, it: Known) -> Json | None:
         """The group that it waits for, where it stands still."""
-        begun = [g for g in it.groups.values() if g["status"] not in ("ready", "scheduled")]
+        begun = [g for g in it.groups.values() if g["status"] not in UNBEGUN]
         if not it.still or not begun:
             return None
         last = max(begun, key=lambda g: int(g["id"]))
@@ -366,6 +367,8 @@ class Rollouts:
         it = self.known[number]
         keys = ("size", *OUTCOMES)
         counts = {key: sum(int(g[key]) for g in it.groups.values()) for key in keys}
+        waiting = sum(silent_of(g) for g in it.groups.values() if g["status"] in UNBEGUN)
+        paused = it.groups.get(it.acts.get("paused", {}).get("group"))
         return {
             **it.about,
             "since": it.since,
@@ -373,7 +376,8 @@ class Rollouts:
             "changed": round(self.changed_at(it)),
             "stands": self.stands(it),
             "acts": {key: act for key, act in it.acts.items() if key != "groups"},
-            "counts": counts,
+            "counts": counts | {"waiting": waiting},
+            "pausedBad": paused and paused["bad"],
             "groupsDone": sum(g["status"] == "finished" for g in it.groups.values()),
             **(self._shown_groups(it) if with_groups else {}),
         }

@@ -85,6 +85,9 @@ def test_now_leads_to_what_needs_somebody_and_counts_devices(env, open_browser):
     browser.until("just now", "#device-now")
     browser.until("done (action ", "#device-said")
     browser.picture("device")
+    env.plan("in two groups", groups=2, error=100)
+    browser.go("#/now")
+    browser.until("10 in progress, 10 waiting", "#runs .under a")
     assert not browser.faults()
 
 

@@ -24,6 +24,24 @@ def test_a_pause_by_its_threshold_names_group_counts_and_counted_words(tmp_path)
     play(tmp_path, course)
 
 
+def test_the_failed_of_the_group_that_paused_are_counted_apart(tmp_path):
+    async def course(stand):
+        groups = stand.desk.groups[1]
+        groups.append({**groups[0], "id": 2})
+        await stand.look()
+        groups[0]["bad"], groups[1]["bad"] = 1, 2
+        stand.desk.rollouts[0]["status"] = "paused"
+        await stand.look()
+        shown = (await stand.get("/fwdesk/state"))[2]["rollouts"][0]
+        assert (shown["counts"]["bad"], shown["pausedBad"]) == (3, 2)
+        assert shown["acts"]["paused"]["group"] == 2
+        groups[1]["bad"] = 3
+        await stand.look(31)
+        assert (await stand.get("/fwdesk/state"))[2]["rollouts"][0]["pausedBad"] == 3
+
+    play(tmp_path, course)
+
+
 def test_a_pause_that_was_ordered_names_who_and_the_moment_of_the_order(tmp_path):
     async def course(stand):
         await stand.look()
@@ -144,6 +162,8 @@ def test_a_group_has_when_it_began_by_whom_and_when_each_device_had_its_outcome(
         group = stand.desk.groups[1][0]
         group["status"] = "scheduled"
         await stand.look()
+        counts = (await stand.get("/fwdesk/state"))[2]["rollouts"][0]["counts"]
+        assert (counts["size"], counts["waiting"]) == (10, 10)
         stand.order("triggerNextGroup", "ben")
         began, group["status"] = stand.clock.wall(), "running"
         await stand.look()
@@ -152,6 +172,8 @@ def test_a_group_has_when_it_began_by_whom_and_when_each_device_had_its_outcome(
             stand.desk.finish(1, device, "finished" if device < 7 else "error")
         group["status"] = "finished"
         await stand.look(30)
+        counts = (await stand.get("/fwdesk/state"))[2]["rollouts"][0]["counts"]
+        assert (counts["size"], counts["waiting"]) == (10, 0)
         said = 'rollout "spring": group 1 is finished: 6 of 10 succeeded, 4 failed'
         assert stand.words("group") == said
         await stand.anew()
