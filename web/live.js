@@ -103,11 +103,11 @@ async function ask(path) {
   const isSame = path === asked;
   const headers = isSame && tag ? {"If-None-Match": tag} : {};
   const reply = await fetch(urlOf(path), {headers, cache: "no-store", signal: AbortSignal.timeout(4_000)});
-  if (reply.status === 404) {
-    // of the console: a rollout that it doesn't know yet; of the server, which gives a number: there is no console
+  if (reply.status === 404 || reply.status === 403) {
+    // of the console: a rollout that it doesn't know yet; of the server, which gives a number: there is no console; of the proxy: not for this login
     const {number, words} = await reply.json().catch(() => ({number: 3}));
     asked = "";
-    return became(words && number === undefined ? "there" : "none");
+    return became(reply.status === 404 && words && number === undefined ? "there" : "none");
   }
   if (reply.status !== 200 && reply.status !== 304) {
     return became("away");

@@ -91,7 +91,7 @@ class Environment:
         self.edge = Edge(
             folder,
             self.desk_port,
-            operators={"anna": ALL, "ben": ALL, "eve": "look"},
+            operators={"anna": ALL, "ben": ALL, "eve": "look", "hal": "hold"},
             password="secret",
             more={"FWDESK_CONSOLE": "1", "FWDESK_CONSOLE_METRICS": f"{HOST}:{self.metrics_port}"},
         )

@@ -352,6 +352,20 @@ def test_who_may_only_look_sees_all_of_it_and_no_button(env, open_browser):
     assert "Hold everything" not in browser.text()
 
 
+def test_who_may_not_look_is_told_that_and_not_that_the_console_is_away(env, open_browser):
+    browser = open_browser(env, "#/rollouts", "hal")
+    # as where somebody else was logged in before
+    browser.js("localStorage.setItem('fwdesk-console', 'seen'); location.reload()")
+    browser.until("this login may not look", "main")
+    asked = lambda: sum(it.startswith("/fwdesk/state") for it in browser.asked())
+    eventually("the console is asked for", asked, 20)
+    time.sleep(1)
+    assert browser.text("#watching") == ""
+    assert browser.js(
+        "return [...document.querySelectorAll('#pages .console')].every((it) => it.hidden)"
+    )
+
+
 def test_an_approval_names_who_asks_and_who_approved(tmp_path, open_browser):
     env = Environment(tmp_path, approval=True)
     try:
