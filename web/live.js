@@ -16,6 +16,8 @@ export const told = new EventTarget();
 
 let body = null, tag = "", asked = "", at = -Infinity, look = 0;
 let presence = "unknown", awaySince = null, doubted = -Infinity, timer, turn = 0, sought = -Infinity;
+// nothing came at all: that there is no console isn't known by that
+let isUnanswered = false;
 
 const fresh = () => presence === "there" && performance.now() - at < STALE && look < OLD_LOOK && !body?.away;
 
@@ -129,22 +131,24 @@ async function ask(path) {
 
 async function listen() {
   clearTimeout(timer);
-  if (document.hidden || presence === "none" && performance.now() - sought < SELDOM) {
+  if (document.hidden || presence === "none" && !isUnanswered && performance.now() - sought < SELDOM) {
     return;
   }
   turn += 1;
   sought = performance.now();
   const mine = turn, path = pathNow();
   const was = fresh();
-  const isNews = await ask(path).catch(() => became("away"));
+  let isLost = false;
+  const isNews = await ask(path).catch(() => (isLost = true, became("away")));
   if (mine !== turn) {
     return;
   }
+  isUnanswered = isLost;
   told.dispatchEvent(new Event("look"));
   if (isNews || was !== fresh()) {
     told.dispatchEvent(new Event("news"));
   }
-  timer = setTimeout(listen, presence === "none" ? SELDOM : EVERY);
+  timer = setTimeout(listen, presence === "none" && !isUnanswered ? SELDOM : EVERY);
 }
 
 document.addEventListener("visibilitychange", listen);
