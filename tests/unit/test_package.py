@@ -2,6 +2,8 @@
 and before one V with its commit's time."""
 import os
 import subprocess
+import tempfile
+from pathlib import Path
 
 from as_module import as_module
 from crate_graph import ROOT
@@ -45,23 +47,22 @@ def test_a_changelog_gets_another_version():
         )
 
 
-def test_an_upgrade_leaves_no_link_to_a_unit_that_the_console_replaces(tmp_path):
+def test_an_upgrade_leaves_no_link_to_a_unit_that_the_console_replaces():
     """postinst as dpkg runs it in another root, where no systemd is asked."""
-    wants = tmp_path / "etc/systemd/system/timers.target.wants"
     gone = ["fwdesk-notify.timer", "fwdesk-watch.timer", "fwdesk-metrics.timer"]
     kept = ["fwdesk-backup.timer", "fwdesk-notify-own.timer"]
 
-    def upgraded(*before):
-        wants.mkdir(parents=True, exist_ok=True)
+    def upgraded(root, *before):
+        wants = Path(root) / "etc/systemd/system/timers.target.wants"
+        wants.mkdir(parents=True)
         for it in (*gone, *kept):
-            if not (wants / it).is_symlink():
-                (wants / it).symlink_to(f"/lib/systemd/system/{it}")
+            (wants / it).symlink_to(f"/lib/systemd/system/{it}")
         words = ["sh", ROOT / "debian/fwdesk.postinst", "configure", *before]
-        subprocess.run(words, env=os.environ | {"DPKG_ROOT": str(tmp_path)}, check=True)
+        subprocess.run(words, env=os.environ | {"DPKG_ROOT": root}, check=True)
         return sorted(it.name for it in wants.iterdir())
 
-    if os.path.exists("/usr/bin/dpkg"):
-        same(upgraded("1.0.0~pre+20261127.2000"), kept)
-        same(upgraded("1.0.0-1"), kept)
-        same(upgraded("1.0.1-1"), sorted(gone + kept))
+    befores = {"1.0.0~pre+20261127.2000": kept, "1.0.0-1": kept, "1.0.1-1": sorted(gone + kept)}
+    for before, expected in befores.items() if os.path.exists("/usr/bin/dpkg") else ():
+        with tempfile.TemporaryDirectory() as root:
+            same(upgraded(root, before), expected)
     same(len([it for it in gone if (ROOT / "deploy/systemd" / it).exists()]), 0)

@@ -33,7 +33,7 @@ def pytest_configure(config: pytest.Config) -> None:
     """A thousand connections are files of this process; and HAProxy's sockets, in the folders of tests, have short paths."""
     if not config.option.basetemp and len(tempfile.gettempdir()) > 24:
         folder = tempfile.mkdtemp(prefix="fwdesk-", dir="/tmp")
-        config.option.basetemp = folder
+        config.option.basetemp = f"{folder}/tests"
         config.add_cleanup(lambda: shutil.rmtree(folder, ignore_errors=True))
     soft, hard = resource.getrlimit(resource.RLIMIT_NOFILE)
     wanted = max(soft, 4096 if hard == resource.RLIM_INFINITY else min(hard, 4096))

@@ -82,10 +82,10 @@ def polled(stage: Stage, seconds: float) -> Polls:
 def keep_to(stage: Stage, processors: set[int]) -> None:
     """Has each thread of this process and of all that a stage has started run on these processors."""
     for process in (os.getpid(), *stage.processes()):
-        # (a thread may end meanwhile, as may a HAProxy of before a reload)
-        with contextlib.suppress(FileNotFoundError, ProcessLookupError):
+        # a thread may end meanwhile, as may a HAProxy of before a reload; and a machine may not let itself be divided
+        with contextlib.suppress(OSError):
             for thread in list(Path(f"/proc/{process}/task").iterdir()):
-                with contextlib.suppress(ProcessLookupError):
+                with contextlib.suppress(OSError):
                     os.sched_setaffinity(int(thread.name), processors)
 
 
@@ -132,7 +132,8 @@ def beside(
     until = time.monotonic() + seconds + 1
 
     def run() -> None:
-        os.sched_setaffinity(0, processors)
+        with contextlib.suppress(OSError):
+            os.sched_setaffinity(0, processors)
         attack(until)
 
     those = [context.Process(target=run, daemon=True) for _ in range(count)]

@@ -2,6 +2,7 @@
 
 import shutil
 import socket
+import stat
 from collections.abc import Iterator
 from pathlib import Path
 
@@ -64,7 +65,9 @@ def door(tmp_path_factory: pytest.TempPathFactory) -> Iterator[tuple[int, list[B
     """nginx with hawkbit-polls.conf, by its port, and both that it asks."""
     folder = tmp_path_factory.mktemp("door")
     for it in (folder, *folder.parents[:2]):
-        it.chmod(0o755)
+        # (never /tmp itself)
+        if not it.stat().st_mode & stat.S_ISVTX:
+            it.chmod(0o755)
     make_certificate(folder)
     port, sockets = free_port(), [folder / "polls.sock", folder / "hawkbit.sock"]
     behind = [Behind(it) for it in sockets]
