@@ -95,14 +95,14 @@ def seconds_to(browser, address, title, words):
     return eventually(f"{address} is drawn", seen, 30) / 1000
 
 
-def slow_views(browser, views):
+def slow_views(browser, views, limit=LIMIT):
     """The views that take too long, with their times. The machine may have something else to do in between: the best of some
     tells what a view takes."""
     slow = {}
     for address, title, words in views:
         times = sorted(seconds_to(browser, address, title, words) for _ in range(TRIES))
         print(f"{address}: {times[0]:.2f} s, {times[TRIES // 2]:.2f} s in the middle")
-        if times[0] >= LIMIT:
+        if times[0] >= limit:
             slow[address] = times
     return slow
 
@@ -124,7 +124,8 @@ def test_views_are_drawn_in_time_beside_nineteen_windows(large, open_browser):
         for it in rows[:20]:
             large.report(it["controllerid"], int(it["action"]), "success", "done")
         before, began = large.desk_requests(), time.monotonic()
-        slow = slow_views(browser, [it for it in VIEWS if it[0] in BESIDE])
+        # each answer of the edge has a password checked, and this process is nineteen windows
+        slow = slow_views(browser, [it for it in VIEWS if it[0] in BESIDE], 1.0)
         asked, minutes = large.desk_requests() - before, (time.monotonic() - began) / 60
     print(
         f"20 windows: {asked / minutes:.0f} requests a minute to the desk, the views' own among them"
