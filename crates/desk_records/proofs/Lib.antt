@@ -27,6 +27,7 @@ pub mod WholeArtifacts
 pub mod ArtifactRecords
 pub mod TargetRecords
 pub mod TagsBetween
+pub mod TargetLists
 pub mod AttributeRecords
 pub mod RolloutRecords
 pub mod ActionRecords

@@ -9,6 +9,13 @@ pub const COUNT_TARGETS: &str = "SELECT count(*) FROM target";
 pub const LIST_TARGETS: &str =
     "SELECT controller, name FROM target ORDER BY controller LIMIT ?1 OFFSET ?2";
 
+/// All targets, in byte order of their ids.
+pub const LIST_ALL_TARGETS: &str = "SELECT controller, name FROM target ORDER BY controller";
+
+/// The targets from an id to another, in byte order of their ids.
+pub const LIST_TARGETS_BETWEEN: &str =
+    "SELECT controller, name FROM target WHERE controller >= ?1 AND controller <= ?2 ORDER BY controller";
+
 /// The tags of a target, in byte order.
 pub const LIST_TARGET_TAGS: &str = "SELECT tag FROM target_tag WHERE controller = ?1 ORDER BY tag";
 
