@@ -12,8 +12,9 @@ ghost use Rattle.desk_store.specs.Failing.{FailsIn, WritesIn};
 use crate::change::OpenChange;
 use crate::reading::{counted_in, read_all, read_optional};
 use desk_records::{
-    COUNT_TARGETS, DROP_TARGET_TAG, GET_TARGET, LIST_TAGS_BETWEEN, LIST_TARGET_TAGS, LIST_TARGETS,
-    ListedTarget, OwnedTag, PUT_TARGET, PUT_TARGET_TAG, SET_TARGET, StoredTarget,
+    COUNT_TARGETS, DROP_TARGET_TAG, GET_TARGET, LIST_ALL_TARGETS, LIST_TAGS_BETWEEN,
+    LIST_TARGET_TAGS, LIST_TARGETS, LIST_TARGETS_BETWEEN, ListedTarget, OwnedTag, PUT_TARGET,
+    PUT_TARGET_TAG, SET_TARGET, StoredTarget,
 };
 use rollout_model::{ControllerId, Digest, Page, Text, Word};
 use sql_calls::Fault;
@@ -74,6 +75,36 @@ impl<'a, S: Alter> OpenChange<'a, S> {
     {
         let alloc = self.store.alloc;
         let rows = self.ask(LIST_TARGETS, params![page.limit, page.offset])?;
+        read_all(alloc, &rows)
+    }
+
+    /// All targets by their ids and names, in byte order of their ids. A row that breaks a column's rule is `Broken`.
+    pub fn read_all_targets(&mut self) -> Result<Vec<ListedTarget>, Fault>
+        ensures stays { StaysIn S.Store self.old self.new result }
+        ensures reads { FindsIn S.Store self.old self.new result (λ r listed. listed.items ≡ map listed_target r.targets) }
+        ensures fails { FailsIn S.Store self.old self.new result }
+        ensures work { self.new.store.now.calls.work.statements ≤ self.old.store.now.calls.work.statements + 1 }
+    {
+        let alloc = self.store.alloc;
+        let rows = self.ask(LIST_ALL_TARGETS, &[])?;
+        read_all(alloc, &rows)
+    }
+
+    /// The targets from an id to another, which may be any texts, by their ids and names: in byte order of their ids. A row that breaks
+    /// a column's rule is `Broken`.
+    pub fn read_targets_between(
+        &mut self,
+        first: &str,
+        last: &str,
+    ) -> Result<Vec<ListedTarget>, Fault>
+        ensures stays { StaysIn S.Store self.old self.new result }
+        ensures reads { FindsIn S.Store self.old self.new result
+            (λ r listed. listed.items ≡ map listed_target (targets_between first.now last.now r)) }
+        ensures fails { FailsIn S.Store self.old self.new result }
+        ensures work { self.new.store.now.calls.work.statements ≤ self.old.store.now.calls.work.statements + 1 }
+    {
+        let alloc = self.store.alloc;
+        let rows = self.ask(LIST_TARGETS_BETWEEN, params![first, last])?;
         read_all(alloc, &rows)
     }
 
