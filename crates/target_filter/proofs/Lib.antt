@@ -11,5 +11,6 @@ pub mod AtomReading
 pub mod Profiles
 pub mod Meanings
 pub mod Naming
+pub mod IdStarts
 pub mod Refusals
 pub mod Precedence

@@ -4,7 +4,7 @@ use Rattle.rollout_model.specs.declared.target.Target.{Target}
 use Rattle.target_filter.specs.Grammar.{Field, Value, Tree, Comparison, Equal, NotEqual, OrLevel, AndLevel, AtomLevel, is_at, spelling, IsFilter, IsInGrammar}
 use Rattle.target_filter.specs.Patterns.{Matches, matches}
 use Rattle.target_filter.specs.Meaning.{holds}
-use Rattle.target_filter.specs.Names.{AreAlikeWhereNamed}
+use Rattle.target_filter.specs.Names.{AreAlikeWhereNamed, BeginsWith, id_start}
 use Rattle.target_filter.specs.Profile.{IsProfileFilter, IsInProfile, filter_of}
 
 abbrev pub HasOneTree : Type 0
@@ -29,6 +29,10 @@ NegatesEqual = (field : Field) (value : Value) (target : Target)
 -- what a filter doesn't name, it doesn't depend on
 abbrev pub DependsOnNamedAlone : Type 0
 DependsOnNamedAlone = (tree : Tree) (t u : Target) → AreAlikeWhereNamed tree t u → holds tree t ≡ holds tree u
+
+-- the id of a target that matches begins as the filter says
+abbrev pub TellsIdStart : Type 0
+TellsIdStart = (tree : Tree) (target : Target) → holds tree target ≡ true → BeginsWith (id_start tree) target.id
 
 -- the text is a filter, and each tree of it has this meaning
 abbrev pub HasMeaning : List ℕ → (Target → Bool) → Type 0

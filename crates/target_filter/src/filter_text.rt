@@ -5,7 +5,7 @@ ghost use Rattle.std.specs.Option.{IsSomeAnd};
 ghost use Rattle.std.specs.Result.{MatchResult};
 ghost use Rattle.target_filter.specs.Grammar.{Tree, IsFilter};
 ghost use Rattle.target_filter.specs.Meaning.{holds};
-ghost use Rattle.target_filter.specs.Names.{names_attributes, names_tags};
+ghost use Rattle.target_filter.specs.Names.{id_start, names_attributes, names_tags};
 ghost use Rattle.target_filter.specs.Profile.{IsProfileFilter, IsInProfile, filter_of};
 ghost use Rattle.target_filter.specs.Faults.{IsRefused};
 ghost use Rattle.target_filter.specs.Views.{tree_of};
@@ -118,5 +118,13 @@ impl Filter {
         ensures computed { IsSomeAnd (filter_of self.now) (λ tree. result ≡ names_attributes tree) }
     {
         self.tree.names_attributes()
+    }
+
+    /// How the id of each target begins that matches, as far as comparisons say it that `;` joins: empty where they don't.
+    pub fn id_start(&self) -> &[u8]
+        ensures meaning { (tree : Tree) → IsFilter self.now tree → result.now ≡ id_start tree }
+        ensures computed { IsSomeAnd (filter_of self.now) (λ tree. result.now ≡ id_start tree) }
+    {
+        self.tree.id_start()
     }
 }

@@ -1,7 +1,7 @@
 //! Laws of the definitions, each proved as the contract of a function that does nothing.
 
 ghost use Rattle.target_filter.specs.Laws.{HasOneTree, MatchesByTest, ComputesFilters, ComputesNothingElse, NegatesEqual, BindsAndOnTheRight};
-ghost use Rattle.target_filter.specs.Laws.{BindsAndOnTheLeft, DependsOnNamedAlone};
+ghost use Rattle.target_filter.specs.Laws.{BindsAndOnTheLeft, DependsOnNamedAlone, TellsIdStart};
 
 /// A text has one tree.
 pub fn one_tree()
@@ -27,6 +27,11 @@ pub fn not_equal_negates_equal()
 /// What a filter says of a target depends on its id and name, and on its tags and attributes where the filter names them.
 pub fn depends_on_named_alone()
     ensures { DependsOnNamedAlone }
+{}
+
+/// The id of a target that matches begins as the filter says.
+pub fn tells_id_start()
+    ensures { TellsIdStart }
 {}
 
 /// `;` binds tighter than `,`.

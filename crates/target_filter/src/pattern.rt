@@ -3,6 +3,7 @@
 ghost use Rattle.std.specs.Prelude.{◌≡◌, ◌<◌, ◌≤◌, ◌+◌, [], ◌∷◌, length, take, drop, slice_index, nat_eq};
 ghost use Rattle.std.specs.List.{ends_with};
 ghost use Rattle.std.specs.Option.{MatchOption, option_map};
+ghost use Rattle.target_filter.specs.Names.{before_star};
 ghost use Rattle.target_filter.specs.Patterns.{pieces, matches};
 ghost use Rattle.target_filter.specs.Greedy.{after, greedy};
 
@@ -25,6 +26,16 @@ fn before(text: &[u8], at: usize) -> &[u8]
     ensures { result.now ≡ take at text.now }
 {
     &text[..at]
+}
+
+/// What stands before the first star.
+pub(crate) fn before_star(pattern: &[u8]) -> &[u8]
+    ensures { result.now ≡ before_star pattern.now }
+{
+    match star_at(pattern) {
+        None => pattern,
+        Some(at) => before(pattern, at),
+    }
 }
 
 fn behind(text: &[u8], at: usize) -> &[u8]

@@ -4,10 +4,10 @@ ghost use Rattle.std.specs.Prelude.{◌≡◌};
 ghost use Rattle.std.specs.List.{list_any};
 ghost use Rattle.target_filter.specs.Patterns.{matches};
 ghost use Rattle.target_filter.specs.Meaning.{holds, field_matches, attribute_matches, compared, pattern_of};
-ghost use Rattle.target_filter.specs.Names.{is_attribute_field, is_tag_field, names_attributes, names_tags};
+ghost use Rattle.target_filter.specs.Names.{before_star, compared_start, first_told, id_start, is_attribute_field, is_tag_field, names_attributes, names_tags};
 ghost use Rattle.target_filter.specs.Views.{tree_of, field_of, operator_of, value_of};
 
-use crate::pattern::matches;
+use crate::pattern::{before_star, matches};
 use rollout_model::{Attribute, Target, Word};
 
 #[derive(Drop)]
@@ -115,6 +115,23 @@ impl Value {
     }
 }
 
+/// The first, unless it is empty.
+fn first_told<'a>(first: &'a [u8], other: &'a [u8]) -> &'a [u8]
+    ensures { result.now ≡ first_told first.now other.now }
+{
+    if first.is_empty() { other } else { first }
+}
+
+/// How an id begins by a comparison with a pattern that begins so.
+fn compared_start<'a>(field: &Field, operator: Operator, start: &'a [u8]) -> &'a [u8]
+    ensures { result.now ≡ compared_start (field_of field.now) (operator_of operator) start.now }
+{
+    match (field, operator) {
+        (Field::Id, Operator::Equal) => start,
+        _ => &[],
+    }
+}
+
 impl Tree {
     /// Does the target match?
     pub(crate) fn holds(&self, target: &Target) -> bool
@@ -152,6 +169,22 @@ impl Tree {
             Tree::And(left, right) => left.names_attributes() || right.names_attributes(),
             Tree::Group(tree) => tree.names_attributes(),
             Tree::Comparison(field, _, _) => field.is_attribute(),
+        }
+    }
+
+    /// How the id of each target begins that matches, as far as comparisons say it that `;` joins.
+    pub(crate) fn id_start(&self) -> &[u8]
+        ensures { result.now ≡ id_start (tree_of self.now) }
+    {
+        match self {
+            Tree::Or(_, _) => &[],
+            Tree::And(left, right) => first_told(left.id_start(), right.id_start()),
+            Tree::Group(tree) => tree.id_start(),
+            Tree::Comparison(field, operator, value) => compared_start(
+                field,
+                *operator,
+                before_star(value.pattern()),
+            ),
         }
     }
 }
