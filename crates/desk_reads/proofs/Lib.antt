@@ -5,6 +5,7 @@ pub mod RuleLemmas
 pub mod ListedTargets
 pub mod AskedTargets
 pub mod OwnTags
+pub mod BegunTargets
 pub mod KnownDevices
 pub mod HistoryKept
 pub mod TargetRules

@@ -4,6 +4,7 @@ use Rattle.desk_reads.proofs.Common.{or_parts}
 use Rattle.desk_reads.proofs.Common.{contains_word, Records, Target, IsSorted, not_above, are_sorted, ids_of, in_byte_order}
 use Rattle.desk_reads.proofs.Common.{sorted_from, has_id, same_refl}
 use Rattle.std.proofs.IntoIterSteps.{All-taken}
+use Rattle.std.specs.Prelude.{Bool, filter}
 use Rattle.std.proofs.lemmas.List.{drop-map, take-map}
 use Rattle.std.specs.Iterator.{Yields}
 use Rattle.std.specs.Vec.Iter.{into_iter_items, into_iter_steps}
@@ -48,3 +49,15 @@ module _ (r : Records) where
       let ts = drop m r.targets in
       all_seen (take n ts) (sym (take-map (found r.targets) n ts) ∙ ap (take n) (sym (drop-map (found r.targets) m r.targets) ∙ ap (drop m) all
       ∙ drop-map Some m r.targets) ∙ take-map Some n ts)
+
+  passing_found : (p : Target → Bool) (ts : List Target) → map (found r.targets) ts ≡ map Some ts → map (found r.targets) (filter p ts)
+      ≡ map Some (filter p ts)
+  passing_found p [] is = refl
+  passing_found p (t ∷ ts) is = grind (arith, passing_found p ts)
+
+  -- .. those that pass a test
+  pub passing_seen : are_sorted r.targets ≡ true → (p : Target → Bool) → map (target_listed r) (map listed_target (filter p r.targets))
+      ≡ map seen (filter p r.targets)
+  passing_seen sorted p =
+      let all = finds_all r.targets (sorted_from (ids_of r.targets) (and_parts (in_byte_order (ids_of r.targets)) _ sorted).0) in
+      all_seen (filter p r.targets) (passing_found p r.targets all)

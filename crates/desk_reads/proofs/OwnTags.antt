@@ -169,19 +169,9 @@ none_listed r wanted = record { owned_whole = no_tags_between r; each = λ order
 
 -- ---- parts of what is listed
 
-ids_listed : (ts : List Target) → listed_ids (map listed_target ts) ≡ ids_of ts
+pub ids_listed : (ts : List Target) → listed_ids (map listed_target ts) ≡ ids_of ts
 ids_listed [] = refl
 ids_listed (t ∷ ts) = ap (λ l. t.id ∷ l) (ids_listed ts)
-
--- a part of the targets is listed in byte order
-pub part_ordered : (r : Records) → are_sorted r.targets ≡ true → (offset n : ℕ) (entries : List ListedTarget) → entries
-    ≡ map listed_target (take n (drop offset r.targets)) → in_byte_order (listed_ids entries) ≡ true
-part_ordered r sorted offset n entries is =
-    let ids = (and_parts (in_byte_order (ids_of r.targets)) _ sorted).0 in
-    let named : listed_ids entries ≡ take n (drop offset (ids_of r.targets)) =
-    ap listed_ids is ∙ ids_listed (take n (drop offset r.targets)) ∙ sym (take-map (λ (t : Target). t.id) n (drop offset r.targets))
-    ∙ ap (take n) (sym (drop-map (λ (t : Target). t.id) offset r.targets)) in
-    ap in_byte_order named ∙ order_taken n (drop offset (ids_of r.targets)) (order_dropped offset (ids_of r.targets) ids)
 
 module _ {A : Type 0} (f : ListedTarget → A) (listed : List ListedTarget) (ordered : in_byte_order (listed_ids listed) ≡ true) where
   -- the next part is in byte order

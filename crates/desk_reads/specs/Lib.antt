@@ -2,3 +2,4 @@ pub mod Targets
 pub mod AtLists
 pub mod Rollouts
 pub mod Counted
+pub mod Candidates

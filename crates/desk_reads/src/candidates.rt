@@ -1,0 +1,87 @@
+//! Targets among which those are that a filter matches.
+
+ghost use Rattle.std.specs.Prelude.{◌≡◌, ◌≤◌, ◌+◌, IfErr, IfOk, IfSome};
+ghost use Rattle.std.specs.Option.{IsSomeAnd};
+ghost use Rattle.std.specs.String.{string_bytes};
+ghost use Rattle.sql_calls.specs.declared.fault.Fault.TheVariants.{Memory};
+ghost use Rattle.target_filter.specs.Profile.{filter_of};
+ghost use Rattle.desk_reads.specs.AtLists.{FailsAtListsIn};
+ghost use Rattle.desk_reads.specs.Candidates.{AreBegun, AreCandidates, IsNextTo};
+ghost use Rattle.desk_store.specs.Changing.{FindsIn, StaysIn};
+
+use desk_store::{Fault, ListedTarget, OpenChange};
+use sqlite::Alter;
+use std::alloc::Global;
+use std::str;
+use target_filter::Filter;
+
+/// Targets by their ids and names, in byte order of their ids, and among them all that match: where the filter says how an id
+/// begins, few others are read. By one statement.
+pub fn read_candidates<S: Alter>(
+    change: &mut OpenChange<'_, S>,
+    filter: &Filter,
+) -> Result<Vec<ListedTarget>, Fault>
+    ensures stays { StaysIn S.Store change.old change.new result }
+    ensures reads { FindsIn S.Store change.old change.new result
+        (λ now listed. IsSomeAnd (filter_of filter.now) (λ f. AreCandidates now f listed.items)) }
+    ensures fails { FailsAtListsIn S.Store change.old change.new result }
+    ensures work { change.new.store.now.calls.work.statements ≤ change.old.store.now.calls.work.statements + 1 }
+{
+    let start = filter.id_start();
+    let listed = read_begun(change, start)?;
+    Ok(listed)
+}
+
+/// The targets whose ids begin with these bytes, and perhaps others.
+fn read_begun<S: Alter>(
+    change: &mut OpenChange<'_, S>,
+    start: &[u8],
+) -> Result<Vec<ListedTarget>, Fault>
+    ensures stays { StaysIn S.Store change.old change.new result }
+    ensures reads { FindsIn S.Store change.old change.new result (λ now listed. AreBegun now start.now listed.items) }
+    ensures fails { FailsAtListsIn S.Store change.old change.new result }
+    ensures work { change.new.store.now.calls.work.statements ≤ change.old.store.now.calls.work.statements + 1 }
+{
+    let Ok(first) = str::from_utf8(start) else {
+        let all = change.read_all_targets()?;
+        return Ok(all);
+    };
+    let listed = read_from(change, first)?;
+    Ok(listed)
+}
+
+/// The targets whose ids begin with this text, and perhaps others: those from the text to the next one, or all where there is none.
+fn read_from<S: Alter>(
+    change: &mut OpenChange<'_, S>,
+    first: &str,
+) -> Result<Vec<ListedTarget>, Fault>
+    ensures stays { StaysIn S.Store change.old change.new result }
+    ensures reads { FindsIn S.Store change.old change.new result (λ now listed. AreBegun now first.now listed.items) }
+    ensures fails { FailsAtListsIn S.Store change.old change.new result }
+    ensures work { change.new.store.now.calls.work.statements ≤ change.old.store.now.calls.work.statements + 1 }
+{
+    let next = next_to(change.alloc(), first)?;
+    let Some(last) = next else {
+        let all = change.read_all_targets()?;
+        return Ok(all);
+    };
+    let listed = change.read_targets_between(first, last.as_str())?;
+    Ok(listed)
+}
+
+/// The text whose last byte is greater by one, where that is a text. No text that begins with the first one is behind it.
+fn next_to(alloc: Global, first: &str) -> Result<Option<String>, Fault>
+    ensures ok { IfOk result (λ next. IfSome next (λ second. IsNextTo first.now (string_bytes second))) }
+    ensures err { IfErr result (λ fault. fault ≡ Memory) }
+{
+    let mut bytes = Vec::new(alloc);
+    bytes.extend_from_slice(first.as_bytes())?;
+    let Some(byte) = bytes.pop() else {
+        return Ok(None);
+    };
+    let Some(greater) = byte.checked_add(1) else {
+        return Ok(None);
+    };
+    bytes.push(greater)?;
+    Ok(String::from_utf8(bytes).ok())
+}
