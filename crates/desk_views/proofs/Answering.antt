@@ -15,7 +15,7 @@ pub use Rattle.desk_views.proofs.ArtifactViews.{pieces_grow, together}
 pub use Rattle.desk_views.proofs.DeviceViews.{answered_by, downloaded, named_said}
 pub use Rattle.desk_views.proofs.FailingActions.{listed_few, places_few}
 pub use Rattle.desk_views.proofs.FailingGroups.{group_ruled, group_small, groups_showable, page_showable}
-pub use Rattle.desk_views.proofs.FailingReads.{chunk_few, contents_read, size_of_numbered, some_left}
+pub use Rattle.desk_views.proofs.FailingReads.{contents_read, size_of_numbered, some_left}
 pub use Rattle.desk_reads.proofs.ListFailLemmas.{fails_when}
 pub use Rattle.desk_views.proofs.FailingViews.{never_answers, never_fails, told}
 pub use Rattle.desk_views.proofs.GroupViews.{groups_mapped, groups_paged, numbered_rule, one_group, unshown_at}
@@ -23,5 +23,5 @@ pub use Rattle.desk_views.proofs.HistoryViews.{numbered_more, page_numbered}
 pub use Rattle.desk_views.proofs.MemberViews.{members_paged}
 pub use Rattle.desk_views.proofs.PageLemmas.{entry_is, numbered_length, page_ends, page_grows}
 pub use Rattle.desk_views.proofs.RolloutViews.{as_numbered, one_replied, one_seen}
-pub use Rattle.desk_views.proofs.TargetPages.{all_replied, last_chunk, matching_replied, next_chunk, nothing_yet, page_with}
+pub use Rattle.desk_views.proofs.TargetPages.{all_replied, matching_replied, nothing_yet, page_with}
 pub use Rattle.desk_views.proofs.TargetViews.{id_found}

@@ -1,12 +1,11 @@
 -- Why reads of sets, artifacts and targets of a list of accepted commands are no failed stores by themselves.
-use Rattle.desk_views.proofs.Common.{◌≡◌, ◌≤◌, ◌<◌, ◌^◌, ◌≢◌, ◌⊎◌, ℕ, suc, false, List, [], ◌∷◌, map, length, take, drop, Some, sym, ap, ◌∙◌, arith, length-map}
-use Rattle.desk_views.proofs.Common.{length-take, listed_target, Target, artifacts_shown, item_numbered, ArtifactRecord, Records, Artifact, AreOfList}
-use Rattle.desk_views.proofs.Common.{contents_found, div_ceil_times, is_contents, ListedTarget}
-use Rattle.std.specs.Int.{div_ceil}
+use Rattle.desk_views.proofs.Common.{◌≡◌, ◌≤◌, ◌<◌, ◌^◌, ◌≢◌, ◌⊎◌, ℕ, suc, false, List, [], ◌∷◌, length, Some, sym, ap, ◌∙◌, arith}
+use Rattle.desk_views.proofs.Common.{artifacts_shown, item_numbered, ArtifactRecord, Records, Artifact, AreOfList}
+use Rattle.desk_views.proofs.Common.{contents_found, is_contents}
 use Rattle.std.specs.Iterator.{Yields}
 use Rattle.std.specs.Vec.Iter.{into_iter_items, into_iter_steps}
 use Rattle.std.specs.declared.vec.IntoIter.{IntoIter}
-use Rattle.desk_views.proofs.ListRules.{few_artifacts, few_targets, keeps_contents, keeps_size}
+use Rattle.desk_views.proofs.ListRules.{few_artifacts, keeps_contents, keeps_size}
 
 -- ---- sets
 
@@ -36,11 +35,3 @@ pub some_left : {X A : Type 0} (s t u : IntoIter X A) (xs all : List X) (x : X) 
     → into_iter_steps t (Some x) u → length xs < length all
 some_left s t u [] all x is given next = omega (arith, ap length (sym is ∙ ap into_iter_items given ∙ next.0))
 some_left s t u (y ∷ ys) all x is given next = grind (arith, some_left given.0 t u ys (into_iter_items given.0) x)
-
--- a chunk has no more
-pub chunk_few : (offset : ℕ) (ts : List Target) (items : List ListedTarget) → items ≡ map listed_target (take 10000 (drop offset ts)) → length items ≤ 10000
-chunk_few offset ts items is = omega (arith, ap length is, length-map (take 10000 (drop offset ts)) listed_target, length-take 10000 (drop offset ts))
-
--- few targets are one chunk
-pub one_chunk : (r : Records) → AreOfList r → (count chunk end : ℕ) → count ≡ length r.targets → end ≡ div_ceil count 10000 → chunk < end → chunk ≡ 0
-one_chunk r of count chunk end counted ended before = grind (arith, div_ceil_times, few_targets)

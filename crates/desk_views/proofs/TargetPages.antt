@@ -1,9 +1,9 @@
 -- From typed reads of targets to pages of them.
-use Rattle.desk_views.proofs.Common.{◌≡◌, ℕ, ◌+◌, ◌-◌, ◌&&◌, nat_le, nat_lt, ◌*◌, ◌/◌, ◌%◌, min, Bool, true, cond, List, [], ◌∷◌, ◌++◌, map, filter, length}
-use Rattle.desk_views.proofs.Common.{take, drop, Some, None, refl, sym, ap, ◌∙◌, append_assoc, arith, length-drop, Vec, take-add, drop-append-le, drop_all}
+use Rattle.desk_views.proofs.Common.{◌≡◌, ℕ, ◌+◌, ◌-◌, ◌&&◌, nat_le, nat_lt, Bool, true, cond, List, [], ◌∷◌, ◌++◌, map, filter, length}
+use Rattle.desk_views.proofs.Common.{take, drop, Some, None, refl, sym, ap, ◌∙◌, append_assoc, arith, length-drop, Vec, drop-append-le, drop_all}
 use Rattle.desk_views.proofs.Common.{length-append, map-append, take-append-le, take_all, Global, query_reply, targets_matching, Bytes, matches, seen, page_of}
 use Rattle.desk_views.proofs.Common.{target_shown, targets_shown, Records, PageOf, TargetsShown, Page, ShowTargets, Target, listed, reply_of, shown_target}
-use Rattle.desk_views.proofs.Common.{ShownTarget, Tree, filter_of, listed_target, matching_shown, worded, target_listed, part_seen, div_ceil_times}
+use Rattle.desk_views.proofs.Common.{ShownTarget, Tree, filter_of, listed_target, matching_shown, worded, target_listed, part_seen}
 use Rattle.desk_views.proofs.Common.{ListedTarget, cases_lt, inl, inr, nat_tests}
 use Rattle.desk_views.proofs.PageLemmas.{page_mapped}
 use Rattle.std.proofs.lemmas.List.Elements.{filter-append}
@@ -47,13 +47,6 @@ module _ (r : Records) where
         → (all ++ matching_shown r f (map (with_rest r asked) ts)) ++ matching_shown r f (with_rest r asked t ∷ [])
         ≡ all ++ matching_shown r f (map (with_rest r asked) (ts ++ t ∷ []))
     rest_grow asked all ts t = grind (arith, append_assoc, map-append, matching_join)
-
-    -- those of a chunk after those before it
-    pub chunk_matched : are_sorted r.targets ≡ true → (offset n : ℕ) (entries : List ListedTarget) → entries
-        ≡ map listed_target (take n (drop offset r.targets))
-        → matching_shown r f (map seen (take offset r.targets)) ++ matching_shown r f (map (target_listed r) entries)
-        ≡ matching_shown r f (map seen (take (offset + n) r.targets))
-    chunk_matched sorted offset n entries is = grind (arith, part_seen, matching_join, map-append, take-add)
 
     filter_seen : (ts : List Target) → filter (holds f) (map seen ts) ≡ map seen (filter (matches f) ts)
     filter_seen [] = refl
@@ -99,21 +92,3 @@ module _ (page : Page) (old : RustPageOf ShownTarget) (items : Vec ShownTarget G
   pub page_with : (total : ℕ) → total ≡ old.total + 1 → items.items ≡ cond on (old.content.items ++ x ∷ []) old.content.items
       → listed (record { content = items; total = total }) ≡ page_of page (all ++ x ∷ [])
   page_with total one is = grind (arith, next_on, length-append)
-
--- ---- chunk by chunk
-
-module _ (page : Page) (f : Tree) (r : Records) where
-  -- the page of those that match of the first n targets
-  abbrev pub page_of_first : ℕ → PageOf ShownTarget
-  page_of_first n = page_of page (matching_shown r f (map seen (take n r.targets)))
-
-  pub next_chunk : (old new : RustPageOf ShownTarget) (chunk offset : ℕ) → offset ≡ chunk * 10000
-      → (listed old ≡ page_of_first offset → listed new ≡ page_of_first (offset + 10000)) → listed old ≡ page_of_first (chunk * 10000) → listed new
-      ≡ page_of_first ((chunk + 1) * 10000)
-  next_chunk old new chunk offset at adds was = grind arith
-
-  pub last_chunk : (shown : RustPageOf ShownTarget) (chunk count : ℕ) → chunk ≡ count / 10000 + min 1 (count % 10000) → count ≡ length r.targets → listed shown
-      ≡ page_of_first (chunk * 10000) → listed shown ≡ page_of page (matching_shown r f (map seen r.targets))
-  last_chunk shown chunk count end is was =
-      let enough = (div_ceil_times count 10000 (omega arith)).0 in
-      was ∙ ap (λ l. page_of page (matching_shown r f (map seen l))) (take_all (chunk * 10000) r.targets (omega (arith, end, is, enough)))

@@ -1,6 +1,6 @@
 //! Pages of targets: of all, or of those that match a filter.
 
-ghost use Rattle.std.specs.Prelude.{◌≡◌, ◌≤◌, ◌<◌, ◌^◌, ◌+◌, ◌++◌, [], ◌∷◌, List, length, map, take, true, IfOk, Some, None};
+ghost use Rattle.std.specs.Prelude.{◌≡◌, ◌≤◌, ◌<◌, ◌^◌, ◌+◌, ◌++◌, [], ◌∷◌, List, length, map, true, IfOk, Some, None};
 ghost use Rattle.rollout_machine.specs.Answers.{query_reply};
 ghost use Rattle.rollout_machine.specs.Filters.{seen};
 ghost use Rattle.rollout_machine.specs.Objects.{page_of};
@@ -17,17 +17,12 @@ ghost use Rattle.desk_store.specs.Changing.{FindsIn, StaysIn};
 
 use crate::pages::is_on;
 use crate::targets::with_word;
-use desk_reads::{Asked, named_by, read_all_asked, read_listed, read_rest};
+use desk_reads::{Asked, named_by, read_all_asked, read_candidates, read_listed, read_rest};
 use desk_store::{Fault, ListedTarget, OpenChange};
-use rollout_model::limits::TARGET_LIMIT;
 use rollout_model::{FilterText, Page, PageOf, Refusal, Reply, ShownTarget, Target};
 use sqlite::Alter;
 use std::alloc::Global;
 use target_filter::{Filter, FilterFault, laws};
-
-/// How many targets one statement lists, where a filter goes through them all: as many as a desk keeps, since each
-/// further statement walks over those that were listed before it.
-const CHUNK: u32 = TARGET_LIMIT;
 
 /// Shows a page of the targets in byte order of their ids: of those that match the filter, or else of all.
 pub fn show_targets<S: Alter>(
@@ -119,40 +114,13 @@ fn read_matching<S: Alter>(
         (λ now shown. (f : Tree) → filter_of filter.now ≡ Some f → listed shown ≡ page_of page (matching_shown now f (map seen now.targets))) }
     ensures fails { FailsAtListsIn S.Store change.old change.new result }
 {
-    let count = change.read_target_count()?;
+    let entries = read_candidates(change, filter)?;
     let mut shown = PageOf {
         content: Vec::new(alloc),
         total: 0,
     };
-    for chunk in 0..count.div_ceil(CHUNK) {
-        let Some(offset) = chunk.checked_mul(CHUNK) else {
-            return Err(Fault::Broken);
-        };
-        add_chunk(change, filter, page, offset, &mut shown)?;
-    }
+    add_matching(change, filter, page, entries, &mut shown)?;
     Ok(shown)
-}
-
-/// Adds to the page those of the targets behind the offset that match, of as many as a chunk has.
-fn add_chunk<S: Alter>(
-    change: &mut OpenChange<'_, S>,
-    filter: &Filter,
-    page: Page,
-    offset: u32,
-    shown: &mut PageOf<ShownTarget>,
-) -> Result<(), Fault>
-    ensures stays { StaysIn S.Store change.old change.new result }
-    ensures reads { FindsIn S.Store change.old change.new result
-        (λ now _. (f : Tree) → filter_of filter.now ≡ Some f → listed shown.old ≡ page_of page (matching_shown now f (map seen (take offset now.targets)))
-        → listed shown.new ≡ page_of page (matching_shown now f (map seen (take (offset + 10000) now.targets)))) }
-    ensures fails { FailsWith S.Store (λ now. shown.old.total + 10000 < 2 ^ 32) change.old change.new result }
-{
-    let entries = change.read_targets(Page {
-        offset,
-        limit: CHUNK,
-    })?;
-    add_matching(change, filter, page, entries, shown)?;
-    Ok(())
 }
 
 /// Adds to the page those of the listed targets that match. No more is read of them than the filter names, before they are on the page.
