@@ -83,7 +83,7 @@ pub use Rattle.desk_records.specs.NextOffers.{any_starts, next_offer, next_offer
 pub use Rattle.desk_records.specs.Parts.{parts_of}
 pub use Rattle.desk_records.specs.RolloutRow.{stored_action, stored_rollout, told_plan}
 pub use Rattle.desk_records.specs.Rollouts.{groups_of, members_of, numbered_from, rule_numbered}
-pub use Rattle.desk_records.specs.TargetRow.{listed_target, stored_target}
+pub use Rattle.desk_records.specs.TargetRow.{stored_target}
 pub use Rattle.desk_records.specs.Targets.{AddsAttribute, AddsTag, AddsTarget, SetsAttribute, are_sorted, attributed, attributes_of, ids_of, in_byte_order}
 pub use Rattle.desk_records.specs.Targets.{keys_of, renamed, tagged, untagged, with_changed, with_target}
 pub use Rattle.desk_records.specs.declared.number_row.PlacedNumber.{PlacedNumber}

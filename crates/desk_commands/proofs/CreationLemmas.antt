@@ -1,12 +1,12 @@
 -- The creation of a rollout, from what is read to what is written.
-use Rattle.desk_commands.proofs.Common.{◌≡◌, ◌<◌, ℕ, zero, suc, ◌+◌, Bool, true, false, not, cond, nat_eq, List, [], ◌∷◌, ◌++◌, map, get_or, take, drop, length}
+use Rattle.desk_commands.proofs.Common.{◌≡◌, ◌<◌, ℕ, zero, suc, ◌+◌, Bool, true, false, not, cond, nat_eq, List, [], ◌∷◌, ◌++◌, map, get_or, take, length}
 use Rattle.desk_commands.proofs.Common.{set, slice_get, Some, None, refl, sym, ap, subst, ◌∙◌, arith, list_all, and_parts, nat_tests, length-append}
-use Rattle.desk_commands.proofs.Common.{length-map, length-take-le, map-append, take_all, command_reply, item_numbered, CommandList, Bytes, CreateRollout}
+use Rattle.desk_commands.proofs.Common.{length-map, length-take-le, map-append, command_reply, item_numbered, CommandList, Bytes, CreateRollout}
 use Rattle.desk_commands.proofs.Common.{RolloutPlan, GroupRule, rule_at, rules_of, first_offer, Records, action_in, rollouts_in, new_group, new_rollout}
 use Rattle.desk_commands.proofs.Common.{step_records, bounds_at, chosen, rollouts, RolloutWord, Target, IsValid, check, reply_of, Bounds, ActionRecord}
 use Rattle.desk_commands.proofs.Common.{RolloutRecord, each_from_more, length_each, numbered_each, Tree, filter_of, IsPlanView, approval_at, plan_refusal}
-use Rattle.desk_commands.proofs.Common.{Ledger, ledger_of, AddsGroup, AddsMember, AddsRule, cut_group, set_numbered, with_rollouts, with_rules, listed_target}
-use Rattle.desk_commands.proofs.Common.{are_sorted, same_ledger, target_listed, CreatesRollout, IsChosen, IsWordOf, and_rollout, first_rules, ids_matching}
+use Rattle.desk_commands.proofs.Common.{Ledger, ledger_of, AddsGroup, AddsMember, AddsRule, cut_group, set_numbered, with_rollouts, with_rules}
+use Rattle.desk_commands.proofs.Common.{same_ledger, target_listed, CreatesRollout, IsChosen, IsWordOf, and_rollout, first_rules, ids_matching}
 use Rattle.desk_commands.proofs.Common.{in_part, shown_new, invariant_of, not-true}
 use Rattle.rollout_machine.specs.Records.{records}
 use Rattle.std.proofs.lemmas.Option.{slice_get-get_or, slice_get_within}
@@ -23,7 +23,7 @@ use Rattle.campaign_core.specs.declared.rollout_checks.plans.NewRollout.{NewRoll
 use Rattle.campaign_core.specs.declared.rollout_checks.plans.PlanView.{PlanView}
 use Rattle.desk_records.specs.declared.target_row.ListedTarget.{ListedTarget}
 use Rattle.desk_reads.proofs.AskedTargets.{holds_asked}
-use Rattle.desk_reads.proofs.ListedTargets.{part_seen}
+use Rattle.desk_reads.specs.Candidates.{AreCandidates}
 use Rattle.desk_reads.specs.Targets.{IsNamedBy, asked_listed}
 use Rattle.desk_reads.specs.declared.targets.Asked.{Asked}
 use Rattle.std.specs.Prelude.{Option}
@@ -56,13 +56,10 @@ ids_seen : (f : Tree) (ts : List Target) → ids_matching f (map seen ts) ≡ ch
 ids_seen f [] = refl
 ids_seen f (t ∷ ts) = grind (arith, ids_seen f ts)
 
--- all targets were listed
-pub all_chosen : (r : Records) → are_sorted r.targets ≡ true → (f : Tree) (count : ℕ) (entries : List ListedTarget) → count ≡ length r.targets → entries
-    ≡ map listed_target (take count (drop 0 r.targets)) → (ids : List Bytes)
-    → ids ≡ ids_matching f (map (target_listed r) entries) → ids ≡ chosen (Some f) r.targets
-all_chosen r sorted f count entries size listed ids is =
-    is ∙ ap (λ l. ids_matching f (map (target_listed r) l)) listed ∙ ap (ids_matching f) (part_seen r sorted count 0)
-    ∙ ap (λ l. ids_matching f (map seen l)) (take_all count r.targets (omega (arith, size))) ∙ ids_seen f r.targets
+-- those that match of the candidates are those of all targets
+pub all_chosen : (r : Records) (f : Tree) (ls : List ListedTarget) → AreCandidates r f ls → (ids : List Bytes)
+    → ids ≡ ids_matching f (map (target_listed r) ls) → ids ≡ chosen (Some f) r.targets
+all_chosen r f ls are ids is = is ∙ ap (map (λ (t : SeenTarget). t.id)) are.matching ∙ ids_seen f r.targets
 
 -- ---- the verdict
 

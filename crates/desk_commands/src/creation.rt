@@ -18,11 +18,11 @@ ghost use Rattle.desk_store.specs.Failing.{WritesIn};
 
 use crate::step::Step;
 use campaign_core::{NewRollout, PlanView, cut_grouping, new_rollout};
-use desk_reads::{named_by, read_all_asked};
+use desk_reads::{named_by, read_all_asked, read_candidates};
 use desk_store::{Fault, OpenChange};
 use rollout_machine::Bounds;
 use rollout_model::{
-    Approval, ControllerId, FilterText, Page, Reply, Rollout, RolloutPlan, RolloutWord, Target,
+    Approval, ControllerId, FilterText, Reply, Rollout, RolloutPlan, RolloutWord, Target,
 };
 use sqlite::Alter;
 use std::alloc::{AllocError, Global};
@@ -83,8 +83,7 @@ fn all_matching<S: Alter>(
         (λ r members. (f : Tree) → filter_of filter.now ≡ Some f → members.items ≡ chosen (Some f) r.targets) }
     ensures fails { FailsAtListsIn S.Store change.old change.new result }
 {
-    let limit = change.read_target_count()?;
-    let entries = change.read_targets(Page { offset: 0, limit })?;
+    let entries = read_candidates(change, filter)?;
     let asked = named_by(filter);
     let targets = read_all_asked(change, entries, asked)?;
     let members = matching(alloc, filter, targets)?;
