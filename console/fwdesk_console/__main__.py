@@ -2,7 +2,7 @@
 
 SETTINGS is a TOML file, /etc/fwdesk/console.toml where it is there and none is named. --check reads it and ends.
 Of many fleets on one machine each has a console, by --fleet NAME; --lead is the service that leads HAProxy's lines and
-questions to them."""
+questions to them, and reads no file but one that is named."""
 import argparse
 import asyncio
 import logging
@@ -16,9 +16,10 @@ from .service import Service
 PLACES = ("/etc/fwdesk/console.toml",)
 
 
-def find_settings(named: str | None) -> str | None:
-    """The file that is named, else what systemd hands on, else that of /etc, else none."""
-    if named:
+def find_settings(named: str | None, leads: bool = False) -> str | None:
+    """The file that is named, else what systemd hands on, else that of /etc, else none. What leads has none of its own: the
+    addresses of webhooks are secrets of the consoles, which it may not read."""
+    if named or leads:
         return named
     handed = os.environ.get("CREDENTIALS_DIRECTORY")
     places = ([f"{handed}/console.toml"] if handed else []) + list(PLACES)
@@ -38,7 +39,7 @@ def main() -> None:
     order = asked.parse_args()
     logging.basicConfig(format="%(levelname)s %(message)s", level=logging.INFO, stream=sys.stderr)
     try:
-        told = settings.read(find_settings(order.settings))
+        told = settings.read(find_settings(order.settings, order.lead))
         if order.fleet is not None:
             told = settings.of_fleet(told, order.fleet)
         if not order.check:

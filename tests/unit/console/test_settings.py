@@ -1,6 +1,6 @@
 """The settings: each value with a range, and words for what is wrong."""
 import pytest
-from fwdesk_console import settings
+from fwdesk_console import __main__, settings
 
 
 @pytest.mark.parametrize(
@@ -50,3 +50,18 @@ def test_messages_lead_to_the_address_that_was_set_up(tmp_path, monkeypatch):
     telling.write_text('link = "https://other.example/page/"')
     assert settings.read(str(silent)).link == "https://desk.example/page/"
     assert settings.read(str(telling)).link == "https://other.example/page/"
+
+
+def test_what_leads_to_the_consoles_reads_no_file_of_theirs(tmp_path, monkeypatch):
+    """Their webhooks are secrets, in a file that root alone reads."""
+    theirs, handed = tmp_path / "console.toml", tmp_path / "handed"
+    handed.mkdir()
+    theirs.write_text("")
+    monkeypatch.setattr(__main__, "PLACES", (str(theirs),))
+    assert __main__.find_settings(None) == str(theirs)
+    assert __main__.find_settings(None, leads=True) is None
+    monkeypatch.setenv("CREDENTIALS_DIRECTORY", str(handed))
+    (handed / "console.toml").write_text("")
+    assert __main__.find_settings(None) == str(handed / "console.toml")
+    assert __main__.find_settings(None, leads=True) is None
+    assert __main__.find_settings("own.toml", leads=True) == "own.toml"
