@@ -92,18 +92,19 @@ export function sinceOf(rollout) {
   return actsOf(rollout) && known.since ? since(known.since) : null;
 }
 
-/** Who did what to it, as one line. */
-export function actsLine(rollout) {
-  const acts = actsOf(rollout) ?? {};
-  const said = ACTS.filter((it) => acts[it]?.at).map((it) => actWords(it, acts[it])).join("; ");
-  return said ? p("facts acts", `${said[0].toUpperCase()}${said.slice(1)}.`) : null;
+/** The acts of these names that were seen, as one sentence; or null. */
+function sentenceOf(names, acts, of) {
+  const said = names.filter((it) => acts?.[it]?.at).map((it) => actWords(it, acts[it])).join("; ");
+  return said ? p(of, `${said[0].toUpperCase()}${said.slice(1)}.`) : null;
 }
+
+/** Who did what to it, as one line. */
+export const actsLine = (rollout) => sentenceOf(ACTS, actsOf(rollout), "facts acts");
 
 /** When a group began and was finished, and by whose order it began. */
 export function groupLine(rollout, group) {
   const known = state()?.rollout, acts = known?.id === rollout.id ? known.groupActs?.[group.id] : null;
-  const said = ["began", "ended"].filter((it) => acts?.[it]).map((it) => actWords(it, acts[it])).join("; ");
-  return said ? p("under", `${said[0].toUpperCase()}${said.slice(1)}.`) : null;
+  return sentenceOf(["began", "ended"], acts, "under");
 }
 
 /** Why it is paused, as the console saw it: null where it didn't. */
