@@ -1,11 +1,15 @@
 """What each test by pytest has: the program, the fixtures of the harness, the journal of a failure; and, each as one test,
 the cases of tests/wire, the checks of a script, and the parts of the gate."""
+import contextlib
 import os
 import re
 import shutil
+import signal
 import subprocess
 import sys
 import tempfile
+import threading
+import time
 from collections.abc import Iterator
 from pathlib import Path
 from typing import Any
@@ -20,18 +24,27 @@ FOR_ROOT = {"systemd", "fleets", "failover", "package"}
 SLOW = {*FOR_ROOT, "devices", "device_client", "web", "hold-chaos", "mtls"}
 # the folders whose tests each have what they need; elsewhere those of a file share it, so that one worker runs them
 APART = {"cli", "web", "unit", "wire"}
-# scripts whose checks are tests: `--list` prints a name a line, and a name as an argument runs that check alone
-SCRIPTS = (
-    *("e2e/proxy/roles", "e2e/proxy/mtls", "e2e/proxy/hold-chaos", "e2e/systemd/timers"),
-    *("e2e/systemd/units", "e2e/fleets/run", "e2e/failover/run", "e2e/devices/run"),
-)
+# scripts whose checks are tests: `--list` prints a name a line, and names as arguments run those checks alone
+SCRIPTS = ("e2e/proxy/roles", "e2e/proxy/mtls", "e2e/proxy/hold-chaos", "e2e/devices/run")
+# the same, but that its checks share a machine, which takes minutes to set up: it is run once, for all that are chosen
+COURSES = ("e2e/systemd/timers", "e2e/systemd/units", "e2e/fleets/run", "e2e/failover/run")
 TALLY = re.compile(r"(\d+) passed, (\d+) failed")
+# the line by which such a script tells how a check ended
+ENDED = re.compile(r"(passed|FAILED) ([^\s,:]+)")
+# how long a script that is ended may take for that, in seconds: it switches machines off
+ENDING = 120
 
 
 def pytest_addoption(parser: pytest.Parser) -> None:
     built = Path(os.environ.get("FWDESK_PROGRAM") or ROOT / "crates/fwdesk/out/fwdesk")
     parser.addoption(
         "--program", type=Path, default=built, help="the program (default: %(default)s)"
+    )
+    parser.addoption(
+        "--limit",
+        type=int,
+        default=1800,
+        help="seconds that a test may take (default: %(default)s)",
     )
 
 
@@ -54,6 +67,47 @@ def pytest_collection_modifyitems(items: list[pytest.Item]) -> None:
             it.add_marker("slow")
         if not parts & APART:
             it.add_marker(pytest.mark.xdist_group(str(it.path)))
+
+
+# a test that hangs fails, so that the others are run
+
+
+@contextlib.contextmanager
+def limit(item: pytest.Item) -> Iterator[None]:
+    """Fails what takes longer, again and again if it goes on. pytest's failure is no `Exception`: no test takes it for its own."""
+    seconds = item.config.getoption("--limit")
+
+    def fail(*_: object) -> None:
+        pytest.fail(f"not within {seconds} s")
+
+    if threading.current_thread() is not threading.main_thread():
+        yield
+        return
+    before = signal.signal(signal.SIGALRM, fail)
+    signal.setitimer(signal.ITIMER_REAL, seconds, 60)
+    try:
+        yield
+    finally:
+        signal.setitimer(signal.ITIMER_REAL, 0)
+        signal.signal(signal.SIGALRM, before)
+
+
+@pytest.hookimpl(hookwrapper=True)
+def pytest_runtest_setup(item: pytest.Item) -> Iterator[None]:
+    with limit(item):
+        yield
+
+
+@pytest.hookimpl(hookwrapper=True)
+def pytest_runtest_call(item: pytest.Item) -> Iterator[None]:
+    with limit(item):
+        yield
+
+
+@pytest.hookimpl(hookwrapper=True)
+def pytest_runtest_teardown(item: pytest.Item) -> Iterator[None]:
+    with limit(item):
+        yield
 
 
 # the journal of a failure
@@ -165,6 +219,23 @@ class Failure(Exception):
     """A test's own words of why it fails."""
 
 
+def start(words: list[str]) -> subprocess.Popen[str]:
+    """A script, whose output is read as it comes."""
+    return subprocess.Popen(
+        words, cwd=ROOT, stdout=subprocess.PIPE, stderr=subprocess.STDOUT, text=True
+    )
+
+
+def end(child: subprocess.Popen[str]) -> None:
+    """Ends a script, which ends what it started."""
+    child.terminate()
+    try:
+        child.wait(ENDING)
+    except subprocess.TimeoutExpired:
+        child.kill()
+        child.wait()
+
+
 class Words(pytest.Item):
     """A command as a test: its last line is 'N passed, 0 failed', and N is `least` at least."""
 
@@ -173,13 +244,16 @@ class Words(pytest.Item):
         self.words, self.least = words, least
 
     def runtest(self) -> None:
-        ran = subprocess.run(
-            self.words, cwd=ROOT, stdout=subprocess.PIPE, stderr=subprocess.STDOUT, text=True
-        )
-        found = TALLY.findall(ran.stdout)
-        self.add_report_section("call", "stdout", ran.stdout)
-        if ran.returncode or not found or int(found[-1][1]):
-            raise Failure(f"{' '.join(self.words)}: status {ran.returncode}\n{ran.stdout[-4000:]}")
+        child = start(self.words)
+        try:
+            told = child.communicate()[0]
+        finally:
+            if child.poll() is None:
+                end(child)
+        found = TALLY.findall(told)
+        self.add_report_section("call", "stdout", told)
+        if child.returncode or not found or int(found[-1][1]):
+            raise Failure(f"{' '.join(self.words)}: status {child.returncode}\n{told[-4000:]}")
         if int(found[-1][0]) < self.least:
             raise Failure(f"{found[-1][0]} passed, and {self.least} at least were asked for")
 
@@ -192,18 +266,105 @@ class Words(pytest.Item):
         return self.path, 0, self.name
 
 
+def names_of(script: Path) -> list[str]:
+    """The names of a script's checks."""
+    listed = subprocess.run([script, "--list"], stdout=subprocess.PIPE, text=True, check=True)
+    return [line.partition(":")[0] for line in listed.stdout.splitlines()]
+
+
+def words_of(script: pytest.File, *names: str) -> list[str]:
+    """A script's words, for these of its checks."""
+    return [
+        str(script.path),
+        "--program",
+        str(script.config.getoption("--program").resolve()),
+        *names,
+    ]
+
+
 class Script(pytest.File):
-    """A script whose checks are tests."""
+    """A script whose checks are tests, each a run."""
 
     def collect(self) -> Iterator[Words]:
-        listed = subprocess.run(
-            [self.path, "--list"], stdout=subprocess.PIPE, text=True, check=True
+        for name in names_of(self.path):
+            yield Words.from_parent(self, name=name, words=words_of(self, name))
+
+
+class Course(pytest.File):
+    """A script whose checks are tests, in one run, which begins with the first of them: what it says is read as it comes."""
+
+    child: subprocess.Popen[str] | None = None
+
+    def collect(self) -> Iterator["Check"]:
+        for name in names_of(self.path):
+            yield Check.from_parent(self, name=name)
+
+    def begin(self) -> None:
+        self.said: list[str] = []
+        self.reader = threading.Thread(target=self.read, daemon=True)
+        chosen = [it.name for it in self.session.items if it.parent is self]
+        self.child = start(words_of(self, *chosen))
+        self.reader.start()
+
+    def read(self) -> None:
+        assert self.child and self.child.stdout
+        self.said.extend(self.child.stdout)
+
+    def ends(self) -> dict[str, tuple[str, int]]:
+        """How each check that has ended did, by the first line that tells it, and that line's place."""
+        found: dict[str, tuple[str, int]] = {}
+        for place, line in enumerate(self.said):
+            if told := ENDED.match(line):
+                found.setdefault(told[2], (told[1], place))
+        return found
+
+    def wait_for(self, name: str) -> tuple[str, str]:
+        """How a check ended, and what was said of it: from the end of the one before to that of its own."""
+        if self.child is None:
+            self.begin()
+        while name not in self.ends() and self.reader.is_alive():
+            time.sleep(0.2)
+        # a failure's further lines
+        time.sleep(0.5)
+        how, last = self.ends().get(name, ("", len(self.said)))
+        places = [it[1] for it in self.ends().values()]
+        first = max((it + 1 for it in places if it < last), default=0)
+        until = min((it for it in places if it > last), default=len(self.said))
+        return how, "".join(self.said[first : until if how == "FAILED" else last + 1])
+
+    def teardown(self) -> None:
+        """Lets it end by itself where each check has; its status is then that of the checks."""
+        if self.child is None:
+            return
+        chosen = {it.name for it in self.session.items if it.parent is self}
+        ends = self.ends()
+        if chosen <= ends.keys():
+            self.reader.join(ENDING)
+        if self.child.poll() is None and self.reader.is_alive():
+            end(self.child)
+        status, self.child = self.child.wait(), None
+        if chosen <= ends.keys() and status and not any(it[0] == "FAILED" for it in ends.values()):
+            raise Failure(f"{self.path}: status {status}\n{''.join(self.said)[-4000:]}")
+
+
+class Check(pytest.Item):
+    """A check of such a script."""
+
+    parent: Course
+
+    def runtest(self) -> None:
+        how, told = self.parent.wait_for(self.name)
+        self.add_report_section("call", "stdout", told)
+        if how != "passed":
+            raise Failure(told[-4000:] or "the script has said nothing")
+
+    def repr_failure(self, excinfo: Any, style: Any = None) -> Any:
+        return (
+            str(excinfo.value) if excinfo.errisinstance(Failure) else super().repr_failure(excinfo)
         )
-        program = str(self.config.getoption("--program").resolve())
-        for line in listed.stdout.splitlines():
-            name = line.partition(":")[0]
-            words = [str(self.path), "--program", program, name]
-            yield Words.from_parent(self, name=name, words=words)
+
+    def reportinfo(self) -> tuple[Path, int, str]:
+        return self.path, 0, self.name
 
 
 class Gate(pytest.File):
@@ -267,6 +428,8 @@ def pytest_collect_file(file_path: Path, parent: pytest.Collector) -> pytest.Col
     place = file_path.relative_to(HERE) if file_path.is_relative_to(HERE) else file_path
     if str(place) in SCRIPTS:
         return Script.from_parent(parent, path=file_path)
+    if str(place) in COURSES:
+        return Course.from_parent(parent, path=file_path)
     if str(place) == "floors.txt":
         return Gate.from_parent(parent, path=file_path)
     if file_path.suffix == ".case":

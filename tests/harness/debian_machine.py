@@ -2,6 +2,7 @@
 
 Its files are made once by debootstrap. What a test writes in it is gone with it; it has a network of its own, which
 reaches nobody."""
+import fcntl
 import os
 import re
 import shutil
@@ -26,11 +27,17 @@ FIRST, UP, COMMAND = 30, 90, 300
 
 
 def make_root(root: Path = ROOT, within: str = WITHIN) -> None:
-    """Makes the files, which takes some minutes, where they aren't there."""
-    if root.is_dir():
-        for it in ("usr/sbin/haproxy", "usr/lib/python3/dist-packages/aiohttp"):
-            assert (root / it).exists(), f"{root} has no {it}: remove it"
-        return
+    """Makes the files, which takes some minutes, where they aren't there. Whoever else wants them waits meanwhile."""
+    with open(f"{root}.lock", "w", encoding="ascii") as lock:
+        fcntl.flock(lock, fcntl.LOCK_EX)
+        if not root.is_dir():
+            debootstrap(root, within)
+    for it in ("usr/sbin/haproxy", "usr/lib/python3/dist-packages/aiohttp"):
+        assert (root / it).exists(), f"{root} has no {it}: remove it"
+
+
+def debootstrap(root: Path, within: str) -> None:
+    """Makes a Debian with these packages; a folder that is there is whole."""
     print(f"debootstrap makes {root}, which takes some minutes", flush=True)
     unfinished = root.with_name(f"{root.name}.unfinished")
     shutil.rmtree(unfinished, ignore_errors=True)
@@ -51,15 +58,17 @@ def run_checks(checks: Iterable[tuple[Callable[..., None], object]]) -> tuple[in
     passed = failed = 0
     for check, given in checks:
         began, words = time.monotonic(), " ".join((check.__doc__ or "").split())
+        name = check.__name__
         try:
             check(given)
             passed += 1
-            print(f"ok, {time.monotonic() - began:.0f} s: {words}", flush=True)
+            print(f"passed {name}, {time.monotonic() - began:.0f} s: {words}", flush=True)
         except (AssertionError, subprocess.SubprocessError, OSError, ValueError) as error:
             failed += 1
             # an assertion without words is told by its line
             *_, place = traceback.extract_tb(error.__traceback__)
-            print(f"FAILED: {words}\n    line {place.lineno}, {place.line}: {error}", flush=True)
+            why = f"line {place.lineno}, {place.line}: {error}"
+            print(f"FAILED {name}: {words}\n    {why}", flush=True)
     return passed, failed
 
 

@@ -1,5 +1,6 @@
 """Gets what tests/e2e/devices/run runs with: Debian's packages,
 and rauc-hawkbit-updater of its unstable in a folder of its own."""
+import fcntl
 import os
 import shutil
 import subprocess
@@ -63,7 +64,14 @@ def install(wanted):
 
 
 def get(wanted, folder):
-    """Gets what is missing, and gives what couldn't be had."""
+    """Gets what is missing, and gives what couldn't be had. Tests beside this one wait meanwhile."""
+    folder.mkdir(parents=True, exist_ok=True)
+    with open(folder / "lock", "w", encoding="ascii") as lock:
+        fcntl.flock(lock, fcntl.LOCK_EX)
+        return get_alone(wanted, folder)
+
+
+def get_alone(wanted, folder):
     try:
         if missing := absent(wanted):
             install(missing)
