@@ -376,7 +376,7 @@ def narrow(
 ) -> Iterator[Stage]:
     """An edge for sixty connections and six downloads, before a stand-in whose artifacts have 4 MiB. A connection that says
     nothing is kept for longer than the test lasts."""
-    if request.config.getoption("--before"):
+    if request.config.getoption("--before", None):
         pytest.skip("its numbers are in the text")
     folder = tmp_path_factory.mktemp("narrow")
     more = {"FWDESK_CONNECTIONS": "60", "FWDESK_DOWNLOADS": "6"}

@@ -228,7 +228,7 @@ def both(
 ) -> Iterator[Stage]:
     """The same form with a port of IPv6 that takes IPv4 too, before a stand-in. A guesser waits for two seconds in place of ten."""
     folder = tmp_path_factory.mktemp("both")
-    if before := request.config.getoption("--before"):
+    if before := request.config.getoption("--before", None):
         pytest.skip(f"{before.name} is tried by hand: its port is in the text")
     try:
         socket.create_server(("::1", 0), family=socket.AF_INET6).close()

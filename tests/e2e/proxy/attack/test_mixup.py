@@ -79,7 +79,7 @@ def look(stage: Stage, device: int, is_over: Callable[[], bool]) -> collections.
 def test_every_reply_is_its_own(quiet: Stage, request: pytest.FixtureRequest) -> None:
     """Hostile messages from eight connections at once; eight others are told their own, and nobody 5xx. At full size they are
     a hundred thousand, from twenty-five."""
-    is_full = request.config.getoption("--full")
+    is_full = request.config.getoption("--full", None)
     attackers, least, seconds, patience = (25, 4000, 0, 3600) if is_full else (8, 4, 5, PATIENCE)
     over = multiprocessing.get_context("fork").Value("i", 0)
     until = time.monotonic() + seconds
