@@ -16,6 +16,7 @@ from pathlib import Path
 
 from as_module import as_module
 from harness import ROOT, http_client
+from harness.crowd import Client, Crowd
 from harness.debian_machine import ROOT as DEBIANS
 from harness.debian_machine import Debian, lines_of, make_root
 
@@ -40,7 +41,6 @@ LONGEST = 7200
 
 
 package = as_module(ROOT / "tools/package")
-thundering_herd = as_module(ROOT / "tests/load/thundering-herd")
 
 
 def fleet(number):
@@ -221,8 +221,8 @@ def requests(names, devices, stop):
 def crowd(names, devices, clients, stop, tell):
     """So many clients over kept connections, in a process of their own."""
     alike = requests(names, devices, stop)
-    them = thundering_herd.Crowd(
-        LOCAL, [thundering_herd.Client("127.0.200.1", alike) for _ in range(clients)]
+    them = Crowd(
+        LOCAL, [Client("127.0.200.1", alike) for _ in range(clients)]
     )
     waiting = them.run(LONGEST)
     them.waits.sort()

@@ -6,7 +6,7 @@ import re
 import time
 import tomllib
 
-from e2e.devices import packages
+from harness import packages
 
 from .environment import CLI, HOST, PASSWORD, ROOT, Proxy, Relay
 

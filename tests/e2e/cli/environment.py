@@ -6,7 +6,7 @@ import subprocess
 import threading
 from pathlib import Path
 
-from e2e.devices import packages
+from harness import packages
 from harness import ROOT, http_client
 from harness.desk import start_brake, start_desk
 from harness.edge import Edge

@@ -13,14 +13,12 @@ from pathlib import Path
 import pytest
 
 from harness.debian_machine import Debian, make_root
+from harness.packages import pack_image
 from harness.processes import found
 from harness.tls import self_sign
 
 from . import stage
 from .test_units import NAME, ROOT, lines_of
-
-
-from as_module import as_module
 
 PAGE = "DEVICES.md"
 IMAGE = "pump-2.1.swu"
@@ -38,10 +36,9 @@ def make_image(folder: Path) -> None:
     words = "openssl cms -sign -binary -nosmimecap -outform DER"
     files = ["-signer", str(crt), "-inkey", str(key), "-in", str(folder / "sw-description")]
     subprocess.run([*words.split(), *files, "-out", str(folder / "signed")], check=True)
-    packed = as_module(stage.ROOT / "tests/e2e/devices/run").Swupdate.packed
     members = [("sw-description", described.encode())]
     members += [("sw-description.sig", (folder / "signed").read_bytes()), ("payload", payload)]
-    (folder / IMAGE).write_bytes(packed(members))
+    (folder / IMAGE).write_bytes(pack_image(members))
     (folder / "payload").write_bytes(payload)
 
 

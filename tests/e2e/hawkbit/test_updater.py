@@ -15,7 +15,7 @@ from .stage import HOST, PROGRAM, R, ask, payload
 from .test_manage import KIND, form
 
 
-from e2e.devices import packages
+from harness import packages
 
 UPDATER = packages.Path("~/.cache/fwdesk-devices").expanduser()
 BUS = """<busconfig><type>system</type><listen>unix:path={0}/bus</listen><policy context="default">

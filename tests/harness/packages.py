@@ -1,5 +1,5 @@
-"""Gets what tests/e2e/devices/run runs with: Debian's packages,
-and rauc-hawkbit-updater of its unstable in a folder of its own."""
+"""Gets what tests run with that play devices: Debian's packages, and rauc-hawkbit-updater of its unstable in a folder of
+its own. Not run by itself."""
 import fcntl
 import os
 import shutil
@@ -117,3 +117,16 @@ def fetch(folder, root):
     for it in sorted((folder / "archives").glob("*.deb")):
         said(["dpkg-deb", "-x", str(it), str(unpacked)])
     unpacked.rename(root)
+
+
+def pack_image(members):
+    """An archive in the form newc of cpio, without the program."""
+    made = b""
+    for number, (name, held) in enumerate([*members, ("TRAILER!!!", b"")], 1):
+        fields = [number, 0o100644, 0, 0, 1, 0, len(held), 0, 0, 0, 0, len(name) + 1, 0]
+        for part in (
+            b"070701" + b"".join(b"%08X" % it for it in fields) + name.encode() + b"\0",
+            held,
+        ):
+            made += part + b"\0" * (-len(part) % 4)
+    return made

@@ -1,4 +1,4 @@
-"""The load of tests/e2e/failover/run: `load.py FOLDER DEVICES FLEET=ADDRESS..` has an operator of each fleet add numbered
+"""The load of tests/e2e/failover/run and tools/image: `load.py FOLDER DEVICES FLEET=ADDRESS..` has an operator of each fleet add numbered
 modules, and its devices send numbered feedback, until it is ended. Each command is sent until it is acknowledged, and
 then written to FOLDER/FLEET.acks: time, kind, what, how often it was sent. `compared` says how all of it differs from
 what a fleet keeps."""
@@ -9,7 +9,7 @@ import time
 from collections import Counter
 from pathlib import Path
 
-sys.path.insert(0, str(Path(__file__).resolve().parents[2]))
+sys.path.insert(0, str(Path(__file__).resolve().parents[1]))
 from harness import http_client
 
 NOTES, MODULES = 100, 900
