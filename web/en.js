@@ -111,7 +111,7 @@ export const EN = {
   "hold.title": "Hold everything",
   "hold.yes": "Hold",
   "hold.from": "From the next request on no device is told of a deployment, of whatever rollout. It holds until it is released, over restarts too.",
-  "hold.goesOn": "What is under way goes on: downloads, installations and reports. Devices are still asked to cancel.",
+  "hold.goesOn": "Work under way goes on: downloads, installations and reports. Devices are still asked to cancel.",
   "hold.why": "Why, for all who look: ",
   "hold.release": "Release",
   "hold.releases": "Devices are told of what they have open when they poll next.",
@@ -134,7 +134,7 @@ export const EN = {
   "cancel.goesOn": "The rollout goes on: pause it first where no further group is to start.",
   "cancel.none": "Nothing is in progress any more: {of}.",
   "cancel.forceEnds": "Ends action {id} of {target} now, without the device: it counts as canceled in rollout {rollout}.",
-  "cancel.forceLost": "What the device does all the same isn't counted.",
+  "cancel.forceLost": "The server doesn't count what the device does all the same.",
   "cancel.asks": "Asks {target} to give action {id} of rollout {rollout} up, when it polls next.",
   "cancel.asksLost": "A device that goes on all the same has its outcome counted.",
   "cancel.question": "{word}: action {id} of {target}",
@@ -181,10 +181,10 @@ export const EN = {
   "happened.entries": "Events ({entries})",
   "happened.from": "as the console saw it, since {begun}",
   "watch.away": "The console is away since {since}: when, who, why and new scheduled commands aren't shown. The rest is asked of the server.",
-  "watch.server": "The server doesn't answer since {since} ({words}). What is shown is from before.",
+  "watch.server": "The server doesn't answer since {since} ({words}). This view is from before.",
   "watch.notKept": "The console can't keep what it sees ({words}).",
   "watch.none": "The console is away: this view has nothing to show. Rollouts, fleet and firmware are asked of the server as always.",
-  "now.before": "What is shown here is of {at}, when the console last told it. Rollouts, fleet and firmware ask the server.",
+  "now.before": "This view is of {at}, when the console last told it. Rollouts, fleet and firmware ask the server.",
   "now.needs": "Needs attention",
   "now.needsNone": "Nothing needs attention.",
   "now.waits": "waits for an approval",
@@ -414,9 +414,9 @@ export const EN = {
   "others.handed":
     "{share} is handed {set} first: their older action, of {rollout}, is open, and a device is offered the oldest one.|{share} are handed {set} " +
       "first: their older action, of {rollout}, is open, and a device is offered the oldest one.",
-  "others.behind": " Of the groups behind it are {share}.",
+  "others.behind": " In the groups behind it are {share}.",
   "others.handedBehind":
-    "Of the groups behind it {share} is handed {set} first: their older action, of {rollout}, is open, and a device is offered the oldest one.|Of " +
+    "In the groups behind it {share} is handed {set} first: their older action, of {rollout}, is open, and a device is offered the oldest one.|In " +
       "the groups behind it {share} are handed {set} first: their older action, of {rollout}, is open, and a device is offered the oldest one.",
   "others.asked":
     "{n} is asked to give {set} of {rollout} up: until they answer they install nothing else.|{n} are asked to give {set} of {rollout} up: until " +
@@ -530,7 +530,7 @@ export const EN = {
   "ship.set": "Set {id}, {title}, is made.",
   "ship.setThere": "Set {id}, {title}, was there.",
   "ship.failedFirst": "Nothing was made. Another press tries again.",
-  "ship.failedLater": "What is ticked is there. Another press goes on from here.",
+  "ship.failedLater": "Each ticked part is there. Another press goes on from here.",
   "ship.ready": "{title} is ready: {link}",
   "ship.planLink": "plan a rollout with it",
   "rollback.yes": "Roll back",

@@ -91,7 +91,7 @@ def refuse_changes(copy: earlier.Copied | None, drop: bool) -> None:
         changes = "\n".join(f"    {it}" for it in copy.changes[:20])
         raise Refused(
             f"{places.HAPROXY_CFG} was changed in more than its operators, port and certificate:\n{changes}\n"
-            "What of this you want belongs into a file of your own in /etc/fwdesk/haproxy.d. "
+            "Put the changes that you want into a file of your own in /etc/fwdesk/haproxy.d. "
             "--drop-changes goes on without it"
         )
 

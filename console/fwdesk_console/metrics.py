@@ -135,7 +135,7 @@ def text(console: "Console", orders: tuple[int, dict[str, int]] | None = None) -
     if used := console.stock.used():
         lines += metric(
             "fwdesk_used",
-            "What counts towards a limit of the desk.",
+            "How much counts towards each limit of the desk.",
             [({"of": it}, n) for it, n in used.items()],
         )
         lines += metric(

@@ -46,3 +46,15 @@ def test_the_first_row_of_a_table_begins_as_it_likes_and_no_other():
 
 def test_blocks_of_code_arent_read():
     same(found("It prints:\n\n    What is this\n\n```\nWhere is it\n```\n"), [])
+
+
+def test_texts_of_programs_and_manual_pages_are_read_and_labels_arent():
+    """A label ends without a stop, and what a module says of itself is for its developers."""
+    of = lambda name, text: [it for _, it in HEADLESS.headless_of(name, text)]
+    same(of("fwdesk.8", ".TP\n.I held.map\nWhat is held.\n.B Where\n"), ["What is held."])
+    shown = 'const A = { a: "What to do", b: "It is done. Who asks is told." };\n'
+    same(of("en.js", shown), ["Who asks is told."])
+    same(
+        of("a.py", '"""What it is."""\nprint(f"Of {1} this.", "Who", "What is new goes.")\n'),
+        ["What is new goes."],
+    )

@@ -260,14 +260,14 @@ def test_the_first_view_says_of_when_it_is_while_the_console_is_away(env, open_b
     env.plan("first view", groups=1)
     browser = open_browser(env, "#/now")
     browser.until("first view", "#runs")
-    assert "What is shown here is of" not in browser.text("main")
+    assert "This view is of" not in browser.text("main")
     assert browser.text("#asked").startswith("as of ")
     moment = lambda: sum(
         60**k * int(it) for k, it in enumerate(re.findall(r"\d+", browser.text("#asked"))[::-1])
     )
     env.kill(env.console)
     try:
-        browser.until("What is shown here is of", "main", 10)
+        browser.until("This view is of", "main", 10)
         told = moment()
         # the server is asked for what is held, and its answers make nothing else newer
         before = len(browser.asked())
@@ -275,7 +275,7 @@ def test_the_first_view_says_of_when_it_is_while_the_console_is_away(env, open_b
         assert abs(moment() - told) <= 1 and "first view" in browser.text("#runs")
     finally:
         env.console = env.start_console()
-    browser.until_not("What is shown here is of", "main", 20)
+    browser.until_not("This view is of", "main", 20)
     assert not browser.faults()
 
 
@@ -317,11 +317,11 @@ def test_a_dead_desk_and_a_full_disk_are_said_on_the_page(tmp_path, open_browser
         eventually("it is kept again", lambda: browser.text("#watching") == "", 60)
         env.kill(env.desk)
         browser.until("The server doesn't answer since ", "#watching", 60)
-        browser.until("What is shown here is of", "main")
+        browser.until("This view is of", "main")
         assert "said" in browser.text("#needs")
         env.desk = env.start_desk()
         eventually("it answers again", lambda: browser.text("#watching") == "", 60)
-        browser.until_not("What is shown here is of", "main")
+        browser.until_not("This view is of", "main")
         assert not browser.faults()
     finally:
         env.end()

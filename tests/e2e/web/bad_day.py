@@ -162,7 +162,7 @@ def behind_the_first_group(browser, env):
     entered(browser, env, "#/rollouts/2")
     words = (
         "4 of 4 are handed os 1-bad first: their older action, of rollout 1 (first), is open",
-        "Of the groups behind it are 2 of 8.",
+        "In the groups behind it are 2 of 8.",
         "6 wait in rollout 1 (first), which runs: it offers them os 1-bad when their group starts, "
         "unless it is paused.",
     )

@@ -421,7 +421,7 @@ def new_firmware_that_fails_in_the_middle(browser, env):
     browser.until("document.querySelector('#ship-told .bad')")
     assert browser.js(STEPS) == ["done", "failed", "later"]
     said = browser.text("#ship-told")
-    assert "Module 1, pump 2.1, is made." in said and "What is ticked is there." in said, said
+    assert "Module 1, pump 2.1, is made." in said and "Each ticked part is there." in said, said
     browser.js("XMLHttpRequest.prototype.send = window.line")
     browser.click("#ship button.main")
     browser.until("document.querySelector('#ship-told .ok')")
