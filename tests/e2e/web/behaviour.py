@@ -2,8 +2,8 @@
 import time
 
 from harness.processes import terminate
+from harness.proxies import LOGIN
 
-from .places import LOGIN
 from .steps import case, compared, confirmed, entered, saved
 
 # the roles of what is worked with or looked at: each has to have a name

@@ -1,7 +1,7 @@
 """The brake: pressed, shown to all who look, released. Not run by itself."""
 from harness.browser import Browser
+from harness.proxies import LOGIN
 
-from .places import LOGIN
 from .steps import case, confirmed, entered
 
 PLACES = (

@@ -3,8 +3,8 @@ import base64
 
 from harness import ROOT
 from harness.processes import HOST
+from harness.proxies import LOGIN
 
-from .places import LOGIN
 from .steps import case, compared, confirmed, entered
 
 SECURITY = {

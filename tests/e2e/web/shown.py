@@ -3,8 +3,8 @@ import signal
 import subprocess
 
 from harness import ROOT
+from harness.browser import PICTURES
 
-from .places import PICTURES
 from .steps import case, confirmed, entered
 
 # what devices say that failed

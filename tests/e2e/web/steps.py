@@ -1,7 +1,6 @@
 """The register of cases, and the steps that many of them take. Not run by itself."""
 from harness.processes import wait_for
-
-from .places import LOGIN
+from harness.proxies import LOGIN
 
 # each case by its name, with the ways of its environment
 CASES = {}

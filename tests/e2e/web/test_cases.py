@@ -10,8 +10,8 @@ from types import SimpleNamespace
 
 import pytest
 from harness import ROOT
+from harness.proxies import Environment
 
-from .environment import Environment
 from .steps import CASES
 
 # the files of cases, each of which registers its own

@@ -1,5 +1,4 @@
-"""Operators as a keeper writes them into the proxies' configurations: for tests/e2e/web and roles,
-and not run by itself."""
+"""Operators as a keeper writes them into the proxies' configurations. Not run by itself."""
 
 # what a configuration has for its one operator, and what it has in place of that: some first line, and a line for each,
 # or for each in a group
