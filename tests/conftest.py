@@ -31,6 +31,8 @@ COURSES = ("e2e/systemd/timers", "e2e/systemd/units", "e2e/fleets/run", "e2e/fai
 TALLY = re.compile(r"(\d+) passed, (\d+) failed")
 # the line by which such a script tells how a check ended
 ENDED = re.compile(r"(passed|FAILED) ([^\s,:]+)")
+# a part of the gate may take so many times as long as another test
+GATE = 6
 # how long a script that is ended may take for that, in seconds: it switches machines off
 ENDING = 120
 
@@ -75,7 +77,7 @@ def pytest_collection_modifyitems(items: list[pytest.Item]) -> None:
 @contextlib.contextmanager
 def limit(item: pytest.Item) -> Iterator[None]:
     """Fails what takes longer, again and again if it goes on. pytest's failure is no `Exception`: no test takes it for its own."""
-    seconds = item.config.getoption("--limit")
+    seconds = item.config.getoption("--limit") * getattr(item, "patience", 1)
 
     def fail(*_: object) -> None:
         pytest.fail(f"not within {seconds} s")
@@ -239,6 +241,8 @@ def end(child: subprocess.Popen[str]) -> None:
 class Words(pytest.Item):
     """A command as a test: its last line is 'N passed, 0 failed', and N is `least` at least."""
 
+    patience = 1
+
     def __init__(self, *, words: list[str], least: int = 1, **more: Any):
         super().__init__(**more)
         self.words, self.least = words, least
@@ -373,7 +377,8 @@ class Gate(pytest.File):
     def collect(self) -> Iterator[Words]:
         text = (ROOT / ".ci/run").read_text(encoding="utf-8").replace("\\\n", " ")
         parts = {
-            it[1] or it[2]: it[3] for it in re.finditer(r'(?m)^part (?:"([^"]+)"|(\S+)) (.*)', text)
+            it[1] or it[2]: it[3].replace(" --as-proved", "")
+            for it in re.finditer(r'(?m)^(?:part|begin) (?:"([^"]+)"|(\S+)) (.*)', text)
         }
         for line in self.path.read_text(encoding="utf-8").splitlines():
             name, _, rest = (it.strip() for it in line.partition("|"))
@@ -385,6 +390,7 @@ class Gate(pytest.File):
                     least=int(rest.partition("|")[0]),
                 )
                 made.add_marker("gate")
+                made.patience = GATE
                 yield made
 
 

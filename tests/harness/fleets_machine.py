@@ -221,9 +221,7 @@ def requests(names, devices, stop):
 def crowd(names, devices, clients, stop, tell):
     """So many clients over kept connections, in a process of their own."""
     alike = requests(names, devices, stop)
-    them = Crowd(
-        LOCAL, [Client("127.0.200.1", alike) for _ in range(clients)]
-    )
+    them = Crowd(LOCAL, [Client("127.0.200.1", alike) for _ in range(clients)])
     waiting = them.run(LONGEST)
     them.waits.sort()
     tell.send(
