@@ -22,7 +22,8 @@ HERE = Path(__file__).resolve().parent
 # the folders of e2e whose tests are for root alone, and those that take minutes
 FOR_ROOT = {"systemd", "fleets", "failover", "package"}
 SLOW = {*FOR_ROOT, "devices", "device_client", "web", "hold-chaos", "mtls"}
-# the folders whose tests each have what they need; elsewhere those of a file share it, so that one worker runs them
+# the folders whose tests each have what they need, as each check of SCRIPTS has; elsewhere those of a file share it, so that
+# one worker runs them
 APART = {"cli", "web", "unit", "wire"}
 # scripts whose checks are tests: `--list` prints a name a line, and names as arguments run those checks alone
 SCRIPTS = ("e2e/proxy/roles", "e2e/proxy/mtls", "e2e/proxy/hold-chaos", "e2e/devices/run")
@@ -67,7 +68,7 @@ def pytest_collection_modifyitems(items: list[pytest.Item]) -> None:
                 it.add_marker(pytest.mark.skip(reason="for root alone"))
         if parts & SLOW:
             it.add_marker("slow")
-        if not parts & APART:
+        if not parts & APART and not (isinstance(it, Words) and isinstance(it.parent, Script)):
             it.add_marker(pytest.mark.xdist_group(str(it.path)))
 
 
