@@ -113,7 +113,7 @@ def exchange(
     """Asks once over a connection that is kept. A list or a map goes as JSON."""
     sent = json.dumps(body).encode() if isinstance(body, dict | list) else body
     # a server that refuses a body unread answers, and closes
-    with contextlib.suppress(BrokenPipeError):
+    with contextlib.suppress(BrokenPipeError, ssl.SSLEOFError):
         link.request(method, path, sent, fields or {})  # type: ignore[arg-type]
     reply = link.getresponse()
     return Reply(reply.status, reply.read(), {k.lower(): v for k, v in reply.getheaders()})
