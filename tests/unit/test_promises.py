@@ -1,4 +1,4 @@
-"""Tests of tools/lint/promises: what its head says of the rows of docs/PROVED.md."""
+"""Tests of tools/lint/promises: what its head says of the rows of docs/PROVED.md and docs/proved/*.md."""
 from pathlib import Path
 
 from as_module import as_module
@@ -81,3 +81,8 @@ def test_a_gap_that_isnt_there():
 def test_only_tables_of_promises_have_rows():
     page = "| A | B |\n|---|---|\n| a | b |\n\n| Promise | Clause of `c` | Mutant | Gaps |\n|---|---|---|---|\n| a | `f` | none | |\n"
     same(list(PROMISES.rows(page)), [(7, "c", ["a", "`f`", "none", ""])])
+
+
+def test_the_pages_of_the_parts_are_read_too():
+    same({it.name for it in PROMISES.PAGES} >= {"PROVED.md", "DESK.md", "STORE.md"}, True)
+    same({it for it, *_ in PROMISES.all_rows(PROMISES.PAGES)}, set(PROMISES.PAGES))
