@@ -80,7 +80,7 @@ pub use Rattle.desk_views.specs.Downloads.{downloadable, named, or_not_found}
 pub use Rattle.desk_views.specs.Groups.{HasUnshown, IsGroupOf}
 pub use Rattle.desk_views.specs.Sizes.{IsOfName}
 pub use Rattle.desk_views.specs.TargetWords.{ending_of, has_begun, is_begun, last_ended}
-pub use Rattle.desk_views.specs.Targets.{matching_shown, worded}
+pub use Rattle.desk_views.specs.Targets.{IsContentOf, matching_shown, worded}
 pub use Rattle.desk_store.proofs.FailLemmas.{has_dropped, has_taken}
 pub use Rattle.desk_store.proofs.ActionCalls.{kept_from, kept_to}
 pub use Rattle.std.proofs.Math.Bool.{or-true}

@@ -3,8 +3,8 @@ use Rattle.desk_views.proofs.Common.{◌≡◌, ℕ, ◌+◌, ◌-◌, ◌&&◌,
 use Rattle.desk_views.proofs.Common.{take, drop, Some, None, refl, sym, ap, ◌∙◌, append_assoc, arith, length-drop, Vec, drop-append-le, drop_all}
 use Rattle.desk_views.proofs.Common.{length-append, map-append, take-append-le, take_all, Global, query_reply, targets_matching, Bytes, matches, seen, page_of}
 use Rattle.desk_views.proofs.Common.{target_shown, targets_shown, Records, PageOf, TargetsShown, Page, ShowTargets, Target, listed, reply_of, shown_target}
-use Rattle.desk_views.proofs.Common.{ShownTarget, Tree, filter_of, listed_target, matching_shown, worded, target_listed, part_seen}
-use Rattle.desk_views.proofs.Common.{ListedTarget, cases_lt, inl, inr, nat_tests}
+use Rattle.desk_views.proofs.Common.{ShownTarget, Tree, filter_of, listed_target, IsContentOf, matching_shown, worded, target_listed, part_seen}
+use Rattle.desk_views.proofs.Common.{ListedTarget, cases_lt, inl, inr, nat_tests, length-map}
 use Rattle.desk_views.proofs.PageLemmas.{page_mapped}
 use Rattle.std.proofs.lemmas.List.Elements.{filter-append}
 use Rattle.rollout_model.specs.declared.page.PageOf.{PageOf as RustPageOf}
@@ -30,12 +30,16 @@ module _ (r : Records) where
 
   -- ---- all targets
 
-  pub all_replied : (page : Page) (entries : List ListedTarget) (items : Vec ShownTarget Global) (total : ℕ) → are_sorted r.targets ≡ true
-      → total ≡ length r.targets
-      → entries ≡ map listed_target (take page.limit (drop page.offset r.targets)) → items.items ≡ map (worded r) (map (target_listed r) entries)
+  pub content_is : (page : Page) (entries : List ListedTarget) (items : List ShownTarget) → are_sorted r.targets ≡ true
+      → entries ≡ map listed_target (take page.limit (drop page.offset r.targets)) → items ≡ map (worded r) (map (target_listed r) entries)
+      → IsContentOf page r items
+  content_is page entries items sorted listed is = ap (λ (p : PageOf _). p.content) (page_mapped (target_shown r) page r.targets
+      (take page.limit (drop page.offset r.targets)) _ _ (length r.targets) (sym (shown_map r.targets)) refl (grind (arith, part_seen, all_shown, shown_map))
+      refl)
+
+  pub all_replied : (page : Page) (items : Vec ShownTarget Global) (total : ℕ) → total ≡ length r.targets → IsContentOf page r items.items
       → reply_of (reply.Targets (record { content = items; total = total })) ≡ query_reply r (ShowTargets None page)
-  all_replied page entries items total sorted count listed is = ap TargetsShown (page_mapped (target_shown r) page r.targets
-      (take page.limit (drop page.offset r.targets)) _ _ total (sym (shown_map r.targets)) refl (grind (arith, part_seen, all_shown, shown_map)) count)
+  all_replied page items total count is = grind (arith, shown_map, length-map)
 
   -- ---- those that match
 

@@ -1,7 +1,10 @@
 -- Targets as they are read, matched and shown.
-use Rattle.std.specs.Prelude.{List, map, filter}
+use Rattle.std.specs.Prelude.{◌≡◌, List, map, filter}
+use Rattle.rollout_machine.specs.Objects.{page_of, targets_shown}
 use Rattle.rollout_machine.specs.Records.{Records}
+use Rattle.rollout_machine.specs.Requests.{Page}
 use Rattle.rollout_machine.specs.StateWords.{target_word}
+use Rattle.rollout_machine.specs.Views.{shown_target}
 use Rattle.rollout_model.specs.declared.shown_target.ShownTarget.{ShownTarget}
 use Rattle.rollout_model.specs.declared.target.Target.{Target}
 use Rattle.target_filter.specs.Grammar.{Tree}
@@ -14,3 +17,7 @@ worded r t = record { id = t.id; name = t.name; tags = t.tags; attributes = t.at
 -- those of these targets that match, as they are shown
 abbrev pub matching_shown : Records → Tree → List Target → List ShownTarget
 matching_shown r f ts = map (worded r) (filter (holds f) ts)
+
+-- these targets are those on the page of all
+abbrev pub IsContentOf : Page → Records → List ShownTarget → Type 0
+IsContentOf page r items = map shown_target items ≡ (page_of page (targets_shown r r.targets)).content

@@ -10,7 +10,7 @@ ghost use Rattle.rollout_model.specs.declared.shown_target.ShownTarget.{ShownTar
 ghost use Rattle.target_filter.specs.Grammar.{Tree};
 ghost use Rattle.target_filter.specs.Profile.{filter_of};
 ghost use Rattle.desk_reads.specs.AtLists.{FailsAtListsIn, FailsWith};
-ghost use Rattle.desk_views.specs.Targets.{matching_shown, worded};
+ghost use Rattle.desk_views.specs.Targets.{IsContentOf, matching_shown, worded};
 ghost use Rattle.desk_records.specs.Targets.{in_byte_order};
 ghost use Rattle.desk_reads.specs.Targets.{IsNamedBy, listed_ids, parts_left, target_listed, with_rest};
 ghost use Rattle.desk_store.specs.Changing.{FindsIn, StaysIn};
@@ -52,9 +52,23 @@ fn show_all<S: Alter>(
     ensures fails { FailsAtListsIn S.Store change.old change.new result }
 {
     let total = change.read_target_count()?;
+    let content = read_target_page(alloc, change, page)?;
+    Ok(Reply::Targets(PageOf { content, total }))
+}
+
+/// The targets on a page of all, in byte order of their ids. How many there are isn't read.
+pub fn read_target_page<S: Alter>(
+    alloc: Global,
+    change: &mut OpenChange<'_, S>,
+    page: Page,
+) -> Result<Vec<ShownTarget>, Fault>
+    ensures stays { StaysIn S.Store change.old change.new result }
+    ensures reads { FindsIn S.Store change.old change.new result (λ now content. IsContentOf page now content.items) }
+    ensures fails { FailsAtListsIn S.Store change.old change.new result }
+{
     let entries = change.read_targets(page)?;
     let content = read_entries(alloc, change, entries)?;
-    Ok(Reply::Targets(PageOf { content, total }))
+    Ok(content)
 }
 
 /// Targets that were listed, as they are shown.

@@ -66,7 +66,7 @@ module _ (h : CommandList) (valid : IsValid h) (s : State) (request : Request) (
   failed : IsFailure reply → IsAtRest HoldsRecords s (records h) → AppliesAt h (desk_state_at HoldsRecords (is_failed_store reply) s) (Asks request) reply
   failed h0 rest = grind (arith, without_memory, left_alone)
 
-  answered : (accepted : Option Command) → record { reply = reply; accepted = accepted } ≡ answer h (Asks request)
+  pub answered : (accepted : Option Command) → record { reply = reply; accepted = accepted } ≡ answer h (Asks request)
       → StandsFor (desk_state_at HoldsRecords false s) (followed_by h (one accepted)) → AppliesAt h (desk_state_at HoldsRecords (is_failed_store reply) s)
       (Asks request) reply
   answered accepted is standing = grind (arith, failed, answer_never_stores, accepted, becomes_list)

@@ -1,5 +1,5 @@
 -- Why a request's failed store is a call that failed: what was blamed inside its change, and how the change ended.
-use Rattle.rollout_desk.proofs.Common.{◌≡◌, ◌≢◌, ◌≤◌, ◌⊎◌, Bool, false, Option, None, Ok, refl, sym, subst, ap, ◌∙◌, arith, state}
+use Rattle.rollout_desk.proofs.Common.{◌≡◌, ◌≢◌, ◌≤◌, ◌⊎◌, ℕ, Bool, false, Option, None, Ok, refl, sym, subst, ap, ◌∙◌, arith, state}
 use Rattle.rollout_desk.proofs.Common.{Ghosts, State, HasCleanDisk, Begins, Sees, Wears, Fault, rest_shows, HoldsLedger, HoldsRecords, Ledger}
 use Rattle.rollout_desk.proofs.Common.{ledger_of, OpenChange, Answer, answer, CommandList, Command, records, Reply, Refused, Refusal, Request, Do, Ask, Query}
 use Rattle.rollout_desk.proofs.Common.{Asks, reply_of, query_answer, refused_answer, accepted_step, IsValid, StandsFor, StoreFailed, Broken}
@@ -25,7 +25,9 @@ use Rattle.rollout_desk.specs.declared.desk.Desk.{Desk}
 use Rattle.contents_handler.specs.Failures.{HasCause, HasCauseHanding}
 use Rattle.contents_handler.specs.declared.download.Download.{Download}
 use Rattle.sqlite_rules.proofs.ListLemmas.{all_has}
+use Rattle.rollout_desk.specs.Desks.{desk_state_knowing}
 use Rattle.rollout_desk.proofs.ApplyLemmas.{stood}
+use Rattle.rollout_desk.proofs.KnowingLemmas.{unknowing}
 use Rattle.rollout_desk.proofs.VerifyLemmas.{failed_within, stored}
 
 -- the machine never answers so
@@ -83,9 +85,10 @@ pub of_list : (h : CommandList) → IsValid h → AreCounted (records h) → Rea
 of_list h valid counted = record { readable = readable h valid counted; given = record { list = h; valid = valid; is = refl } }
 
 -- a desk that isn't stopped stands by its connection
-pub stands_running : (s : State) (was : Bool) (h : CommandList) → was ≡ false → StandsFor (desk_state_at HoldsRecords was s) h
+pub stands_running : (s : State) (known : Option ℕ) (was : Bool) (h : CommandList) → was ≡ false → StandsFor (desk_state_knowing HoldsRecords known was s) h
     → StandsFor (desk_state_at HoldsRecords false s) h
-stands_running s was h runs stands = subst (λ (b : Bool). StandsFor (desk_state_at HoldsRecords b s) h) runs stands
+stands_running s known was h runs stands =
+    subst (λ (b : Bool). StandsFor (desk_state_at HoldsRecords b s) h) runs (unknowing HoldsRecords known was s h stands)
 
 -- ---- what the server calls
 

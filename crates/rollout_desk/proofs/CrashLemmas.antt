@@ -1,6 +1,8 @@
 -- From what a crash leaves of a desk's files to the desk that is reopened over it.
-use Rattle.rollout_desk.proofs.Common.{◌≡◌, Bool, IsTrue, sym, subst, ◌∙◌, arith, Files, Image, Trees, AreClean, FileStore, files, recovers, view, faults}
-use Rattle.rollout_desk.proofs.Common.{is_shielded, Held, AreDatabases, State, HoldsDatabase, file_state, HoldsRecords, desk_state_at, AllHold, GoesOnOver}
+use Rattle.rollout_desk.proofs.Common.{◌≡◌, ℕ, Bool, Option, IsTrue, sym, subst, ◌∙◌, arith, Files, Image, Trees, AreClean, FileStore, files, recovers, view}
+use Rattle.rollout_desk.proofs.Common.{faults}
+use Rattle.rollout_desk.proofs.Common.{is_shielded, Held, AreDatabases, State, HoldsDatabase, file_state, HoldsRecords, DeskState, AllHold, GoesOnOver}
+use Rattle.rollout_desk.specs.Desks.{desk_state_knowing}
 use Rattle.std.proofs.Math.Logic.{∥∥₁_map}
 use Rattle.sqlite_disk.specs.declared.Disk.{Ghosts}
 use Rattle.sqlite.specs.WalFiles.{outcomes}
@@ -13,20 +15,22 @@ use Rattle.sqlite.proofs.Theorems.{opens_again}
 abbrev LeavesFiles : State → (Image → Type 0) → Type 0
 LeavesFiles s images = (image : Image) → images image → ∥ ((file : Trees) × s.may_leave file × HoldsDatabase image file) ∥₁
 
-module _ (stopped : Bool) (s : State) (images : Image → Type 0) (leaves : LeavesFiles s images) (running : Bool) (t : State) where
-  goes_on : GoesOnOver images (desk_state_at HoldsRecords stopped s) (desk_state_at HoldsRecords running t)
-  goes_on image may approval reopens clean =
-      ∥∥₁_map (leaves image may) (λ it. record { file = it.0; left = it.1; stands = λ h held. reopens.holds it.0 h ∣ it.2 ∣₁ held clean })
+module _ (known : Option ℕ) (stopped : Bool) (s : State) (images : Image → Type 0) (leaves : LeavesFiles s images) (knows : Option ℕ) (running : Bool)
+    (t : State)
+  where
+    goes_on : GoesOnOver images (desk_state_knowing HoldsRecords known stopped s) (desk_state_knowing HoldsRecords knows running t)
+    goes_on image may approval reopens clean =
+        ∥∥₁_map (leaves image may) (λ it. record { file = it.0; left = it.1; stands = λ h held. reopens.holds it.0 h ∣ it.2 ∣₁ held clean })
 
 -- what holds a list is a database
-are_databases : (stopped : Bool) (s : State) → AllHold (desk_state_at HoldsRecords stopped s) → AreDatabases s.may_leave
-are_databases stopped s all file may = let (schema, (v, holds)) = (all file may).1.1 in (schema, holds.sound)
+are_databases : (known : Option ℕ) (stopped : Bool) (s : State) → AllHold (desk_state_knowing HoldsRecords known stopped s) → AreDatabases s.may_leave
+are_databases known stopped s all file may = let (schema, (v, holds)) = (all file may).1.1 in (schema, holds.sound)
 
 module _ {D : Type 0} {g : Ghosts D} (given old : Held (FileStore D g)) (same : given ≡ old) (now : FileStore D g) (back : Files D)
     (is : (back.log, back.db) ≡ files now)
     (numbered : IsClean (view now) → IsTrue (view now).is_numbered) (sound : IsClean (view now) → AreDatabases (recovers now))
     (undone : IsRolledBack (view given.store) (view now)) (quiet : IsQuiet view faults recovers is_shielded given.store now)
-    (clean : AreClean g back.log back.db) (stopped : Bool) where
+    (clean : AreClean g back.log back.db) (known : Option ℕ) (stopped : Bool) where
   sure : IsClean (view now)
   sure = no_doubt _ (clean_is now.pool ∙ subst (λ p. AreClean g p.0 p.1) is clean)
 
@@ -41,17 +45,18 @@ module _ {D : Type 0} {g : Ghosts D} (given old : Held (FileStore D g)) (same : 
       let here = may_leave_is given.store.pool image (sym (clean_is given.store.pool) ∙ clean_of _ was) may in
       opens_again given.store (sym undone.numbered ∙ numbered sure) are image here
 
-  pub goes_on_after : (running : Bool) (t : State) → GoesOnOver (outcomes g back.log back.db) (desk_state_at HoldsRecords stopped (file_state old))
-      (desk_state_at HoldsRecords running t)
-  goes_on_after running t =
-      subst (λ c. GoesOnOver (outcomes g back.log back.db) (desk_state_at HoldsRecords stopped (file_state c)) (desk_state_at HoldsRecords running t)) same
-      (goes_on stopped (file_state given) _ left_after running t)
+  module _ (knows : Option ℕ) (running : Bool) (t : State) where
+    abbrev Next : DeskState Trees
+    Next = desk_state_knowing HoldsRecords knows running t
 
-  pub goes_on_before : (running : Bool) (t : State) → AllHold (desk_state_at HoldsRecords stopped (file_state old))
-      → GoesOnOver (outcomes g (files old.store).0 (files old.store).1) (desk_state_at HoldsRecords stopped (file_state old))
-      (desk_state_at HoldsRecords running t)
-  goes_on_before running t =
-      subst (λ c. AllHold (desk_state_at HoldsRecords stopped (file_state c))
-      → GoesOnOver (outcomes g (files c.store).0 (files c.store).1) (desk_state_at HoldsRecords stopped (file_state c))
-      (desk_state_at HoldsRecords running t)) same
-      (λ all. goes_on stopped (file_state given) _ (left_before (are_databases stopped (file_state given) all)) running t)
+    pub goes_on_after : GoesOnOver (outcomes g back.log back.db) (desk_state_knowing HoldsRecords known stopped (file_state old)) Next
+    goes_on_after =
+        subst (λ c. GoesOnOver (outcomes g back.log back.db) (desk_state_knowing HoldsRecords known stopped (file_state c)) Next) same
+        (goes_on known stopped (file_state given) _ left_after knows running t)
+
+    pub goes_on_before : AllHold (desk_state_knowing HoldsRecords known stopped (file_state old))
+        → GoesOnOver (outcomes g (files old.store).0 (files old.store).1) (desk_state_knowing HoldsRecords known stopped (file_state old)) Next
+    goes_on_before =
+        subst (λ c. AllHold (desk_state_knowing HoldsRecords known stopped (file_state c))
+        → GoesOnOver (outcomes g (files c.store).0 (files c.store).1) (desk_state_knowing HoldsRecords known stopped (file_state c)) Next) same
+        (λ all. goes_on known stopped (file_state given) _ (left_before (are_databases known stopped (file_state given) all)) knows running t)

@@ -6,7 +6,7 @@ use Rattle.rollout_desk.proofs.Common.{followed_by, Bytes, Command, Credential, 
 use Rattle.rollout_desk.proofs.Common.{ArtifactShown, ContentsShown, Ask, Asks, Request, ShowArtifact, ShowContents, one, DeskState, StandsFor, Applies}
 use Rattle.rollout_desk.proofs.Common.{reply_of, query_answer, piece_length, Refusal, StoreFailed, desk_state_at, sent, next_length, BeginsAt}
 use Rattle.rollout_desk.proofs.Common.{HandsPieces, artifact_in, BeginsOffered, HandsItsArtifact, IsNextOf, RefusesContents, DownloadsGoOn, FindsDownload}
-use Rattle.rollout_desk.proofs.Common.{Looks, bytes_of, IsPromised, length, length-take, length-drop, Sends, HasCleanDisk, Ghosts, state}
+use Rattle.rollout_desk.proofs.Common.{is_store, IsAtRest, Looks, bytes_of, IsPromised, length, length-take, length-drop, Sends, HasCleanDisk, Ghosts, state}
 use Rattle.desk_views.specs.Downloads.{downloadable}
 use Rattle.desk_views.proofs.DeviceViews.{answered_by}
 use Rattle.rollout_machine.specs.Objects.{artifact_shown}
@@ -17,7 +17,10 @@ use Rattle.rollout_model.specs.declared.request.Reply as model
 use Rattle.contents_handler.specs.declared.download.Download.{Download}
 use Rattle.rollout_desk.specs.Downloads.{Begins}
 use Rattle.rollout_desk.specs.Looks.{IsOtherThan, Looked, ReadsDownload}
+use Rattle.rollout_desk.specs.Desks.{desk_state_knowing}
 use Rattle.rollout_desk.proofs.ApplyLemmas.{rests_records, shown, stands, stood, unshown}
+use Rattle.rollout_desk.proofs.KnowingLemmas.{after, knowing, unknowing}
+use Rattle.rollout_desk.proofs.DeskLemmas.{answers_knowing}
 use Rattle.sql_calls.specs.declared.calls.Calls.{Calls}
 use Rattle.rollout_desk.specs.Causes.{FailsByCalls}
 use Rattle.rollout_desk.proofs.PromiseLemmas.{downloaded}
@@ -35,16 +38,22 @@ one_more p = record p { pieces = p.pieces + 1 }
 abbrev IsNextPiece : Download → Records → Option (Vec ℕ Global) → Type 0
 IsNextPiece p r found = bytes_of found ≡ piece_numbered r.artifacts p.number (p.pieces + 1)
 
-module _ (was : Bool) (a b : State) (p : Download) where
+module _ (known : Option ℕ) (was : Bool) (a b : State) (p : Download) where
+  -- what stands again, and knows what it knew
+  again : (h : CommandList) → StandsFor (desk_state_knowing HoldsRecords known was a) h → was ≡ false → IsAtRest HoldsRecords b (records h)
+      → StandsFor (desk_state_knowing HoldsRecords known was b) h
+  again h standing runs rests = subst (λ (x : Bool). StandsFor (desk_state_knowing HoldsRecords known x b) h) (sym runs)
+      (knowing HoldsRecords known false b h (stands b h standing.valid rests) standing.shows.1)
+
   pub handed : (found : Found) (piece : Vec ℕ Global) → Looks HoldsRecords a b found (IsNextPiece p) → found ≡ Ok (Some piece) → 1 ≤ next_length p → was ≡ false
-      → HandsPieces (desk_state_at HoldsRecords was a) (desk_state_at HoldsRecords was b) p (one_more p) (Ok (Some piece))
+      → HandsPieces (desk_state_knowing HoldsRecords known was a) (desk_state_knowing HoldsRecords known was b) p (one_more p) (Ok (Some piece))
   handed found piece look is more runs h contents clean standing sends =
       let looked : Looks HoldsRecords a b (Ok (Some piece)) (IsNextPiece p) = subst (λ x. Looks HoldsRecords a b x (IsNextPiece p)) is look in
-      let it = looked.looks (records h) (λ _. standing.shows) in
+      let it = looked.looks (records h) (λ _. standing.shows.0) in
       let before : p.pieces * piece_length < p.size = omega (arith, more) in
       let next : piece.items ≡ take piece_length (drop (p.pieces * piece_length) contents) = piece_is (records h) p.number p.pieces contents piece.items
       sends.artifact (it.1 clean) in (
-        subst (λ (x : Bool). StandsFor (desk_state_at HoldsRecords x b) h) (sym runs) (stands b h standing.valid (it.0 clean)),
+        again h standing runs (it.0 clean),
         record { artifact = sends.artifact; size = sends.size },
         record {
           next = next ∙ ap (λ n. take piece_length (drop n contents)) (sym (so_far contents p.size p.pieces sends.size before));
@@ -65,17 +74,20 @@ next_of h p piece is = elim (item_numbered (records h).artifacts p.number) as (�
       record { contents = a.contents; artifact = has; next = piece_is (records h) p.number p.pieces a.contents piece has is }
 ] refl
 
-module _ (was : Bool) (a b : State) (p : Download) where
+module _ (known : Option ℕ) (was : Bool) (a b : State) (p : Download) where
   pub own_piece : (found : Found) (piece : Vec ℕ Global) → Looks HoldsRecords a b found (IsNextPiece p) → found ≡ Ok (Some piece) → was ≡ false
-      → HandsItsArtifact (desk_state_at HoldsRecords was a) (desk_state_at HoldsRecords was b) p (Ok (Some piece))
-  own_piece found piece look is runs h clean standing = grind (arith, next_of)
+      → HandsItsArtifact (desk_state_knowing HoldsRecords known was a) (desk_state_knowing HoldsRecords known was b) p (Ok (Some piece))
+  own_piece found piece look is runs h clean standing =
+      let looked : Looks HoldsRecords a b (Ok (Some piece)) (IsNextPiece p) = subst (λ x. Looks HoldsRecords a b x (IsNextPiece p)) is look in
+      let it = looked.looks (records h) (λ _. standing.shows.0) in
+      (again known was a b p h standing runs (it.0 clean), next_of h p piece.items (it.1 clean))
 
   -- a list's contents have the piece, of its length
   pub never_other : (found : Found) → Looks HoldsRecords a b found (IsNextPiece p) → 1 ≤ next_length p → (h : CommandList) (contents : Bytes) → HasCleanDisk b
-      → StandsFor (desk_state_at HoldsRecords was a) h → Sends h p contents
+      → StandsFor (desk_state_knowing HoldsRecords known was a) h → Sends h p contents
       → IsOtherThan (next_length p) found → ⊥
   never_other (Ok x) look more h contents clean standing sends other =
-      go x other ((look.looks (records h) (λ _. standing.shows)).1 clean ∙ piece_there (records h) p.number p.pieces contents sends.artifact
+      go x other ((look.looks (records h) (λ _. standing.shows.0)).1 clean ∙ piece_there (records h) p.number p.pieces contents sends.artifact
       (omega (arith, more, sends.size)))
     where
       go : (x : Option (Vec ℕ Global)) → IsOtherThan (next_length p) (Ok x) → bytes_of x ≡ Some (take piece_length (drop (p.pieces * piece_length) contents))
@@ -204,14 +216,16 @@ module _ (a : State) (device : Credential) (m : ℕ) (filename : Bytes) where
   request = Ask (DownloadOf device m filename)
 
   -- of a desk that runs
-  module _ (was : Bool) (runs : was ≡ false) (b : State) where
+  module _ (known : Option ℕ) (was : Bool) (runs : was ≡ false) (b : State) where
     pub offered_begins : (s : Artifact) → FindsDownload HoldsRecords a b device m filename (Ok s)
-        → Begins (desk_state_at HoldsRecords was a) (desk_state_at HoldsRecords was b) (Asks request)
+        → Begins (desk_state_knowing HoldsRecords known was a) (desk_state_knowing HoldsRecords known was b) (Asks request)
         (Ok (record { number = s.number; size = s.size; pieces = 0 }))
     offered_begins s found h clean standing =
-        let it = found.finds h clean (subst (λ (x : Bool). StandsFor (desk_state_at HoldsRecords x a) h) runs standing) in
+        let it = found.finds h clean
+        (subst (λ (x : Bool). StandsFor (desk_state_at HoldsRecords x a) h) runs (unknowing HoldsRecords known was a h standing)) in
         let of = answered_by m filename (records h) device (Ok s) it.1 in record {
-          stands = subst (λ (x : Bool). StandsFor (desk_state_at HoldsRecords x b) h) (sym runs) it.0;
+          stands = subst (λ (x : Bool). StandsFor (desk_state_knowing HoldsRecords known x b) h) (sym runs)
+              (knowing HoldsRecords known false b h it.0 standing.shows.1);
           contents = of.0.contents;
           answer = query_answer h (DownloadOf device m filename) ∙ ap answered of.1;
           sends = record { artifact = ap (option_map (λ (x : ArtifactRecord). x.contents)) of.2; size = of.3 ∙ size_is h s.number of.0 of.2 };
@@ -220,7 +234,7 @@ module _ (a : State) (device : Credential) (m : ℕ) (filename : Bytes) where
 
     -- .. of what the device is offered
     pub offered_to_it : (s : Artifact) → FindsDownload HoldsRecords a b device m filename (Ok s)
-        → IsPromised (desk_state_at HoldsRecords was a) (desk_state_at HoldsRecords was b)
+        → IsPromised (desk_state_knowing HoldsRecords known was a) (desk_state_knowing HoldsRecords known was b)
         (λ h. BeginsOffered h (DownloadOf device m filename) (record { number = s.number; size = s.size; pieces = 0 }))
     offered_to_it s found h clean standing = let it = offered_begins s found h clean standing in (
       it.contents,
@@ -228,6 +242,13 @@ module _ (a : State) (device : Credential) (m : ℕ) (filename : Bytes) where
       downloaded h device m filename it.contents
           (ap (λ (a : Answer). a.reply) (sym (query_answer h (DownloadOf device m filename)) ∙ it.answer)),
     )
+
+    -- .. or is refused
+    pub offered_refused : (refusal : Refusal) (stopped : Bool) → stopped ≡ is_store refusal → FindsDownload HoldsRecords a b device m filename (Err refusal)
+        → Applies (desk_state_knowing HoldsRecords known was a) (desk_state_knowing HoldsRecords known stopped b) (Asks request) (Refused refusal)
+    offered_refused refusal stopped is found = answers_knowing HoldsRecords known known a b was stopped request (Refused refusal) runs
+        (λ h clean standing. found.finds h clean (unknowing HoldsRecords known false a h standing)) is
+        (after known (DownloadOf device m filename) (Refused refusal))
 
 -- ---- later commands
 

@@ -1,8 +1,10 @@
 -- From the calls of the store to a look at the records.
-use Rattle.rollout_desk.proofs.Common.{◌≡◌, ◌⊎◌, inl, inr, Bool, None, Ok, Err, Result, sym, ap, subst, ◌∙◌, arith, Trees, State, HasCleanDisk, Begins}
+use Rattle.rollout_desk.proofs.Common.{◌≡◌, ◌⊎◌, inl, inr, ℕ, Bool, false, Option, None, Ok, Err, Result, sym, ap, subst, ◌∙◌, arith, Trees, State}
+use Rattle.rollout_desk.proofs.Common.{HasCleanDisk, Begins}
 use Rattle.rollout_desk.proofs.Common.{Doubts, HoldIn, Opens, Rests, Spoiled, Wears, rest_shows, Fault, Broken, HoldsLedger}
 use Rattle.rollout_desk.proofs.Common.{HoldsRecords, Ledger, ledger_of, CommandList, Records, records, Refused, Becomes, DeskState, IsInDoubt, StandsFor}
-use Rattle.rollout_desk.proofs.Common.{is_store, Refusal, NoMemory, StoreFailed, Looks, EndsLook, refusal_of_fault, desk_state_at}
+use Rattle.rollout_desk.proofs.Common.{is_store, Refusal, NoMemory, StoreFailed, Looks, EndsLook, refusal_of_fault}
+use Rattle.rollout_desk.proofs.Common.{refl, Answer, AppliesAt, Asks, Ask, Query, query_answer}
 use Rattle.rollout_desk.proofs.Common.{◌≤◌, Ghosts, IsValid, OpenChange, Sees, HoldsTables, state}
 use Rattle.sql_calls.specs.Calls.{Grows, failures_of}
 use Rattle.sql_calls.specs.declared.calls.Calls.{Calls}
@@ -12,8 +14,10 @@ use Rattle.desk_store.specs.Breaking.{BreaksOnly}
 use Rattle.desk_store.specs.Changing.{seen_in}
 use Rattle.desk_store.specs.Failing.{nothing}
 use Rattle.rollout_desk.specs.Causes.{FailsByCalls}
+use Rattle.rollout_desk.specs.Desks.{desk_state_knowing}
 use Rattle.rollout_desk.specs.Looks.{FoundIn, Looked, LookedTo}
 use Rattle.rollout_desk.proofs.ApplyLemmas.{readable, rests_ledger, rests_records, stands, stood}
+use Rattle.rollout_desk.proofs.KnowingLemmas.{knowing}
 use Rattle.rollout_desk.proofs.VerifyLemmas.{failed_within}
 
 -- ---- what was found in a change
@@ -84,30 +88,30 @@ module _ {S : Type 0} (g : Ghosts S) {A : Type 0} (Finds : OpenChange S → Open
 
 -- ---- a look that is refused
 
-module _ {A : Type 0} (was : Bool) (a b : State) (Answer : Records → A → Type 0) where
+module _ {A : Type 0} (known : Option ℕ) (was : Bool) (a b : State) (Answer : Records → A → Type 0) where
   -- whatever a look finds, a crash leaves what stood
   left_by : (found : Result A Refusal) → Looks HoldsRecords a b found Answer → (h : CommandList) → HasCleanDisk b
-      → StandsFor (desk_state_at HoldsRecords was a) h → (db : Trees) → b.may_leave db → HoldIn HoldsRecords db (records h)
+      → StandsFor (desk_state_knowing HoldsRecords known was a) h → (db : Trees) → b.may_leave db → HoldIn HoldsRecords db (records h)
   left_by found look h clean standing db left = grind arith
 
   -- memory was wanted, or the store failed, and the desk is stopped
   pub interrupted : (found : Result A Refusal) → Looks HoldsRecords a b found Answer → (refusal : Refusal) {Other : Type 0} → (found ≡ Err refusal)
       ⊎ ((refusal ≡ StoreFailed) × Other) → (stopped : Bool) → stopped ≡ is_store refusal → (h : CommandList) → HasCleanDisk b
-      → StandsFor (desk_state_at HoldsRecords was a) h → ((refusal ≡ NoMemory) × StandsFor (desk_state_at HoldsRecords stopped b) h)
-      ⊎ ((refusal ≡ StoreFailed) × IsInDoubt (desk_state_at HoldsRecords stopped b) h None)
+      → StandsFor (desk_state_knowing HoldsRecords known was a) h → ((refusal ≡ NoMemory) × StandsFor (desk_state_knowing HoldsRecords known stopped b) h)
+      ⊎ ((refusal ≡ StoreFailed) × IsInDoubt (desk_state_knowing HoldsRecords known stopped b) h None)
   interrupted found look refusal why stopped is h clean standing = elim why [
     | inl same ↦ elim (subst (λ x. Looks HoldsRecords a b x Answer) same look).looks [
       | inl it ↦ inl (
         it.0,
-        subst (λ x. StandsFor (desk_state_at HoldsRecords x b) h) (sym (is ∙ ap is_store it.0))
-            (stands b h standing.valid (it.1 (records h) (λ _. standing.shows) clean)),
+        subst (λ x. StandsFor (desk_state_knowing HoldsRecords known x b) h) (sym (is ∙ ap is_store it.0))
+            (knowing HoldsRecords known false b h (stands b h standing.valid (it.1 (records h) (λ _. standing.shows.0) clean)) standing.shows.1),
       )
       | inr it ↦ inr (in_doubt it.0)
     ]
     | inr other ↦ inr (in_doubt other.0)
   ]
     where
-      in_doubt : refusal ≡ StoreFailed → (refusal ≡ StoreFailed) × IsInDoubt (desk_state_at HoldsRecords stopped b) h None
+      in_doubt : refusal ≡ StoreFailed → (refusal ≡ StoreFailed) × IsInDoubt (desk_state_knowing HoldsRecords known stopped b) h None
       in_doubt fails = (
         fails,
         record {
@@ -119,3 +123,15 @@ module _ {A : Type 0} (was : Bool) (a b : State) (Answer : Records → A → Typ
 pub becomes_refused : (s : DeskState Trees) (h : CommandList) (refusal : Refusal) → ((refusal ≡ NoMemory) × StandsFor s h)
     ⊎ ((refusal ≡ StoreFailed) × IsInDoubt s h None) → Becomes s h (Refused refusal) None
 becomes_refused s h refusal h3 = grind arith
+
+-- the same, of a query
+pub query_refused : (s : DeskState Trees) (h : CommandList) (query : Query) (refusal : Refusal) → ((refusal ≡ NoMemory) × StandsFor s h)
+    ⊎ ((refusal ≡ StoreFailed) × IsInDoubt s h None) → AppliesAt h s (Asks (Ask query)) (Refused refusal)
+query_refused s h query refusal why = record {
+  accepted = None;
+  answers = elim why [
+    | inl none ↦ inl (ap Refused none.0, refl)
+    | inr lost ↦ inr (inl (ap Refused lost.0, sym (ap (λ (x : Answer). x.accepted) (query_answer h query))))
+  ];
+  becomes = becomes_refused s h refusal why;
+}

@@ -1,9 +1,11 @@
 -- What comes again in a run leaves no trace.
-use Rattle.rollout_desk.proofs.Common.{arith, inl, inr, Bool, List, [], ◌∷◌, ◌++◌, Option, subst, Database, State, Trees, HoldIn, MayAnswer, CommandList, ◌▸◌}
+use Rattle.rollout_desk.proofs.Common.{arith, inl, inr, ℕ, Bool, List, [], ◌∷◌, ◌++◌, Option, subst, Database, State, Trees, HoldIn, MayAnswer, CommandList}
+use Rattle.rollout_desk.proofs.Common.{◌▸◌}
 use Rattle.rollout_desk.proofs.Common.{followed_by, Command, Records, Reply, Asked, Asks, Request, one, StandsFor, IsInDoubt, IsValid, records_step}
-use Rattle.rollout_desk.proofs.Common.{HoldsReadable, HoldsList, desk_state_at, EndsRun, RequestExchange, IsRun, accepted_of}
+use Rattle.rollout_desk.proofs.Common.{HoldsReadable, HoldsList, EndsRun, RequestExchange, IsRun, accepted_of}
 use Rattle.rollout_machine.specs.Repeats.{without_repeats, IsTraceless}
 use Rattle.rollout_machine.proofs.Once.{repeats_leave_no_trace}
+use Rattle.rollout_desk.specs.Desks.{desk_state_knowing}
 use Rattle.rollout_desk.specs.Once.{AnswersOnce, EndsOnce}
 use Rattle.rollout_desk.proofs.RunLemmas.{followed_append}
 
@@ -45,7 +47,7 @@ last_once h (x ∷ xs) last is valid = (
 
 -- ---- what the desk stands for
 
-module _ (Holds : Database → Records → Type 0) (stopped : Bool) (s : State) where
+module _ (Holds : Database → Records → Type 0) (known : Option ℕ) (stopped : Bool) (s : State) where
   holds_calm : (file : Trees) (h : CommandList) → HoldsList file h → HoldsList file (without_repeats h)
   holds_calm file h holds = let it : IsTraceless h = repeats_leave_no_trace h holds.0 in (it.valid, subst (HoldIn HoldsReadable file) it.same holds.1)
 
@@ -54,18 +56,19 @@ module _ (Holds : Database → Records → Type 0) (stopped : Bool) (s : State) 
       → HoldsList file (followed_by (without_repeats h) (one accepted))
   holds_more file h accepted holds = grind (arith, holds_calm, repeats_leave_no_trace, records_step)
 
-  stands_calm : (h : CommandList) → StandsFor (desk_state_at Holds stopped s) h → StandsFor (desk_state_at Holds stopped s) (without_repeats h)
+  stands_calm : (h : CommandList) → StandsFor (desk_state_knowing Holds known stopped s) h
+      → StandsFor (desk_state_knowing Holds known stopped s) (without_repeats h)
   stands_calm h standing = grind (arith, repeats_leave_no_trace, holds_calm)
 
-  doubt_calm : (h : CommandList) (accepted : Option Command) → IsInDoubt (desk_state_at Holds stopped s) h accepted
-      → IsInDoubt (desk_state_at Holds stopped s) (without_repeats h) accepted
+  doubt_calm : (h : CommandList) (accepted : Option Command) → IsInDoubt (desk_state_knowing Holds known stopped s) h accepted
+      → IsInDoubt (desk_state_knowing Holds known stopped s) (without_repeats h) accepted
   doubt_calm h accepted doubt = record {
     stopped = doubt.stopped;
     crash = λ file left. elim (doubt.crash file left) [ inl it ↦ inl (holds_calm file h it) | inr it ↦ inr (holds_more file h accepted it) ];
   }
 
-  pub ends_once : (h : CommandList) (requests : List Request) (replies : List Reply) → EndsRun h (desk_state_at Holds stopped s) requests replies
-      → EndsOnce h (desk_state_at Holds stopped s) requests replies
+  pub ends_once : (h : CommandList) (requests : List Request) (replies : List Reply) → EndsRun h (desk_state_knowing Holds known stopped s) requests replies
+      → EndsOnce h (desk_state_knowing Holds known stopped s) requests replies
   ends_once h requests replies (inl it) = inl (record { through = it; answers = all_once h it.run it.is_run it.stands.valid; stands = stands_calm _ it.stands })
   ends_once h requests replies (inr it) =
       inr (record { broken = it; answers = last_once h it.before it.last it.is_run it.valid; in_doubt = doubt_calm _ it.last.accepted it.in_doubt })

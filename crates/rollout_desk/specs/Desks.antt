@@ -1,5 +1,5 @@
 -- A desk as its contracts see it.
-use Rattle.std.specs.Prelude.{Bool}
+use Rattle.std.specs.Prelude.{◌≡◌, ℕ, Bool, length, Option, Some, None, ⊤}
 use Rattle.sqlite.specs.Tree.{Trees}
 use Rattle.sqlite.specs.Effect.{Database}
 use Rattle.sqlite.specs.State.{State, HasCleanDisk}
@@ -15,6 +15,11 @@ use Rattle.rollout_machine.specs.Validity.{IsValid}
 abbrev pub HoldsList : Trees → CommandList → Type 0
 HoldsList trees h = IsValid h × HoldIn HoldsReadable trees (records h)
 
+-- these records have as many targets as is known, where that is known
+abbrev pub IsCountOf : Option ℕ → Records → Type 0
+IsCountOf None r = ⊤
+IsCountOf (Some n) r = n ≡ length r.targets
+
 module _ (Shows : Database → Records → Type 0) where
   -- a desk over a connection of this state, which shows records by this relation
   abbrev pub desk_state_at : Bool → State → DeskState Trees
@@ -25,3 +30,7 @@ module _ (Shows : Database → Records → Type 0) where
     may_leave = s.may_leave;
     holds = HoldsList;
   }
+
+  -- the same of a desk that knows how many targets there are, or doesn't
+  abbrev pub desk_state_knowing : Option ℕ → Bool → State → DeskState Trees
+  desk_state_knowing known is_stopped s = record (desk_state_at is_stopped s) { shows = λ h. IsAtRest Shows s (records h) × IsCountOf known (records h) }

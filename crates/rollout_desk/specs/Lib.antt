@@ -1,5 +1,6 @@
 pub mod Desks
 pub mod DeskStates
+pub mod Knowing
 pub mod Changes
 pub mod Openings
 pub mod Runs

@@ -14,11 +14,12 @@ use Rattle.rollout_machine.specs.CommandList.{CommandList}
 use Rattle.rollout_machine.specs.Commands.{Bytes, Credential}
 use Rattle.rollout_machine.specs.Records.{Records, records}
 use Rattle.rollout_machine.specs.Replies.{ContentsShown, Refused}
-use Rattle.rollout_machine.specs.Requests.{Ask, Asks, Download}
+use Rattle.rollout_machine.specs.Requests.{Ask, Asks, Download, Page}
 use Rattle.rollout_machine.specs.Standing.{AppliesAt, StandsFor}
 use Rattle.rollout_machine.specs.StoreFailures.{is_store}
 use Rattle.rollout_model.specs.declared.artifact.Artifact.{Artifact}
 use Rattle.rollout_model.specs.declared.refusal.Refusal.{Refusal}
+use Rattle.rollout_model.specs.declared.shown_target.ShownTarget.{ShownTarget}
 use Rattle.rollout_model.specs.declared.refusal.Refusal.TheVariants.{NoMemory, StoreFailed}
 use Rattle.desk_records.specs.Holds.{HoldsLedger, HoldsRecords, Ledger}
 use Rattle.desk_records.specs.Tables.{HoldsTables}
@@ -30,6 +31,7 @@ use Rattle.desk_reads.specs.AtLists.{FailsAtListsIn}
 use Rattle.desk_store.specs.declared.change.OpenChange.{OpenChange}
 use Rattle.desk_records.specs.Artifacts.{piece_numbered}
 use Rattle.desk_views.specs.Downloads.{downloadable}
+use Rattle.desk_views.specs.Targets.{IsContentOf}
 use Rattle.desk_views.specs.Sizes.{AgreesIn}
 use Rattle.rollout_desk.specs.Causes.{FailsByCalls}
 use Rattle.rollout_desk.specs.Sizes.{KeepsOffers}
@@ -44,6 +46,11 @@ bytes_of found = option_map vec_items found
 pub record ReadsPiece {S : Type 0} (g : Ghosts S) (number place : ℕ) (old new : OpenChange S) (result : Result (Option (Vec ℕ Global)) Fault) : Type 0 where
   pub reads : FindsIn g old new result (λ r found. bytes_of found ≡ piece_numbered r.artifacts number place)
   pub fails : FailsIn g old new result
+
+-- the targets on a page of all were read, or why not
+pub record ReadsTargets {S : Type 0} (g : Ghosts S) (page : Page) (old new : OpenChange S) (result : Result (Vec ShownTarget Global) Fault) : Type 0 where
+  pub reads : FindsIn g old new result (λ r content. IsContentOf page r content.items)
+  pub fails : FailsAtListsIn g old new result
 
 -- the artifact that a device may download was read, or its refusal, or why not
 pub record ReadsDownload {S : Type 0} (g : Ghosts S) (device : Credential) (m : ℕ) (filename : Bytes) (old new : OpenChange S)

@@ -1,6 +1,6 @@
 //! The desk.
 
-ghost use Rattle.std.specs.Prelude.{◌≡◌, false};
+ghost use Rattle.std.specs.Prelude.{◌≡◌, false, None};
 ghost use Rattle.rollout_machine.specs.Requests.{Do, Ask};
 ghost use Rattle.rollout_machine.specs.Views.{command_of, query_of, request_of, reply_of};
 ghost use Rattle.rollout_desk.specs.Conduct.{Answers, BehavesReplying};
@@ -10,7 +10,8 @@ ghost use Rattle.rollout_desk.specs.Sizes.{OnlyReads};
 ghost use Rattle.rollout_desk.specs.Working.{CountsWork};
 ghost use Rattle.sql_calls.specs.Calls.{no_work};
 
-use crate::change::{run_command, run_query};
+use crate::change::run_command;
+use crate::knowing::{answer_knowing, known_after, known_behind};
 use desk_store::{DeskStore, Work};
 use rollout_machine::says_store_failed;
 use rollout_model::{Command, Query, Refusal, Reply, Request};
@@ -29,6 +30,8 @@ const NO_WORK: Work = Work {
 pub struct Desk<S: Alter> {
     pub(crate) store: DeskStore<S>,
     pub(crate) stopped: bool,
+    /// How many targets there are, where it is known.
+    pub(crate) targets: Option<u32>,
     /// What the last command made of it.
     pub(crate) work: Work,
     pub(crate) alloc: Global,
@@ -37,11 +40,12 @@ pub struct Desk<S: Alter> {
 impl<S: Alter> Desk<S> {
     /// A desk over its store, not stopped.
     pub(crate) fn over(alloc: Global, store: DeskStore<S>) -> Desk<S>
-        ensures { result ≡ record { store = store; stopped = false; work = no_work; alloc = alloc } }
+        ensures { result ≡ record { store = store; stopped = false; targets = None; work = no_work; alloc = alloc } }
     {
         Desk {
             store,
             stopped: false,
+            targets: None,
             work: NO_WORK,
             alloc,
         }
@@ -62,6 +66,7 @@ impl<S: Alter> Desk<S> {
         let reply = run_command(self.alloc, &mut self.store, command);
         self.work = self.store.work().since(before);
         self.stopped = says_store_failed(&reply);
+        self.targets = known_behind(self.targets, command);
         reply
     }
 
@@ -75,8 +80,9 @@ impl<S: Alter> Desk<S> {
         if self.stopped {
             return Reply::Refused(Refusal::Stopped);
         }
-        let reply = run_query(self.alloc, &mut self.store, query);
+        let reply = answer_knowing(self.alloc, &mut self.store, query, self.targets);
         self.stopped = says_store_failed(&reply);
+        self.targets = known_after(self.targets, query, &reply);
         reply
     }
 

@@ -6,6 +6,7 @@ mod contents;
 mod desk;
 mod download;
 mod handler;
+mod knowing;
 mod laws;
 mod look;
 mod opening;

@@ -1,4 +1,5 @@
-//! Looks at the records, in changes that are given up: what is read in one, a piece of an artifact's contents, and the artifact that a device downloads.
+//! Looks at the records, in changes that are given up: what is read in one, a piece of an artifact's contents, a page of targets, and the artifact
+//! that a device downloads.
 
 ghost use Rattle.std.specs.Prelude.{◌≡◌, ◌⊎◌, length, Some, Result, Ok, Err, MatchResult};
 ghost use Rattle.sqlite.specs.Held.{state};
@@ -10,13 +11,16 @@ ghost use Rattle.desk_store.specs.Changing.{StaysIn, seen_in};
 ghost use Rattle.sql_calls.specs.Standing.{Wears};
 ghost use Rattle.desk_store.specs.declared.change.OpenChange.{OpenChange};
 ghost use Rattle.sql_calls.specs.declared.fault.Fault.{Fault};
-ghost use Rattle.rollout_desk.specs.Looks.{EndsLook, IsOtherThan, Looked, Looks, LooksForDownload, ReadsDownload, ReadsPiece, bytes_of};
+ghost use Rattle.desk_views.specs.Targets.{IsContentOf};
+ghost use Rattle.rollout_desk.specs.Looks.{EndsLook, IsOtherThan, Looked, Looks, LooksForDownload, ReadsDownload, ReadsPiece, ReadsTargets, bytes_of};
 ghost use Rattle.rollout_desk.specs.Working.{TellsFailures, tells_store};
 
 use crate::refusals::refusal_of;
 use desk_store::{DeskStore, Fault, OpenChange};
-use desk_views::find_download;
-use rollout_model::{Artifact, ArtifactNo, Credential, Filename, ModuleNo, Refusal};
+use desk_views::{find_download, read_target_page};
+use rollout_model::{
+    Artifact, ArtifactNo, Credential, Filename, ModuleNo, Page, Refusal, ShownTarget,
+};
 use sqlite::Alter;
 use std::alloc::Global;
 
@@ -88,6 +92,35 @@ pub(crate) fn read_piece<S: Alter>(
     ensures fails { result ≡ Err Refusal.StoreFailed → FailsByCalls S.Store store.old.calls store.new.calls }
 {
     look(store, &PieceOf { number, place })
+}
+
+/// The targets on a page of all.
+#[derive(Drop)]
+struct PageOfTargets {
+    alloc: Global,
+    page: Page,
+}
+
+impl<S: Alter> Question<S, Vec<ShownTarget>> for PageOfTargets {
+    ghost finds = { λ it. ReadsTargets S.Store it.page };
+
+    fn read(&self, change: &mut OpenChange<'_, S>) -> Result<Vec<ShownTarget>, Fault> {
+        read_target_page(self.alloc, change, self.page)
+    }
+}
+
+/// Reads the targets on a page of all, inside a transaction that changes nothing. How many there are isn't read.
+pub(crate) fn look_at_page<S: Alter>(
+    alloc: Global,
+    store: &mut DeskStore<S>,
+    page: Page,
+) -> Result<Vec<ShownTarget>, Refusal>
+    ensures looks { Looks HoldsRecords (state S.Store store.old.calls.conn) (state S.Store store.new.calls.conn) result
+        (λ r content. IsContentOf page r content.items) }
+    ensures tells { TellsFailures (tells_store result) store.old.calls store.new.calls }
+    ensures fails { result ≡ Err Refusal.StoreFailed → FailsByCalls S.Store store.old.calls store.new.calls }
+{
+    look(store, &PageOfTargets { alloc, page })
 }
 
 /// The artifact whose contents a device asks for.

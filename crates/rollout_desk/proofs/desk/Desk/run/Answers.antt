@@ -43,7 +43,8 @@ returns-then-failed g c =
         untouched = λ stopped. absurd (false≢true (sym c.if-self.false ∙ stopped));
       };
       ran = ended;
-      once = λ h clean stands. ends_once HoldsRecords c.answer-reply.new.self.stopped (state g.S.Store c.answer-reply.new.self.store.calls.conn) h _ _
+      once = λ h clean stands. ends_once HoldsRecords c.answer-reply.new.self.targets c.answer-reply.new.self.stopped
+          (state g.S.Store c.answer-reply.new.self.store.calls.conn) h _ _
           (ended h clean stands);
     }
 
@@ -62,6 +63,7 @@ returns g c =
         untouched = λ stopped. absurd (false≢true (sym c.if-self.false ∙ stopped));
       };
       ran = ended;
-      once = λ h clean stands. ends_once HoldsRecords c.loop-request.self.stopped (state g.S.Store c.loop-request.self.store.calls.conn) h _ _
+      once = λ h clean stands. ends_once HoldsRecords c.loop-request.self.targets c.loop-request.self.stopped
+          (state g.S.Store c.loop-request.self.store.calls.conn) h _ _
           (ended h clean stands);
     }

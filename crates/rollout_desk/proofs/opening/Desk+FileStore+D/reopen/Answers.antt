@@ -1,12 +1,13 @@
-use Rattle.rollout_desk.proofs.Common.{image_of, file_state, HoldsRecords, BeginsPlain, desk_state_at, ReopensDesk}
+use Rattle.rollout_desk.proofs.Common.{image_of, file_state, HoldsRecords, BeginsPlain, ReopensDesk}
+use Rattle.rollout_desk.specs.Desks.{desk_state_knowing}
 use Rattle.rollout_desk.proofs.OpeningLemmas.{over_it, reopened_desk}
 use Rattle.rollout_desk.proofs.opening.Desk+FileStore+D.reopen.Goals as goal
 
 pub returns-in-Ok-clause-reopened : goal.returns-in-Ok-clause-reopened
 returns-in-Ok-clause-reopened g c = over_it _ c.new.result c.in-Ok.conn c.new.ensures.conn c.over.result c.over.ensures
-    (λ b x. ReopensDesk (image_of g.D.Disk c.args.files) (desk_state_at HoldsRecords b (file_state x)) c.args.approval_if_new)
+    (λ k b x. ReopensDesk (image_of g.D.Disk c.args.files) (desk_state_knowing HoldsRecords k b (file_state x)) c.args.approval_if_new)
     (reopened_desk (image_of g.D.Disk c.args.files) c.args.approval_if_new (file_state c.in-Ok.conn) c.in-Ok.ensures.reopened)
 
 pub returns-in-Ok-clause-plain : goal.returns-in-Ok-clause-plain
 returns-in-Ok-clause-plain g c = over_it _ c.new.result c.in-Ok.conn c.new.ensures.conn c.over.result c.over.ensures
-    (λ b x. BeginsPlain (image_of g.D.Disk c.args.files) c.args.approval_if_new x) c.in-Ok.ensures.plain
+    (λ k b x. BeginsPlain (image_of g.D.Disk c.args.files) c.args.approval_if_new x) c.in-Ok.ensures.plain
