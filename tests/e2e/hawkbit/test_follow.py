@@ -119,7 +119,9 @@ def test_three_steps_lead_to_an_updated_device(folder, capsys):
         assert machine.until(done, 700), machine.does("journalctl -u swupdate -n 30")[1]
         steps.took.append(f"until it is installed: {time.monotonic() - waited:.0f} s")
         # the restart that the page asks for
-        machine.gives("systemctl kill -s KILL swupdate; systemctl reset-failed swupdate || true")
+        machine.gives("systemctl kill -s KILL swupdate")
+        gone = "systemctl reset-failed swupdate 2> /dev/null; systemctl show -p LoadState --value swupdate"
+        assert machine.until(lambda: machine.gives(gone) == "not-found", 60)
         machine.gives(START.format(f'{start.removesuffix(chr(39) * 2)}"-c 2"'))
         steps.run("until it is reported", f"fwdesk-ctl wait {rollout.splitlines()[-1]}")
         minutes = (time.monotonic() - began) / 60
