@@ -8,7 +8,7 @@ import subprocess
 
 HERE = os.path.dirname(os.path.abspath(__file__))
 PROGRAM = os.path.join(HERE, "..", "crates", "fwdesk", "out", "fwdesk")
-TWIN = os.path.join(HERE, "out", "twin")
+TWIN = os.path.join(HERE, "..", "out", "twin")
 
 
 def words(program, path, interface="mgmt"):
@@ -204,7 +204,7 @@ def build_twin():
     """Compiles the C program over the system's SQLite."""
     os.makedirs(os.path.dirname(TWIN), exist_ok=True)
     names = ("twin.c", "twin_targets.c", "twin_import.c", "twin_rollouts.c", "twin_devices.c")
-    sources = [os.path.join(HERE, name) for name in names]
+    sources = [os.path.join(HERE, "baseline", name) for name in names]
     subprocess.run(
         ["cc", "-O2", "-Wall", "-Wextra", "-D_GNU_SOURCE", "-o", TWIN, *sources, "-lsqlite3"],
         check=True,
