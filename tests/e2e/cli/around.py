@@ -8,7 +8,7 @@ import tomllib
 
 from harness import packages
 
-from .environment import CLI, HOST, PASSWORD, ROOT, Proxy, Relay
+from harness.fwdesk_ctl import CLI, HOST, PASSWORD, ROOT, Proxy, Relay
 
 
 def makes_tokens(env):
@@ -64,7 +64,7 @@ def logs_in(env):
         == both
     )
     for login in ({}, {"FWDESK_USER": "anna", "FWDESK_PASSWORD": "wrong"}):
-        env.refuses(1, "401: the login isn't taken", "targets", **safe, **login)
+        env.refuses(1, "the login isn't taken", "targets", **safe, **login)
     env.refuses(6, "cannot trust", "targets", FWDESK_URL=proxy.url, **anna)
     file = env.folder / ".netrc"
     file.write_text(f'machine localhost login anna password "{PASSWORD}"\n')

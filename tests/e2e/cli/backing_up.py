@@ -15,7 +15,7 @@ from pathlib import Path
 from harness import http_client
 from harness.tls import make_certificate
 
-from .environment import CLI, HOST, eventually, free_port, listens, needs, packages
+from harness.fwdesk_ctl import CLI, HOST, eventually, free_port, listens, needs, packages
 
 # it knows which process is the service's, ends it, and writes down what it is told
 SYSTEMCTL = """#!/bin/sh

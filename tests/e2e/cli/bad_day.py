@@ -5,7 +5,7 @@ import signal
 import time
 from collections import Counter
 
-from .environment import Relay
+from harness.fwdesk_ctl import Relay
 
 
 def mends(env):

@@ -7,7 +7,7 @@ import re
 import signal
 import time
 
-from .environment import PASSWORD, Proxy, Relay
+from harness.fwdesk_ctl import PASSWORD, Proxy, Relay
 
 UTC = datetime.timezone.utc
 # it writes down what it is told, and knows which timers were started

@@ -5,7 +5,7 @@ import signal
 import subprocess
 import sys
 
-from .environment import CLI, Adapter
+from harness.fwdesk_ctl import CLI, Adapter
 
 BASE = "/DEFAULT/controller/v1"
 LARGEST = 4_194_304

@@ -10,8 +10,8 @@ import subprocess
 import time
 
 from harness import http_client
-from .environment import CLI, HOST, PASSWORD, Proxy
-from .environment import eventually, needs, packages, status
+from harness.fwdesk_ctl import CLI, HOST, PASSWORD, Proxy
+from harness.fwdesk_ctl import eventually, needs, packages, status
 
 BASE = "/DEFAULT/controller/v1"
 
@@ -146,8 +146,8 @@ def knows_who_holds(env):
     topology = Topology(env)
     safe = {"FWDESK_URL": topology.proxy.url, "FWDESK_CA": str(env.folder / "server.crt")}
     anna = {"FWDESK_USER": "anna", "FWDESK_PASSWORD": PASSWORD}
-    env.refuses(1, "401: the login isn't taken", "hold", **safe)
-    env.refuses(1, "401: the login isn't taken", "held", **safe)
+    env.refuses(1, "the login isn't taken", "hold", **safe)
+    env.refuses(1, "the login isn't taken", "held", **safe)
     assert env.gives("hold", "--reason", "it burns", **safe, **anna).startswith(
         "brake: by anna, since "
     )

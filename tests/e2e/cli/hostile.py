@@ -5,7 +5,7 @@ import socket
 import threading
 import time
 
-from .environment import HOST, Proxy, Relay
+from harness.fwdesk_ctl import HOST, Proxy, Relay
 
 ESCAPE = "\x1b]0;owned\x07"
 # a control character of the upper half, a mark that turns the direction of writing, a mark without a width

@@ -3,7 +3,7 @@ import hashlib
 import json
 import time
 
-from .environment import Relay, eventually
+from harness.fwdesk_ctl import Relay, eventually
 
 LARGEST = 4_194_304
 

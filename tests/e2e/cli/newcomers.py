@@ -2,7 +2,7 @@
 import signal
 from collections import Counter
 
-from .environment import Relay
+from harness.fwdesk_ctl import Relay
 
 
 def rules(env, *lines):

@@ -1,7 +1,7 @@
 """Cases of fwdesk-ctl: a device gets a new token or is retired; a rollout is rolled back."""
 import json
 
-from .environment import Relay
+from harness.fwdesk_ctl import Relay
 from .shipping import cut_off
 
 BASE = "/DEFAULT/controller/v1"

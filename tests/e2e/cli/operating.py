@@ -5,7 +5,7 @@ import re
 from harness import http_client
 from harness.tls import hashed
 
-from .environment import HOST, eventually, free_port, listens, needs, packages
+from harness.fwdesk_ctl import HOST, eventually, free_port, listens, needs, packages
 
 OWN = """global
     presetenv FWDESK_OPERATORS {conf}/operators.map

@@ -3,7 +3,7 @@ import json
 import re
 import signal
 
-from .environment import Relay, eventually
+from harness.fwdesk_ctl import Relay, eventually
 
 LARGEST = 4_194_304
 

@@ -1,7 +1,7 @@
 """fwdesk-ctl against the real program: each verb, and how it fails.
 
 What is expected comes of docs/API.md and of the verbs' own help; what became of it is asked of the program. Lines
-that break or lose a byte, a program that is killed, commands that are killed at each of their calls: environment.py has
+that break or lose a byte, a program that is killed, commands that are killed at each of their calls: harness/fwdesk_ctl.py has
 the environment of all that, and the other files the cases, one a subject. A case that needs haproxy, nginx, openssl,
 curl or jq is left out where one is missing."""
 import importlib
@@ -9,7 +9,7 @@ from pathlib import Path
 
 import pytest
 
-from .environment import Environment, Left
+from harness.fwdesk_ctl import Environment, Left
 
 SUBJECTS = (
     "making",

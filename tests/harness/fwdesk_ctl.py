@@ -1,4 +1,4 @@
-"""What the cases of fwdesk-ctl run in: the program, its fleet, a line that is cut or watched, and the proxies."""
+"""A desk that fwdesk-ctl asks: the program, its fleet, a line that is cut or watched, and the proxies. Not run by itself."""
 import os
 import re
 import socket
