@@ -15,8 +15,8 @@ static sqlite3_stmt *get_offer, *change_offer, *drop_offer, *get_action, *set_ac
 
 void prepare_devices(void) {
     get_offer = prepared("SELECT action, kind FROM offer WHERE controller = ?1");
-    change_offer = prepared("UPDATE offer SET action = ?2, kind = ?3 WHERE controller = ?1");
-    drop_offer = prepared("DELETE FROM offer WHERE controller = ?1");
+    change_offer = prepared("UPDATE offer SET action = ?3, kind = ?4 WHERE controller = ?1 AND action = ?2");
+    drop_offer = prepared("DELETE FROM offer WHERE controller = ?1 AND action = ?2");
     get_action = prepared("SELECT rollout, place, controller, canceling, outcome, notes, entries FROM action WHERE number = ?1");
     set_action = prepared("UPDATE action SET canceling = ?2, outcome = ?3, notes = ?4, entries = ?5 WHERE number = ?1");
     put_feedback = prepared("INSERT INTO feedback (action, sequence, kind, word, details) VALUES (?1, ?2, ?3, ?4, ?5)");
@@ -24,7 +24,7 @@ void prepare_devices(void) {
         "SELECT rollout, place, controller, canceling, outcome, notes, entries, number FROM action WHERE controller = ?1 AND outcome > 0 ORDER BY number DESC LIMIT 1");
     // of whole sets
     next_offer = prepared(
-        "SELECT number, canceling FROM action WHERE controller = ?1 AND outcome = 0 AND EXISTS (SELECT 1 FROM rollout_group WHERE rollout_group.rollout = action.rollout AND rollout_group.first_place <= action.place AND rollout_group.last_place >= action.place AND rollout_group.started = 1) ORDER BY number LIMIT 1");
+        "SELECT number, canceling FROM action WHERE controller = ?1 AND number >= ?2 AND outcome = 0 AND EXISTS (SELECT 1 FROM rollout_group WHERE rollout_group.rollout = action.rollout AND rollout_group.first_place <= action.place AND rollout_group.last_place >= action.place AND rollout_group.started = 1) ORDER BY number LIMIT 1");
     last_final = prepared("SELECT outcome FROM action WHERE controller = ?1 AND outcome > 0 ORDER BY number DESC LIMIT 1");
 }
 
@@ -58,29 +58,30 @@ int64_t offered_action(const Text *id, int64_t *kind) {
     return action;
 }
 
-static void write_offer(sqlite3_stmt *statement, const Text *id, int64_t action, int64_t kind) {
-    bind_text(statement, 1, id);
-    sqlite3_bind_int64(statement, 2, action);
-    sqlite3_bind_int64(statement, 3, kind);
-    done(statement);
+static void set_offer(const Text *id, int64_t action, int64_t next, int64_t kind) {
+    bind_text(change_offer, 1, id);
+    sqlite3_bind_int64(change_offer, 2, action);
+    sqlite3_bind_int64(change_offer, 3, next);
+    sqlite3_bind_int64(change_offer, 4, kind);
+    done(change_offer);
 }
 
-static void set_offer(const Text *id, int64_t action, int64_t kind) { write_offer(change_offer, id, action, kind); }
-
-// The target's first open action whose group is started, or 0.
-static int64_t first_offered(const Text *id, int64_t *kind) {
+// The target's first open action from one on whose group is started, or 0.
+static int64_t first_offered(const Text *id, int64_t from, int64_t *kind) {
     bind_text(next_offer, 1, id);
+    sqlite3_bind_int64(next_offer, 2, from);
     int64_t found = row_of(next_offer) ? sqlite3_column_int64(next_offer, 0) : 0;
     *kind = found ? sqlite3_column_int64(next_offer, 1) : 0;
     sqlite3_reset(next_offer);
     return found;
 }
 
-// Looks up again what a target is offered that is offered something.
-static void offer_anew(const Text *id) {
-    int64_t kind, next = first_offered(id, &kind);
-    if (next) return set_offer(id, next, kind);
+// Looks up again what a target is offered in place of an action, if it is offered that.
+static void offer_anew(const Text *id, int64_t action) {
+    int64_t kind, next = first_offered(id, action, &kind);
+    if (next) return set_offer(id, action, next, kind);
     bind_text(drop_offer, 1, id);
+    sqlite3_bind_int64(drop_offer, 2, action);
     done(drop_offer);
 }
 
@@ -227,7 +228,7 @@ static void end_action(Action *action, int64_t outcome, Seen *seen) {
     action->outcome = outcome;
     action->canceling = 0;
     write_action(action);
-    offer_anew(&action->id);
+    offer_anew(&action->id, action->number);
     follow(seen, outcome);
 }
 

@@ -3,10 +3,10 @@ use Rattle.desk_commands.proofs.Common.{◌≡◌, ℕ, ◌+◌, Bool, true, con
 use Rattle.desk_commands.proofs.Common.{option_map, refl, sym, ap, ◌∙◌, arith, inl, inr, and_parts, cases_Bool, eq-eqb, append-nil, not-true, length-append}
 use Rattle.desk_commands.proofs.Common.{length-map, map-append, HistoryEntry, Reported, entries_in, item_numbered, same_bytes, CommandList, IsWellFormed, Bytes}
 use Rattle.desk_commands.proofs.Common.{Command, Offer, offer, is_none, counted, start_group, step_records, Records, records, IsValid, check, is_note, Outcome}
-use Rattle.desk_commands.proofs.Common.{ActionRecord, GroupRecord, RolloutRecord, numbered_map, records_step, same_refl, same_true, effects_by}
+use Rattle.desk_commands.proofs.Common.{ActionRecord, GroupRecord, RolloutRecord, numbered_map, records_step, same_refl, same_true, effects_by, stays_offered}
 use Rattle.desk_commands.proofs.Common.{following, waits, ChangesAction, action_with, change_by, ended_by, moved_by, rollout_with, ActionChange}
 use Rattle.desk_commands.proofs.Common.{StaysOpen, Ends, Tally, tally_of, numbers_from, numbers_of, Ledger, ledger_of, set_numbered, with_groups}
-use Rattle.desk_commands.proofs.Common.{with_offer, with_rollouts, next_offer, actor, offers_before_start, with_actor, Acts, FollowsChange, stays_offered}
+use Rattle.desk_commands.proofs.Common.{in_place_of, reoffered, subst, with_rollouts, next_offer, actor, offers_before_start, with_actor, Acts, FollowsChange}
 use Rattle.desk_commands.proofs.Common.{FollowsSo, StartsGroupOf, change_numbered, with_outcome, Reoffers, with_rollout, started, MayReoffer, action_view_seen}
 use Rattle.desk_commands.proofs.Common.{CountsNumbers, TellsReports, entries_by, numbers_by, tally_by, with_reports, Told, SeenAction, Following}
 use Rattle.desk_commands.specs.ActionSteps.{with_changed_action}
@@ -17,7 +17,7 @@ use Rattle.desk_records.proofs.NumberLists.{numbers_more}
 use Rattle.desk_commands.proofs.GroupNumbers.{Numbered, numbered_groups, only_at, set_numbered_still, started_one, starts_none}
 use Rattle.desk_commands.proofs.ItemSteps.{map_set, same_but_for, set_elsewhere, set_is_change, set_is_there, set_twice, zip_map}
 use Rattle.desk_commands.proofs.KnownActions.{IsPlaced, seen_at, started_is}
-use Rattle.desk_commands.proofs.OfferingLemmas.{next_is_offer, offer_stays, offer_there}
+use Rattle.desk_commands.proofs.OfferingLemmas.{AllTell, all_tell, is_offerable, offer_moves, offer_stays}
 use Rattle.desk_commands.proofs.LedgerEnds.{FollowsRecords, ends_with_none, sets_alone, starts_last, starts_of, then_started}
 
 -- ---- the action and its tally
@@ -58,9 +58,9 @@ module _ (h : CommandList) (c : Command) (valid : IsValid h) (formed : IsWellFor
   abbrev r : ℕ
   r = w.action.rollout
 
-  -- its target is offered something
-  offered : (o : Offer) × (offer rs id ≡ Some o)
-  offered = offer_there rs id k w.action w.at (rw (open_still, same_refl id, started_is rs k w, begun) refl)
+  -- it is offered, or one in front of it
+  can_be : is_offerable rs id w.action ≡ true
+  can_be = rw (open_still, same_refl id, started_is rs k w, begun) refl
 
   -- where that is what the machine offers it then, all is
   before_start : (o : Option Offer) → o ≡ offer (acted_records h c) id → (t : Bytes) → cond (same_bytes id t) o (offer rs t) ≡ offers_before_start h c t
@@ -71,7 +71,7 @@ module _ (h : CommandList) (c : Command) (valid : IsValid h) (formed : IsWellFor
     acted = with_changed_action s after told reports (w.action, tally_of w.action) (numbers_of w.action) (ledger_of rs)
 
     abbrev mid : Ledger
-    mid = with_offer acted id (next_offer acted.records id)
+    mid = reoffered acted id k (next_offer acted.records id k)
 
     actions_are : change_numbered k (λ (a : ActionRecord). record (action_with after a) { history = a.history ++ reports }) rs.actions
         ≡ set_numbered rs.actions k (with_reports reports (action_with after w.action))
@@ -88,9 +88,13 @@ module _ (h : CommandList) (c : Command) (valid : IsValid h) (formed : IsWellFor
     follows_with offers = grind (arith, map_set, same_history, tally_grows, numbers_grow)
 
     offers_are : (t : Bytes) → mid.offers t ≡ offers_before_start h c t
-    offers_are = before_start (next_offer acted.records id) (ap (λ q. next_offer q id) acted_are ∙ next_is_offer h c (valid, formed, accepted) id)
+    offers_are =
+        before_start (in_place_of k (next_offer acted.records id k) (offer rs id))
+        (offer_moves rs id k w.action (with_reports reports (action_with after w.action)) w.at can_be
+        (subst (λ (q : Records). AllTell q q.actions) (sym acted_are) (all_tell h c (valid, formed, accepted)))
+        ∙ ap (λ q. offer q id) acted_are)
 
-    acts_so : (offers : Ledger) → MayReoffer (stays_offered w.action.canceling after) id acted offers
+    acts_so : (offers : Ledger) → MayReoffer (stays_offered w.action.canceling after) id k acted offers
         → FollowsChange s after offers (ledger_of (step_records rs c)) → Acts s after told (ledger_of rs) (ledger_of (step_records rs c))
     acts_so offers may follows = record {
       acted = acted;
@@ -111,10 +115,8 @@ module _ (h : CommandList) (c : Command) (valid : IsValid h) (formed : IsWellFor
       follows = follows;
     }
 
-    reoffers : Reoffers id acted mid
+    reoffers : Reoffers id k acted mid
     reoffers = record {
-      was = offered.0;
-      is_there = offered.1;
       tallied = ap length (follows_with (offer rs)).tallies ∙ length-map acted.records.actions tally_of;
       next_is = refl;
     }

@@ -76,10 +76,10 @@ pub use Rattle.desk_records.proofs.HeldCounts.{at_place}
 pub use Rattle.desk_records.specs.Actions.{Tally, actor_of, history_of, tally_of}
 pub use Rattle.desk_records.specs.FeedbackNumbers.{last_number, numbers_from, numbers_numbered, numbers_of}
 pub use Rattle.desk_records.specs.Holds.{HoldsLedger, Ledger, ledger_of}
-pub use Rattle.desk_records.specs.LedgerSteps.{AddsAction, AddsEntry, AddsGroup, AddsMember, AddsNumber, AddsRule, SetsAction, SetsGroup, SetsOffer, and_entry}
-pub use Rattle.desk_records.specs.LedgerSteps.{cut_group, scheduled, set_numbered, turned, with_actions, with_groups, with_numbers, with_offer, with_rollouts}
-pub use Rattle.desk_records.specs.LedgerSteps.{with_rules}
-pub use Rattle.desk_records.specs.NextOffers.{any_starts, next_offer, next_offer_from, starts_at}
+pub use Rattle.desk_records.specs.LedgerSteps.{AddsAction, AddsEntry, AddsGroup, AddsMember, AddsNumber, AddsRule, SetsAction, SetsGroup, and_entry}
+pub use Rattle.desk_records.specs.LedgerSteps.{cut_group, scheduled, set_numbered, turned, with_actions, with_groups, with_numbers, with_rollouts}
+pub use Rattle.desk_records.specs.LedgerSteps.{in_place_of, reoffered, with_rules}
+pub use Rattle.desk_records.specs.NextOffers.{any_starts, is_next, next_offer, next_offer_from, starts_at}
 pub use Rattle.desk_records.specs.Parts.{parts_of}
 pub use Rattle.desk_records.specs.RolloutRow.{stored_action, stored_rollout, told_plan}
 pub use Rattle.desk_records.specs.Rollouts.{groups_of, members_of, numbered_from, rule_numbered}

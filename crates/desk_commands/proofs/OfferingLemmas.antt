@@ -1,64 +1,75 @@
 -- What a target is offered, looked up among its actions.
-use Rattle.desk_commands.proofs.Common.{arith, ◌≡◌, ℕ, zero, suc, true, cond, ◌&&◌, List, [], ◌∷◌, length, map, Option, Some, None, refl, sym, ap, ◌∙◌}
-use Rattle.desk_commands.proofs.Common.{slice_get}
-use Rattle.desk_commands.proofs.Common.{list_any, is_none, item_numbered, same_bytes, CommandList, ◌▸◌, Bytes, Command, Offer, first_offer, offer, has_started}
-use Rattle.desk_commands.proofs.Common.{is_for, is_started_in, Reported, Records, IsValid, ActionRecord, RolloutRecord, acted, actor_of, Ledger, SetsOffer}
-use Rattle.desk_commands.proofs.Common.{set_numbered, with_offer, any_starts, next_offer, next_offer_from, starts_at, parts_of, Reoffers, and_assoc, and_comm}
-use Rattle.desk_commands.proofs.Common.{cases_Bool, inl, inr}
-use Rattle.desk_commands.proofs.ItemSteps.{same_but_for}
+use Rattle.desk_commands.proofs.Common.{arith, ◌≡◌, ◌≤◌, ◌+◌, ℕ, suc, zero, Bool, true, cond, ◌&&◌, List, [], ◌∷◌, length, map, set, Option, Some, None}
+use Rattle.desk_commands.proofs.Common.{refl, sym, ap, ◌∙◌, slice_get, nat_tests, list_any, is_none, item_numbered, same_bytes, CommandList, ◌▸◌, Bytes}
+use Rattle.desk_commands.proofs.Common.{Command, Offer, first_offer, offer, has_started, is_for, is_started_in, Reported, Records, IsValid, ActionRecord}
+use Rattle.desk_commands.proofs.Common.{RolloutRecord, acted, actor_of, Ledger, set_numbered, reoffered, in_place_of, any_starts, next_offer, next_offer_from}
+use Rattle.desk_commands.proofs.Common.{is_next, starts_at, parts_of, Reoffers, and_assoc, and_comm}
+use Rattle.std.proofs.lemmas.Bool.{le-leb}
 use Rattle.offer_laws.proofs.AnyGroup.{started_by_any_then}
+use Rattle.desk_commands.proofs.ItemSteps.{same_but_for}
 
 -- ---- as the machine says
 
--- of a list of accepted commands, before the last starts a group
-module _ (h : CommandList) (c : Command) (valid : IsValid (h ▸ c)) (t : Bytes) where
-  any_is_its : (k : ℕ) (a : ActionRecord) → item_numbered (acted h c).actions k ≡ Some a → any_starts (acted h c).rollouts a ≡ has_started (acted h c) a
-  any_is_its k a at = elim (item_numbered (acted h c).rollouts a.rollout) as (λ o. item_numbered (acted h c).rollouts a.rollout ≡ o
-      → list_any (starts_at a.position) (parts_of (λ (x : RolloutRecord). x.groups) o) ≡ is_started_in o a) [
-        | None ↦ λ is. refl
-        | Some x ↦ λ is. sym (started_by_any_then h c k a x valid at is) ∙ ap (λ o. is_started_in o a) is
-      ] refl
+-- any started group that holds the place of an action tells as much as the first group that does
+abbrev pub AllTell : Records → List ActionRecord → Type 0
+AllTell q as' = (j : ℕ) (a : ActionRecord) → slice_get as' j ≡ Some a → any_starts q.rollouts a ≡ has_started q a
 
-  next_from : (n : ℕ) (as' : List ActionRecord)
-      → ((j : ℕ) (a : ActionRecord) → slice_get as' j ≡ Some a → any_starts (acted h c).rollouts a ≡ has_started (acted h c) a)
-      → next_offer_from (acted h c).rollouts t n as' ≡ first_offer (acted h c) t n as'
-  next_from n [] all = refl
-  next_from n (a ∷ more) all =
-      let its = same_bytes (actor_of (acted h c).rollouts a) t in
-      let starts = any_starts (acted h c).rollouts a in
-      let whether = sym (and_assoc its (is_none a.outcome) starts) ∙ ap (λ b. b && starts) (and_comm its (is_none a.outcome))
-      ∙ and_assoc (is_none a.outcome) its starts ∙ ap (λ b. is_none a.outcome && (is_for (acted h c) t a && b)) (all 0 a refl) in
-      λ i. cond (whether i) (Some (record { action = n; canceling = a.canceling })) (next_from (suc n) more (λ j b at. all (suc j) b at) i)
+-- .. as after a list of accepted commands, before the last starts a group
+pub all_tell : (h : CommandList) (c : Command) → IsValid (h ▸ c) → AllTell (acted h c) (acted h c).actions
+all_tell h c valid j a at = elim (item_numbered (acted h c).rollouts a.rollout) as (λ o. item_numbered (acted h c).rollouts a.rollout ≡ o
+    → list_any (starts_at a.position) (parts_of (λ (x : RolloutRecord). x.groups) o) ≡ is_started_in o a) [
+      | None ↦ λ is. refl
+      | Some x ↦ λ is. sym (started_by_any_then h c (suc j) a x valid at is) ∙ ap (λ o. is_started_in o a) is
+    ] refl
 
-  -- any started group that holds the place tells as much as the first group that does
-  pub next_is_offer : next_offer (acted h c) t ≡ offer (acted h c) t
-  next_is_offer = next_from 1 (acted h c).actions (λ j a at. any_is_its (suc j) a at)
+-- an action that can be offered to a target
+abbrev pub is_offerable : Records → Bytes → ActionRecord → Bool
+is_offerable rs t a = is_none a.outcome && (is_for rs t a && has_started rs a)
+
+next_is : (q : Records) (t : Bytes) (a : ActionRecord) → any_starts q.rollouts a ≡ has_started q a → is_next q.rollouts t a ≡ is_offerable q t a
+next_is q t a tells =
+    let its = same_bytes (actor_of q.rollouts a) t in
+    let starts = any_starts q.rollouts a in
+    sym (and_assoc its (is_none a.outcome) starts) ∙ ap (λ b. b && starts) (and_comm its (is_none a.outcome)) ∙ and_assoc (is_none a.outcome) its starts
+    ∙ ap (λ b. is_none a.outcome && (is_for q t a && b)) tells
+
+-- where all are numbered k or more
+next_from : (q : Records) (t : Bytes) (k n : ℕ) (as' : List ActionRecord) → k ≤ n → AllTell q as' → next_offer_from q.rollouts t k n as' ≡ first_offer q t n as'
+next_from q t k n [] low all = refl
+next_from q t k n (a ∷ more) low all =
+    let whether = ap (λ b. b && is_next q.rollouts t a) (le-leb k n low) ∙ next_is q t a (all 0 a refl) in
+    λ i. cond (whether i) (Some (record { action = n; canceling = a.canceling }))
+    (next_from q t k (suc n) more (omega (arith, low)) (λ j b at. all (suc j) b at) i)
+
+-- ---- such an action becomes another
+
+module _ (rs : Records) (as' : List ActionRecord) (t : Bytes) (k : ℕ) (b : ActionRecord) where
+  abbrev q : Records
+  q = record rs { actions = as' }
+
+  first_moves : (n j : ℕ) (xs : List ActionRecord) (a : ActionRecord) → n + j ≡ k → slice_get xs j ≡ Some a → is_offerable rs t a ≡ true
+      → AllTell q (set xs j b) → in_place_of k (next_offer_from rs.rollouts t k n (set xs j b)) (first_offer rs t n xs) ≡ first_offer q t n (set xs j b)
+  first_moves n j [] a number at is all = cc
+  first_moves n zero (x ∷ xs) a number at is all =
+      let same : x ≡ a = cc in
+      grind (arith, nat_tests, same, next_from q t k n (b ∷ xs) (omega (arith, number)) all)
+  first_moves n (suc j) (x ∷ xs) a number at is all =
+      grind (arith, nat_tests, first_moves (suc n) j xs a (omega (arith, number)) at is (λ i y there. all (suc i) y there))
+
+abbrev becoming : Records → ℕ → ActionRecord → Records
+becoming rs k b = record rs { actions = set_numbered rs.actions k b }
+
+-- if its target is offered the action, then from now on the first from there on, and else what it is offered stays
+pub offer_moves : (rs : Records) (t : Bytes) (k : ℕ) (a b : ActionRecord) → item_numbered rs.actions k ≡ Some a → is_offerable rs t a ≡ true
+    → AllTell (becoming rs k b) (becoming rs k b).actions → in_place_of k (next_offer (becoming rs k b) t k) (offer rs t) ≡ offer (becoming rs k b) t
+offer_moves rs t zero a b at is all = cc
+offer_moves rs t (suc j) a b at is all = first_moves rs (set rs.actions j b) t (suc j) b 1 j rs.actions a (omega arith) at is all
 
 -- ---- the offer is written
 
-module _ (id : Bytes) (l next : Ledger) (w : Reoffers id l next) where
-  pub offer_becomes : (o : Option Offer) → (length l.tallies ≡ length l.records.actions → o ≡ next_offer l.records id) → next ≡ with_offer l id o
-  offer_becomes o is = w.next_is ∙ ap (with_offer l id) (sym (is w.tallied))
-
-  pub offer_set : (o : Offer) → (length l.tallies ≡ length l.records.actions → Some o ≡ next_offer l.records id) → SetsOffer id o l next
-  offer_set o is = record { was = w.was; is_there = w.is_there; next_is = offer_becomes (Some o) is }
-
--- ---- an offer that is there
-
-first_there : (rs : Records) (t : Bytes) (n j : ℕ) (xs : List ActionRecord) (a : ActionRecord) → slice_get xs j ≡ Some a
-    → (is_none a.outcome && (is_for rs t a && has_started rs a)) ≡ true → (o : Offer) × (first_offer rs t n xs ≡ Some o)
-first_there rs t n j [] a at is = cc
-first_there rs t n zero (x ∷ xs) a at is = let same : a ≡ x = cc in (record { action = n; canceling = x.canceling }, grind (arith, same, is))
-first_there rs t n (suc j) (x ∷ xs) a at is = elim (cases_Bool (is_none x.outcome && (is_for rs t x && has_started rs x))) [
-  | inl this ↦ (record { action = n; canceling = x.canceling }, rw this refl)
-  | inr other ↦ rw other (first_there rs t (suc n) j xs a at is)
-]
-
--- the target of an open action whose group is started is offered something
-pub offer_there : (rs : Records) (t : Bytes) (k : ℕ) (a : ActionRecord) → item_numbered rs.actions k ≡ Some a
-    → (is_none a.outcome && (is_for rs t a && has_started rs a)) ≡ true → (o : Offer) × (offer rs t ≡ Some o)
-offer_there rs t zero a at is = cc
-offer_there rs t (suc k) a at is = first_there rs t 1 k rs.actions a at is
+pub offer_becomes : (id : Bytes) (action : ℕ) (l next : Ledger) → Reoffers id action l next → (o : Option Offer)
+    → (length l.tallies ≡ length l.records.actions → o ≡ next_offer l.records id action) → next ≡ reoffered l id action o
+offer_becomes id action l next w o is = w.next_is ∙ ap (reoffered l id action) (sym (is w.tallied))
 
 -- ---- an offer that stays
 

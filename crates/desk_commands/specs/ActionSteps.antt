@@ -66,7 +66,7 @@ pub record Acts (seen : SeenAction) (after : ActionChange) (told : Option Told) 
   pub acted : Ledger
   pub tells : TellsAction seen after told l acted
   pub offered : Ledger
-  pub offers : MayReoffer (stays_offered seen.action.canceling after) seen.action.target acted offered
+  pub offers : MayReoffer (stays_offered seen.action.canceling after) seen.action.target seen.number acted offered
   pub follows : FollowsChange seen after offered next
 
 -- accepted feedback is told as it was reported, with so many numbers before, where something becomes of the action

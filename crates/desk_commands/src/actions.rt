@@ -81,21 +81,22 @@ fn stays_offered(seen: &SeenAction, after: &ActionChange) -> bool
     }
 }
 
-/// Looks up again what the target of an action is offered, unless it is offered the action as before.
+/// Looks up again what the target of an action is offered in its place, unless it is offered the action as before.
 fn offer_next<S: Alter>(
     change: &mut OpenChange<'_, S>,
     seen: &SeenAction,
     after: &ActionChange,
 ) -> Result<(), Fault>
     ensures stays { StaysIn S.Store change.old change.new result }
-    ensures writes { MakesLedger S.Store change.old change.new result (MayReoffer (stays_offered seen.now.action.canceling after.now) seen.now.action.target) }
+    ensures writes { MakesLedger S.Store change.old change.new result
+        (MayReoffer (stays_offered seen.now.action.canceling after.now) seen.now.action.target seen.now.number) }
     ensures fails { FailsSeeing S.Store AreActionsNumbered change.old change.new result }
     ensures work { AddsIn 2 1 change.old change.new }
 {
     if stays_offered(seen, after) {
         return Ok(());
     }
-    offer_anew(change, &seen.action.target)
+    offer_anew(change, &seen.action.target, seen.number)
 }
 
 /// Writes what follows from what became of an action.

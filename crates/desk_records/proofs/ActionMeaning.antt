@@ -4,7 +4,7 @@ use Rattle.desk_records.proofs.Common.{refl, List, [], ◌∷◌, ℕ, codes, po
 use Rattle.sql_front.proofs.TextsWithin.{QueriesWithin, queries_known_within}
 use Rattle.desk_records.specs.declared.action_texts.TheConstants.{LAST_ACTION, GET_ACTION, LIST_ACTIONS, COUNT_ACTIONS, LIST_TARGET_ACTIONS, LAST_ENDED, PUT_ACTION, SET_ACTION, PUT_FEEDBACK, LIST_ENTRIES, PUT_NUMBER, LAST_NUMBER, LIST_NUMBERS, GET_OFFER, LIST_OFFERS, SET_OFFER, DROP_OFFER, NEXT_OFFER}
 use Rattle.desk_records.specs.Schema.{group_table, action_table, Actions, Feedbacks, Offers, Numbers}
-use Rattle.desk_records.proofs.MeaningWords.{compiling, means_of, Asks, Counts, Puts, Changes, Drops, is_equal, is_more, is_least, is_most, at_key, in_order, greatest_number, changing, selects, no_limit, no_offset, first_only}
+use Rattle.desk_records.proofs.MeaningWords.{compiling, means_of, Asks, Counts, Puts, Changes, Drops, is_equal, is_more, is_least, is_most, at_key, at_least, in_order, greatest_number, changing, selects, no_limit, no_offset, first_only}
 
 pub last_action_is : Asks Actions LAST_ACTION.now greatest_number (codes "number" ∷ [])
 last_action_is = unfold compiling in record { queries = λ tree. record { parsed = _; select = _; source = _; page = _; shown = _; read = refl; is = (refl, refl, refl, refl); core = (refl, refl, refl); from = (refl, refl, refl, refl, refl); shows = (tt, tt); filter = tt; sorts = (tt, tt); paged = λ s. refl; named = (refl, refl); becomes = (refl, (refl, refl, refl)) }; shape = λ tree. refl }
@@ -99,20 +99,23 @@ owned_columns = col 1 2 ∷ col 1 3 ∷ col 1 1 ∷ []
 pub list_offers_is : Asks Offers LIST_OFFERS.now (λ tree. simple tree [] owned_columns) (codes "action" ∷ codes "kind" ∷ codes "controller" ∷ [])
 list_offers_is = unfold compiling in record { queries = λ tree. record { parsed = _; select = _; source = _; page = _; shown = _; read = refl; is = (refl, refl, refl, refl); core = (refl, refl, refl); from = (refl, refl, refl, refl, refl); shows = (tt, (tt, (tt, tt))); filter = tt; sorts = tt; paged = λ s. refl; named = (refl, refl); becomes = (refl, (refl, refl, refl)) }; shape = λ tree. refl }
 
+abbrev pub of_offer : List Term
+of_offer = at_key 1 0 ∷ at_key 2 1 ∷ []
+
 abbrev pub offer_values : List Term
-offer_values = col 1 1 ∷ col 0 1 ∷ col 0 2 ∷ []
+offer_values = col 1 1 ∷ col 0 2 ∷ col 0 3 ∷ []
 
-pub set_offer_is : Changes Offers SET_OFFER.now (changing of_controller offer_values)
-set_offer_is = unfold compiling in record { updates = λ tree. record { parsed = _; sets = _; test = _; draft = _; read = refl; is = (refl, refl); values = (tt, (tt, tt)); filter = ((refl, λ cx how x y. refl), tt, tt); known = refl; becomes = (refl, refl, refl) } }
+pub set_offer_is : Changes Offers SET_OFFER.now (changing of_offer offer_values)
+set_offer_is = unfold compiling in record { updates = λ tree. record { parsed = _; sets = _; test = _; draft = _; read = refl; is = (refl, refl); values = (tt, (tt, tt)); filter = ((refl, λ cx how x y. refl), ((refl, λ cx how x y. refl), tt, tt), ((refl, λ cx how x y. refl), tt, tt)); known = refl; becomes = (refl, refl, refl) } }
 
-pub drop_offer_is : Drops Offers DROP_OFFER.now (λ tree. simple tree of_controller (col 1 0 ∷ []))
-drop_offer_is = unfold compiling in record { removes = λ tree. record { parsed = _; test = _; draft = _; read = refl; is = (refl, refl); filter = ((refl, λ cx how x y. refl), tt, tt); known = refl; becomes = (refl, refl, refl) } }
+pub drop_offer_is : Drops Offers DROP_OFFER.now (λ tree. simple tree of_offer (col 1 0 ∷ []))
+drop_offer_is = unfold compiling in record { removes = λ tree. record { parsed = _; test = _; draft = _; read = refl; is = (refl, refl); filter = ((refl, λ cx how x y. refl), ((refl, λ cx how x y. refl), tt, tt), ((refl, λ cx how x y. refl), tt, tt)); known = refl; becomes = (refl, refl, refl) } }
 
 abbrev pub next_group : List Term
 next_group = is_equal (col 2 1) (col 1 2) ∷ is_most (col 2 3) (col 1 3) ∷ is_least (col 2 4) (col 1 3) ∷ is_equal (col 2 5) (lit (Int (pos 1))) ∷ []
 
 abbrev pub next_action : List Term
-next_action = at_key 4 0 ∷ is_equal (col 1 6) (lit (Int (pos 0))) ∷ col 2 0 ∷ []
+next_action = at_key 4 0 ∷ at_least 0 1 ∷ is_equal (col 1 6) (lit (Int (pos 0))) ∷ col 2 0 ∷ []
 
 abbrev pub next_columns : List Term
 next_columns = col 1 0 ∷ col 1 5 ∷ []
@@ -121,7 +124,7 @@ abbrev pub next_offer_query : ℕ → ℕ → Query
 next_offer_query tree other = record (by (simple tree next_action next_columns) ((col 1 0, record { descending = false; collation = Binary }) ∷ []) (lit (Int (pos 1))) (lit (Int (pos 0)))) { from = inner tree (counted 1 (inner other end) next_group end) }
 
 next_offer_queries : (tree other : ℕ) → QueriesWithin NEXT_OFFER.now (codes "action") (action_table tree) (codes "rollout_group") (group_table other) (next_offer_query tree other) (codes "number" ∷ codes "canceling" ∷ [])
-next_offer_queries tree other = unfold compiling in record { parsed = _; select = _; page = _; shown = _; read = refl; selects = record { statement = refl; formats = refl; with = refl; others = refl }; one = record { from = record { source = _; is = refl; table = refl; alias = refl; on = refl; using = refl; is_inner = refl }; group = refl; having = refl; shown = (tt, (tt, tt)); filter = ((refl, λ cx how x y. refl), ((refl, λ cx how x y. refl), ((refl, λ cx how x y. refl), tt, tt), ((refl, λ cx how x y. refl), tt, tt)), record { from = record { source = _; is = refl; table = refl; alias = refl; on = refl; using = refl; is_inner = refl }; shown = (tt, tt); filter = ((refl, λ cx how x y. refl), ((refl, λ cx how x y. refl), ((refl, λ cx how x y. refl), ((refl, λ cx how x y. refl), tt, tt), ((refl, λ cx how x y. refl), tt, tt)), ((refl, λ cx how x y. refl), tt, tt)), ((refl, λ cx how x y. refl), tt, tt)) }); sorts = (tt, tt) }; paged = λ s. refl; named_first = refl; named_second = refl; known = refl; is_body = refl; are_columns = refl; cap = _; test = _; over = refl; tests_fit = refl; fits = refl }
+next_offer_queries tree other = unfold compiling in record { parsed = _; select = _; page = _; shown = _; read = refl; selects = record { statement = refl; formats = refl; with = refl; others = refl }; one = record { from = record { source = _; is = refl; table = refl; alias = refl; on = refl; using = refl; is_inner = refl }; group = refl; having = refl; shown = (tt, (tt, tt)); filter = ((refl, λ cx how x y. refl), ((refl, λ cx how x y. refl), ((refl, λ cx how x y. refl), ((refl, λ cx how x y. refl), tt, tt), ((refl, λ cx how x y. refl), tt, tt)), ((refl, λ cx how x y. refl), tt, tt)), record { from = record { source = _; is = refl; table = refl; alias = refl; on = refl; using = refl; is_inner = refl }; shown = (tt, tt); filter = ((refl, λ cx how x y. refl), ((refl, λ cx how x y. refl), ((refl, λ cx how x y. refl), ((refl, λ cx how x y. refl), tt, tt), ((refl, λ cx how x y. refl), tt, tt)), ((refl, λ cx how x y. refl), tt, tt)), ((refl, λ cx how x y. refl), tt, tt)) }); sorts = (tt, tt) }; paged = λ s. refl; named_first = refl; named_second = refl; known = refl; is_body = refl; are_columns = refl; cap = _; test = _; over = refl; tests_fit = refl; fits = refl }
 
 pub next_offer_is : (s : Schema) (at tree nest other : ℕ) → Stands s (codes "action") at (action_table tree) → Stands s (codes "rollout_group") nest (group_table other)
     → Means s NEXT_OFFER.now (selects (next_offer_query tree other) (codes "number" ∷ codes "canceling" ∷ []))

@@ -98,9 +98,9 @@ pub use Rattle.desk_records.specs.FoundPieces.{ArePieces, lies_at}
 pub use Rattle.desk_records.specs.Holds.{AreRowsOf, HoldsLedger, HoldsRecords, IsHeld, Ledger, Offered, Ordered, Unordered, content_of, desk_row, ledger_of}
 pub use Rattle.desk_records.specs.Holds.{module_row}
 pub use Rattle.desk_records.specs.LedgerSteps.{AddsAction, AddsEntry, AddsGroup, AddsMember, AddsNumber, AddsRollout, AddsRule, OffersGroup, SetsAction}
-pub use Rattle.desk_records.specs.LedgerSteps.{SetsGroup, SetsOffer, SetsRollout, action_turned, and_entry, and_group, and_member, group_counted, bare_rollout}
-pub use Rattle.desk_records.specs.LedgerSteps.{cut_group, no_tally, scheduled, turned, with_actions, with_groups, with_numbers, with_offer, with_rollouts}
-pub use Rattle.desk_records.specs.LedgerSteps.{with_rules}
+pub use Rattle.desk_records.specs.LedgerSteps.{SetsGroup, SetsRollout, action_turned, and_entry, and_group, and_member, group_counted, bare_rollout}
+pub use Rattle.desk_records.specs.LedgerSteps.{cut_group, no_tally, scheduled, turned, with_actions, with_groups, with_numbers, with_rollouts}
+pub use Rattle.desk_records.specs.LedgerSteps.{in_place_of, reoffered, with_rules}
 pub use Rattle.desk_records.specs.Listings.{AreBroken, AreRead, AreSaid, IsLastNumber, IsOnly, has_at, has_text_at, is_number_of, is_text_of}
 pub use Rattle.desk_records.specs.ModuleRow.{fault_at}
 pub use Rattle.desk_records.specs.Modules.{IsLastRow, is_same, with_module, words_of}

@@ -1,6 +1,7 @@
 -- What is read of the next offer, where a ledger is held.
 use Rattle.desk_records.proofs.Common.{first_taken, ◌≡◌, ◌<◌, ℕ, zero, suc, ◌+◌, List, [], ◌∷◌, map, filter, length, slice_get, Bool, true, false, ◌&&◌, Option}
-use Rattle.desk_records.proofs.Common.{shown_offer, option_map, refl, ap, ◌∙◌, arith, nat_eq, list_any, zip, is_none, nat_tests, list_any-append, Null, Text}
+use Rattle.desk_records.proofs.Common.{Int, pos, nat_le, shown_offer, option_map, refl, ap, ◌∙◌, arith, nat_eq, list_any, zip, is_none, nat_tests}
+use Rattle.desk_records.proofs.Common.{list_any-append, Null, Text}
 use Rattle.desk_records.proofs.Common.{Row, eval_all, Database, rows_from, ShowsFirst, on_content, item_numbered, Bytes, Outcome, ActionRecord, GroupRecord}
 use Rattle.desk_records.proofs.Common.{RolloutRecord, Tally, action_row, outcome_code, HoldsLedger, Ledger, parts_from, parts_of, flag, group_row, groups_from}
 use Rattle.desk_records.proofs.Common.{Actions, Groups, and-true, and_assoc}
@@ -43,7 +44,7 @@ is_open o = grind arith
 is_started : (b : Bool) → nat_eq (flag b) 1 ≡ b
 is_started b = grind arith
 
-module _ (db : Database) (l : Ledger) (holds : HoldsLedger db l) (names : List (List ℕ)) (id : Bytes) where
+module _ (db : Database) (l : Ledger) (holds : HoldsLedger db l) (names : List (List ℕ)) (id : Bytes) (k : ℕ) where
   abbrev tree : ℕ
   tree = (holds.spot Actions).tree
 
@@ -57,7 +58,7 @@ module _ (db : Database) (l : Ledger) (holds : HoldsLedger db l) (names : List (
   row = action_row rollouts
 
   abbrev params : Row
-  params = Text id ∷ []
+  params = Text id ∷ Int (pos k) ∷ []
 
   beside_it : (n : ℕ) (it : ActionRecord × Tally) (m place : ℕ) (g : GroupRecord) → on_content (is_beside next_group params (row n it)) (group_row m place g)
       ≡ (nat_eq m it.0.rollout && starts_at it.0.position g)
@@ -75,18 +76,18 @@ module _ (db : Database) (l : Ledger) (holds : HoldsLedger db l) (names : List (
   abbrev show : Row → Row
   show r = eval_all next_columns (seen row (λ n x. refl) tree other next_group next_action next_columns first_only no_offset params (db.trees other) r)
 
-  passes_is : (n : ℕ) (it : ActionRecord × Tally) → passes (row n it) ≡ is_next rollouts id it.0
-  passes_is n it = grind (arith, words_equal, numbers_equal, is_open, counts_any, any_beside, and-true)
+  passes_is : (n : ℕ) (it : ActionRecord × Tally) → passes (row n it) ≡ (nat_le k n && is_next rollouts id it.0)
+  passes_is n it = grind (arith, words_equal, numbers_equal, numbers_at_least, is_open, counts_any, any_beside, and-true)
 
   first_next : (n : ℕ) (as' : List ActionRecord) (ts : List Tally) → length ts ≡ length as'
-      → slice_get (map show (filter passes (rows_from row n (zip as' ts)))) 0 ≡ option_map shown_offer (next_offer_from rollouts id n as')
+      → slice_get (map show (filter passes (rows_from row n (zip as' ts)))) 0 ≡ option_map shown_offer (next_offer_from rollouts id k n as')
   first_next n [] ts same = refl
   first_next n (a ∷ as') [] same = absurd (omega (arith, same))
   first_next n (a ∷ as') (t ∷ ts) same = grind (arith, passes_is n (a, t), first_next (n + 1) as' ts)
 
-  -- what a target is offered next
+  -- what a target is offered next, of the actions of a number or more
   pub gets_next_offer : length l.tallies ≡ length l.records.actions → (found : Option Row) → ShowsFirst (selects (next_offer_query tree other) names) db params
-      found → found ≡ option_map shown_offer (next_offer l.records id)
+      found → found ≡ option_map shown_offer (next_offer l.records id k)
   gets_next_offer tallied found shown =
       first_row (selects (next_offer_query tree other) names) db params _ (λ rows shows. ap (λ (r : List Row). slice_get r 0)
       (within_in_order row (λ n x. refl) tree other next_group next_action next_columns first_only no_offset params db.trees

@@ -4,7 +4,7 @@ use Rattle.desk_records.proofs.Common.{Chosen, None, refl, sym, ap, ◌∙◌, s
 use Rattle.desk_records.proofs.Common.{column, Trees, rowid, put_row, without_rowid, Table, Schema, Has, cast_all, cast_row, next_rowid, edit_of, with_rowid}
 use Rattle.desk_records.proofs.Common.{Applies, col, is_true, Compare, Eq, Lt, Binary, IsBlind, on_content, held_added, held_seen, held_changed}
 use Rattle.desk_records.proofs.Common.{next_is, found_id, none_passes, is_among, only_one, one_written, written, cast_int, cast_null, passes, shown_of}
-use Rattle.desk_records.proofs.Common.{simple_rows, PutsEach, same_bytes, Bytes, TargetOffer, offer_to, same_true, Offer, OffersById, lesser, put_offer}
+use Rattle.desk_records.proofs.Common.{simple_rows, PutsEach, same_bytes, Bytes, TargetOffer, offer_to, same_true, Offer, OffersById, is_to, lesser, put_offer}
 use Rattle.desk_records.proofs.Common.{put_offers, flag, offer_table, HoldsOffers, offer_row, and-true, short}
 use Rattle.sqlite_schema.specs.declared.program.Program.{Program}
 use Rattle.sqlite_schema.specs.declared.schema.Keys.TheVariants.{Enforced}
@@ -159,11 +159,11 @@ module _ (schema : Schema) (tree : ℕ) (key : IsKeyOnly schema (offer_table tre
             let shown_found : shows found ≡ Int (pos made.0) ∷ Int (pos made.0) ∷ values_for made.1 = ap shows made.2 in
             let all : next tree ≡ put_row (Int (pos made.0) ∷ f made.1) (without_rowid (pos made.0) rows) =
             is.2.rows ∙ ap (written table rows f) (row_is ∙ ap (λ l. l ∷ []) shown_found) ∙ one_written table rows f made.0 (values_for made.1) in
-            let set = rows_set new.target new.offer (on_content its) f (names_offer new.target []) (λ o. settled tree (record o { offer = new.offer }))
+            let set = rows_set (is_to new.target) new.offer (on_content its) f (names_offer new.target []) (λ o. settled tree (record o { offer = new.offer }))
             h.listed in
             let less_is : lesser (Some y) (Some new.offer) ≡ Some new.offer = ap (λ b. Some (cond b new.offer y)) lt in
             record {
-              listed = map (other_offer new.target new.offer) h.listed;
+              listed = map (other_offer (is_to new.target) new.offer) h.listed;
               held = grind (arith, all, set, made.3);
               its = λ t. grind (arith, its_set, h.its t, offers_set new.target t new.offer y offers, put_is new offers (Some y) some less_is t);
             }

@@ -154,11 +154,14 @@ pub record AddsNumber (number place : ℕ) (it : PlacedNumber) (l next : Ledger)
 abbrev pub with_offer : Ledger → Bytes → Option Offer → Ledger
 with_offer l id o = record l { offers = λ (t : Bytes). cond (same_bytes id t) o (l.offers t) }
 
--- the target has one
-pub record SetsOffer (id : Bytes) (o : Offer) (l next : Ledger) : Type 0 where
-  pub was : Offer
-  pub is_there : l.offers id ≡ Some was
-  pub next_is : next ≡ with_offer l id (Some o)
+-- another offer, or none, in place of that of an action
+abbrev pub in_place_of : ℕ → Option Offer → Option Offer → Option Offer
+in_place_of action o None = None
+in_place_of action o (Some was) = cond (nat_eq was.action action) o (Some was)
+
+-- of one target another offer, or none, in place of its offer of an action
+abbrev pub reoffered : Ledger → Bytes → ℕ → Option Offer → Ledger
+reoffered l id action o = with_offer l id (in_place_of action o (l.offers id))
 
 -- each action of the rollout between the bounds is offered to its target, unless that is offered one of no greater number
 pub record OffersGroup (number : ℕ) (bounds : Bounds) (l next : Ledger) : Type 0 where

@@ -1,5 +1,5 @@
 -- What a target is offered next, by the rows of actions and groups.
-use Rattle.std.specs.Prelude.{ℕ, suc, Bool, ◌&&◌, cond, List, [], ◌∷◌, Option, Some, None}
+use Rattle.std.specs.Prelude.{ℕ, suc, Bool, ◌&&◌, cond, nat_le, List, [], ◌∷◌, Option, Some, None}
 use Rattle.std.specs.List.{list_any}
 use Rattle.std.specs.Option.{is_none}
 use Rattle.rollout_machine.specs.ByteStrings.{item_numbered, same_bytes}
@@ -25,11 +25,11 @@ any_starts rollouts a = list_any (starts_at a.position) (parts_of (λ (x : Rollo
 abbrev pub is_next : List RolloutRecord → Bytes → ActionRecord → Bool
 is_next rollouts id a = same_bytes (actor_of rollouts a) id && (is_none a.outcome && any_starts rollouts a)
 
--- the first of these, numbered from k, to be canceled where it is canceling
-abbrev pub next_offer_from : List RolloutRecord → Bytes → ℕ → List ActionRecord → Option Offer
-next_offer_from rollouts id k [] = None
-next_offer_from rollouts id k (a ∷ more) = cond (is_next rollouts id a) (Some (record { action = k; canceling = a.canceling }))
-    (next_offer_from rollouts id (suc k) more)
+-- the first of these, numbered from n, whose number is k or more, to be canceled where it is canceling
+abbrev pub next_offer_from : List RolloutRecord → Bytes → ℕ → ℕ → List ActionRecord → Option Offer
+next_offer_from rollouts id k n [] = None
+next_offer_from rollouts id k n (a ∷ more) = cond (nat_le k n && is_next rollouts id a) (Some (record { action = n; canceling = a.canceling }))
+    (next_offer_from rollouts id k (suc n) more)
 
-abbrev pub next_offer : Records → Bytes → Option Offer
-next_offer r id = next_offer_from r.rollouts id 1 r.actions
+abbrev pub next_offer : Records → Bytes → ℕ → Option Offer
+next_offer r id k = next_offer_from r.rollouts id k 1 r.actions

@@ -54,13 +54,16 @@ pub const GET_OFFER: &str = "SELECT action, kind FROM offer WHERE controller = ?
 /// The offers of all targets.
 pub const LIST_OFFERS: &str = "SELECT action, kind, controller FROM offer";
 
-pub const SET_OFFER: &str = "UPDATE offer SET action = ?2, kind = ?3 WHERE controller = ?1";
+/// Another offer in place of a target's offer of an action.
+pub const SET_OFFER: &str =
+    "UPDATE offer SET action = ?3, kind = ?4 WHERE controller = ?1 AND action = ?2";
 
-pub const DROP_OFFER: &str = "DELETE FROM offer WHERE controller = ?1";
+/// Nothing in place of a target's offer of an action.
+pub const DROP_OFFER: &str = "DELETE FROM offer WHERE controller = ?1 AND action = ?2";
 
-/// The first of a target's actions that is open and whose place a started group of its rollout holds.
+/// The first of a target's actions, from one on, that is open and whose place a started group of its rollout holds.
 pub const NEXT_OFFER: &str =
-    "SELECT number, canceling FROM action WHERE controller = ?1 AND outcome = 0 AND EXISTS (SELECT 1 FROM rollout_group \
+    "SELECT number, canceling FROM action WHERE controller = ?1 AND number >= ?2 AND outcome = 0 AND EXISTS (SELECT 1 FROM rollout_group \
         WHERE rollout_group.rollout = action.rollout AND rollout_group.first_place <= action.place \
         AND rollout_group.last_place >= action.place AND rollout_group.started = 1) ORDER BY number LIMIT 1";
 

@@ -1,5 +1,6 @@
 -- The call on the next offer, whose text names two tables.
-use Rattle.desk_store.proofs.Common.{◌≡◌, [], ◌∷◌, length, Option, Some, Ok, Result, IfOk, refl, ap, codes, Text, Row, Select, State, Fault, TakesFirst, Finds}
+use Rattle.desk_store.proofs.Common.{◌≡◌, ℕ, pos, Int, [], ◌∷◌, length, Option, Some, Ok, Result, IfOk, refl, ap, codes, Text, Row, Select, State, Fault}
+use Rattle.desk_store.proofs.Common.{TakesFirst, Finds}
 use Rattle.desk_store.proofs.Common.{Knows, Bytes, Offer, NEXT_OFFER, HoldsLedger, Ledger, IsOfferRow, Actions, Groups, HoldsTables, next_offer_query}
 use Rattle.desk_store.proofs.Common.{next_offer_is, shown_offer, IsReadAs, next_offer, gets_next_offer}
 use Rattle.desk_store.proofs.Known.{in_ledgers}
@@ -14,9 +15,9 @@ next db tables holds = record {
       (holds.stands Actions) (holds.stands Groups);
 }
 
-pub next_offer_read : (id : Bytes) {old new : State} {row : Option Row} → TakesFirst old new NEXT_OFFER.now (Text id ∷ []) (Ok row)
+pub next_offer_read : (id : Bytes) (k : ℕ) {old new : State} {row : Option Row} → TakesFirst old new NEXT_OFFER.now (Text id ∷ Int (pos k) ∷ []) (Ok row)
     → (out : Result (Option Offer) Fault) → IfOk out (λ found. IsReadAs IsOfferRow found row)
-    → Finds HoldsLedger (λ (l : Ledger). l) old new out (λ l found. length l.tallies ≡ length l.records.actions → found ≡ next_offer l.records id)
-next_offer_read id {row = row} = first_tells (in_ledgers next) (λ db l holds at given. tt) (λ db l holds shown found is tallied.
-    one_read IsOfferRow shown_offer ◌≡◌ refl (λ a b read. ap Some (one_offer a b read)) found (next_offer l.records id) row is
-    (gets_next_offer db l holds [] id tallied row shown))
+    → Finds HoldsLedger (λ (l : Ledger). l) old new out (λ l found. length l.tallies ≡ length l.records.actions → found ≡ next_offer l.records id k)
+next_offer_read id k {row = row} = first_tells (in_ledgers next) (λ db l holds at given. tt) (λ db l holds shown found is tallied.
+    one_read IsOfferRow shown_offer ◌≡◌ refl (λ a b read. ap Some (one_offer a b read)) found (next_offer l.records id k) row is
+    (gets_next_offer db l holds [] id k tallied row shown))

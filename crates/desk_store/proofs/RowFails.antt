@@ -52,14 +52,14 @@ abbrev action_in : Option Offer → ℕ
 action_in None = 0
 action_in (Some o) = o.action
 
-next_from : (rollouts : List RolloutRecord) (id : Bytes) (k : ℕ) (as' : List ActionRecord) (o : Offer) → next_offer_from rollouts id k as' ≡ Some o
-    → (k ≤ o.action) × (o.action < k + length as')
-next_from rollouts id k [] o is = absurd cc
-next_from rollouts id k (a ∷ more) o is = grind (arith, next_from rollouts id (suc k) more o)
+next_from : (rollouts : List RolloutRecord) (id : Bytes) (k n : ℕ) (as' : List ActionRecord) (o : Offer) → next_offer_from rollouts id k n as' ≡ Some o
+    → (n ≤ o.action) × (o.action < n + length as')
+next_from rollouts id k n [] o is = absurd cc
+next_from rollouts id k n (a ∷ more) o is = grind (arith, next_from rollouts id k (suc n) more o)
 
-next_in_range : (rollouts : List RolloutRecord) (id : Bytes) (as' : List ActionRecord) → length as' ≤ number_limit → (o : Offer)
-    → next_offer_from rollouts id 1 as' ≡ Some o → is_number o.action ≡ true
-next_in_range rollouts id as' few o is = let its = next_from rollouts id 1 as' o is in is_in_range o.action its.0 (omega (arith, its.1, few))
+next_in_range : (rollouts : List RolloutRecord) (id : Bytes) (k : ℕ) (as' : List ActionRecord) → length as' ≤ number_limit → (o : Offer)
+    → next_offer_from rollouts id k 1 as' ≡ Some o → is_number o.action ≡ true
+next_in_range rollouts id k as' few o is = let its = next_from rollouts id k 1 as' o is in is_in_range o.action its.0 (omega (arith, its.1, few))
 
 never_next : (wanted : Option Offer) (row : Option Row) → row ≡ option_map shown_offer wanted → ((o : Offer) → wanted ≡ Some o → is_number o.action ≡ true)
     → IsBroken (λ r. BreaksRule (broken_offer_column r)) row → ⊥
@@ -81,12 +81,13 @@ module _ {S : Type 0} {g : Ghosts S} {old new : OpenChange S} {row : Option Row}
       (λ db l holds shown readable. never_untold l.records.approval row (gets_desk db l holds [] row shown))) out (told_alone _ out broken)
 
   -- the next offer
-  pub next_fails : (id : Bytes) → TakesFirst (seen_in g old) (seen_in g new) NEXT_OFFER.now (Text id ∷ []) (Ok row) → (out : Result (Option Offer) Fault)
+  pub next_fails : (id : Bytes) (k : ℕ) → TakesFirst (seen_in g old) (seen_in g new) NEXT_OFFER.now (Text id ∷ Int (pos k) ∷ []) (Ok row)
+      → (out : Result (Option Offer) Fault)
       → IfErr out (λ fault. IfRowsBroken fault (IsBroken (λ r. BreaksRule (broken_offer_column r)) row))
       → FailsSeeing g AreActionsNumbered old new out
-  next_fails id h out broken =
+  next_fails id k h out broken =
       let found : FindsLedger g {E = Fault} old new (Ok (tt {0})) (λ l u. AreActionsNumbered l → IsBroken (λ r. BreaksRule (broken_offer_column r)) row → ⊥) =
-      first_finds HoldsLedger (λ (l : Ledger). l) NEXT_OFFER.now (Text id ∷ []) (seen_in g old) (seen_in g new) _ (in_ledgers next)
-      (λ db l holds at given. tt) row h (Ok (tt {0})) (λ db l holds shown numbers. never_next (next_offer l.records id) row
-      (gets_next_offer db l holds [] id numbers.tallied row shown) (λ o is. next_in_range l.records.rollouts id l.records.actions numbers.few o is)) in
+      first_finds HoldsLedger (λ (l : Ledger). l) NEXT_OFFER.now (Text id ∷ Int (pos k) ∷ []) (seen_in g old) (seen_in g new) _ (in_ledgers next)
+      (λ db l holds at given. tt) row h (Ok (tt {0})) (λ db l holds shown numbers. never_next (next_offer l.records id k) row
+      (gets_next_offer db l holds [] id k numbers.tallied row shown) (λ o is. next_in_range l.records.rollouts id k l.records.actions numbers.few o is)) in
       breaks_first_by found out (broken_so (λ is l never numbers. never numbers is) out broken)
