@@ -55,17 +55,6 @@ module _ (r : Records) (asked : Asked) (listed : ListedTarget) where
     attributes = swapped asked.attributes [] (attributes_of (target_of r listed.id)) i;
   })
 
-  -- .. where its tags are known
-  pub tagged_is : (t : Target) (tags : List Bytes) → t ≡ record { id = listed.id; name = listed.name; tags = tags; attributes = [] }
-      → tags ≡ cond asked.tags (tags_of (target_of r listed.id)) []
-      → with_rest r (record { tags = true; attributes = not asked.attributes }) t ≡ asked_listed r asked listed
-  tagged_is t tags bare its = ap (with_rest r (record { tags = true; attributes = not asked.attributes })) bare ∙ (λ i. record {
-    id = listed.id;
-    name = listed.name;
-    tags = its i;
-    attributes = swapped asked.attributes [] (attributes_of (target_of r listed.id)) i;
-  })
-
   -- with the rest it is whole
   pub whole_is : with_rest r asked (asked_listed r asked listed) ≡ target_listed r listed
   whole_is = λ i. record {

@@ -15,7 +15,7 @@ use Rattle.desk_records.specs.TargetRow.{listed_target}
 use Rattle.desk_records.specs.Targets.{is_between, targets_between}
 use Rattle.desk_records.specs.declared.target_row.ListedTarget.{ListedTarget}
 use Rattle.desk_reads.proofs.ListedTargets.{passing_seen}
-use Rattle.desk_reads.proofs.OwnTags.{ids_listed}
+use Rattle.desk_reads.proofs.Owned.{ids_listed}
 use Rattle.desk_reads.specs.Candidates.{AreBegun, AreCandidates, IsNextTo}
 use Rattle.desk_reads.specs.Targets.{listed_ids, target_listed}
 

@@ -4,7 +4,7 @@ pub mod ListLemmas
 pub mod RuleLemmas
 pub mod ListedTargets
 pub mod AskedTargets
-pub mod OwnTags
+pub mod Owned
 pub mod BegunTargets
 pub mod KnownDevices
 pub mod HistoryKept

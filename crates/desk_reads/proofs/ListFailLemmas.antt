@@ -11,7 +11,7 @@ use Rattle.sql_calls.specs.declared.fault.Fault.TheVariants.{Memory}
 use Rattle.desk_store.specs.Changing.{FindsIn, StaysIn, seen_in}
 use Rattle.desk_store.specs.Failing.{FailsGiven}
 use Rattle.desk_store.specs.declared.change.OpenChange.{OpenChange}
-use Rattle.desk_reads.specs.AtLists.{FailsWith, IsOfList, IsOfListWith}
+use Rattle.desk_reads.specs.AtLists.{IsOfList, IsOfListWith}
 
 module _ {S A B : Type 0} {g : Ghosts S} {old new : OpenChange S} {x : A} {P : Records → A → Type 0} where
   -- where no call failed: what was found at such a list leaves no such fault
@@ -32,11 +32,6 @@ module _ {S A : Type 0} {g : Ghosts S} {Given : Ledger → Type 0} (at : (l : Le
       → ((r : Records) → P r x → AreOfList r → Given (ledger_of r) → Want r) → (out : Result B Fault) → IsErrAnd out (λ other. other ≡ fault)
       → FailsGiven g Given old new out
   fails_when read wears fault fails means out is = grind (arith, listed)
-
-module _ {S B : Type 0} {g : Ghosts S} {old new : OpenChange S} {Want : Records → Type 0} where
-  -- where no call was made: what is wanted of the records of a list leaves no such fault
-  pub never_with : (out : Result B Fault) → IsErr out → ((h : CommandList) → IsValid h → Want (records h) → ⊥) → FailsWith g Want old new out
-  never_with out failed why = grind arith
 
 -- ---- a loop that ends by a fault
 

@@ -1,17 +1,19 @@
 -- Targets as they are read.
-use Rattle.std.specs.Prelude.{◌≡◌, ◌⊎◌, ℕ, ◌+◌, Bool, true, ◌-◌, cond, length, List, [], ◌∷◌, map, slice_get, Option, Some, None}
+use Rattle.std.specs.Prelude.{◌≡◌, ◌⊎◌, ℕ, ◌+◌, Bool, true, false, ◌-◌, cond, filter, length, List, [], map, slice_get, Option, Some, None}
 use Rattle.std.specs.Int.{div_ceil}
 use Rattle.std.specs.List.{AllByRecursion}
 use Rattle.std.specs.Option.{IsSomeAnd}
 use Rattle.rollout_machine.specs.Records.{Records}
 use Rattle.rollout_machine.specs.Verdicts.{tags_of, target_of}
 use Rattle.rollout_model.specs.declared.target.Target.{Target}
+use Rattle.rollout_model.specs.Rules.{is_tag_list}
 use Rattle.target_filter.specs.Grammar.{Tree}
 use Rattle.target_filter.specs.Names.{names_attributes, names_tags}
 use Rattle.rollout_machine.specs.ByteStrings.{same_bytes}
-use Rattle.rollout_machine.specs.Commands.{Bytes}
+use Rattle.rollout_machine.specs.Commands.{Attribute, Bytes}
 use Rattle.desk_records.specs.Targets.{attributes_of, in_byte_order}
 use Rattle.desk_records.specs.declared.target_row.ListedTarget.{ListedTarget}
+use Rattle.desk_records.specs.declared.target_row.OwnedAttribute.{OwnedAttribute}
 use Rattle.desk_records.specs.declared.target_row.OwnedTag.{OwnedTag}
 use Rattle.desk_reads.specs.declared.targets.Asked.{Asked}
 
@@ -49,23 +51,44 @@ with_rest r asked t = record {
   attributes = cond asked.attributes t.attributes (attributes_of (target_of r t.id));
 }
 
--- ---- the tags of many targets
+-- ---- what many targets have
 
 abbrev pub listed_ids : List ListedTarget → List Bytes
 listed_ids ls = map (λ (l : ListedTarget). l.id) ls
 
 -- those of the tags that are of the target of an id
-abbrev pub own : Bytes → List OwnedTag → List Bytes
-own id [] = []
-own id (o ∷ os) = cond (same_bytes o.id id) (o.tag ∷ own id os) (own id os)
+abbrev pub own_tags : Bytes → List OwnedTag → List Bytes
+own_tags id owned = map (λ (o : OwnedTag). o.tag) (filter (λ (o : OwnedTag). same_bytes o.id id) owned)
+
+-- .. of the attributes
+abbrev pub own_attributes : Bytes → List OwnedAttribute → List Attribute
+own_attributes id owned = map (λ (o : OwnedAttribute). o.attribute) (filter (λ (o : OwnedAttribute). same_bytes o.id id) owned)
+
+-- a target that was listed, with its own of both
+abbrev pub own_listed : List OwnedTag → List OwnedAttribute → ListedTarget → Target
+own_listed tags attributes l = record {
+  id = l.id;
+  name = l.name;
+  tags = own_tags l.id tags;
+  attributes = own_attributes l.id attributes;
+}
 
 -- of each target they are all of its tags, or none
 pub record AreOwned (r : Records) (owned : List OwnedTag) : Type 0 where
-  pub whole : (id : Bytes) → (own id owned ≡ tags_of (target_of r id)) ⊎ (own id owned ≡ [])
+  pub whole : (id : Bytes) → (own_tags id owned ≡ tags_of (target_of r id)) ⊎ (own_tags id owned ≡ [])
+
+-- those of some target are no list of tags
+pub record HasNoTagList (owned : List OwnedTag) : Type 0 where
+  pub id : Bytes
+  pub wrong : is_tag_list (own_tags id owned) ≡ false
 
 -- the listed target's own are its tags, where they are wanted, and else none
 abbrev pub HasItsTags : Records → Bool → List OwnedTag → ListedTarget → Type 0
-HasItsTags r wanted owned l = own l.id owned ≡ cond wanted (tags_of (target_of r l.id)) []
+HasItsTags r wanted owned l = own_tags l.id owned ≡ cond wanted (tags_of (target_of r l.id)) []
+
+-- .. its attributes
+abbrev pub HasItsAttributes : Records → Bool → List OwnedAttribute → ListedTarget → Type 0
+HasItsAttributes r wanted owned l = own_attributes l.id owned ≡ cond wanted (attributes_of (target_of r l.id)) []
 
 -- the ids of the first and of the last
 pub record AreEnds (listed : List ListedTarget) (first last : Bytes) : Type 0 where
@@ -76,6 +99,9 @@ pub record AreEnds (listed : List ListedTarget) (first last : Bytes) : Type 0 wh
 pub record AreTagsOf (r : Records) (wanted : Bool) (listed : List ListedTarget) (owned : List OwnedTag) : Type 0 where
   pub owned_whole : AreOwned r owned
   pub each : in_byte_order (listed_ids listed) ≡ true → AllByRecursion (HasItsTags r wanted owned) listed
+
+abbrev pub AreAttributesOf : Records → Bool → List ListedTarget → List OwnedAttribute → Type 0
+AreAttributesOf r wanted listed owned = in_byte_order (listed_ids listed) ≡ true → AllByRecursion (HasItsAttributes r wanted owned) listed
 
 -- ---- how many statements it takes
 
@@ -90,6 +116,6 @@ abbrev pub parts_named : Option Tree → ℕ
 parts_named None = 0
 parts_named (Some f) = cond (names_tags f) 1 0 + cond (names_attributes f) 1 0
 
--- of so many targets: the tags of up to 32 by one statement, the attributes of each by one
+-- of so many targets: the tags of up to 16 by one statement, and the attributes of as many by one
 abbrev pub parts_listed : Asked → ℕ → ℕ
-parts_listed asked size = cond asked.tags (div_ceil size 32) 0 + cond asked.attributes size 0
+parts_listed asked size = cond asked.tags (div_ceil size 16) 0 + cond asked.attributes (div_ceil size 16) 0

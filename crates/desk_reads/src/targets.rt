@@ -1,26 +1,26 @@
 //! Targets with their tags and attributes.
 
-ghost use Rattle.std.specs.Prelude.{◌≡◌, ◌≤◌, ◌+◌, ◌++◌, [], true, false, cond, drop, length, map, take, IfErr, IfOk, MatchOption, MatchResult};
+ghost use Rattle.std.specs.Prelude.{◌≡◌, ◌≤◌, ◌+◌, ◌++◌, ◌⊎◌, [], true, false, cond, drop, length, map, take, IfErr, IfOk, MatchOption, MatchResult};
 ghost use Rattle.std.specs.Option.{IsSomeAnd};
-ghost use Rattle.desk_reads.specs.AtLists.{FailsAtListsIn, FailsWith};
+ghost use Rattle.desk_reads.specs.AtLists.{FailsAtListsIn};
 ghost use Rattle.rollout_machine.specs.Verdicts.{tags_of, target_of};
 ghost use Rattle.rollout_model.specs.Rules.{is_tag_list};
 ghost use Rattle.target_filter.specs.Profile.{filter_of};
 ghost use Rattle.desk_records.specs.Targets.{attributes_of, in_byte_order};
 ghost use Rattle.sql_calls.specs.declared.fault.Fault.TheVariants.{Broken, Memory};
-ghost use Rattle.desk_reads.specs.Targets.{AreEnds, AreOwned, AreTagsOf, HasItsTags, IsNamedBy, asked_listed, listed_ids, own, parts_asked};
-ghost use Rattle.desk_reads.specs.Targets.{parts_left, parts_listed, parts_named, target_listed, with_rest};
+ghost use Rattle.desk_reads.specs.Targets.{AreAttributesOf, AreEnds, AreTagsOf, HasNoTagList, IsNamedBy, asked_listed, listed_ids, own_attributes};
+ghost use Rattle.desk_reads.specs.Targets.{own_listed, own_tags, parts_asked, parts_left, parts_listed, parts_named, target_listed, with_rest};
 ghost use Rattle.desk_store.specs.Changing.{FindsIn, StaysIn};
 
-use desk_store::{Fault, ListedTarget, OpenChange, OwnedTag};
+use desk_store::{Fault, ListedTarget, OpenChange, OwnedAttribute, OwnedTag};
 use rollout_model::{Attributes, ControllerId, Tags, Target, Word};
 use sqlite::Alter;
 use std::alloc::Global;
 use std::mem;
 use target_filter::Filter;
 
-/// How many targets one statement reads the tags of.
-const PART: usize = 32;
+/// How many targets one statement reads the tags of, or the attributes. Each looks for its own among what was read of all of them.
+const PART: usize = 16;
 
 /// What is asked for of a target beside its id and its name.
 #[derive(Clone, Copy)]
@@ -80,7 +80,7 @@ pub fn read_asked<S: Alter>(
 }
 
 /// Targets that were listed in byte order of their ids, with their tags and their attributes where they are asked for, and with none
-/// where they aren't: their tags by a statement for up to 32 of them, their attributes by one for each.
+/// where they aren't: by a statement for up to 16 of them for each that is asked for.
 pub fn read_all_asked<S: Alter>(
     change: &mut OpenChange<'_, S>,
     listed: Vec<ListedTarget>,
@@ -104,10 +104,10 @@ pub fn read_all_asked<S: Alter>(
     Ok(found)
 }
 
-/// Takes as many off the front as one statement reads the tags of.
+/// Takes as many off the front as one statement reads what they have.
 fn take_part(left: &mut Vec<ListedTarget>) -> Result<Vec<ListedTarget>, Fault>
-    ensures part { IfOk result (λ part. part.items ≡ take 32 left.old.items) }
-    ensures left { IfOk result (λ _. left.new.items ≡ drop 32 left.old.items) }
+    ensures part { IfOk result (λ part. part.items ≡ take 16 left.old.items) }
+    ensures left { IfOk result (λ _. left.new.items ≡ drop 16 left.old.items) }
     ensures err { IfErr result (λ fault. fault ≡ Memory) }
 {
     let at = PART.min(left.len());
@@ -130,19 +130,16 @@ fn read_part<S: Alter>(
         (λ now _. in_byte_order (listed_ids listed.items) ≡ true → found.new.items ≡ found.old.items ++ map (asked_listed now asked) listed.items) }
     ensures fails { FailsAtListsIn S.Store change.old change.new result }
     ensures counts { IfOk result (λ _. length found.new.items ≡ length found.old.items + length listed.items) }
-    ensures work { IfOk result (λ _. change.new.store.now.calls.work.statements ≤ change.old.store.now.calls.work.statements
-        + (cond asked.tags 1 0 + cond asked.attributes (length listed.items) 0)) }
+    ensures work { change.new.store.now.calls.work.statements ≤ change.old.store.now.calls.work.statements + parts_asked asked }
 {
-    let owned = owned_where(change, &listed, asked.tags)?;
-    for entry in listed {
-        let target = read_tagged(change, entry, &owned, asked)?;
-        found.push(target)?;
-    }
+    let tags = tags_where(change, &listed, asked.tags)?;
+    let attributes = attributes_where(change, &listed, asked.attributes)?;
+    add_own(change.alloc(), listed, &tags, &attributes, found)?;
     Ok(())
 }
 
 /// The tags of the targets from the first to the last that were listed, where they are wanted: by one statement.
-fn owned_where<S: Alter>(
+fn tags_where<S: Alter>(
     change: &mut OpenChange<'_, S>,
     listed: &[ListedTarget],
     wanted: bool,
@@ -163,6 +160,28 @@ fn owned_where<S: Alter>(
     Ok(owned)
 }
 
+/// Their attributes.
+fn attributes_where<S: Alter>(
+    change: &mut OpenChange<'_, S>,
+    listed: &[ListedTarget],
+    wanted: bool,
+) -> Result<Vec<OwnedAttribute>, Fault>
+    ensures stays { StaysIn S.Store change.old change.new result }
+    ensures reads { FindsIn S.Store change.old change.new result (λ now owned. AreAttributesOf now wanted listed.now owned.items) }
+    ensures fails { FailsAtListsIn S.Store change.old change.new result }
+    ensures work { change.new.store.now.calls.work.statements ≤ change.old.store.now.calls.work.statements + cond wanted 1 0 }
+{
+    let none = Vec::new(change.alloc());
+    if !wanted {
+        return Ok(none);
+    }
+    let Some((first, last)) = ends_of(listed) else {
+        return Ok(none);
+    };
+    let owned = change.read_attributes_between(&first, &last)?;
+    Ok(owned)
+}
+
 /// The ids of the first and of the last that were listed.
 fn ends_of(listed: &[ListedTarget]) -> Option<(ControllerId, ControllerId)>
     ensures { MatchOption result (listed.now ≡ []) (λ ends. AreEnds listed.now ends.0 ends.1) }
@@ -172,34 +191,49 @@ fn ends_of(listed: &[ListedTarget]) -> Option<(ControllerId, ControllerId)>
     Some((first.id, last.id))
 }
 
-/// A target that was listed, with those of the tags that are its own, and with its attributes where they are asked for.
-fn read_tagged<S: Alter>(
-    change: &mut OpenChange<'_, S>,
-    listed: ListedTarget,
-    owned: &[OwnedTag],
-    asked: Asked,
-) -> Result<Target, Fault>
-    ensures stays { StaysIn S.Store change.old change.new result }
-    ensures reads { FindsIn S.Store change.old change.new result
-        (λ now target. HasItsTags now asked.tags owned.now listed → target ≡ asked_listed now asked listed) }
-    ensures fails { FailsWith S.Store (λ now. AreOwned now owned.now) change.old change.new result }
-    ensures work { change.new.store.now.calls.work.statements ≤ change.old.store.now.calls.work.statements + cond asked.attributes 1 0 }
+/// Adds the listed targets, each with its own of the tags and of the attributes.
+fn add_own(
+    alloc: Global,
+    listed: Vec<ListedTarget>,
+    tags: &[OwnedTag],
+    attributes: &[OwnedAttribute],
+    found: &mut Vec<Target>,
+) -> Result<(), Fault>
+    ensures ok { IfOk result (λ _. found.new.items ≡ found.old.items ++ map (own_listed tags.now attributes.now) listed.items) }
+    ensures err { IfErr result (λ fault. (fault ≡ Memory) ⊎ ((fault ≡ Broken) × HasNoTagList tags.now)) }
 {
-    let alloc = change.alloc();
-    let words = own_tags(alloc, owned, &listed.id)?;
+    for entry in listed {
+        let target = with_own(alloc, entry, tags, attributes)?;
+        found.push(target)?;
+    }
+    Ok(())
+}
+
+/// A listed target with its own of the tags and of the attributes.
+fn with_own(
+    alloc: Global,
+    listed: ListedTarget,
+    tags: &[OwnedTag],
+    attributes: &[OwnedAttribute],
+) -> Result<Target, Fault>
+    ensures ok { IfOk result (λ target. target ≡ own_listed tags.now attributes.now listed) }
+    ensures err { IfErr result (λ fault. (fault ≡ Memory) ⊎ ((fault ≡ Broken) × HasNoTagList tags.now)) }
+{
+    let ListedTarget { id, name } = listed;
+    let words = own_tags(alloc, tags, &id)?;
     let tags = tag_list(words)?;
-    let known = tagged(alloc, listed, tags);
-    let left = Asked {
-        tags: true,
-        attributes: !asked.attributes,
-    };
-    let target = read_rest(change, known, left)?;
-    Ok(target)
+    let attributes = own_attributes(alloc, attributes, &id)?;
+    Ok(Target {
+        id,
+        name,
+        tags,
+        attributes,
+    })
 }
 
 /// Those of the tags that are of the target of an id.
 fn own_tags(alloc: Global, owned: &[OwnedTag], id: &ControllerId) -> Result<Vec<Word>, Fault>
-    ensures ok { IfOk result (λ words. words.items ≡ own id.now owned.now) }
+    ensures ok { IfOk result (λ words. words.items ≡ own_tags id.now owned.now) }
     ensures err { IfErr result (λ fault. fault ≡ Memory) }
 {
     let mut words = Vec::new(alloc);
@@ -209,6 +243,24 @@ fn own_tags(alloc: Global, owned: &[OwnedTag], id: &ControllerId) -> Result<Vec<
         }
     }
     Ok(words)
+}
+
+/// Those of the attributes that are of the target of an id.
+fn own_attributes(
+    alloc: Global,
+    owned: &[OwnedAttribute],
+    id: &ControllerId,
+) -> Result<Attributes, Fault>
+    ensures ok { IfOk result (λ attributes. attributes ≡ own_attributes id.now owned.now) }
+    ensures err { IfErr result (λ fault. fault ≡ Memory) }
+{
+    let mut attributes = Attributes::new(alloc);
+    for found in owned {
+        if found.id == *id {
+            attributes.push(found.attribute.copy(alloc)?)?;
+        }
+    }
+    Ok(attributes)
 }
 
 /// A target of which some was asked for, with the rest of its tags and attributes: by a statement for each that wasn't asked for.
@@ -276,19 +328,6 @@ fn attributes_unless<S: Alter>(
     }
     let found = change.read_target_attributes(id)?;
     Ok(found)
-}
-
-/// A target that was listed, with its tags and with no attributes yet.
-fn tagged(alloc: Global, listed: ListedTarget, tags: Tags) -> Target
-    ensures { result ≡ record { id = listed.id; name = listed.name; tags = tags; attributes = [] } }
-{
-    let ListedTarget { id, name } = listed;
-    Target {
-        id,
-        name,
-        tags,
-        attributes: Attributes::new(alloc),
-    }
 }
 
 /// A target that was listed, with no tags and no attributes yet.

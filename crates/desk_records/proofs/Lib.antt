@@ -26,7 +26,7 @@ pub mod SetRecords
 pub mod WholeArtifacts
 pub mod ArtifactRecords
 pub mod TargetRecords
-pub mod TagsBetween
+pub mod OwnedBetween
 pub mod TargetLists
 pub mod AttributeRecords
 pub mod RolloutRecords

@@ -5,14 +5,14 @@ use Rattle.sqlite_value.specs.Order.{Row, column}
 use Rattle.desk_records.specs.Codes.{number_in}
 use Rattle.desk_records.specs.Columns.{has_filter, has_size, has_text, has_word}
 use Rattle.desk_records.specs.ReadRows.{Artifact, Attribute, GroupRecord, GroupRule, IsArtifactRow, IsAttributeRow, IsGroupRow, IsLastNumberRow}
-use Rattle.desk_records.specs.ReadRows.{IsListedActionRow, IsListedTargetRow, IsModuleLabelRow, IsNumberRow, IsOfferRow, IsOwnedTagRow, IsRuleRow}
-use Rattle.desk_records.specs.ReadRows.{IsSetNameRow, IsStoredActionRow, IsStoredArtifactRow, IsStoredRolloutRow, IsStoredTargetRow, LastNumber}
-use Rattle.desk_records.specs.ReadRows.{ListedAction, ListedTarget, ModuleLabel, Offer, OwnedTag, PlacedNumber, SetName, StoredAction, StoredArtifact}
-use Rattle.desk_records.specs.ReadRows.{StoredRollout, StoredTarget, broken_listed_action_column, broken_offer_column, broken_rule_column}
-use Rattle.desk_records.specs.ReadRows.{broken_stored_action_column, broken_stored_rollout_column, shown_artifact, shown_attribute, shown_group}
-use Rattle.desk_records.specs.ReadRows.{shown_last_number, shown_listed_action, shown_listed_target, shown_module_label, shown_number, shown_offer}
-use Rattle.desk_records.specs.ReadRows.{shown_owned_tag, shown_rule, shown_set_name, shown_stored_action, shown_stored_artifact, shown_stored_rollout}
-use Rattle.desk_records.specs.ReadRows.{shown_stored_target}
+use Rattle.desk_records.specs.ReadRows.{IsListedActionRow, IsListedTargetRow, IsModuleLabelRow, IsNumberRow, IsOfferRow, IsOwnedAttributeRow}
+use Rattle.desk_records.specs.ReadRows.{IsOwnedTagRow, IsRuleRow, IsSetNameRow, IsStoredActionRow, IsStoredArtifactRow, IsStoredRolloutRow}
+use Rattle.desk_records.specs.ReadRows.{IsStoredTargetRow, LastNumber, ListedAction, ListedTarget, ModuleLabel, Offer, OwnedAttribute, OwnedTag}
+use Rattle.desk_records.specs.ReadRows.{PlacedNumber, SetName, StoredAction, StoredArtifact, StoredRollout, StoredTarget, broken_listed_action_column}
+use Rattle.desk_records.specs.ReadRows.{broken_offer_column, broken_rule_column, broken_stored_action_column, broken_stored_rollout_column}
+use Rattle.desk_records.specs.ReadRows.{shown_artifact, shown_attribute, shown_group, shown_last_number, shown_listed_action, shown_listed_target}
+use Rattle.desk_records.specs.ReadRows.{shown_module_label, shown_number, shown_offer, shown_owned_attribute, shown_owned_tag, shown_rule}
+use Rattle.desk_records.specs.ReadRows.{shown_set_name, shown_stored_action, shown_stored_artifact, shown_stored_rollout, shown_stored_target}
 use Rattle.desk_records.proofs.KeptColumns.{kept_approval, kept_flag, kept_number, kept_outcome, kept_percentage_or_none, kept_place, one_in}
 
 pub one_module_label : (a b : ModuleLabel) → IsModuleLabelRow (shown_module_label b) a → a ≡ b
@@ -38,6 +38,9 @@ one_owned_tag a b h = grind arith
 
 pub one_attribute : (a b : Attribute) → IsAttributeRow (shown_attribute b) a → a ≡ b
 one_attribute a b h = grind arith
+
+pub one_owned_attribute : (a b : OwnedAttribute) → IsOwnedAttributeRow (shown_owned_attribute b) a → a ≡ b
+one_owned_attribute a b h = grind arith
 
 pub one_stored_rollout : (a b : StoredRollout) → IsStoredRolloutRow (shown_stored_rollout b) a → a ≡ b
 one_stored_rollout a b h = grind (arith, kept_approval, kept_flag, kept_number)

@@ -1,5 +1,6 @@
 -- The statements on all targets, and on those from an id to another, in records.
-use Rattle.desk_records.proofs.Common.{arith, ◌≡◌, ◌∷◌, ◌&&◌, ℕ, Bool, false, not, List, [], map, filter, refl, subst, sym, ap, ◌∙◌, and-true, map-map, Less, Null}
+use Rattle.desk_records.proofs.Common.{arith, ◌≡◌, ◌∷◌, ◌&&◌, ℕ, Bool, false, not, List, [], map, filter, refl, subst, sym, ap, ◌∙◌, and-true, map-map, Less}
+use Rattle.desk_records.proofs.Common.{Null}
 use Rattle.desk_records.proofs.Common.{Text, Row, Database, by_column, filter_all, all_of, on_content, passes, reads_risen, Rise, bytes_below, Bytes, Records}
 use Rattle.desk_records.proofs.Common.{Target, Targets, target_row, HoldsRecords}
 use Rattle.sqlite.specs.Effect.{Reads as Shows}

@@ -1,7 +1,7 @@
 -- Written by tools/gen/sql-proofs. What it makes is proved; the tool is not trusted.
 -- What the texts of src/target_texts.rt mean, wherever their tables stand.
 use Rattle.desk_records.proofs.Common.{refl, List, [], ◌∷◌, ℕ, codes, pos, negsuc, false, Null, Int, Binary, Values, Query, Term, lit, col, simple, by}
-use Rattle.desk_records.specs.declared.target_texts.TheConstants.{GET_TARGET, COUNT_TARGETS, LIST_TARGETS, LIST_ALL_TARGETS, LIST_TARGETS_BETWEEN, LIST_TARGET_TAGS, LIST_TAGS_BETWEEN, PUT_TARGET, SET_TARGET, PUT_TARGET_TAG, DROP_TARGET_TAG, LIST_TARGET_ATTRIBUTES, PUT_TARGET_ATTRIBUTE, SET_TARGET_ATTRIBUTE}
+use Rattle.desk_records.specs.declared.target_texts.TheConstants.{GET_TARGET, COUNT_TARGETS, LIST_TARGETS, LIST_ALL_TARGETS, LIST_TARGETS_BETWEEN, LIST_TARGET_TAGS, LIST_TAGS_BETWEEN, PUT_TARGET, SET_TARGET, PUT_TARGET_TAG, DROP_TARGET_TAG, LIST_TARGET_ATTRIBUTES, LIST_ATTRIBUTES_BETWEEN, PUT_TARGET_ATTRIBUTE, SET_TARGET_ATTRIBUTE}
 use Rattle.desk_records.specs.Schema.{Targets, TargetTags, TargetAttributes}
 use Rattle.desk_records.proofs.MeaningWords.{compiling, Asks, Counts, Puts, Changes, Drops, at_key, at_least, at_most, in_order, changing, no_limit, no_offset}
 
@@ -70,6 +70,15 @@ drop_target_tag_is = unfold compiling in record { removes = λ tree. record { pa
 
 pub list_target_attributes_is : Asks TargetAttributes LIST_TARGET_ATTRIBUTES.now (in_order 2 false of_target (col 1 2 ∷ col 1 3 ∷ []) no_limit no_offset) (codes "key" ∷ codes "value" ∷ [])
 list_target_attributes_is = unfold compiling in record { queries = λ tree. record { parsed = _; select = _; source = _; page = _; shown = _; read = refl; is = (refl, refl, refl, refl); core = (refl, refl, refl); from = (refl, refl, refl, refl, refl); shows = (tt, (tt, tt)); filter = ((refl, λ cx how x y. refl), tt, tt); sorts = (tt, tt); paged = λ s. refl; named = (refl, refl); becomes = (refl, (refl, refl, refl)) }; shape = λ tree. refl }
+
+abbrev pub owned_attribute_columns : List Term
+owned_attribute_columns = col 1 1 ∷ col 1 2 ∷ col 1 3 ∷ []
+
+abbrev pub attributes_between : ℕ → Query
+attributes_between tree = by (simple tree between_ids owned_attribute_columns) ((col 1 1, record { descending = false; collation = Binary }) ∷ (col 1 2, record { descending = false; collation = Binary }) ∷ []) (lit (Int (negsuc 0))) (lit (Int (pos 0)))
+
+pub list_attributes_between_is : Asks TargetAttributes LIST_ATTRIBUTES_BETWEEN.now attributes_between (codes "controller" ∷ codes "key" ∷ codes "value" ∷ [])
+list_attributes_between_is = unfold compiling in record { queries = λ tree. record { parsed = _; select = _; source = _; page = _; shown = _; read = refl; is = (refl, refl, refl, refl); core = (refl, refl, refl); from = (refl, refl, refl, refl, refl); shows = (tt, (tt, (tt, tt))); filter = ((refl, λ cx how x y. refl), ((refl, λ cx how x y. refl), tt, tt), ((refl, λ cx how x y. refl), tt, tt)); sorts = (tt, (tt, tt)); paged = λ s. refl; named = (refl, refl); becomes = (refl, (refl, refl, refl)) }; shape = λ tree. refl }
 
 abbrev pub attribute_terms : List Term
 attribute_terms = lit Null ∷ col 0 0 ∷ col 0 1 ∷ col 0 2 ∷ []

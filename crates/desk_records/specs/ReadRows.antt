@@ -16,6 +16,7 @@ pub use Rattle.desk_records.specs.declared.target_row.StoredTarget.{StoredTarget
 pub use Rattle.desk_records.specs.declared.target_row.ListedTarget.{ListedTarget}
 pub use Rattle.desk_records.specs.declared.target_row.OwnedTag.{OwnedTag}
 pub use Rattle.rollout_model.specs.declared.target.Attribute.{Attribute}
+pub use Rattle.desk_records.specs.declared.target_row.OwnedAttribute.{OwnedAttribute}
 pub use Rattle.desk_records.specs.declared.rollout_row.StoredRollout.{StoredRollout}
 pub use Rattle.rollout_machine.specs.declared.records.GroupRecord.{GroupRecord}
 pub use Rattle.desk_records.specs.declared.rollout_row.StoredAction.{StoredAction}
@@ -71,6 +72,12 @@ pub record IsOwnedTagRow (row : Row) (x : OwnedTag) : Type 0 where
 pub record IsAttributeRow (row : Row) (x : Attribute) : Type 0 where
   pub key : column row 0 ≡ Text x.key
   pub value : column row 1 ≡ Text x.value
+
+-- the row of controller, key, value of target_attribute
+pub record IsOwnedAttributeRow (row : Row) (x : OwnedAttribute) : Type 0 where
+  pub id : column row 0 ≡ Text x.id
+  pub key : column row 1 ≡ Text x.attribute.key
+  pub value : column row 2 ≡ Text x.attribute.value
 
 -- the row of name, dset, filter_text, groups, success, error, approval, started, paused of rollout
 pub record IsStoredRolloutRow (row : Row) (x : StoredRollout) : Type 0 where
@@ -161,6 +168,10 @@ broken_owned_tag_column row = first_broken ((has_word (column row 0), rule.Targe
 abbrev pub broken_attribute_column : Row → Option Column
 broken_attribute_column row = first_broken ((has_word (column row 0), rule.AttributeKey) ∷ (has_value (column row 1), rule.AttributeValue) ∷ [])
 
+abbrev pub broken_owned_attribute_column : Row → Option Column
+broken_owned_attribute_column row = first_broken ((has_word (column row 0), rule.TargetId) ∷ (has_word (column row 1), rule.AttributeKey)
+    ∷ (has_value (column row 2), rule.AttributeValue) ∷ [])
+
 abbrev pub broken_stored_rollout_column : Row → Option Column
 broken_stored_rollout_column row = first_broken ((has_text (column row 0), rule.RolloutName)
     ∷ (is_some (number_in (column row 1)), rule.RolloutSet) ∷ (has_filter (column row 2), rule.RolloutFilter)
@@ -223,6 +234,9 @@ shown_owned_tag x = Text x.id ∷ Text x.tag ∷ []
 abbrev pub shown_attribute : Attribute → Row
 shown_attribute x = Text x.key ∷ Text x.value ∷ []
 
+abbrev pub shown_owned_attribute : OwnedAttribute → Row
+shown_owned_attribute x = Text x.id ∷ Text x.attribute.key ∷ Text x.attribute.value ∷ []
+
 abbrev pub shown_stored_rollout : StoredRollout → Row
 shown_stored_rollout x = Text x.plan.name ∷ Int (pos x.plan.set_number) ∷ Text x.plan.filter_text ∷ Int (pos x.plan.groups) ∷ Int (pos x.plan.success)
     ∷ Int (pos x.plan.error) ∷ Int (pos (approval_code x.approval)) ∷ Int (pos (flag x.started)) ∷ Int (pos (flag x.paused)) ∷ []
@@ -276,6 +290,9 @@ columns_of_owned_tag row = column row 1 ∷ column row 2 ∷ []
 
 abbrev pub columns_of_attribute : Row → Row
 columns_of_attribute row = column row 2 ∷ column row 3 ∷ []
+
+abbrev pub columns_of_owned_attribute : Row → Row
+columns_of_owned_attribute row = column row 1 ∷ column row 2 ∷ column row 3 ∷ []
 
 abbrev pub columns_of_stored_rollout : Row → Row
 columns_of_stored_rollout row = column row 2 ∷ column row 3 ∷ column row 4 ∷ column row 5 ∷ column row 6 ∷ column row 7 ∷ column row 8 ∷ column row 9

@@ -3,12 +3,13 @@
 
 ghost use Rattle.std.specs.Prelude.{◌≡◌, ◌⊎◌, IfOk, IfErr, None, Some};
 ghost use Rattle.desk_records.specs.ReadRows.{IsArtifactRow, IsAttributeRow, IsGroupRow, IsLastNumberRow, IsListedActionRow, IsListedTargetRow};
-ghost use Rattle.desk_records.specs.ReadRows.{IsModuleLabelRow, IsNumberRow, IsOfferRow, IsOwnedTagRow, IsRuleRow, IsSetNameRow, IsStoredActionRow};
-ghost use Rattle.desk_records.specs.ReadRows.{IsStoredArtifactRow, IsStoredRolloutRow, IsStoredTargetRow, broken_artifact_column, broken_attribute_column};
-ghost use Rattle.desk_records.specs.ReadRows.{broken_group_column, broken_last_number_column, broken_listed_action_column, broken_listed_target_column};
-ghost use Rattle.desk_records.specs.ReadRows.{broken_module_label_column, broken_number_column, broken_offer_column, broken_owned_tag_column};
-ghost use Rattle.desk_records.specs.ReadRows.{broken_rule_column, broken_set_name_column, broken_stored_action_column, broken_stored_artifact_column};
-ghost use Rattle.desk_records.specs.ReadRows.{broken_stored_rollout_column, broken_stored_target_column};
+ghost use Rattle.desk_records.specs.ReadRows.{IsModuleLabelRow, IsNumberRow, IsOfferRow, IsOwnedAttributeRow, IsOwnedTagRow, IsRuleRow, IsSetNameRow};
+ghost use Rattle.desk_records.specs.ReadRows.{IsStoredActionRow, IsStoredArtifactRow, IsStoredRolloutRow, IsStoredTargetRow, broken_artifact_column};
+ghost use Rattle.desk_records.specs.ReadRows.{broken_attribute_column, broken_group_column, broken_last_number_column, broken_listed_action_column};
+ghost use Rattle.desk_records.specs.ReadRows.{broken_listed_target_column, broken_module_label_column, broken_number_column, broken_offer_column};
+ghost use Rattle.desk_records.specs.ReadRows.{broken_owned_attribute_column, broken_owned_tag_column, broken_rule_column, broken_set_name_column};
+ghost use Rattle.desk_records.specs.ReadRows.{broken_stored_action_column, broken_stored_artifact_column, broken_stored_rollout_column};
+ghost use Rattle.desk_records.specs.ReadRows.{broken_stored_target_column};
 
 use crate::artifact_row::{StoredArtifact, digest_at, filename_at, own_number_at, size_at};
 use crate::codes::{
@@ -20,7 +21,9 @@ use crate::number_row::{LastNumber, PlacedNumber};
 use crate::rollout_row::{ListedAction, StoredAction, StoredRollout, ToldPlan, filter_at};
 use crate::set_row::SetName;
 use crate::table_columns::Column;
-use crate::target_row::{ListedTarget, OwnedTag, StoredTarget, id_at, value_at, word_at};
+use crate::target_row::{
+    ListedTarget, OwnedAttribute, OwnedTag, StoredTarget, id_at, value_at, word_at,
+};
 use rollout_machine::{Bounds, GroupRecord};
 use rollout_model::{Artifact, Attribute, GroupRule, ModuleLabel, Offer};
 use sqlite::Row;
@@ -131,6 +134,19 @@ pub fn read_attribute(alloc: Global, row: &Row) -> Result<Attribute, RowFault>
     let key = word_at(row, 0, Column::AttributeKey)?;
     let value = value_at(alloc, row, 1, Column::AttributeValue)?;
     Ok(Attribute { key, value })
+}
+
+/// What a row of controller, key, value says.
+pub fn read_owned_attribute(alloc: Global, row: &Row) -> Result<OwnedAttribute, RowFault>
+    ensures ok { IfOk result (IsOwnedAttributeRow row.now) }
+    ensures kept { IfOk result (λ it. broken_owned_attribute_column row.now ≡ None) }
+    ensures err { IfErr result (λ e. (e ≡ RowFault.Memory) ⊎ ((c : _) × (e ≡ RowFault.Broken c) × (broken_owned_attribute_column row.now ≡ Some c))) }
+{
+    let id = id_at(row, 0, Column::TargetId)?;
+    let key = word_at(row, 1, Column::AttributeKey)?;
+    let value = value_at(alloc, row, 2, Column::AttributeValue)?;
+    let attribute = Attribute { key, value };
+    Ok(OwnedAttribute { id, attribute })
 }
 
 /// What a row of name, dset, filter_text, groups, success, error, approval, started, paused says.

@@ -6,7 +6,7 @@ ghost use Rattle.desk_records.specs.Columns.{StoredText, has_value, has_word};
 
 use crate::module_row::{RowFault, row_fault};
 use crate::table_columns::Column;
-use rollout_model::{ControllerId, Digest, Text, Value, Word};
+use rollout_model::{Attribute, ControllerId, Digest, Text, Value, Word};
 use sqlite::Row;
 use sqlite_value::value::ValueRef;
 use std::alloc::Global;
@@ -32,6 +32,13 @@ pub struct ListedTarget {
 pub struct OwnedTag {
     pub id: ControllerId,
     pub tag: Word,
+}
+
+/// An attribute, with the id of the target that has it.
+#[derive(Drop)]
+pub struct OwnedAttribute {
+    pub id: ControllerId,
+    pub attribute: Attribute,
 }
 
 /// The member of a rollout in a row of its id. Takes no memory.

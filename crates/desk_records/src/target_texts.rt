@@ -35,6 +35,10 @@ pub const DROP_TARGET_TAG: &str = "DELETE FROM target_tag WHERE controller = ?1 
 pub const LIST_TARGET_ATTRIBUTES: &str =
     "SELECT key, value FROM target_attribute WHERE controller = ?1 ORDER BY key";
 
+/// The attributes of the targets from an id to another, in byte order of the ids and then of the keys.
+pub const LIST_ATTRIBUTES_BETWEEN: &str =
+    "SELECT controller, key, value FROM target_attribute WHERE controller >= ?1 AND controller <= ?2 ORDER BY controller, key";
+
 pub const PUT_TARGET_ATTRIBUTE: &str =
     "INSERT INTO target_attribute (controller, key, value) VALUES (?1, ?2, ?3)";
 

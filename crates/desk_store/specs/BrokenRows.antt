@@ -7,12 +7,13 @@ use Rattle.desk_records.specs.Columns.{has_bytes, has_number, has_size, has_word
 use Rattle.desk_records.specs.EntryRow.{BreaksEntry}
 use Rattle.desk_records.specs.ReadRows.{broken_artifact_column, broken_attribute_column, broken_group_column, broken_last_number_column}
 use Rattle.desk_records.specs.ReadRows.{broken_listed_action_column, broken_listed_target_column, broken_module_label_column, broken_number_column}
-use Rattle.desk_records.specs.ReadRows.{broken_offer_column, broken_owned_tag_column, broken_rule_column, broken_set_name_column}
-use Rattle.desk_records.specs.ReadRows.{broken_stored_action_column, broken_stored_artifact_column, broken_stored_rollout_column}
-use Rattle.desk_records.specs.ReadRows.{broken_stored_target_column, columns_of_artifact, columns_of_attribute, columns_of_group}
-use Rattle.desk_records.specs.ReadRows.{columns_of_last_number, columns_of_listed_action, columns_of_listed_target, columns_of_module_label}
-use Rattle.desk_records.specs.ReadRows.{columns_of_number, columns_of_offer, columns_of_owned_tag, columns_of_rule, columns_of_set_name}
-use Rattle.desk_records.specs.ReadRows.{columns_of_stored_action, columns_of_stored_artifact, columns_of_stored_rollout, columns_of_stored_target}
+use Rattle.desk_records.specs.ReadRows.{broken_offer_column, broken_owned_attribute_column, broken_owned_tag_column, broken_rule_column}
+use Rattle.desk_records.specs.ReadRows.{broken_set_name_column, broken_stored_action_column, broken_stored_artifact_column}
+use Rattle.desk_records.specs.ReadRows.{broken_stored_rollout_column, broken_stored_target_column, columns_of_artifact, columns_of_attribute}
+use Rattle.desk_records.specs.ReadRows.{columns_of_group, columns_of_last_number, columns_of_listed_action, columns_of_listed_target}
+use Rattle.desk_records.specs.ReadRows.{columns_of_module_label, columns_of_number, columns_of_offer, columns_of_owned_attribute}
+use Rattle.desk_records.specs.ReadRows.{columns_of_owned_tag, columns_of_rule, columns_of_set_name, columns_of_stored_action}
+use Rattle.desk_records.specs.ReadRows.{columns_of_stored_artifact, columns_of_stored_rollout, columns_of_stored_target}
 use Rattle.desk_records.specs.RowFaults.{BreaksRule}
 use Rattle.desk_records.specs.TableRows.{columns_of_entry}
 use Rattle.desk_records.specs.Schema.{Place, Actions, Artifacts, Desk, Feedbacks, Groups, Members, Modules, Numbers, Offers, Pieces, Rollouts, Rules}
@@ -36,6 +37,7 @@ BreaksColumn Targets row = BreaksRule (broken_stored_target_column (columns_of_s
     ⊎ BreaksRule (broken_listed_target_column (columns_of_listed_target row))
 BreaksColumn TargetTags row = BreaksRule (broken_owned_tag_column (columns_of_owned_tag row))
 BreaksColumn TargetAttributes row = BreaksRule (broken_attribute_column (columns_of_attribute row))
+    ⊎ BreaksRule (broken_owned_attribute_column (columns_of_owned_attribute row))
 BreaksColumn Rollouts row = HasNoKey row ⊎ BreaksRule (broken_stored_rollout_column (columns_of_stored_rollout row))
 BreaksColumn Members row = has_word (column row 3) ≡ false
 BreaksColumn Groups row = BreaksRule (broken_group_column (columns_of_group row))

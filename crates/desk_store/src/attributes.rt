@@ -1,15 +1,19 @@
 //! The attributes of targets, in a change that is under way.
 
-ghost use Rattle.std.specs.Prelude.{◌≡◌, ◌≤◌, ◌+◌};
+ghost use Rattle.std.specs.Prelude.{◌≡◌, ◌≤◌, ◌+◌, flat_map};
 ghost use Rattle.rollout_machine.specs.Verdicts.{target_of};
-ghost use Rattle.desk_records.specs.Targets.{AddsAttribute, SetsAttribute, attributes_of};
+ghost use Rattle.desk_records.specs.TargetRow.{owned_attributes};
+ghost use Rattle.desk_records.specs.Targets.{AddsAttribute, SetsAttribute, attributes_of, targets_between};
 ghost use Rattle.desk_store.specs.Counting.{AddsIn};
 ghost use Rattle.desk_store.specs.Changing.{FindsIn, MakesIn, StaysIn};
 ghost use Rattle.desk_store.specs.Failing.{FailsIn, WritesIn};
 
 use crate::change::OpenChange;
-use crate::reading::read_attributes;
-use desk_records::{LIST_TARGET_ATTRIBUTES, PUT_TARGET_ATTRIBUTE, SET_TARGET_ATTRIBUTE};
+use crate::reading::{read_all, read_attributes};
+use desk_records::{
+    LIST_ATTRIBUTES_BETWEEN, LIST_TARGET_ATTRIBUTES, OwnedAttribute, PUT_TARGET_ATTRIBUTE,
+    SET_TARGET_ATTRIBUTE,
+};
 use rollout_model::{Attribute, Attributes, ControllerId};
 use sql_calls::Fault;
 use sqlite::{Alter, params};
@@ -26,6 +30,27 @@ impl<'a, S: Alter> OpenChange<'a, S> {
         let alloc = self.store.alloc;
         let rows = self.ask(LIST_TARGET_ATTRIBUTES, params![id.as_str()])?;
         read_attributes(alloc, &rows)
+    }
+
+    /// The attributes of the targets from an id to another, each with its target's id: in byte order of the ids, and then of the keys. A
+    /// row that breaks a column's rule is `Broken`.
+    pub fn read_attributes_between(
+        &mut self,
+        first: &ControllerId,
+        last: &ControllerId,
+    ) -> Result<Vec<OwnedAttribute>, Fault>
+        ensures stays { StaysIn S.Store self.old self.new result }
+        ensures reads { FindsIn S.Store self.old self.new result
+            (λ r attributes. attributes.items ≡ flat_map owned_attributes (targets_between first.now last.now r)) }
+        ensures fails { FailsIn S.Store self.old self.new result }
+        ensures work { self.new.store.now.calls.work.statements ≤ self.old.store.now.calls.work.statements + 1 }
+    {
+        let alloc = self.store.alloc;
+        let rows = self.ask(
+            LIST_ATTRIBUTES_BETWEEN,
+            params![first.as_str(), last.as_str()],
+        )?;
+        read_all(alloc, &rows)
     }
 
     /// Gives a target that is there an attribute of a key that it hasn't.

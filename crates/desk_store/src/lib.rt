@@ -36,8 +36,8 @@ pub use crate::groups::GroupAndNext;
 pub use crate::over_calls::{read_last_rollout, read_rollout, write_rule};
 pub use crate::store::DeskStore;
 pub use desk_records::{
-    CheckedArtifact, CountedAction, LastNumber, ListedAction, ListedTarget, NewEntry, OwnedOffer,
-    OwnedTag, PlacedMember, PlacedNumber, SequencedEntry, SetName, StoredAction, StoredArtifact,
-    StoredRollout, StoredTarget, ToldPlan, tell_entry,
+    CheckedArtifact, CountedAction, LastNumber, ListedAction, ListedTarget, NewEntry,
+    OwnedAttribute, OwnedOffer, OwnedTag, PlacedMember, PlacedNumber, SequencedEntry, SetName,
+    StoredAction, StoredArtifact, StoredRollout, StoredTarget, ToldPlan, tell_entry,
 };
 pub use sql_calls::{Fault, Work};

@@ -76,8 +76,7 @@ impl<'a, S: Alter> OpenChange<'a, S> {
         read_checked(alloc, &rows)
     }
 
-    /// The history of an action, whatever rows there are. A row of it that breaks a column's rule is a failed
-    /// store.
+    /// The history of an action, whatever rows there are. A row of it that breaks a column's rule is `Broken`.
     pub fn list_history(&mut self, number: ActionNo) -> Result<Vec<SequencedEntry>, Fault>
         ensures stays { StaysIn S.Store self.old self.new result }
         ensures reads { FindsTables S.Store self.old self.new result (λ t found. AreSaid (t Feedbacks) (has_at 1 number) SaysEntry found.items) }

@@ -2,21 +2,23 @@
 //! What rows are read as.
 
 ghost use Rattle.desk_records.specs.ReadRows.{IsArtifactRow, IsAttributeRow, IsGroupRow, IsLastNumberRow, IsListedActionRow, IsListedTargetRow};
-ghost use Rattle.desk_records.specs.ReadRows.{IsModuleLabelRow, IsNumberRow, IsOfferRow, IsOwnedTagRow, IsRuleRow, IsSetNameRow, IsStoredActionRow};
-ghost use Rattle.desk_records.specs.ReadRows.{IsStoredArtifactRow, IsStoredRolloutRow, IsStoredTargetRow, broken_artifact_column, broken_attribute_column};
-ghost use Rattle.desk_records.specs.ReadRows.{broken_group_column, broken_last_number_column, broken_listed_action_column, broken_listed_target_column};
-ghost use Rattle.desk_records.specs.ReadRows.{broken_module_label_column, broken_number_column, broken_offer_column, broken_owned_tag_column};
-ghost use Rattle.desk_records.specs.ReadRows.{broken_rule_column, broken_set_name_column, broken_stored_action_column, broken_stored_artifact_column};
-ghost use Rattle.desk_records.specs.ReadRows.{broken_stored_rollout_column, broken_stored_target_column};
+ghost use Rattle.desk_records.specs.ReadRows.{IsModuleLabelRow, IsNumberRow, IsOfferRow, IsOwnedAttributeRow, IsOwnedTagRow, IsRuleRow, IsSetNameRow};
+ghost use Rattle.desk_records.specs.ReadRows.{IsStoredActionRow, IsStoredArtifactRow, IsStoredRolloutRow, IsStoredTargetRow, broken_artifact_column};
+ghost use Rattle.desk_records.specs.ReadRows.{broken_attribute_column, broken_group_column, broken_last_number_column, broken_listed_action_column};
+ghost use Rattle.desk_records.specs.ReadRows.{broken_listed_target_column, broken_module_label_column, broken_number_column, broken_offer_column};
+ghost use Rattle.desk_records.specs.ReadRows.{broken_owned_attribute_column, broken_owned_tag_column, broken_rule_column, broken_set_name_column};
+ghost use Rattle.desk_records.specs.ReadRows.{broken_stored_action_column, broken_stored_artifact_column, broken_stored_rollout_column};
+ghost use Rattle.desk_records.specs.ReadRows.{broken_stored_target_column};
 ghost use Rattle.desk_store.specs.Rows.{BreaksRule};
 
 use crate::from_row::FromRow;
 use desk_records::{
-    LastNumber, ListedAction, ListedTarget, OwnedTag, PlacedNumber, RowFault, SetName,
-    StoredAction, StoredArtifact, StoredRollout, StoredTarget, read_artifact, read_attribute,
-    read_group, read_last_number, read_listed_action, read_listed_target, read_module_label,
-    read_number, read_offer, read_owned_tag, read_rule, read_set_name, read_stored_action,
-    read_stored_artifact, read_stored_rollout, read_stored_target,
+    LastNumber, ListedAction, ListedTarget, OwnedAttribute, OwnedTag, PlacedNumber, RowFault,
+    SetName, StoredAction, StoredArtifact, StoredRollout, StoredTarget, read_artifact,
+    read_attribute, read_group, read_last_number, read_listed_action, read_listed_target,
+    read_module_label, read_number, read_offer, read_owned_attribute, read_owned_tag, read_rule,
+    read_set_name, read_stored_action, read_stored_artifact, read_stored_rollout,
+    read_stored_target,
 };
 use rollout_machine::GroupRecord;
 use rollout_model::{Artifact, Attribute, GroupRule, ModuleLabel, Offer};
@@ -108,6 +110,17 @@ impl FromRow for Attribute {
 
     fn from_row(alloc: Global, row: &Row) -> Result<Self, RowFault> {
         read_attribute(alloc, row)
+    }
+}
+
+/// Of controller, key, value.
+impl FromRow for OwnedAttribute {
+    ghost is_row = { IsOwnedAttributeRow };
+
+    ghost is_broken = { λ row. BreaksRule (broken_owned_attribute_column row) };
+
+    fn from_row(alloc: Global, row: &Row) -> Result<Self, RowFault> {
+        read_owned_attribute(alloc, row)
     }
 }
 

@@ -1,6 +1,6 @@
 use Rattle.desk_store.proofs.Answering.{[], all_at, all_fails, arith, reads_all}
 use Rattle.desk_records.proofs.RowsTold.{one_owned_tag}
-use Rattle.desk_records.proofs.TagsBetween.{lists_tags_between}
+use Rattle.desk_records.proofs.OwnedBetween.{lists_tags_between}
 use Rattle.desk_records.proofs.TargetMeaning.{list_tags_between_is}
 use Rattle.desk_store.proofs.change.OpenChange.read_tags_between.Goals as goal
 

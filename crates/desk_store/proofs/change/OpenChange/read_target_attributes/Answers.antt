@@ -1,4 +1,4 @@
-use Rattle.desk_store.proofs.Answering.{AreReadAs, IsAttributeRow, [], all_at, all_fails, all_read, all_tell, arith, in_ledgers, known}
+use Rattle.desk_store.proofs.Answering.{AreReadAs, IsAttributeRow, [], all_at, all_fails, all_read, all_tell, arith, in_ledgers, inl, known}
 use Rattle.desk_store.proofs.Answering.{list_target_attributes_is, lists_target_attributes, one_attribute, shown_attribute, subst}
 use Rattle.desk_store.proofs.change.OpenChange.read_target_attributes.Goals as goal
 
@@ -8,5 +8,5 @@ returns-clause-reads g c = all_tell (in_ledgers (known list_target_attributes_is
     read)) (all_at c.in_ok-rows.ensures.asks (grind arith)) _ (rw c.deref.ensures.value at c.read_attributes.ensures.ok)
 
 pub returns-clause-fails : goal.returns-clause-fails
-returns-clause-fails g c = all_fails list_target_attributes_is _ (λ row is. is) c.in_ok-rows.ensures.asks _
+returns-clause-fails g c = all_fails list_target_attributes_is _ (λ row is. inl is) c.in_ok-rows.ensures.asks _
     (rw c.deref.ensures.value at c.read_attributes.ensures.err)

@@ -1,10 +1,10 @@
-use Rattle.desk_reads.proofs.Common.{arith, finds_as, found_held}
+use Rattle.desk_reads.proofs.Common.{finds_as, found_held}
 use Rattle.sql_calls.proofs.Composing.{known}
-use Rattle.desk_reads.proofs.OwnTags.{none_listed, tags_between, unwanted}
-use Rattle.desk_reads.proofs.targets.owned_where.Goals as goal
+use Rattle.desk_reads.proofs.Owned.{none_listed, tags_between, unwanted_tags}
+use Rattle.desk_reads.proofs.targets.tags_where.Goals as goal
 
 pub returns-then-not-wanted-clause-reads : goal.returns-then-not-wanted-clause-reads
-returns-then-not-wanted-clause-reads g c = known (λ r. rw (c.if-not-wanted.true, c.new-none.ensures.items) (unwanted r c.args.listed.now))
+returns-then-not-wanted-clause-reads g c = known (λ r. rw (c.if-not-wanted.true, c.new-none.ensures.items) (unwanted_tags r c.args.listed.now))
 
 pub returns-in_default-clause-reads : goal.returns-in_default-clause-reads
 returns-in_default-clause-reads g c = known (λ r. rw (c.in_default.ensures, c.new-none.ensures.items) (none_listed r c.args.wanted))
