@@ -17,7 +17,7 @@ ghost use Rattle.desk_store.specs.Changing.{FindsIn, StaysIn};
 
 use crate::pages::is_on;
 use crate::targets::with_word;
-use desk_reads::{Asked, named_by, read_all_asked, read_candidates, read_listed, read_rest};
+use desk_reads::{Asked, named_by, read_all_asked, read_candidates, read_rest};
 use desk_store::{Fault, ListedTarget, OpenChange};
 use rollout_model::{FilterText, Page, PageOf, Refusal, Reply, ShownTarget, Target};
 use sqlite::Alter;
@@ -71,7 +71,7 @@ pub fn read_target_page<S: Alter>(
     Ok(content)
 }
 
-/// Targets that were listed, as they are shown.
+/// Targets that were listed in byte order of their ids, as they are shown.
 fn read_entries<S: Alter>(
     alloc: Global,
     change: &mut OpenChange<'_, S>,
@@ -79,12 +79,31 @@ fn read_entries<S: Alter>(
 ) -> Result<Vec<ShownTarget>, Fault>
     ensures stays { StaysIn S.Store change.old change.new result }
     ensures reads { FindsIn S.Store change.old change.new result
-        (λ now content. content.items ≡ map (worded now) (map (target_listed now) entries.items)) }
+        (λ now content. in_byte_order (listed_ids entries.items) ≡ true
+        → content.items ≡ map (worded now) (map (target_listed now) entries.items)) }
+    ensures fails { FailsAtListsIn S.Store change.old change.new result }
+{
+    let whole = Asked {
+        tags: true,
+        attributes: true,
+    };
+    let targets = read_all_asked(change, entries, whole)?;
+    let content = word_all(alloc, change, targets)?;
+    Ok(content)
+}
+
+/// Targets as they are shown, each with its word.
+fn word_all<S: Alter>(
+    alloc: Global,
+    change: &mut OpenChange<'_, S>,
+    targets: Vec<Target>,
+) -> Result<Vec<ShownTarget>, Fault>
+    ensures stays { StaysIn S.Store change.old change.new result }
+    ensures reads { FindsIn S.Store change.old change.new result (λ now content. content.items ≡ map (worded now) targets.items) }
     ensures fails { FailsAtListsIn S.Store change.old change.new result }
 {
     let mut content = Vec::new(alloc);
-    for entry in entries {
-        let target = read_listed(change, entry)?;
+    for target in targets {
         let shown = with_word(change, target)?;
         match content.push(shown) {
             Ok(()) => {}
