@@ -93,13 +93,14 @@ def conditions(success, error):
 
 @dataclass(frozen=True)
 class Plan:
-    """A rollout of all targets, in so many groups of one size or in groups of these percentages,
-    each of which has thresholds of its own."""
+    """A rollout of all targets, or of those that a filter matches, in so many groups of one size or in groups of
+    these percentages, each of which has thresholds of its own."""
 
     number: int
     groups: int
     success: int = 100
     percentages: tuple = ()
+    filter: str = "name==*"
 
     def grouping(self):
         """The member of the body that says the groups."""
@@ -114,7 +115,7 @@ class Plan:
     def creating(self):
         """The request that creates it."""
         body = (
-            f'{{"name":"r{self.number}","distributionSetId":1,"targetFilterQuery":"name==*",'
+            f'{{"name":"r{self.number}","distributionSetId":1,"targetFilterQuery":"{self.filter}",'
             f"{self.grouping()},{conditions(self.success, 100)}}}"
         )
         return (
