@@ -1,6 +1,7 @@
 """What tools share that start servers: free ports, configurations with places of their own,
 what is started and ended. Not run by itself."""
 import contextlib
+import multiprocessing
 import os
 import random
 import shutil
@@ -156,3 +157,14 @@ class Processes:
     def end_all(self):
         for it in self.running[::-1]:
             self.end(it)
+
+
+@contextlib.contextmanager
+def pool_of(jobs, begin):
+    """So many processes side by side, each of which calls `begin` first. They end by themselves once nothing is left to do: a
+    pool that is left alone sends each a signal, and on one that just begins to wait for a lock it is lost.
+    """
+    with multiprocessing.Pool(jobs, begin) as pool:
+        yield pool
+        pool.close()
+        pool.join()

@@ -3,7 +3,6 @@
 Each part of tests/mutation/model_mutants.edits names a model and a file, and has the lines there and those in their place. A name
 that comes again edits once more. tests/mutation/model_mutants.seeds says which scenario finds each."""
 import importlib
-import multiprocessing
 import os
 import shutil
 import sys
@@ -12,6 +11,7 @@ import time
 from pathlib import Path
 
 from harness import ROOT
+from harness.processes import pool_of
 from differential import legacy_files
 
 EDITS, SEEDS = (
@@ -98,7 +98,7 @@ def find_all(jobs, begin, talks_of, some=None):
         names = [it for it in write_all(workdir) if not some or it in some]
         sys.path.insert(0, workdir)
         REPLAYED.update((it, talks_of(it)) for it in names)
-        with multiprocessing.Pool(jobs, begin) as pool:
+        with pool_of(jobs, begin) as pool:
             found = list(pool.imap_unordered(find, names))
     for name, seed, replies, seconds in sorted(found, key=lambda it: it[3]):
         told = f"seed {seed}" if seed is not None else "NOT FOUND"
