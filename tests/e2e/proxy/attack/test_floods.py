@@ -268,8 +268,10 @@ def test_device_has_eight_requests(quiet: Stage) -> None:
 
 
 @pytest.mark.gate
+@pytest.mark.timed
 def test_address_has_a_thousand_connections(quiet: Stage) -> None:
-    """One connection more than a thousand of an address is ended at once; another address is served."""
+    """One connection more than a thousand of an address is ended at once; another address is served. A silent one is ended
+    after ten seconds, so all are opened within these."""
     links: list[socket.socket] = []
     try:
         hold(links, lambda: silent(quiet.port, "127.4.3.1"), 1000)
