@@ -4,7 +4,7 @@ use Rattle.desk_records.proofs.Common.{refl, sym, ap, ap₂, ◌∙◌, list_all
 use Rattle.desk_records.proofs.Common.{value_cmp, value_cmp-Text, Row, Database, Query, Term, Output, Binary, by, simple, col, false, output_cmp, held_seen}
 use Rattle.desk_records.proofs.Common.{on_content, passes, shown_in}
 use Rattle.desk_records.proofs.Common.{shown_of, bytes_below, Attribute, Bytes, Records, Target, TargetAttributes, TargetTags, HoldsRecords, IsHeldBy}
-use Rattle.desk_records.proofs.Common.{ids_of, in_byte_order, is_sorted, keys_of}
+use Rattle.desk_records.proofs.Common.{ids_of, in_byte_order, is_sorted}
 use Rattle.sqlite.specs.Effect.{Reads as Shows}
 use Rattle.sqlite_keyed.proofs.ListLemmas.{all-append, ascending-append, ascending-filter, ascending-map}
 use Rattle.sqlite_trees.specs.Tree.{IsAscending}
@@ -12,7 +12,7 @@ use Rattle.std.specs.Cmp.Lexicographic.{slice_cmp}
 use Rattle.std.proofs.Common.{map-id}
 use Rattle.sql_calls.proofs.KeyedRows.{IsBlind}
 use Rattle.sql_calls.proofs.Selects.{rises_to}
-use Rattle.desk_records.specs.ReadRows.{OwnedAttribute, OwnedTag, shown_owned_attribute, shown_owned_tag}
+use Rattle.desk_records.specs.ReadRows.{shown_owned_attribute, shown_owned_tag}
 use Rattle.desk_records.specs.TargetRow.{owned_attributes, owned_tags}
 use Rattle.desk_records.specs.Targets.{is_between, targets_between}
 use Rattle.desk_records.proofs.MeaningWords.{no_limit, no_offset, selects}
