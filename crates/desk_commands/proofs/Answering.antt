@@ -3,7 +3,7 @@ pub use Rattle.desk_commands.proofs.Common.{makes_three, ◌≡◌, None, Some, 
 pub use Rattle.desk_commands.proofs.Common.{makes_nothing, CancelFeedback, device_action_seen, Feedback, makes_then, ◌≤◌, length, arith, nat_tests, both_found}
 pub use Rattle.desk_commands.proofs.Common.{finds_as, true, false, ap, ◌+◌, same_number, cond, sorted_from, take, in_byte_order, keys_of, keys_after}
 pub use Rattle.desk_commands.proofs.Common.{GivesAttribute, rules, GivesAttributes, Ok, Fault, MakesIn, StaysIn, WritesIn, found_held, filter_of, map}
-pub use Rattle.desk_commands.proofs.Common.{target_listed, ids_matching, Tree, FindsIn, FailsAtListsIn, ledger_found, [], CreatesRollout, first_rules, in_part}
+pub use Rattle.desk_commands.proofs.Common.{target_listed, ids_matching, Tree, FindsIn, FailsAtListsIn, ledger_found, [], CreatesRollout, in_part}
 pub use Rattle.desk_commands.proofs.Common.{MakesLedger, rules_of, started, with_group, found_then_makes, GoesOn, CanStart, last_started, known, rule_at}
 pub use Rattle.desk_commands.proofs.Common.{said_of, item_numbered, Records, Resume, TriggerNext, details_kept, not, Approve, Deny, Pause, WritesSaid, Start}
 pub use Rattle.desk_commands.proofs.Common.{StartsWhole, AddsActions, target_of, PutsOver, renamed, with_changed, seen_in, Renames, are_sorted, tags_of, Retags}

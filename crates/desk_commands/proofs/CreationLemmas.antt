@@ -6,7 +6,7 @@ use Rattle.desk_commands.proofs.Common.{RolloutPlan, GroupRule, rule_at, rules_o
 use Rattle.desk_commands.proofs.Common.{step_records, bounds_at, chosen, rollouts, RolloutWord, Target, IsValid, check, reply_of, Bounds, ActionRecord}
 use Rattle.desk_commands.proofs.Common.{RolloutRecord, each_from_more, length_each, numbered_each, Tree, filter_of, IsPlanView, approval_at, plan_refusal}
 use Rattle.desk_commands.proofs.Common.{Ledger, ledger_of, AddsGroup, AddsMember, AddsRule, cut_group, set_numbered, with_rollouts, with_rules}
-use Rattle.desk_commands.proofs.Common.{same_ledger, target_listed, CreatesRollout, IsChosen, IsWordOf, and_rollout, first_rules, ids_matching}
+use Rattle.desk_commands.proofs.Common.{same_ledger, target_listed, CreatesRollout, IsChosen, IsWordOf, and_rollout, ids_matching}
 use Rattle.desk_commands.proofs.Common.{in_part, shown_new, invariant_of, not-true}
 use Rattle.rollout_machine.specs.Records.{records}
 use Rattle.std.proofs.lemmas.Option.{slice_get-get_or, slice_get_within}
@@ -31,6 +31,11 @@ use Rattle.std.specs.Option.{IsSomeAnd}
 use Rattle.desk_commands.specs.declared.creation.Chosen.{Chosen}
 use Rattle.desk_commands.proofs.ArtifactLemmas.{last_there}
 use Rattle.desk_commands.proofs.PutLemmas.{one_more}
+use Rattle.rollout_machine.specs.Ranges.{each_from}
+
+-- what is said of so many of its groups
+abbrev pub first_rules : RolloutPlan → ℕ → List GroupRule
+first_rules plan groups = each_from (rule_at plan) 1 groups
 
 -- ---- the members
 

@@ -5,13 +5,14 @@ use Rattle.desk_commands.proofs.Common.{Standing, group_holding, group_is_starte
 use Rattle.desk_commands.proofs.Common.{IsValid, target_of, ActionRecord, GroupRecord, RolloutRecord, BothOrNone, IsActionView, IsCancelView, IsFeedbackView}
 use Rattle.desk_commands.proofs.Common.{IsDeviceAction, action_for, device_action, only_if, Tally, tally_of, ledger_of, said_of, group_and_next, GroupAndNext}
 use Rattle.desk_commands.proofs.Common.{stored_action, stored_rollout, IsSeen, MaySee, SeesIn, SeesFeedback, SeesTarget, action_seen, action_view_seen}
-use Rattle.desk_commands.proofs.Common.{cancel_view_seen, only_of, only_started, feedback_view_seen, device_action_seen, seen_if, StandsAt, asked, with_number}
+use Rattle.desk_commands.proofs.Common.{cancel_view_seen, only_of, only_started, device_action_seen, seen_if, StandsAt, asked, with_number}
 use Rattle.desk_commands.proofs.Common.{SeenAction, SeenFeedback}
 use Rattle.campaign_core.proofs.PlacedActions.{is_members}
 use Rattle.desk_store.proofs.GroupPlaces.{group_and_next_at}
 use Rattle.desk_commands.proofs.GroupNumbers.{Numbered, held_stands, numbered_groups, same_groups}
 use Rattle.desk_commands.proofs.ItemSteps.{none_shown, own_pair, zip_map}
 use Rattle.desk_commands.proofs.LedgerEnds.{groups_stand}
+use Rattle.campaign_core.specs.declared.rollout_checks.of_devices.FeedbackView.{FeedbackView}
 
 -- the action of a number, with its rollout and its group
 pub record IsPlaced (rs : Records) (k : ℕ) : Type 0 where
@@ -24,6 +25,13 @@ pub record IsPlaced (rs : Records) (k : ℕ) : Type 0 where
   pub own_at : item_numbered rollout.groups own.number ≡ Some own
   pub found : group_numbered own.number rollout.groups ≡ Some own
   pub next : group_numbered (own.number + 1) rollout.groups ≡ item_numbered rollout.groups (own.number + 1)
+
+-- what a report is judged by, of what was seen
+abbrev feedback_view_seen : SeenFeedback → FeedbackView
+feedback_view_seen seen = record {
+  misses_device = seen.misses_device;
+  own_action = option_map (device_action_seen seen.report.standing) seen.action;
+}
 
 -- as it is seen then
 abbrev pub seen_at : (rs : Records) (k : ℕ) → IsPlaced rs k → SeenAction

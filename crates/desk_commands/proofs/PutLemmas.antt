@@ -4,12 +4,15 @@ use Rattle.desk_commands.proofs.Common.{None, option_map, Ok, Err, refl, sym, ap
 use Rattle.desk_commands.proofs.Common.{length-map, State, HasCleanDisk, Finds, Makes, Sees, Wears, HoldsLedger, ledger_of, stored_target, are_sorted, ids_of}
 use Rattle.desk_commands.proofs.Common.{StoredTarget, with_word, with_words, CommandList, TargetRow, PutTargets, Records, records, put_target, put_targets}
 use Rattle.desk_commands.proofs.Common.{step_records, Target, IsValid, check, target_of, same_sym, same_true, Refusal, Quota, HasCounted, IsTooMany, PutsAll}
-use Rattle.desk_commands.proofs.Common.{PutsRow, row_ids, with_row, limits_hold, IsSorted, above_more}
+use Rattle.desk_commands.proofs.Common.{Bytes, map, PutsRow, with_row, limits_hold, IsSorted, above_more}
 use Rattle.campaign_core.proofs.CheckLemmas.{first_passes}
 use Rattle.campaign_core.specs.Checks.{import_refusal}
 use Rattle.desk_commands.proofs.TargetLemmas.{found, ids_sorted, none_above}
 
 -- ---- how many there are
+
+abbrev row_ids : List TargetRow → List Bytes
+row_ids rows = map (λ (row : TargetRow). row.id) rows
 
 put_ids : (row : TargetRow) (ts : List Target) → ids_of (put_target row ts) ≡ with_word row.id (ids_of ts)
 put_ids row [] = refl

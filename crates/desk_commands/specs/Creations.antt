@@ -2,7 +2,7 @@
 use Rattle.std.specs.Prelude.{◌≡◌, ℕ, ◌+◌, Bool, true, false, not, nat_eq, List, [], ◌∷◌, ◌++◌, map, filter, length, is_none}
 use Rattle.std.specs.List.{list_all}
 use Rattle.rollout_machine.specs.Commands.{Bytes, RolloutPlan}
-use Rattle.rollout_machine.specs.GroupRules.{GroupRule, rule_at}
+use Rattle.rollout_machine.specs.GroupRules.{GroupRule}
 use Rattle.rollout_machine.specs.Ranges.{each_from}
 use Rattle.rollout_machine.specs.RecordSteps.{new_group}
 use Rattle.rollout_machine.specs.Records.{Records}
@@ -60,10 +60,6 @@ in_part n plan size groups members = record {
   paused = false;
   groups = each_from (new_group plan size) 1 groups;
 }
-
--- what is said of so many of its groups
-abbrev pub first_rules : RolloutPlan → ℕ → List GroupRule
-first_rules plan groups = each_from (rule_at plan) 1 groups
 
 -- with one more rollout, and with what is said of its groups
 abbrev pub and_rollout : RolloutRecord → List GroupRule → Ledger → Ledger

@@ -69,9 +69,6 @@ PutsOver stored row r next = (stored ≡ option_map stored_target (target_of r r
 
 -- ---- the quota
 
-abbrev pub row_ids : List TargetRow → List Bytes
-row_ids rows = map (λ (row : TargetRow). row.id) rows
-
 -- the desk has no more targets than it takes, and so many where they are counted
 abbrev pub HasCounted : Option ℕ → Records → Type 0
 HasCounted None r = length r.targets ≤ target_limit

@@ -1,7 +1,7 @@
 -- An action as a command on it finds it: with its group and its rollout.
 use Rattle.std.specs.Prelude.{◌≡◌, ℕ, Bool, ◌&&◌, not, cond, Option, Some, None}
 use Rattle.std.specs.List.{zip}
-use Rattle.std.specs.Option.{is_none, option_map}
+use Rattle.std.specs.Option.{is_none}
 use Rattle.rollout_machine.specs.ByteStrings.{item_numbered, same_bytes}
 use Rattle.rollout_machine.specs.Commands.{Bytes, Credential}
 use Rattle.rollout_machine.specs.GroupRules.{GroupRule}
@@ -17,7 +17,6 @@ use Rattle.campaign_core.specs.declared.own_group.OwnView.{OwnView}
 use Rattle.campaign_core.specs.declared.rollout_checks.actions.ActionView.{ActionView}
 use Rattle.campaign_core.specs.declared.rollout_checks.actions.CancelView.{CancelView}
 use Rattle.campaign_core.specs.declared.rollout_checks.of_devices.DeviceAction.{DeviceAction}
-use Rattle.campaign_core.specs.declared.rollout_checks.of_devices.FeedbackView.{FeedbackView}
 use Rattle.desk_records.specs.Actions.{Tally}
 use Rattle.desk_records.specs.Holds.{Ledger, ledger_of}
 use Rattle.desk_records.specs.RolloutRow.{stored_action, stored_rollout}
@@ -105,9 +104,3 @@ cancel_view_seen seen = record { started = seen.own.started; action = action_vie
 
 abbrev pub device_action_seen : Standing → SeenAction → DeviceAction
 device_action_seen standing seen = record { notes = seen.action.notes; standing = standing; action = action_view_seen seen }
-
-abbrev pub feedback_view_seen : SeenFeedback → FeedbackView
-feedback_view_seen seen = record {
-  misses_device = seen.misses_device;
-  own_action = option_map (device_action_seen seen.report.standing) seen.action;
-}

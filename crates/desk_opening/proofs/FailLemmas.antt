@@ -2,7 +2,7 @@
 use Rattle.desk_opening.proofs.Common.{◌≡◌, ◌<◌, ◌≤◌, ◌+◌, ◌^◌, ℕ, suc, List, [], ◌∷◌, length, Ok, Err, Result, inl, inr, refl, sym, subst, ◌∙◌, arith, Row}
 use Rattle.desk_opening.proofs.Common.{State, Has}
 use Rattle.desk_opening.proofs.Common.{HasCleanDisk, Fault, Wears, AllByRecursion, RolloutRecord, Records, Version, One, HoldsLedger, Ledger, MakesLedger, Sees}
-use Rattle.desk_opening.proofs.Common.{WritesUpTo, bare_ledger, rules_up_to}
+use Rattle.desk_opening.proofs.Common.{bare_ledger}
 use Rattle.std.specs.Prelude.{IsErrAnd}
 use Rattle.std.proofs.lemmas.Bool.Decides.{nat_tests}
 use Rattle.sql_calls.specs.Keyed.{rows_from}
@@ -15,6 +15,7 @@ use Rattle.desk_store.specs.BrokenRows.{BreaksColumn}
 use Rattle.desk_store.specs.Readable.{KeepsColumns}
 use Rattle.desk_opening.specs.Counting.{AreReadable, FailsGiven, HasReadable, IsRolloutReadable}
 use Rattle.desk_opening.specs.Filling.{GivenBare, GivenRules}
+use Rattle.desk_opening.proofs.RuleLists.{WritesUpTo, rules_up_to}
 
 -- ---- what is held can be read
 

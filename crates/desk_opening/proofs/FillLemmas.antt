@@ -1,7 +1,7 @@
 -- What a migration writes into the later tables.
 use Rattle.desk_opening.proofs.Common.{◌≡◌, ◌++◌, ℕ, zero, suc, ◌+◌, List, [], ◌∷◌, length, set, Option, Some, None, option_map, refl, sym, ap, subst}
-use Rattle.desk_opening.proofs.Common.{◌∙◌, arith, GroupRule, Ledger, Version, One, FillsLater, FillsRollout, WritesCopies, WritesRules, WritesUpTo}
-use Rattle.desk_opening.proofs.Common.{rules_up_to, same_some}
+use Rattle.desk_opening.proofs.Common.{◌∙◌, arith, GroupRule, Ledger, Version, One, FillsLater, FillsRollout, WritesCopies, WritesRules}
+use Rattle.desk_opening.proofs.Common.{same_some}
 use Rattle.rollout_machine.specs.ByteStrings.{item_numbered}
 use Rattle.rollout_machine.specs.Ranges.{each_from}
 use Rattle.rollout_machine.proofs.Lists.{each_from_more, length_each}
@@ -9,7 +9,7 @@ use Rattle.desk_records.specs.LedgerSteps.{AddsRule, with_rules}
 use Rattle.desk_records.specs.RolloutRow.{stored_rollout}
 use Rattle.desk_records.specs.declared.rollout_row.StoredRollout.{StoredRollout}
 use Rattle.desk_records.proofs.HeldCounts.{at_place}
-use Rattle.desk_opening.proofs.RuleLists.{all_even, all_said, got_set, none_said, none_yet, one_more, set_same}
+use Rattle.desk_opening.proofs.RuleLists.{WritesUpTo, rules_up_to, all_even, all_said, got_set, none_said, none_yet, one_more, set_same}
 use Rattle.std.proofs.Common.{set-set}
 
 -- ---- of one rollout

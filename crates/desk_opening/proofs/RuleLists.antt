@@ -1,6 +1,10 @@
 -- What is said of groups, in lists alone.
 use Rattle.desk_opening.proofs.Common.{arith, ◌≡◌, ℕ, zero, suc, List, [], ◌∷◌, length, map, set, slice_get, Some, refl, ap, ap₂, sym, AllByRecursion}
-use Rattle.desk_opening.proofs.Common.{even_rules, rules_of, RolloutRecord, IsEven, no_rules, rules_up_to}
+use Rattle.desk_opening.proofs.Common.{even_rules, rules_of, RolloutRecord, IsEven, no_rules}
+use Rattle.std.specs.Prelude.{◌≤◌}
+use Rattle.rollout_model.specs.declared.group_rule.GroupRule.{GroupRule}
+use Rattle.desk_records.specs.Holds.{Ledger}
+use Rattle.desk_records.specs.LedgerSteps.{with_rules}
 
 -- ---- one in place of another
 
@@ -13,6 +17,18 @@ set_same (z ∷ xs) (suc k) x there = ap (λ l. z ∷ l) (set_same xs k x there)
 set_same xs k x there = grind arith
 
 -- ---- of the first so many rollouts
+
+-- of the groups of the first so many rollouts what each rollout says of all, and nothing of the others
+abbrev pub rules_up_to : ℕ → List RolloutRecord → List (List GroupRule)
+rules_up_to k [] = []
+rules_up_to zero (x ∷ xs) = [] ∷ rules_up_to zero xs
+rules_up_to (suc k) (x ∷ xs) = even_rules x.plan ∷ rules_up_to k xs
+
+-- this is said of them
+pub record WritesUpTo (k : ℕ) (l next : Ledger) : Type 0 where
+  pub none : l.rules ≡ no_rules l.records.rollouts
+  pub within : k ≤ length l.records.rollouts
+  pub next_is : next ≡ with_rules l (rules_up_to k l.records.rollouts)
 
 pub none_said : (xs : List RolloutRecord) → rules_up_to zero xs ≡ no_rules xs
 none_said [] = refl

@@ -1,5 +1,5 @@
 -- A change that fills the tables of the newest version.
-use Rattle.std.specs.Prelude.{◌≡◌, ◌≤◌, ℕ, zero, suc, List, [], ◌∷◌, length, map, Some, Result}
+use Rattle.std.specs.Prelude.{◌≡◌, ℕ, List, [], map, Some, Result}
 use Rattle.sqlite.specs.State.{State}
 use Rattle.sql_calls.specs.Standing.{Advances, Makes}
 use Rattle.rollout_model.specs.declared.group_rule.GroupRule.{GroupRule}
@@ -43,17 +43,6 @@ pub record FillsRollout (number : ℕ) (l next : Ledger) : Type 0 where
 -- nothing is said of any group
 abbrev pub no_rules : List RolloutRecord → List (List GroupRule)
 no_rules xs = map (λ (x : RolloutRecord). []) xs
-
--- of the groups of the first so many rollouts what each rollout says of all, and nothing of the others
-abbrev pub rules_up_to : ℕ → List RolloutRecord → List (List GroupRule)
-rules_up_to k [] = []
-rules_up_to zero (x ∷ xs) = [] ∷ rules_up_to zero xs
-rules_up_to (suc k) (x ∷ xs) = even_rules x.plan ∷ rules_up_to k xs
-
-pub record WritesUpTo (k : ℕ) (l next : Ledger) : Type 0 where
-  pub none : l.rules ≡ no_rules l.records.rollouts
-  pub within : k ≤ length l.records.rollouts
-  pub next_is : next ≡ with_rules l (rules_up_to k l.records.rollouts)
 
 pub record WritesRules (l next : Ledger) : Type 0 where
   pub none : l.rules ≡ no_rules l.records.rollouts

@@ -118,7 +118,7 @@ pub use Rattle.desk_verify.specs.Artifacts.{AgreesArtifacts, HasPieces}
 pub use Rattle.desk_verify.specs.Checking.{ChecksGroups}
 pub use Rattle.desk_verify.specs.Cuts.{are_bounds, are_right, counts_them, has_each, has_group_numbered, is_cut, is_right}
 pub use Rattle.desk_verify.specs.Following.{follow}
-pub use Rattle.desk_verify.specs.GroupChecks.{HasEach, HasOnlyRule, HaveOnlyRules, IsCutOnlyBy, IsGroupCount}
+pub use Rattle.desk_verify.specs.GroupChecks.{HasEach, HasOnlyRule, HaveOnlyRules, IsCutOnlyBy}
 pub use Rattle.desk_verify.specs.Groups.{AgreesGroups, HasGroup, IsCutBy, IsInRollout, IsRightGroup, ended_in, has_ended, member_count}
 pub use Rattle.desk_verify.specs.Judged.{within}
 pub use Rattle.desk_verify.specs.Members.{AgreesMembers, HasPlace, IsInPlace}

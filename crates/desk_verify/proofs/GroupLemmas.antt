@@ -4,7 +4,7 @@ use Rattle.desk_verify.proofs.Common.{ap, ◌∙◌, arith, nat_eq, list_all, an
 use Rattle.desk_verify.proofs.Common.{test_has, item_numbered, bounds_by, cut_by, leaves_empty, each_there, numbered_each, Bounds, Outcome, Good, Bad, Gone}
 use Rattle.desk_verify.proofs.Common.{GroupRecord, HasNumber, has_at, Actions, Groups, Rollouts, IsGroup, Tables, is_at, number_in_is, number_in_least}
 use Rattle.desk_verify.proofs.Common.{number_is, one_number, ListsRows, SaysGroup, HasGroupCount, SettlesWhether, are_bounds, are_right, counts_them, has_each}
-use Rattle.desk_verify.proofs.Common.{has_group_numbered, is_cut, is_right, HasEach, IsCutOnlyBy, IsGroupCount, AgreesGroups, HasGroup}
+use Rattle.desk_verify.proofs.Common.{has_group_numbered, is_cut, is_right, HasEach, IsCutOnlyBy, AgreesGroups, HasGroup}
 use Rattle.desk_verify.proofs.Common.{IsInRollout, IsRightGroup, ended_in, has_ended, member_count, AreAllChecked, IsChecked, length-filter, not-true}
 use Rattle.desk_verify.proofs.Common.{columns_of_group, JudgesOne}
 use Rattle.rollout_machine.specs.Groupings.{Grouping}
@@ -14,7 +14,7 @@ use Rattle.desk_records.specs.declared.checked_rows.CountedAction.{CountedAction
 use Rattle.std.proofs.lemmas.Bool.{false_from_ne_true}
 use Rattle.std.specs.Bool.{then_some}
 use Rattle.desk_verify.proofs.RolloutLemmas.{decided, judged}
-use Rattle.desk_verify.proofs.RuleLemmas.{some_groups}
+use Rattle.desk_verify.proofs.RuleLemmas.{IsGroupCount, some_groups}
 
 -- ---- a row is one group of one rollout
 

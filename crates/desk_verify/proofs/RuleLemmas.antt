@@ -2,12 +2,17 @@
 use Rattle.desk_verify.proofs.Common.{◌≡◌, ◌≤◌, ℕ, suc, ◌+◌, Bool, true, List, [], ◌∷◌, ◌++◌, length, Some, None, refl, sym, ap, subst, ◌∙◌, arith}
 use Rattle.desk_verify.proofs.Common.{pos, and_parts, leb-true, Row, column, has_rowid, Grouping, is_grouping, GroupRule, IsOnly, Rollouts, IsRollout, Tables}
 use Rattle.desk_verify.proofs.Common.{StoredRollout, SaysRule, HasGroupCount, HasRule, HaveRules, definitions_in, grouping_of, grouping_with, no_grouping}
-use Rattle.desk_verify.proofs.Common.{HasOnlyRule, HaveOnlyRules, IsCutOnlyBy, IsGroupCount, HasRollout, Place, Rules}
+use Rattle.desk_verify.proofs.Common.{HasOnlyRule, HaveOnlyRules, IsCutOnlyBy, HasRollout, Place, Rules}
 use Rattle.rollout_model.specs.declared.group_definition.GroupDefinition.{GroupDefinition}
 use Rattle.desk_store.specs.Unreadable.{IsUnreadableIn}
 use Rattle.std.proofs.lemmas.Option.{cond_some}
 
 -- ---- how many groups a rollout is to have
+
+-- the rollout is there, and each row of it says that it is to have n groups
+pub record IsGroupCount (t : Tables) (rollout n : ℕ) : Type 0 where
+  pub there : HasGroupCount t rollout n
+  pub only : (k : ℕ) → HasGroupCount t rollout k → k ≡ n
 
 pub found_count : (t : Tables) (r : ℕ) (found : StoredRollout) → IsOnly (t Rollouts) (has_rowid (pos r)) IsRollout found → IsGroupCount t r found.plan.groups
 found_count t r found one = grind arith

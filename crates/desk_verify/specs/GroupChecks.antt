@@ -10,11 +10,6 @@ use Rattle.desk_store.specs.RawLists.{SaysRule}
 use Rattle.desk_store.specs.RuleTables.{HasGroupCount, HaveRules}
 use Rattle.desk_verify.specs.Groups.{HasGroup, IsCutBy}
 
--- the rollout is there, and each row of it says that it is to have n groups
-pub record IsGroupCount (t : Tables) (rollout n : ℕ) : Type 0 where
-  pub there : HasGroupCount t rollout n
-  pub only : (k : ℕ) → HasGroupCount t rollout k → k ≡ n
-
 -- each row of group i says this, and there is one
 abbrev pub HasOnlyRule : Tables → ℕ → ℕ → GroupRule → Type 0
 HasOnlyRule t rollout i rule = IsOnly (t Rules) (lies_at rollout i) SaysRule rule

@@ -27,7 +27,7 @@ pub use Rattle.stream_server.specs.Headline.{AnswersEnd, CutsDownload, Exits, He
 pub use Rattle.stream_server.specs.Headline.{Transcript}
 pub use Rattle.stream_server.specs.Interfaces.{end_text, is_for_devices, reading, reading_by, reply_text}
 pub use Rattle.stream_server.specs.Listening.{Keeps, KeepsOn, StopsAtStore}
-pub use Rattle.stream_server.specs.Parts.{Answers, AnswersOne, BeginsDownload, Broken, ByStopped, Comes, Conduct, CutsReply, GivesReply, IsToldWhole}
+pub use Rattle.stream_server.specs.Parts.{Answers, BeginsDownload, Broken, ByStopped, Comes, Conduct, CutsReply, GivesReply, IsToldWhole}
 pub use Rattle.stream_server.specs.Parts.{SendsPart, Serves, ServesStream, Takes, Whole, running, stopped}
 pub use Rattle.stream_server.specs.Run.{Answering, Exchange, GoesOn, IsRun, accepted_in, messages_of, texts_of}
 pub use Rattle.stream_server.specs.declared.interface.Interface.{Interface}

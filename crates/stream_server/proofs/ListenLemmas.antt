@@ -16,7 +16,7 @@ use Rattle.rollout_machine.specs.Repeats.{IsTraceless}
 use Rattle.rollout_machine.proofs.Once.{repeats_leave_no_trace}
 use Rattle.stream_server.specs.Arrivals.{Adds, Befalls, Came, CameUnlimited, Event, Socket, Went, arrivals_in, is_arrival, is_of_given}
 use Rattle.stream_server.specs.Headline.{FailsBy}
-use Rattle.stream_server.specs.Listening.{AreServed, ComesToEnd, IsServed, LosesInDoubt, NoneFailed, ServesSoFar, Talk, TellsOf, accepted_over, counted}
+use Rattle.stream_server.specs.Listening.{AreServed, ComesToEnd, IsServed, LosesInDoubt, NoneFailed, Talk, TellsOf, accepted_over, counted}
 use Rattle.stream_server.specs.Listening.{passage, stopped_after, told_of, whole_in}
 use Rattle.stream_server.specs.declared.listening.ListenFault.{ListenFault}
 use Rattle.stream_server.specs.declared.listening.ListenFault.TheVariants as listen_fault
@@ -24,6 +24,15 @@ use Rattle.stream_server.specs.declared.served.ServeFault.TheVariants as serve_f
 use Rattle.stream_server.proofs.RunLemmas.{followed_append}
 use Rattle.stream_server.proofs.HeadlineLemmas.{retold}
 use Rattle.stream_server.proofs.PartLemmas.{stays, stays_on}
+
+-- after the connections up to now: how many there were, and how many of them were served to their end
+pub record ServesSoFar {File : Type 0} (interface : Interface) (before now : List Event → Type 0) (old new : DeskState File) (count served : ℕ) : Type 0 where
+  pub clean : new.is_clean → old.is_clean
+  pub events : List Event
+  pub seen : Adds before now events
+  pub keeps : (h : CommandList) → new.is_clean → StandsFor old h → Keeps interface new h events (Ok served)
+  pub come : arrivals_in events ≡ count
+  pub stays : old.is_stopped ≡ true → StaysStopped old new
 
 -- ---- talks
 

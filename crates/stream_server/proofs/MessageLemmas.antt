@@ -1,12 +1,12 @@
 -- One message, from what the desk answered and from how much of the reply was written.
 use Rattle.stream_server.proofs.Common.{◌≡◌, ℕ, Bool, true, inl, List, [], ◌∷◌, Option, Some, None, refl, sym, append-nil, WireMessage, Refusal}
 use Rattle.stream_server.proofs.Common.{StoreFailed, Stopped, CommandList, Reply, Refused, DeskState, StandsFor, Applies, StaysStopped, Interface, ServeFault}
-use Rattle.stream_server.proofs.Common.{reading, Conduct, running, stopped, AnswersOne, Answers, GivesReply, Serves}
+use Rattle.stream_server.proofs.Common.{reading, Conduct, running, stopped, Answers, GivesReply, Serves}
 use Rattle.http_wire.specs.Replies.{refusal_text}
 use Rattle.stream_server.specs.declared.served.ServeFault.TheVariants as serve_fault
 use Rattle.stream_server.specs.Interfaces.{reply_text}
 use Rattle.stream_server.proofs.AskLemmas.{by_machine}
-use Rattle.stream_server.proofs.PartLemmas.{whole_one, broken_one}
+use Rattle.stream_server.proofs.PartLemmas.{AnswersOne, whole_one, broken_one}
 
 -- whatever was asked
 pub refused_text : (m : WireMessage) (refusal : Refusal) → reply_text m (Refused refusal) ≡ refusal_text refusal

@@ -3,8 +3,15 @@ use native.Mathlib.Omega.{arith}
 use Rattle.stream_server.proofs.Common.{◌≡◌, ◌≢◌, ℕ, true, List, [], ◌∷◌, ◌++◌, Option, Some, None, refl, sym, ap, ◌∙◌, subst, append_assoc, append-nil}
 use Rattle.stream_server.proofs.Common.{Appends-trans, Appends-nil, WireMessage, Begins, StoreFailed, Command, CommandList, followed_by, Reply, Refused, one}
 use Rattle.stream_server.proofs.Common.{DeskState, StaysStopped, Interface, ServeFault, reply_text, Exchange, messages_of, accepted_in, texts_of, IsRun}
-use Rattle.stream_server.proofs.Common.{Conduct, running, stopped, AnswersOne, Whole, Broken, CutsReply, Comes, Answers, Serves, Takes}
+use Rattle.stream_server.proofs.Common.{Conduct, running, stopped, Whole, Broken, CutsReply, Comes, Answers, Serves, Takes}
 use Rattle.stream_server.proofs.RunLemmas.{messages_append, texts_append, run_append, goes_append, led}
+use Rattle.stream_server.specs.Parts.{GoesTo}
+
+-- one message was answered so
+pub record AnswersOne {File : Type 0} (C : Conduct File) (h : CommandList) (s : DeskState File) (message : WireMessage) (reply : Reply) : Type 0 where
+  pub accepted : Option Command
+  pub answers : C.answers h message reply accepted
+  pub goes_to : GoesTo C s h reply accepted
 
 module _ (File : Type 0) (C : Conduct File) where
   whole_nil : (h : CommandList) (s : DeskState File) → C.stands s h → Whole C h s [] []

@@ -4,14 +4,14 @@ use Rattle.std.specs.List.{filter, flat_map}
 use Rattle.rollout_machine.specs.Commands.{Command}
 use Rattle.rollout_machine.specs.CommandList.{CommandList, followed_by}
 use Rattle.rollout_machine.specs.Repeats.{IsTraceless}
-use Rattle.rollout_machine.specs.Standing.{DeskState, StandsFor, StaysStopped}
+use Rattle.rollout_machine.specs.Standing.{DeskState, StandsFor}
 use Rattle.stream_server.specs.declared.interface.Interface.{Interface}
 use Rattle.stream_server.specs.declared.listening.ListenFault.{ListenFault}
 use Rattle.stream_server.specs.declared.listening.ListenFault.TheVariants as listen_fault
 use Rattle.stream_server.specs.declared.served.Served.{Served}
 use Rattle.stream_server.specs.declared.served.ServeFault.{ServeFault}
 use Rattle.stream_server.specs.declared.served.ServeFault.TheVariants as serve_fault
-use Rattle.stream_server.specs.Arrivals.{Adds, Came, Event, Socket, Went, arrivals_in, is_of_given}
+use Rattle.stream_server.specs.Arrivals.{Came, Event, Socket, Went, arrivals_in, is_of_given}
 use Rattle.stream_server.specs.Headline.{EndsInDoubt, FailsBy, IsRefusedAsStopped, Stops, Transcript}
 use Rattle.stream_server.specs.Run.{ByMachine, Exchange, IsRun, accepted_in}
 
@@ -133,12 +133,3 @@ counted n (Err fault) = Err fault
 abbrev pub KeepsOn : {File : Type 0} → Interface → DeskState File → DeskState File → Result Bool ListenFault → List Event → Type 0
 KeepsOn interface old new result events = (h : CommandList) (past : List Event) (n : ℕ)
     → new.is_clean → Keeps interface old h past (Ok n) → Keeps interface new h (past ++ events) (counted n result)
-
--- after the connections up to now: how many there were, and how many of them were served to their end
-pub record ServesSoFar {File : Type 0} (interface : Interface) (before now : List Event → Type 0) (old new : DeskState File) (count served : ℕ) : Type 0 where
-  pub clean : new.is_clean → old.is_clean
-  pub events : List Event
-  pub seen : Adds before now events
-  pub keeps : (h : CommandList) → new.is_clean → StandsFor old h → Keeps interface new h events (Ok served)
-  pub come : arrivals_in events ≡ count
-  pub stays : old.is_stopped ≡ true → StaysStopped old new

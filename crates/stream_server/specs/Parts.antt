@@ -42,12 +42,6 @@ pub record GoesTo {File : Type 0} (C : Conduct File) (s : DeskState File) (h : C
   pub in_doubt : reply ≡ Refused StoreFailed → IsInDoubt s h accepted
   pub stands : reply ≢ Refused StoreFailed → C.stands s (followed_by h (one accepted))
 
--- one message was answered so
-pub record AnswersOne {File : Type 0} (C : Conduct File) (h : CommandList) (s : DeskState File) (message : WireMessage) (reply : Reply) : Type 0 where
-  pub accepted : Option Command
-  pub answers : C.answers h message reply accepted
-  pub goes_to : GoesTo C s h reply accepted
-
 -- every message was answered, and every reply written whole
 pub record Whole {File : Type 0} (C : Conduct File) (h : CommandList) (s : DeskState File) (ms : List WireMessage) (sent : List ℕ) : Type 0 where
   pub run : List Exchange

@@ -1,4 +1,5 @@
-use Rattle.desk_commands.proofs.Answering.{[], Ok, take, length, Fault, MakesLedger, rules_of, CreatesRollout, first_rules, in_part, WritesIn}
+use Rattle.desk_commands.proofs.Answering.{[], Ok, take, length, Fault, MakesLedger, rules_of, CreatesRollout, in_part, WritesIn}
+use Rattle.desk_commands.proofs.CreationLemmas.{first_rules}
 use Rattle.desk_commands.proofs.creation.write_whole.Given as goal
 
 -- so many groups are written, with what is said of them

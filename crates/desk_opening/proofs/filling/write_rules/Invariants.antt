@@ -1,5 +1,6 @@
-use Rattle.desk_opening.proofs.Common.{Ok, state, Fault, MakesLedger, Stays, WritesUpTo}
+use Rattle.desk_opening.proofs.Common.{Ok, state, Fault, MakesLedger, Stays}
 use Rattle.sql_calls.specs.Calls.{Grows}
+use Rattle.desk_opening.proofs.RuleLists.{WritesUpTo}
 use Rattle.desk_opening.proofs.filling.write_rules.Given as goal
 
 -- of the first k rollouts

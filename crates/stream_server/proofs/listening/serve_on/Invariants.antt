@@ -1,5 +1,5 @@
 use Rattle.stream_server.proofs.Common.{◌≤◌}
-use Rattle.stream_server.specs.Listening.{ServesSoFar}
+use Rattle.stream_server.proofs.ListenLemmas.{ServesSoFar}
 use Rattle.stream_server.proofs.listening.serve_on.Given as goal
 
 abbrev pub invariant-loop : goal.invariant-loop
