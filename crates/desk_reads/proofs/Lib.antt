@@ -4,6 +4,7 @@ pub mod ListLemmas
 pub mod RuleLemmas
 pub mod ListedTargets
 pub mod AskedTargets
+pub mod WordOrder
 pub mod Owned
 pub mod BegunTargets
 pub mod KnownDevices

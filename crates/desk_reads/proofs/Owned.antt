@@ -1,17 +1,21 @@
 -- The tags of many targets, or the attributes, read at once, and which of them are each one's own.
 use Rattle.desk_reads.proofs.Common.{◌≡◌, ◌⊎◌, ◌&&◌, ℕ, zero, suc, ◌+◌, ◌<◌, ◌≤◌, Bool, true, false, List, [], ◌∷◌, map, find, length, take, drop, Option}
-use Rattle.desk_reads.proofs.Common.{None, Some, inl, inr, refl, sym, subst, add-one}
-use Rattle.desk_reads.proofs.Common.{ap, ◌∙◌, arith, and_parts, and_from, list_all, Records, Target, tags_of, target_of, IsSorted, are_sorted, ids_of}
+use Rattle.desk_reads.proofs.Common.{None, Some, inl, inr, refl, sym, subst}
+use Rattle.desk_reads.proofs.Common.{ap, ◌∙◌, arith, and_parts, list_all, Records, Target, tags_of, target_of, IsSorted, are_sorted, ids_of}
 use Rattle.desk_reads.proofs.Common.{in_byte_order}
-use Rattle.desk_reads.proofs.Common.{sorted_from, has_id, same_bytes, same_true, Bytes}
+use Rattle.desk_reads.proofs.Common.{AllAbove, sorted_from, has_id, same_true, Bytes}
 use Rattle.desk_records.proofs.Targets.{none_after}
-use Rattle.std.specs.Prelude.{◌++◌, ◌*◌, ◌/◌, ◌%◌, cond, min, not, filter, flat_map, get_or, slice_get}
+use Rattle.std.specs.Prelude.{◌++◌, ◌*◌, ◌/◌, ◌%◌, ◌-◌, cond, min, not, filter, flat_map, get_or, slice_get}
 use Rattle.std.specs.List.{AllByRecursion}
 use Rattle.std.proofs.lemmas.List.{append-nil, append_assoc, drop-drop, drop-map, drop_all, length-append, map-append, take-append-drop, take-map, take_all}
 use Rattle.std.proofs.Math.Seq.{take-add}
-use Rattle.std.proofs.lemmas.Bool.Decides.{nat_tests}
 use Rattle.std.proofs.lemmas.Grind.{div_ceil_times}
-use Rattle.rollout_machine.specs.ByteStrings.{bytes_below}
+use Rattle.rollout_machine.specs.ByteStrings.{bytes_below, same_bytes}
+use Rattle.rollout_model.specs.declared.target.Target.{Target as SeenTarget}
+use Rattle.std.specs.Cmp.Lexicographic.{slice_cmp}
+use Rattle.std.specs.Ordering.{nat_cmp}
+use Rattle.std.specs.declared.cmp.Ordering.{Ordering}
+use Rattle.std.specs.declared.cmp.Ordering.TheVariants.{Equal, Greater, Less}
 use Rattle.desk_records.specs.TargetRow.{listed_target, owned_attributes, owned_tags}
 use Rattle.desk_records.specs.Targets.{is_between, targets_between}
 use Rattle.desk_records.specs.declared.target_row.ListedTarget.{ListedTarget}
@@ -20,35 +24,11 @@ use Rattle.desk_records.specs.declared.target_row.OwnedTag.{OwnedTag}
 use Rattle.std.specs.Option.{IsSomeAnd}
 use Rattle.desk_reads.proofs.Common.{Attribute, CommandList, IsValid, attributes_of, is_tag_list, records, true≢false}
 use Rattle.desk_reads.proofs.TargetRules.{tags_keep}
-use Rattle.desk_reads.specs.Targets.{AreAttributesOf, AreEnds, AreOwned, AreTagsOf, HasItsAttributes, HasItsTags, HasNoTagList, asked_listed, listed_ids}
+use Rattle.desk_reads.specs.Targets.{AreAttributesOf, AreEnds, AreLeft, AreOwned, AreTagsOf, HasItsAttributes, HasItsTags, HasNoTagList, asked_listed}
+use Rattle.desk_reads.specs.Targets.{attribute_ids, listed_ids, rises, tag_ids}
 use Rattle.desk_reads.specs.Targets.{own_attributes, own_listed, own_tags}
 use Rattle.desk_reads.specs.declared.targets.Asked.{Asked}
-
--- ---- an order of words
-
-below_itself : (a : Bytes) → bytes_below a a ≡ false
-below_itself [] = refl
-below_itself (x ∷ xs) = grind (arith, nat_tests, below_itself xs)
-
-not_back : (a b : Bytes) → bytes_below a b ≡ true → bytes_below b a ≡ false
-not_back a [] below = absurd cc
-not_back [] (y ∷ ys) below = refl
-not_back (x ∷ xs) (y ∷ ys) below = grind (arith, nat_tests, not_back xs ys)
-
-list_all_taken : {X : Type 0} (p : X → Bool) (n : ℕ) (xs : List X) → list_all p xs ≡ true → list_all p (take n xs) ≡ true
-list_all_taken p zero xs all = refl
-list_all_taken p (suc n) [] all = refl
-list_all_taken p (suc n) (x ∷ xs) all = grind (arith, list_all_taken p n xs, and_parts, and_from)
-
-pub order_taken : (n : ℕ) (ws : List Bytes) → in_byte_order ws ≡ true → in_byte_order (take n ws) ≡ true
-order_taken zero ws ordered = refl
-order_taken (suc n) [] ordered = refl
-order_taken (suc n) (w ∷ ws) ordered = grind (arith, order_taken n ws, list_all_taken, and_parts, and_from)
-
-pub order_dropped : (n : ℕ) (ws : List Bytes) → in_byte_order ws ≡ true → in_byte_order (drop n ws) ≡ true
-order_dropped zero ws ordered = ordered
-order_dropped (suc n) [] ordered = refl
-order_dropped (suc n) (w ∷ ws) ordered = grind (arith, order_dropped n ws, and_parts)
+use Rattle.desk_reads.proofs.WordOrder.{below_another, below_itself, below_other, below_through, below_under, compared_equal, compared_greater, compared_less, list_all_more, not_back, order_dropped, order_more, order_taken}
 
 -- ---- its own of those that were read
 
@@ -57,16 +37,63 @@ module _ {X O : Type 0} (id_of : O → Bytes) (it : O → X) (id : Bytes) where
   abbrev own : List O → List X
   own os = map it (filter (λ o. same_bytes (id_of o) id) os)
 
-  -- one more that was looked at
-  own_more : (os : List O) (at : ℕ) (o : O) → at < length os → o ≡ get_or os at o → own (take (suc at) os)
-      ≡ own (take at os) ++ cond (same_bytes (id_of o) id) (it o ∷ []) []
-  own_more [] at o low is = absurd (omega (arith, low))
-  own_more (x ∷ os) zero o low is = grind arith
-  own_more (x ∷ os) (suc at) o low is = grind (arith, own_more os at o)
+  -- those that a walk takes until it comes to one behind the id, and what it leaves
+  abbrev pub taken : List O → List X
+  taken [] = []
+  taken (o ∷ os) = cond (bytes_below id (id_of o)) [] (cond (same_bytes (id_of o) id) (it o ∷ taken os) (taken os))
 
-  pub own_next : (os : List O) (at : ℕ) (o : O) (was now : List X) (b : Bool) → at < length os → o ≡ get_or os at o
-      → was ≡ own (take at os) → b ≡ same_bytes (id_of o) id → now ≡ cond b (was ++ it o ∷ []) was → now ≡ own (take (at + 1) os)
-  own_next os at o was now b low is so_far same next = rw (add-one at) (grind (arith, own_more os at o low is, append-nil))
+  abbrev pub left : List O → List O
+  left [] = []
+  left (o ∷ os) = cond (bytes_below id (id_of o)) (o ∷ os) (left os)
+
+  -- no word that is below one that none of them is below is of them
+  none_own : (w : Bytes) → bytes_below id w ≡ true → (os : List O) → list_all (λ v. not (bytes_below v w)) (map id_of os) ≡ true → own os ≡ []
+  none_own w above [] all = refl
+  none_own w above (o ∷ os) all = grind (arith, none_own w above os, and_parts, below_through id w (id_of o), below_another id (id_of o))
+
+  pub taken_is : (os : List O) → rises (map id_of os) ≡ true → taken os ≡ own os
+  taken_is [] rise = refl
+  taken_is (o ∷ os) rise = grind (arith, taken_is os, and_parts, none_own (id_of o), below_another id (id_of o))
+
+  pub left_rises : (os : List O) → rises (map id_of os) ≡ true → rises (map id_of (left os)) ≡ true
+  left_rises [] rise = refl
+  left_rises (o ∷ os) rise = grind (arith, left_rises os, and_parts)
+
+  -- a walk goes on behind one that is below the id, and behind one that is of it
+  pub skips : (os : List O) (o : O) (n : ℕ) (words all : List X) (rest : List O) (order : Ordering) → n ≡ length os → 1 ≤ length os → o ≡ get_or os 0 o
+      → order ≡ slice_cmp nat_cmp (id_of o) id → order ≡ Less → (words ++ taken os ≡ all) × (left os ≡ rest)
+      → (words ++ taken (take (n - 1) (drop 1 os)) ≡ all) × (left (take (n - 1) (drop 1 os)) ≡ rest)
+  skips [] o n words all rest order len some is compared less was = absurd (omega (arith, some))
+  skips (x ∷ os) o n words all rest order len some is compared less was =
+      let same : o ≡ x = is in
+      let below = compared_less (id_of x) id (ap (λ o. slice_cmp nat_cmp (id_of o) id) (sym same) ∙ sym compared ∙ less) in
+      let whole : take (n - 1) os ≡ os = take_all (n - 1) os (omega (arith, len)) in
+      (rw whole (rw (below.0, below.1) at was.0), rw whole (rw below.0 at was.1))
+
+  pub takes : (os : List O) (o : O) (n : ℕ) (words now all : List X) (rest : List O) (order : Ordering) → n ≡ length os → 1 ≤ length os → o ≡ get_or os 0 o
+      → order ≡ slice_cmp nat_cmp (id_of o) id → order ≡ Equal → now ≡ words ++ it o ∷ [] → (words ++ taken os ≡ all) × (left os ≡ rest)
+      → (now ++ taken (take (n - 1) (drop 1 os)) ≡ all) × (left (take (n - 1) (drop 1 os)) ≡ rest)
+  takes [] o n words now all rest order len some is compared equal more was = absurd (omega (arith, some))
+  takes (x ∷ os) o n words now all rest order len some is compared equal more was =
+      let same : o ≡ x = is in
+      let of_it = compared_equal (id_of x) id (ap (λ o. slice_cmp nat_cmp (id_of o) id) (sym same) ∙ sym compared ∙ equal) in
+      let whole : take (n - 1) os ≡ os = take_all (n - 1) os (omega (arith, len)) in (
+        rw (whole, more) (append_assoc words (it o ∷ []) (taken os) ∙ ap (λ o. words ++ it o ∷ taken os) same ∙ (rw (of_it.0, of_it.1) at was.0)),
+        rw whole (rw of_it.0 at was.1),
+      )
+
+  -- .. and ends where nothing is left, and before one that is behind the id
+  pub ends_empty : (os : List O) → length os < 1 → (taken os ≡ []) × (left os ≡ os)
+  ends_empty [] none = (refl, refl)
+  ends_empty (x ∷ os) none = absurd (omega (arith, none))
+
+  pub ends_behind : (os : List O) (o : O) (order : Ordering) → 1 ≤ length os → o ≡ get_or os 0 o → order ≡ slice_cmp nat_cmp (id_of o) id
+      → order ≡ Greater → (taken os ≡ []) × (left os ≡ os)
+  ends_behind [] o order some is compared greater = absurd (omega (arith, some))
+  ends_behind (x ∷ os) o order some is compared greater =
+      let same : o ≡ x = is in
+      let above = compared_greater (id_of x) id (ap (λ o. slice_cmp nat_cmp (id_of o) id) (sym same) ∙ sym compared ∙ greater) in
+      (rw above refl, rw above refl)
 
   module _ (with_id : Bytes → X → O) (named : (i : Bytes) (x : X) → id_of (with_id i x) ≡ i) (held : (i : Bytes) (x : X) → it (with_id i x) ≡ x) where
     -- of what one target has, before others
@@ -102,6 +129,66 @@ module _ {X O : Type 0} (id_of : O → Bytes) (it : O → X) (id : Bytes) where
             of_some t,
             append-nil,
           )
+
+module _ {X O : Type 0} (id_of : O → Bytes) (it : O → X) where
+  -- what is left of those that come in the order of ids is of targets behind the one of the id
+  behind : (id j : Bytes) (os : List O) → rises (map id_of os) ≡ true
+      → own id_of it j (left id_of it id os) ≡ cond (bytes_below id j) (own id_of it j os) []
+  behind id j [] rise = grind arith
+  behind id j (o ∷ os) rise =
+      grind (
+        arith,
+        behind id j os,
+        and_parts,
+        none_own id_of it j (id_of o),
+        below_under id (id_of o) j,
+        below_under id j (id_of o),
+        below_other (id_of o) j,
+        below_another j (id_of o),
+      )
+
+  pub left_behind : (id : Bytes) (os : List O) → rises (map id_of os) ≡ true
+      → AreLeft (map id_of) (λ j. own id_of it j) (id ∷ []) os (left id_of it id os)
+  left_behind id os rise = record { rise = left_rises id_of it id os rise; behind = λ j. grind (arith, behind id j os rise) }
+
+  -- what a walk took and left, where all come in the order of ids
+  pub took : (id : Bytes) (owned os : List O) (words : List X) → (taken id_of it id os ≡ []) × (left id_of it id os ≡ os)
+      → (words ++ taken id_of it id os ≡ taken id_of it id owned) × (left id_of it id os ≡ left id_of it id owned) → rises (map id_of owned) ≡ true
+      → (words ≡ own id_of it id owned) × AreLeft (map id_of) (λ j. own id_of it j) (id ∷ []) owned os
+  took id owned os words ends was rise = (
+    sym (append-nil words) ∙ ap (λ xs. words ++ xs) (sym ends.0) ∙ was.0 ∙ taken_is id_of it id owned rise,
+    subst (λ xs. AreLeft (map id_of) (λ j. own id_of it j) (id ∷ []) owned xs) (sym was.1 ∙ ends.1) (left_behind id owned rise),
+  )
+
+  pub left_more : (before : List Bytes) (id : Bytes) (owned mid os : List O) → AreLeft (map id_of) (λ j. own id_of it j) before owned mid
+      → AreLeft (map id_of) (λ j. own id_of it j) (id ∷ []) mid os → AreLeft (map id_of) (λ j. own id_of it j) (before ++ id ∷ []) owned os
+  left_more before id owned mid os was is = record {
+    rise = is.rise;
+    behind = λ j. grind (arith, is.behind j, was.behind j, list_all_more (λ w. bytes_below w j) before id);
+  }
+
+  module _ (with_id : Bytes → X → O) (named : (i : Bytes) (x : X) → id_of (with_id i x) ≡ i) (has : Target → List X) (p : Target → Bool) where
+    abbrev flat : List Target → List O
+    flat ts = flat_map (λ (t : Target). map (with_id t.id) (has t)) (filter p ts)
+
+    none_below : (w i : Bytes) → bytes_below i w ≡ false → (xs : List X) (more : List O) → list_all (λ v. not (bytes_below v w)) (map id_of more) ≡ true
+        → list_all (λ v. not (bytes_below v w)) (map id_of (map (with_id i) xs ++ more)) ≡ true
+    none_below w i high [] more all = all
+    none_below w i high (x ∷ xs) more all = grind (arith, none_below w i high xs more all, named i x)
+
+    flat_above : (w : Bytes) (ts : List Target) → AllAbove w (ids_of ts) → list_all (λ v. not (bytes_below v w)) (map id_of (flat ts)) ≡ true
+    flat_above w [] above = refl
+    flat_above w (t ∷ ts) above = grind (arith, flat_above w ts above.1, none_below w t.id (not_back w t.id above.0) (has t) (flat ts))
+
+    block_rises : (i : Bytes) (xs : List X) (more : List O) → list_all (λ v. not (bytes_below v i)) (map id_of more) ≡ true → rises (map id_of more) ≡ true
+        → rises (map id_of (map (with_id i) xs ++ more)) ≡ true
+    block_rises i [] more above rise = rise
+    block_rises i (x ∷ xs) more above rise =
+        grind (arith, block_rises i xs more above rise, none_below i i (below_itself i) xs more above, named i x)
+
+    pub flat_rises : (ts : List Target) → IsSorted (ids_of ts) → rises (map id_of (flat ts)) ≡ true
+    flat_rises [] sorted = refl
+    flat_rises (t ∷ ts) sorted = grind (arith, flat_rises ts sorted.1, block_rises t.id (has t) (flat ts) (flat_above t.id ts sorted.0))
 
 kept_tags : (id first last : Bytes) (ts : List Target) → IsSorted (ids_of ts) → own_tags id (flat_map owned_tags (filter (is_between first last) ts))
     ≡ cond (not (bytes_below id first) && not (bytes_below last id)) (tags_of (find (has_id id) ts)) []
@@ -192,6 +279,8 @@ module _ (r : Records) (sorted : are_sorted r.targets ≡ true) where
   pub tags_between : (first last : Bytes) (listed : List ListedTarget) (owned : List OwnedTag) → AreEnds listed first last
       → owned ≡ flat_map owned_tags (targets_between first last r) → AreTagsOf r true listed owned
   tags_between first last listed owned ends is = rw is (record {
+    rise = flat_rises (λ (o : OwnedTag). o.id) (λ (o : OwnedTag). o.tag) (λ (i w : Bytes). record { id = i; tag = w }) (λ i w. refl) (λ (t : Target). t.tags)
+        (is_between first last) r.targets apart;
     owned_whole = record {
       whole = λ id. whole_or_none (not (bytes_below id first) && not (bytes_below last id)) _ _ (kept_tags id first last r.targets apart);
     };
@@ -200,8 +289,11 @@ module _ (r : Records) (sorted : are_sorted r.targets ≡ true) where
 
   pub attributes_between : (first last : Bytes) (listed : List ListedTarget) (owned : List OwnedAttribute) → AreEnds listed first last
       → owned ≡ flat_map owned_attributes (targets_between first last r) → AreAttributesOf r true listed owned
-  attributes_between first last listed owned ends is = rw is
-      (from_ends (λ first last. HasItsAttributes r true (flat_map owned_attributes (targets_between first last r))) its_attributes first last listed ends)
+  attributes_between first last listed owned ends is = rw is (record {
+    rise = flat_rises (λ (o : OwnedAttribute). o.id) (λ (o : OwnedAttribute). o.attribute) (λ (i : Bytes) (a : Attribute). record { id = i; attribute = a })
+        (λ i a. refl) (λ (t : Target). t.attributes) (is_between first last) r.targets apart;
+    each = from_ends (λ first last. HasItsAttributes r true (flat_map owned_attributes (targets_between first last r))) its_attributes first last listed ends;
+  })
 
 -- no tags are nobody's
 no_tags_between : (r : Records) → AreOwned r []
@@ -212,13 +304,16 @@ all_so P one [] = tt
 all_so P one (l ∷ ls) = (one l, all_so P one ls)
 
 pub unwanted_tags : (r : Records) (ls : List ListedTarget) → AreTagsOf r false ls []
-unwanted_tags r ls = record { owned_whole = no_tags_between r; each = λ ordered. all_so (HasItsTags r false []) (λ l. refl) ls }
+unwanted_tags r ls = record { rise = refl; owned_whole = no_tags_between r; each = λ ordered. all_so (HasItsTags r false []) (λ l. refl) ls }
 
 pub unwanted_attributes : (r : Records) (ls : List ListedTarget) → AreAttributesOf r false ls []
-unwanted_attributes r ls ordered = all_so (HasItsAttributes r false []) (λ l. refl) ls
+unwanted_attributes r ls = record { rise = refl; each = λ ordered. all_so (HasItsAttributes r false []) (λ l. refl) ls }
+
+pub no_attributes_listed : (r : Records) (wanted : Bool) → AreAttributesOf r wanted [] []
+no_attributes_listed r wanted = record { rise = refl; each = λ ordered. tt }
 
 pub none_listed : (r : Records) (wanted : Bool) → AreTagsOf r wanted [] []
-none_listed r wanted = record { owned_whole = no_tags_between r; each = λ ordered. tt }
+none_listed r wanted = record { rise = refl; owned_whole = no_tags_between r; each = λ ordered. tt }
 
 -- each with its own is as it is asked for
 pub all_own : (r : Records) (asked : Asked) (tags : List OwnedTag) (attributes : List OwnedAttribute) (ls : List ListedTarget)
@@ -227,6 +322,35 @@ pub all_own : (r : Records) (asked : Asked) (tags : List OwnedTag) (attributes :
 all_own r asked tags attributes [] tagged attributed = refl
 all_own r asked tags attributes (l ∷ ls) tagged attributed =
     λ i. record { id = l.id; name = l.name; tags = tagged.0 i; attributes = attributed.0 i } ∷ all_own r asked tags attributes ls tagged.1 attributed.1 i
+
+pub tags_left_more : (ls : List ListedTarget) (l : ListedTarget) (owned mid os : List OwnedTag) → AreLeft tag_ids own_tags (listed_ids ls) owned mid
+    → AreLeft tag_ids own_tags (l.id ∷ []) mid os → AreLeft tag_ids own_tags (listed_ids (ls ++ l ∷ [])) owned os
+tags_left_more ls l owned mid os was is =
+    subst (λ ws. AreLeft tag_ids own_tags ws owned os) (sym (map-append (λ (l : ListedTarget). l.id) ls (l ∷ [])))
+    (left_more (λ (o : OwnedTag). o.id) (λ (o : OwnedTag). o.tag) (listed_ids ls) l.id owned mid os was is)
+
+pub attributes_left_more : (ls : List ListedTarget) (l : ListedTarget) (owned mid os : List OwnedAttribute)
+    → AreLeft attribute_ids own_attributes (listed_ids ls) owned mid → AreLeft attribute_ids own_attributes (l.id ∷ []) mid os
+    → AreLeft attribute_ids own_attributes (listed_ids (ls ++ l ∷ [])) owned os
+attributes_left_more ls l owned mid os was is =
+    subst (λ ws. AreLeft attribute_ids own_attributes ws owned os) (sym (map-append (λ (l : ListedTarget). l.id) ls (l ∷ [])))
+    (left_more (λ (o : OwnedAttribute). o.id) (λ (o : OwnedAttribute). o.attribute) (listed_ids ls) l.id owned mid os was is)
+
+-- one more with its own of what is left
+pub one_more_own : (tags : List OwnedTag) (attributes : List OwnedAttribute) (old was now : List SeenTarget) (ls : List ListedTarget) (l : ListedTarget)
+    (words : List Bytes) (own : List Attribute) (t : SeenTarget) → in_byte_order (listed_ids (ls ++ l ∷ [])) ≡ true
+    → (in_byte_order (listed_ids ls) ≡ true → was ≡ old ++ map (own_listed tags attributes) ls)
+    → words ≡ cond (list_all (λ w. bytes_below w l.id) (listed_ids ls)) (own_tags l.id tags) []
+    → own ≡ cond (list_all (λ w. bytes_below w l.id) (listed_ids ls)) (own_attributes l.id attributes) []
+    → t ≡ record { id = l.id; name = l.name; tags = words; attributes = own } → now ≡ was ++ t ∷ []
+    → now ≡ old ++ map (own_listed tags attributes) (ls ++ l ∷ [])
+one_more_own tags attributes old was now ls l words own t ordered so_far tagged attributed is more =
+    let order = order_more (listed_ids ls) l.id (ap in_byte_order (sym (map-append (λ (l : ListedTarget). l.id) ls (l ∷ []))) ∙ ordered) in
+    let its : own_tags l.id tags ≡ words = sym (tagged ∙ ap (λ b. cond b (own_tags l.id tags) []) order.1) in
+    let others : own_attributes l.id attributes ≡ own = sym (attributed ∙ ap (λ b. cond b (own_attributes l.id attributes) []) order.1) in
+    let same : own_listed tags attributes l ≡ t = (λ i. record { id = l.id; name = l.name; tags = its i; attributes = others i }) ∙ sym is in
+    more ∙ ap (λ x. x ++ t ∷ []) (so_far order.0) ∙ append_assoc old (map (own_listed tags attributes) ls) (t ∷ [])
+    ∙ ap (λ x. old ++ x) (ap (λ t. map (own_listed tags attributes) ls ++ t ∷ []) (sym same) ∙ sym (map-append (own_listed tags attributes) ls (l ∷ [])))
 
 -- ---- parts of what is listed
 
@@ -245,31 +369,31 @@ part_ordered r sorted n m =
 
 module _ {A : Type 0} (f : ListedTarget → A) (listed : List ListedTarget) (ordered : in_byte_order (listed_ids listed) ≡ true) where
   -- the next part is in byte order
-  pub next_ordered : (k : ℕ) (part : List ListedTarget) → part ≡ take 16 (drop (k * 16) listed) → in_byte_order (listed_ids part) ≡ true
+  pub next_ordered : (k : ℕ) (part : List ListedTarget) → part ≡ take 100 (drop (k * 100) listed) → in_byte_order (listed_ids part) ≡ true
   next_ordered k part is =
-      let named : listed_ids part ≡ take 16 (drop (k * 16) (listed_ids listed)) =
-      ap listed_ids is ∙ sym (take-map (λ (l : ListedTarget). l.id) 16 (drop (k * 16) listed))
-      ∙ ap (take 16) (sym (drop-map (λ (l : ListedTarget). l.id) (k * 16) listed)) in
-      ap in_byte_order named ∙ order_taken 16 (drop (k * 16) (listed_ids listed)) (order_dropped (k * 16) (listed_ids listed) ordered)
+      let named : listed_ids part ≡ take 100 (drop (k * 100) (listed_ids listed)) =
+      ap listed_ids is ∙ sym (take-map (λ (l : ListedTarget). l.id) 100 (drop (k * 100) listed))
+      ∙ ap (take 100) (sym (drop-map (λ (l : ListedTarget). l.id) (k * 100) listed)) in
+      ap in_byte_order named ∙ order_taken 100 (drop (k * 100) (listed_ids listed)) (order_dropped (k * 100) (listed_ids listed) ordered)
 
-  pub next_found : (k : ℕ) (found more : List A) (part : List ListedTarget) → part ≡ take 16 (drop (k * 16) listed) → found
-      ≡ map f (take (k * 16) listed) → more ≡ found ++ map f part → more ≡ map f (take ((k + 1) * 16) listed)
-  next_found k found more part is was now = grind (arith, take-add (k * 16) 16 listed, map-append)
+  pub next_found : (k : ℕ) (found more : List A) (part : List ListedTarget) → part ≡ take 100 (drop (k * 100) listed) → found
+      ≡ map f (take (k * 100) listed) → more ≡ found ++ map f part → more ≡ map f (take ((k + 1) * 100) listed)
+  next_found k found more part is was now = grind (arith, take-add (k * 100) 100 listed, map-append)
 
-pub next_left : {X : Type 0} (k : ℕ) (xs left more : List X) → left ≡ drop (k * 16) xs → more ≡ drop 16 left → more ≡ drop ((k + 1) * 16) xs
-next_left k xs left more was is = grind (arith, drop-drop 16 (k * 16) xs)
+pub next_left : {X : Type 0} (k : ℕ) (xs left more : List X) → left ≡ drop (k * 100) xs → more ≡ drop 100 left → more ≡ drop ((k + 1) * 100) xs
+next_left k xs left more was is = grind (arith, drop-drop 100 (k * 100) xs)
 
 pub last_part : {A : Type 0} (f : ListedTarget → A) (listed : List ListedTarget) (found : List A) (k : ℕ)
-    → k ≡ length listed / 16 + min 1 (length listed % 16) → found ≡ map f (take (k * 16) listed) → found ≡ map f listed
+    → k ≡ length listed / 100 + min 1 (length listed % 100) → found ≡ map f (take (k * 100) listed) → found ≡ map f listed
 last_part f listed found k end was =
-    let enough = (div_ceil_times (length listed) 16 (omega arith)).0 in
-    was ∙ ap (map f) (take_all (k * 16) listed (omega (arith, end, enough)))
+    let enough = (div_ceil_times (length listed) 100 (omega arith)).0 in
+    was ∙ ap (map f) (take_all (k * 100) listed (omega (arith, end, enough)))
 
-pub cut_length : {X : Type 0} (left part more : List X) → part ≡ take 16 left → more ≡ drop 16 left → (found now all : ℕ) → found + length left ≡ all
+pub cut_length : {X : Type 0} (left part more : List X) → part ≡ take 100 left → more ≡ drop 100 left → (found now all : ℕ) → found + length left ≡ all
     → now ≡ found + length part → now + length more ≡ all
 cut_length left part more taken dropped found now all was is =
-    let joined = ap length (take-append-drop 16 left) in
-    let both = length-append (take 16 left) (drop 16 left) in
+    let joined = ap length (take-append-drop 100 left) in
+    let both = length-append (take 100 left) (drop 100 left) in
     omega (arith, joined, both, ap length taken, ap length dropped, was, is)
 
 -- ---- how many statements that takes
@@ -290,18 +414,12 @@ work_ended tags attributes start now done parts so_far all = rw all at so_far
 
 -- ---- what is left
 
-pub none_left : (listed left : List ListedTarget) (k : ℕ) → k ≡ length listed / 16 + min 1 (length listed % 16) → left ≡ drop (k * 16) listed → (found : ℕ)
+pub none_left : (listed left : List ListedTarget) (k : ℕ) → k ≡ length listed / 100 + min 1 (length listed % 100) → left ≡ drop (k * 100) listed → (found : ℕ)
     → found + length left ≡ length listed → found ≡ length listed
 none_left listed left k end is found counts =
-    let enough = (div_ceil_times (length listed) 16 (omega arith)).0 in
-    let empty = drop_all (k * 16) listed (omega (arith, end, enough)) in
+    let enough = (div_ceil_times (length listed) 100 (omega arith)).0 in
+    let empty = drop_all (k * 100) listed (omega (arith, end, enough)) in
     omega (arith, ap length (is ∙ empty), counts)
-
--- ---- what was found
-
-pub one_more_found : {A : Type 0} (f : ListedTarget → A) (old was now : List A) (ls : List ListedTarget) (l : ListedTarget) (t : A) → was ≡ old ++ map f ls
-    → t ≡ f l → now ≡ was ++ t ∷ [] → now ≡ old ++ map f (ls ++ l ∷ [])
-one_more_found f old was now ls l t so_far is more = grind (arith, map-append, append_assoc)
 
 -- ---- at lists of accepted commands
 

@@ -1,7 +1,7 @@
 -- Targets as they are read.
-use Rattle.std.specs.Prelude.{◌≡◌, ◌⊎◌, ℕ, ◌+◌, Bool, true, false, ◌-◌, cond, filter, length, List, [], map, slice_get, Option, Some, None}
+use Rattle.std.specs.Prelude.{◌≡◌, ◌⊎◌, ℕ, ◌+◌, ◌&&◌, Bool, true, false, not, ◌-◌, cond, filter, length, List, [], ◌∷◌, map, slice_get, Option, Some, None}
 use Rattle.std.specs.Int.{div_ceil}
-use Rattle.std.specs.List.{AllByRecursion}
+use Rattle.std.specs.List.{AllByRecursion, list_all}
 use Rattle.std.specs.Option.{IsSomeAnd}
 use Rattle.rollout_machine.specs.Records.{Records}
 use Rattle.rollout_machine.specs.Verdicts.{tags_of, target_of}
@@ -9,7 +9,7 @@ use Rattle.rollout_model.specs.declared.target.Target.{Target}
 use Rattle.rollout_model.specs.Rules.{is_tag_list}
 use Rattle.target_filter.specs.Grammar.{Tree}
 use Rattle.target_filter.specs.Names.{names_attributes, names_tags}
-use Rattle.rollout_machine.specs.ByteStrings.{same_bytes}
+use Rattle.rollout_machine.specs.ByteStrings.{bytes_below, same_bytes}
 use Rattle.rollout_machine.specs.Commands.{Attribute, Bytes}
 use Rattle.desk_records.specs.Targets.{attributes_of, in_byte_order}
 use Rattle.desk_records.specs.declared.target_row.ListedTarget.{ListedTarget}
@@ -73,6 +73,23 @@ own_listed tags attributes l = record {
   attributes = own_attributes l.id attributes;
 }
 
+-- whose tags these are, and whose attributes
+abbrev pub tag_ids : List OwnedTag → List Bytes
+tag_ids owned = map (λ (o : OwnedTag). o.id) owned
+
+abbrev pub attribute_ids : List OwnedAttribute → List Bytes
+attribute_ids owned = map (λ (o : OwnedAttribute). o.id) owned
+
+-- no id is below one before it
+abbrev pub rises : List Bytes → Bool
+rises [] = true
+rises (w ∷ ws) = list_all (λ v. not (bytes_below v w)) ws && rises ws
+
+-- of what targets have, in the order of their ids, that is left which is of targets behind these
+pub record AreLeft {O X : Type 0} (ids : List O → List Bytes) (own : Bytes → List O → List X) (before : List Bytes) (owned left : List O) : Type 0 where
+  pub rise : rises (ids left) ≡ true
+  pub behind : (id : Bytes) → own id left ≡ cond (list_all (λ w. bytes_below w id) before) (own id owned) []
+
 -- of each target they are all of its tags, or none
 pub record AreOwned (r : Records) (owned : List OwnedTag) : Type 0 where
   pub whole : (id : Bytes) → (own_tags id owned ≡ tags_of (target_of r id)) ⊎ (own_tags id owned ≡ [])
@@ -95,13 +112,15 @@ pub record AreEnds (listed : List ListedTarget) (first last : Bytes) : Type 0 wh
   pub starts : IsSomeAnd (slice_get listed 0) (λ (l : ListedTarget). first ≡ l.id)
   pub ends : IsSomeAnd (slice_get listed (length listed - 1)) (λ (l : ListedTarget). last ≡ l.id)
 
--- what is read of them all: each whole, and those of each that was listed, where these come in byte order
+-- what is read of them all, in the order of their ids: each whole, and those of each that was listed, where these come in byte order
 pub record AreTagsOf (r : Records) (wanted : Bool) (listed : List ListedTarget) (owned : List OwnedTag) : Type 0 where
+  pub rise : rises (tag_ids owned) ≡ true
   pub owned_whole : AreOwned r owned
   pub each : in_byte_order (listed_ids listed) ≡ true → AllByRecursion (HasItsTags r wanted owned) listed
 
-abbrev pub AreAttributesOf : Records → Bool → List ListedTarget → List OwnedAttribute → Type 0
-AreAttributesOf r wanted listed owned = in_byte_order (listed_ids listed) ≡ true → AllByRecursion (HasItsAttributes r wanted owned) listed
+pub record AreAttributesOf (r : Records) (wanted : Bool) (listed : List ListedTarget) (owned : List OwnedAttribute) : Type 0 where
+  pub rise : rises (attribute_ids owned) ≡ true
+  pub each : in_byte_order (listed_ids listed) ≡ true → AllByRecursion (HasItsAttributes r wanted owned) listed
 
 -- ---- how many statements it takes
 
@@ -116,6 +135,6 @@ abbrev pub parts_named : Option Tree → ℕ
 parts_named None = 0
 parts_named (Some f) = cond (names_tags f) 1 0 + cond (names_attributes f) 1 0
 
--- of so many targets: the tags of up to 16 by one statement, and the attributes of as many by one
+-- of so many targets: the tags of up to 100 by one statement, and the attributes of as many by one
 abbrev pub parts_listed : Asked → ℕ → ℕ
-parts_listed asked size = cond asked.tags (div_ceil size 16) 0 + cond asked.attributes (div_ceil size 16) 0
+parts_listed asked size = cond asked.tags (div_ceil size 100) 0 + cond asked.attributes (div_ceil size 100) 0

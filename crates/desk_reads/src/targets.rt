@@ -1,6 +1,6 @@
 //! Targets with their tags and attributes.
 
-ghost use Rattle.std.specs.Prelude.{◌≡◌, ◌≤◌, ◌+◌, ◌++◌, ◌⊎◌, [], true, false, cond, drop, length, map, take, IfErr, IfOk, MatchOption, MatchResult};
+ghost use Rattle.std.specs.Prelude.{◌≡◌, ◌≤◌, ◌+◌, ◌++◌, ◌⊎◌, [], ◌∷◌, true, false, cond, drop, length, map, take, IfErr, IfOk, MatchOption, MatchResult};
 ghost use Rattle.std.specs.Option.{IsSomeAnd};
 ghost use Rattle.desk_reads.specs.AtLists.{FailsAtListsIn};
 ghost use Rattle.rollout_machine.specs.Verdicts.{tags_of, target_of};
@@ -8,19 +8,21 @@ ghost use Rattle.rollout_model.specs.Rules.{is_tag_list};
 ghost use Rattle.target_filter.specs.Profile.{filter_of};
 ghost use Rattle.desk_records.specs.Targets.{attributes_of, in_byte_order};
 ghost use Rattle.sql_calls.specs.declared.fault.Fault.TheVariants.{Broken, Memory};
-ghost use Rattle.desk_reads.specs.Targets.{AreAttributesOf, AreEnds, AreTagsOf, HasNoTagList, IsNamedBy, asked_listed, listed_ids, own_attributes};
-ghost use Rattle.desk_reads.specs.Targets.{own_listed, own_tags, parts_asked, parts_left, parts_listed, parts_named, target_listed, with_rest};
+ghost use Rattle.desk_reads.specs.Targets.{AreAttributesOf, AreEnds, AreLeft, AreTagsOf, HasNoTagList, IsNamedBy, asked_listed, attribute_ids, listed_ids};
+ghost use Rattle.desk_reads.specs.Targets.{own_attributes, own_listed, own_tags, parts_asked, parts_left, parts_listed, parts_named, rises, tag_ids};
+ghost use Rattle.desk_reads.specs.Targets.{target_listed, with_rest};
 ghost use Rattle.desk_store.specs.Changing.{FindsIn, StaysIn};
 
 use desk_store::{Fault, ListedTarget, OpenChange, OwnedAttribute, OwnedTag};
 use rollout_model::{Attributes, ControllerId, Tags, Target, Word};
 use sqlite::Alter;
 use std::alloc::Global;
-use std::mem;
+use std::cmp::Ordering;
+use std::collections::VecDeque;
 use target_filter::Filter;
 
-/// How many targets one statement reads the tags of, or the attributes. Each looks for its own among what was read of all of them.
-const PART: usize = 16;
+/// How many targets one statement reads the tags of, or the attributes.
+const PART: usize = 100;
 
 /// What is asked for of a target beside its id and its name.
 #[derive(Clone, Copy)]
@@ -80,7 +82,7 @@ pub fn read_asked<S: Alter>(
 }
 
 /// Targets that were listed in byte order of their ids, with their tags and their attributes where they are asked for, and with none
-/// where they aren't: by a statement for up to 16 of them for each that is asked for.
+/// where they aren't: by a statement for up to 100 of them for each that is asked for.
 pub fn read_all_asked<S: Alter>(
     change: &mut OpenChange<'_, S>,
     listed: Vec<ListedTarget>,
@@ -96,25 +98,26 @@ pub fn read_all_asked<S: Alter>(
 {
     let mut found = Vec::new(change.alloc());
     let parts = listed.len().div_ceil(PART);
-    let mut left = listed;
+    let mut left = VecDeque::from(listed);
     for _ in 0..parts {
-        let part = take_part(&mut left)?;
+        let part = take_part(change.alloc(), &mut left)?;
         read_part(change, part, asked, &mut found)?;
     }
     Ok(found)
 }
 
-/// Takes as many off the front as one statement reads what they have.
-fn take_part(left: &mut Vec<ListedTarget>) -> Result<Vec<ListedTarget>, Fault>
-    ensures part { IfOk result (λ part. part.items ≡ take 16 left.old.items) }
-    ensures left { IfOk result (λ _. left.new.items ≡ drop 16 left.old.items) }
+/// Takes as many off the front as one statement reads what they have. Those that are left stay where they are.
+fn take_part(alloc: Global, left: &mut VecDeque<ListedTarget>) -> Result<Vec<ListedTarget>, Fault>
+    ensures part { IfOk result (λ part. part.items ≡ take 100 left.old.items) }
+    ensures left { IfOk result (λ _. left.new.items ≡ drop 100 left.old.items) }
     ensures err { IfErr result (λ fault. fault ≡ Memory) }
 {
-    let at = PART.min(left.len());
-    let Ok(mut part) = left.split_off(at) else {
-        return Err(Fault::Memory);
-    };
-    mem::swap(&mut part, left);
+    let mut part = Vec::new(alloc);
+    for _ in 0..PART {
+        if let Some(entry) = left.pop_front() {
+            part.push(entry)?;
+        }
+    }
     Ok(part)
 }
 
@@ -191,7 +194,8 @@ fn ends_of(listed: &[ListedTarget]) -> Option<(ControllerId, ControllerId)>
     Some((first.id, last.id))
 }
 
-/// Adds the listed targets, each with its own of the tags and of the attributes.
+/// Adds the listed targets, each with its own of the tags and of the attributes: in one walk over both, where all come in the order of
+/// the ids.
 fn add_own(
     alloc: Global,
     listed: Vec<ListedTarget>,
@@ -199,30 +203,31 @@ fn add_own(
     attributes: &[OwnedAttribute],
     found: &mut Vec<Target>,
 ) -> Result<(), Fault>
-    ensures ok { IfOk result (λ _. found.new.items ≡ found.old.items ++ map (own_listed tags.now attributes.now) listed.items) }
-    ensures err { IfErr result (λ fault. (fault ≡ Memory) ⊎ ((fault ≡ Broken) × HasNoTagList tags.now)) }
+    ensures ok { IfOk result (λ _. in_byte_order (listed_ids listed.items) ≡ true → rises (tag_ids tags.now) ≡ true → rises (attribute_ids attributes.now) ≡ true
+        → found.new.items ≡ found.old.items ++ map (own_listed tags.now attributes.now) listed.items) }
+    ensures counts { IfOk result (λ _. length found.new.items ≡ length found.old.items + length listed.items) }
+    ensures err { IfErr result (λ fault. (fault ≡ Memory) ⊎ ((fault ≡ Broken) × (rises (tag_ids tags.now) ≡ true → HasNoTagList tags.now))) }
 {
+    let mut tags_left = tags;
+    let mut attributes_left = attributes;
     for entry in listed {
-        let target = with_own(alloc, entry, tags, attributes)?;
+        let (words, other_tags) = take_tags(alloc, tags_left, &entry.id)?;
+        let (own, other_attributes) = take_attributes(alloc, attributes_left, &entry.id)?;
+        tags_left = other_tags;
+        attributes_left = other_attributes;
+        let target = with_own(entry, words, own)?;
         found.push(target)?;
     }
     Ok(())
 }
 
-/// A listed target with its own of the tags and of the attributes.
-fn with_own(
-    alloc: Global,
-    listed: ListedTarget,
-    tags: &[OwnedTag],
-    attributes: &[OwnedAttribute],
-) -> Result<Target, Fault>
-    ensures ok { IfOk result (λ target. target ≡ own_listed tags.now attributes.now listed) }
-    ensures err { IfErr result (λ fault. (fault ≡ Memory) ⊎ ((fault ≡ Broken) × HasNoTagList tags.now)) }
+/// A listed target with these tags and attributes.
+fn with_own(listed: ListedTarget, words: Vec<Word>, attributes: Attributes) -> Result<Target, Fault>
+    ensures ok { IfOk result (λ target. target ≡ record { id = listed.id; name = listed.name; tags = words.items; attributes = attributes }) }
+    ensures err { IfErr result (λ fault. (fault ≡ Broken) × (is_tag_list words.items ≡ false)) }
 {
-    let ListedTarget { id, name } = listed;
-    let words = own_tags(alloc, tags, &id)?;
     let tags = tag_list(words)?;
-    let attributes = own_attributes(alloc, attributes, &id)?;
+    let ListedTarget { id, name } = listed;
     Ok(Target {
         id,
         name,
@@ -231,36 +236,50 @@ fn with_own(
     })
 }
 
-/// Those of the tags that are of the target of an id.
-fn own_tags(alloc: Global, owned: &[OwnedTag], id: &ControllerId) -> Result<Vec<Word>, Fault>
-    ensures ok { IfOk result (λ words. words.items ≡ own_tags id.now owned.now) }
+/// Those of the tags that are of the target of an id, and what is left behind them.
+fn take_tags<'a>(
+    alloc: Global,
+    owned: &'a [OwnedTag],
+    id: &ControllerId,
+) -> Result<(Vec<Word>, &'a [OwnedTag]), Fault>
+    ensures ok { IfOk result (λ it. rises (tag_ids owned.now) ≡ true
+        → (it.0.items ≡ own_tags id.now owned.now) × AreLeft tag_ids own_tags (id.now ∷ []) owned.now it.1.now) }
     ensures err { IfErr result (λ fault. fault ≡ Memory) }
 {
     let mut words = Vec::new(alloc);
-    for one in owned {
-        if one.id == *id {
-            words.push(one.tag)?;
+    let mut left = owned;
+    while let [one, more @ ..] = left {
+        match one.id.cmp(id) {
+            Ordering::Less => {}
+            Ordering::Equal => words.push(one.tag)?,
+            Ordering::Greater => break,
         }
+        left = more;
     }
-    Ok(words)
+    Ok((words, left))
 }
 
-/// Those of the attributes that are of the target of an id.
-fn own_attributes(
+/// Those of the attributes that are of the target of an id, and what is left behind them.
+fn take_attributes<'a>(
     alloc: Global,
-    owned: &[OwnedAttribute],
+    owned: &'a [OwnedAttribute],
     id: &ControllerId,
-) -> Result<Attributes, Fault>
-    ensures ok { IfOk result (λ attributes. attributes ≡ own_attributes id.now owned.now) }
+) -> Result<(Attributes, &'a [OwnedAttribute]), Fault>
+    ensures ok { IfOk result (λ it. rises (attribute_ids owned.now) ≡ true
+        → (it.0 ≡ own_attributes id.now owned.now) × AreLeft attribute_ids own_attributes (id.now ∷ []) owned.now it.1.now) }
     ensures err { IfErr result (λ fault. fault ≡ Memory) }
 {
     let mut attributes = Attributes::new(alloc);
-    for found in owned {
-        if found.id == *id {
-            attributes.push(found.attribute.copy(alloc)?)?;
+    let mut left = owned;
+    while let [one, more @ ..] = left {
+        match one.id.cmp(id) {
+            Ordering::Less => {}
+            Ordering::Equal => attributes.push(one.attribute.copy(alloc)?)?,
+            Ordering::Greater => break,
         }
+        left = more;
     }
-    Ok(attributes)
+    Ok((attributes, left))
 }
 
 /// A target of which some was asked for, with the rest of its tags and attributes: by a statement for each that wasn't asked for.

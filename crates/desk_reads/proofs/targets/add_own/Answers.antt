@@ -1,21 +1,22 @@
-use Rattle.desk_reads.proofs.Common.{sym, ap, ◌∙◌, map}
-use Rattle.std.specs.Prelude.{◌++◌}
-use Rattle.std.proofs.lemmas.List.{append-nil}
-use Rattle.desk_reads.specs.Targets.{own_listed}
-use Rattle.desk_reads.proofs.ListedTargets.{all_given}
-use Rattle.desk_reads.proofs.Owned.{one_more_found}
+use Rattle.desk_reads.proofs.Common.{◌∙◌, [], ◌∷◌, arith}
+use Rattle.std.proofs.Common.{length-append}
+use Rattle.desk_reads.proofs.Owned.{attributes_left_more, one_more_own, tags_left_more}
 use Rattle.desk_reads.proofs.targets.add_own.Goals as goal
 
-pub loop-entry-init : goal.loop-entry-init
-loop-entry-init c = sym (append-nil c.args.found.now.items)
-
 pub loop-entry-preserved : goal.loop-entry-preserved
-loop-entry-preserved c =
-    one_more_found (own_listed c.args.tags.now c.args.attributes.now) c.args.found.now.items c.loop-entry.found.items _ c.loop-entry.yielded c.in-Some.entry
-    c.in_ok-target.target c.loop-entry.invariant c.in_ok-target.ensures.ok c.in_ok-push.ensures.items
-
-pub returns-clause-ok : goal.returns-clause-ok
-returns-clause-ok c =
-    c.loop-entry.invariant ∙ ap (λ l. c.args.found.now.items ++ map (own_listed c.args.tags.now c.args.attributes.now) l)
-    (all_given c.into_iter-entry-iterator.result _ c.next.new.self _ _ c.into_iter-entry-iterator.ensures.into_iter_gives.0 c.loop-entry.yielded_by
-    c.in-None.ensures.steps)
+loop-entry-preserved c = record {
+  tags = λ rise. let was = c.loop-entry.invariant.tags rise in
+      tags_left_more c.loop-entry.yielded c.in-Some.entry c.args.tags.now c.loop-entry.tags_left.now _ was (c.in_ok-words.ensures.ok was.rise).1;
+  attributes = λ rise. let was = c.loop-entry.invariant.attributes rise in
+      attributes_left_more c.loop-entry.yielded c.in-Some.entry c.args.attributes.now c.loop-entry.attributes_left.now _ was
+      (c.in_ok-own.ensures.ok was.rise).1;
+  counts = omega (arith, c.loop-entry.invariant.counts, c.in_ok-push.ensures.len, length-append c.loop-entry.yielded (c.in-Some.entry ∷ []));
+  found = λ ordered tags_rise attributes_rise.
+      let tags = c.loop-entry.invariant.tags tags_rise in
+      let attributes = c.loop-entry.invariant.attributes attributes_rise in
+      one_more_own c.args.tags.now c.args.attributes.now c.args.found.now.items c.loop-entry.found.items _ c.loop-entry.yielded c.in-Some.entry
+      c.in_ok-words.words.items c.in_ok-own.own c.in_ok-target.target ordered
+      (λ before. c.loop-entry.invariant.found before tags_rise attributes_rise)
+      ((c.in_ok-words.ensures.ok tags.rise).0 ∙ tags.behind c.in-Some.entry.id)
+      ((c.in_ok-own.ensures.ok attributes.rise).0 ∙ attributes.behind c.in-Some.entry.id) c.in_ok-target.ensures.ok c.in_ok-push.ensures.items;
+}

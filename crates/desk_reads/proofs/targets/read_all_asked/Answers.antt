@@ -1,4 +1,4 @@
-use Rattle.desk_reads.proofs.Common.{arith, refl, ap, ◌∙◌, take, both_found, finds_as}
+use Rattle.desk_reads.proofs.Common.{arith, ap, ◌∙◌, take, both_found, finds_as}
 use Rattle.std.proofs.Common.{rules}
 use Rattle.sql_calls.proofs.Composing.{known}
 use Rattle.desk_reads.specs.Targets.{asked_listed}
@@ -10,7 +10,7 @@ pub loop-init : goal.loop-init
 loop-init g c = record {
   stays = search rules;
   fails = search rules;
-  left = refl;
+  left = c.from-left.ensures.0;
   counts = grind (arith, c.new-found.ensures.items);
   work = work_unbegun c.args.asked.tags c.args.asked.attributes _;
   reads = known (λ r ordered. c.new-found.ensures.items);
@@ -18,7 +18,7 @@ loop-init g c = record {
 
 pub loop-preserved : goal.loop-preserved
 loop-preserved g c =
-    let part = c.in_ok-part.ensures.part ∙ ap (take 16) c.loop.invariant.left in
+    let part = c.in_ok-part.ensures.part ∙ ap (take 100) c.loop.invariant.left in
     record {
       stays = search rules;
       fails = search rules;
