@@ -16,6 +16,7 @@ pub mod WordViews
 pub mod EndedActions
 pub mod TargetViews
 pub mod TargetPages
+mod KnownPages
 pub mod DeviceViews
 mod Answering
 pub mod KeptViews

@@ -24,7 +24,7 @@ module _ (r : Records) where
   all_shown [] = refl
   all_shown (t ∷ ts) = ap (λ l. target_shown r t ∷ l) (all_shown ts)
 
-  shown_map : (ts : List Target) → targets_shown r ts ≡ map (target_shown r) ts
+  pub shown_map : (ts : List Target) → targets_shown r ts ≡ map (target_shown r) ts
   shown_map [] = refl
   shown_map (t ∷ ts) = ap (λ l. target_shown r t ∷ l) (shown_map ts)
 

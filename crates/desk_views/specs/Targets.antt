@@ -1,5 +1,7 @@
 -- Targets as they are read, matched and shown.
-use Rattle.std.specs.Prelude.{◌≡◌, List, map, filter}
+use Rattle.std.specs.Prelude.{◌≡◌, ◌-◌, List, filter, length, map, slice_get}
+use Rattle.std.specs.Option.{IsSomeAnd}
+use Rattle.rollout_machine.specs.Commands.{Bytes}
 use Rattle.rollout_machine.specs.Objects.{page_of, targets_shown}
 use Rattle.rollout_machine.specs.Records.{Records}
 use Rattle.rollout_machine.specs.Requests.{Page}
@@ -21,3 +23,8 @@ matching_shown r f ts = map (worded r) (filter (holds f) ts)
 -- these targets are those on the page of all
 abbrev pub IsContentOf : Page → Records → List ShownTarget → Type 0
 IsContentOf page r items = map shown_target items ≡ (page_of page (targets_shown r r.targets)).content
+
+-- the first and the last of these ids
+pub record AreEnds (ids : List Bytes) (first last : Bytes) : Type 0 where
+  pub starts : IsSomeAnd (slice_get ids 0) (λ id. first ≡ id)
+  pub ends : IsSomeAnd (slice_get ids (length ids - 1)) (λ id. last ≡ id)

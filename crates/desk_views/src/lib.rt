@@ -24,5 +24,5 @@ pub use crate::modules::{show_module, show_modules};
 pub use crate::reports::show_report;
 pub use crate::rollouts::{show_rollout, show_rollouts};
 pub use crate::sets::{show_set, show_sets};
-pub use crate::target_pages::{read_target_page, show_targets};
+pub use crate::target_pages::{read_known_page, read_target_ids, show_targets};
 pub use crate::targets::show_target;

@@ -1,6 +1,6 @@
 //! Pages of targets: of all, or of those that match a filter.
 
-ghost use Rattle.std.specs.Prelude.{◌≡◌, ◌≤◌, ◌<◌, ◌^◌, ◌+◌, ◌++◌, [], ◌∷◌, List, length, map, true, IfOk, Some, None};
+ghost use Rattle.std.specs.Prelude.{◌≡◌, ◌≤◌, ◌<◌, ◌^◌, ◌+◌, ◌++◌, [], ◌∷◌, List, drop, length, map, take, true, IfOk, MatchOption, Some, None};
 ghost use Rattle.rollout_machine.specs.Answers.{query_reply};
 ghost use Rattle.rollout_machine.specs.Filters.{seen};
 ghost use Rattle.rollout_machine.specs.Objects.{page_of};
@@ -10,8 +10,8 @@ ghost use Rattle.rollout_model.specs.declared.shown_target.ShownTarget.{ShownTar
 ghost use Rattle.target_filter.specs.Grammar.{Tree};
 ghost use Rattle.target_filter.specs.Profile.{filter_of};
 ghost use Rattle.desk_reads.specs.AtLists.{FailsAtListsIn, FailsWith};
-ghost use Rattle.desk_views.specs.Targets.{IsContentOf, matching_shown, worded};
-ghost use Rattle.desk_records.specs.Targets.{in_byte_order};
+ghost use Rattle.desk_views.specs.Targets.{AreEnds, IsContentOf, matching_shown, worded};
+ghost use Rattle.desk_records.specs.Targets.{ids_of, in_byte_order};
 ghost use Rattle.desk_reads.specs.Targets.{IsNamedBy, listed_ids, parts_left, target_listed, with_rest};
 ghost use Rattle.desk_store.specs.Changing.{FindsIn, StaysIn};
 
@@ -19,7 +19,7 @@ use crate::pages::is_on;
 use crate::targets::with_word;
 use desk_reads::{Asked, named_by, read_all_asked, read_candidates, read_rest};
 use desk_store::{Fault, ListedTarget, OpenChange};
-use rollout_model::{FilterText, Page, PageOf, Refusal, Reply, ShownTarget, Target};
+use rollout_model::{ControllerId, FilterText, Page, PageOf, Refusal, Reply, ShownTarget, Target};
 use sqlite::Alter;
 use std::alloc::Global;
 use target_filter::{Filter, FilterFault, laws};
@@ -57,7 +57,7 @@ fn show_all<S: Alter>(
 }
 
 /// The targets on a page of all, in byte order of their ids. How many there are isn't read.
-pub fn read_target_page<S: Alter>(
+fn read_target_page<S: Alter>(
     alloc: Global,
     change: &mut OpenChange<'_, S>,
     page: Page,
@@ -69,6 +69,61 @@ pub fn read_target_page<S: Alter>(
     let entries = change.read_targets(page)?;
     let content = read_entries(alloc, change, entries)?;
     Ok(content)
+}
+
+/// The ids of all targets, in byte order.
+pub fn read_target_ids<S: Alter>(change: &mut OpenChange<'_, S>) -> Result<Vec<ControllerId>, Fault>
+    ensures stays { StaysIn S.Store change.old change.new result }
+    ensures reads { FindsIn S.Store change.old change.new result (λ now ids. ids.items ≡ ids_of now.targets) }
+    ensures fails { FailsAtListsIn S.Store change.old change.new result }
+    ensures work { change.new.store.now.calls.work.statements ≤ change.old.store.now.calls.work.statements + 1 }
+{
+    let listed = change.read_all_targets()?;
+    let mut ids = Vec::new(change.alloc());
+    for entry in listed {
+        ids.push(entry.id)?;
+    }
+    Ok(ids)
+}
+
+/// The targets on a page of all, whose ids are known: no others are read, however far behind the first target the page is.
+pub fn read_known_page<S: Alter>(
+    alloc: Global,
+    change: &mut OpenChange<'_, S>,
+    ids: &[ControllerId],
+    page: Page,
+) -> Result<Vec<ShownTarget>, Fault>
+    ensures stays { StaysIn S.Store change.old change.new result }
+    ensures reads { FindsIn S.Store change.old change.new result (λ now content. ids.now ≡ ids_of now.targets → IsContentOf page now content.items) }
+    ensures fails { FailsAtListsIn S.Store change.old change.new result }
+{
+    let on = ids_on(ids, page);
+    let Some((first, last)) = ends_of(on) else {
+        return Ok(Vec::new(alloc));
+    };
+    let entries = change.read_targets_between(first.as_str(), last.as_str())?;
+    let content = read_entries(alloc, change, entries)?;
+    Ok(content)
+}
+
+/// Those of the ids that are on a page.
+fn ids_on(ids: &[ControllerId], page: Page) -> &[ControllerId]
+    ensures { result.now ≡ take page.limit (drop page.offset ids.now) }
+{
+    let from = ids.len().min(page.offset as usize);
+    let (_, behind) = ids.split_at(from);
+    let many = behind.len().min(page.limit as usize);
+    let (on, _) = behind.split_at(many);
+    on
+}
+
+/// The first and the last of some ids.
+fn ends_of(ids: &[ControllerId]) -> Option<(ControllerId, ControllerId)>
+    ensures { MatchOption result (ids.now ≡ []) (λ ends. AreEnds ids.now ends.0 ends.1) }
+{
+    let first = ids.first()?;
+    let last = ids.last()?;
+    Some((*first, *last))
 }
 
 /// Targets that were listed in byte order of their ids, as they are shown.
