@@ -25,7 +25,7 @@ use Rattle.rollout_desk.specs.declared.desk.Desk.{Desk}
 use Rattle.contents_handler.specs.Failures.{HasCause, HasCauseHanding}
 use Rattle.contents_handler.specs.declared.download.Download.{Download}
 use Rattle.sqlite_rules.proofs.ListLemmas.{all_has}
-use Rattle.rollout_desk.specs.Desks.{desk_state_knowing}
+use Rattle.rollout_desk.specs.Desks.{Known, desk_state_knowing}
 use Rattle.rollout_desk.proofs.ApplyLemmas.{stood}
 use Rattle.rollout_desk.proofs.KnowingLemmas.{unknowing}
 use Rattle.rollout_desk.proofs.VerifyLemmas.{failed_within, stored}
@@ -85,7 +85,7 @@ pub of_list : (h : CommandList) → IsValid h → AreCounted (records h) → Rea
 of_list h valid counted = record { readable = readable h valid counted; given = record { list = h; valid = valid; is = refl } }
 
 -- a desk that isn't stopped stands by its connection
-pub stands_running : (s : State) (known : Option ℕ) (was : Bool) (h : CommandList) → was ≡ false → StandsFor (desk_state_knowing HoldsRecords known was s) h
+pub stands_running : (s : State) (known : Known) (was : Bool) (h : CommandList) → was ≡ false → StandsFor (desk_state_knowing HoldsRecords known was s) h
     → StandsFor (desk_state_at HoldsRecords false s) h
 stands_running s known was h runs stands =
     subst (λ (b : Bool). StandsFor (desk_state_at HoldsRecords b s) h) runs (unknowing HoldsRecords known was s h stands)

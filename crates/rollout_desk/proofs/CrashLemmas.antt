@@ -2,7 +2,7 @@
 use Rattle.rollout_desk.proofs.Common.{◌≡◌, ℕ, Bool, Option, IsTrue, sym, subst, ◌∙◌, arith, Files, Image, Trees, AreClean, FileStore, files, recovers, view}
 use Rattle.rollout_desk.proofs.Common.{faults}
 use Rattle.rollout_desk.proofs.Common.{is_shielded, Held, AreDatabases, State, HoldsDatabase, file_state, HoldsRecords, DeskState, AllHold, GoesOnOver}
-use Rattle.rollout_desk.specs.Desks.{desk_state_knowing}
+use Rattle.rollout_desk.specs.Desks.{Known, desk_state_knowing}
 use Rattle.std.proofs.Math.Logic.{∥∥₁_map}
 use Rattle.sqlite_disk.specs.declared.Disk.{Ghosts}
 use Rattle.sqlite.specs.WalFiles.{outcomes}
@@ -15,7 +15,7 @@ use Rattle.sqlite.proofs.Theorems.{opens_again}
 abbrev LeavesFiles : State → (Image → Type 0) → Type 0
 LeavesFiles s images = (image : Image) → images image → ∥ ((file : Trees) × s.may_leave file × HoldsDatabase image file) ∥₁
 
-module _ (known : Option ℕ) (stopped : Bool) (s : State) (images : Image → Type 0) (leaves : LeavesFiles s images) (knows : Option ℕ) (running : Bool)
+module _ (known : Known) (stopped : Bool) (s : State) (images : Image → Type 0) (leaves : LeavesFiles s images) (knows : Known) (running : Bool)
     (t : State)
   where
     goes_on : GoesOnOver images (desk_state_knowing HoldsRecords known stopped s) (desk_state_knowing HoldsRecords knows running t)
@@ -23,14 +23,14 @@ module _ (known : Option ℕ) (stopped : Bool) (s : State) (images : Image → T
         ∥∥₁_map (leaves image may) (λ it. record { file = it.0; left = it.1; stands = λ h held. reopens.holds it.0 h ∣ it.2 ∣₁ held clean })
 
 -- what holds a list is a database
-are_databases : (known : Option ℕ) (stopped : Bool) (s : State) → AllHold (desk_state_knowing HoldsRecords known stopped s) → AreDatabases s.may_leave
+are_databases : (known : Known) (stopped : Bool) (s : State) → AllHold (desk_state_knowing HoldsRecords known stopped s) → AreDatabases s.may_leave
 are_databases known stopped s all file may = let (schema, (v, holds)) = (all file may).1.1 in (schema, holds.sound)
 
 module _ {D : Type 0} {g : Ghosts D} (given old : Held (FileStore D g)) (same : given ≡ old) (now : FileStore D g) (back : Files D)
     (is : (back.log, back.db) ≡ files now)
     (numbered : IsClean (view now) → IsTrue (view now).is_numbered) (sound : IsClean (view now) → AreDatabases (recovers now))
     (undone : IsRolledBack (view given.store) (view now)) (quiet : IsQuiet view faults recovers is_shielded given.store now)
-    (clean : AreClean g back.log back.db) (known : Option ℕ) (stopped : Bool) where
+    (clean : AreClean g back.log back.db) (known : Known) (stopped : Bool) where
   sure : IsClean (view now)
   sure = no_doubt _ (clean_is now.pool ∙ subst (λ p. AreClean g p.0 p.1) is clean)
 
@@ -45,7 +45,7 @@ module _ {D : Type 0} {g : Ghosts D} (given old : Held (FileStore D g)) (same : 
       let here = may_leave_is given.store.pool image (sym (clean_is given.store.pool) ∙ clean_of _ was) may in
       opens_again given.store (sym undone.numbered ∙ numbered sure) are image here
 
-  module _ (knows : Option ℕ) (running : Bool) (t : State) where
+  module _ (knows : Known) (running : Bool) (t : State) where
     abbrev Next : DeskState Trees
     Next = desk_state_knowing HoldsRecords knows running t
 

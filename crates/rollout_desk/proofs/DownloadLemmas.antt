@@ -17,7 +17,7 @@ use Rattle.rollout_model.specs.declared.request.Reply as model
 use Rattle.contents_handler.specs.declared.download.Download.{Download}
 use Rattle.rollout_desk.specs.Downloads.{Begins}
 use Rattle.rollout_desk.specs.Looks.{IsOtherThan, Looked, ReadsDownload}
-use Rattle.rollout_desk.specs.Desks.{desk_state_knowing}
+use Rattle.rollout_desk.specs.Desks.{Known, desk_state_knowing}
 use Rattle.rollout_desk.proofs.ApplyLemmas.{rests_records, shown, stands, stood, unshown}
 use Rattle.rollout_desk.proofs.KnowingLemmas.{after, knowing, unknowing}
 use Rattle.rollout_desk.proofs.DeskLemmas.{answers_knowing}
@@ -38,7 +38,7 @@ one_more p = record p { pieces = p.pieces + 1 }
 abbrev IsNextPiece : Download → Records → Option (Vec ℕ Global) → Type 0
 IsNextPiece p r found = bytes_of found ≡ piece_numbered r.artifacts p.number (p.pieces + 1)
 
-module _ (known : Option ℕ) (was : Bool) (a b : State) (p : Download) where
+module _ (known : Known) (was : Bool) (a b : State) (p : Download) where
   -- what stands again, and knows what it knew
   again : (h : CommandList) → StandsFor (desk_state_knowing HoldsRecords known was a) h → was ≡ false → IsAtRest HoldsRecords b (records h)
       → StandsFor (desk_state_knowing HoldsRecords known was b) h
@@ -74,7 +74,7 @@ next_of h p piece is = elim (item_numbered (records h).artifacts p.number) as (�
       record { contents = a.contents; artifact = has; next = piece_is (records h) p.number p.pieces a.contents piece has is }
 ] refl
 
-module _ (known : Option ℕ) (was : Bool) (a b : State) (p : Download) where
+module _ (known : Known) (was : Bool) (a b : State) (p : Download) where
   pub own_piece : (found : Found) (piece : Vec ℕ Global) → Looks HoldsRecords a b found (IsNextPiece p) → found ≡ Ok (Some piece) → was ≡ false
       → HandsItsArtifact (desk_state_knowing HoldsRecords known was a) (desk_state_knowing HoldsRecords known was b) p (Ok (Some piece))
   own_piece found piece look is runs h clean standing =
@@ -216,7 +216,7 @@ module _ (a : State) (device : Credential) (m : ℕ) (filename : Bytes) where
   request = Ask (DownloadOf device m filename)
 
   -- of a desk that runs
-  module _ (known : Option ℕ) (was : Bool) (runs : was ≡ false) (b : State) where
+  module _ (known : Known) (was : Bool) (runs : was ≡ false) (b : State) where
     pub offered_begins : (s : Artifact) → FindsDownload HoldsRecords a b device m filename (Ok s)
         → Begins (desk_state_knowing HoldsRecords known was a) (desk_state_knowing HoldsRecords known was b) (Asks request)
         (Ok (record { number = s.number; size = s.size; pieces = 0 }))

@@ -14,7 +14,7 @@ use Rattle.desk_store.specs.Breaking.{BreaksOnly}
 use Rattle.desk_store.specs.Changing.{seen_in}
 use Rattle.desk_store.specs.Failing.{nothing}
 use Rattle.rollout_desk.specs.Causes.{FailsByCalls}
-use Rattle.rollout_desk.specs.Desks.{desk_state_knowing}
+use Rattle.rollout_desk.specs.Desks.{Known, desk_state_knowing}
 use Rattle.rollout_desk.specs.Looks.{FoundIn, Looked, LookedTo}
 use Rattle.rollout_desk.proofs.ApplyLemmas.{readable, rests_ledger, rests_records, stands, stood}
 use Rattle.rollout_desk.proofs.KnowingLemmas.{knowing}
@@ -88,7 +88,7 @@ module _ {S : Type 0} (g : Ghosts S) {A : Type 0} (Finds : OpenChange S → Open
 
 -- ---- a look that is refused
 
-module _ {A : Type 0} (known : Option ℕ) (was : Bool) (a b : State) (Answer : Records → A → Type 0) where
+module _ {A : Type 0} (known : Known) (was : Bool) (a b : State) (Answer : Records → A → Type 0) where
   -- whatever a look finds, a crash leaves what stood
   left_by : (found : Result A Refusal) → Looks HoldsRecords a b found Answer → (h : CommandList) → HasCleanDisk b
       → StandsFor (desk_state_knowing HoldsRecords known was a) h → (db : Trees) → b.may_leave db → HoldIn HoldsRecords db (records h)

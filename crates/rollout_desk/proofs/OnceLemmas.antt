@@ -5,7 +5,7 @@ use Rattle.rollout_desk.proofs.Common.{followed_by, Command, Records, Reply, Ask
 use Rattle.rollout_desk.proofs.Common.{HoldsReadable, HoldsList, EndsRun, RequestExchange, IsRun, accepted_of}
 use Rattle.rollout_machine.specs.Repeats.{without_repeats, IsTraceless}
 use Rattle.rollout_machine.proofs.Once.{repeats_leave_no_trace}
-use Rattle.rollout_desk.specs.Desks.{desk_state_knowing}
+use Rattle.rollout_desk.specs.Desks.{Known, desk_state_knowing}
 use Rattle.rollout_desk.specs.Once.{AnswersOnce, EndsOnce}
 use Rattle.rollout_desk.proofs.RunLemmas.{followed_append}
 
@@ -47,7 +47,7 @@ last_once h (x ∷ xs) last is valid = (
 
 -- ---- what the desk stands for
 
-module _ (Holds : Database → Records → Type 0) (known : Option ℕ) (stopped : Bool) (s : State) where
+module _ (Holds : Database → Records → Type 0) (known : Known) (stopped : Bool) (s : State) where
   holds_calm : (file : Trees) (h : CommandList) → HoldsList file h → HoldsList file (without_repeats h)
   holds_calm file h holds = let it : IsTraceless h = repeats_leave_no_trace h holds.0 in (it.valid, subst (HoldIn HoldsReadable file) it.same holds.1)
 

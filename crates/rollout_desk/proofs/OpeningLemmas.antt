@@ -10,7 +10,7 @@ use Rattle.sqlite_store.specs.Laws.{stays_at}
 use Rattle.sqlite_wal.proofs.LogLemmas.{SeenMayStay}
 use Rattle.sqlite.specs.Steps.{IsEmpty}
 use Rattle.desk_opening.specs.Opening.{OpensDesk, IsSettled}
-use Rattle.rollout_desk.specs.Desks.{desk_state_knowing}
+use Rattle.rollout_desk.specs.Desks.{Known, desk_state_knowing}
 use Rattle.rollout_desk.specs.declared.desk.Desk.{Desk}
 use Rattle.desk_store.specs.declared.store.DeskStore.{DeskStore}
 use Rattle.rollout_desk.proofs.ApplyLemmas.{readable}
@@ -38,7 +38,7 @@ module _ {S : Type 0} (alloc : Global) (store : DeskStore S) (conn : Held S) (sa
 
 -- ---- the files that a desk gives back
 
-module _ {D : Type 0} {g : disk.Ghosts D} (given old : Held (FileStore D g)) (same : given ≡ old) (known : Option ℕ) (stopped : Bool) where
+module _ {D : Type 0} {g : disk.Ghosts D} (given old : Held (FileStore D g)) (same : given ≡ old) (known : Known) (stopped : Bool) where
   pub gives_back : {E : Type 0} → SeenMayStay g → (out : Result (Files D) E) → IfOk out (λ files. AreClean g files.log files.db → IsCopied given files)
       → IfOk out (λ files. AreClean g files.log files.db → GivesBack g (desk_state_knowing HoldsRecords known stopped (file_state old)) files)
   gives_back stays (Err e) h = tt

@@ -1,11 +1,14 @@
 -- A desk as its contracts see it.
-use Rattle.std.specs.Prelude.{◌≡◌, ℕ, Bool, length, Option, Some, None, ⊤}
+use Rattle.std.specs.Prelude.{◌≡◌, Bool, Option, Some, None, Vec, ⊤}
+use Rattle.std.specs.declared.alloc.Global.{Global}
 use Rattle.sqlite.specs.Tree.{Trees}
 use Rattle.sqlite.specs.Effect.{Database}
 use Rattle.sqlite.specs.State.{State, HasCleanDisk}
 use Rattle.sql_calls.specs.Standing.{HoldIn, IsAtRest}
 use Rattle.desk_records.specs.Readable.{HoldsReadable}
+use Rattle.desk_records.specs.Targets.{ids_of}
 use Rattle.rollout_machine.specs.CommandList.{CommandList}
+use Rattle.rollout_machine.specs.Commands.{Bytes}
 use Rattle.rollout_machine.specs.Records.{Records, records}
 use Rattle.rollout_machine.specs.Standing.{DeskState}
 use Rattle.rollout_machine.specs.Validity.{IsValid}
@@ -15,10 +18,14 @@ use Rattle.rollout_machine.specs.Validity.{IsValid}
 abbrev pub HoldsList : Trees → CommandList → Type 0
 HoldsList trees h = IsValid h × HoldIn HoldsReadable trees (records h)
 
--- these records have as many targets as is known, where that is known
-abbrev pub IsCountOf : Option ℕ → Records → Type 0
-IsCountOf None r = ⊤
-IsCountOf (Some n) r = n ≡ length r.targets
+-- what a desk knows beside its tables: the ids of all targets, or nothing
+abbrev pub Known : Type 1
+Known = Option (Vec Bytes Global)
+
+-- the ids that are known are those of the targets of these records
+abbrev pub AreIdsOf : Known → Records → Type 0
+AreIdsOf None r = ⊤
+AreIdsOf (Some ids) r = ids.items ≡ ids_of r.targets
 
 module _ (Shows : Database → Records → Type 0) where
   -- a desk over a connection of this state, which shows records by this relation
@@ -31,6 +38,6 @@ module _ (Shows : Database → Records → Type 0) where
     holds = HoldsList;
   }
 
-  -- the same of a desk that knows how many targets there are, or doesn't
-  abbrev pub desk_state_knowing : Option ℕ → Bool → State → DeskState Trees
-  desk_state_knowing known is_stopped s = record (desk_state_at is_stopped s) { shows = λ h. IsAtRest Shows s (records h) × IsCountOf known (records h) }
+  -- the same of a desk that knows the ids of all targets, or doesn't
+  abbrev pub desk_state_knowing : Known → Bool → State → DeskState Trees
+  desk_state_knowing known is_stopped s = record (desk_state_at is_stopped s) { shows = λ h. IsAtRest Shows s (records h) × AreIdsOf known (records h) }

@@ -1,5 +1,5 @@
 -- A look at the records in a change of its own, which is given up.
-use Rattle.std.specs.Prelude.{◌≡◌, ◌≢◌, ◌⊎◌, ℕ, false, length, Vec, Option, Some, None, Result, Ok, Err, IfOk, vec_items}
+use Rattle.std.specs.Prelude.{◌≡◌, ◌≢◌, ◌⊎◌, ℕ, false, length, List, Vec, Option, Some, None, Result, Ok, Err, IfOk, vec_items}
 use Rattle.std.specs.declared.alloc.Global.{Global}
 use Rattle.std.specs.Option.{option_map}
 use Rattle.sqlite.specs.Effect.{Database}
@@ -30,6 +30,7 @@ use Rattle.desk_store.specs.KeptOffers.{IsKeptAs}
 use Rattle.desk_reads.specs.AtLists.{FailsAtListsIn}
 use Rattle.desk_store.specs.declared.change.OpenChange.{OpenChange}
 use Rattle.desk_records.specs.Artifacts.{piece_numbered}
+use Rattle.desk_records.specs.Targets.{ids_of}
 use Rattle.desk_views.specs.Downloads.{downloadable}
 use Rattle.desk_views.specs.Targets.{IsContentOf}
 use Rattle.desk_views.specs.Sizes.{AgreesIn}
@@ -47,9 +48,18 @@ pub record ReadsPiece {S : Type 0} (g : Ghosts S) (number place : ℕ) (old new 
   pub reads : FindsIn g old new result (λ r found. bytes_of found ≡ piece_numbered r.artifacts number place)
   pub fails : FailsIn g old new result
 
--- the targets on a page of all were read, or why not
-pub record ReadsTargets {S : Type 0} (g : Ghosts S) (page : Page) (old new : OpenChange S) (result : Result (Vec ShownTarget Global) Fault) : Type 0 where
-  pub reads : FindsIn g old new result (λ r content. IsContentOf page r content.items)
+-- the targets on a page of all were read, where these are the ids of all, or why not
+pub record ReadsTargets {S : Type 0} (g : Ghosts S) (ids : List Bytes) (page : Page) (old new : OpenChange S) (result : Result (Vec ShownTarget Global) Fault) : Type 0 where
+  pub reads : FindsIn g old new result (λ r content. ids ≡ ids_of r.targets → IsContentOf page r content.items)
+  pub fails : FailsAtListsIn g old new result
+
+-- these are a page of all targets, and the ids of all
+abbrev pub HasPage : Page → Records → List ShownTarget → List Bytes → Type 0
+HasPage page r content ids = (ids ≡ ids_of r.targets) × IsContentOf page r content
+
+-- the targets on a page of all were read, and the ids of all, or why not
+pub record ReadsWithIds {S : Type 0} (g : Ghosts S) (page : Page) (old new : OpenChange S) (result : Result (Vec ShownTarget Global × Vec Bytes Global) Fault) : Type 0 where
+  pub reads : FindsIn g old new result (λ r found. HasPage page r found.0.items found.1.items)
   pub fails : FailsAtListsIn g old new result
 
 -- the artifact that a device may download was read, or its refusal, or why not

@@ -11,10 +11,10 @@ ghost use Rattle.rollout_desk.specs.Working.{CountsWork};
 ghost use Rattle.sql_calls.specs.Calls.{no_work};
 
 use crate::change::run_command;
-use crate::knowing::{answer_knowing, known_after, known_behind};
+use crate::knowing::{answer_knowing, known_behind};
 use desk_store::{DeskStore, Work};
 use rollout_machine::says_store_failed;
-use rollout_model::{Command, Query, Refusal, Reply, Request};
+use rollout_model::{Command, ControllerId, Query, Refusal, Reply, Request};
 use sqlite::Alter;
 use std::alloc::Global;
 
@@ -30,8 +30,8 @@ const NO_WORK: Work = Work {
 pub struct Desk<S: Alter> {
     pub(crate) store: DeskStore<S>,
     pub(crate) stopped: bool,
-    /// How many targets there are, where it is known.
-    pub(crate) targets: Option<u32>,
+    /// The ids of all targets, where they are known.
+    pub(crate) targets: Option<Vec<ControllerId>>,
     /// What the last command made of it.
     pub(crate) work: Work,
     pub(crate) alloc: Global,
@@ -66,7 +66,7 @@ impl<S: Alter> Desk<S> {
         let reply = run_command(self.alloc, &mut self.store, command);
         self.work = self.store.work().since(before);
         self.stopped = says_store_failed(&reply);
-        self.targets = known_behind(self.targets, command);
+        self.targets = known_behind(self.targets.take(), command);
         reply
     }
 
@@ -80,9 +80,10 @@ impl<S: Alter> Desk<S> {
         if self.stopped {
             return Reply::Refused(Refusal::Stopped);
         }
-        let reply = answer_knowing(self.alloc, &mut self.store, query, self.targets);
+        let known = self.targets.take();
+        let (reply, next) = answer_knowing(self.alloc, &mut self.store, query, known);
         self.stopped = says_store_failed(&reply);
-        self.targets = known_after(self.targets, query, &reply);
+        self.targets = next;
         reply
     }
 

@@ -11,15 +11,16 @@ ghost use Rattle.desk_store.specs.Changing.{StaysIn, seen_in};
 ghost use Rattle.sql_calls.specs.Standing.{Wears};
 ghost use Rattle.desk_store.specs.declared.change.OpenChange.{OpenChange};
 ghost use Rattle.sql_calls.specs.declared.fault.Fault.{Fault};
+ghost use Rattle.desk_records.specs.Targets.{ids_of};
 ghost use Rattle.desk_views.specs.Targets.{IsContentOf};
-ghost use Rattle.rollout_desk.specs.Looks.{EndsLook, IsOtherThan, Looked, Looks, LooksForDownload, ReadsDownload, ReadsPiece, ReadsTargets, bytes_of};
+ghost use Rattle.rollout_desk.specs.Looks.{EndsLook, HasPage, IsOtherThan, Looked, Looks, LooksForDownload, ReadsDownload, ReadsPiece, ReadsTargets, ReadsWithIds, bytes_of};
 ghost use Rattle.rollout_desk.specs.Working.{TellsFailures, tells_store};
 
 use crate::refusals::refusal_of;
 use desk_store::{DeskStore, Fault, OpenChange};
-use desk_views::{find_download, read_target_page};
+use desk_views::{find_download, read_known_page, read_target_ids};
 use rollout_model::{
-    Artifact, ArtifactNo, Credential, Filename, ModuleNo, Page, Refusal, ShownTarget,
+    Artifact, ArtifactNo, ControllerId, Credential, Filename, ModuleNo, Page, Refusal, ShownTarget,
 };
 use sqlite::Alter;
 use std::alloc::Global;
@@ -94,33 +95,69 @@ pub(crate) fn read_piece<S: Alter>(
     look(store, &PieceOf { number, place })
 }
 
-/// The targets on a page of all.
+/// The targets on a page of all, whose ids are known.
 #[derive(Drop)]
-struct PageOfTargets {
+struct KnownPage<'a> {
     alloc: Global,
+    ids: &'a [ControllerId],
     page: Page,
 }
 
-impl<S: Alter> Question<S, Vec<ShownTarget>> for PageOfTargets {
-    ghost finds = { λ it. ReadsTargets S.Store it.page };
+impl<'a, S: Alter> Question<S, Vec<ShownTarget>> for KnownPage<'a> {
+    ghost finds = { λ it. ReadsTargets S.Store it.ids.now it.page };
 
     fn read(&self, change: &mut OpenChange<'_, S>) -> Result<Vec<ShownTarget>, Fault> {
-        read_target_page(self.alloc, change, self.page)
+        read_known_page(self.alloc, change, self.ids, self.page)
     }
 }
 
-/// Reads the targets on a page of all, inside a transaction that changes nothing. How many there are isn't read.
+/// Reads the targets on a page of all, whose ids are known, inside a transaction that changes nothing.
 pub(crate) fn look_at_page<S: Alter>(
     alloc: Global,
     store: &mut DeskStore<S>,
+    ids: &[ControllerId],
     page: Page,
 ) -> Result<Vec<ShownTarget>, Refusal>
     ensures looks { Looks HoldsRecords (state S.Store store.old.calls.conn) (state S.Store store.new.calls.conn) result
-        (λ r content. IsContentOf page r content.items) }
+        (λ r content. ids.now ≡ ids_of r.targets → IsContentOf page r content.items) }
     ensures tells { TellsFailures (tells_store result) store.old.calls store.new.calls }
     ensures fails { result ≡ Err Refusal.StoreFailed → FailsByCalls S.Store store.old.calls store.new.calls }
 {
-    look(store, &PageOfTargets { alloc, page })
+    look(store, &KnownPage { alloc, ids, page })
+}
+
+/// The targets on a page of all, and the ids of all.
+#[derive(Drop)]
+struct PageWithIds {
+    alloc: Global,
+    page: Page,
+}
+
+impl<S: Alter> Question<S, (Vec<ShownTarget>, Vec<ControllerId>)> for PageWithIds {
+    ghost finds = { λ it. ReadsWithIds S.Store it.page };
+
+    fn read(
+        &self,
+        change: &mut OpenChange<'_, S>,
+    ) -> Result<(Vec<ShownTarget>, Vec<ControllerId>), Fault> {
+        let ids = read_target_ids(change)?;
+        let content = read_known_page(self.alloc, change, &ids, self.page)?;
+        Ok((content, ids))
+    }
+}
+
+/// Reads the targets on a page of all, and the ids of all, inside a transaction that changes nothing.
+pub(crate) fn look_at_ids<S: Alter>(
+    alloc: Global,
+    store: &mut DeskStore<S>,
+    page: Page,
+) -> Result<(Vec<ShownTarget>, Vec<ControllerId>), Refusal>
+    ensures looks { Looks HoldsRecords (state S.Store store.old.calls.conn) (state S.Store store.new.calls.conn) result
+        (λ r found. HasPage page r found.0.items found.1.items) }
+    ensures tells { TellsFailures (tells_store result) store.old.calls store.new.calls }
+    ensures fails { result ≡ Err Refusal.StoreFailed → FailsByCalls S.Store store.old.calls store.new.calls }
+{
+    look(store, &PageWithIds { alloc, page })
 }
 
 /// The artifact whose contents a device asks for.
