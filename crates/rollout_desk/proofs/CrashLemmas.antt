@@ -1,5 +1,5 @@
 -- From what a crash leaves of a desk's files to the desk that is reopened over it.
-use Rattle.rollout_desk.proofs.Common.{◌≡◌, ℕ, Bool, Option, IsTrue, sym, subst, ◌∙◌, arith, Files, Image, Trees, AreClean, FileStore, files, recovers, view}
+use Rattle.rollout_desk.proofs.Common.{◌≡◌, Bool, IsTrue, sym, subst, ◌∙◌, arith, Files, Image, Trees, AreClean, FileStore, files, recovers, view}
 use Rattle.rollout_desk.proofs.Common.{faults}
 use Rattle.rollout_desk.proofs.Common.{is_shielded, Held, AreDatabases, State, HoldsDatabase, file_state, HoldsRecords, DeskState, AllHold, GoesOnOver}
 use Rattle.rollout_desk.specs.Desks.{Known, desk_state_knowing}

@@ -1,5 +1,5 @@
 -- From one request of a desk's store to the desk, which may be stopped.
-use Rattle.rollout_desk.proofs.Common.{◌≡◌, ℕ, Bool, true, false, Option, sym, subst, ◌∙◌, false≢true, Database, HasCleanDisk, State, CommandList, Records}
+use Rattle.rollout_desk.proofs.Common.{◌≡◌, Bool, true, false, sym, subst, ◌∙◌, false≢true, Database, HasCleanDisk, State, CommandList, Records}
 use Rattle.rollout_desk.proofs.Common.{Reply, Request, Asks, AppliesAt, Applies, StandsFor, StaysStopped, desk_state_at, is_failed_store, Handles}
 use Rattle.rollout_desk.specs.Desks.{Known, desk_state_knowing}
 use Rattle.rollout_desk.proofs.KnowingLemmas.{HoldsBehind, StaysKnown, applied, unknowing}

@@ -1,8 +1,8 @@
 -- What a desk knows of the ids of its targets, from one request to the next.
-use Rattle.rollout_desk.proofs.Common.{◌≡◌, ◌⊎◌, inl, inr, ℕ, suc, Bool, length, List, [], ◌∷◌, Option, Some, None, refl, sym, subst, ap, ◌∙◌}
-use Rattle.rollout_desk.proofs.Common.{arith, Database, State, Answer, MayAnswer, query_reply, CommandList, ◌▸◌}
-use Rattle.rollout_desk.proofs.Common.{followed_by, Command, Records, Reply, Refused, Request, Query, Ask, Asks, Do, one, AppliesAt}
-use Rattle.rollout_desk.proofs.Common.{IsInDoubt, StandsFor, query_answer, Refusal, NoMemory, StoreFailed, desk_state_at}
+use Rattle.rollout_desk.proofs.Common.{◌≡◌, ◌⊎◌, inl, inr, suc, Bool, length, List, [], ◌∷◌, Option, Some, None, refl, sym, subst, ap, ◌∙◌}
+use Rattle.rollout_desk.proofs.Common.{arith, Database, State, Answer, MayAnswer, CommandList, ◌▸◌}
+use Rattle.rollout_desk.proofs.Common.{followed_by, Command, Records, Reply, Request, Query, Ask, Asks, Do, one, AppliesAt}
+use Rattle.rollout_desk.proofs.Common.{IsInDoubt, StandsFor, query_answer, desk_state_at}
 use Rattle.std.specs.Prelude.{map}
 use Rattle.rollout_machine.specs.Answers.{answer, command_answer}
 use Rattle.rollout_machine.specs.Objects.{targets_shown}

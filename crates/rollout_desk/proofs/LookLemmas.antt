@@ -1,5 +1,5 @@
 -- From the calls of the store to a look at the records.
-use Rattle.rollout_desk.proofs.Common.{◌≡◌, ◌⊎◌, inl, inr, ℕ, Bool, false, Option, None, Ok, Err, Result, sym, ap, subst, ◌∙◌, arith, Trees, State}
+use Rattle.rollout_desk.proofs.Common.{◌≡◌, ◌⊎◌, inl, inr, Bool, false, None, Ok, Err, Result, sym, ap, subst, ◌∙◌, arith, Trees, State}
 use Rattle.rollout_desk.proofs.Common.{HasCleanDisk, Begins}
 use Rattle.rollout_desk.proofs.Common.{Doubts, HoldIn, Opens, Rests, Spoiled, Wears, rest_shows, Fault, Broken, HoldsLedger}
 use Rattle.rollout_desk.proofs.Common.{HoldsRecords, Ledger, ledger_of, CommandList, Records, records, Refused, Becomes, DeskState, IsInDoubt, StandsFor}

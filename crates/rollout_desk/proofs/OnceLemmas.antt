@@ -1,5 +1,5 @@
 -- What comes again in a run leaves no trace.
-use Rattle.rollout_desk.proofs.Common.{arith, inl, inr, ℕ, Bool, List, [], ◌∷◌, ◌++◌, Option, subst, Database, State, Trees, HoldIn, MayAnswer, CommandList}
+use Rattle.rollout_desk.proofs.Common.{arith, inl, inr, Bool, List, [], ◌∷◌, ◌++◌, Option, subst, Database, State, Trees, HoldIn, MayAnswer, CommandList}
 use Rattle.rollout_desk.proofs.Common.{◌▸◌}
 use Rattle.rollout_desk.proofs.Common.{followed_by, Command, Records, Reply, Asked, Asks, Request, one, StandsFor, IsInDoubt, IsValid, records_step}
 use Rattle.rollout_desk.proofs.Common.{HoldsReadable, HoldsList, EndsRun, RequestExchange, IsRun, accepted_of}

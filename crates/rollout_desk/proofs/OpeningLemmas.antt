@@ -1,5 +1,5 @@
 -- From a connection that was opened to a desk over it.
-use Rattle.rollout_desk.proofs.Common.{◌≡◌, ℕ, Bool, false, Option, None, Ok, Err, Result, IfOk, IfErr, refl, sym, subst, Files, Trees, AreClean, IsClosed}
+use Rattle.rollout_desk.proofs.Common.{◌≡◌, Bool, false, None, Ok, Err, Result, IfOk, IfErr, refl, sym, subst, Files, Trees, AreClean, IsClosed}
 use Rattle.rollout_desk.proofs.Common.{file_state}
 use Rattle.rollout_desk.proofs.Common.{recovers, Held, FileStore, Rests, Image, State, HasCleanDisk, HoldsRecords, Reopens, CommandList, Make, records}
 use Rattle.rollout_desk.proofs.Common.{StandsFor, IsValid, Global, ReopensDesk, GivesBack}
@@ -33,7 +33,7 @@ reopened_desk image approval s h = record {
 -- the desk is over the connection
 module _ {S : Type 0} (alloc : Global) (store : DeskStore S) (conn : Held S) (same : store.calls.conn ≡ conn) (desk : Desk S)
     (is : desk ≡ record { store = store; stopped = false; targets = None; work = no_work; alloc = alloc }) where
-  pub over_it : (P : Option ℕ → Bool → Held S → Type 0) → P None false conn → P desk.targets desk.stopped desk.store.calls.conn
+  pub over_it : (P : Known → Bool → Held S → Type 0) → P None false conn → P desk.targets desk.stopped desk.store.calls.conn
   over_it P holds = subst (λ (d : Desk S). P d.targets d.stopped d.store.calls.conn) (sym is) (subst (P None false) (sym same) holds)
 
 -- ---- the files that a desk gives back

@@ -19,7 +19,7 @@ abbrev pub HoldsList : Trees → CommandList → Type 0
 HoldsList trees h = IsValid h × HoldIn HoldsReadable trees (records h)
 
 -- what a desk knows beside its tables: the ids of all targets, or nothing
-abbrev pub Known : Type 1
+abbrev pub Known : Type 0
 Known = Option (Vec Bytes Global)
 
 -- the ids that are known are those of the targets of these records

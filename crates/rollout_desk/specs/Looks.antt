@@ -49,7 +49,8 @@ pub record ReadsPiece {S : Type 0} (g : Ghosts S) (number place : ℕ) (old new 
   pub fails : FailsIn g old new result
 
 -- the targets on a page of all were read, where these are the ids of all, or why not
-pub record ReadsTargets {S : Type 0} (g : Ghosts S) (ids : List Bytes) (page : Page) (old new : OpenChange S) (result : Result (Vec ShownTarget Global) Fault) : Type 0 where
+pub record ReadsTargets {S : Type 0} (g : Ghosts S) (ids : List Bytes) (page : Page) (old new : OpenChange S) (result : Result (Vec ShownTarget Global) Fault) :
+    Type 0 where
   pub reads : FindsIn g old new result (λ r content. ids ≡ ids_of r.targets → IsContentOf page r content.items)
   pub fails : FailsAtListsIn g old new result
 
@@ -58,7 +59,8 @@ abbrev pub HasPage : Page → Records → List ShownTarget → List Bytes → Ty
 HasPage page r content ids = (ids ≡ ids_of r.targets) × IsContentOf page r content
 
 -- the targets on a page of all were read, and the ids of all, or why not
-pub record ReadsWithIds {S : Type 0} (g : Ghosts S) (page : Page) (old new : OpenChange S) (result : Result (Vec ShownTarget Global × Vec Bytes Global) Fault) : Type 0 where
+pub record ReadsWithIds {S : Type 0} (g : Ghosts S) (page : Page) (old new : OpenChange S) (result : Result (Vec ShownTarget Global × Vec Bytes Global) Fault) :
+    Type 0 where
   pub reads : FindsIn g old new result (λ r found. HasPage page r found.0.items found.1.items)
   pub fails : FailsAtListsIn g old new result
 

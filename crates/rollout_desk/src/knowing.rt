@@ -1,6 +1,6 @@
 //! What a desk knows beside its tables: the ids of all targets. A page of all of them reads them, and an import forgets them.
 
-ghost use Rattle.std.specs.Prelude.{◌≡◌, Some, None};
+ghost use Rattle.std.specs.Prelude.{◌≡◌, ◌<◌, ◌^◌, length, Some, None};
 ghost use Rattle.sqlite.specs.Held.{state};
 ghost use Rattle.rollout_machine.specs.Requests.{ShowTargets};
 ghost use Rattle.rollout_machine.specs.Views.{command_of, query_of, reply_of};
@@ -27,6 +27,13 @@ pub(crate) fn known_behind(
     }
 }
 
+/// How many there are: fewer than 2^32, since a desk takes no more than 10,000 targets.
+fn count_of(ids: &Vec<ControllerId>) -> u32
+    ensures { length ids.now.items < 2 ^ 32 → result ≡ length ids.now.items }
+{
+    u32::try_from(ids.len()).unwrap_or(u32::MAX)
+}
+
 /// Shows a page of all targets, whose ids are known: no others are read.
 fn show_known<S: Alter>(
     alloc: Global,
@@ -39,7 +46,7 @@ fn show_known<S: Alter>(
     match look_at_page(alloc, store, ids, page) {
         Ok(content) => Reply::Targets(PageOf {
             content,
-            total: ids.len() as u32,
+            total: count_of(ids),
         }),
         Err(refusal) => Reply::Refused(refusal),
     }
@@ -56,7 +63,7 @@ fn show_learning<S: Alter>(
 {
     match look_at_ids(alloc, store, page) {
         Ok((content, ids)) => {
-            let total = ids.len() as u32;
+            let total = count_of(&ids);
             (Reply::Targets(PageOf { content, total }), Some(ids))
         }
         Err(refusal) => (Reply::Refused(refusal), None),

@@ -13,7 +13,8 @@ ghost use Rattle.desk_store.specs.declared.change.OpenChange.{OpenChange};
 ghost use Rattle.sql_calls.specs.declared.fault.Fault.{Fault};
 ghost use Rattle.desk_records.specs.Targets.{ids_of};
 ghost use Rattle.desk_views.specs.Targets.{IsContentOf};
-ghost use Rattle.rollout_desk.specs.Looks.{EndsLook, HasPage, IsOtherThan, Looked, Looks, LooksForDownload, ReadsDownload, ReadsPiece, ReadsTargets, ReadsWithIds, bytes_of};
+ghost use Rattle.rollout_desk.specs.Looks.{EndsLook, HasPage, IsOtherThan, Looked, Looks, LooksForDownload, ReadsDownload, ReadsPiece};
+ghost use Rattle.rollout_desk.specs.Looks.{ReadsTargets, ReadsWithIds, bytes_of};
 ghost use Rattle.rollout_desk.specs.Working.{TellsFailures, tells_store};
 
 use crate::refusals::refusal_of;

@@ -8,7 +8,8 @@ pub returns-in-Ok : goal.returns-in-Ok
 returns-in-Ok g c = record {
   runs = record {
     wears = c.look_at_ids.ensures.looks.wears;
-    answers = page_answered _ _ c.args.page None _ (c.in-Ok.content, c.in-Ok.ids) c.in-Ok.content c.in-Ok.ids.items _ (search rules)
+    answers = page_answered _ _ c.args.page None _ (c.in-Ok.content, c.in-Ok.ids) c.in-Ok.content c.in-Ok.ids.items c.count_of-total.result
+        c.count_of-total.ensures
         (rw c.in-Ok.is at c.look_at_ids.ensures.looks) (λ r _ is. is);
     tells = search rules;
     fails = λ is. absurd cc;

@@ -17,11 +17,13 @@ returns-clause-conduct g c = record {
 }
 
 pub returns-clause-applies : goal.returns-clause-applies
-returns-clause-applies g c = answers_learning _ _ _ _ _ _ _ _ _ c.if-self.false c.answer_knowing.ensures.runs.answers c.says_store_failed-self.ensures.is
-    (λ h clean standing. after _ (query_of c.args.query.now) _ h (c.answer_knowing.ensures.learns h clean standing))
+returns-clause-applies g c = answers_learning _ _ _ _ _ _ _ _ _ c.if-self.false (rw c.take-known.ensures.value at c.answer_knowing-reply.ensures.runs).answers
+    c.says_store_failed-self.ensures.is
+    (λ h clean standing. after _ (query_of c.args.query.now) _ h ((rw c.take-known.ensures.value at c.answer_knowing-reply.ensures.learns) h clean standing))
 
 pub returns-clause-promised : goal.returns-clause-promised
 returns-clause-promised g c =
-    let applies = answers_learning _ _ _ _ _ _ _ _ _ c.if-self.false c.answer_knowing.ensures.runs.answers c.says_store_failed-self.ensures.is
-    (λ h clean standing. after _ (query_of c.args.query.now) _ h (c.answer_knowing.ensures.learns h clean standing)) in
+    let applies = answers_learning _ _ _ _ _ _ _ _ _ c.if-self.false (rw c.take-known.ensures.value at c.answer_knowing-reply.ensures.runs).answers
+    c.says_store_failed-self.ensures.is
+    (λ h clean standing. after _ (query_of c.args.query.now) _ h ((rw c.take-known.ensures.value at c.answer_knowing-reply.ensures.learns) h clean standing)) in
     record { offered = offers_kept _ _ _ _ applies; whole = contents_whole _ _ _ _ applies }
