@@ -45,7 +45,7 @@ pub use Rattle.sql_calls.proofs.Leavings.{first_shown, first_unchanged, never_co
 pub use Rattle.sql_calls.proofs.Leavings.{stays_inside}
 pub use Rattle.sql_calls.proofs.NumberedRows.{cast_int, cast_null}
 pub use Rattle.sql_calls.proofs.Selects.{passes, shown_of, simple_rows}
-pub use Rattle.sql_calls.specs.Apart.{HasNoForeignKey}
+pub use Rattle.sql_calls.proofs.Apart.{HasNoForeignKey}
 pub use Rattle.sql_calls.specs.Calls.{RunsText, TakesFirst, TakesTo}
 pub use Rattle.sql_calls.specs.KeyIndexes.{ComparesBytes}
 pub use Rattle.sql_calls.specs.Means.{Known, Knows, Means}

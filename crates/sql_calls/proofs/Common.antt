@@ -2,7 +2,7 @@
 pub use Rattle.std.proofs.Common.{◌≡◌, ℕ, zero, suc, ◌+◌, ◌-◌, ◌/◌, ◌^◌, ◌<◌, ◌≤◌, min, Bool, true, false, cond, not, ◌&&◌, ◌||◌, ◌≢◌, ◌⊎◌, List, [], ◌∷◌, ◌++◌}
 pub use Rattle.std.proofs.Common.{map, length, get_or, take, set, ℤ, pos, negsuc, ◌+ℤ◌, IfOk, IsTrue, nat_lt, nat_le, slice_get, Some, None, Ok, Err, codes}
 pub use Rattle.std.proofs.Common.{MatchBool, fold, filter, Option, Result, Vec, option_map, IsPermutation, flat_map, filter_map, bytes_eq, Ordering, Less}
-pub use Rattle.std.proofs.Common.{Equal, Greater, unwrap_or, sym, refl, ap, ◌∙◌, subst, ap₂, inl, inr, arith}
+pub use Rattle.std.proofs.Common.{Equal, Greater, unwrap_or, sym, refl, ap, ◌∙◌, subst, ap₂, inl, inr, arith, drop, append_assoc, append-nil}
 pub use Rattle.std.proofs.lemmas.Bool.{both_ways, cases_Bool, eq-eqb, or_parts}
 pub use Rattle.std.proofs.lemmas.Bool.Decides.{nat_tests}
 pub use Rattle.std.proofs.lemmas.Int.{ints}
@@ -62,9 +62,10 @@ pub use Rattle.sqlite_value.specs.Order.{column, value_cmp}
 pub use Rattle.sqlite_value.specs.declared.keys.Key.{Key}
 pub use Rattle.sqlite_value.specs.declared.value.Value.{Value}
 pub use Rattle.sqlite_value.specs.declared.value.Value.TheVariants.{Blob, Int, Null, Real, Text}
-pub use Rattle.sql_calls.specs.Apart.{HasNoForeignKey}
+pub use Rattle.sql_calls.proofs.Apart.{HasNoForeignKey}
 pub use Rattle.sql_calls.specs.Calls.{AsksFew, AsksText, RunsText, TakesFirst, TakesTo, few_of}
-pub use Rattle.sql_calls.specs.Keyed.{AreIn, HaveKeysApart, IsHeldBy, Rise, rows_from}
+pub use Rattle.sql_calls.proofs.Columns.{HaveKeysApart, Rise}
+pub use Rattle.sql_calls.specs.Keyed.{AreIn, IsHeldBy, rows_from}
 pub use Rattle.sql_calls.specs.Means.{Known, Knows, KnowsWrite, Means, writes_rows}
 pub use Rattle.sql_calls.specs.Standing.{Begins, Commits, Finds, FrameTo, GivesUp, HoldIn, IsAtRest, IsInDoubt, IsInside, IsSpoiled, Keeps, Makes, Opens, Rests}
 pub use Rattle.sql_calls.specs.Standing.{Sees, Shows, Spoiled}

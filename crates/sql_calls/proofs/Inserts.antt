@@ -2,7 +2,7 @@
 use Rattle.sql_calls.proofs.Common.{[], ◌∷◌, ◌≡◌, ◌⊎◌, ℕ, ◌/◌, filter_map, refl, List, length, slice_get, false, Option, Some, None, Ok, Err, Result, sym, ap}
 use Rattle.sql_calls.proofs.Common.{subst, ◌∙◌, Row, Trees, Term, Table, Schema, Enforced, Values, Insert, edit_of, Reference, ParentKey, Deed, work_by, works}
 use Rattle.sql_calls.proofs.Common.{Chosen, Tally, OnRows, Written, Task, stamped, Database, value_rows, State, Command, Edit, ℤ, mode_of, Writes, one_step}
-use Rattle.sql_calls.proofs.Common.{arith}
+use Rattle.sql_calls.proofs.Common.{IsSource, Source, arith}
 use Rattle.sqlite_rules.specs.Action.{Writes as Edits}
 use Rattle.sqlite.specs.Rows.{Then, Gives, Edited}
 use Rattle.sqlite.specs.Does.{OnTable, WritesRows}
@@ -55,13 +55,18 @@ none_for f none (x ∷ xs) = rw (none x) (none_for f none xs)
 pub no_works : (schema : Schema) (tree : ℕ) (news : List Row) → works schema Enforced 0 tree [] news ≡ []
 no_works schema tree news = grind (arith, flat_map_none, filter_map, none_for, no_work)
 
-pub inserts : (schema : Schema) (at : ℕ) (table : Table) (terms : List Term) (width : ℕ) → slice_get schema.tables at ≡ Some (uncounted table)
-    → (old new : State) → old.now.schema ≡ schema → (text : List ℕ) (params : Row) (count : ℕ)
-    → Writes old new None (Insert at (Values terms width)) text params count
-    → Inserted schema (uncounted table) (given_rows (uncounted table) params terms width) old.now new.now
-inserts schema at table terms width there old new has text params count w =
+-- the rows of a source, and what became of them
+pub record InsertedFrom (schema : Schema) (table : Table) (params : Row) (from : Source) (old new : Database) : Type 0 where
+  pub sources : List Row
+  pub is_source : IsSource (record { schema = schema; trees = old.trees }) (stamped table params) from sources
+  pub inserted : Inserted schema table sources old new
+
+pub inserts_from : (schema : Schema) (at : ℕ) (table : Table) (from : Source) → slice_get schema.tables at ≡ Some (uncounted table)
+    → (old new : State) → old.now.schema ≡ schema → (text : List ℕ) (params : Row) (count : ℕ) → Writes old new None (Insert at from) text params count
+    → InsertedFrom schema (uncounted table) params from old.now new.now
+inserts_from schema at table from there old new has text params count w =
     let db = old.now.trees in
-    let it = writes_at schema at (uncounted table) there old has params (Insert at (Values terms width)) w.tally new.now w.changed in
+    let it = writes_at schema at (uncounted table) there old has params (Insert at from) w.tally new.now w.changed in
     let given = went it.1 in
     let written = went (went given.2).2 in
     let counted = went written.2 in
@@ -69,5 +74,13 @@ inserts schema at table terms width there old new has text params count w =
     let trees : it.0.trees ≡ written.0 = ap (λ (it : Written). it.trees) (same_value counted.2) ∙ same_value counted.1 in
     let step = subst (λ next. Edits schema Enforced db edit (Ok next)) (sym trees) written.1 in
     let placed = applied schema Enforced db it.0.trees edit (one_step schema Enforced db it.0.trees edit (no_works schema table.tree edit.news) step) in
-    subst (Inserted schema (uncounted table) (given_rows (uncounted table) params terms width) old.now) (sym it.2)
-    (record { schema_is = refl; applies = subst (λ rs. Rewritten schema db (edit_of db (uncounted table) [] Chosen 0 rs) it.0.trees) given.1.1 placed })
+    subst (InsertedFrom schema (uncounted table) params from old.now) (sym it.2)
+    (record { sources = given.0; is_source = given.1; inserted = record { schema_is = refl; applies = placed } })
+
+pub inserts : (schema : Schema) (at : ℕ) (table : Table) (terms : List Term) (width : ℕ) → slice_get schema.tables at ≡ Some (uncounted table)
+    → (old new : State) → old.now.schema ≡ schema → (text : List ℕ) (params : Row) (count : ℕ)
+    → Writes old new None (Insert at (Values terms width)) text params count
+    → Inserted schema (uncounted table) (given_rows (uncounted table) params terms width) old.now new.now
+inserts schema at table terms width there old new has text params count w =
+    let it = inserts_from schema at table (Values terms width) there old new has text params count w in
+    subst (λ rs. Inserted schema (uncounted table) rs old.now new.now) it.is_source.1 it.inserted

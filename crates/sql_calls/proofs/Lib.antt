@@ -1,3 +1,5 @@
+pub mod Apart
+pub mod Columns
 pub mod Common
 pub mod Ends
 pub mod Leavings

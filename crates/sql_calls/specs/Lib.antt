@@ -1,5 +1,4 @@
 pub mod Tables
-pub mod Apart
 pub mod Keyed
 pub mod Faults
 pub mod Means

@@ -10,6 +10,7 @@ pub mod Texts
 pub mod TextsWithin
 pub mod Past
 pub mod Write
+pub mod InsertSelect
 pub mod Change
 pub mod Created
 pub mod Grown

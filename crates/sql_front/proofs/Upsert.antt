@@ -1,7 +1,7 @@
 -- INSERT .. SELECT .. ON CONFLICT means the same wherever its two tables stand in the schema.
 use Rattle.sql_front.proofs.Common.{◌≡◌, inl, inr, refl, sym, ap, ◌∙◌, ℕ, ◌+◌, ◌==◌, true, false, ◌&&◌, Ok, List, [], ◌∷◌, ◌++◌, length, find, Some, slice_get}
-use Rattle.sql_front.proofs.Common.{codes, Bool, ◌||◌, arith, eqb-true, eq-eqb, Collation, Query, Term, Parsed, Draft, Schema, Table, Index, Has, table_named}
-use Rattle.sql_front.proofs.Common.{Compiled, Name, Context, named, paging, Shown, first, small, Stands}
+use Rattle.sql_front.proofs.Common.{codes, Bool, ◌||◌, arith, eqb-true, eq-eqb, Query, Parsed, Draft, Schema, Table, Index, Has}
+use Rattle.sql_front.proofs.Common.{Compiled, Name, Context, first, small, Stands}
 use Rattle.sqlite_ast.specs.declared.Rows.TheVariants as rows
 use Rattle.sqlite_ast.specs.declared.Select as written_select
 use Rattle.sqlite_ast.specs.declared.Upsert as written_clause
@@ -11,18 +11,18 @@ use Rattle.sqlite_schema.specs.declared.command.Source.TheVariants as source
 use Rattle.sqlite_schema.specs.declared.command.Upsert.{Upsert}
 use Rattle.sqlite_schema.specs.declared.command.Conflict.TheVariants as how
 use Rattle.sqlite_schema.specs.declared.command.Command.TheVariants.{InsertOr}
-use Rattle.sqlite_resolve.specs.Write.{places, as_row, inserted, selected, updated_in}
+use Rattle.sqlite_resolve.specs.Write.{places, updated_in}
 use Rattle.sqlite_resolve.specs.Program.{program}
 use Rattle.sqlite_resolve.specs.Given.{nested, given, with_given, at_rowid, key_at, is_key_at, are_among, key_meant, do_update, update, upsert, upserts}
-use Rattle.sqlite_resolve.specs.Compile.{compiled, planned, meaning, timed, returning, command, shows, insert_or_abort, insert_or, new_rows, source_of, queried}
+use Rattle.sqlite_resolve.specs.Compile.{compiled, planned, meaning, timed, returning, command, shows, insert_or_abort, insert_or}
 use Rattle.std.proofs.lemmas.Bool.Decides.{nat_tests}
 use Rattle.sql_front.proofs.Past.{slice_past}
 use Rattle.sql_front.proofs.Created.{slice_front}
-use Rattle.sql_front.proofs.Select.{IsOneTable, IsPlainTest, same_named}
+use Rattle.sql_front.proofs.Select.{IsPlainTest}
 use Rattle.sql_front.proofs.Plain.{plainly}
-use Rattle.sql_front.proofs.Query.{query_known}
 use Rattle.sql_front.proofs.Texts.{Becomes, fits_as, alone}
 use Rattle.sql_front.proofs.Change.{ArePlainSets, updated_same}
+use Rattle.sql_front.proofs.InsertSelect.{Fills, rows_known}
 use Rattle.sql_front.proofs.Write.{unstamped}
 use Rattle.sql_front.proofs.Lower.{Same}
 use Rattle.sql_front.proofs.Levels.{one_level, placed_at, same_placed}
@@ -60,19 +60,7 @@ pub record Upserts (text : List ℕ) (name : Name) (table : Table) (from : Name)
   pub clause : written_clause.Upsert
   pub parses : (first text ≡ Ok parsed) × (parsed.statement ≡ written.Insert conflict.Abort name columns (rows.Select select) (clause ∷ []) [])
       × (parsed.formats ≡ [])
-  -- the query, and its rows as the table has them
-  pub page : Term × Term
-  pub shown : Shown
-  pub is : ((written_select.out-Select select).with ≡ []) × ((written_select.out-Select select).others ≡ [])
-  pub one : IsOneTable from (written_select.out-Select select).first (written_select.out-Select select).order
-  pub paged : (s : Schema) → paging s select ≡ Ok page
-  pub named : (table_named (alone read) from ≡ Some 0)
-      × (named (alone read) (written_select.out-Select select).first (written_select.out-Select select).order page ≡ Ok shown)
-  pub at : List ℕ
-  pub terms : List Term
-  pub by : List Collation
-  pub placed : (places (unstamped table) columns ≡ Ok at) × (as_row (unstamped table) (small parsed.names + small []) at shown.0 ≡ Ok (terms, by))
-  pub becomes : Becomes read (record shown.0 { project = terms; collations = by }) body
+  pub fills : Fills (small parsed.names + small []) columns select table from read body
   -- the clause
   pub aimed : ((length clause.target == 0) ≡ false) × (places (unstamped table) clause.target ≡ Ok key) × ((length clause.sets == 0) ≡ false)
   pub values : ArePlainSets clause.sets
@@ -94,13 +82,6 @@ module _ (text : List ℕ) (name : Name) (table : Table) (from : Name) (read : T
   abbrev base : ℕ
   base = small u.parsed.names + small []
 
-  rows_known : new_rows s (unstamped table) base u.columns (rows.Select u.select) ≡ Ok (source.Query (record { lets = []; body = body }))
-  unfolding new_rows inserted selected source_of queried program
-  rows_known =
-      let same = same_named s (alone read) there 0 read from stands_there.named stands_there.got u.named.0 refl _ _ u.one u.page in
-      let query = query_known s IsPlainTest from u.select u.page u.shown u.is.0 u.is.1 u.one (u.paged s) (same ∙ u.named.1) in
-      rw (u.placed.0) (rw (query) (rw (u.placed.1) (rw (fits_as s from there read stands_there _ body u.becomes) (rw (u.becomes.0)))))
-
   clause_known : upserts s at (unstamped table) base (u.clause ∷ []) ≡ Ok (upsert_of key setter ∷ [])
   unfolding upserts upsert key_meant update do_update program
   clause_known =
@@ -111,7 +92,9 @@ module _ (text : List ℕ) (name : Name) (table : Table) (from : Name) (read : T
 
   pub upserts_known : compiled s text ≡ Ok (with_upsert u.parsed at body (upsert_of key setter))
   unfolding compiled planned meaning timed returning command shows insert_or_abort insert_or
-  upserts_known = rw (u.parses.0) (rw (u.parses.1) (rw (u.parses.2) (rw (stands.named) (rw (stands.got) (rw (rows_known) (rw (clause_known)))))))
+  upserts_known =
+      let rows = rows_known base u.columns u.select table from read body u.fills s there stands_there in
+      rw (u.parses.0) (rw (u.parses.1) (rw (u.parses.2) (rw (stands.named) (rw (stands.got) (rw (rows) (rw (clause_known)))))))
 
 -- ---- the key
 
