@@ -83,10 +83,11 @@ def test_what_is_written_of_a_row():
         for line in (
             "  pub name : column row 0 ≡ Text x.name",
             "  pub workdir : column row 1 ≡ Int (pos x.place.workdir)",
-            "shown_pump x = Text x.name ∷ Int (pos x.place.workdir) ∷ []",
             "columns_of_pump row = column row 2 ∷ column row 3 ∷ column row 4 ∷ []",
         ):
             assert line in lines, line
+        written = "shown_pump x = Text x.name ∷ Int (pos x.place.workdir) ∷ []"
+        assert written in found.written().splitlines()
 
 
 def test_own_columns_are_told_before_those_of_another_row():

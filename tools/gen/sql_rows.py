@@ -227,9 +227,9 @@ class Rows:
         for reading in self.readings.values():
             reading.settle(found("SELECT", reading.text, shows), self.readings, sources)
             sources.words |= dict.fromkeys(
-                (reading.says, reading.broken, reading.shown, reading.told),
-                f"{DESK}.specs.ReadRows",
+                (reading.says, reading.broken, reading.shown), f"{DESK}.specs.ReadRows"
             )
+            sources.words[reading.told] = f"{DESK}.proofs.WrittenRows"
 
     # ---- what is written
 
@@ -281,7 +281,7 @@ class Rows:
         )
 
     def specs(self):
-        says, breaks, tells, shows = [], [], [], []
+        says, breaks, shows = [], [], []
         for r in self.readings.values():
             fields = [f"  pub {r.inner} : {r.behind.says} row x.{r.inner}"] if r.behind else []
             fields += [
@@ -313,12 +313,6 @@ class Rows:
                 broken[-1] + shuts,
                 "",
             ]
-            told = [p.kind.tells % f"x.{f}" for p, f, _ in r.all_parts()]
-            tells += [
-                f"abbrev pub {r.told} : {r.made} → Row",
-                *cons(f"{r.told} x =", told, 150),
-                "",
-            ]
             at = [f"column row {r.table.place(c)}" for c in r.shown_columns()]
             shows += [f"abbrev pub {r.shown} : Row → Row", *cons(f"{r.shown} row =", at, 150), ""]
         body = "\n".join(
@@ -327,10 +321,7 @@ class Rows:
                 "-- ---- the first column of each that breaks its rule",
                 "",
                 *breaks,
-                "-- ---- what each tells",
-                "",
-                *tells,
-                "-- ---- .. of the table's row",
+                "-- ---- what each tells of the table's row",
                 "",
                 *shows,
             ]
@@ -344,7 +335,7 @@ class Rows:
         ]
         head = [
             f"-- {WRITTEN}",
-            "-- The rows that are read: what each says, which column breaks its rule, what is written in it.",
+            "-- The rows that are read: what each says, and which column breaks its rule.",
             *self.imports(body, given),
             *self.known(body, without=("ReadRows",)),
             *(f"pub {it}" for it in self.types_in()),
@@ -353,6 +344,35 @@ class Rows:
             "",
         ]
         return "\n".join(head) + "\n" + body
+
+    def written(self):
+        lines = []
+        for r in self.readings.values():
+            told = [p.kind.tells % f"x.{f}" for p, f, _ in r.all_parts()]
+            lines += [
+                f"abbrev pub {r.told} : {r.made} → Row",
+                *cons(f"{r.told} x =", told, 150),
+                "",
+            ]
+        body = "\n".join(lines)
+        given = [
+            ("Rattle.std.specs.Prelude", "[] ◌∷◌ pos"),
+            ("Rattle.sqlite_value.specs.declared.value.Value.TheVariants", "Int Text Blob"),
+            ("Rattle.sqlite_value.specs.Order", "Row"),
+            ("Rattle.sqlite.specs.Values", "or_null"),
+        ]
+        return "\n".join(
+            [
+                f"-- {WRITTEN}",
+                "-- The rows that are read, as they are written.",
+                *self.imports(body, given),
+                *self.known(
+                    body, without=("WrittenRows",), also=[r.made for r in self.readings.values()]
+                ),
+                "",
+                body,
+            ]
+        )
 
     def literal(self, made, fields, indent):
         """A struct of fields that stand in variables of their names, with the structs in it made before."""
@@ -673,6 +693,7 @@ def files(crates, text, tables, shows):
         records / "src" / "table_columns.rt": rows.columns_file(),
         records / "src" / "read_rows.rt": rows.source(),
         records / "specs" / "ReadRows.antt": rows.specs(),
+        records / "proofs" / "WrittenRows.antt": rows.written(),
         records / "proofs" / "RowsTold.antt": rows.proofs(),
         crates / "desk_store" / "specs" / "BrokenRows.antt": rows.broken(),
         crates / "desk_store" / "src" / "row_reads.rt": rows.store_source(),

@@ -2,7 +2,7 @@
 -- What the texts of src/action_texts.rt mean, wherever their tables stand.
 use Rattle.desk_records.proofs.Common.{refl, List, [], ◌∷◌, ℕ, codes, pos, true, false, Null, Int, Binary, Schema, Values, Query, inner, counted, end, Term, lit, col, Stands, Means, simple, by}
 use Rattle.sql_front.proofs.TextsWithin.{QueriesWithin, queries_known_within}
-use Rattle.desk_records.specs.declared.action_texts.TheConstants.{LAST_ACTION, GET_ACTION, LIST_ACTIONS, COUNT_ACTIONS, LIST_TARGET_ACTIONS, LAST_ENDED, PUT_ACTION, SET_ACTION, PUT_FEEDBACK, LIST_ENTRIES, PUT_NUMBER, LAST_NUMBER, LIST_NUMBERS, GET_OFFER, LIST_OFFERS, SET_OFFER, DROP_OFFER, NEXT_OFFER}
+use Rattle.desk_records.specs.declared.action_texts.TheConstants.{LAST_ACTION, GET_ACTION, LIST_ACTIONS, COUNT_ACTIONS, LIST_ACTION_NUMBERS, LIST_TARGET_ACTIONS, LAST_ENDED, SET_ACTION, PUT_FEEDBACK, LIST_ENTRIES, PUT_NUMBER, LAST_NUMBER, LIST_NUMBERS, GET_OFFER, LIST_OFFERS, SET_OFFER, DROP_OFFER, NEXT_OFFER}
 use Rattle.desk_records.specs.Schema.{group_table, action_table, Actions, Feedbacks, Offers, Numbers}
 use Rattle.desk_records.proofs.MeaningWords.{compiling, means_of, Asks, Counts, Puts, Changes, Drops, is_equal, is_more, is_least, is_most, at_key, at_least, in_order, greatest_number, changing, selects, no_limit, no_offset, first_only}
 
@@ -30,20 +30,20 @@ count_actions_is = unfold compiling in record { queries = λ tree. record { pars
 abbrev pub of_actor : List Term
 of_actor = at_key 4 0 ∷ []
 
-pub list_target_actions_is : Asks Actions LIST_TARGET_ACTIONS.now (in_order 0 false of_actor listed_columns (col 0 1) (col 0 2)) (codes "rollout" ∷ codes "place" ∷ codes "controller" ∷ codes "canceling" ∷ codes "outcome" ∷ codes "notes" ∷ codes "entries" ∷ codes "number" ∷ [])
-list_target_actions_is = unfold compiling in record { queries = λ tree. record { parsed = _; select = _; source = _; page = _; shown = _; read = refl; is = (refl, refl, refl, refl); core = (refl, refl, refl); from = (refl, refl, refl, refl, refl); shows = (tt, (tt, (tt, (tt, (tt, (tt, (tt, (tt, tt)))))))); filter = ((refl, λ cx how x y. refl), tt, tt); sorts = (tt, tt); paged = λ s. refl; named = (refl, refl); becomes = (refl, (refl, refl, refl)) }; shape = λ tree. refl }
+pub list_action_numbers_is : Asks Actions LIST_ACTION_NUMBERS.now (in_order 0 false of_actor (col 1 0 ∷ []) no_limit no_offset) (codes "number" ∷ [])
+list_action_numbers_is = unfold compiling in record { queries = λ tree. record { parsed = _; select = _; source = _; page = _; shown = _; read = refl; is = (refl, refl, refl, refl); core = (refl, refl, refl); from = (refl, refl, refl, refl, refl); shows = (tt, tt); filter = ((refl, λ cx how x y. refl), tt, tt); sorts = (tt, tt); paged = λ s. refl; named = (refl, refl); becomes = (refl, (refl, refl, refl)) }; shape = λ tree. refl }
+
+abbrev pub from_action : List Term
+from_action = at_key 4 0 ∷ at_least 0 1 ∷ []
+
+pub list_target_actions_is : Asks Actions LIST_TARGET_ACTIONS.now (in_order 0 false from_action listed_columns (col 0 2) no_offset) (codes "rollout" ∷ codes "place" ∷ codes "controller" ∷ codes "canceling" ∷ codes "outcome" ∷ codes "notes" ∷ codes "entries" ∷ codes "number" ∷ [])
+list_target_actions_is = unfold compiling in record { queries = λ tree. record { parsed = _; select = _; source = _; page = _; shown = _; read = refl; is = (refl, refl, refl, refl); core = (refl, refl, refl); from = (refl, refl, refl, refl, refl); shows = (tt, (tt, (tt, (tt, (tt, (tt, (tt, (tt, tt)))))))); filter = ((refl, λ cx how x y. refl), ((refl, λ cx how x y. refl), tt, tt), ((refl, λ cx how x y. refl), tt, tt)); sorts = (tt, tt); paged = λ s. refl; named = (refl, refl); becomes = (refl, (refl, refl, refl)) }; shape = λ tree. refl }
 
 abbrev pub ended_of : List Term
 ended_of = at_key 4 0 ∷ is_more (col 1 6) (lit (Int (pos 0))) ∷ []
 
 pub last_ended_is : Asks Actions LAST_ENDED.now (in_order 0 true ended_of listed_columns first_only no_offset) (codes "rollout" ∷ codes "place" ∷ codes "controller" ∷ codes "canceling" ∷ codes "outcome" ∷ codes "notes" ∷ codes "entries" ∷ codes "number" ∷ [])
 last_ended_is = unfold compiling in record { queries = λ tree. record { parsed = _; select = _; source = _; page = _; shown = _; read = refl; is = (refl, refl, refl, refl); core = (refl, refl, refl); from = (refl, refl, refl, refl, refl); shows = (tt, (tt, (tt, (tt, (tt, (tt, (tt, (tt, tt)))))))); filter = ((refl, λ cx how x y. refl), ((refl, λ cx how x y. refl), tt, tt), ((refl, λ cx how x y. refl), tt, tt)); sorts = (tt, tt); paged = λ s. refl; named = (refl, refl); becomes = (refl, (refl, refl, refl)) }; shape = λ tree. refl }
-
-abbrev pub action_terms : List Term
-action_terms = col 0 0 ∷ lit Null ∷ col 0 1 ∷ col 0 2 ∷ col 0 3 ∷ lit (Int (pos 0)) ∷ lit (Int (pos 0)) ∷ lit (Int (pos 0)) ∷ lit (Int (pos 0)) ∷ []
-
-pub put_action_is : Puts Actions PUT_ACTION.now (Values action_terms 9)
-put_action_is = unfold compiling in record { adds = λ tree. record { parsed = _; columns = _; rows = _; read = refl; statement = refl; formats = refl; fits = λ s. refl }; plain = λ tree. refl }
 
 abbrev pub action_values : List Term
 action_values = lit Null ∷ col 1 2 ∷ col 1 3 ∷ col 1 4 ∷ col 0 1 ∷ col 0 2 ∷ col 0 3 ∷ col 0 4 ∷ []

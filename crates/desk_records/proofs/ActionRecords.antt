@@ -1,15 +1,16 @@
 -- What is read of actions and offers, where a ledger is held.
 use Rattle.desk_records.proofs.Common.{arith, ◌≡◌, ◌≤◌, ℕ, ◌+◌, pos, List, [], ◌∷◌, map, filter, take, drop, length, slice_get, Bool, true, false, Option, None}
 use Rattle.desk_records.proofs.Common.{slice_get-map, Shows, shown_stored_action, shown_listed_action, shown_offer, option_map, refl, ap, ◌∙◌, nat_eq, zip}
-use Rattle.desk_records.proofs.Common.{take-map, drop-map, Value, Null, Int, Text, Row, Term, col, Database, plain, agree, rows_from, ShowsFirst, on_content}
+use Rattle.desk_records.proofs.Common.{take-map, drop-map, Null, Int, Text, Row, Term, col, Database, plain, agree, rows_from, ShowsFirst, on_content}
 use Rattle.desk_records.proofs.Common.{keys_apart, reads_key, numbered_in_order, simple, passes, shown_of, item_numbered, same_bytes, Bytes, TargetOffer}
 use Rattle.desk_records.proofs.Common.{offer_to, ActionRecord, Offer, Tally, action_row, actor_of, HoldsLedger, Ledger, IsLastRow, is_to, offer_row, actions_of}
 use Rattle.desk_records.proofs.Common.{actions_for, listed_where, stored_action, Actions, Offers, offer_table, and-true, Outcome, ended_for, first_taken}
-use Rattle.desk_records.proofs.Common.{is_some, last_or, nat_lt, reverse, ◌&&◌, outcome_code}
+use Rattle.desk_records.proofs.Common.{is_some, last_or, nat_lt, nat_le, reverse, ◌&&◌, outcome_code, ap₂}
 use Rattle.sqlite_value.specs.Keys.{first_key}
-use Rattle.desk_records.proofs.ActionMeaning.{action_columns, listed_columns, of_rollout, of_actor, of_controller, offer_columns, ended_of}
-use Rattle.desk_records.proofs.Comparisons.{numbers_above, numbers_equal, words_equal}
-use Rattle.desk_records.proofs.MeaningWords.{at_key, first_only, greatest_number, in_order, no_offset, selects}
+use Rattle.desk_records.specs.declared.rollout_row.ListedAction.{ListedAction}
+use Rattle.desk_records.proofs.ActionMeaning.{action_columns, listed_columns, of_rollout, of_actor, from_action, of_controller, offer_columns, ended_of}
+use Rattle.desk_records.proofs.Comparisons.{numbers_above, numbers_at_least, numbers_equal, words_equal}
+use Rattle.desk_records.proofs.MeaningWords.{at_key, first_only, greatest_number, in_order, no_limit, no_offset, selects}
 use Rattle.desk_records.proofs.NumberRecords.{first_turned}
 use Rattle.desk_records.proofs.NumberedReads.{gets, lasts, passes_number}
 use Rattle.desk_records.proofs.PartReads.{map_reverse}
@@ -35,41 +36,63 @@ module _ (db : Database) (l : Ledger) (holds : HoldsLedger db l) (names : List (
       (Int (pos number) ∷ []) found → found ≡ option_map (λ it. shown_stored_action (stored_action l.records.rollouts it)) (item_numbered xs number)
   gets_action = gets row tree db xs (holds.rows Actions) names (λ n x. refl) (at_key 0 0 ∷ []) action_columns (passes_number row (λ n x. refl))
 
-  -- those that pass
-  module _ (params : Row) (test : List Term) (wanted : ActionRecord × Tally → Bool) where
-    its_actions : ((n : ℕ) (y : ActionRecord × Tally) → passes test params (row n y) ≡ wanted y) → (n : ℕ) (ys : List (ActionRecord × Tally))
-        → map (shown_of listed_columns params) (filter (passes test params) (rows_from row n ys))
-        ≡ map shown_listed_action (listed_where wanted l.records.rollouts n ys)
-    its_actions is n [] = refl
-    its_actions is n (y ∷ ys) = grind (arith, its_actions is (n + 1) ys, is n y)
+  abbrev listed : ℕ → ActionRecord × Tally → ListedAction
+  listed n y = record { number = n; action = stored_action l.records.rollouts y }
 
-  -- a page of them in the order of their numbers
-  module _ (given : Value) (test : List Term) (wanted : ActionRecord × Tally → Bool) (limit offset : ℕ) where
-    abbrev params : Row
-    params = given ∷ Int (pos limit) ∷ Int (pos offset) ∷ []
+  -- those that pass, in what columns show of them
+  module _ (params : Row) (test columns : List Term) (told : ListedAction → Row) (wanted : ActionRecord × Tally → Bool)
+      (shows : (n : ℕ) (y : ActionRecord × Tally) → shown_of columns params (row n y) ≡ told (listed n y)) where
+    its_rows : ((n : ℕ) (y : ActionRecord × Tally) → passes test params (row n y) ≡ wanted y) → (n : ℕ) (ys : List (ActionRecord × Tally))
+        → map (shown_of columns params) (filter (passes test params) (rows_from row n ys)) ≡ map told (listed_where wanted l.records.rollouts n ys)
+    its_rows is n [] = refl
+    its_rows is n (y ∷ ys) = grind (arith, its_rows is (n + 1) ys, is n y, shows n y)
 
-    lists_where : ((n : ℕ) (y : ActionRecord × Tally) → passes test params (row n y) ≡ wanted y) → (rows : List Row)
-        → Shows (selects (in_order 0 false test listed_columns (col 0 1) (col 0 2) tree) names) db params rows
-        → rows ≡ map shown_listed_action (take limit (drop offset (listed_where wanted l.records.rollouts 1 xs)))
-    lists_where is rows shows =
-        let all = listed_where wanted l.records.rollouts 1 xs in
-        numbered_in_order row (λ n x. refl) tree test listed_columns (col 0 1) (col 0 2) params db.trees xs (holds.rows Actions) rows (shows.answer Null)
-        ∙ ap (λ more. take limit (drop offset more)) (its_actions params test wanted is 1 xs) ∙ ap (take limit) (drop-map shown_listed_action offset all)
-        ∙ take-map shown_listed_action limit (drop offset all)
+    -- .. from a number on
+    rows_on : (from : ℕ) → ((n : ℕ) (y : ActionRecord × Tally) → passes test params (row n y) ≡ (wanted y && nat_le from n)) → (n : ℕ)
+        (ys : List (ActionRecord × Tally)) → map (shown_of columns params) (filter (passes test params) (rows_from row n ys))
+        ≡ map told (filter (λ (a : ListedAction). nat_le from a.number) (listed_where wanted l.records.rollouts n ys))
+    rows_on from is n [] = refl
+    rows_on from is n (y ∷ ys) = grind (arith, rows_on from is (n + 1) ys, is n y, shows n y)
 
-  -- those of a rollout
+  its_actions : (params : Row) (test : List Term) (wanted : ActionRecord × Tally → Bool)
+      → ((n : ℕ) (y : ActionRecord × Tally) → passes test params (row n y) ≡ wanted y) → (n : ℕ) (ys : List (ActionRecord × Tally))
+      → map (shown_of listed_columns params) (filter (passes test params) (rows_from row n ys))
+      ≡ map shown_listed_action (listed_where wanted l.records.rollouts n ys)
+  its_actions params test wanted = its_rows params test listed_columns shown_listed_action wanted (λ n y. refl)
+
+  -- a page of a rollout's, in the order of their numbers
   pub lists_actions : (rollout limit offset : ℕ) (rows : List Row) → Shows (selects (in_order 0 false of_rollout listed_columns (col 0 1) (col 0 2) tree) names)
       db (Int (pos rollout) ∷ Int (pos limit) ∷ Int (pos offset) ∷ []) rows
       → rows ≡ map shown_listed_action (take limit (drop offset (actions_of l.records.rollouts rollout 1 xs)))
-  lists_actions rollout limit offset = lists_where (Int (pos rollout)) of_rollout (λ it. nat_eq it.0.rollout rollout) limit offset
-      (λ n y. and-true _ ∙ numbers_equal y.0.rollout rollout)
+  lists_actions rollout limit offset rows shows =
+      let params = Int (pos rollout) ∷ Int (pos limit) ∷ Int (pos offset) ∷ [] in
+      let all = actions_of l.records.rollouts rollout 1 xs in
+      let its = its_actions params of_rollout (λ it. nat_eq it.0.rollout rollout) (λ n y. and-true _ ∙ numbers_equal y.0.rollout rollout) 1 xs in
+      numbered_in_order row (λ n x. refl) tree of_rollout listed_columns (col 0 1) (col 0 2) params db.trees xs (holds.rows Actions) rows (shows.answer Null)
+      ∙ ap (λ more. take limit (drop offset more)) its ∙ ap (take limit) (drop-map shown_listed_action offset all)
+      ∙ take-map shown_listed_action limit (drop offset all)
 
-  -- those of a target
-  pub lists_target_actions : (id : Bytes) (limit offset : ℕ) (rows : List Row)
-      → Shows (selects (in_order 0 false of_actor listed_columns (col 0 1) (col 0 2) tree) names) db (Text id ∷ Int (pos limit) ∷ Int (pos offset) ∷ []) rows
-      → rows ≡ map shown_listed_action (take limit (drop offset (actions_for l.records.rollouts id 1 xs)))
-  lists_target_actions id limit offset = lists_where (Text id) of_actor (λ it. same_bytes (actor_of l.records.rollouts it.0) id) limit offset
-      (λ n y. and-true _ ∙ words_equal (actor_of l.records.rollouts y.0) id)
+  -- the numbers of a target's
+  pub lists_action_numbers : (id : Bytes) (rows : List Row)
+      → Shows (selects (in_order 0 false of_actor (col 1 0 ∷ []) no_limit no_offset tree) names) db (Text id ∷ []) rows
+      → rows ≡ map (λ (a : ListedAction). Int (pos a.number) ∷ []) (actions_for l.records.rollouts id 1 xs)
+  lists_action_numbers id rows shows =
+      numbered_in_order row (λ n x. refl) tree of_actor (col 1 0 ∷ []) no_limit no_offset (Text id ∷ []) db.trees xs (holds.rows Actions) rows
+      (shows.answer Null) ∙ its_rows (Text id ∷ []) of_actor (col 1 0 ∷ []) (λ (a : ListedAction). Int (pos a.number) ∷ [])
+      (λ it. same_bytes (actor_of l.records.rollouts it.0) id) (λ n y. refl) (λ n y. and-true _ ∙ words_equal (actor_of l.records.rollouts y.0) id) 1 xs
+
+  -- a target's from a number on
+  pub lists_target_actions : (id : Bytes) (from limit : ℕ) (rows : List Row)
+      → Shows (selects (in_order 0 false from_action listed_columns (col 0 2) no_offset tree) names) db
+      (Text id ∷ Int (pos from) ∷ Int (pos limit) ∷ []) rows
+      → rows ≡ map shown_listed_action (take limit (filter (λ (a : ListedAction). nat_le from a.number) (actions_for l.records.rollouts id 1 xs)))
+  lists_target_actions id from limit rows shows =
+      let params = Text id ∷ Int (pos from) ∷ Int (pos limit) ∷ [] in
+      let test = λ (it : ActionRecord × Tally). same_bytes (actor_of l.records.rollouts it.0) id in
+      numbered_in_order row (λ n x. refl) tree from_action listed_columns (col 0 2) no_offset params db.trees xs (holds.rows Actions) rows
+      (shows.answer Null) ∙ ap (take limit) (rows_on params from_action listed_columns shown_listed_action test (λ n y. refl) from
+      (λ n y. ap₂ ◌&&◌ (words_equal (actor_of l.records.rollouts y.0) id) (and-true _ ∙ numbers_at_least n from)) 1 xs)
+      ∙ take-map shown_listed_action limit _
 
   -- the last of them that ended
   pub lasts_ended : (id : Bytes) (found : Option Row) → ShowsFirst (selects (in_order 0 true ended_of listed_columns first_only no_offset tree) names) db

@@ -85,25 +85,27 @@ pub use Rattle.sql_calls.proofs.NumberedTables.{at_number, filter_numbered, has_
 pub use Rattle.sql_calls.proofs.Selects.{IsOrdered, by, ordered_rows, passes, shown_in, shown_of, simple, simple_rows}
 pub use Rattle.sql_calls.proofs.Updates.{Updated, deletes, updates}
 pub use Rattle.sql_calls.proofs.UpsertsFrom.{PutsEach, each_keeps, uncollated, upserts_from}
-pub use Rattle.sql_calls.specs.Keyed.{AreIn, IsHeldBy, Rise, by_column, rows_from}
+pub use Rattle.sql_calls.proofs.Columns.{Rise, by_column}
+pub use Rattle.sql_calls.specs.Keyed.{AreIn, IsHeldBy, rows_from}
 pub use Rattle.sql_calls.specs.Means.{Means}
 pub use Rattle.sql_front.specs.Stands.{Stands}
+pub use Rattle.desk_records.proofs.RowWords.{file_of, module_rows, names_of, shown_rows, words_of}
 pub use Rattle.desk_records.specs.Actions.{Tally, action_row, actor_of, entries_of, entry_row, history_of, lines_of, told_entry}
-pub use Rattle.desk_records.specs.Artifacts.{AddsPiece, and_piece, artifact_filed, artifact_row, file_of, is_same_artifact, piece_numbered, piece_row}
-pub use Rattle.desk_records.specs.Artifacts.{piece_rows_from, pieces_in, pieces_of_artifact, shown_rows, told_of, with_artifact}
+pub use Rattle.desk_records.specs.Artifacts.{AddsPiece, and_piece, artifact_filed, artifact_row, is_same_artifact, piece_numbered, piece_row}
+pub use Rattle.desk_records.specs.Artifacts.{piece_rows_from, pieces_in, pieces_of_artifact, told_of, with_artifact}
 pub use Rattle.desk_records.specs.Codes.{approval_code, flag, outcome_code}
 pub use Rattle.desk_records.specs.Columns.{has_filter}
 pub use Rattle.desk_records.specs.FeedbackNumbers.{borne_at, number_row, number_rows, numbers_from, numbers_numbered, told_number}
 pub use Rattle.desk_records.specs.FoundPieces.{ArePieces, lies_at}
 pub use Rattle.desk_records.specs.Holds.{AreRowsOf, HoldsLedger, HoldsRecords, IsHeld, Ledger, Offered, Ordered, Unordered, content_of, desk_row, ledger_of}
 pub use Rattle.desk_records.specs.Holds.{module_row}
-pub use Rattle.desk_records.specs.LedgerSteps.{AddsAction, AddsEntry, AddsGroup, AddsMember, AddsNumber, AddsRollout, AddsRule, OffersGroup, SetsAction}
+pub use Rattle.desk_records.specs.LedgerSteps.{AddsActions, AddsEntry, AddsGroup, AddsMember, AddsNumber, AddsRollout, AddsRule, OffersGroup, SetsAction}
 pub use Rattle.desk_records.specs.LedgerSteps.{SetsGroup, SetsRollout, action_turned, and_entry, and_group, and_member, group_counted, bare_rollout}
-pub use Rattle.desk_records.specs.LedgerSteps.{cut_group, no_tally, scheduled, turned, with_actions, with_groups, with_numbers, with_rollouts}
+pub use Rattle.desk_records.specs.LedgerSteps.{and_actions, cut_group, new_for, scheduled, turned, with_actions, with_groups, with_numbers, with_rollouts}
 pub use Rattle.desk_records.specs.LedgerSteps.{in_place_of, reoffered, with_rules}
 pub use Rattle.desk_records.specs.Listings.{AreBroken, AreRead, AreSaid, IsLastNumber, IsOnly, has_at, has_text_at, is_number_of, is_text_of}
 pub use Rattle.desk_records.specs.ModuleRow.{fault_at}
-pub use Rattle.desk_records.specs.Modules.{IsLastRow, is_same, with_module, words_of}
+pub use Rattle.desk_records.specs.Modules.{IsLastRow, is_same, with_module}
 pub use Rattle.desk_records.specs.Offers.{HoldsOffers, is_to, offer_row}
 pub use Rattle.desk_records.specs.Parts.{listed_parts, part_row, parts_from, parts_numbered, parts_of}
 pub use Rattle.desk_records.specs.RolloutRow.{actions_for, actions_of, ended_for, listed_where, stored_action}
@@ -112,7 +114,7 @@ pub use Rattle.desk_records.specs.Rollouts.{rule_numbered, rule_row, rules_from,
 pub use Rattle.desk_records.specs.Schema.{Actions, Artifacts, Desk, Feedbacks, Groups, Members, Modules, Numbers, Offers, Pieces, Place, Rollouts, Rules}
 pub use Rattle.desk_records.specs.Schema.{SetModules, Sets, TargetAttributes, TargetTags, Targets, action_table, group_table, name_of, offer_table, places}
 pub use Rattle.desk_records.specs.Schema.{rollout_table, table_at, table_by, target_attribute_table, target_table, target_tag_table}
-pub use Rattle.desk_records.specs.Sets.{AddsSetModule, and_module, is_same_set, module_rows, names_of, place_row, place_rows_from, set_named, set_row, with_set}
+pub use Rattle.desk_records.specs.Sets.{AddsSetModule, and_module, is_same_set, place_row, place_rows_from, set_named, set_row, with_set}
 pub use Rattle.desk_records.specs.TableRows.{IsPiece}
 pub use Rattle.desk_records.specs.Tables.{HoldsTables, Tables}
 pub use Rattle.desk_records.specs.Targets.{AddsAttribute, AddsTag, AddsTarget, SetsAttribute, are_sorted, attribute_rows, attributed, attributes_of, ids_of}
@@ -126,4 +128,4 @@ pub use Rattle.std.proofs.lemmas.Option.{slice_get-map}
 pub use Rattle.rollout_model.specs.declared.approval.Approval.{Approval}
 pub use Rattle.sqlite.specs.Rowids.TheVariants.{Chosen}
 pub use Rattle.sqlite.specs.Values.{or_null}
-pub use Rattle.desk_records.specs.ReadRows.{shown_offer, shown_stored_action, shown_listed_action, shown_group, shown_last_number}
+pub use Rattle.desk_records.proofs.WrittenRows.{shown_offer, shown_stored_action, shown_listed_action, shown_group, shown_last_number}

@@ -47,28 +47,30 @@ put_group_offers_upserts tree from = record {
   select = _;
   clause = _;
   parses = (refl, refl, refl);
-  page = _;
-  shown = _;
-  is = (refl, refl);
-  one = record {
-    from = record { source = _; is = refl; table = refl; alias = refl; on = refl; using = refl; is_inner = refl };
-    group = refl;
-    having = refl;
-    shown = (tt, (tt, (tt, tt)));
-    filter = (
-      (refl, λ cx how x y. refl),
-      ((refl, λ cx how x y. refl), ((refl, λ cx how x y. refl), tt, tt), ((refl, λ cx how x y. refl), tt, tt)),
-      ((refl, λ cx how x y. refl), tt, tt),
-    );
-    sorts = (tt, tt);
+  fills = record {
+    page = _;
+    shown = _;
+    is = (refl, refl);
+    one = record {
+      from = record { source = _; is = refl; table = refl; alias = refl; on = refl; using = refl; is_inner = refl };
+      group = refl;
+      having = refl;
+      shown = (tt, (tt, (tt, tt)));
+      filter = (
+        (refl, λ cx how x y. refl),
+        ((refl, λ cx how x y. refl), ((refl, λ cx how x y. refl), tt, tt), ((refl, λ cx how x y. refl), tt, tt)),
+        ((refl, λ cx how x y. refl), tt, tt),
+      );
+      sorts = (tt, tt);
+    };
+    paged = λ s. refl;
+    named = (refl, refl);
+    at = _;
+    terms = _;
+    by = _;
+    placed = (refl, refl);
+    becomes = (refl, refl, refl);
   };
-  paged = λ s. refl;
-  named = (refl, refl);
-  at = _;
-  terms = _;
-  by = _;
-  placed = (refl, refl);
-  becomes = (refl, refl, refl);
   aimed = (refl, refl, refl);
   values = (tt, (tt, tt));
   filter = ((refl, λ cx how x y. refl), tt, tt);

@@ -6,7 +6,7 @@ use Rattle.desk_records.proofs.Common.{ledger_of, Row, Term, Insert, Values, Non
 use Rattle.desk_records.proofs.Common.{given_rows, inserts, adds_row, cast_all, slice_get, Unordered, ◌+◌, ◌++◌, arith, length, pos, rowid, rows_from, put_row}
 use Rattle.desk_records.proofs.Common.{put_next, edit_of, Trees, Int, Ordered}
 use Rattle.rollout_machine.specs.Offers.{first_offer}
-use Rattle.sql_calls.specs.Apart.{HasNoForeignKey}
+use Rattle.sql_calls.proofs.Apart.{HasNoForeignKey}
 use Rattle.sqlite_rules.specs.Edit.{edited}
 use Rattle.sql_calls.proofs.Inserts.{uncounted}
 use Rattle.sql_calls.specs.KeyIndexes.{ComparesBytes}

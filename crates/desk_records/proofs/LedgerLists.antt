@@ -137,11 +137,11 @@ actions_of_others xs k y n (a ∷ as') (t ∷ ts) none = grind (arith, other a.r
 -- ---- two lists side by side
 
 module _ {A B : Type 0} where
-  pub zip_more : (as' : List A) (bs : List B) (a : A) (b : B) → length bs ≡ length as' → zip (as' ++ a ∷ []) (bs ++ b ∷ []) ≡ zip as' bs ++ (a, b) ∷ []
-  zip_more [] [] a b same = refl
-  zip_more [] (y ∷ bs) a b same = absurd (omega (arith, same))
-  zip_more (x ∷ as') [] a b same = absurd (omega (arith, same))
-  zip_more (x ∷ as') (y ∷ bs) a b same = grind (arith, zip_more as' bs a b)
+  pub zip_on : (as' : List A) (bs : List B) (cs : List A) (ds : List B) → length bs ≡ length as' → zip (as' ++ cs) (bs ++ ds) ≡ zip as' bs ++ zip cs ds
+  zip_on [] [] cs ds same = refl
+  zip_on [] (y ∷ bs) cs ds same = absurd (omega (arith, same))
+  zip_on (x ∷ as') [] cs ds same = absurd (omega (arith, same))
+  zip_on (x ∷ as') (y ∷ bs) cs ds same = grind (arith, zip_on as' bs cs ds)
 
   pub length_zip : (as' : List A) (bs : List B) → length bs ≡ length as' → length (zip as' bs) ≡ length as'
   length_zip [] bs same = refl

@@ -1,16 +1,16 @@
 -- The statements on rollouts, actions and offers that write, in ledgers.
-use Rattle.desk_records.proofs.Common.{◌≡◌, ◌≢◌, ◌∷◌, ◌++◌, ℕ, zero, suc, ◌+◌, pos, List, [], Bool, set, length, slice_get, Option, Some, None, refl, sym, ap}
+use Rattle.desk_records.proofs.Common.{◌≡◌, ◌≢◌, ◌∷◌, ◌++◌, ℕ, zero, suc, ◌+◌, pos, List, [], Bool, set, slice_get, Option, Some, None, refl, sym, ap}
 use Rattle.desk_records.proofs.Common.{Approval, subst, ◌∙◌, arith, zip, Int, Text, Row, Term, col, Insert, Values, Database, State, Writes, Table, cast_all}
-use Rattle.desk_records.proofs.Common.{rowid, rows_from, cast_int, cast_null, sets_at, simple, shown_of, updates, Updated, Bytes, RolloutPlan, Outcome}
+use Rattle.desk_records.proofs.Common.{rowid, rows_from, cast_int, cast_null, sets_at, simple, shown_of, updates, Updated, RolloutPlan, Outcome}
 use Rattle.desk_records.proofs.Common.{ActionRecord, RolloutRecord, GroupRule, Tally, action_row, entries_of, entry_row, outcome_code, number_rows, HoldsLedger}
-use Rattle.desk_records.proofs.Common.{Ledger, Ordered, Unordered, AddsRollout, AddsAction, SetsRollout, SetsAction, action_turned, bare_rollout, no_tally}
-use Rattle.desk_records.proofs.Common.{scheduled, turned, with_actions, with_numbers, with_rollouts, with_rules, listed_parts, parts_from, approval_code, flag}
+use Rattle.desk_records.proofs.Common.{Ledger, Unordered, AddsRollout, SetsRollout, SetsAction, action_turned, bare_rollout}
+use Rattle.desk_records.proofs.Common.{turned, with_actions, with_numbers, with_rollouts, with_rules, listed_parts, parts_from, approval_code, flag}
 use Rattle.desk_records.proofs.Common.{groups_from, members_from, rollout_row, rules_from, Place, Rollouts, Members, Groups, Actions, Feedbacks, Rules, Numbers}
 use Rattle.desk_records.proofs.Common.{action_table, rollout_table, PlacedNumber}
 use Rattle.std.proofs.lemmas.Option.{slice_get_within}
-use Rattle.desk_records.proofs.ActionMeaning.{action_terms, action_values}
+use Rattle.desk_records.proofs.ActionMeaning.{action_values}
 use Rattle.desk_records.proofs.HoldsAfter.{ChangesOnly, contents_differ, ledger_after, puts_next}
-use Rattle.desk_records.proofs.LedgerLists.{actions_stay, actors_of_more, actors_stay, first_of, length_zip, parts_stay, zip_more, zip_set}
+use Rattle.desk_records.proofs.LedgerLists.{actions_stay, actors_of_more, actors_stay, first_of, parts_stay, zip_set}
 use Rattle.desk_records.proofs.MeaningWords.{at_key, changes}
 use Rattle.desk_records.proofs.NumberedReads.{passes_number}
 use Rattle.desk_records.proofs.Parts.{no_parts}
@@ -104,26 +104,6 @@ sets_rollout (suc k) approval started paused old new text count l next holds cha
     (ledger_after Rollouts l (with_rollouts l (set xs k y)) old.now new.now holds
     (record { schema = made.schema_is; sound = w.sound; others = made.applies.tables }) table
     (grind (arith, rollouts_differ, parts_stay, actions_stay, actors_stay, change.is_there)) holds.sorted)
-
--- ---- a new action
-
-abbrev pub scheduled_params : ℕ → ℕ → ℕ → Bytes → Row
-scheduled_params number rollout place id = Int (pos number) ∷ Int (pos rollout) ∷ Int (pos place) ∷ Text id ∷ []
-
-pub adds_action : (number rollout place : ℕ) (id : Bytes) (old new : State) (text : List ℕ) (count : ℕ) (l next : Ledger) (holds : HoldsLedger old.now l)
-    → AddsAction number rollout place id l next
-    → (w : Writes old new None (Insert (holds.spot Actions).at (Values action_terms 9)) text (scheduled_params number rollout place id) count)
-    → HoldsLedger new.now next
-adds_action number rollout place id old new text count l next holds change w =
-    let a = scheduled rollout place in
-    let after = with_actions l (l.records.actions ++ a ∷ []) (l.tallies ++ no_tally ∷ []) in
-    let at : number ≡ length (zip l.records.actions l.tallies) + 1 = grind (arith, change.number_is, length_zip, change.tallied) in
-    subst (HoldsLedger new.now) (sym change.next_is)
-    (puts_next Actions l (with_numbers after (l.numbers ++ [] ∷ []))
-    (grind (arith, contents_differ, none_listed, no_parts)) holds.sorted (action_row l.records.rollouts) (λ n x. refl)
-    (zip l.records.actions l.tallies) (a, no_tally) number at action_terms 9 holds w (λ tree. refl)
-    (λ db tree. rw (cast_int number, cast_null, cast_int rollout, cast_int place, cast_int 0, change.id_is) refl) refl
-    (ap (λ zs. Ordered (rows_from (action_row l.records.rollouts) 1 zs)) (zip_more l.records.actions l.tallies a no_tally change.tallied)))
 
 -- ---- an action's cancel, outcome and numbers
 

@@ -1,3 +1,5 @@
+pub mod WrittenRows
+pub mod RowWords
 pub mod Common
 pub mod MeaningWords
 pub mod TableMeaning
@@ -42,8 +44,10 @@ pub mod NumberRecords
 pub mod NumberLists
 pub mod NextOfferRecords
 pub mod GroupOffersMeaning
+pub mod MemberActionsMeaning
 mod OfferPuts
 pub mod GroupOfferWrites
+pub mod MemberActionWrites
 pub mod Membership
 pub mod NumberColumns
 pub mod KeptColumns

@@ -12,7 +12,7 @@ use Rattle.std.specs.Cmp.Lexicographic.{slice_cmp}
 use Rattle.std.proofs.Common.{map-id}
 use Rattle.sql_calls.proofs.KeyedRows.{IsBlind}
 use Rattle.sql_calls.proofs.Selects.{rises_to}
-use Rattle.desk_records.specs.ReadRows.{shown_owned_attribute, shown_owned_tag}
+use Rattle.desk_records.proofs.WrittenRows.{shown_owned_attribute, shown_owned_tag}
 use Rattle.desk_records.specs.TargetRow.{owned_attributes, owned_tags}
 use Rattle.desk_records.specs.Targets.{is_between, targets_between}
 use Rattle.desk_records.proofs.MeaningWords.{no_limit, no_offset, selects}

@@ -1,7 +1,8 @@
 -- The rows of the parts of numbered records, in lists alone.
 use Rattle.desk_records.proofs.Common.{◌≡◌, ◌<◌, ◌++◌, ℕ, zero, suc, ◌+◌, List, [], ◌∷◌, filter, length, slice_get, Bool, true, false, Option, Some, None}
 use Rattle.desk_records.proofs.Common.{option_map, refl, sym, ap, arith, nat_eq, append-nil, option_to_list, nat_tests, filter-append, Row, rows_from}
-use Rattle.desk_records.proofs.Common.{parts_from}
+use Rattle.desk_records.proofs.Common.{parts_from, ◌∙◌, append_assoc}
+use Rattle.rollout_machine.specs.Ranges.{each_from}
 
 -- a changed last record whose row is the same
 pub same_rows : {X : Type 0} (f : ℕ → X → Row) (x y : X) → ((n : ℕ) → f n y ≡ f n x) → (n : ℕ) (before : List X) → rows_from f n (before ++ y ∷ [])
@@ -44,6 +45,14 @@ module _ {X Y : Type 0} (f : ℕ → ℕ → Y → Row) (parts : X → List Y) w
   pub no_parts : (x : X) → parts x ≡ [] → (n : ℕ) (xs : List X) → parts_from f parts n (xs ++ x ∷ []) ≡ parts_from f parts n xs
   no_parts x none n [] = ap (λ ys. rows_from (f n) 1 ys ++ []) none
   no_parts x none n (y ∷ xs) = ap (λ l. rows_from (f n) 1 (parts y) ++ l) (no_parts x none (n + 1) xs)
+
+  -- .. nor do many
+  pub no_new_parts : (g : ℕ → X) → ((k : ℕ) → parts (g k) ≡ []) → (n : ℕ) (xs : List X) (first count : ℕ)
+      → parts_from f parts n (xs ++ each_from g first count) ≡ parts_from f parts n xs
+  no_new_parts g none n xs first zero = ap (parts_from f parts n) (append-nil xs)
+  no_new_parts g none n xs first (suc count) =
+      ap (parts_from f parts n) (sym (append_assoc xs (g first ∷ []) (each_from g (suc first) count)))
+      ∙ no_new_parts g none n (xs ++ g first ∷ []) (suc first) count ∙ no_parts (g first) (none first) n xs
 
   -- ---- a test that only the parts of the record of a number can pass
 

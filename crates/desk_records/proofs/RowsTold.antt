@@ -2,6 +2,9 @@
 -- What is written in a row is what is read of it, a row says one thing, and it breaks no column.
 use Rattle.std.proofs.Common.{◌≡◌, true, Some, None, arith}
 use Rattle.sqlite_value.specs.Order.{Row, column}
+use Rattle.desk_records.proofs.WrittenRows.{shown_artifact, shown_attribute, shown_group, shown_last_number, shown_listed_action, shown_listed_target}
+use Rattle.desk_records.proofs.WrittenRows.{shown_module_label, shown_number, shown_offer, shown_owned_attribute, shown_owned_tag, shown_rule}
+use Rattle.desk_records.proofs.WrittenRows.{shown_set_name, shown_stored_action, shown_stored_artifact, shown_stored_rollout, shown_stored_target}
 use Rattle.desk_records.specs.Codes.{number_in}
 use Rattle.desk_records.specs.Columns.{has_filter, has_size, has_text, has_word}
 use Rattle.desk_records.specs.ReadRows.{Artifact, Attribute, GroupRecord, GroupRule, IsArtifactRow, IsAttributeRow, IsGroupRow, IsLastNumberRow}
@@ -10,9 +13,6 @@ use Rattle.desk_records.specs.ReadRows.{IsOwnedTagRow, IsRuleRow, IsSetNameRow, 
 use Rattle.desk_records.specs.ReadRows.{IsStoredTargetRow, LastNumber, ListedAction, ListedTarget, ModuleLabel, Offer, OwnedAttribute, OwnedTag}
 use Rattle.desk_records.specs.ReadRows.{PlacedNumber, SetName, StoredAction, StoredArtifact, StoredRollout, StoredTarget, broken_listed_action_column}
 use Rattle.desk_records.specs.ReadRows.{broken_offer_column, broken_rule_column, broken_stored_action_column, broken_stored_rollout_column}
-use Rattle.desk_records.specs.ReadRows.{shown_artifact, shown_attribute, shown_group, shown_last_number, shown_listed_action, shown_listed_target}
-use Rattle.desk_records.specs.ReadRows.{shown_module_label, shown_number, shown_offer, shown_owned_attribute, shown_owned_tag, shown_rule}
-use Rattle.desk_records.specs.ReadRows.{shown_set_name, shown_stored_action, shown_stored_artifact, shown_stored_rollout, shown_stored_target}
 use Rattle.desk_records.proofs.KeptColumns.{kept_approval, kept_flag, kept_number, kept_outcome, kept_percentage_or_none, kept_place, one_in}
 
 pub one_module_label : (a b : ModuleLabel) → IsModuleLabelRow (shown_module_label b) a → a ≡ b

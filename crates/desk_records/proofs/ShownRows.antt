@@ -6,9 +6,11 @@ use Rattle.desk_records.proofs.Common.{target_row, rollout_row, group_row, actio
 use Rattle.desk_records.specs.ArtifactRow.{stored}
 use Rattle.desk_records.specs.ReadRows.{columns_of_stored_action, columns_of_stored_artifact, columns_of_attribute, columns_of_group, columns_of_module_label}
 use Rattle.desk_records.specs.ReadRows.{columns_of_artifact, columns_of_listed_target, columns_of_number, columns_of_offer, columns_of_last_number}
-use Rattle.desk_records.specs.ReadRows.{columns_of_stored_rollout, columns_of_rule, columns_of_set_name, columns_of_stored_target, shown_artifact}
-use Rattle.desk_records.specs.ReadRows.{shown_attribute, shown_group, shown_module_label, shown_last_number, shown_listed_action, shown_listed_target}
-use Rattle.desk_records.specs.ReadRows.{shown_number, shown_offer, shown_stored_rollout, shown_rule, shown_set_name, shown_stored_artifact, shown_stored_target}
+use Rattle.desk_records.specs.ReadRows.{columns_of_stored_rollout, columns_of_rule, columns_of_set_name, columns_of_stored_target}
+use Rattle.desk_records.proofs.WrittenRows.{shown_artifact}
+use Rattle.desk_records.proofs.WrittenRows.{shown_attribute, shown_group, shown_module_label, shown_last_number, shown_listed_action, shown_listed_target}
+use Rattle.desk_records.proofs.WrittenRows.{shown_number, shown_offer, shown_stored_rollout, shown_rule, shown_set_name, shown_stored_artifact}
+use Rattle.desk_records.proofs.WrittenRows.{shown_stored_target}
 use Rattle.desk_records.specs.RolloutRow.{stored_rollout}
 use Rattle.desk_records.specs.SetRow.{called}
 use Rattle.desk_records.specs.TargetRow.{listed_target, stored_target}

@@ -1,7 +1,7 @@
 -- The statements on targets and their tags, in records.
-use Rattle.desk_records.proofs.Common.{arith, ◌≡◌, ◌∷◌, ◌&&◌, ℕ, min, pos, List, [], Bool, true, cond, not, map, filter, take, drop, flat_map, length}
-use Rattle.desk_records.proofs.Common.{slice_get, Option, Some, None, option_map, refl, sym, ap, subst, ◌∙◌, list_all, and_parts, length-map, take-map}
-use Rattle.desk_records.proofs.Common.{drop-map, IsPermutation-map, Null, Int, Text, Blob, Row, plain, agree, filter_all, all_of, map-map, cast_all, col}
+use Rattle.desk_records.proofs.Common.{arith, ◌≡◌, ◌∷◌, ◌&&◌, ℕ, min, pos, List, [], Bool, true, cond, not, map, filter, flat_map, length}
+use Rattle.desk_records.proofs.Common.{slice_get, Option, Some, None, option_map, refl, sym, ap, subst, ◌∙◌, list_all, and_parts, length-map}
+use Rattle.desk_records.proofs.Common.{IsPermutation-map, Null, Int, Text, Blob, Row, plain, agree, map-map, cast_all, col}
 use Rattle.desk_records.proofs.Common.{Command, Insert, Values, Database, State, Writes, IsHeldBy, Rise, ShowsFirst, on_content, changed, keys_apart, reads_key}
 use Rattle.desk_records.proofs.Common.{changes_key, drops, reads_risen, simple, passes, shown_of, updates, deletes, same_bytes, with_word, without_word, Bytes}
 use Rattle.desk_records.proofs.Common.{TargetRow, change_target, Records, Target, tags_of, target_of, Targets, TargetTags, target_table}
@@ -92,20 +92,6 @@ module _ (db : Database) (now : Records) (holds : HoldsRecords db now) (names : 
       let spot = holds.spot Targets in
       first_row (selects (count_query spot.tree) names) db [] _ (λ rows shows.
       grind (arith, count_rows spot.tree [] db.trees rows (shows.answer Null), length_held _ _ (holds.rows Targets), length-map)) row shown
-
-  -- the targets of a page, in byte order of their ids
-  pub lists_targets : (limit offset : ℕ) (rows : List Row)
-      → Shows (selects (in_order 1 false [] (col 1 1 ∷ col 1 2 ∷ []) (col 0 0) (col 0 1) (holds.spot Targets).tree) names) db
-      (Int (pos limit) ∷ Int (pos offset) ∷ []) rows
-      → rows ≡ map listed_row (take limit (drop offset now.targets))
-  lists_targets limit offset rows shows =
-      let spot = holds.spot Targets in
-      let params = Int (pos limit) ∷ Int (pos offset) ∷ [] in
-      let ts = now.targets in
-      let all : filter (on_content (passes [] params)) (map target_row ts) ≡ map target_row ts = filter_all _ _ (all_of _ (λ x. refl) _) in
-      let rise = subst (Rise 0) (sym all) (keys_rise (λ (t : Target). t.id) target_row 0 (λ a b. refl) ts (ids_sorted db now holds)) in
-      reads_risen spot.tree [] params (λ i x. refl) 0 (col 1 1 ∷ col 1 2 ∷ []) (λ i x. refl) (col 0 0) (col 0 1) db.trees (map target_row ts)
-      (holds.rows Targets) rise rows (shows.answer Null) ∙ grind (arith, all, map-map, drop-map, take-map)
 
   -- the tags of a target, in byte order
   pub lists_target_tags : (id : Bytes) (rows : List Row)

@@ -4,7 +4,6 @@ use Rattle.sqlite_value.specs.declared.value.Value.TheVariants.{Null, Int, Text,
 use Rattle.sqlite_value.specs.Order.{Row}
 use Rattle.artifact_pieces.specs.Pieces.{pieces_of, piece_bytes}
 use Rattle.rollout_model.specs.Limits.{piece_length}
-use Rattle.rollout_model.specs.declared.artifact.Artifact.{Artifact}
 use Rattle.rollout_machine.specs.ByteStrings.{same_bytes, item_numbered}
 use Rattle.rollout_machine.specs.Commands.{Bytes}
 use Rattle.rollout_machine.specs.Records.{ArtifactRecord, Records}
@@ -37,14 +36,6 @@ piece_rows_from n artifacts = parts_from piece_row (λ (a : ArtifactRecord). pie
 -- an artifact of this module and filename
 abbrev pub is_same_artifact : ℕ → Bytes → ArtifactRecord → Bool
 is_same_artifact m filename a = nat_eq a.module_number m && same_bytes a.filename filename
-
--- a module and a filename
-abbrev pub file_of : ℕ → Bytes → Row
-file_of m filename = Int (pos m) ∷ Text filename ∷ []
-
--- one row for each artifact that is shown
-abbrev pub shown_rows : List Artifact → List Row
-shown_rows artifacts = map (λ (a : Artifact). Int (pos a.number) ∷ Text a.filename ∷ Int (pos a.size) ∷ Blob a.digest ∷ []) artifacts
 
 abbrev pub pieces_of_artifact : Option ArtifactRecord → List Bytes
 pieces_of_artifact None = []

@@ -1,8 +1,9 @@
 -- What statements make of a ledger.
-use Rattle.std.specs.Prelude.{◌≡◌, ℕ, zero, suc, ◌+◌, Bool, true, false, not, cond, nat_eq, List, [], ◌∷◌, ◌++◌, length, set, Option, Some, None}
+use Rattle.std.specs.Prelude.{◌≡◌, ℕ, zero, suc, ◌+◌, Bool, true, false, not, cond, nat_eq, List, [], ◌∷◌, ◌++◌, length, map, set, Option, Some, None}
 use Rattle.std.specs.List.{list_all, zip}
 use Rattle.rollout_machine.specs.ByteStrings.{item_numbered, same_bytes}
 use Rattle.rollout_machine.specs.Commands.{Bytes, RolloutPlan}
+use Rattle.rollout_machine.specs.Ranges.{each_from}
 use Rattle.rollout_machine.specs.Reports.{Reported}
 use Rattle.rollout_machine.specs.declared.bounds.Bounds.{Bounds}
 use Rattle.rollout_machine.specs.declared.records.GroupRecord.{GroupRecord}
@@ -15,7 +16,8 @@ use Rattle.rollout_model.specs.declared.rollout.Offer.{Offer}
 use Rattle.offer_laws.specs.GroupOffers.{group_offers, put_offers}
 use Rattle.desk_records.specs.declared.new_entry.NewEntry.{NewEntry}
 use Rattle.desk_records.specs.declared.number_row.PlacedNumber.{PlacedNumber}
-use Rattle.desk_records.specs.Actions.{Tally, actor_of}
+use Rattle.desk_records.specs.Actions.{Tally, tally_of}
+use Rattle.desk_records.specs.FeedbackNumbers.{numbers_of}
 use Rattle.desk_records.specs.NewEntries.{TellsEntry}
 use Rattle.desk_records.specs.Holds.{Ledger}
 
@@ -109,16 +111,20 @@ pub record SetsGroup (number group : ℕ) (started : Bool) (ok bad gone : ℕ) (
 abbrev pub scheduled : ℕ → ℕ → ActionRecord
 scheduled rollout place = record { rollout = rollout; position = place; canceling = false; outcome = None; history = [] }
 
-abbrev pub no_tally : Tally
-no_tally = record { notes = 0; entries = 0 }
+-- an action for each of the places of a rollout, from 1 to a count
+abbrev pub new_for : ℕ → ℕ → List ActionRecord
+new_for rollout count = each_from (scheduled rollout) 1 count
 
--- the number is the next, the target is that of the rollout's member at the place, and no feedback bears a number
-pub record AddsAction (number rollout place : ℕ) (id : Bytes) (l next : Ledger) : Type 0 where
+-- actions are put behind those that are there, each with its tally and its numbers
+abbrev pub and_actions : Ledger → List ActionRecord → Ledger
+and_actions l new = with_numbers (with_actions l (l.records.actions ++ new) (l.tallies ++ map tally_of new)) (l.numbers ++ map numbers_of new)
+
+-- the rollout is there, and each of its members gets an action of the next number
+pub record AddsActions (number : ℕ) (l next : Ledger) : Type 0 where
   pub tallied : length l.tallies ≡ length l.records.actions
-  pub number_is : number ≡ length l.records.actions + 1
-  pub id_is : id ≡ actor_of l.records.rollouts (scheduled rollout place)
-  pub next_is : next ≡ with_numbers (with_actions l (l.records.actions ++ scheduled rollout place ∷ []) (l.tallies ++ no_tally ∷ []))
-      (l.numbers ++ [] ∷ [])
+  pub rollout : RolloutRecord
+  pub is_there : item_numbered l.records.rollouts number ≡ Some rollout
+  pub next_is : next ≡ and_actions l (new_for number (length rollout.members))
 
 abbrev pub action_turned : Bool → Option Outcome → ActionRecord → ActionRecord
 action_turned canceling outcome a = record a { canceling = canceling; outcome = outcome }

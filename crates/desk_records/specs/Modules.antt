@@ -1,6 +1,6 @@
 -- Modules in records and in rows.
 use Rattle.std.specs.Prelude.{◌≡◌, ◌&&◌, ℕ, Bool, [], ◌∷◌, ◌++◌, pos, Option, Some, None}
-use Rattle.sqlite_value.specs.declared.value.Value.TheVariants.{Int, Text}
+use Rattle.sqlite_value.specs.declared.value.Value.TheVariants.{Int}
 use Rattle.sqlite_value.specs.Order.{Row, column}
 use Rattle.rollout_machine.specs.Commands.{ModuleLabel}
 use Rattle.rollout_machine.specs.ByteStrings.{same_bytes}
@@ -9,9 +9,6 @@ use Rattle.rollout_machine.specs.Records.{Records}
 -- a module of the same name, kind and version
 abbrev pub is_same : ModuleLabel → ModuleLabel → Bool
 is_same label m = same_bytes m.name label.name && (same_bytes m.kind label.kind && same_bytes m.version label.version)
-
-abbrev pub words_of : ModuleLabel → Row
-words_of m = Text m.name ∷ Text m.kind ∷ Text m.version ∷ []
 
 -- the records with one more module
 abbrev pub with_module : Records → ModuleLabel → Records

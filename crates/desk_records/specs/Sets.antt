@@ -1,5 +1,5 @@
 -- Distribution sets in records and in rows.
-use Rattle.std.specs.Prelude.{◌≡◌, ◌&&◌, ℕ, ◌+◌, Bool, List, [], ◌∷◌, ◌++◌, map, length, pos}
+use Rattle.std.specs.Prelude.{◌≡◌, ◌&&◌, ℕ, ◌+◌, Bool, List, [], ◌∷◌, ◌++◌, length, pos}
 use Rattle.sqlite_value.specs.declared.value.Value.TheVariants.{Null, Int, Text}
 use Rattle.sqlite_value.specs.Order.{Row}
 use Rattle.rollout_machine.specs.Commands.{Bytes, SetLabel}
@@ -26,14 +26,6 @@ place_rows_from n sets = parts_from place_row (λ (set : SetLabel). set.modules)
 -- a set of this name and version
 abbrev pub is_same_set : Bytes → Bytes → SetLabel → Bool
 is_same_set name version set = same_bytes set.name name && same_bytes set.version version
-
--- the name and the version
-abbrev pub names_of : Bytes → Bytes → Row
-names_of name version = Text name ∷ Text version ∷ []
-
--- one row for each of a set's modules, in its order
-abbrev pub module_rows : List ℕ → List Row
-module_rows ms = map (λ m. Int (pos m) ∷ []) ms
 
 -- a set before its modules are added
 abbrev pub set_named : Bytes → Bytes → SetLabel

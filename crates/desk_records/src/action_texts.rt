@@ -13,18 +13,24 @@ pub const LIST_ACTIONS: &str =
 /// How many actions all rollouts have.
 pub const COUNT_ACTIONS: &str = "SELECT count(*) FROM action";
 
-/// The actions of a target, in the order of their numbers: at most as many as the second parameter, after as many as the third.
+/// The numbers of a target's actions, in their order.
+pub const LIST_ACTION_NUMBERS: &str =
+    "SELECT number FROM action WHERE controller = ?1 ORDER BY number";
+
+/// The actions of a target from a number on, in the order of their numbers: at most as many as the third parameter.
 pub const LIST_TARGET_ACTIONS: &str =
-    "SELECT rollout, place, controller, canceling, outcome, notes, entries, number FROM action WHERE controller = ?1 ORDER BY number LIMIT ?2 OFFSET ?3";
+    "SELECT rollout, place, controller, canceling, outcome, notes, entries, number FROM action WHERE controller = ?1 AND number >= ?2 \
+        ORDER BY number LIMIT ?3";
 
 /// The last of a target's actions that ended.
 pub const LAST_ENDED: &str =
     "SELECT rollout, place, controller, canceling, outcome, notes, entries, number FROM action WHERE controller = ?1 AND outcome > 0 \
         ORDER BY number DESC LIMIT 1";
 
-/// An action that is open, with no history.
-pub const PUT_ACTION: &str =
-    "INSERT INTO action (number, rollout, place, controller, canceling, outcome, notes, entries) VALUES (?1, ?2, ?3, ?4, 0, 0, 0, 0)";
+/// An action for each member of a rollout, in the order of their places: open, and with no history. SQLite chooses the numbers, each the next.
+pub const PUT_ACTIONS: &str =
+    "INSERT INTO action (rollout, place, controller, canceling, outcome, notes, entries) SELECT rollout, place, controller, 0, 0, 0, 0 \
+        FROM member WHERE rollout = ?1 ORDER BY place";
 
 pub const SET_ACTION: &str =
     "UPDATE action SET canceling = ?2, outcome = ?3, notes = ?4, entries = ?5 WHERE number = ?1";

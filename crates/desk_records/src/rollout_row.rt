@@ -1,9 +1,11 @@
 //! The rows of rollouts, of their groups, of actions and of offers.
 
-ghost use Rattle.std.specs.Prelude.{◌≡◌, ◌⊎◌, IfOk, IfErr, true, false};
+ghost use Rattle.std.specs.Prelude.{◌≡◌, ◌⊎◌, IfOk, IfErr, None, Some, true, false};
 ghost use Rattle.sqlite_value.specs.Order.{column};
+ghost use Rattle.desk_records.specs.Codes.{number_in};
 ghost use Rattle.desk_records.specs.Columns.{StoredText, has_filter};
 
+use crate::codes::numbered_at;
 use crate::module_row::{RowFault, row_fault};
 use crate::table_columns::Column;
 use rollout_machine::Outcome;
@@ -53,6 +55,14 @@ pub struct StoredAction {
 pub struct ListedAction {
     pub number: ActionNo,
     pub action: StoredAction,
+}
+
+/// The number in a row of an action's number.
+pub fn read_action_number(row: &Row) -> Result<ActionNo, RowFault>
+    ensures ok { IfOk result (λ number. number_in (column row.now 0) ≡ Some number) }
+    ensures err { IfErr result (λ e. (e ≡ RowFault.Broken Column.ActionNumber) × (number_in (column row.now 0) ≡ None)) }
+{
+    numbered_at(row, 0).ok_or(RowFault::Broken(Column::ActionNumber))
 }
 
 /// The text of a filter in a column.

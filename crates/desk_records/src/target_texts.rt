@@ -5,10 +5,6 @@ pub const GET_TARGET: &str = "SELECT name, digest FROM target WHERE controller =
 /// How many targets there are.
 pub const COUNT_TARGETS: &str = "SELECT count(*) FROM target";
 
-/// The targets of a page in byte order of their ids: at most as many as the first parameter, after as many as the second.
-pub const LIST_TARGETS: &str =
-    "SELECT controller, name FROM target ORDER BY controller LIMIT ?1 OFFSET ?2";
-
 /// All targets, in byte order of their ids.
 pub const LIST_ALL_TARGETS: &str = "SELECT controller, name FROM target ORDER BY controller";
 

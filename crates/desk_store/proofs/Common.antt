@@ -39,13 +39,15 @@ pub use Rattle.sql_calls.specs.declared.fault.Fault.{Fault}
 pub use Rattle.sql_calls.specs.declared.fault.Fault.TheVariants.{Broken}
 pub use Rattle.desk_records.proofs.ActionMeaning.{action_columns, count_actions_is, drop_offer_is, entry_columns, get_action_is, get_offer_is, last_action_is}
 pub use Rattle.desk_records.proofs.ActionMeaning.{last_ended_is, last_number_is, list_actions_is, list_entries_is, list_numbers_is, list_offers_is}
-pub use Rattle.desk_records.proofs.ActionMeaning.{list_target_actions_is, listed_columns, next_offer_is, next_offer_query, offer_columns, owned_columns}
-pub use Rattle.desk_records.proofs.ActionMeaning.{put_action_is, put_feedback_is, put_number_is, set_action_is, set_offer_is}
+pub use Rattle.desk_records.proofs.ActionMeaning.{list_action_numbers_is, list_target_actions_is, listed_columns, next_offer_is, next_offer_query}
+pub use Rattle.desk_records.proofs.ActionMeaning.{offer_columns, owned_columns}
+pub use Rattle.desk_records.proofs.ActionMeaning.{put_feedback_is, put_number_is, set_action_is, set_offer_is}
 pub use Rattle.desk_records.proofs.AnyRows.{are_said, broken, count_shown, from_shown, is_only, none_passes, rise}
 pub use Rattle.desk_records.proofs.ArtifactMeaning.{all_columns, find_artifact_is, get_artifact_is, get_piece_is, last_artifact_is, list_all_artifacts_is}
 pub use Rattle.desk_records.proofs.ArtifactMeaning.{list_artifacts_is, put_artifact_is, put_piece_is}
 pub use Rattle.desk_records.proofs.GroupOfferWrites.{offers_group, offers_keyed}
-pub use Rattle.desk_records.proofs.LedgerWrites.{adds_action, adds_rollout, sets_action, sets_rollout}
+pub use Rattle.desk_records.proofs.MemberActionWrites.{adds_actions}
+pub use Rattle.desk_records.proofs.LedgerWrites.{adds_rollout, sets_action, sets_rollout}
 pub use Rattle.desk_records.proofs.NumberColumns.{is_number_in, number_in_good, number_in_is, number_is}
 pub use Rattle.desk_records.proofs.OfferWrites.{drops_offer, sets_offer}
 pub use Rattle.desk_records.proofs.PartWrites.{adds_entry, adds_group, adds_member, adds_number, adds_rule, sets_group}
@@ -68,7 +70,7 @@ pub use Rattle.desk_records.specs.Rollouts.{groups_of, that_reach}
 pub use Rattle.desk_records.specs.Schema.{Actions, Artifacts, Feedbacks, Groups, Members, Numbers, Offers, Place, Rollouts, Targets}
 pub use Rattle.desk_records.specs.Tables.{HoldsTables, Tables}
 pub use Rattle.desk_records.specs.TargetRow.{listed_target}
-pub use Rattle.desk_records.specs.declared.action_texts.TheConstants.{LIST_ENTRIES, NEXT_OFFER, PUT_GROUP_OFFERS}
+pub use Rattle.desk_records.specs.declared.action_texts.TheConstants.{LIST_ENTRIES, NEXT_OFFER, PUT_ACTIONS, PUT_GROUP_OFFERS}
 pub use Rattle.desk_records.specs.declared.artifact_row.StoredArtifact.{StoredArtifact}
 pub use Rattle.desk_records.specs.declared.artifact_texts.TheConstants.{GET_PIECE}
 pub use Rattle.desk_records.specs.declared.rollout_row.ListedAction.{ListedAction}
@@ -87,13 +89,15 @@ pub use Rattle.desk_store.specs.declared.groups.GroupAndNext.{GroupAndNext}
 pub use Rattle.desk_records.proofs.Meaning.{find_module_is, get_desk_is, get_module_is, last_module_is, put_module_is}
 pub use Rattle.desk_records.proofs.SetMeaning.{find_set_is, get_set_is, last_set_is, list_set_modules_is, module_locked_is, put_set_is, put_set_module_is}
 pub use Rattle.desk_records.proofs.TargetMeaning.{count_targets_is, drop_target_tag_is, get_target_is, list_target_attributes_is, list_target_tags_is}
-pub use Rattle.desk_records.proofs.TargetMeaning.{list_targets_is, put_target_attribute_is, put_target_is, put_target_tag_is, set_target_attribute_is}
+pub use Rattle.desk_records.proofs.TargetMeaning.{put_target_attribute_is, put_target_is, put_target_tag_is, set_target_attribute_is}
 pub use Rattle.desk_records.proofs.TargetMeaning.{set_target_is}
 pub use Rattle.desk_records.proofs.MeaningWords.{counted_at, Asks, Counts}
 pub use Rattle.desk_records.specs.Columns.{StoredBytes, has_size, has_word, small_number}
 pub use Rattle.desk_records.specs.ReadRows.{IsStoredActionRow, IsGroupRow, IsOfferRow, IsStoredRolloutRow, IsStoredArtifactRow, broken_stored_action_column}
-pub use Rattle.desk_records.specs.ReadRows.{broken_attribute_column, broken_group_column, broken_listed_action_column, broken_offer_column, shown_group}
-pub use Rattle.desk_records.specs.ReadRows.{shown_offer, columns_of_stored_action}
+pub use Rattle.desk_records.specs.ReadRows.{broken_attribute_column, broken_group_column, broken_listed_action_column, broken_offer_column}
+pub use Rattle.desk_records.proofs.WrittenRows.{shown_group}
+pub use Rattle.desk_records.specs.ReadRows.{columns_of_stored_action}
+pub use Rattle.desk_records.proofs.WrittenRows.{shown_offer}
 pub use Rattle.desk_records.specs.declared.table_columns.Column.{Column}
 pub use Rattle.desk_store.specs.Breaking.{NeverBreaks}
 pub use Rattle.desk_records.proofs.HeldTables.{rows_of}

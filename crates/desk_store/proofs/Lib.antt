@@ -12,6 +12,7 @@ pub mod WriteCalls
 pub mod LedgersOfRecords
 mod NextOfferCalls
 pub mod GroupOfferCalls
+pub mod MemberActionCalls
 mod Texts
 mod RawCalls
 mod RawLists

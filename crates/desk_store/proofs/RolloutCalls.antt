@@ -11,7 +11,7 @@ use Rattle.std.proofs.lemmas.List.{length-take}
 use Rattle.sqlite.proofs.MarkLemmas.{slice_get-take}
 use Rattle.desk_records.proofs.KeptColumns.{kept_flag}
 use Rattle.desk_records.proofs.RowsTold.{one_group, one_stored_rollout}
-use Rattle.desk_records.specs.ReadRows.{shown_stored_rollout}
+use Rattle.desk_records.proofs.WrittenRows.{shown_stored_rollout}
 use Rattle.desk_store.proofs.FailLemmas.{never_by}
 use Rattle.desk_store.proofs.Known.{in_ledgers, known}
 use Rattle.desk_store.proofs.LedgerReads.{both_mapped}

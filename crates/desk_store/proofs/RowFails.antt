@@ -3,7 +3,7 @@ use Rattle.desk_store.proofs.FailLemmas.{breaks_first_by, told_alone, broken_so,
 use Rattle.desk_store.proofs.Common.{◌≡◌, ◌⊎◌, ◌≤◌, ◌<◌, ◌^◌, ◌+◌, ℕ, suc, min, length, pos, Bool, true, false, List, [], ◌∷◌, Option, Some, None, option_map}
 use Rattle.desk_store.proofs.Common.{Ok, Result, IfErr, arith, is_some, Value, Int, Text, Row, column, has_size, Fault, TakesFirst, first_finds, shown_of}
 use Rattle.desk_store.proofs.Common.{Ghosts, HoldsLedger, Ledger, IfRowsBroken, HasNoNumber, BreaksRule, broken_offer_column, is_number, seen_in, OpenChange}
-use Rattle.desk_store.proofs.Common.{State}
+use Rattle.desk_store.proofs.Common.{State, Actions, inr, number_in}
 use Rattle.desk_store.proofs.Common.{COUNT_TARGETS, GET_DESK, NEXT_OFFER, Targets, get_desk_is, count_targets_is, counted_at, Place, Query, shown_offer, Broken}
 use Rattle.desk_store.proofs.Common.{nat_tests, Offer, Bytes, ActionRecord, next_offer, gets_desk, told_desk, rows_of, gets_next_offer, is_number_in}
 use Rattle.desk_store.proofs.Common.{FindsLedger, FailsIn, IsBroken, Asks, BreaksColumn}
@@ -26,6 +26,10 @@ no_size v unread = grind (arith, is_some, small_is, nat_tests)
 
 pub no_key : (row : Row) → HasNoNumber (Some (column row 0 ∷ [])) → HasNoKey row
 no_key row unread = no_size (column row 0) (unread (omega arith))
+
+-- a row that tells no number of an action
+pub no_action : (row : Row) → number_in (column row 0) ≡ None → BreaksColumn Actions row
+no_action row unread = inr (inr (grind (arith, is_some)))
 
 -- as the first row of its text
 module _ {p : Place} {sql : List ℕ} {query : ℕ → Query} {names : List (List ℕ)} (text : Asks p sql query names) {params : Row}

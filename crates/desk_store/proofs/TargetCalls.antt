@@ -4,7 +4,8 @@ use Rattle.desk_store.proofs.Common.{State, Fault, TakesFirst, Finds, COUNT_TARG
 use Rattle.desk_store.proofs.Common.{counted_at, Target}
 use Rattle.std.specs.Prelude.{Bool, true, false}
 use Rattle.desk_records.specs.Columns.{has_word}
-use Rattle.desk_records.specs.ReadRows.{broken_owned_tag_column, columns_of_owned_tag, shown_listed_target}
+use Rattle.desk_records.specs.ReadRows.{broken_owned_tag_column, columns_of_owned_tag}
+use Rattle.desk_records.proofs.WrittenRows.{shown_listed_target}
 use Rattle.desk_records.specs.RowFaults.{BreaksRule}
 use Rattle.desk_records.specs.declared.table_columns.Column.TheVariants as rule
 use Rattle.desk_records.proofs.TargetRecords.{listed_row, counts_targets}

@@ -2,10 +2,10 @@
 
 ghost use Rattle.std.specs.List.{last_or, zip};
 ghost use Rattle.std.specs.Option.{option_map};
-ghost use Rattle.std.specs.Prelude.{◌+◌, ◌≡◌, ◌≤◌, None, drop, length, take};
+ghost use Rattle.std.specs.Prelude.{◌+◌, ◌≡◌, ◌≤◌, None, drop, filter, length, map, nat_le, take};
 ghost use Rattle.rollout_machine.specs.ByteStrings.{item_numbered};
 ghost use Rattle.desk_records.specs.FeedbackNumbers.{last_number};
-ghost use Rattle.desk_records.specs.LedgerSteps.{AddsAction, SetsAction};
+ghost use Rattle.desk_records.specs.LedgerSteps.{AddsActions, SetsAction};
 ghost use Rattle.desk_records.specs.RolloutRow.{actions_for, actions_of, ended_for, stored_action};
 ghost use Rattle.desk_store.specs.Changing.{FindsLedger, KeepsTables, MakesLedger, StaysIn};
 ghost use Rattle.desk_store.specs.Counting.{AddsIn};
@@ -15,8 +15,8 @@ use crate::change::OpenChange;
 use crate::codes::{code_of_outcome, flag_code};
 use crate::reading::{last_number, read_all, read_optional};
 use desk_records::{
-    GET_ACTION, LAST_ACTION, LAST_ENDED, LIST_ACTIONS, LIST_TARGET_ACTIONS, ListedAction,
-    PUT_ACTION, SET_ACTION, StoredAction,
+    GET_ACTION, LAST_ACTION, LAST_ENDED, LIST_ACTION_NUMBERS, LIST_ACTIONS, LIST_TARGET_ACTIONS,
+    ListedAction, PUT_ACTIONS, SET_ACTION, StoredAction,
 };
 use rollout_machine::Outcome;
 use rollout_model::{ActionNo, ControllerId, Page, RolloutNo};
@@ -66,23 +66,35 @@ impl<'a, S: Alter> OpenChange<'a, S> {
         read_all(alloc, &rows)
     }
 
-    /// The actions of a target, a page of them in the order of their numbers. A row that breaks a column's rule is `Broken`.
-    pub fn read_target_actions(
-        &mut self,
-        id: &ControllerId,
-        page: Page,
-    ) -> Result<Vec<ListedAction>, Fault>
+    /// The numbers of all actions of a target, in their order. A row that breaks a column's rule is `Broken`.
+    pub fn read_action_numbers(&mut self, id: &ControllerId) -> Result<Vec<ActionNo>, Fault>
         ensures stays { StaysIn S.Store self.old self.new result }
         ensures reads { FindsLedger S.Store self.old self.new result
-            (λ l found. found.items ≡ take page.limit (drop page.offset (actions_for l.records.rollouts id.now 1 (zip l.records.actions l.tallies)))) }
+            (λ l numbers. numbers.items ≡ map (λ (a : ListedAction). a.number) (actions_for l.records.rollouts id.now 1 (zip l.records.actions l.tallies))) }
         ensures fails { FailsIn S.Store self.old self.new result }
         ensures work { self.new.store.now.calls.work.statements ≤ self.old.store.now.calls.work.statements + 1 }
     {
         let alloc = self.store.alloc;
-        let rows = self.ask(
-            LIST_TARGET_ACTIONS,
-            params![id.as_str(), page.limit, page.offset],
-        )?;
+        let rows = self.ask(LIST_ACTION_NUMBERS, params![id.as_str()])?;
+        read_all(alloc, &rows)
+    }
+
+    /// The actions of a target from a number on, in the order of their numbers, and at most so many. A row that breaks a column's rule is
+    /// `Broken`.
+    pub fn read_target_actions(
+        &mut self,
+        id: &ControllerId,
+        from: ActionNo,
+        limit: u32,
+    ) -> Result<Vec<ListedAction>, Fault>
+        ensures stays { StaysIn S.Store self.old self.new result }
+        ensures reads { FindsLedger S.Store self.old self.new result (λ l found. found.items ≡
+            take limit (filter (λ (a : ListedAction). nat_le from a.number) (actions_for l.records.rollouts id.now 1 (zip l.records.actions l.tallies)))) }
+        ensures fails { FailsIn S.Store self.old self.new result }
+        ensures work { self.new.store.now.calls.work.statements ≤ self.old.store.now.calls.work.statements + 1 }
+    {
+        let alloc = self.store.alloc;
+        let rows = self.ask(LIST_TARGET_ACTIONS, params![id.as_str(), from.get(), limit])?;
         read_all(alloc, &rows)
     }
 
@@ -99,22 +111,14 @@ impl<'a, S: Alter> OpenChange<'a, S> {
         read_optional(alloc, row)
     }
 
-    /// Adds the action of the next number, which is open and has no history, for the target that is its rollout's member at the place.
-    pub fn write_action(
-        &mut self,
-        number: ActionNo,
-        rollout: RolloutNo,
-        place: u32,
-        id: &ControllerId,
-    ) -> Result<(), Fault>
+    /// Adds an action for each member of a rollout that is there, in the order of their places and numbered on from the last action: open, and
+    /// with no history.
+    pub fn write_actions(&mut self, rollout: RolloutNo) -> Result<(), Fault>
         ensures stays { WritesIn S.Store self.old self.new result }
-        ensures writes { MakesLedger S.Store self.old self.new result (AddsAction number rollout place id.now) }
+        ensures writes { MakesLedger S.Store self.old self.new result (AddsActions rollout) }
         ensures work { AddsIn 1 0 self.old self.new }
     {
-        self.run(
-            PUT_ACTION,
-            params![number.get(), rollout.get(), place, id.as_str()],
-        )
+        self.run(PUT_ACTIONS, params![rollout.get()])
     }
 
     /// Sets whether an action that is there is being cancelled, how it ended, and how many notes and entries its history has.

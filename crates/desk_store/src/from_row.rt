@@ -1,16 +1,17 @@
 //! What one row is read as.
 
-ghost use Rattle.std.specs.Prelude.{◌+◌, ◌≡◌, IfErr, IfOk, false};
+ghost use Rattle.std.specs.Prelude.{◌+◌, ◌≡◌, IfErr, IfOk, None, Some, false};
 ghost use Rattle.sqlite_value.specs.Order.{Row, column};
+ghost use Rattle.desk_records.specs.Codes.{number_in};
 ghost use Rattle.desk_records.specs.Columns.{StoredBytes, StoredNumber, StoredText, has_bytes, has_number, has_word};
 ghost use Rattle.desk_records.specs.EntryRow.{BreaksEntry, BreaksSequenced, IsEntryRow, IsSequencedRow};
 ghost use Rattle.desk_store.specs.Rows.{IfBroken};
 
 use desk_records::{
-    RowFault, SequencedEntry, read_entry, read_member, read_piece, read_sequenced_entry,
-    read_set_module, read_tag,
+    RowFault, SequencedEntry, read_action_number, read_entry, read_member, read_piece,
+    read_sequenced_entry, read_set_module, read_tag,
 };
-use rollout_model::{ControllerId, HistoryEntry, ModuleNo, Word};
+use rollout_model::{ActionNo, ControllerId, HistoryEntry, ModuleNo, Word};
 use sqlite::Row;
 use std::alloc::Global;
 
@@ -34,6 +35,17 @@ impl FromRow for ModuleNo {
 
     fn from_row(_alloc: Global, row: &Row) -> Result<Self, RowFault> {
         read_set_module(row)
+    }
+}
+
+/// Of an action's number.
+impl FromRow for ActionNo {
+    ghost is_row = { λ row number. number_in (column row 0) ≡ Some number };
+
+    ghost is_broken = { λ row. number_in (column row 0) ≡ None };
+
+    fn from_row(_alloc: Global, row: &Row) -> Result<Self, RowFault> {
+        read_action_number(row)
     }
 }
 

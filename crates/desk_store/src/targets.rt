@@ -13,10 +13,10 @@ use crate::change::OpenChange;
 use crate::reading::{counted_in, read_all, read_optional};
 use desk_records::{
     COUNT_TARGETS, DROP_TARGET_TAG, GET_TARGET, LIST_ALL_TARGETS, LIST_TAGS_BETWEEN,
-    LIST_TARGET_TAGS, LIST_TARGETS, LIST_TARGETS_BETWEEN, ListedTarget, OwnedTag, PUT_TARGET,
-    PUT_TARGET_TAG, SET_TARGET, StoredTarget,
+    LIST_TARGET_TAGS, LIST_TARGETS_BETWEEN, ListedTarget, OwnedTag, PUT_TARGET, PUT_TARGET_TAG,
+    SET_TARGET, StoredTarget,
 };
-use rollout_model::{ControllerId, Digest, Page, Text, Word};
+use rollout_model::{ControllerId, Digest, Text, Word};
 use sql_calls::Fault;
 use sqlite::{Alter, params};
 
@@ -61,20 +61,6 @@ impl<'a, S: Alter> OpenChange<'a, S> {
     {
         let alloc = self.store.alloc;
         let rows = self.ask(LIST_TAGS_BETWEEN, params![first.as_str(), last.as_str()])?;
-        read_all(alloc, &rows)
-    }
-
-    /// The targets of a page by their ids and names, in byte order of their ids. A row that breaks a column's rule is
-    /// `Broken`.
-    pub fn read_targets(&mut self, page: Page) -> Result<Vec<ListedTarget>, Fault>
-        ensures stays { StaysIn S.Store self.old self.new result }
-        ensures reads { FindsIn S.Store self.old self.new result
-            (λ r listed. listed.items ≡ map listed_target (take page.limit (drop page.offset r.targets))) }
-        ensures fails { FailsIn S.Store self.old self.new result }
-        ensures work { self.new.store.now.calls.work.statements ≤ self.old.store.now.calls.work.statements + 1 }
-    {
-        let alloc = self.store.alloc;
-        let rows = self.ask(LIST_TARGETS, params![page.limit, page.offset])?;
         read_all(alloc, &rows)
     }
 

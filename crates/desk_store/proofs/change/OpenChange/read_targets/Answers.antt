@@ -1,9 +1,0 @@
-use Rattle.desk_store.proofs.Answering.{[], all_at, all_fails, arith, inr, list_targets_is, lists_targets, one_listed_target, reads_all, rows_listed, ◌∙◌}
-use Rattle.desk_store.proofs.change.OpenChange.read_targets.Goals as goal
-
-pub returns-clause-reads : goal.returns-clause-reads
-returns-clause-reads g c = reads_all list_targets_is _ (λ db r holds rows shown. lists_targets db r holds [] c.args.page.limit c.args.page.offset rows shown ∙
-    rows_listed _) (all_at c.in_ok-rows.ensures.asks (grind arith)) _ (rw c.deref.ensures.value at c.read_all.ensures.ok) one_listed_target
-
-pub returns-clause-fails : goal.returns-clause-fails
-returns-clause-fails g c = all_fails list_targets_is _ (λ row is. inr is) c.in_ok-rows.ensures.asks _ (rw c.deref.ensures.value at c.read_all.ensures.err)
