@@ -28,7 +28,8 @@ use Rattle.desk_reads.specs.Targets.{AreAttributesOf, AreEnds, AreLeft, AreOwned
 use Rattle.desk_reads.specs.Targets.{attribute_ids, listed_ids, rises, tag_ids}
 use Rattle.desk_reads.specs.Targets.{own_attributes, own_listed, own_tags}
 use Rattle.desk_reads.specs.declared.targets.Asked.{Asked}
-use Rattle.desk_reads.proofs.WordOrder.{below_another, below_itself, below_other, below_through, below_under, compared_equal, compared_greater, compared_less, list_all_more, not_back, order_dropped, order_more, order_taken}
+use Rattle.desk_reads.proofs.WordOrder.{below_another, below_itself, below_other, below_through, below_under, compared_equal, compared_greater, compared_less}
+use Rattle.desk_reads.proofs.WordOrder.{list_all_more, not_back, order_dropped, order_more, order_taken}
 
 -- ---- its own of those that were read
 

@@ -1,6 +1,6 @@
 //! Rollouts with their groups, as they are read.
 
-ghost use Rattle.std.specs.Prelude.{◌≡◌, ◌&&◌, Some, length};
+ghost use Rattle.std.specs.Prelude.{◌≡◌, ◌≤◌, ◌+◌, ◌&&◌, Some, length};
 ghost use Rattle.std.specs.List.{list_all};
 ghost use Rattle.rollout_machine.specs.ByteStrings.{item_numbered};
 ghost use Rattle.rollout_machine.specs.declared.records.RolloutRecord.{RolloutRecord};
@@ -103,6 +103,7 @@ pub fn read_seen_rollout<S: Alter>(
     ensures stays { StaysIn S.Store change.old change.new result }
     ensures reads { FindsAtListsIn S.Store change.old change.new result (λ now found. BothOrNone IsSeenOf found (item_numbered now.rollouts number)) }
     ensures fails { FailsAtListsIn S.Store change.old change.new result }
+    ensures work { change.new.store.now.calls.work.statements ≤ change.old.store.now.calls.work.statements + 2 }
 {
     let stored = match change.read_rollout(number)? {
         Some(stored) => stored,
@@ -122,6 +123,7 @@ pub(crate) fn read_groups_of<S: Alter>(
     ensures reads { FindsAtListsIn S.Store change.old change.new result
         (λ now seen. (x : RolloutRecord) → item_numbered now.rollouts number ≡ Some x → stored ≡ stored_rollout x → IsSeenOf seen x) }
     ensures fails { FailsAtListsIn S.Store change.old change.new result }
+    ensures work { change.new.store.now.calls.work.statements ≤ change.old.store.now.calls.work.statements + 1 }
 {
     let groups = change.read_groups(number)?;
     Ok(seen_as(number, stored, groups))

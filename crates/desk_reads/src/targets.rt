@@ -203,8 +203,8 @@ fn add_own(
     attributes: &[OwnedAttribute],
     found: &mut Vec<Target>,
 ) -> Result<(), Fault>
-    ensures ok { IfOk result (λ _. in_byte_order (listed_ids listed.items) ≡ true → rises (tag_ids tags.now) ≡ true → rises (attribute_ids attributes.now) ≡ true
-        → found.new.items ≡ found.old.items ++ map (own_listed tags.now attributes.now) listed.items) }
+    ensures ok { IfOk result (λ _. in_byte_order (listed_ids listed.items) ≡ true → rises (tag_ids tags.now) ≡ true
+        → rises (attribute_ids attributes.now) ≡ true → found.new.items ≡ found.old.items ++ map (own_listed tags.now attributes.now) listed.items) }
     ensures counts { IfOk result (λ _. length found.new.items ≡ length found.old.items + length listed.items) }
     ensures err { IfErr result (λ fault. (fault ≡ Memory) ⊎ ((fault ≡ Broken) × (rises (tag_ids tags.now) ≡ true → HasNoTagList tags.now))) }
 {

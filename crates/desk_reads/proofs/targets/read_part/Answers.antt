@@ -8,7 +8,8 @@ use Rattle.desk_reads.proofs.targets.read_part.Goals as goal
 pub returns-clause-reads : goal.returns-clause-reads
 returns-clause-reads g c =
     finds_as (both_found c.in_ok-tags.ensures.reads c.in_ok-attributes.ensures.reads)
-    (λ r is ordered. (rw (c.deref-3.ensures.value, c.deref-4.ensures.value) at c.in_ok-add_own.ensures.ok) ordered is.0.rise is.1.rise ∙ ap (λ l. c.args.found.now.items ++ l)
+    (λ r is ordered. (rw (c.deref-3.ensures.value, c.deref-4.ensures.value) at c.in_ok-add_own.ensures.ok) ordered is.0.rise is.1.rise
+    ∙ ap (λ l. c.args.found.now.items ++ l)
     (all_own r c.args.asked c.in_ok-tags.tags.items c.in_ok-attributes.attributes.items c.args.listed.items ((rw c.deref.ensures.value at is.0).each ordered)
     ((rw c.deref-2.ensures.value at is.1).each ordered)))
 

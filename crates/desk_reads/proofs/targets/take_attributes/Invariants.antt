@@ -9,7 +9,8 @@ abbrev pub invariant-loop-left : goal.invariant-loop-left
 invariant-loop-left l =
     (l.attributes ++ taken (λ (o : OwnedAttribute). o.id) (λ (o : OwnedAttribute). o.attribute) l.id l.left
     ≡ taken (λ (o : OwnedAttribute). o.id) (λ (o : OwnedAttribute). o.attribute) l.id l.owned)
-    × (left (λ (o : OwnedAttribute). o.id) (λ (o : OwnedAttribute). o.attribute) l.id l.left ≡ left (λ (o : OwnedAttribute). o.id) (λ (o : OwnedAttribute). o.attribute) l.id l.owned)
+    × (left (λ (o : OwnedAttribute). o.id) (λ (o : OwnedAttribute). o.attribute) l.id l.left
+    ≡ left (λ (o : OwnedAttribute). o.id) (λ (o : OwnedAttribute). o.attribute) l.id l.owned)
 
 abbrev pub decreases-loop-left : goal.decreases-loop-left
 decreases-loop-left l = length l.left
