@@ -6,7 +6,7 @@ pub use Rattle.desk_commands.proofs.Common.{GivesAttribute, rules, GivesAttribut
 pub use Rattle.desk_commands.proofs.Common.{target_listed, ids_matching, Tree, FindsIn, FailsAtListsIn, ledger_found, [], CreatesRollout, in_part}
 pub use Rattle.desk_commands.proofs.Common.{MakesLedger, rules_of, started, with_group, found_then_makes, GoesOn, CanStart, last_started, known, rule_at}
 pub use Rattle.desk_commands.proofs.Common.{said_of, item_numbered, Records, Resume, TriggerNext, details_kept, not, Approve, Deny, Pause, WritesSaid, Start}
-pub use Rattle.desk_commands.proofs.Common.{StartsWhole, AddsActions, target_of, PutsOver, renamed, with_changed, seen_in, Renames, are_sorted, tags_of, Retags}
+pub use Rattle.desk_commands.proofs.Common.{StartsWhole, target_of, PutsOver, renamed, with_changed, seen_in, Renames, are_sorted, tags_of, Retags}
 pub use Rattle.desk_commands.proofs.Common.{contains_word, list_any, GroupRecord, untagged, append-nil, is_none, chosen}
 pub use Rattle.desk_commands.proofs.ActingExits.{can_end, can_tell, numbers_stay}
 pub use Rattle.desk_commands.proofs.ActingSteps.{acts_on_fresh, cancel_taken, feedback_taken, own_viewed}
@@ -28,7 +28,7 @@ pub use Rattle.desk_commands.proofs.ReportLemmas.{entry_kept, none_at, stands_at
 pub use Rattle.desk_commands.proofs.RolloutExits.{can_start, ends_in, first_there, found_in, last_said, numbers_left}
 pub use Rattle.desk_commands.proofs.SeenLemmas.{ok_or_some, sees}
 pub use Rattle.desk_commands.proofs.StandingLemmas.{judged, none_there, of_list, said_written, seen_there, standing_view}
-pub use Rattle.desk_commands.proofs.StartLemmas.{one_action, starts_whole}
+pub use Rattle.desk_commands.proofs.StartLemmas.{starts_whole}
 pub use Rattle.desk_commands.proofs.TagLemmas.{any_word, none_left, pointwise_is, retags_parts, tags_distinct}
 pub use Rattle.desk_commands.proofs.TagStepLemmas.{had_is_step, tag_is_step}
 pub use Rattle.desk_commands.proofs.TellingLemmas.{no_number, none_told, number_adds, telling_parts, told_parts}

@@ -76,7 +76,7 @@ pub use Rattle.desk_records.proofs.HeldCounts.{at_place}
 pub use Rattle.desk_records.specs.Actions.{Tally, actor_of, history_of, tally_of}
 pub use Rattle.desk_records.specs.FeedbackNumbers.{last_number, numbers_from, numbers_numbered, numbers_of}
 pub use Rattle.desk_records.specs.Holds.{HoldsLedger, Ledger, ledger_of}
-pub use Rattle.desk_records.specs.LedgerSteps.{AddsAction, AddsEntry, AddsGroup, AddsMember, AddsNumber, AddsRule, SetsAction, SetsGroup, and_entry}
+pub use Rattle.desk_records.specs.LedgerSteps.{AddsEntry, AddsGroup, AddsMember, AddsNumber, AddsRule, SetsAction, SetsGroup, and_entry}
 pub use Rattle.desk_records.specs.LedgerSteps.{cut_group, scheduled, set_numbered, turned, with_actions, with_groups, with_numbers, with_rollouts}
 pub use Rattle.desk_records.specs.LedgerSteps.{in_place_of, reoffered, with_rules}
 pub use Rattle.desk_records.specs.NextOffers.{any_starts, is_next, next_offer, next_offer_from, starts_at}
@@ -121,7 +121,8 @@ pub use Rattle.desk_commands.specs.SeenActions.{device_action_seen, only_of, onl
 pub use Rattle.desk_commands.specs.SeenReports.{StandsAgainst, StandsAmong, StandsAt, asked, more_reads, reads_for, with_number}
 pub use Rattle.desk_commands.specs.Standings.{GoesOn, IsSeenAt, StartsIf, WritesSaid, approval_after, gone_by, pause_left, paused_after, command_said}
 pub use Rattle.desk_commands.specs.Standings.{starts_by}
-pub use Rattle.desk_commands.specs.Starts.{AddsActions, ReadsMembers, StartsWhole, and_actions, new_for}
+pub use Rattle.desk_commands.specs.Starts.{StartsWhole}
+pub use Rattle.desk_records.specs.LedgerSteps.{and_actions, new_for}
 pub use Rattle.desk_commands.specs.Telling.{CountsNumbers, TellsReports, WritesNumber, WritesTold, entries_by, if_numbered, notes_by, numbers_by, tally_by}
 pub use Rattle.desk_commands.specs.Telling.{with_reports}
 pub use Rattle.desk_commands.specs.declared.seen_actions.SeenAction.{SeenAction}

@@ -1,8 +1,8 @@
 -- What a step on a rollout that is seen rests on is there.
-use Rattle.desk_commands.proofs.Common.{◌≡◌, ◌≤◌, ◌≢◌, ℕ, ◌+◌, Bool, List, Option, Some, length, slice_get, sym, ap, ◌∙◌, arith, zip}
-use Rattle.desk_commands.proofs.Common.{item_numbered, CommandList, IsValid, GroupRule, rule_at, records, Bytes, last_started, GroupRecord, RolloutRecord}
-use Rattle.desk_commands.proofs.Common.{Ledger, ledger_of, SeenRollout, GoesOn, ReadsMembers, of_rollout, limits_hold, at_place}
-use Rattle.desk_commands.proofs.Common.{members_of, rule_numbered, rule_there, rules_there, CanStart, IsSeenFrom, IsSeenIn, EndsBeyond}
+use Rattle.desk_commands.proofs.Common.{◌≡◌, ◌≤◌, ◌≢◌, ℕ, ◌+◌, Bool, Option, Some, length, slice_get, sym, ap, ◌∙◌, arith, zip}
+use Rattle.desk_commands.proofs.Common.{item_numbered, CommandList, IsValid, GroupRule, rule_at, records, last_started, GroupRecord, RolloutRecord}
+use Rattle.desk_commands.proofs.Common.{Ledger, ledger_of, SeenRollout, GoesOn, of_rollout, limits_hold, at_place}
+use Rattle.desk_commands.proofs.Common.{rule_numbered, rule_there, rules_there, CanStart, IsSeenFrom, IsSeenIn, EndsBeyond}
 use Rattle.desk_commands.proofs.ActionGroups.{group_ends}
 use Rattle.desk_commands.proofs.ProgressLemmas.{groups_count, last_at}
 use Rattle.desk_commands.proofs.StandingLemmas.{Found}
@@ -54,10 +54,8 @@ first_there r seen l w =
     (it.0, ap (λ gs. slice_get gs 0) w.is_seen.groups ∙ it.1)
 
 -- there are numbers for an action of each member
-pub numbers_left : (h : CommandList) → IsValid h → (r : ℕ) (seen : SeenRollout) (w : Found h r seen) (last count : ℕ) (members : List Bytes)
-    → last ≡ length (zip (records h).actions (ledger_of (records h)).tallies) → count ≡ length w.rollout.members
-    → ReadsMembers r count (ledger_of (records h)) members → last + length members ≤ 2147483647
-numbers_left h valid r seen w last count members size many read =
+pub numbers_left : (h : CommandList) → IsValid h → (r : ℕ) (seen : SeenRollout) (w : Found h r seen) (last more : ℕ)
+    → last ≡ length (zip (records h).actions (ledger_of (records h)).tallies) → more ≡ length w.rollout.members → last + more ≤ 2147483647
+numbers_left h valid r seen w last more size many =
     let limits = limits_hold h valid in
-    let all : members ≡ w.rollout.members = read (ap (λ o. length (members_of o)) w.at.is_there ∙ sym many) ∙ ap members_of w.at.is_there in
-    omega (arith, size, ap length all, all_pairs (records h), limits.actions, (limits.each r w.rollout w.at.is_there).members)
+    omega (arith, size, many, all_pairs (records h), limits.actions, (limits.each r w.rollout w.at.is_there).members)

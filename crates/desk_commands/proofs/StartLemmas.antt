@@ -1,47 +1,15 @@
 -- The start of a rollout, from what is read to what is written.
-use Rattle.desk_commands.proofs.Common.{◌≡◌, ◌<◌, ℕ, zero, suc, ◌+◌, true, false, List, [], ◌∷◌, ◌++◌, map, get_or, length, slice_get, Some, None, refl, sym}
-use Rattle.desk_commands.proofs.Common.{ap, ◌∙◌, arith, append_assoc, zip, length-append, length-map, map-append, item_numbered, CommandList, Bytes, Start}
+use Rattle.desk_commands.proofs.Common.{◌≡◌, ℕ, zero, suc, true, false, ◌∷◌, ◌++◌, map, length, slice_get, Some, None, refl, sym}
+use Rattle.desk_commands.proofs.Common.{ap, ◌∙◌, arith, zip, length-map, map-append, item_numbered, CommandList, Start}
 use Rattle.desk_commands.proofs.Common.{each_from, Records, records, begin_rollout, new_action, new_actions, step_records, IsValid, check, ActionRecord}
-use Rattle.desk_commands.proofs.Common.{GroupRecord, RolloutRecord, each_from_more, length_each, records_are_sound, actor_of, tally_of, numbers_of, Ledger}
-use Rattle.desk_commands.proofs.Common.{ledger_of, AddsAction, scheduled, set_numbered, turned, with_actions, with_numbers, with_rollouts, SeenRollout, started}
-use Rattle.desk_commands.proofs.Common.{AddsActions, ReadsMembers, StartsWhole, and_actions, new_for, never_started, members_of, of_rollout}
-use Rattle.std.proofs.lemmas.Option.{slice_get_read}
+use Rattle.desk_commands.proofs.Common.{GroupRecord, RolloutRecord, records_are_sound, tally_of, numbers_of}
+use Rattle.desk_commands.proofs.Common.{ledger_of, scheduled, set_numbered, turned, with_rollouts, SeenRollout, started}
+use Rattle.desk_commands.proofs.Common.{StartsWhole, and_actions, new_for, never_started, of_rollout}
 use Rattle.rollout_machine.specs.Actions.{places_from}
 use Rattle.desk_commands.proofs.GroupNumbers.{group_there, numbered_groups, started_one}
 use Rattle.desk_commands.proofs.ItemSteps.{set_is_there, zip_own}
 use Rattle.desk_commands.proofs.LedgerEnds.{changed_at, starts_last, then_started}
 use Rattle.desk_commands.proofs.StandingLemmas.{Found, is_numbered}
-
--- ---- the actions, one by one
-
-one_behind : {X : Type 0} (f : ActionRecord → X) (xs : List X) (as' : List ActionRecord) (a : ActionRecord) → xs ++ map f (as' ++ a ∷ [])
-    ≡ (xs ++ map f as') ++ f a ∷ []
-one_behind f xs as' a = ap (λ ys. xs ++ ys) (map-append f as' (a ∷ [])) ∙ sym (append_assoc xs (map f as') (f a ∷ []))
-
-pub one_action : (r last : ℕ) (members : List Bytes) (id : Bytes) (i number : ℕ) → i < length members → id ≡ get_or members i id → number ≡ last + (i + 1)
-    → (l next : Ledger) → AddsActions r last members (i + 1) l next
-    → (mid : Ledger) × AddsActions r last members i l mid × AddsAction number r (i + 1) id mid next
-one_action r last members id i number within is numbered l next h =
-    let as' = l.records.actions in
-    let new = new_for r i in
-    let more : new_for r (i + 1) ≡ new ++ scheduled r (i + 1) ∷ [] = each_from_more (scheduled r) 1 i (i + 1) (scheduled r (i + 1)) (omega arith) refl in
-    let there : slice_get members i ≡ Some id = slice_get_read members (length members) i id refl within is in
-    let place : i + 1 ≡ suc i = omega arith in
-    let actor : actor_of l.records.rollouts (scheduled r (i + 1)) ≡ id =
-    grind (arith, h.is_there, h.members_are, place, there) in (
-      and_actions l new,
-      record { tallied = h.tallied; last_is = h.last_is; rollout = h.rollout; is_there = h.is_there; members_are = h.members_are; next_is = refl },
-      record {
-        tallied = length-append l.tallies (map tally_of new) ∙ ap (λ k. length l.tallies + k) (length-map new tally_of) ∙ ap (λ k. k + length new) h.tallied
-            ∙ sym (length-append as' new);
-        number_is = omega (arith, numbered, length-append as' new, length_each (scheduled r) 1 i, h.last_is);
-        id_is = sym actor;
-        next_is =
-            h.next_is ∙ ap (and_actions l) more
-            ∙ (λ j. with_numbers (with_actions l (sym (append_assoc as' new (scheduled r (i + 1) ∷ [])) j)
-            (one_behind tally_of l.tallies new (scheduled r (i + 1)) j)) (one_behind numbers_of l.numbers new (scheduled r (i + 1)) j));
-      },
-    )
 
 -- ---- the first group
 
@@ -66,12 +34,10 @@ pub all_pairs : (rs : Records) → length (zip rs.actions (map tally_of rs.actio
 all_pairs rs = ap length (zip_own tally_of rs.actions) ∙ length-map rs.actions (λ (a : ActionRecord). (a, tally_of a))
 
 -- what was read of a rollout that is ready is written as the step
-pub starts_whole : (h : CommandList) → IsValid h → (r : ℕ) (seen : SeenRollout) (g : GroupRecord) (last count : ℕ) (members : List Bytes)
-    → (found : Found h r seen) → check (records h) (Start r) ≡ None
-    → slice_get seen.groups.items 0 ≡ Some g → last ≡ length (zip (records h).actions (map tally_of (records h).actions)) → count ≡ length found.rollout.members
-    → ReadsMembers r count (ledger_of (records h)) members
-    → StartsWhole r seen g last members (ledger_of (records h)) (ledger_of (step_records (records h) (Start r)))
-starts_whole h valid r seen g last count members found accepted first size many read =
+pub starts_whole : (h : CommandList) → IsValid h → (r : ℕ) (seen : SeenRollout) (g : GroupRecord) (found : Found h r seen) → check (records h) (Start r) ≡ None
+    → slice_get seen.groups.items 0 ≡ Some g
+    → StartsWhole r seen g (ledger_of (records h)) (ledger_of (step_records (records h) (Start r)))
+starts_whole h valid r seen g found accepted first =
     let rs = records h in
     let x = found.rollout in
     let there = found.at.is_there in
@@ -79,8 +45,7 @@ starts_whole h valid r seen g last count members found accepted first size many 
     let its : item_numbered x.groups 1 ≡ Some g = ap (λ gs. slice_get gs 0) (sym found.at.is_seen.groups) ∙ first in
     let named = numbered_groups h r x there 1 g its in
     let own : item_numbered x.groups g.number ≡ Some g = ap (item_numbered x.groups) named ∙ its in
-    let all : members ≡ x.members = read (ap (λ o. length (members_of o)) there ∙ sym many) ∙ ap members_of there in
-    let new = new_for r (length members) in
+    let new = new_for r (length x.members) in
     let begun = with_rollouts (ledger_of rs) (set_numbered rs.rollouts r y) in
     let groups = started_one 1 x.groups g (numbered_groups h r x there) its ∙ ap (λ k. set_numbered x.groups k (started g)) (sym named) in
     let begins : begin_rollout x ≡ then_started y g =
@@ -88,17 +53,15 @@ starts_whole h valid r seen g last count members found accepted first size many 
     let rolls = changed_at h valid r begin_rollout x (then_started y g) there begins in
     let number : x.number ≡ r = (records_are_sound h valid).numbered r x there in
     let acts : rs.actions ++ new_actions (item_numbered rs.rollouts r) ≡ rs.actions ++ new = ap (λ l. rs.actions ++ l)
-    (ap new_actions there ∙ new_placed x.number 1 (length x.members) ∙ (λ i. each_from (scheduled (number i)) 1 (length (sym all i)))) in
+    (ap new_actions there ∙ new_placed x.number 1 (length x.members) ∙ (λ i. each_from (scheduled (number i)) 1 (length x.members))) in
     record {
       begun = begun;
       sets = record { rollout = x; is_there = there; next_is = refl };
       acting = and_actions begun new;
       adds = record {
         tallied = length-map rs.actions tally_of;
-        last_is = size ∙ all_pairs rs;
         rollout = y;
         is_there = set_is_there rs.rollouts r x y there;
-        members_are = all;
         next_is = refl;
       };
       starts =

@@ -1,5 +1,5 @@
 -- What an import of targets reads and writes.
-use Rattle.std.specs.Prelude.{◌≡◌, ◌≤◌, ℕ, true, false, not, List, [], ◌∷◌, map, filter, length, Option, Some, None, Result, Ok, Err, option_map, is_some, IfOk}
+use Rattle.std.specs.Prelude.{◌≡◌, ◌≤◌, ℕ, true, false, not, List, [], ◌∷◌, filter, length, Option, Some, None, Result, Ok, Err, option_map, is_some, IfOk}
 use Rattle.sqlite.specs.State.{State, HasCleanDisk}
 use Rattle.sql_calls.specs.Standing.{Wears, Sees}
 use Rattle.desk_records.specs.TargetRow.{stored_target}

@@ -17,32 +17,29 @@ returns-clause-steps g c =
     let number = c.args.number in
     let seen = c.in-Some.seen in
     accepted_at
-    (both_found (both_found (rw c.in-Some.is at c.in_ok-found.ensures.reads) (ledger_found _ c.in_ok-last.ensures.reads))
-    (ledger_found _ c.in_ok-members.ensures.reads))
-    (λ r next. StartsWhole number seen c.in_ok-first.first c.in_ok-last.last c.in_ok-members.members.items (ledger_of r) (ledger_of next))
+    (both_found (rw c.in-Some.is at c.in_ok-found.ensures.reads) (ledger_found _ c.in_ok-last.ensures.reads))
+    (λ r next. StartsWhole number seen c.in_ok-first.first (ledger_of r) (ledger_of next))
     (λ h valid is.
-    let it = seen_there h valid number seen is.0.0 in
-    starts_whole h valid number seen _ _ _ _ it (c.start_refusal.ensures h number it.rollout it.at ∙ c.in_default-start_refusal.is)
-    (ok_or_some _ c.in_ok-first.ensures) is.0.1 (c.members.ensures it.rollout it.at.is_seen) is.1)
-    (ledger_made (Ok tt) (rw c.deref-2.ensures.value at c.in_ok-write_start.ensures.writes)) _
-    (λ h valid is. (c.start_refusal.ensures h _ _ (seen_there h valid number seen is.0.0).at ∙ c.in_default-start_refusal.is, refl))
+    let it = seen_there h valid number seen is.0 in
+    starts_whole h valid number seen _ it (c.start_refusal.ensures h number it.rollout it.at ∙ c.in_default-start_refusal.is)
+    (ok_or_some _ c.in_ok-first.ensures))
+    (ledger_made (Ok tt) c.in_ok-write_start.ensures.writes) _
+    (λ h valid is. (c.start_refusal.ensures h _ _ (seen_there h valid number seen is.0).at ∙ c.in_default-start_refusal.is, refl))
 
 pub returns-in_err-first-clause-fails : goal.returns-in_err-first-clause-fails
 returns-in_err-first-clause-fails g c =
     writes_end (never_at (λ l given. given.of_list)
-    (both_found (both_found (rw c.in-Some.is at c.in_ok-found.ensures.reads) (ledger_found _ c.in_ok-last.ensures.reads))
-    (ledger_found _ c.in_ok-members.ensures.reads))
+    (both_found (rw c.in-Some.is at c.in_ok-found.ensures.reads) (ledger_found _ c.in_ok-last.ensures.reads))
     (λ h valid is given.
-    never_missing _ c.in_err-first.ensures (first_there _ _ _ (found_in h _ _ (seen_there h valid c.args.number c.in-Some.seen is.0.0))).1))
+    never_missing _ c.in_err-first.ensures (first_there _ _ _ (found_in h _ _ (seen_there h valid c.args.number c.in-Some.seen is.0))).1))
     c.from_residual-in_err-first.ensures.1
 
 pub returns-in_err-check_numbers-clause-fails : goal.returns-in_err-check_numbers-clause-fails
 returns-in_err-check_numbers-clause-fails g c =
     writes_end (never_at (λ l given. given.of_list)
-    (both_found (both_found (rw c.in-Some.is at c.in_ok-found.ensures.reads) (ledger_found _ c.in_ok-last.ensures.reads))
-    (ledger_found _ c.in_ok-members.ensures.reads))
+    (both_found (rw c.in-Some.is at c.in_ok-found.ensures.reads) (ledger_found _ c.in_ok-last.ensures.reads))
     (λ h valid is given.
-    let it = seen_there h valid c.args.number c.in-Some.seen is.0.0 in
-    let left = numbers_left h valid _ _ it _ _ _ is.0.1 (c.members.ensures it.rollout it.at.is_seen) is.1 in
-    let many = rw c.deref.ensures.value at c.in_err-check_numbers.ensures.1 in
+    let it = seen_there h valid c.args.number c.in-Some.seen is.0 in
+    let left = numbers_left h valid _ _ it _ _ is.1 (c.members.ensures it.rollout it.at.is_seen) in
+    let many = c.in_err-check_numbers.ensures.1 in
     omega (arith, many, left))) c.from_residual-in_err-check_numbers.ensures.1
