@@ -7,13 +7,15 @@ pub use Rattle.desk_views.proofs.Common.{actions_of_target, ActionsShown, target
 pub use Rattle.desk_views.proofs.Common.{pieces_of_artifact, ◌-◌, FindsIn, Some, None, artifacts_shown, refl, IfOk, subst, named, IsOfName, same_pointwise}
 pub use Rattle.desk_views.proofs.Common.{or_not_found, found_then, chunks_of, known, chunk, modules_offered, List, false, true, inl, inr, rules_of, group_shown}
 pub use Rattle.desk_views.proofs.Common.{RolloutRecord, IsSeenOf, Broken, said_of, targets_of, targets_shown, shown_target, BothOrNone, GroupShown}
+pub use Rattle.desk_views.proofs.Common.{ShownAction, slice_get}
 pub use Rattle.desk_views.proofs.Common.{group_numbered, members_in, TargetsShown, groups_shown, GroupsShown, rules_there, ModulesShown, same_number, FailsWith}
 pub use Rattle.desk_views.proofs.Common.{report_of, ReportShown, RolloutsShown, SetsShown, option_map, worded, found_held, matching_shown, target_listed, ◌<◌}
 pub use Rattle.desk_views.proofs.Common.{◌^◌, listed, ShownTarget, Tree, filter_of, seen, group_is_started, TargetWord}
-pub use Rattle.desk_views.proofs.ActionViews.{all_listed, more_shown, none_there, of_rollout_is, of_target_is, one_action, one_there, stored_at}
+pub use Rattle.desk_views.proofs.ActionViews.{all_listed, more_shown, none_shown, none_there, numbers_are, of_rollout_is, one_action, one_there}
+pub use Rattle.desk_views.proofs.ActionViews.{page_counted, part_shown, stored_at}
 pub use Rattle.desk_views.proofs.ArtifactViews.{pieces_grow, together}
 pub use Rattle.desk_views.proofs.DeviceViews.{answered_by, downloaded, named_said}
-pub use Rattle.desk_views.proofs.FailingActions.{listed_few, places_few}
+pub use Rattle.desk_views.proofs.FailingActions.{listed_few, numbers_few, places_few}
 pub use Rattle.desk_views.proofs.FailingGroups.{group_ruled, group_small, groups_showable, page_showable}
 pub use Rattle.desk_views.proofs.FailingReads.{contents_read, size_of_numbered, some_left}
 pub use Rattle.desk_reads.proofs.ListFailLemmas.{fails_when}

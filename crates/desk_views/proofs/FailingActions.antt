@@ -1,6 +1,6 @@
 -- Why the actions of a list and their histories can be counted.
 use Rattle.desk_views.proofs.Common.{◌≡◌, ◌≤◌, ◌^◌, ◌+◌, ℕ, Bool, List, [], ◌∷◌, length, map, take, drop, arith, zip}
-use Rattle.desk_views.proofs.Common.{length-drop, length-take, HistoryEntry, limits_hold, Tally, history_of, tally_of, ledger_of, listed_where}
+use Rattle.desk_views.proofs.Common.{length-drop, length-map, length-take, HistoryEntry, limits_hold, Tally, history_of, tally_of, ledger_of, listed_where}
 use Rattle.desk_views.proofs.Common.{ListedAction, IsReadable, item_numbered, Records, ActionRecord, RolloutRecord, AreOfList}
 use Rattle.desk_store.proofs.ReadableHistories.{history_few}
 
@@ -20,6 +20,10 @@ zip_few (x ∷ xs) (y ∷ ys) = let few = zip_few xs ys in omega (arith, few)
 pub listed_few : (r : Records) → AreOfList r → (test : ActionRecord × Tally → Bool) (limit offset : ℕ) (found : List ListedAction)
     → found ≡ take limit (drop offset (listed_where test r.rollouts 1 (zip r.actions (map tally_of r.actions)))) → 4294967295 ≤ length found → ⊥
 listed_few r of test limit offset found is many = grind (arith, length-take, length-drop, few_listed, zip_few, of.are, (limits_hold of.list of.valid).actions)
+
+pub numbers_few : (r : Records) → AreOfList r → (test : ActionRecord × Tally → Bool) (numbers : List ℕ) → numbers
+    ≡ map (λ (a : ListedAction). a.number) (listed_where test r.rollouts 1 (zip r.actions (map tally_of r.actions))) → 4294967295 ≤ length numbers → ⊥
+numbers_few r of test numbers is many = grind (arith, length-map, few_listed, zip_few, of.are, (limits_hold of.list of.valid).actions)
 
 -- ---- histories
 

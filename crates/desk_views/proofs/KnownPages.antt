@@ -32,6 +32,13 @@ last_high w (suc m) (v ∷ vs) above sorted =
 
 -- ---- those from one id to another
 
+-- no part of no words begins
+starts_none : (first : Bytes) (m l : ℕ) → IsSomeAnd (slice_get (take l (drop m [])) 0) (λ id. first ≡ id) → ⊥
+starts_none first zero zero is = is
+starts_none first zero (suc l) is = is
+starts_none first (suc m) zero is = is
+starts_none first (suc m) (suc l) is = is
+
 module _ (first : Bytes) where
   -- those up to the last of the first so many
   up_to : (w : Bytes) → bytes_below w first ≡ false → (n : ℕ) (ts : List Target) → AllAbove w (ids_of ts) → IsSorted (ids_of ts)
@@ -46,13 +53,7 @@ module _ (first : Bytes) where
   -- the first of words above one is above it
   first_above : (w : Bytes) (ws : List Bytes) (m l : ℕ) → AllAbove w ws → IsSomeAnd (slice_get (take l (drop m ws)) 0) (λ id. first ≡ id)
       → bytes_below w first ≡ true
-  first_above w [] m l above is = absurd (none m l is)
-    where
-      none : (m l : ℕ) → IsSomeAnd (slice_get (take l (drop m [])) 0) (λ id. first ≡ id) → ⊥
-      none zero zero is = is
-      none zero (suc l) is = is
-      none (suc m) zero is = is
-      none (suc m) (suc l) is = is
+  first_above w [] m l above is = absurd (starts_none first m l is)
   first_above w (v ∷ vs) zero zero above is = absurd is
   first_above w (v ∷ vs) zero (suc l) above is = ap (bytes_below w) is ∙ above.0
   first_above w (v ∷ vs) (suc m) l above is = first_above w vs m l above.1 is
@@ -67,13 +68,7 @@ from_first t ts n sorted =
 
 part_between : (ts : List Target) (m l : ℕ) → IsSorted (ids_of ts) → (first last : Bytes) → AreEnds (take l (drop m (ids_of ts))) first last
     → filter (is_between first last) ts ≡ take l (drop m ts)
-part_between [] m l sorted first last ends = absurd (none m l ends.starts)
-  where
-    none : (m l : ℕ) → IsSomeAnd (slice_get (take l (drop m [])) 0) (λ id. first ≡ id) → ⊥
-    none zero zero is = is
-    none zero (suc l) is = is
-    none (suc m) zero is = is
-    none (suc m) (suc l) is = is
+part_between [] m l sorted first last ends = absurd (starts_none first m l ends.starts)
 part_between (t ∷ ts) zero zero sorted first last ends = absurd ends.starts
 part_between (t ∷ ts) zero (suc n) sorted first last ends =
     let starts : first ≡ t.id = ends.starts in

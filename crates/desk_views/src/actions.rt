@@ -5,7 +5,8 @@ ghost use Rattle.std.specs.Option.{option_map};
 ghost use Rattle.rollout_machine.specs.Answers.{action_of_target};
 ghost use Rattle.rollout_machine.specs.ByteStrings.{item_numbered};
 ghost use Rattle.rollout_machine.specs.Groups.{holds_position};
-ghost use Rattle.rollout_machine.specs.Objects.{entry_shown, numbered};
+ghost use Rattle.rollout_machine.specs.Objects.{actions_of_target, entry_shown, numbered};
+ghost use Rattle.rollout_machine.specs.Replies.{ShownAction};
 ghost use Rattle.rollout_machine.specs.StateWords.{group_holding};
 ghost use Rattle.rollout_machine.specs.Requests.{ShowAction, ShowActionsTable, ShowHistory, ShowTargetActions};
 ghost use Rattle.desk_records.specs.Actions.{history_of};
@@ -16,7 +17,6 @@ ghost use Rattle.sql_calls.specs.declared.fault.Fault.TheVariants.{Broken, Memor
 ghost use Rattle.desk_store.specs.Rows.{IfRowsBroken};
 ghost use Rattle.desk_store.specs.Changing.{FindsIn, StaysIn};
 
-use crate::pages::part_on;
 use campaign_core::{ActionStatus, action_word};
 use desk_store::{Fault, ListedAction, OpenChange, PlacedNumber, StoredAction};
 use rollout_machine::GroupRecord;
@@ -47,10 +47,31 @@ pub fn show_target_actions<S: Alter>(
     if change.read_target(&id)?.is_none() {
         return Ok(Reply::Refused(Refusal::NotFound));
     }
-    let all = change.read_target_actions(&id, WHOLE)?;
-    let total = count_of(&all)?;
-    let content = read_all_shown(alloc, change, part_on(&all, page))?;
+    let numbers = change.read_action_numbers(&id)?;
+    let total = count_of(&numbers)?;
+    let content = read_actions_on(alloc, change, &id, &numbers, page)?;
     Ok(Reply::Actions(PageOf { content, total }))
+}
+
+/// The actions of a target that are on a page, as they are shown, by the numbers of all its actions.
+fn read_actions_on<S: Alter>(
+    alloc: Global,
+    change: &mut OpenChange<'_, S>,
+    id: &ControllerId,
+    numbers: &[ActionNo],
+    page: Page,
+) -> Result<Vec<Action>, Fault>
+    ensures stays { StaysIn S.Store change.old change.new result }
+    ensures reads { FindsAtListsIn S.Store change.old change.new result (λ now found.
+        numbers.now ≡ map (λ (a : ShownAction). a.number) (actions_of_target now id.now)
+        → found.items ≡ take page.limit (drop page.offset (actions_of_target now id.now))) }
+    ensures fails { FailsAtListsIn S.Store change.old change.new result }
+{
+    let Some(first) = numbers.get(page.offset as usize) else {
+        return Ok(Vec::new(alloc));
+    };
+    let listed = change.read_target_actions(id, *first, page.limit)?;
+    read_all_shown(alloc, change, &listed)
 }
 
 /// Shows all actions of a rollout, in the order of their numbers.
@@ -187,7 +208,7 @@ fn number_at(numbers: &[PlacedNumber], place: u32) -> Option<FeedbackNumber>
 }
 
 /// How many were listed. Where they are as many as a statement lists there may be more, and the store has failed.
-fn count_of(listed: &[ListedAction]) -> Result<u32, Fault>
+fn count_of<T>(listed: &[T]) -> Result<u32, Fault>
     ensures { MatchResult result (λ count. (count ≡ length listed.now) × (count < 4294967295))
         (λ fault. (fault ≡ Broken) × (4294967295 ≤ length listed.now)) }
 {

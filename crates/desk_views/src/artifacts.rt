@@ -16,7 +16,7 @@ ghost use Rattle.desk_store.specs.Rows.{IfRowsBroken};
 ghost use Rattle.desk_views.specs.Sizes.{AgreesIn, IsArtifactOf, KeepsSize};
 ghost use Rattle.desk_store.specs.Changing.{FindsIn, StaysIn};
 
-use crate::pages::part_on;
+use crate::pages::{part_on, total_of};
 use desk_store::{Fault, OpenChange, StoredArtifact};
 use rollout_model::limits::{ARTIFACT_SIZE_LIMIT, PIECE_LENGTH};
 use rollout_model::{Artifact, ArtifactNo, Contents, ModuleNo, Page, PageOf, Refusal, Reply};
@@ -104,9 +104,7 @@ fn part_of(alloc: Global, all: &[Artifact], page: Page) -> Result<PageOf<Artifac
     ensures total { IfOk result (λ part. part.total ≡ length all.now) }
     ensures err { IfErr result (λ fault. IfRowsBroken fault (2 ^ 32 ≤ length all.now)) }
 {
-    let Ok(total) = u32::try_from(all.len()) else {
-        return Err(Fault::Broken);
-    };
+    let total = total_of(all)?;
     let content = Vec::from_slice(alloc, part_on(all, page))?;
     Ok(PageOf { content, total })
 }

@@ -1,6 +1,6 @@
 //! Pages of lists.
 
-ghost use Rattle.std.specs.Prelude.{◌≡◌, ◌≤◌, ◌-◌, ◌&&◌, ℕ, List, Some, drop, length, min, nat_le, nat_lt, take};
+ghost use Rattle.std.specs.Prelude.{◌≡◌, ◌≤◌, ◌-◌, ◌^◌, ◌&&◌, ℕ, IfErr, IfOk, List, Some, drop, length, min, nat_le, nat_lt, take};
 ghost use Rattle.std.specs.Option.{option_map};
 ghost use Rattle.rollout_machine.specs.ByteStrings.{item_numbered};
 ghost use Rattle.rollout_machine.specs.CommandList.{CommandList};
@@ -10,6 +10,7 @@ ghost use Rattle.rollout_machine.specs.Validity.{IsValid};
 ghost use Rattle.rollout_machine.specs.Views.{listed};
 ghost use Rattle.desk_reads.specs.AtLists.{AreOfList, FailsAtListsIn, FailsWith};
 ghost use Rattle.desk_store.specs.Changing.{FindsIn, StaysIn};
+ghost use Rattle.desk_store.specs.Rows.{IfRowsBroken};
 
 use desk_store::{Fault, OpenChange};
 use rollout_model::{Number, Page, PageOf};
@@ -98,6 +99,17 @@ pub(crate) fn count_on(page: Page, total: u32) -> u32
     ensures { result ≡ min page.limit (total - page.offset) }
 {
     page.limit.min(total.saturating_sub(page.offset))
+}
+
+/// How many entries a list has. Where they are more than are counted, the store has failed.
+pub(crate) fn total_of<T>(all: &[T]) -> Result<u32, Fault>
+    ensures ok { IfOk result (λ total. total ≡ length all.now) }
+    ensures err { IfErr result (λ fault. IfRowsBroken fault (2 ^ 32 ≤ length all.now)) }
+{
+    match u32::try_from(all.len()) {
+        Ok(total) => Ok(total),
+        Err(_) => Err(Fault::Broken),
+    }
 }
 
 /// Whether the entry that comes after so many others is on the page.

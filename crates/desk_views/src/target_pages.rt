@@ -15,7 +15,7 @@ ghost use Rattle.desk_records.specs.Targets.{ids_of, in_byte_order};
 ghost use Rattle.desk_reads.specs.Targets.{IsNamedBy, listed_ids, parts_left, target_listed, with_rest};
 ghost use Rattle.desk_store.specs.Changing.{FindsIn, StaysIn};
 
-use crate::pages::is_on;
+use crate::pages::{is_on, total_of};
 use crate::targets::with_word;
 use desk_reads::{Asked, named_by, read_all_asked, read_candidates, read_rest};
 use desk_store::{Fault, ListedTarget, OpenChange};
@@ -51,24 +51,10 @@ fn show_all<S: Alter>(
     ensures reads { FindsIn S.Store change.old change.new result (λ now reply. reply_of reply ≡ query_reply now (ShowTargets None page)) }
     ensures fails { FailsAtListsIn S.Store change.old change.new result }
 {
-    let total = change.read_target_count()?;
-    let content = read_target_page(alloc, change, page)?;
+    let ids = read_target_ids(change)?;
+    let total = total_of(&ids)?;
+    let content = read_known_page(alloc, change, &ids, page)?;
     Ok(Reply::Targets(PageOf { content, total }))
-}
-
-/// The targets on a page of all, in byte order of their ids. How many there are isn't read.
-fn read_target_page<S: Alter>(
-    alloc: Global,
-    change: &mut OpenChange<'_, S>,
-    page: Page,
-) -> Result<Vec<ShownTarget>, Fault>
-    ensures stays { StaysIn S.Store change.old change.new result }
-    ensures reads { FindsIn S.Store change.old change.new result (λ now content. IsContentOf page now content.items) }
-    ensures fails { FailsAtListsIn S.Store change.old change.new result }
-{
-    let entries = change.read_targets(page)?;
-    let content = read_entries(alloc, change, entries)?;
-    Ok(content)
 }
 
 /// The ids of all targets, in byte order.

@@ -17,6 +17,7 @@ pub returns-clause-reads : goal.returns-clause-reads
 returns-clause-reads g c =
     finds_as (found_held (λ db r holds. holds.sorted) (both_found c.in_ok-entries.ensures.reads c.in_ok-content.ensures.reads))
     (λ r is ids.
-    let listed = (rw (c.as_str.ensures.value, c.as_str-2.ensures.value) at is.1.0) ∙ ap (map listed_target) (page_between r c.args.page c.args.ids.now _ ids c.ids_on-on.ensures is.0 _ _ c.in-Some.ensures) in
+    let listed = (rw (c.as_str.ensures.value, c.as_str-2.ensures.value) at is.1.0)
+    ∙ ap (map listed_target) (page_between r c.args.page c.args.ids.now _ ids c.ids_on-on.ensures is.0 _ _ c.in-Some.ensures) in
     content_is r c.args.page c.in_ok-entries.entries.items c.in_ok-content.content.items is.0 listed
     (is.1.1 (ap (λ l. in_byte_order (listed_ids l)) listed ∙ part_ordered r is.0 c.args.page.limit c.args.page.offset)))
