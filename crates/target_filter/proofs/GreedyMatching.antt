@@ -178,7 +178,7 @@ behind_greedy (p ∷ q ∷ ps) t (gap, rest, e, g) =
 abbrev pub no_star : ℕ → Bool
 no_star b = not (b == 42)
 
-in_front_one : (b : ℕ) (t : List ℕ) (c : Bool) → (b == 42) ≡ c → not c ≡ true → pieces t ≡ t ∷ [] → pieces (b ∷ t) ≡ (b ∷ t) ∷ []
+pub in_front_one : (b : ℕ) (t : List ℕ) (c : Bool) → (b == 42) ≡ c → not c ≡ true → pieces t ≡ t ∷ [] → pieces (b ∷ t) ≡ (b ∷ t) ∷ []
 in_front_one b t c e h k = grind arith
 
 pub one_piece : (t : List ℕ) → list_all no_star t ≡ true → pieces t ≡ t ∷ []

@@ -1,5 +1,6 @@
 -- What a filter names of a target. What it doesn't name needn't be known.
-use Rattle.std.specs.Prelude.{◌≡◌, ℕ, Bool, true, false, ◌||◌, List, [], ◌∷◌, ◌++◌}
+use Rattle.std.specs.Prelude.{◌≡◌, ℕ, Bool, true, false, cond, filter, nat_eq, ◌&&◌, ◌||◌, List, [], ◌∷◌, ◌++◌}
+use Rattle.std.specs.Cmp.Lexicographic.{pointwise}
 use Rattle.rollout_model.specs.declared.target.Target.{Target}
 use Rattle.target_filter.specs.Grammar.{Field, Id, Name, Tag, Attribute, Operator, Equal, NotEqual, Tree, Or, And, Group, Comparison}
 use Rattle.target_filter.specs.Meaning.{pattern_of}
@@ -31,14 +32,7 @@ names_attributes (And left right) = names_attributes left || names_attributes ri
 names_attributes (Group tree) = names_attributes tree
 names_attributes (Comparison field operator value) = is_attribute_field field
 
--- the targets are alike in id and name, and in tags and attributes where the filter names them
-pub record AreAlikeWhereNamed (tree : Tree) (t u : Target) : Type 0 where
-  pub id : t.id ≡ u.id
-  pub name : t.name ≡ u.name
-  pub tags : names_tags tree ≡ true → t.tags ≡ u.tags
-  pub attributes : names_attributes tree ≡ true → t.attributes ≡ u.attributes
-
--- ---- how an id begins
+-- ---- how patterns begin
 
 abbrev pub first_piece : List (List ℕ) → List ℕ
 first_piece [] = []
@@ -47,6 +41,55 @@ first_piece (piece ∷ more) = piece
 -- what stands before the first star
 abbrev pub before_star : List ℕ → List ℕ
 before_star pattern = first_piece (pieces pattern)
+
+-- the first, unless it is empty
+abbrev pub first_told : List ℕ → List ℕ → List ℕ
+first_told [] other = other
+first_told (b ∷ bs) other = b ∷ bs
+
+-- ---- which tag it names
+
+-- what stands before the first star, where tags are compared
+abbrev pub tag_start : Field → List ℕ → List ℕ
+tag_start field start = cond (is_tag_field field) start []
+
+-- how the first pattern begins that tags are compared with, of those that begin with something
+abbrev pub first_tag : Tree → List ℕ
+first_tag (Or left right) = first_told (first_tag left) (first_tag right)
+first_tag (And left right) = first_told (first_tag left) (first_tag right)
+first_tag (Group tree) = first_tag tree
+first_tag (Comparison field operator value) = tag_start field (before_star (pattern_of value))
+
+-- tags aren't compared, or with this text
+abbrev pub is_only : List ℕ → Field → List ℕ → Bool
+is_only tag field pattern = cond (is_tag_field field) (pointwise nat_eq pattern tag) true
+
+-- tags are compared with this text alone
+abbrev pub names_only : List ℕ → Tree → Bool
+names_only tag (Or left right) = names_only tag left && names_only tag right
+names_only tag (And left right) = names_only tag left && names_only tag right
+names_only tag (Group tree) = names_only tag tree
+names_only tag (Comparison field operator value) = is_only tag field (pattern_of value)
+
+-- the only text without a star that tags are compared with: empty where there is none
+abbrev pub only_tag : Tree → List ℕ
+only_tag tree = cond (names_only (first_tag tree) tree) (first_tag tree) []
+
+-- those of the tags that are this one, or all where it is empty
+abbrev pub tags_like : List ℕ → List (List ℕ) → List (List ℕ)
+tags_like [] tags = tags
+tags_like (b ∷ bs) tags = filter (λ (w : List ℕ). pointwise nat_eq w (b ∷ bs)) tags
+
+-- ---- what it doesn't depend on
+
+-- the targets are alike in id and name, in tags where the filter names them, as far as it names one alone, and in attributes where it names them
+pub record AreAlikeWhereNamed (tree : Tree) (t u : Target) : Type 0 where
+  pub id : t.id ≡ u.id
+  pub name : t.name ≡ u.name
+  pub tags : names_tags tree ≡ true → tags_like (only_tag tree) t.tags ≡ tags_like (only_tag tree) u.tags
+  pub attributes : names_attributes tree ≡ true → t.attributes ≡ u.attributes
+
+-- ---- how an id begins
 
 abbrev pub start_if_equal : Operator → List ℕ → List ℕ
 start_if_equal Equal start = start
@@ -58,11 +101,6 @@ compared_start Id operator start = start_if_equal operator start
 compared_start Name operator start = []
 compared_start Tag operator start = []
 compared_start (Attribute key) operator start = []
-
--- the first, unless it is empty
-abbrev pub first_told : List ℕ → List ℕ → List ℕ
-first_told [] other = other
-first_told (b ∷ bs) other = b ∷ bs
 
 -- how the id of each target begins that matches, as far as comparisons say it that `;` joins
 abbrev pub id_start : Tree → List ℕ

@@ -5,7 +5,7 @@ ghost use Rattle.std.specs.Option.{IsSomeAnd};
 ghost use Rattle.std.specs.Result.{MatchResult};
 ghost use Rattle.target_filter.specs.Grammar.{Tree, IsFilter};
 ghost use Rattle.target_filter.specs.Meaning.{holds};
-ghost use Rattle.target_filter.specs.Names.{id_start, names_attributes, names_tags};
+ghost use Rattle.target_filter.specs.Names.{id_start, names_attributes, names_tags, only_tag};
 ghost use Rattle.target_filter.specs.Profile.{IsProfileFilter, IsInProfile, filter_of};
 ghost use Rattle.target_filter.specs.Faults.{IsRefused};
 ghost use Rattle.target_filter.specs.Views.{tree_of};
@@ -110,6 +110,15 @@ impl Filter {
         ensures computed { IsSomeAnd (filter_of self.now) (λ tree. result ≡ names_tags tree) }
     {
         self.tree.names_tags()
+    }
+
+    /// The only text without a star that tags are compared with: empty where there is none. Where there is one, what the filter says
+    /// of a target doesn't depend on the target's other tags.
+    pub fn only_tag(&self) -> &[u8]
+        ensures meaning { (tree : Tree) → IsFilter self.now tree → result.now ≡ only_tag tree }
+        ensures computed { IsSomeAnd (filter_of self.now) (λ tree. result.now ≡ only_tag tree) }
+    {
+        self.tree.only_tag()
     }
 
     /// Does the filter name an attribute? Where it doesn't, what it says of a target doesn't depend on the target's attributes.

@@ -4,7 +4,8 @@ ghost use Rattle.std.specs.Prelude.{◌≡◌};
 ghost use Rattle.std.specs.List.{list_any};
 ghost use Rattle.target_filter.specs.Patterns.{matches};
 ghost use Rattle.target_filter.specs.Meaning.{holds, field_matches, attribute_matches, compared, pattern_of};
-ghost use Rattle.target_filter.specs.Names.{before_star, compared_start, first_told, id_start, is_attribute_field, is_tag_field, names_attributes, names_tags};
+ghost use Rattle.target_filter.specs.Names.{before_star, compared_start, first_tag, first_told, id_start, is_attribute_field, is_only, is_tag_field};
+ghost use Rattle.target_filter.specs.Names.{names_attributes, names_only, names_tags, only_tag, tag_start};
 ghost use Rattle.target_filter.specs.Views.{tree_of, field_of, operator_of, value_of};
 
 use crate::pattern::{before_star, matches};
@@ -122,6 +123,20 @@ fn first_told<'a>(first: &'a [u8], other: &'a [u8]) -> &'a [u8]
     if first.is_empty() { other } else { first }
 }
 
+/// How the pattern begins, where tags are compared with it.
+fn tag_start<'a>(field: &Field, start: &'a [u8]) -> &'a [u8]
+    ensures { result.now ≡ tag_start (field_of field.now) start.now }
+{
+    if field.is_tag() { start } else { &[] }
+}
+
+/// Are tags not compared, or with this text?
+fn is_only(tag: &[u8], field: &Field, pattern: &[u8]) -> bool
+    ensures { result ≡ is_only tag.now (field_of field.now) pattern.now }
+{
+    !field.is_tag() || pattern == tag
+}
+
 /// How an id begins by a comparison with a pattern that begins so.
 fn compared_start<'a>(field: &Field, operator: Operator, start: &'a [u8]) -> &'a [u8]
     ensures { result.now ≡ compared_start (field_of field.now) (operator_of operator) start.now }
@@ -170,6 +185,41 @@ impl Tree {
             Tree::Group(tree) => tree.names_attributes(),
             Tree::Comparison(field, _, _) => field.is_attribute(),
         }
+    }
+
+    /// How the first pattern begins that tags are compared with, of those that begin with something.
+    fn first_tag(&self) -> &[u8]
+        ensures { result.now ≡ first_tag (tree_of self.now) }
+    {
+        match self {
+            Tree::Or(left, right) | Tree::And(left, right) => first_told(
+                left.first_tag(),
+                right.first_tag(),
+            ),
+            Tree::Group(tree) => tree.first_tag(),
+            Tree::Comparison(field, _, value) => tag_start(field, before_star(value.pattern())),
+        }
+    }
+
+    /// Are tags compared with this text alone?
+    fn names_only(&self, tag: &[u8]) -> bool
+        ensures { result ≡ names_only tag.now (tree_of self.now) }
+    {
+        match self {
+            Tree::Or(left, right) | Tree::And(left, right) => {
+                left.names_only(tag) && right.names_only(tag)
+            }
+            Tree::Group(tree) => tree.names_only(tag),
+            Tree::Comparison(field, _, value) => is_only(tag, field, value.pattern()),
+        }
+    }
+
+    /// The only text without a star that tags are compared with: empty where there is none.
+    pub(crate) fn only_tag(&self) -> &[u8]
+        ensures { result.now ≡ only_tag (tree_of self.now) }
+    {
+        let first = self.first_tag();
+        if self.names_only(first) { first } else { &[] }
     }
 
     /// How the id of each target begins that matches, as far as comparisons say it that `;` joins.
