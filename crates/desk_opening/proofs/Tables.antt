@@ -19,7 +19,7 @@ use Rattle.sqlite_rules.proofs.ListLemmas.{has_got, has_right}
 use Rattle.sqlite_keyed.proofs.ListLemmas.{all_weaker}
 use Rattle.sql_front.proofs.Created.{stands_kept, stands_last}
 use Rattle.sql_front.proofs.Grown.{Grown, grown}
-use Rattle.rollout_machine.specs.RecordSteps.{no_records}
+use Rattle.rollout_machine.proofs.RecordRuns.{no_records}
 use Rattle.rollout_machine.proofs.Answering.{made_records}
 use Rattle.sql_calls.specs.Keyed.{IsHeldBy}
 use Rattle.desk_opening.proofs.EachVersion.{has_offers, nothing}

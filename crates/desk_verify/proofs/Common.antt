@@ -30,10 +30,10 @@ pub use Rattle.artifact_pieces.specs.Pieces.{piece_count}
 pub use Rattle.rollout_machine.proofs.GroupCounts.{groups_are_counted}
 pub use Rattle.rollout_machine.proofs.Groupings.{each_rule, grouping_is_cut}
 pub use Rattle.rollout_machine.proofs.Lists.{each_there, length_each, numbered_each}
-pub use Rattle.rollout_machine.proofs.MemberActions.{actions_follow_members}
+pub use Rattle.rollout_machine.proofs.MemberActions.{IsOfMember, actions_follow_members}
 pub use Rattle.rollout_machine.proofs.Offers.{offered_one}
 pub use Rattle.rollout_machine.proofs.TargetTies.{same_refl, same_true}
-pub use Rattle.rollout_machine.proofs.WithinLimits.{each_created, limits_hold, made}
+pub use Rattle.rollout_machine.proofs.WithinLimits.{IsWithinLimits, each_created, limits_hold, made}
 pub use Rattle.rollout_machine.specs.Actions.{history, outcome_said}
 pub use Rattle.rollout_machine.specs.ByteStrings.{item_numbered}
 pub use Rattle.rollout_machine.specs.CommandList.{CommandList, Make, ◌▸◌}
@@ -44,13 +44,11 @@ pub use Rattle.rollout_machine.specs.GroupCounts.{IsCountedGroup}
 pub use Rattle.rollout_machine.specs.GroupRules.{GroupRule, rule_at, rules_of}
 pub use Rattle.rollout_machine.specs.Groupings.{GroupDefinition, bounds_by, cut_by, last_by, leaves_empty}
 pub use Rattle.rollout_machine.specs.Kinds.{TargetOffer, count_actions, offer_to}
-pub use Rattle.rollout_machine.specs.MemberActions.{IsOfMember}
 pub use Rattle.rollout_machine.specs.Offers.{offer}
 pub use Rattle.rollout_machine.specs.Records.{ArtifactRecord, Records, records}
 pub use Rattle.rollout_machine.specs.Reports.{HistoryEntry, Reported, Said, reported_by}
 pub use Rattle.rollout_machine.specs.StateWords.{has_started, member_at}
 pub use Rattle.rollout_machine.specs.Validity.{IsValid}
-pub use Rattle.rollout_machine.specs.WithinLimits.{IsWithinLimits}
 pub use Rattle.rollout_machine.specs.declared.bounds.Bounds.{Bounds}
 pub use Rattle.rollout_machine.specs.declared.outcome.Outcome.{Outcome}
 pub use Rattle.rollout_machine.specs.declared.outcome.Outcome.TheVariants.{Bad, Gone, Good}

@@ -5,7 +5,7 @@ use Rattle.desk_views.proofs.Common.{rule_there, rules_there, BothOrNone, item_n
 use Rattle.desk_views.proofs.Common.{RolloutRecord, groups_are, made, AreOfList, IsSeenOf, SeenRollout, HasUnshown, IsGroupOf, has_dropped, has_taken}
 use Rattle.rollout_machine.specs.Effects.{HasSoundPlan}
 use Rattle.rollout_machine.specs.Ranges.{each_from}
-use Rattle.rollout_machine.specs.WithinLimits.{IsWithinLimits}
+use Rattle.rollout_machine.proofs.WithinLimits.{IsWithinLimits}
 use Rattle.rollout_machine.proofs.Lists.{length_each}
 
 -- ---- members of lists

@@ -1,11 +1,12 @@
 -- What answers are, by what is asked, and which refusals they can have.
 use native.Mathlib.Omega.{arith}
 use Rattle.rollout_machine.proofs.Common.{◌≡◌, Bool, Some, None, refl, query_reply, command_reply, CommandList, Make, ◌▸◌, Command, step_records}
-use Rattle.rollout_machine.proofs.Common.{no_records, Refused, Query, Do, Ask, Asks, IsValid, verdict, Refusal}
+use Rattle.rollout_machine.proofs.Common.{Refused, Query, Do, Ask, Asks, IsValid, verdict, Refusal}
 use Rattle.rollout_machine.specs.Answers.{answer}
 use Rattle.rollout_machine.specs.Records.{records}
 use Rattle.rollout_machine.specs.Requests.{Rejected}
 use Rattle.rollout_machine.proofs.Main.{records_step}
+use Rattle.rollout_machine.proofs.RecordRuns.{no_records}
 
 -- ---- what is asked, one by one
 

@@ -32,7 +32,7 @@ pub use Rattle.rollout_machine.specs.Commands.{Feedback, Gone, Good, ModuleLabel
 pub use Rattle.rollout_machine.specs.Commands.{Rejected, RejectedCancel, Resume, RolloutPlan, SetLabel, Start, Succeeded, Tag, TargetRow, TriggerNext, Untag}
 pub use Rattle.rollout_machine.specs.Commands.{Upload}
 pub use Rattle.rollout_machine.specs.Counts.{error_holds, is_outcome, reaches, success_holds, tally}
-pub use Rattle.rollout_machine.specs.Effects.{FollowsFeedback, FollowsResume, FollowsTrigger, GetsOutcome, HasSoundPlan, IsGroupView, IsInGroup, IsLast, IsView}
+pub use Rattle.rollout_machine.specs.Effects.{FollowsResume, FollowsTrigger, GetsOutcome, HasSoundPlan, IsGroupView, IsInGroup, IsLast, IsView}
 pub use Rattle.rollout_machine.specs.Effects.{OutcomesStarted, StartedOnly, feedback_pauses, good_after, last_with, next_if, starts_next}
 pub use Rattle.rollout_machine.specs.Filters.{matches}
 pub use Rattle.rollout_machine.specs.Groupings.{GroupDefinition, GroupingCovers, cut_by, last_defined, leaves_empty, percentages, some_empty}
@@ -48,9 +48,9 @@ pub use Rattle.rollout_machine.specs.Progress.{error_begins_at, is_group_started
 pub use Rattle.rollout_machine.specs.Progress.{is_trigger_of, next_started, pause_begins}
 pub use Rattle.rollout_machine.specs.Ranges.{count_from, each_from, some_up_to}
 pub use Rattle.rollout_machine.specs.RecordSteps.{act_on, action_after, begin_rollout, change_rollout, change_target, counted, group_view, is_item_number}
-pub use Rattle.rollout_machine.specs.RecordSteps.{is_same_action, last_started, new_action, new_actions, new_group, new_rollout, new_target, no_records}
+pub use Rattle.rollout_machine.specs.RecordSteps.{is_same_action, last_started, new_action, new_actions, new_group, new_rollout, new_target}
 pub use Rattle.rollout_machine.specs.RecordSteps.{outcome_if_new, own_group, put_target, put_targets, resumed, rollout_after, rollouts_after_outcome}
-pub use Rattle.rollout_machine.specs.RecordSteps.{run_records, start_group, step_action, step_records, triggered, view_from_group, view_of}
+pub use Rattle.rollout_machine.specs.RecordSteps.{start_group, step_action, step_records, triggered, view_from_group, view_of}
 pub use Rattle.rollout_machine.specs.Records.{ActionRecord, Approval, ArtifactRecord, Denied, Given, GroupRecord, Records, RolloutRecord, Waiting, action_in}
 pub use Rattle.rollout_machine.specs.Records.{added_artifacts, approval_by, approval_of, artifacts, decided, decision_on, group_in, modules, needs_approval}
 pub use Rattle.rollout_machine.specs.Records.{records, rollout_in, rollouts_in, sets}

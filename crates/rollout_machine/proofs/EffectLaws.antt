@@ -3,11 +3,17 @@ use Rattle.rollout_machine.proofs.Common.{◌≡◌, ℕ, zero, suc, ◌+◌, �
 use Rattle.rollout_machine.proofs.Common.{None, nat_lt, nat_eq, and-true, or-false, or-true, cases_eq, cases_lt, ne_eqb, eq-eqb, false≢true, lt-ltb, action_of}
 use Rattle.rollout_machine.proofs.Common.{is_on_action, is_action_place, outcome, CommandList, Make, ◌▸◌, Command, Resume, TriggerNext, Outcome, Good, Bad}
 use Rattle.rollout_machine.proofs.Common.{tally, reaches, success_holds, is_outcome, IsLast, HasSoundPlan, StartedOnly, GetsOutcome, IsView, feedback_pauses}
-use Rattle.rollout_machine.proofs.Common.{good_after, next_if, starts_next, last_with, FollowsFeedback, FollowsResume, FollowsTrigger, is_group_started}
+use Rattle.rollout_machine.proofs.Common.{good_after, next_if, starts_next, last_with, FollowsResume, FollowsTrigger, is_group_started}
 use Rattle.rollout_machine.proofs.Common.{next_started, is_paused, error_begins_at, is_trigger_of, some_up_to, Rollout, size_in, success_at, Effects}
 use Rattle.rollout_machine.specs.declared.view.RolloutView.{RolloutView}
 use Rattle.rollout_machine.proofs.Starts.{starts_one_more, last_after}
 use Rattle.rollout_machine.proofs.Tallies.{untouched, no_success, tally_same, tally_gains, tally_elsewhere, quiet, paused_after_outcome, no_error_begins}
+
+-- The effects are those of any command that gives the outcome o to an open action of the view's own group.
+abbrev FollowsFeedback : RolloutView → Outcome → Effects → Type 0
+FollowsFeedback v o effects =
+    (x : Rollout) (r g j l : ℕ) (h : CommandList) (c : Command) → IsView v x r g l h → StartedOnly x r h c → GetsOutcome x r g j h c o
+    → (is_paused x r (h ▸ c) ≡ (effects.pauses || is_paused x r h)) × IsLast x r (h ▸ c) (last_with effects.starts l)
 
 -- what `next_if` starts, beside the last group
 next_is : (b : Bool) (n l : ℕ) → n ≡ l → last_with (next_if b n) l ≡ cond b (suc l) l

@@ -3,10 +3,23 @@ use native.Mathlib.Omega.{arith}
 use Rattle.rollout_machine.proofs.Common.{◌≡◌, ℕ, Bool, true, false, cond, ◌&&◌, List, [], ◌∷◌, ◌++◌, refl, sym, ◌∙◌, subst, inl, inr, Option, Some, None}
 use Rattle.rollout_machine.proofs.Common.{is_none, option_or, history, outcome, outcome_given, outcome_said, CommandList, Make, ◌▸◌}
 use Rattle.rollout_machine.proofs.Common.{Command, Cancel, CancelFeedback, Feedback, Outcome, Gone, HistoryEntry, Reported, entries_in, reported_by}
-use Rattle.rollout_machine.specs.Histories.{first_outcome, FitsHistory, OutcomesFitHistories}
+use Rattle.std.specs.Prelude.{◌⊎◌}
+use Rattle.rollout_machine.specs.ByteStrings.{item_numbered}
+use Rattle.rollout_machine.specs.Histories.{first_outcome}
+use Rattle.rollout_machine.specs.Records.{ActionRecord, records}
 use Rattle.rollout_machine.proofs.Actions.{append_none, entries_both}
 use Rattle.rollout_machine.proofs.AtNumbers.{has_place}
 use Rattle.rollout_machine.proofs.Tallies.{or_none}
+
+-- Where entries give outcomes, the action has that of the first. Where none gives one, it is open, or gone: by a forced cancel, which leaves no entry.
+pub record FitsHistory (outcome : Option Outcome) (history : List HistoryEntry) : Type 0 where
+  pub given : (said : Outcome) → first_outcome history ≡ Some said → outcome ≡ Some said
+  pub not_given : first_outcome history ≡ None → (outcome ≡ None) ⊎ (outcome ≡ Some Gone)
+
+-- so it is with each action of the records
+abbrev pub OutcomesFitHistories : Type 0
+OutcomesFitHistories = (h : CommandList) (k : ℕ) (a : ActionRecord) → item_numbered (records h).actions k ≡ Some a
+    → FitsHistory a.outcome (entries_in a.history)
 
 -- entries behind a history that gives no outcome
 first_behind : (es fs : List HistoryEntry) → first_outcome es ≡ None → first_outcome (es ++ fs) ≡ first_outcome fs

@@ -3,7 +3,6 @@ use Rattle.rollout_machine.proofs.Common.{◌≡◌, ℕ, ◌+◌, ◌≤◌, tr
 use Rattle.rollout_machine.proofs.Common.{ActionPlace, action_place, action_places, new_places, item_numbered, CommandList, Make, ◌▸◌, Bytes, Command, Start}
 use Rattle.rollout_machine.proofs.Common.{started_sizes, is_rollout_started, is_start_of, ActionRecord, RolloutRecord, action_in, rollout_in, Rollout, created}
 use Rattle.rollout_machine.proofs.Common.{rollout_at, rollouts, size_of, IsValid}
-use Rattle.rollout_machine.specs.MemberActions.{ActionsFollowMembers, HasAction, IsOfMember}
 use Rattle.rollout_machine.specs.Records.{records}
 use Rattle.rollout_machine.proofs.Actions.{numbered_map}
 use Rattle.rollout_machine.proofs.AtNumbers.{has_place, item_in, item_within, of_rollout, recorded}
@@ -11,6 +10,38 @@ use Rattle.rollout_machine.proofs.Distinct.{one_number}
 use Rattle.rollout_machine.proofs.Induction.{admitted, invariant_of, stays_numbered}
 use Rattle.rollout_machine.proofs.Meanings.{numbers_actions}
 use Rattle.rollout_machine.proofs.Valid.{IsPlace}
+use Rattle.std.specs.Prelude.{◌<◌}
+use Rattle.rollout_machine.specs.Records.{Records}
+
+-- the action is of a member of a started rollout
+pub record IsOfMember (rs : Records) (a : ActionRecord) : Type 0 where
+  pub rollout : RolloutRecord
+  pub there : item_numbered rs.rollouts a.rollout ≡ Some rollout
+  pub started : rollout.started ≡ true
+  pub target : Bytes
+  pub member : item_numbered rollout.members a.position ≡ Some target
+
+-- rollout r has an action for its member at position j
+pub record HasAction (rs : Records) (r j : ℕ) : Type 0 where
+  pub number : ℕ
+  pub action : ActionRecord
+  pub numbered : item_numbered rs.actions number ≡ Some action
+  pub rollout : action.rollout ≡ r
+  pub position : action.position ≡ j
+
+-- Each action is of a member of a started rollout, and each such member has an action. No two actions of one rollout are at one position, and
+-- the one at the later position has the greater number.
+pub record FollowMembers (rs : Records) : Type 0 where
+  pub of_members : (k : ℕ) (a : ActionRecord) → item_numbered rs.actions k ≡ Some a → IsOfMember rs a
+  pub each_member : (r : ℕ) (x : RolloutRecord) (j : ℕ) (t : Bytes) → item_numbered rs.rollouts r ≡ Some x → x.started ≡ true
+      → item_numbered x.members j ≡ Some t → HasAction rs r j
+  pub apart : (j k : ℕ) (a b : ActionRecord) → item_numbered rs.actions j ≡ Some a → item_numbered rs.actions k ≡ Some b → a.rollout ≡ b.rollout
+      → a.position ≡ b.position → j ≡ k
+  pub in_order : (j k : ℕ) (a b : ActionRecord) → item_numbered rs.actions j ≡ Some a → item_numbered rs.actions k ≡ Some b → a.rollout ≡ b.rollout
+      → a.position < b.position → j < k
+
+abbrev pub ActionsFollowMembers : Type 0
+ActionsFollowMembers = (h : CommandList) → IsValid h → FollowMembers (records h)
 
 -- ---- the actions of a started rollout stand in a row
 

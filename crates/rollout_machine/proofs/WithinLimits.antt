@@ -8,13 +8,40 @@ use Rattle.rollout_machine.proofs.Common.{last_of, members_of, rollout_at, rollo
 use Rattle.rollout_machine.proofs.Common.{verdict, verdict_row}
 use Rattle.std.proofs.lemmas.List.Sums.{count_by-le-length, length-filter}
 use Rattle.rollout_machine.specs.Records.{records}
-use Rattle.rollout_machine.specs.WithinLimits.{CountsNoMore, IsWithinLimits, LimitsHold}
 use Rattle.rollout_machine.proofs.Counts.{count_few}
 use Rattle.rollout_machine.proofs.AtNumbers.{of_group, of_rollout}
 use Rattle.rollout_machine.proofs.Creates.{length_in}
 use Rattle.rollout_machine.proofs.Induction.{either_numbered, invariant_of}
 use Rattle.rollout_machine.proofs.StartedSizes.{few_actions}
 use Rattle.rollout_machine.proofs.Valid.{NoneHolds, none_holds}
+use Rattle.std.specs.Prelude.{◌*◌}
+use Rattle.rollout_machine.specs.ByteStrings.{item_numbered}
+use Rattle.rollout_machine.specs.Records.{GroupRecord, Records, RolloutRecord}
+use Rattle.rollout_model.specs.Limits.{artifact_limit, group_limit, rollout_limit, target_limit}
+
+-- a group counts no more actions than its rollout has members
+pub record CountsNoMore (members : ℕ) (g : GroupRecord) : Type 0 where
+  pub ok : g.ok ≤ members
+  pub bad : g.bad ≤ members
+  pub gone : g.gone ≤ members
+
+-- a rollout has no more members than a desk takes targets, and no more groups than the limit and than its members
+pub record IsWithinLimits (x : RolloutRecord) : Type 0 where
+  pub members : length x.members ≤ target_limit
+  pub some_groups : 1 ≤ x.plan.groups.count
+  pub groups : x.plan.groups.count ≤ group_limit
+  pub enough : x.plan.groups.count ≤ length x.members
+  pub counts : (i : ℕ) (g : GroupRecord) → item_numbered x.groups i ≡ Some g → CountsNoMore (length x.members) g
+
+pub record AreWithinLimits (rs : Records) : Type 0 where
+  pub artifacts : length rs.artifacts ≤ artifact_limit
+  pub targets : length rs.targets ≤ target_limit
+  pub rollouts : length rs.rollouts ≤ rollout_limit
+  pub actions : length rs.actions ≤ rollout_limit * target_limit
+  pub each : (r : ℕ) (x : RolloutRecord) → item_numbered rs.rollouts r ≡ Some x → IsWithinLimits x
+
+abbrev pub LimitsHold : Type 0
+LimitsHold = (h : CommandList) → IsValid h → AreWithinLimits (records h)
 
 -- ---- what the verdicts refuse
 

@@ -89,12 +89,6 @@ starts_next v paused good = next_if (nat_lt v.last.number v.groups && (not pause
 abbrev pub last_with : Option ℕ → ℕ → ℕ
 last_with starts last = unwrap_or starts last
 
--- The effects are those of any command that gives the outcome o to an open action of the view's own group.
-abbrev pub FollowsFeedback : RolloutView → Outcome → Effects → Type 0
-FollowsFeedback v o effects =
-    (x : Rollout) (r g j l : ℕ) (h : CommandList) (c : Command) → IsView v x r g l h → StartedOnly x r h c → GetsOutcome x r g j h c o
-    → (is_paused x r (h ▸ c) ≡ (effects.pauses || is_paused x r h)) × IsLast x r (h ▸ c) (last_with effects.starts l)
-
 -- The effects are those of a resume of the rollout, and of a trigger.
 abbrev pub FollowsResume : RolloutView → Effects → Type 0
 FollowsResume v effects =

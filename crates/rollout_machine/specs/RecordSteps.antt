@@ -178,11 +178,3 @@ step_records rs (TriggerNext r) = record rs { rollouts = change_rollout r trigge
 step_records rs (Cancel t k force) = step_action rs (Cancel t k force) (item_numbered rs.actions k)
 step_records rs (Feedback feedback) = step_action rs (Feedback feedback) (item_numbered rs.actions feedback.action)
 step_records rs (CancelFeedback feedback) = step_action rs (CancelFeedback feedback) (item_numbered rs.actions feedback.action)
-
-abbrev pub no_records : Bool → Records
-no_records approval = record { approval = approval; modules = []; artifacts = []; sets = []; targets = []; rollouts = []; actions = [] }
-
--- the records after these commands, the oldest first
-abbrev pub run_records : Records → List Command → Records
-run_records rs [] = rs
-run_records rs (c ∷ cs) = run_records (step_records rs c) cs

@@ -1,6 +1,6 @@
 -- Answers at their borders: what is shown, what is not found, pages, offers and downloads.
 use Rattle.rollout_machine.proofs.Common.{◌≡◌, ℕ, Bool, true, false, [], ◌∷◌, ◌++◌, Some, None, refl, map, codes, query_reply, command_reply, ModuleLabel}
-use Rattle.rollout_machine.proofs.Common.{AddModule, AddArtifact, AddSet, PutTargets, CreateRollout, Cancel, Succeeded, OfDeployment, no_records, step_records}
+use Rattle.rollout_machine.proofs.Common.{AddModule, AddArtifact, AddSet, PutTargets, CreateRollout, Cancel, Succeeded, OfDeployment, step_records}
 use Rattle.rollout_machine.proofs.Common.{ArtifactRecord, Records, Refused, ModuleAdded, ArtifactAdded, SetAdded, TargetsPut, PollShown, DeploymentShown}
 use Rattle.rollout_machine.proofs.Common.{CancelShown, ContentsShown, TargetsShown, ActionsShown, ActionShown, HistoryShown, ModulesShown, ModuleShown}
 use Rattle.rollout_machine.proofs.Common.{ArtifactsShown, ArtifactShown, RolloutsShown, GroupShown, ActionsTableShown, Module, Artifact, ShownTarget}
@@ -9,6 +9,7 @@ use Rattle.rollout_machine.proofs.Common.{ShowAction, ShowHistory, ShowModules, 
 use Rattle.rollout_machine.proofs.Common.{ShowGroupTargets, ShowActionsTable, RunningGroup, ScheduledGroup, RunningAction, ScheduledAction, Unknown}
 use Rattle.rollout_machine.proofs.Common.{Unauthorized, NotFound, BadFilter}
 use Rattle.rollout_machine.proofs.Examples.Fleet.{device, token, plan_for, only, everyone, fleet, set_up, rolled_out, by, succeeds, run_of}
+use Rattle.rollout_machine.proofs.RecordRuns.{no_records}
 
 abbrev base : Records
 base = no_records false

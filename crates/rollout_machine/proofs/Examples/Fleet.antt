@@ -2,8 +2,9 @@
 use Rattle.rollout_machine.proofs.Common.{ℕ, codes, ◌+◌, replicate, Bool, true, false, ◌&&◌, List, [], ◌∷◌, ◌++◌, map, Option, None, is_none, option_map}
 use Rattle.rollout_machine.proofs.Common.{item_numbered, CommandList, Make, followed_by, Bytes, Credential, TargetRow, RolloutPlan, Command, AddModule, AddSet}
 use Rattle.rollout_machine.proofs.Common.{PutTargets, CreateRollout, Start, Feedback, CancelFeedback, Succeeded, Failed, RejectedCancel, offer, Offer}
-use Rattle.rollout_machine.proofs.Common.{step_records, run_records, no_records, GroupRecord, RolloutRecord, Records, RolloutWord, rollout_word, check}
+use Rattle.rollout_machine.proofs.Common.{step_records, GroupRecord, RolloutRecord, Records, RolloutWord, rollout_word, check}
 use Rattle.rollout_model.specs.Groupings.{evenly}
+use Rattle.rollout_machine.proofs.RecordRuns.{no_records, run_records}
 
 abbrev pub device : ℕ → Bytes
 device k = 100 ∷ (96 + k) ∷ []

@@ -1,14 +1,15 @@
 -- Each test of each row of the table of verdicts at its border, and the order of the tests.
 use Rattle.rollout_machine.proofs.Common.{◌≡◌, ℕ, ◌/◌, ◌%◌, Bool, true, false, List, [], ◌∷◌, ◌++◌, Option, Some, None, refl, map, replicate, Bytes}
 use Rattle.rollout_machine.proofs.Common.{ModuleLabel, Upload, SetLabel, Command, AddModule, AddArtifact, AddSet, PutTargets, Tag, Untag, PutAttributes}
-use Rattle.rollout_machine.proofs.Common.{CreateRollout, Approve, Deny, Start, Pause, Resume, TriggerNext, Cancel, each_from, no_records, step_records}
-use Rattle.rollout_machine.proofs.Common.{run_records, ArtifactRecord, Records, RolloutRecord, GroupRecord, Given, Waiting, Denied, Refusal, Unauthorized}
+use Rattle.rollout_machine.proofs.Common.{CreateRollout, Approve, Deny, Start, Pause, Resume, TriggerNext, Cancel, each_from, step_records}
+use Rattle.rollout_machine.proofs.Common.{ArtifactRecord, Records, RolloutRecord, GroupRecord, Given, Waiting, Denied, Refusal, Unauthorized}
 use Rattle.rollout_machine.proofs.Common.{NotFound, Exists, Locked, WrongState, ClosedAction, Quota, BadFilter, TooFewTargets, WrongDigest, rollout_word}
 use Rattle.rollout_machine.proofs.Common.{group_word, FinishedRollout, PausedRollout, ApprovalDenied, WaitingForApproval, ReadyGroup, FinishedGroup}
 use Rattle.rollout_machine.proofs.Common.{ErrorGroup, RunningGroup, target_word, Unknown, Pending, check}
 use Rattle.rollout_model.specs.Refusals.{refusal_row}
 use Rattle.sha2.specs.Sha256.{sha256, digest_bytes}
 use Rattle.rollout_machine.proofs.Examples.Fleet.{token, device, plan_for, only, everyone, set_up, rolled_out, by, succeeds, fails, run_of}
+use Rattle.rollout_machine.proofs.RecordRuns.{no_records, run_records}
 
 abbrev base : Records
 base = no_records false

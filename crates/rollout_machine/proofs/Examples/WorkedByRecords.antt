@@ -1,7 +1,8 @@
 -- Worked examples, computed over the records.
 use Rattle.rollout_machine.proofs.Common.{◌≡◌, ℕ, true, false, List, [], ◌∷◌, ◌++◌, Some, None, refl, Command, Pause, Resume, Cancel, CreateRollout, Start}
-use Rattle.rollout_machine.proofs.Common.{no_records, ClosedAction, WrongState, FinishedRollout, PausedRollout, RunningRollout, check}
+use Rattle.rollout_machine.proofs.Common.{ClosedAction, WrongState, FinishedRollout, PausedRollout, RunningRollout, check}
 use Rattle.rollout_machine.proofs.Examples.Fleet.{rolled_out, everyone, only, device, plan_for, succeeds, fails, rejects, run_of, all_accepted, shown, offered}
+use Rattle.rollout_machine.proofs.RecordRuns.{no_records}
 
 abbrev R : ℕ → ℕ → ℕ → List Command
 R groups success error = rolled_out everyone groups success error
