@@ -1,8 +1,8 @@
 -- The statements on what many targets have, in records: a row for each tag of each, and one for each attribute.
-use Rattle.desk_records.proofs.Common.{Less, Equal, arith, nat_cmp, nat_tests, ◌≡◌, ◌∷◌, ◌++◌, ◌&&◌, ℕ, Bool, not, cond, true, List, [], map, filter, flat_map}
+use Rattle.desk_records.proofs.Common.{Less, Equal, arith, nat_cmp, nat_tests, ◌≡◌, ◌∷◌, ◌++◌, ◌&&◌, ℕ, Bool, cond, true, List, [], map, filter, flat_map}
 use Rattle.desk_records.proofs.Common.{refl, sym, ap, ap₂, ◌∙◌, list_all, and_parts, AllByRecursion, filter-append, map-append, map-map, and-true, Null, Text}
 use Rattle.desk_records.proofs.Common.{value_cmp, value_cmp-Text, Row, Database, Query, Term, Output, Binary, by, simple, col, false, output_cmp, held_seen}
-use Rattle.desk_records.proofs.Common.{on_content, passes, shown_in}
+use Rattle.desk_records.proofs.Common.{all_of, filter_all, on_content, passes, same_bytes, shown_in}
 use Rattle.desk_records.proofs.Common.{shown_of, bytes_below, Attribute, Bytes, Records, Target, TargetAttributes, TargetTags, HoldsRecords, IsHeldBy}
 use Rattle.desk_records.proofs.Common.{ids_of, in_byte_order, is_sorted}
 use Rattle.sqlite.specs.Effect.{Reads as Shows}
@@ -14,15 +14,17 @@ use Rattle.sql_calls.proofs.KeyedRows.{IsBlind}
 use Rattle.sql_calls.proofs.Selects.{rises_to}
 use Rattle.desk_records.proofs.WrittenRows.{shown_owned_attribute, shown_owned_tag}
 use Rattle.desk_records.specs.TargetRow.{owned_attributes, owned_tags}
+use Rattle.desk_records.specs.declared.target_row.OwnedTag.{OwnedTag}
 use Rattle.desk_records.specs.Targets.{is_between, targets_between}
-use Rattle.desk_records.proofs.MeaningWords.{no_limit, no_offset, selects}
+use Rattle.desk_records.proofs.MeaningWords.{at_key, no_limit, no_offset, selects}
 use Rattle.desk_records.proofs.ByteOrder.{below_rises}
-use Rattle.desk_records.proofs.Comparisons.{words_at_least, words_at_most}
-use Rattle.desk_records.proofs.TargetMeaning.{attributes_between, between_ids, owned_attribute_columns, owned_tag_columns, tags_between}
+use Rattle.desk_records.proofs.Comparisons.{words_at_least, words_at_most, words_equal}
+use Rattle.desk_records.proofs.TargetMeaning.{attributes_between, between_ids, owned_attribute_columns, owned_tag_columns, tag_between, tags_between}
 use Rattle.desk_records.proofs.TargetRecords.{each_sorted, ids_sorted}
 
-abbrev ends : Bytes → Bytes → Row
-ends first last = Text first ∷ Text last ∷ []
+-- the ids, and what else a statement is given
+abbrev given : Bytes → Bytes → Row → Row
+given first last more = Text first ∷ Text last ∷ more
 
 itself : (a : Bytes) → value_cmp (Text a) (Text a) ≡ Equal
 itself a = value_cmp-Text a a ∙ go a
@@ -31,7 +33,8 @@ itself a = value_cmp-Text a a ∙ go a
     go [] = refl
     go (x ∷ xs) = grind (arith, go xs, nat_tests)
 
--- What each target has of a kind, by keys of their own: a row of the target's id, the key and the rest.
+-- What each target has of a kind, by keys of their own: a row of the target's id, the key and the rest. A statement asks for those of the
+-- targets between two ids that pass what else it tests.
 module _ {X O : Type 0} (key : X → Bytes) (rest : X → Row) (has : Target → List X) (own : Bytes → X → O) (shown : O → Row) (columns : List Term) where
   abbrev row : Bytes → X → Row
   row i x = Text i ∷ Text (key x) ∷ rest x
@@ -42,35 +45,22 @@ module _ {X O : Type 0} (key : X → Bytes) (rest : X → Row) (has : Target →
   abbrev owned_of : Target → List O
   owned_of t = map (own t.id) (has t)
 
-  abbrev asked : ℕ → Query
-  asked tree = by (simple tree between_ids columns)
-      ((col 1 1, record { descending = false; collation = Binary }) ∷ (col 1 2, record { descending = false; collation = Binary }) ∷ []) no_limit no_offset
+  module _ (first last : Bytes) (more : Row) (also : List Term) where
+    abbrev params : Row
+    params = given first last more
 
-  module _ (first last : Bytes) where
-    -- ---- which rows it names
+    abbrev test : List Term
+    test = between_ids ++ also
 
-    abbrev is_within : Row → Bool
-    is_within = on_content (passes between_ids (ends first last))
-
-    names_row : (t : Target) (x : X) → is_within (row t.id x) ≡ is_between first last t
-    names_row t x =
-        rw (words_at_least t.id first, words_at_most t.id last)
-        (ap (λ b. not (bytes_below t.id first) && b) (and-true (not (bytes_below last t.id))))
-
-    its_own : (t : Target) (b : Bool) → is_between first last t ≡ b → (xs : List X) → filter is_within (map (row t.id) xs) ≡ cond b (map (row t.id) xs) []
-    its_own t b e [] = grind arith
-    its_own t b e (x ∷ xs) = grind (arith, its_own t b e xs, names_row t x)
-
-    rows_between : (ts : List Target) → filter is_within (flat_map rows_of ts) ≡ flat_map rows_of (filter (is_between first last) ts)
-    rows_between [] = refl
-    rows_between (t ∷ ts) =
-        grind (arith, filter-append is_within (rows_of t) (flat_map rows_of ts), its_own t (is_between first last t) refl (has t), rows_between ts)
+    abbrev asked : ℕ → Query
+    asked tree = by (simple tree test columns)
+        ((col 1 1, record { descending = false; collation = Binary }) ∷ (col 1 2, record { descending = false; collation = Binary }) ∷ []) no_limit no_offset
 
     -- ---- in which order
 
     -- the query lists one row before the other
     abbrev Before : Row → Row → Type 0
-    Before x y = output_cmp (asked 0) (on_content (shown_in (asked 0) (ends first last)) x) (on_content (shown_in (asked 0) (ends first last)) y) ≡ Less
+    Before x y = output_cmp (asked 0) (on_content (shown_in (asked 0) params) x) (on_content (shown_in (asked 0) params) y) ≡ Less
 
     of_one : (i : Bytes) (x : X) (ys : List X) → list_all (bytes_below (key x)) (map key ys) ≡ true → AllByRecursion (Before (row i x)) (map (row i) ys)
     of_one i x [] below = tt
@@ -106,51 +96,95 @@ module _ {X O : Type 0} (key : X → Bytes) (rest : X → Row) (has : Target →
         ascending-append Before (rows_of t) (flat_map rows_of ts) (own_rise t.id (has t) (sorts t both.0)) (all_rise sorts ts apart.1 both.1)
         (each_before t.id (has t) ts apart.0)
 
-    -- ---- what it shows of them
+    module _ (wanted : O → Bool) (tested : (i : Bytes) (x : X) → on_content (passes also params) (row i x) ≡ wanted (own i x)) where
+      -- ---- which rows it names
 
-    module _ (shows : (i : Bytes) (x : X) → on_content (shown_of columns (ends first last)) (row i x) ≡ shown (own i x)) where
-      its_shown : (i : Bytes) (xs : List X) → map (on_content (shown_of columns (ends first last))) (map (row i) xs) ≡ map shown (map (own i) xs)
-      its_shown i [] = refl
-      its_shown i (x ∷ xs) = ap₂ ◌∷◌ (shows i x) (its_shown i xs)
+      abbrev is_within : Row → Bool
+      is_within = on_content (passes test params)
 
-      all_shown : (ts : List Target) → map (on_content (shown_of columns (ends first last))) (flat_map rows_of ts) ≡ map shown (flat_map owned_of ts)
-      all_shown [] = refl
-      all_shown (t ∷ ts) =
-          map-append (on_content (shown_of columns (ends first last))) (rows_of t) (flat_map rows_of ts) ∙ ap₂ ◌++◌ (its_shown t.id (has t)) (all_shown ts)
-          ∙ sym (map-append shown (owned_of t) (flat_map owned_of ts))
+      abbrev wanted_rows : Target → List Row
+      wanted_rows t = map (row t.id) (filter (λ x. wanted (own t.id x)) (has t))
 
-      module _ (db : Database) (now : Records) (holds : HoldsRecords db now) (names : List (List ℕ)) (tree : ℕ) where
-        lists_owned : IsBlind (shown_in (asked tree) (ends first last)) → ((t : Target) → is_sorted t ≡ true → in_byte_order (map key (has t)) ≡ true)
-            → IsHeldBy (db.trees tree) (flat_map rows_of now.targets) → (rows : List Row) → Shows (selects (asked tree) names) db (ends first last) rows
-            → rows ≡ map shown (flat_map owned_of (targets_between first last now))
-        lists_owned blind sorts held rows is =
-            let params = ends first last in
-            let wanted = flat_map rows_of now.targets in
-            let kept = filter is_within wanted in
-            let f = shown_in (asked tree) params in
-            let rise : IsAscending Before kept = ascending-filter Before is_within wanted (all_rise sorts now.targets (ids_sorted db now holds)
-            (each_sorted db now holds)) in
-            rises_to tree between_ids columns (asked tree).order no_limit no_offset params db.trees rows (is.answer Null) (map (on_content f) kept)
-            (held_seen (passes between_ids params) (λ i x. refl) f blind (db.trees tree) wanted held)
-            (ascending-map (λ a b. output_cmp (asked tree) a b ≡ Less) (on_content f) kept rise)
-            ∙ map-map (λ (o : Output). o.1) (on_content f) kept
-            ∙ ap (map (on_content (shown_of columns params))) (rows_between now.targets)
-            ∙ all_shown (targets_between first last now)
+      names_row : (t : Target) (x : X) → is_within (row t.id x) ≡ is_between first last t && wanted (own t.id x)
+      names_row t x = rw (words_at_least t.id first, words_at_most t.id last, tested t.id x) grind arith
 
-module _ (db : Database) (now : Records) (holds : HoldsRecords db now) (names : List (List ℕ)) (first last : Bytes) (rows : List Row) where
+      its_own : (t : Target) (b : Bool) → is_between first last t ≡ b → (xs : List X)
+          → filter is_within (map (row t.id) xs) ≡ cond b (map (row t.id) (filter (λ x. wanted (own t.id x)) xs)) []
+      its_own t b e [] = grind arith
+      its_own t b e (x ∷ xs) = grind (arith, its_own t b e xs, names_row t x)
+
+      rows_between : (ts : List Target) → filter is_within (flat_map rows_of ts) ≡ flat_map wanted_rows (filter (is_between first last) ts)
+      rows_between [] = refl
+      rows_between (t ∷ ts) =
+          grind (arith, filter-append is_within (rows_of t) (flat_map rows_of ts), its_own t (is_between first last t) refl (has t), rows_between ts)
+
+      -- ---- what it shows of them
+
+      module _ (shows : (i : Bytes) (x : X) → on_content (shown_of columns params) (row i x) ≡ shown (own i x)) where
+        its_shown : (i : Bytes) (xs : List X)
+            → map (on_content (shown_of columns params)) (map (row i) (filter (λ x. wanted (own i x)) xs)) ≡ map shown (filter wanted (map (own i) xs))
+        its_shown i [] = refl
+        its_shown i (x ∷ xs) = grind (arith, its_shown i xs, shows i x)
+
+        all_shown : (ts : List Target) → map (on_content (shown_of columns params)) (flat_map wanted_rows ts)
+            ≡ map shown (filter wanted (flat_map owned_of ts))
+        all_shown [] = refl
+        all_shown (t ∷ ts) =
+            map-append (on_content (shown_of columns params)) (wanted_rows t) (flat_map wanted_rows ts) ∙ ap₂ ◌++◌ (its_shown t.id (has t)) (all_shown ts)
+            ∙ sym (map-append shown (filter wanted (owned_of t)) (filter wanted (flat_map owned_of ts)))
+            ∙ ap (map shown) (sym (filter-append wanted (owned_of t) (flat_map owned_of ts)))
+
+        module _ (db : Database) (now : Records) (holds : HoldsRecords db now) (names : List (List ℕ)) (tree : ℕ) where
+          lists_owned : IsBlind (shown_in (asked tree) params) → ((t : Target) → is_sorted t ≡ true → in_byte_order (map key (has t)) ≡ true)
+              → IsHeldBy (db.trees tree) (flat_map rows_of now.targets) → IsBlind (passes test params) → (rows : List Row)
+              → Shows (selects (asked tree) names) db params rows → rows ≡ map shown (filter wanted (flat_map owned_of (targets_between first last now)))
+          lists_owned blind sorts held fair rows is =
+              let all = flat_map rows_of now.targets in
+              let kept = filter is_within all in
+              let f = shown_in (asked tree) params in
+              let rise : IsAscending Before kept = ascending-filter Before is_within all (all_rise sorts now.targets (ids_sorted db now holds)
+              (each_sorted db now holds)) in
+              rises_to tree test columns (asked tree).order no_limit no_offset params db.trees rows (is.answer Null) (map (on_content f) kept)
+              (held_seen (passes test params) fair f blind (db.trees tree) all held)
+              (ascending-map (λ a b. output_cmp (asked tree) a b ≡ Less) (on_content f) kept rise)
+              ∙ map-map (λ (o : Output). o.1) (on_content f) kept
+              ∙ ap (map (on_content (shown_of columns params))) (rows_between now.targets)
+              ∙ all_shown (targets_between first last now)
+
+-- a statement that tests nothing else asks for all of them
+all_wanted : {O : Type 0} (os : List O) → filter (λ o. true) os ≡ os
+all_wanted os = filter_all _ _ (all_of (λ o. true ≡ true) (λ o. refl) os)
+
+-- the tags of a target, as they come
+tags_rise : (t : Target) → is_sorted t ≡ true → in_byte_order (map (λ (w : Bytes). w) t.tags) ≡ true
+tags_rise t sorted = ap in_byte_order (map-id t.tags) ∙ (and_parts (in_byte_order t.tags) _ sorted).0
+
+module _ (db : Database) (now : Records) (holds : HoldsRecords db now) (names : List (List ℕ)) (first last : Bytes) where
   -- the tags of the targets from an id to another
-  pub lists_tags_between : Shows (selects (tags_between (holds.spot TargetTags).tree) names) db (ends first last) rows
+  pub lists_tags_between : (rows : List Row) → Shows (selects (tags_between (holds.spot TargetTags).tree) names) db (given first last []) rows
       → rows ≡ map shown_owned_tag (flat_map owned_tags (targets_between first last now))
-  lists_tags_between is =
-      lists_owned (λ w. w) (λ w. []) (λ (t : Target). t.tags) (λ (i w : Bytes). record { id = i; tag = w }) shown_owned_tag owned_tag_columns first last
-      (λ i w. refl) db now holds names (holds.spot TargetTags).tree
-      (λ i x. refl) (λ t sorted. ap in_byte_order (map-id t.tags) ∙ (and_parts (in_byte_order t.tags) _ sorted).0) (holds.rows TargetTags) rows is
+  lists_tags_between rows is =
+      lists_owned (λ w. w) (λ w. []) (λ (t : Target). t.tags) (λ (i w : Bytes). record { id = i; tag = w }) shown_owned_tag owned_tag_columns first last [] []
+      (λ o. true) (λ i w. refl) (λ i w. refl) db now holds names (holds.spot TargetTags).tree (λ i x. refl) tags_rise (holds.rows TargetTags) (λ i x. refl) rows
+      is
+      ∙ ap (map shown_owned_tag) (all_wanted _)
+
+  -- one tag of them, where they have it
+  pub lists_tag_between : (tag : Bytes) (rows : List Row)
+      → Shows (selects (tag_between (holds.spot TargetTags).tree) names) db (given first last (Text tag ∷ [])) rows
+      → rows ≡ map shown_owned_tag (filter (λ (o : OwnedTag). same_bytes o.tag tag) (flat_map owned_tags (targets_between first last now)))
+  lists_tag_between tag rows is =
+      lists_owned (λ w. w) (λ w. []) (λ (t : Target). t.tags) (λ (i w : Bytes). record { id = i; tag = w }) shown_owned_tag owned_tag_columns
+      first last (Text tag ∷ []) (at_key 2 2 ∷ []) (λ (o : OwnedTag). same_bytes o.tag tag) (λ i w. and-true _ ∙ words_equal w tag) (λ i w. refl)
+      db now holds names (holds.spot TargetTags).tree (λ i x. refl) tags_rise (holds.rows TargetTags) (λ i x. refl) rows is
 
   -- their attributes
-  pub lists_attributes_between : Shows (selects (attributes_between (holds.spot TargetAttributes).tree) names) db (ends first last) rows
+  pub lists_attributes_between : (rows : List Row)
+      → Shows (selects (attributes_between (holds.spot TargetAttributes).tree) names) db (given first last []) rows
       → rows ≡ map shown_owned_attribute (flat_map owned_attributes (targets_between first last now))
-  lists_attributes_between is =
+  lists_attributes_between rows is =
       lists_owned (λ (a : Attribute). a.key) (λ (a : Attribute). Text a.value ∷ []) (λ (t : Target). t.attributes)
-      (λ (i : Bytes) (a : Attribute). record { id = i; attribute = a }) shown_owned_attribute owned_attribute_columns first last (λ i a. refl) db now holds
-      names
-      (holds.spot TargetAttributes).tree (λ i x. refl) (λ t sorted. (and_parts (in_byte_order t.tags) _ sorted).1) (holds.rows TargetAttributes) rows is
+      (λ (i : Bytes) (a : Attribute). record { id = i; attribute = a }) shown_owned_attribute owned_attribute_columns first last [] []
+      (λ o. true) (λ i a. refl) (λ i a. refl) db now holds names (holds.spot TargetAttributes).tree (λ i x. refl)
+      (λ t sorted. (and_parts (in_byte_order t.tags) _ sorted).1) (holds.rows TargetAttributes) (λ i x. refl) rows is
+      ∙ ap (map shown_owned_attribute) (all_wanted _)

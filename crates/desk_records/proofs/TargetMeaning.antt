@@ -1,7 +1,7 @@
 -- Written by tools/gen/sql-proofs. What it makes is proved; the tool is not trusted.
 -- What the texts of src/target_texts.rt mean, wherever their tables stand.
 use Rattle.desk_records.proofs.Common.{refl, List, [], ◌∷◌, ℕ, codes, pos, negsuc, false, Null, Int, Binary, Values, Query, Term, lit, col, simple, by}
-use Rattle.desk_records.specs.declared.target_texts.TheConstants.{GET_TARGET, COUNT_TARGETS, LIST_ALL_TARGETS, LIST_TARGETS_BETWEEN, LIST_TARGET_TAGS, LIST_TAGS_BETWEEN, PUT_TARGET, SET_TARGET, PUT_TARGET_TAG, DROP_TARGET_TAG, LIST_TARGET_ATTRIBUTES, LIST_ATTRIBUTES_BETWEEN, PUT_TARGET_ATTRIBUTE, SET_TARGET_ATTRIBUTE}
+use Rattle.desk_records.specs.declared.target_texts.TheConstants.{GET_TARGET, COUNT_TARGETS, LIST_ALL_TARGETS, LIST_TARGETS_BETWEEN, LIST_TARGET_TAGS, LIST_TAGS_BETWEEN, LIST_TAG_BETWEEN, PUT_TARGET, SET_TARGET, PUT_TARGET_TAG, DROP_TARGET_TAG, LIST_TARGET_ATTRIBUTES, LIST_ATTRIBUTES_BETWEEN, PUT_TARGET_ATTRIBUTE, SET_TARGET_ATTRIBUTE}
 use Rattle.desk_records.specs.Schema.{Targets, TargetTags, TargetAttributes}
 use Rattle.desk_records.proofs.MeaningWords.{compiling, Asks, Counts, Puts, Changes, Drops, at_key, at_least, at_most, in_order, changing, no_limit, no_offset}
 
@@ -40,6 +40,15 @@ tags_between tree = by (simple tree between_ids owned_tag_columns) ((col 1 1, re
 
 pub list_tags_between_is : Asks TargetTags LIST_TAGS_BETWEEN.now tags_between (codes "controller" ∷ codes "tag" ∷ [])
 list_tags_between_is = unfold compiling in record { queries = λ tree. record { parsed = _; select = _; source = _; page = _; shown = _; read = refl; is = (refl, refl, refl, refl); core = (refl, refl, refl); from = (refl, refl, refl, refl, refl); shows = (tt, (tt, tt)); filter = ((refl, λ cx how x y. refl), ((refl, λ cx how x y. refl), tt, tt), ((refl, λ cx how x y. refl), tt, tt)); sorts = (tt, (tt, tt)); paged = λ s. refl; named = (refl, refl); becomes = (refl, (refl, refl, refl)) }; shape = λ tree. refl }
+
+abbrev pub tagged_between_ids : List Term
+tagged_between_ids = at_least 1 0 ∷ at_most 1 1 ∷ at_key 2 2 ∷ []
+
+abbrev pub tag_between : ℕ → Query
+tag_between tree = by (simple tree tagged_between_ids owned_tag_columns) ((col 1 1, record { descending = false; collation = Binary }) ∷ (col 1 2, record { descending = false; collation = Binary }) ∷ []) (lit (Int (negsuc 0))) (lit (Int (pos 0)))
+
+pub list_tag_between_is : Asks TargetTags LIST_TAG_BETWEEN.now tag_between (codes "controller" ∷ codes "tag" ∷ [])
+list_tag_between_is = unfold compiling in record { queries = λ tree. record { parsed = _; select = _; source = _; page = _; shown = _; read = refl; is = (refl, refl, refl, refl); core = (refl, refl, refl); from = (refl, refl, refl, refl, refl); shows = (tt, (tt, tt)); filter = ((refl, λ cx how x y. refl), ((refl, λ cx how x y. refl), ((refl, λ cx how x y. refl), tt, tt), ((refl, λ cx how x y. refl), tt, tt)), ((refl, λ cx how x y. refl), tt, tt)); sorts = (tt, (tt, tt)); paged = λ s. refl; named = (refl, refl); becomes = (refl, (refl, refl, refl)) }; shape = λ tree. refl }
 
 abbrev pub target_terms : List Term
 target_terms = lit Null ∷ col 0 0 ∷ col 0 1 ∷ col 0 2 ∷ []

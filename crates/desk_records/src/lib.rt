@@ -152,6 +152,7 @@ pub use crate::target_texts::DROP_TARGET_TAG;
 pub use crate::target_texts::GET_TARGET;
 pub use crate::target_texts::LIST_ALL_TARGETS;
 pub use crate::target_texts::LIST_ATTRIBUTES_BETWEEN;
+pub use crate::target_texts::LIST_TAG_BETWEEN;
 pub use crate::target_texts::LIST_TAGS_BETWEEN;
 pub use crate::target_texts::LIST_TARGET_ATTRIBUTES;
 pub use crate::target_texts::LIST_TARGET_TAGS;

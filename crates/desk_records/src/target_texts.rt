@@ -19,6 +19,10 @@ pub const LIST_TARGET_TAGS: &str = "SELECT tag FROM target_tag WHERE controller 
 pub const LIST_TAGS_BETWEEN: &str =
     "SELECT controller, tag FROM target_tag WHERE controller >= ?1 AND controller <= ?2 ORDER BY controller, tag";
 
+/// One tag of the targets from an id to another, where they have it, in byte order of the ids.
+pub const LIST_TAG_BETWEEN: &str =
+    "SELECT controller, tag FROM target_tag WHERE controller >= ?1 AND controller <= ?2 AND tag = ?3 ORDER BY controller, tag";
+
 pub const PUT_TARGET: &str = "INSERT INTO target (controller, name, digest) VALUES (?1, ?2, ?3)";
 
 pub const SET_TARGET: &str = "UPDATE target SET name = ?2, digest = ?3 WHERE controller = ?1";

@@ -1,7 +1,8 @@
 //! Targets and their tags, in a change that is under way.
 
-ghost use Rattle.std.specs.Prelude.{◌≡◌, ◌≤◌, ◌+◌, flat_map, length, map, take, drop};
+ghost use Rattle.std.specs.Prelude.{◌≡◌, ◌≤◌, ◌+◌, filter, flat_map, length, map, take, drop};
 ghost use Rattle.std.specs.Option.{option_map};
+ghost use Rattle.rollout_machine.specs.ByteStrings.{same_bytes};
 ghost use Rattle.rollout_machine.specs.Verdicts.{tags_of, target_of};
 ghost use Rattle.desk_records.specs.TargetRow.{listed_target, owned_tags, stored_target};
 ghost use Rattle.desk_records.specs.Targets.{AddsTag, AddsTarget, renamed, targets_between, untagged, with_changed};
@@ -12,9 +13,9 @@ ghost use Rattle.desk_store.specs.Failing.{FailsIn, WritesIn};
 use crate::change::OpenChange;
 use crate::reading::{counted_in, read_all, read_optional};
 use desk_records::{
-    COUNT_TARGETS, DROP_TARGET_TAG, GET_TARGET, LIST_ALL_TARGETS, LIST_TAGS_BETWEEN,
-    LIST_TARGET_TAGS, LIST_TARGETS_BETWEEN, ListedTarget, OwnedTag, PUT_TARGET, PUT_TARGET_TAG,
-    SET_TARGET, StoredTarget,
+    COUNT_TARGETS, DROP_TARGET_TAG, GET_TARGET, LIST_ALL_TARGETS, LIST_TAG_BETWEEN,
+    LIST_TAGS_BETWEEN, LIST_TARGET_TAGS, LIST_TARGETS_BETWEEN, ListedTarget, OwnedTag, PUT_TARGET,
+    PUT_TARGET_TAG, SET_TARGET, StoredTarget,
 };
 use rollout_model::{ControllerId, Digest, Text, Word};
 use sql_calls::Fault;
@@ -61,6 +62,28 @@ impl<'a, S: Alter> OpenChange<'a, S> {
     {
         let alloc = self.store.alloc;
         let rows = self.ask(LIST_TAGS_BETWEEN, params![first.as_str(), last.as_str()])?;
+        read_all(alloc, &rows)
+    }
+
+    /// One tag of the targets from an id to another, with the id of each target that has it: in byte order of the ids. A row that
+    /// breaks a column's rule is `Broken`.
+    pub fn read_tag_between(
+        &mut self,
+        first: &ControllerId,
+        last: &ControllerId,
+        tag: &str,
+    ) -> Result<Vec<OwnedTag>, Fault>
+        ensures stays { StaysIn S.Store self.old self.new result }
+        ensures reads { FindsIn S.Store self.old self.new result
+            (λ r tags. tags.items ≡ filter (λ o. same_bytes o.tag tag.now) (flat_map owned_tags (targets_between first.now last.now r))) }
+        ensures fails { FailsIn S.Store self.old self.new result }
+        ensures work { self.new.store.now.calls.work.statements ≤ self.old.store.now.calls.work.statements + 1 }
+    {
+        let alloc = self.store.alloc;
+        let rows = self.ask(
+            LIST_TAG_BETWEEN,
+            params![first.as_str(), last.as_str(), tag],
+        )?;
         read_all(alloc, &rows)
     }
 
