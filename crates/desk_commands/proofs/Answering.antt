@@ -15,7 +15,8 @@ pub use Rattle.desk_commands.proofs.ArtifactLemmas.{adds_first_piece, adds_no_by
 pub use Rattle.desk_commands.proofs.ArtifactLemmas.{shown_count}
 pub use Rattle.desk_commands.proofs.AttributeLemmas.{adds_one, counted_key, given_viewed, gives_all, keeps_one, more_attributes, sets_one}
 pub use Rattle.desk_commands.proofs.ComposeLemmas.{accepted, accepted_at, in_order, refused, refused_at}
-pub use Rattle.desk_commands.proofs.CreationLemmas.{all_chosen, creates, one_group, one_member, one_rule, ready, shown_added, within}
+pub use Rattle.desk_commands.proofs.CreationLemmas.{all_chosen, creates, no_members, one_group, one_more_member, one_rule, ready, shown_added, sixteen_more}
+pub use Rattle.desk_commands.proofs.CreationLemmas.{then_members, within}
 pub use Rattle.desk_commands.proofs.EndingLemmas.{outcome_set}
 pub use Rattle.desk_commands.proofs.FailureLemmas.{asked, asked_at, counted, counts_never, never, never_at, never_given, never_missing, reads_end, writes_as}
 pub use Rattle.desk_commands.proofs.FailureLemmas.{writes_behind, writes_end, writes_last}

@@ -76,7 +76,7 @@ pub use Rattle.desk_records.proofs.HeldCounts.{at_place}
 pub use Rattle.desk_records.specs.Actions.{Tally, actor_of, history_of, tally_of}
 pub use Rattle.desk_records.specs.FeedbackNumbers.{last_number, numbers_from, numbers_numbered, numbers_of}
 pub use Rattle.desk_records.specs.Holds.{HoldsLedger, Ledger, ledger_of}
-pub use Rattle.desk_records.specs.LedgerSteps.{AddsEntry, AddsGroup, AddsMember, AddsNumber, AddsRule, SetsAction, SetsGroup, and_entry}
+pub use Rattle.desk_records.specs.LedgerSteps.{AddsEntry, AddsGroup, AddsMembers, AddsNumber, AddsRule, SetsAction, SetsGroup, and_entry}
 pub use Rattle.desk_records.specs.LedgerSteps.{cut_group, scheduled, set_numbered, turned, with_actions, with_groups, with_numbers, with_rollouts}
 pub use Rattle.desk_records.specs.LedgerSteps.{in_place_of, reoffered, with_rules}
 pub use Rattle.desk_records.specs.NextOffers.{any_starts, is_next, next_offer, next_offer_from, starts_at}

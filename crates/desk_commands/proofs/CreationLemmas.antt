@@ -5,7 +5,7 @@ use Rattle.desk_commands.proofs.Common.{length-map, length-take-le, map-append, 
 use Rattle.desk_commands.proofs.Common.{RolloutPlan, GroupRule, rule_at, rules_of, first_offer, Records, action_in, rollouts_in, new_group, new_rollout}
 use Rattle.desk_commands.proofs.Common.{step_records, bounds_at, chosen, rollouts, RolloutWord, Target, IsValid, check, reply_of, Bounds, ActionRecord}
 use Rattle.desk_commands.proofs.Common.{RolloutRecord, each_from_more, length_each, numbered_each, Tree, filter_of, IsPlanView, approval_at, plan_refusal}
-use Rattle.desk_commands.proofs.Common.{Ledger, ledger_of, AddsGroup, AddsMember, AddsRule, cut_group, set_numbered, with_rollouts, with_rules}
+use Rattle.desk_commands.proofs.Common.{Ledger, ledger_of, AddsGroup, AddsMembers, AddsRule, cut_group, set_numbered, with_rollouts, with_rules}
 use Rattle.desk_commands.proofs.Common.{same_ledger, target_listed, CreatesRollout, IsChosen, IsWordOf, and_rollout, ids_matching}
 use Rattle.desk_commands.proofs.Common.{in_part, shown_new, invariant_of, not-true}
 use Rattle.rollout_machine.specs.Records.{records}
@@ -29,6 +29,12 @@ use Rattle.desk_reads.specs.declared.targets.Asked.{Asked}
 use Rattle.std.specs.Prelude.{Option}
 use Rattle.std.specs.Option.{IsSomeAnd}
 use Rattle.desk_commands.specs.declared.creation.Chosen.{Chosen}
+use Rattle.std.proofs.lemmas.List.{append-nil, append_assoc, length-drop}
+use Rattle.std.proofs.Math.Seq.{take-add}
+use Rattle.std.specs.Simd.{first_chunks}
+use Rattle.std.specs.Prelude.{drop, ◌*◌, ◌≤◌}
+use Rattle.desk_records.specs.LedgerSteps.{and_members}
+use Rattle.desk_commands.proofs.ItemSteps.{set_is_there, set_same, set_twice}
 use Rattle.desk_commands.proofs.ArtifactLemmas.{last_there}
 use Rattle.desk_commands.proofs.PutLemmas.{one_more}
 use Rattle.rollout_machine.specs.Ranges.{each_from}
@@ -128,23 +134,91 @@ module _ (n : NewRollout) (plan : RolloutPlan) (size : ℕ) where
         },
       )
 
-  -- the members before an index, and the one there
-  pub one_member : (k : ℕ) (rules : List GroupRule) (all : List Bytes) (id : Bytes) (j : ℕ) → j < length all → id ≡ get_or all j id → (l next : Ledger)
-      → CreatesRollout (in_part n plan size k (take (j + 1) all)) rules l next
-      → (mid : Ledger) × CreatesRollout (in_part n plan size k (take j all)) rules l mid × AddsMember n.number (j + 1) id mid next
-  one_member k rules all id j within is l next h =
-      let was = in_part n plan size k (take j all) in (
+  -- its groups, and then its members
+  pub then_members : (k : ℕ) (rules : List GroupRule) (members : List Bytes) (l next : Ledger) → CreatesRollout (in_part n plan size k members) rules l next
+      → (mid : Ledger) × CreatesRollout (in_part n plan size k []) rules l mid × AddsMembers n.number 1 members mid next
+  then_members k rules members l next h =
+      let was = in_part n plan size k [] in (
         and_rollout was rules l,
         record { number_is = h.number_is; ruled = h.ruled; unacted = h.unacted; next_is = refl },
         record {
           rollout = was;
           is_there = numbered_last l.records.rollouts was n.number h.number_is;
-          place_is = ap (λ m. m + 1) (sym (length-take-le j all (omega (arith, within))));
+          place_is = refl;
           unacted = h.unacted;
-          next_is = h.next_is ∙ ap (λ ids. and_rollout (record was { members = ids }) rules l) (one_more all id j within is)
-              ∙ ap (with_rollouts (and_rollout was rules l)) (sym (set_last l.records.rollouts was _ n.number h.number_is));
+          next_is = h.next_is ∙ ap (with_rollouts (and_rollout was rules l)) (sym (set_last l.records.rollouts was _ n.number h.number_is));
         },
       )
+
+-- ---- its members
+
+pub no_members : (number place : ℕ) (l next : Ledger) → AddsMembers number place [] l next → next ≡ l
+no_members number place l next h =
+    let rs = l.records.rollouts in
+    h.next_is ∙ ap (λ ids. with_rollouts l (set_numbered rs number (record h.rollout { members = ids }))) (append-nil h.rollout.members)
+    ∙ ap (with_rollouts l) (set_same number rs h.rollout h.is_there)
+
+-- some, and then more
+pub more_members : (number place : ℕ) (some more : List Bytes) (l next : Ledger) → AddsMembers number place (some ++ more) l next
+    → (mid : Ledger) × AddsMembers number place some l mid × AddsMembers number (place + length some) more mid next
+more_members number place some more l next h =
+    let rs = l.records.rollouts in
+    let x = h.rollout in
+    let y = and_members x some in (
+      with_rollouts l (set_numbered rs number y),
+      record { rollout = x; is_there = h.is_there; place_is = h.place_is; unacted = h.unacted; next_is = refl },
+      record {
+        rollout = y;
+        is_there = set_is_there rs number x y h.is_there;
+        place_is = let size = length-append x.members some in omega (arith, size, h.place_is);
+        unacted = h.unacted;
+        next_is = h.next_is
+            ∙ ap (λ ids. with_rollouts l (set_numbered rs number (record x { members = ids }))) (sym (append_assoc x.members some more))
+            ∙ ap (with_rollouts l) (sym (set_twice number rs y (and_members y more)));
+      },
+    )
+
+-- by so many: those before, and those there, are those before the next
+chunk_next : (many count k : ℕ) (ids some d : List Bytes) → k < count → some ≡ get_or (first_chunks many count ids) k d
+    → take (k * many) ids ++ some ≡ take ((k + 1) * many) ids
+chunk_next many zero k ids some d below is = absurd (omega (arith, below))
+chunk_next many (suc count) zero ids some d below is =
+    let none : zero * many ≡ zero = omega arith in
+    let one : many ≡ (zero + 1) * many = omega arith in
+    ap (λ n. take n ids ++ some) none ∙ is ∙ ap (λ n. take n ids) one
+chunk_next many (suc count) (suc k) ids some d below is =
+    let was : suc k * many ≡ many + k * many = omega arith in
+    let now : (suc k + 1) * many ≡ many + (k + 1) * many = omega arith in
+    let rest = drop many ids in
+    ap (λ n. take n ids ++ some) was ∙ ap (λ l. l ++ some) (take-add many (k * many) ids)
+    ∙ append_assoc (take many ids) (take (k * many) rest) some
+    ∙ ap (λ l. take many ids ++ l) (chunk_next many count k rest some d (omega (arith, below)) is)
+    ∙ sym (take-add many ((k + 1) * many) ids) ∙ ap (λ n. take n ids) (sym now)
+
+-- of all members: sixteen at once, behind those before them
+pub sixteen_more : (number : ℕ) (all ids : List Bytes) (count k : ℕ) → k < count → count * 16 ≤ length all
+    → ids ≡ get_or (first_chunks 16 count all) k ids → (l next : Ledger) → AddsMembers number 1 (take ((k + 1) * 16) all) l next
+    → (mid : Ledger) × AddsMembers number 1 (take (k * 16) all) l mid × AddsMembers number (k * 16 + 1) ids mid next
+sixteen_more number all ids count k below many is l next h =
+    let size : length (take (k * 16) all) ≡ k * 16 = length-take-le (k * 16) all (omega (arith, below, many)) in
+    let place : 1 + length (take (k * 16) all) ≡ k * 16 + 1 = omega (arith, size) in
+    subst (λ p. (mid : Ledger) × AddsMembers number 1 (take (k * 16) all) l mid × AddsMembers number p ids mid next) place
+    (more_members number 1 (take (k * 16) all) ids l next
+    (subst (λ its. AddsMembers number 1 its l next) (sym (chunk_next 16 count k all ids ids below is)) h))
+
+-- .. and then one by one
+pub one_more_member : (number : ℕ) (all : List Bytes) (before j : ℕ) (id : Bytes) → before ≤ length all → j < length (drop before all)
+    → id ≡ get_or (drop before all) j id → (l next : Ledger) → AddsMembers number 1 (take (before + (j + 1)) all) l next
+    → (mid : Ledger) × AddsMembers number 1 (take (before + j) all) l mid × AddsMembers number (before + j + 1) (id ∷ []) mid next
+one_more_member number all before j id low below is l next h =
+    let rest = length-drop before all in
+    let size : length (take (before + j) all) ≡ before + j = length-take-le (before + j) all (omega (arith, below, low, rest)) in
+    let place : 1 + length (take (before + j) all) ≡ before + j + 1 = omega (arith, size) in
+    let more : take (before + (j + 1)) all ≡ take (before + j) all ++ id ∷ [] =
+    take-add before (j + 1) all ∙ ap (λ l. take before all ++ l) (one_more (drop before all) id j below is)
+    ∙ sym (append_assoc (take before all) (take j (drop before all)) (id ∷ [])) ∙ ap (λ l. l ++ id ∷ []) (sym (take-add before j all)) in
+    subst (λ p. (mid : Ledger) × AddsMembers number 1 (take (before + j) all) l mid × AddsMembers number p (id ∷ []) mid next) place
+    (more_members number 1 (take (before + j) all) (id ∷ []) l next (subst (λ its. AddsMembers number 1 its l next) more h))
 
 -- ---- no action is its
 

@@ -1,6 +1,6 @@
 //! Rollouts: creating one.
 
-ghost use Rattle.std.specs.Prelude.{◌≡◌, ◌≤◌, ◌++◌, [], ◌∷◌, length, IfErr, IfOk, IfSome, Some};
+ghost use Rattle.std.specs.Prelude.{◌≡◌, ◌≤◌, ◌+◌, ◌*◌, ◌/◌, ◌%◌, ◌++◌, [], ◌∷◌, length, IfErr, IfOk, IfSome, Some};
 ghost use Rattle.sql_calls.specs.declared.fault.Fault.TheVariants.{Memory};
 ghost use Rattle.rollout_machine.specs.Commands.{CreateRollout};
 ghost use Rattle.rollout_machine.specs.GroupRules.{rules_of};
@@ -10,6 +10,8 @@ ghost use Rattle.target_filter.specs.Grammar.{Tree};
 ghost use Rattle.target_filter.specs.Profile.{filter_of};
 ghost use Rattle.campaign_core.specs.RolloutChecks.{IsPlanView};
 ghost use Rattle.desk_commands.specs.Creations.{CreatesRollout, IsChosen, IsWordOf, ids_matching, in_part, shown_new};
+ghost use Rattle.desk_records.specs.LedgerSteps.{AddsMembers};
+ghost use Rattle.desk_store.specs.Counting.{AddsIn};
 ghost use Rattle.desk_store.specs.Changing.{FindsIn, MakesLedger, StaysIn};
 ghost use Rattle.desk_commands.specs.Changing.{StepsIn};
 ghost use Rattle.desk_reads.specs.AtLists.{FailsAtListsIn};
@@ -22,7 +24,7 @@ use desk_reads::{named_by, read_all_asked, read_candidates};
 use desk_store::{Fault, OpenChange};
 use rollout_machine::Bounds;
 use rollout_model::{
-    Approval, ControllerId, FilterText, Reply, Rollout, RolloutPlan, RolloutWord, Target,
+    Approval, ControllerId, FilterText, Reply, Rollout, RolloutNo, RolloutPlan, RolloutWord, Target,
 };
 use sqlite::Alter;
 use std::alloc::{AllocError, Global};
@@ -179,6 +181,28 @@ fn show_new(
     })
 }
 
+/// Writes the members of a rollout that has none, sixteen by a statement, and those that are left behind them by one each.
+fn write_members<S: Alter>(
+    change: &mut OpenChange<'_, S>,
+    number: RolloutNo,
+    members: &[ControllerId],
+) -> Result<(), Fault>
+    requires few { length members.now ≤ 4294967295 }
+    ensures stays { WritesIn S.Store change.old change.new result }
+    ensures writes { MakesLedger S.Store change.old change.new result (AddsMembers number 1 members.now) }
+    ensures work { AddsIn (length members.now / 16 + length members.now % 16) 0 change.old change.new }
+{
+    let (sixteens, rest) = members.as_chunks::<16>();
+    for (i, ids) in sixteens.iter().enumerate() {
+        change.write_sixteen_members(number, i as u32 * 16 + 1, ids)?;
+    }
+    let before = sixteens.len() * 16;
+    for (i, id) in rest.iter().enumerate() {
+        change.write_member(number, (before + i) as u32 + 1, id)?;
+    }
+    Ok(())
+}
+
 /// Writes a rollout with its groups, which have these bounds, with what is said of them, and with its members.
 fn write_whole<S: Alter>(
     change: &mut OpenChange<'_, S>,
@@ -192,6 +216,7 @@ fn write_whole<S: Alter>(
     ensures stays { WritesIn S.Store change.old change.new result }
     ensures writes { MakesLedger S.Store change.old change.new result
         (CreatesRollout (in_part created.now plan.now (length members.now) plan.now.groups.count members.now) (rules_of plan.now)) }
+    ensures work { AddsIn (1 + plan.now.groups.count * 2 + (length members.now / 16 + length members.now % 16)) 0 change.old change.new }
 {
     let number = created.number;
     let groups = plan.groups.count().get();
@@ -202,10 +227,7 @@ fn write_whole<S: Alter>(
         change.write_group(number, group, bounds)?;
         change.write_rule(number, group, &plan.group_rule(group))?;
     }
-    for (i, id) in members.iter().enumerate() {
-        change.write_member(number, i as u32 + 1, id)?;
-    }
-    Ok(())
+    write_members(change, number, members)
 }
 
 /// How many members there are, where a reply can tell it: up to 4,294,967,295.

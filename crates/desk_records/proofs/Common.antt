@@ -99,8 +99,8 @@ pub use Rattle.desk_records.specs.FeedbackNumbers.{borne_at, number_row, number_
 pub use Rattle.desk_records.specs.FoundPieces.{ArePieces, lies_at}
 pub use Rattle.desk_records.specs.Holds.{AreRowsOf, HoldsLedger, HoldsRecords, IsHeld, Ledger, Offered, Ordered, Unordered, content_of, desk_row, ledger_of}
 pub use Rattle.desk_records.specs.Holds.{module_row}
-pub use Rattle.desk_records.specs.LedgerSteps.{AddsActions, AddsEntry, AddsGroup, AddsMember, AddsNumber, AddsRollout, AddsRule, OffersGroup, SetsAction}
-pub use Rattle.desk_records.specs.LedgerSteps.{SetsGroup, SetsRollout, action_turned, and_entry, and_group, and_member, group_counted, bare_rollout}
+pub use Rattle.desk_records.specs.LedgerSteps.{AddsActions, AddsEntry, AddsGroup, AddsMembers, AddsNumber, AddsRollout, AddsRule, OffersGroup, SetsAction}
+pub use Rattle.desk_records.specs.LedgerSteps.{SetsGroup, SetsRollout, action_turned, and_entry, and_group, and_members, group_counted, bare_rollout}
 pub use Rattle.desk_records.specs.LedgerSteps.{and_actions, cut_group, new_for, scheduled, turned, with_actions, with_groups, with_numbers, with_rollouts}
 pub use Rattle.desk_records.specs.LedgerSteps.{in_place_of, reoffered, with_rules}
 pub use Rattle.desk_records.specs.Listings.{AreBroken, AreRead, AreSaid, IsLastNumber, IsOnly, has_at, has_text_at, is_number_of, is_text_of}

@@ -4,11 +4,12 @@ use Rattle.desk_records.proofs.Common.{Chosen, Table, Database, IsDatabase, all-
 use Rattle.desk_records.proofs.Common.{offer_table, table_at, name_of, are_sorted, AreRowsOf, HoldsLedger, HoldsRecords, IsHeld, Ledger, Offered, content_of}
 use Rattle.desk_records.proofs.Common.{ledger_of, Row, Term, Insert, Values, None, Null, State, Writes, IsPermutation, IsPermutation-trans, IsHeldBy, Inserted}
 use Rattle.desk_records.proofs.Common.{given_rows, inserts, adds_row, cast_all, slice_get, Unordered, ◌+◌, ◌++◌, arith, length, pos, rowid, rows_from, put_row}
-use Rattle.desk_records.proofs.Common.{put_next, edit_of, Trees, Int, Ordered}
+use Rattle.desk_records.proofs.Common.{put_next, edit_of, Trees, Int, Ordered, drop, cast_null, cast_row, IsPermutation-middle, IsPermutation-sym}
 use Rattle.rollout_machine.specs.Offers.{first_offer}
 use Rattle.sql_calls.proofs.Apart.{HasNoForeignKey}
-use Rattle.sqlite_rules.specs.Edit.{edited}
+use Rattle.sqlite_rules.specs.Edit.{edited, next_rowid, numbered, put_all}
 use Rattle.sql_calls.proofs.Inserts.{uncounted}
+use Rattle.sql_calls.proofs.KeyedRows.{held_added}
 use Rattle.sql_calls.specs.KeyIndexes.{ComparesBytes}
 use Rattle.desk_records.proofs.Places.{place_named, is_named, is_among, same_elsewhere}
 
@@ -50,6 +51,20 @@ module _ (k : Place) (now next : Ledger) (old new : Database) (was : HoldsLedger
       rows : (t : Place) → IsHeld next t (new.trees (was.spot t).tree)
       rows t = grind (arith, cases_eq (was.spot t).tree (was.spot k).tree, one_place t, kept t, same t, was.rows t, there)
 
+-- rows whose rowids SQLite chooses are put one after the other
+held_rows : (table : Table) (rows wanted news : List Row) → IsHeldBy rows wanted
+    → IsHeldBy (put_all rows (numbered Chosen rows (map (λ s. cast_row table (drop 0 s)) (map (λ x. Null ∷ x) news))))
+    (map (cast_all table.columns) news ++ wanted)
+held_rows table rows wanted [] held = held
+held_rows table rows wanted (x ∷ news) held =
+    let y = cast_all table.columns x in
+    let more = held_rows table (put_row (Int (next_rowid rows) ∷ y) rows) (y ∷ wanted) news (held_added rows wanted held y) in
+    rw (cast_null) (record {
+      order = more.order;
+      rising = more.rising;
+      same = IsPermutation-trans _ _ _ (IsPermutation-sym _ _ (IsPermutation-middle (map (cast_all table.columns) news) y wanted)) more.same;
+    })
+
 -- A new row of one place, whose rows come in any order.
 module _ (k : Place) (l next : Ledger) (only : ChangesOnly k l next) (sorted : are_sorted next.records.targets ≡ true) where
   inserted : {old new : State} {text : List ℕ} {params : Row} {count : ℕ} (terms : List Term) (width : ℕ) (holds : HoldsLedger old.now l)
@@ -74,6 +89,29 @@ module _ (k : Place) (l next : Ledger) (only : ChangesOnly k l next) (sorted : a
       let were : IsHeldBy (old.now.trees spot.tree) had = subst (λ c. AreRowsOf c (old.now.trees spot.tree)) before (holds.rows k) in
       let it : IsHeldBy (new.now.trees spot.tree) (row ∷ had) =
       grind (arith, cast spot.tree, adds_row old.now.schema table [] params terms width source (given spot.tree) old.now new.now had were made) in
+      let held : IsHeldBy (new.now.trees spot.tree) gets =
+      record { order = it.order; rising = it.rising; same = IsPermutation-trans _ _ _ more it.same } in
+      ledger_after k l next old.now new.now holds (record { schema = made.schema_is; sound = w.sound; others = made.applies.tables })
+      (subst (λ c. AreRowsOf c (new.now.trees spot.tree)) (sym after) held) only sorted
+
+  -- .. and several, whose rows come in any order
+  pub puts_all : {old new : State} {text : List ℕ} {params : Row} {count : ℕ} {had gets : List Row} (terms : List Term) (width : ℕ)
+      (holds : HoldsLedger old.now l) → Writes old new None (Insert (holds.spot k).at (Values terms width)) text params count
+      → ((tree : ℕ) → table_at k tree ≡ uncounted (table_at k tree)) → (rows : List Row)
+      → ((tree : ℕ) → given_rows (table_at k tree) params terms width ≡ map (λ x. Null ∷ x) rows)
+      → ((tree : ℕ) → map (cast_all (table_at k tree).columns) rows ≡ rows)
+      → content_of l k ≡ Unordered had → content_of next k ≡ Unordered gets → IsPermutation gets (rows ++ had) → HoldsLedger new.now next
+  puts_all {old} {new} {text} {params} {count} {had} {gets} terms width holds w plain rows given cast before after more =
+      let spot = holds.spot k in
+      let table = table_at k spot.tree in
+      let was = old.now.trees spot.tree in
+      let made = inserted terms width holds w plain in
+      let were : IsHeldBy was had = subst (λ c. AreRowsOf c was) before (holds.rows k) in
+      let put = edited old.now.trees (edit_of old.now.trees table [] Chosen 0 (map (λ x. Null ∷ x) rows)) in
+      let now : new.now.trees spot.tree ≡ put = made.applies.rows
+      ∙ ap (λ its. edited old.now.trees (edit_of old.now.trees table [] Chosen 0 its)) (given spot.tree) in
+      let all : IsHeldBy put (rows ++ had) = subst (λ its. IsHeldBy put (its ++ had)) (cast spot.tree) (held_rows table was had rows were) in
+      let it : IsHeldBy (new.now.trees spot.tree) (rows ++ had) = subst (λ its. IsHeldBy its (rows ++ had)) (sym now) all in
       let held : IsHeldBy (new.now.trees spot.tree) gets =
       record { order = it.order; rising = it.rising; same = IsPermutation-trans _ _ _ more it.same } in
       ledger_after k l next old.now new.now holds (record { schema = made.schema_is; sound = w.sound; others = made.applies.tables })

@@ -1,10 +1,13 @@
 -- Lists in which one changes, and rows that don't tell of the change.
-use Rattle.desk_records.proofs.Common.{◌≡◌, ◌≢◌, ◌++◌, ◌<◌, ℕ, zero, suc, ◌+◌, List, [], ◌∷◌, length, set, slice_get, Some, refl, ap, arith, nat_eq, not, cond}
+use Rattle.desk_records.proofs.Common.{◌≡◌, ◌≢◌, ◌++◌, ◌<◌, ℕ, zero, suc, ◌+◌, List, [], ◌∷◌, length, set, slice_get, Some, refl, ap, ◌∙◌, arith, nat_eq, not}
+use Rattle.desk_records.proofs.Common.{cond}
 use Rattle.desk_records.proofs.Common.{Bool, true, false, ◌&&◌, append_assoc, IsPermutation, list_all, zip, nat_tests, IsPermutation-trans}
-use Rattle.desk_records.proofs.Common.{IsPermutation-middle, IsPermutation-append_right, Row, rows_from, changed, item_numbered, ActionRecord, RolloutRecord}
+use Rattle.desk_records.proofs.Common.{IsPermutation-append_left, IsPermutation-append_right, subst, Row, rows_from, changed, item_numbered, ActionRecord}
+use Rattle.desk_records.proofs.Common.{RolloutRecord}
 use Rattle.desk_records.proofs.Common.{Tally, actor_of, action_row, part_row, parts_from}
 use Rattle.rollout_machine.specs.StateWords.{member_at}
-use Rattle.desk_records.proofs.Parts.{next_place}
+use Rattle.std.proofs.lemmas.List.Sorted.{IsPermutation-append_comm}
+use Rattle.desk_records.proofs.Parts.{next_places}
 
 module _ {X : Type 0} (x y : X) where
   -- of a change that the rows don't show
@@ -21,27 +24,50 @@ module _ {X : Type 0} (x y : X) where
   parts_stay f parts same n zero (z ∷ xs) there = grind (arith, same)
   parts_stay f parts same n (suc k) (z ∷ xs) there = grind (arith, parts_stay f parts same (n + 1) k xs)
 
--- ---- a further part of the record of a number
+-- ---- further parts of the record of a number
 
-module _ {X Y : Type 0} (f : ℕ → ℕ → Y → Row) (parts : X → List Y) (x y : X) (part : Y) (more : parts y ≡ parts x ++ part ∷ []) where
+front_of : {A : Type 0} (xs ys zs : List A) → IsPermutation (xs ++ (ys ++ zs)) (ys ++ (xs ++ zs))
+front_of xs ys zs = subst (λ l. IsPermutation l (ys ++ (xs ++ zs))) (append_assoc xs ys zs)
+    (subst (IsPermutation ((xs ++ ys) ++ zs)) (append_assoc ys xs zs) (IsPermutation-append_left zs _ _ (IsPermutation-append_comm xs ys)))
+
+module _ {X Y : Type 0} (f : ℕ → ℕ → Y → Row) (parts : X → List Y) (x y : X) (new : List Y) (more : parts y ≡ parts x ++ new) where
   parts_more : (n k number place : ℕ) (xs : List X) → number ≡ n + k → place ≡ length (parts x) + 1 → slice_get xs k ≡ Some x
-      → IsPermutation (parts_from f parts n (set xs k y)) (f number place part ∷ parts_from f parts n xs)
+      → IsPermutation (parts_from f parts n (set xs k y)) (rows_from (f number) place new ++ parts_from f parts n xs)
   parts_more n k number place [] at next there = absurd cc
-  parts_more n zero number place (z ∷ xs) at next there = grind (arith, f, length, next_place, append_assoc, IsPermutation-middle)
+  parts_more n zero number place (z ∷ xs) at next there =
+      let own = rows_from (f n) 1 (parts x) in
+      let rest = parts_from f parts (n + 1) xs in
+      let is : z ≡ x = cc in
+      let here : number ≡ n = omega (arith, at) in
+      let last : 1 + length (parts x) ≡ place = omega (arith, next) in
+      let rows : rows_from (f n) 1 (parts y) ≡ own ++ rows_from (f n) place new =
+      ap (rows_from (f n) 1) more ∙ next_places (f n) 1 (parts x) new ∙ ap (λ p. own ++ rows_from (f n) p new) last in
+      rw (is, here, rows, append_assoc own (rows_from (f n) place new) rest) (front_of own (rows_from (f n) place new) rest)
   parts_more n (suc k) number place (z ∷ xs) at next there =
       let own = rows_from (f n) 1 (parts z) in
       IsPermutation-trans _ _ _ (IsPermutation-append_right own _ _ (parts_more (n + 1) k number place xs (omega (arith, at)) next there))
-      (IsPermutation-middle own (f number place part) (parts_from f parts (n + 1) xs))
+      (front_of own (rows_from (f number) place new) (parts_from f parts (n + 1) xs))
 
+  pub parts_are_more : (k place : ℕ) (xs : List X) → slice_get xs k ≡ Some x → place ≡ length (parts x) + 1
+      → IsPermutation (parts_from f parts 1 (set xs k y)) (rows_from (f (suc k)) place new ++ parts_from f parts 1 xs)
+  parts_are_more k place xs there next = parts_more 1 k (suc k) place xs (omega arith) next there
+
+-- .. and one
+module _ {X Y : Type 0} (f : ℕ → ℕ → Y → Row) (parts : X → List Y) (x y : X) (part : Y) (more : parts y ≡ parts x ++ part ∷ []) where
   pub part_is_more : (k place : ℕ) (xs : List X) → slice_get xs k ≡ Some x → place ≡ length (parts x) + 1
       → IsPermutation (parts_from f parts 1 (set xs k y)) (f (suc k) place part ∷ parts_from f parts 1 xs)
-  part_is_more k place xs there next = parts_more 1 k (suc k) place xs (omega arith) next there
+  part_is_more = parts_are_more f parts x y (part ∷ []) more
 
   -- .. of the last record
   pub last_is_more : (number place : ℕ) (before : List X) → number ≡ length before + 1 → place ≡ length (parts x) + 1
       → IsPermutation (parts_from f parts 1 (before ++ y ∷ [])) (f number place part ∷ parts_from f parts 1 (before ++ x ∷ []))
   last_is_more number place before last next =
-      grind (arith, last_set before, parts_more 1 (length before) number place (before ++ x ∷ []) (omega (arith, last)) next (last_there before))
+      grind (
+        arith,
+        last_set before,
+        parts_more f parts x y (part ∷ []) more 1 (length before) number place (before ++ x ∷ []) (omega (arith, last)) next
+            (last_there before),
+      )
     where
       last_there : (before : List X) → slice_get (before ++ x ∷ []) (length before) ≡ Some x
       last_there [] = refl

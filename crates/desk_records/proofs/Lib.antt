@@ -37,6 +37,7 @@ mod LedgerLists
 pub mod LedgerWrites
 pub mod OfferWrites
 pub mod PartWrites
+pub mod MemberWrites
 pub mod DeskRecords
 pub mod DetailLines
 pub mod EntryRecords

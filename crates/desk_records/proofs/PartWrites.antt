@@ -1,37 +1,21 @@
--- The statements on members, groups and histories that write, in ledgers.
+-- The statements on groups and histories that write, in ledgers.
 use Rattle.desk_records.proofs.Common.{◌≡◌, ◌∷◌, ◌++◌, ℕ, zero, suc, ◌+◌, pos, List, [], Bool, true, length, set, slice_get, string_bytes, Option, Some, None}
 use Rattle.desk_records.proofs.Common.{or_null, refl, sym, ap, subst, arith, length-map, map-append, Int, Text, plain, Row, agree, Insert, Values, State}
 use Rattle.desk_records.proofs.Common.{Writes, Integer, cast, cast_all, IsHeldBy, on_content, changes_key, keys_apart, cast_int, cast_null, passes, shown_of}
-use Rattle.desk_records.proofs.Common.{updates, GroupRule, Bytes, entries_in, Bounds, GroupRecord, RolloutRecord, entries_of, entry_row, PlacedNumber}
-use Rattle.desk_records.proofs.Common.{number_row, HoldsLedger, Ledger, AddsMember, AddsGroup, AddsRule, AddsNumber, SetsGroup, AddsEntry, and_member}
+use Rattle.desk_records.proofs.Common.{updates, GroupRule, entries_in, Bounds, GroupRecord, RolloutRecord, entries_of, entry_row, PlacedNumber}
+use Rattle.desk_records.proofs.Common.{number_row, HoldsLedger, Ledger, AddsGroup, AddsRule, AddsNumber, SetsGroup, AddsEntry}
 use Rattle.desk_records.proofs.Common.{and_group, and_entry, group_counted, cut_group, with_actions, with_groups, with_numbers, with_rollouts, with_rules, flag}
-use Rattle.desk_records.proofs.Common.{group_row, groups_from, member_row, rule_row, told_group, Members, Groups, Feedbacks, Rules, Numbers, group_table}
+use Rattle.desk_records.proofs.Common.{group_row, groups_from, rule_row, told_group, Groups, Feedbacks, Rules, Numbers, group_table}
 use Rattle.desk_records.proofs.Common.{and-true}
 use Rattle.sqlite_value.specs.Keys.{first_key}
 use Rattle.desk_records.specs.declared.new_entry.NewEntry.{NewEntry}
 use Rattle.desk_records.proofs.ActionMeaning.{feedback_terms, number_terms}
 use Rattle.desk_records.proofs.Comparisons.{numbers_equal}
 use Rattle.desk_records.proofs.HoldsAfter.{ChangesOnly, ledger_after, puts}
-use Rattle.desk_records.proofs.LedgerLists.{acts_stay, actions_of_others, actions_stay, actors_stay, part_is_more, part_set, parts_stay, rows_stay}
+use Rattle.desk_records.proofs.LedgerLists.{acts_stay, actions_stay, actors_stay, part_is_more, part_set, parts_stay, rows_stay}
 use Rattle.desk_records.proofs.LedgerWrites.{actions_differ, numbers_differ, rollouts_differ, rules_differ}
-use Rattle.desk_records.proofs.RolloutMeaning.{group_terms, group_values, member_terms, of_group, rule_terms}
+use Rattle.desk_records.proofs.RolloutMeaning.{group_terms, group_values, of_group, rule_terms}
 use Rattle.desk_records.proofs.MeaningWords.{changes}
-
--- ---- a new member
-
-pub adds_member : (number place : ℕ) (id : Bytes) (old new : State) (text : List ℕ) (count : ℕ) (l next : Ledger) (holds : HoldsLedger old.now l)
-    → AddsMember number place id l next
-    → (w : Writes old new None (Insert (holds.spot Members).at (Values member_terms 4)) text (member_row number place id) count) → HoldsLedger new.now next
-adds_member zero place id old new text count l next holds change w = absurd (let none = change.is_there in cc)
-adds_member (suc k) place id old new text count l next holds change w =
-    let xs = l.records.rollouts in
-    let x = change.rollout in
-    let y = and_member x id in
-    subst (HoldsLedger new.now) (sym change.next_is)
-    (puts Members l (with_rollouts l (set xs k y))
-    (grind (arith, rollouts_differ, rows_stay, parts_stay, actions_of_others, change.is_there, change.unacted)) holds.sorted member_terms 4 holds w
-    (λ tree. refl) _ _ (λ tree. refl) (λ tree. rw (cast_int (suc k), cast_int place) refl) refl refl
-    (part_is_more member_row (λ (z : RolloutRecord). z.members) x y id refl k place xs change.is_there change.place_is))
 
 -- ---- groups
 

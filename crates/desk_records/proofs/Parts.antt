@@ -33,10 +33,12 @@ module _ {Y : Type 0} (f : ℕ → Y → Row) (p : Row → Bool) where
   at_place first zero is (y ∷ ys) = grind (arith, nat_tests, is first y, none_after (first + zero) is (first + 1) ys (omega arith))
   at_place first (suc k) is (y ∷ ys) = grind (arith, at_place (first + 1) k, nat_tests)
 
-pub next_place : {Y : Type 0} (f : ℕ → Y → Row) (place : ℕ) (ys : List Y) (y : Y) → rows_from f place (ys ++ y ∷ [])
-    ≡ rows_from f place ys ++ f (place + length ys) y ∷ []
-next_place f place [] y = grind arith
-next_place f place (z ∷ ys) y = grind (arith, next_place f (place + 1) ys y)
+pub next_places : {Y : Type 0} (f : ℕ → Y → Row) (place : ℕ) (ys zs : List Y) → rows_from f place (ys ++ zs)
+    ≡ rows_from f place ys ++ rows_from f (place + length ys) zs
+next_places f place [] zs = let same : place ≡ place + 0 = omega arith in ap (λ p. rows_from f p zs) same
+next_places f place (y ∷ ys) zs =
+    let same : place + 1 + length ys ≡ place + suc (length ys) = omega arith in
+    ap (λ l. f place y ∷ l) (next_places f (place + 1) ys zs ∙ ap (λ p. rows_from f (place + 1) ys ++ rows_from f p zs) same)
 
 -- ---- the parts of all records
 

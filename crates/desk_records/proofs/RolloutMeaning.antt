@@ -1,7 +1,7 @@
 -- Written by tools/gen/sql-proofs. What it makes is proved; the tool is not trusted.
 -- What the texts of src/rollout_texts.rt mean, wherever their tables stand.
 use Rattle.desk_records.proofs.Common.{refl, List, [], ◌∷◌, ℕ, codes, pos, false, Null, Int, Values, Query, Term, lit, col, simple}
-use Rattle.desk_records.specs.declared.rollout_texts.TheConstants.{FIND_ROLLOUT, LAST_ROLLOUT, GET_ROLLOUT, LIST_MEMBERS, LIST_PLACES, COUNT_MEMBERS, LIST_GROUPS, COUNT_GROUPS, GET_GROUP, HOLDING_GROUP, GROUP_AND_NEXT, PUT_ROLLOUT, SET_ROLLOUT, PUT_MEMBER, PUT_GROUP, SET_GROUP, GET_RULE, LIST_RULES, PUT_RULE}
+use Rattle.desk_records.specs.declared.rollout_texts.TheConstants.{FIND_ROLLOUT, LAST_ROLLOUT, GET_ROLLOUT, LIST_MEMBERS, LIST_PLACES, COUNT_MEMBERS, LIST_GROUPS, COUNT_GROUPS, GET_GROUP, HOLDING_GROUP, GROUP_AND_NEXT, PUT_ROLLOUT, SET_ROLLOUT, PUT_MEMBER, PUT_MEMBERS, PUT_GROUP, SET_GROUP, GET_RULE, LIST_RULES, PUT_RULE}
 use Rattle.desk_records.specs.Schema.{Rollouts, Members, Groups, Rules}
 use Rattle.desk_records.proofs.MeaningWords.{compiling, Asks, Counts, Puts, Changes, at_key, past, at_least, at_most, in_order, greatest_number, changing, no_limit, no_offset}
 
@@ -91,6 +91,12 @@ member_terms = lit Null ∷ col 0 0 ∷ col 0 1 ∷ col 0 2 ∷ []
 
 pub put_member_is : Puts Members PUT_MEMBER.now (Values member_terms 4)
 put_member_is = unfold compiling in record { adds = λ tree. record { parsed = _; columns = _; rows = _; read = refl; statement = refl; formats = refl; fits = λ s. refl }; plain = λ tree. refl }
+
+abbrev pub members_terms : List Term
+members_terms = lit Null ∷ col 0 0 ∷ col 0 1 ∷ col 0 2 ∷ lit Null ∷ col 0 0 ∷ col 0 3 ∷ col 0 4 ∷ lit Null ∷ col 0 0 ∷ col 0 5 ∷ col 0 6 ∷ lit Null ∷ col 0 0 ∷ col 0 7 ∷ col 0 8 ∷ lit Null ∷ col 0 0 ∷ col 0 9 ∷ col 0 10 ∷ lit Null ∷ col 0 0 ∷ col 0 11 ∷ col 0 12 ∷ lit Null ∷ col 0 0 ∷ col 0 13 ∷ col 0 14 ∷ lit Null ∷ col 0 0 ∷ col 0 15 ∷ col 0 16 ∷ lit Null ∷ col 0 0 ∷ col 0 17 ∷ col 0 18 ∷ lit Null ∷ col 0 0 ∷ col 0 19 ∷ col 0 20 ∷ lit Null ∷ col 0 0 ∷ col 0 21 ∷ col 0 22 ∷ lit Null ∷ col 0 0 ∷ col 0 23 ∷ col 0 24 ∷ lit Null ∷ col 0 0 ∷ col 0 25 ∷ col 0 26 ∷ lit Null ∷ col 0 0 ∷ col 0 27 ∷ col 0 28 ∷ lit Null ∷ col 0 0 ∷ col 0 29 ∷ col 0 30 ∷ lit Null ∷ col 0 0 ∷ col 0 31 ∷ col 0 32 ∷ []
+
+pub put_members_is : Puts Members PUT_MEMBERS.now (Values members_terms 4)
+put_members_is = unfold compiling in record { adds = λ tree. record { parsed = _; columns = _; rows = _; read = refl; statement = refl; formats = refl; fits = λ s. refl }; plain = λ tree. refl }
 
 abbrev pub group_terms : List Term
 group_terms = lit Null ∷ col 0 0 ∷ col 0 1 ∷ col 0 2 ∷ col 0 3 ∷ lit (Int (pos 0)) ∷ lit (Int (pos 0)) ∷ lit (Int (pos 0)) ∷ lit (Int (pos 0)) ∷ []

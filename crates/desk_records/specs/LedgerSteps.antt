@@ -58,16 +58,16 @@ pub record SetsRollout (number : ℕ) (approval : Approval) (started paused : Bo
   pub is_there : item_numbered l.records.rollouts number ≡ Some rollout
   pub next_is : next ≡ with_rollouts l (set_numbered l.records.rollouts number (turned approval started paused rollout))
 
-abbrev pub and_member : RolloutRecord → Bytes → RolloutRecord
-and_member x id = record x { members = x.members ++ id ∷ [] }
+abbrev pub and_members : RolloutRecord → List Bytes → RolloutRecord
+and_members x ids = record x { members = x.members ++ ids }
 
--- the rollout is there, the place is its next, and no action is its yet
-pub record AddsMember (number place : ℕ) (id : Bytes) (l next : Ledger) : Type 0 where
+-- the rollout is there, the place is its next, where the first of these members goes, and no action is its yet
+pub record AddsMembers (number place : ℕ) (ids : List Bytes) (l next : Ledger) : Type 0 where
   pub rollout : RolloutRecord
   pub is_there : item_numbered l.records.rollouts number ≡ Some rollout
   pub place_is : place ≡ length rollout.members + 1
   pub unacted : list_all (λ (a : ActionRecord). not (nat_eq a.rollout number)) l.records.actions ≡ true
-  pub next_is : next ≡ with_rollouts l (set_numbered l.records.rollouts number (and_member rollout id))
+  pub next_is : next ≡ with_rollouts l (set_numbered l.records.rollouts number (and_members rollout ids))
 
 abbrev pub and_group : RolloutRecord → GroupRecord → RolloutRecord
 and_group x g = record x { groups = x.groups ++ g ∷ [] }

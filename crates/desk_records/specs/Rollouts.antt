@@ -27,6 +27,14 @@ is_called name x = same_bytes x.plan.name name
 abbrev pub member_row : ℕ → ℕ → Bytes → Row
 member_row = part_row (λ (id : Bytes). Text id ∷ [])
 
+-- what a statement is given of members from a place on, behind the number of their rollout
+abbrev pub placed : ℕ → List Bytes → Row
+placed place [] = []
+placed place (id ∷ ids) = Int (pos place) ∷ Text id ∷ placed (place + 1) ids
+
+abbrev pub members_given : ℕ → ℕ → List Bytes → Row
+members_given number place ids = Int (pos number) ∷ placed place ids
+
 -- the members of a rollout that is there
 abbrev pub members_of : Option RolloutRecord → List Bytes
 members_of found = parts_of (λ (x : RolloutRecord). x.members) found

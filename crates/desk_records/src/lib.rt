@@ -110,6 +110,7 @@ pub use crate::rollout_texts::LIST_PLACES;
 pub use crate::rollout_texts::LIST_RULES;
 pub use crate::rollout_texts::PUT_GROUP;
 pub use crate::rollout_texts::PUT_MEMBER;
+pub use crate::rollout_texts::PUT_MEMBERS;
 pub use crate::rollout_texts::PUT_ROLLOUT;
 pub use crate::rollout_texts::PUT_RULE;
 pub use crate::rollout_texts::SET_GROUP;

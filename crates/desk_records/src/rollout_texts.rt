@@ -50,6 +50,13 @@ pub const SET_ROLLOUT: &str =
 
 pub const PUT_MEMBER: &str = "INSERT INTO member (rollout, place, controller) VALUES (?1, ?2, ?3)";
 
+/// Sixteen members of one rollout.
+pub const PUT_MEMBERS: &str =
+    "INSERT INTO member (rollout, place, controller) VALUES (?1, ?2, ?3), (?1, ?4, ?5), (?1, ?6, ?7), (?1, ?8, ?9), \
+        (?1, ?10, ?11), (?1, ?12, ?13), (?1, ?14, ?15), (?1, ?16, ?17), \
+        (?1, ?18, ?19), (?1, ?20, ?21), (?1, ?22, ?23), (?1, ?24, ?25), \
+        (?1, ?26, ?27), (?1, ?28, ?29), (?1, ?30, ?31), (?1, ?32, ?33)";
+
 /// A group that isn't started, with no action that ended.
 pub const PUT_GROUP: &str =
     "INSERT INTO rollout_group (rollout, number, first_place, last_place, started, ok, bad, gone) VALUES (?1, ?2, ?3, ?4, 0, 0, 0, 0)";

@@ -1,6 +1,6 @@
 -- What the answers here cite, passed on from one place. Declares nothing.
 pub use Rattle.desk_store.proofs.Common.{AreReadAs, BreaksRule, HoldsLedger, HoldsRecords, HoldsTables, Int, None, Ok, Some, TakesFirst, [], adds_actions}
-pub use Rattle.desk_store.proofs.Common.{adds_entry, adds_group, adds_member, adds_number, adds_rollout, adds_rule, append-nil, arith, broken_attribute_column}
+pub use Rattle.desk_store.proofs.Common.{adds_entry, adds_group, adds_number, adds_rollout, adds_rule, append-nil, arith, broken_attribute_column}
 pub use Rattle.desk_store.proofs.Common.{codes, count_actions_is, count_groups_is, count_members_is, counted_of, drop_offer_is, drop_target_tag_is, drops_offer}
 pub use Rattle.desk_store.proofs.Common.{filter_map, find_artifact_is, find_module_is, find_rollout_is, find_set_is, get_action_is, get_artifact_is}
 pub use Rattle.desk_store.proofs.Common.{get_group_is, get_module_is, get_offer_is, get_piece_is, get_rollout_is, get_rule_is, get_set_is, get_target_is}
@@ -10,7 +10,8 @@ pub use Rattle.desk_store.proofs.Common.{list_artifacts_is, list_entries_is, lis
 pub use Rattle.desk_store.proofs.Common.{list_action_numbers_is, list_rules_is, list_set_modules_is, list_target_actions_is, list_target_attributes_is}
 pub use Rattle.desk_store.proofs.Common.{list_target_tags_is, ListedAction, ℕ}
 pub use Rattle.desk_store.proofs.Common.{module_locked_is, nat_tests, offers_group, pos, put_artifact_is, put_feedback_is}
-pub use Rattle.desk_store.proofs.Common.{put_group_is, put_member_is, put_module_is, put_number_is, put_piece_is, put_rollout_is, put_rule_is, put_set_is}
+pub use Rattle.desk_store.proofs.Common.{put_group_is, put_member_is, put_members_is, put_module_is, put_number_is, put_piece_is, put_rollout_is, put_rule_is}
+pub use Rattle.desk_store.proofs.Common.{put_set_is}
 pub use Rattle.desk_store.proofs.Common.{put_set_module_is, put_target_attribute_is, put_target_is, put_target_tag_is, refl, rules, set_action_is, set_group_is}
 pub use Rattle.desk_store.proofs.Common.{set_offer_is, set_rollout_is, set_target_attribute_is, set_target_is, sets_action, sets_group, sets_offer}
 pub use Rattle.desk_store.proofs.Common.{sets_rollout, slice_get_read, state, StoredBytes, subst, suc, sym, take, true, ◌-◌, ◌∙◌, ◌∷◌, ◌≡◌}
@@ -21,6 +22,8 @@ pub use Rattle.desk_store.proofs.EndLemmas.{commits_as_store, errors_as_store, g
 pub use Rattle.desk_store.proofs.FailLemmas.{all_fails, first_fails, first_tells_only, tells_as}
 pub use Rattle.desk_store.proofs.GroupOfferCalls.{knows_put_group_offers}
 pub use Rattle.desk_store.proofs.MemberActionCalls.{knows_put_actions}
+pub use Rattle.desk_store.proofs.MemberCalls.{pushed}
+pub use Rattle.desk_store.proofs.Common.{adds_one, adds_sixteen}
 pub use Rattle.desk_store.proofs.Known.{in_ledgers, known}
 pub use Rattle.desk_store.proofs.LedgerReads.{both_mapped}
 pub use Rattle.desk_store.proofs.NextOfferCalls.{next_offer_read}

@@ -47,13 +47,15 @@ pub use Rattle.desk_records.proofs.ArtifactMeaning.{all_columns, find_artifact_i
 pub use Rattle.desk_records.proofs.ArtifactMeaning.{list_artifacts_is, put_artifact_is, put_piece_is}
 pub use Rattle.desk_records.proofs.GroupOfferWrites.{offers_group, offers_keyed}
 pub use Rattle.desk_records.proofs.MemberActionWrites.{adds_actions}
+pub use Rattle.desk_records.proofs.MemberWrites.{adds_one, adds_sixteen}
 pub use Rattle.desk_records.proofs.LedgerWrites.{adds_rollout, sets_action, sets_rollout}
 pub use Rattle.desk_records.proofs.NumberColumns.{is_number_in, number_in_good, number_in_is, number_is}
 pub use Rattle.desk_records.proofs.OfferWrites.{drops_offer, sets_offer}
-pub use Rattle.desk_records.proofs.PartWrites.{adds_entry, adds_group, adds_member, adds_number, adds_rule, sets_group}
+pub use Rattle.desk_records.proofs.PartWrites.{adds_entry, adds_group, adds_number, adds_rule, sets_group}
 pub use Rattle.desk_records.proofs.RolloutMeaning.{count_groups_is, count_members_is, find_rollout_is, get_group_is, get_rollout_is, get_rule_is}
 pub use Rattle.desk_records.proofs.RolloutMeaning.{group_and_next_is, group_columns, holding_group_is, last_rollout_is, list_groups_is, list_members_is}
 pub use Rattle.desk_records.proofs.RolloutMeaning.{list_places_is, list_rules_is, of_rollout, placed_columns, places_query, put_group_is, put_member_is}
+pub use Rattle.desk_records.proofs.RolloutMeaning.{put_members_is}
 pub use Rattle.desk_records.proofs.RolloutMeaning.{put_rollout_is, put_rule_is, set_group_is, set_rollout_is}
 pub use Rattle.desk_records.proofs.RolloutRecords.{gets_group_and_next, gets_rollout, lasts_rollout}
 pub use Rattle.desk_records.specs.Actions.{history_of, kind_code, lines_of, told_entry, word_code}

@@ -13,6 +13,7 @@ pub mod LedgersOfRecords
 mod NextOfferCalls
 pub mod GroupOfferCalls
 pub mod MemberActionCalls
+pub mod MemberCalls
 mod Texts
 mod RawCalls
 mod RawLists

@@ -8,7 +8,8 @@ use Rattle.desk_store.proofs.Common.{list_all_artifacts_is, list_artifacts_is, l
 use Rattle.desk_store.proofs.Common.{list_offers_is, list_places_is, list_rules_is, list_set_modules_is, list_action_numbers_is, list_target_actions_is}
 use Rattle.desk_store.proofs.Common.{list_target_attributes_is}
 use Rattle.desk_store.proofs.Common.{list_target_tags_is, module_locked_is, put_artifact_is, put_feedback_is, put_group_is}
-use Rattle.desk_store.proofs.Common.{put_member_is, put_module_is, put_number_is, put_piece_is, put_rollout_is, put_rule_is, put_set_is, put_set_module_is}
+use Rattle.desk_store.proofs.Common.{put_member_is, put_members_is, put_module_is, put_number_is, put_piece_is, put_rollout_is, put_rule_is, put_set_is}
+use Rattle.desk_store.proofs.Common.{put_set_module_is}
 use Rattle.desk_store.proofs.Common.{put_target_attribute_is, put_target_is, put_target_tag_is, set_action_is, set_group_is, set_offer_is, set_rollout_is}
 use Rattle.desk_store.proofs.Common.{set_target_attribute_is, set_target_is}
 use Rattle.desk_records.proofs.TargetMeaning.{list_all_targets_is, list_attributes_between_is, list_tag_between_is, list_tags_between_is}
@@ -49,7 +50,7 @@ pub read : AreKnown (Knows HoldsTables) texts_read
 read = are_known (Knows HoldsTables) texts_read
 
 abbrev texts_written : List ((sql : List ℕ) × KnowsWrite HoldsLedger sql)
-texts_written = (_, puts put_artifact_is) ∷ (_, puts put_feedback_is) ∷ (_, puts put_group_is) ∷ (_, puts put_member_is) ∷
+texts_written = (_, puts put_artifact_is) ∷ (_, puts put_feedback_is) ∷ (_, puts put_group_is) ∷ (_, puts put_member_is) ∷ (_, puts put_members_is) ∷
     (_, puts put_module_is) ∷ (_, puts put_number_is) ∷ (_, puts put_piece_is) ∷ (_, puts put_rollout_is) ∷ (_, puts put_rule_is) ∷ (_, puts put_set_is) ∷
     (_, puts put_set_module_is) ∷ (_, puts put_target_attribute_is) ∷ (_, puts put_target_is) ∷ (_, puts put_target_tag_is) ∷ (_, changes set_action_is) ∷
     (_, changes set_group_is) ∷ (_, changes set_offer_is) ∷ (_, changes set_rollout_is) ∷ (_, changes set_target_attribute_is) ∷ (_, changes set_target_is) ∷

@@ -1,4 +1,6 @@
-use Rattle.desk_commands.proofs.Answering.{[], Ok, take, length, Fault, MakesLedger, rules_of, CreatesRollout, in_part, WritesIn}
+use Rattle.desk_commands.proofs.Answering.{[], Ok, length, Fault, MakesLedger, CreatesRollout, in_part, WritesIn, ◌+◌}
+use Rattle.std.specs.Prelude.{◌*◌}
+use Rattle.desk_store.specs.Counting.{AddsIn}
 use Rattle.desk_commands.proofs.CreationLemmas.{first_rules}
 use Rattle.desk_commands.proofs.creation.write_whole.Given as goal
 
@@ -8,12 +10,5 @@ invariant-loop-i g l = record {
   stays : WritesIn g.S.Store l.fn.change l.change (Ok (tt {0}));
   writes : MakesLedger g.S.Store {A = Unit {0}} {E = Fault} l.fn.change l.change (Ok tt)
       (CreatesRollout (in_part l.created l.plan (length l.members) l.i []) (first_rules l.plan l.i));
-}
-
--- all groups are written, and the members before this index
-abbrev pub invariant-loop-i-2 : goal.invariant-loop-i-2
-invariant-loop-i-2 g l = record {
-  stays : WritesIn g.S.Store l.fn.change l.change (Ok (tt {0}));
-  writes : MakesLedger g.S.Store {A = Unit {0}} {E = Fault} l.fn.change l.change (Ok tt)
-      (CreatesRollout (in_part l.created l.plan (length l.members) l.plan.groups.count (take l.i l.members)) (rules_of l.plan));
+  work : AddsIn (1 + l.i * 2) 0 l.fn.change l.change;
 }
