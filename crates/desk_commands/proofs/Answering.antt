@@ -3,7 +3,7 @@ pub use Rattle.desk_commands.proofs.Common.{makes_three, ◌≡◌, None, Some, 
 pub use Rattle.desk_commands.proofs.Common.{makes_nothing, CancelFeedback, device_action_seen, Feedback, makes_then, ◌≤◌, length, arith, nat_tests, both_found}
 pub use Rattle.desk_commands.proofs.Common.{finds_as, true, false, ap, ◌+◌, same_number, cond, sorted_from, take, in_byte_order, keys_of, keys_after}
 pub use Rattle.desk_commands.proofs.Common.{GivesAttribute, rules, GivesAttributes, Ok, Fault, MakesIn, StaysIn, WritesIn, found_held, filter_of, map}
-pub use Rattle.desk_commands.proofs.Common.{target_listed, ids_matching, Tree, FindsIn, FailsAtListsIn, ledger_found, [], CreatesRollout, in_part}
+pub use Rattle.desk_commands.proofs.Common.{target_listed, Tree, FindsIn, FailsAtListsIn, ledger_found, [], CreatesRollout, in_part}
 pub use Rattle.desk_commands.proofs.Common.{MakesLedger, rules_of, started, with_group, found_then_makes, GoesOn, CanStart, last_started, known, rule_at}
 pub use Rattle.desk_commands.proofs.Common.{said_of, item_numbered, Records, Resume, TriggerNext, details_kept, not, Approve, Deny, Pause, WritesSaid, Start}
 pub use Rattle.desk_commands.proofs.Common.{StartsWhole, target_of, PutsOver, renamed, with_changed, seen_in, Renames, are_sorted, tags_of, Retags}
@@ -15,8 +15,8 @@ pub use Rattle.desk_commands.proofs.ArtifactLemmas.{adds_first_piece, adds_no_by
 pub use Rattle.desk_commands.proofs.ArtifactLemmas.{shown_count}
 pub use Rattle.desk_commands.proofs.AttributeLemmas.{adds_one, counted_key, given_viewed, gives_all, keeps_one, more_attributes, sets_one}
 pub use Rattle.desk_commands.proofs.ComposeLemmas.{accepted, accepted_at, in_order, refused, refused_at}
-pub use Rattle.desk_commands.proofs.CreationLemmas.{all_chosen, creates, no_members, one_group, one_more_member, one_rule, ready, shown_added, sixteen_more}
-pub use Rattle.desk_commands.proofs.CreationLemmas.{then_members, within}
+pub use Rattle.desk_commands.proofs.CreationLemmas.{creates, no_members, one_group, one_more_member, one_rule, ready, shown_added, sixteen_more, then_members}
+pub use Rattle.desk_commands.proofs.CreationLemmas.{within}
 pub use Rattle.desk_commands.proofs.EndingLemmas.{outcome_set}
 pub use Rattle.desk_commands.proofs.FailureLemmas.{asked, asked_at, counted, counts_never, never, never_at, never_given, never_missing, reads_end, writes_as}
 pub use Rattle.desk_commands.proofs.FailureLemmas.{writes_behind, writes_end, writes_last}

@@ -107,7 +107,7 @@ pub use Rattle.desk_reads.specs.declared.rollouts.SeenRollout.{SeenRollout}
 pub use Rattle.desk_commands.specs.ActionSteps.{Acts, FollowsChange, TellsAction, WritesFeedback, canceling_by, outcome_by, stays_offered}
 pub use Rattle.desk_commands.specs.Additions.{AddsArtifact, AddsContents, AddsModules, AddsWhole, LacksModule}
 pub use Rattle.desk_commands.specs.Attributes.{GivesAttribute, GivesAttributes, attributed_with, has_attribute, keys_after}
-pub use Rattle.desk_commands.specs.Creations.{CreatesRollout, IsChosen, IsWordOf, and_rollout, ids_matching, in_part, shown_new}
+pub use Rattle.desk_commands.specs.Creations.{CreatesRollout, IsChosen, IsWordOf, and_rollout, in_part, shown_new}
 pub use Rattle.desk_commands.specs.Endings.{CountsOutcome, FollowsSo, StartsGroupOf, outcomes_in, with_outcome, with_rollout}
 pub use Rattle.desk_commands.specs.Failures.{CanEndBy, CanFollow, CanStart, CanTell, CountsIf, FailsWriting, IsActionOf, IsLastOf, IsSeenFrom, IsSeenIn, Leads}
 pub use Rattle.desk_commands.specs.Failures.{TakesRow, TakesRows, TakesSteps}

@@ -1,16 +1,15 @@
 -- The creation of a rollout, from what is read to what is written.
-use Rattle.desk_commands.proofs.Common.{◌≡◌, ◌<◌, ℕ, zero, suc, ◌+◌, Bool, true, false, not, cond, nat_eq, List, [], ◌∷◌, ◌++◌, map, get_or, take, length}
+use Rattle.desk_commands.proofs.Common.{◌≡◌, ◌<◌, ℕ, zero, suc, ◌+◌, true, false, not, nat_eq, List, [], ◌∷◌, ◌++◌, map, get_or, take, length}
 use Rattle.desk_commands.proofs.Common.{set, slice_get, Some, None, refl, sym, ap, subst, ◌∙◌, arith, list_all, and_parts, nat_tests, length-append}
 use Rattle.desk_commands.proofs.Common.{length-map, length-take-le, map-append, command_reply, item_numbered, CommandList, Bytes, CreateRollout}
 use Rattle.desk_commands.proofs.Common.{RolloutPlan, GroupRule, rule_at, rules_of, first_offer, Records, action_in, rollouts_in, new_group, new_rollout}
 use Rattle.desk_commands.proofs.Common.{step_records, bounds_at, chosen, rollouts, RolloutWord, Target, IsValid, check, reply_of, Bounds, ActionRecord}
 use Rattle.desk_commands.proofs.Common.{RolloutRecord, each_from_more, length_each, numbered_each, Tree, filter_of, IsPlanView, approval_at, plan_refusal}
 use Rattle.desk_commands.proofs.Common.{Ledger, ledger_of, AddsGroup, AddsMembers, AddsRule, cut_group, set_numbered, with_rollouts, with_rules}
-use Rattle.desk_commands.proofs.Common.{same_ledger, target_listed, CreatesRollout, IsChosen, IsWordOf, and_rollout, ids_matching}
+use Rattle.desk_commands.proofs.Common.{same_ledger, target_listed, CreatesRollout, IsChosen, IsWordOf, and_rollout}
 use Rattle.desk_commands.proofs.Common.{in_part, shown_new, invariant_of, not-true}
 use Rattle.rollout_machine.specs.Records.{records}
 use Rattle.std.proofs.lemmas.Option.{slice_get-get_or, slice_get_within}
-use Rattle.std.proofs.lemmas.List.Elements.{filter-append}
 use Rattle.rollout_machine.specs.Actions.{ActionPlace, action_places}
 use Rattle.rollout_machine.specs.Filters.{seen}
 use Rattle.rollout_machine.specs.Groupings.{bounds_by, cut_by}
@@ -22,12 +21,9 @@ use Rattle.target_filter.specs.Meaning.{holds}
 use Rattle.campaign_core.specs.declared.rollout_checks.plans.NewRollout.{NewRollout}
 use Rattle.campaign_core.specs.declared.rollout_checks.plans.PlanView.{PlanView}
 use Rattle.desk_records.specs.declared.target_row.ListedTarget.{ListedTarget}
-use Rattle.desk_reads.proofs.AskedTargets.{holds_asked}
-use Rattle.desk_reads.specs.Candidates.{AreCandidates}
-use Rattle.desk_reads.specs.Targets.{IsNamedBy, asked_listed}
-use Rattle.desk_reads.specs.declared.targets.Asked.{Asked}
-use Rattle.std.specs.Prelude.{Option}
-use Rattle.std.specs.Option.{IsSomeAnd}
+use Rattle.desk_reads.specs.Matches.{AreMatching}
+use Rattle.desk_reads.specs.Targets.{listed_ids}
+use Rattle.std.specs.Prelude.{filter}
 use Rattle.desk_commands.specs.declared.creation.Chosen.{Chosen}
 use Rattle.std.proofs.lemmas.List.{append-nil, append_assoc, length-drop}
 use Rattle.std.proofs.Math.Seq.{take-add}
@@ -45,32 +41,18 @@ first_rules plan groups = each_from (rule_at plan) 1 groups
 
 -- ---- the members
 
-pub ids_grow : (f : Tree) (ts us : List SeenTarget) → ids_matching f (ts ++ us) ≡ ids_matching f ts ++ ids_matching f us
-ids_grow f ts us = grind (arith, filter-append, map-append)
-
--- its id is added where it matches
-pub one_matched : (o : Option Tree) (f : Tree) (t : SeenTarget) (is_match : Bool) → IsSomeAnd o (λ f. is_match ≡ holds f t) → o ≡ Some f
-    → ids_matching f (t ∷ []) ≡ cond is_match (t.id ∷ []) []
-one_matched o f t is_match computed tree = let matched : is_match ≡ holds f t = (rw tree at computed) in grind (arith, matched)
-
--- of targets of which is known what the filter names
-same_ids : (r : Records) (f : Tree) (asked : Asked) → IsNamedBy f asked → (ls : List ListedTarget) → ids_matching f (map (asked_listed r asked) ls)
-    ≡ ids_matching f (map (target_listed r) ls)
-same_ids r f asked named [] = refl
-same_ids r f asked named (l ∷ ls) = grind (arith, same_ids r f asked named ls, holds_asked r asked l f named)
-
-pub ids_asked : (r : Records) (f : Tree) (asked : Asked) → IsNamedBy f asked → (ls : List ListedTarget) (ts : List SeenTarget) (ids : List Bytes)
-    → ts ≡ map (asked_listed r asked) ls → ids ≡ ids_matching f ts → ids ≡ ids_matching f (map (target_listed r) ls)
-ids_asked r f asked named ls ts ids is matched = matched ∙ ap (ids_matching f) is ∙ same_ids r f asked named ls
-
-ids_seen : (f : Tree) (ts : List Target) → ids_matching f (map seen ts) ≡ chosen (Some f) ts
+ids_seen : (f : Tree) (ts : List Target) → map (λ (t : SeenTarget). t.id) (filter (holds f) (map seen ts)) ≡ chosen (Some f) ts
 ids_seen f [] = refl
 ids_seen f (t ∷ ts) = grind (arith, ids_seen f ts)
 
--- those that match of the candidates are those of all targets
-pub all_chosen : (r : Records) (f : Tree) (ls : List ListedTarget) → AreCandidates r f ls → (ids : List Bytes)
-    → ids ≡ ids_matching f (map (target_listed r) ls) → ids ≡ chosen (Some f) r.targets
-all_chosen r f ls are ids is = is ∙ ap (map (λ (t : SeenTarget). t.id)) are.matching ∙ ids_seen f r.targets
+ids_again : (r : Records) (ls : List ListedTarget) → listed_ids ls ≡ map (λ (t : SeenTarget). t.id) (map (target_listed r) ls)
+ids_again r [] = refl
+ids_again r (l ∷ ls) = ap (λ ids. l.id ∷ ids) (ids_again r ls)
+
+-- the ids of those that match are those of all targets that do
+pub all_chosen : (r : Records) (f : Tree) (ls : List ListedTarget) → AreMatching r f ls → (ids : List Bytes) → ids ≡ listed_ids ls
+    → ids ≡ chosen (Some f) r.targets
+all_chosen r f ls are ids is = is ∙ ids_again r ls ∙ ap (map (λ (t : SeenTarget). t.id)) are ∙ ids_seen f r.targets
 
 -- ---- the verdict
 

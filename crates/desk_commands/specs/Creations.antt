@@ -1,5 +1,5 @@
 -- The creation of a rollout: what it rests on, and what it writes.
-use Rattle.std.specs.Prelude.{◌≡◌, ℕ, ◌+◌, Bool, true, false, not, nat_eq, List, [], ◌∷◌, ◌++◌, map, filter, length, is_none}
+use Rattle.std.specs.Prelude.{◌≡◌, ℕ, ◌+◌, Bool, true, false, not, nat_eq, List, [], ◌∷◌, ◌++◌, length, is_none}
 use Rattle.std.specs.List.{list_all}
 use Rattle.rollout_machine.specs.Commands.{Bytes, RolloutPlan}
 use Rattle.rollout_machine.specs.GroupRules.{GroupRule}
@@ -12,9 +12,6 @@ use Rattle.rollout_machine.specs.declared.records.ActionRecord.{ActionRecord}
 use Rattle.rollout_machine.specs.declared.records.RolloutRecord.{RolloutRecord}
 use Rattle.rollout_model.specs.declared.approval.Approval.{Approval}
 use Rattle.rollout_model.specs.declared.rollout.Rollout.{Rollout}
-use Rattle.rollout_model.specs.declared.target.Target.{Target}
-use Rattle.target_filter.specs.Grammar.{Tree}
-use Rattle.target_filter.specs.Meaning.{holds}
 use Rattle.target_filter.specs.Profile.{filter_of}
 use Rattle.campaign_core.specs.declared.rollout_checks.plans.NewRollout.{NewRollout}
 use Rattle.desk_records.specs.Holds.{Ledger}
@@ -22,10 +19,6 @@ use Rattle.desk_records.specs.LedgerSteps.{with_rollouts, with_rules}
 use Rattle.desk_commands.specs.declared.creation.Chosen.{Chosen}
 
 -- ---- the members
-
--- the ids of those of these targets that match
-abbrev pub ids_matching : Tree → List Target → List Bytes
-ids_matching f ts = map (λ (t : Target). t.id) (filter (holds f) ts)
 
 -- what the filter of a text chooses of the targets
 pub record IsChosen (text : Bytes) (r : Records) (found : Chosen) : Type 0 where

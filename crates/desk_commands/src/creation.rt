@@ -9,7 +9,7 @@ ghost use Rattle.rollout_machine.specs.Rollouts.{chosen};
 ghost use Rattle.target_filter.specs.Grammar.{Tree};
 ghost use Rattle.target_filter.specs.Profile.{filter_of};
 ghost use Rattle.campaign_core.specs.RolloutChecks.{IsPlanView};
-ghost use Rattle.desk_commands.specs.Creations.{CreatesRollout, IsChosen, IsWordOf, ids_matching, in_part, shown_new};
+ghost use Rattle.desk_commands.specs.Creations.{CreatesRollout, IsChosen, IsWordOf, in_part, shown_new};
 ghost use Rattle.desk_records.specs.LedgerSteps.{AddsMembers};
 ghost use Rattle.desk_store.specs.Counting.{AddsIn};
 ghost use Rattle.desk_store.specs.Changing.{FindsIn, MakesLedger, StaysIn};
@@ -20,11 +20,11 @@ ghost use Rattle.desk_store.specs.Failing.{WritesIn};
 
 use crate::step::Step;
 use campaign_core::{NewRollout, PlanView, cut_grouping, new_rollout};
-use desk_reads::{named_by, read_all_asked, read_candidates};
+use desk_reads::{ids_of, read_matching};
 use desk_store::{Fault, OpenChange};
 use rollout_machine::Bounds;
 use rollout_model::{
-    Approval, ControllerId, FilterText, Reply, Rollout, RolloutNo, RolloutPlan, RolloutWord, Target,
+    Approval, ControllerId, FilterText, Reply, Rollout, RolloutNo, RolloutPlan, RolloutWord,
 };
 use sqlite::Alter;
 use std::alloc::{AllocError, Global};
@@ -39,42 +39,7 @@ pub(crate) struct Chosen {
     pub members: Vec<ControllerId>,
 }
 
-/// Adds a target to the members, if it matches.
-fn add_if_match(
-    filter: &Filter,
-    target: &Target,
-    members: &mut Vec<ControllerId>,
-) -> Result<(), Fault>
-    ensures ok { IfOk result (λ _. (f : Tree) → filter_of filter.now ≡ Some f → members.new.items ≡ members.old.items ++ ids_matching f (target.now ∷ [])) }
-    ensures err { IfErr result (λ fault. fault ≡ Memory) }
-{
-    let matches = filter.matches(target);
-    if !matches {
-        return Ok(());
-    }
-    match members.push(target.id) {
-        Ok(()) => Ok(()),
-        Err(_) => Err(Fault::Memory),
-    }
-}
-
-/// Those of the targets that match.
-fn matching(
-    alloc: Global,
-    filter: &Filter,
-    targets: Vec<Target>,
-) -> Result<Vec<ControllerId>, Fault>
-    ensures ok { IfOk result (λ members. (f : Tree) → filter_of filter.now ≡ Some f → members.items ≡ ids_matching f targets.items) }
-    ensures err { IfErr result (λ fault. fault ≡ Memory) }
-{
-    let mut members = Vec::new(alloc);
-    for target in targets {
-        add_if_match(filter, &target, &mut members)?;
-    }
-    Ok(members)
-}
-
-/// All targets that match. No more is read of them than the filter names.
+/// The ids of all targets that match.
 fn all_matching<S: Alter>(
     alloc: Global,
     change: &mut OpenChange<'_, S>,
@@ -85,10 +50,8 @@ fn all_matching<S: Alter>(
         (λ r members. (f : Tree) → filter_of filter.now ≡ Some f → members.items ≡ chosen (Some f) r.targets) }
     ensures fails { FailsAtListsIn S.Store change.old change.new result }
 {
-    let entries = read_candidates(change, filter)?;
-    let asked = named_by(filter);
-    let targets = read_all_asked(change, entries, asked)?;
-    let members = matching(alloc, filter, targets)?;
+    let found = read_matching(change, filter)?;
+    let members = ids_of(alloc, found)?;
     Ok(members)
 }
 

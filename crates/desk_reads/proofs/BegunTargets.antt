@@ -89,12 +89,7 @@ pub candidates_are : (r : Records) → are_sorted r.targets ≡ true → (o : Op
 candidates_are r sorted None start ls starts begun = absurd starts
 candidates_are r sorted (Some f) start ls starts begun = are_candidates r sorted f ls (subst (λ s. AreBegun r s ls) starts begun)
 
--- of the filter's tree
-pub candidates_of : (r : Records) (o : Option Tree) (f : Tree) (ls : List ListedTarget) → IsSomeAnd o (λ f. AreCandidates r f ls) → o ≡ Some f
-    → AreCandidates r f ls
-candidates_of r o f ls are is = rw is at are
-
--- whatever its tree is
+-- whatever the filter's tree is
 pub few_candidates : (r : Records) (o : Option Tree) (ls : List ListedTarget) → IsSomeAnd o (λ f. AreCandidates r f ls) → length ls ≤ length r.targets
 few_candidates r None ls are = absurd are
 few_candidates r (Some f) ls are = are.few

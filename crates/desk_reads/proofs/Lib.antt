@@ -3,9 +3,9 @@ pub mod SeenRollouts
 pub mod ListLemmas
 pub mod RuleLemmas
 pub mod ListedTargets
-pub mod AskedTargets
 pub mod WordOrder
 pub mod Owned
+pub mod Matches
 pub mod BegunTargets
 pub mod KnownDevices
 pub mod HistoryKept

@@ -1,15 +1,13 @@
 -- The tags of many targets, or the attributes, read at once, and which of them are each one's own.
-use Rattle.desk_reads.proofs.Common.{◌≡◌, ◌⊎◌, ◌&&◌, ℕ, zero, suc, ◌+◌, ◌<◌, ◌≤◌, Bool, true, false, List, [], ◌∷◌, map, find, length, take, drop, Option}
-use Rattle.desk_reads.proofs.Common.{None, Some, inl, inr, refl, sym, subst}
+use Rattle.desk_reads.proofs.Common.{◌≡◌, ◌&&◌, ℕ, zero, suc, ◌<◌, ◌≤◌, Bool, true, false, List, [], ◌∷◌, map, find, length, take, drop, Option}
+use Rattle.desk_reads.proofs.Common.{None, Some, refl, sym, subst}
 use Rattle.desk_reads.proofs.Common.{ap, ◌∙◌, arith, and_parts, list_all, Records, Target, tags_of, target_of, IsSorted, are_sorted, ids_of}
 use Rattle.desk_reads.proofs.Common.{in_byte_order}
 use Rattle.desk_reads.proofs.Common.{AllAbove, sorted_from, has_id, same_true, Bytes}
 use Rattle.desk_records.proofs.Targets.{none_after}
-use Rattle.std.specs.Prelude.{◌++◌, ◌*◌, ◌/◌, ◌%◌, ◌-◌, cond, min, not, filter, flat_map, get_or, slice_get}
+use Rattle.std.specs.Prelude.{◌++◌, ◌-◌, cond, not, filter, flat_map, get_or, slice_get}
 use Rattle.std.specs.List.{AllByRecursion}
-use Rattle.std.proofs.lemmas.List.{append-nil, append_assoc, drop-drop, drop-map, drop_all, length-append, map-append, take-append-drop, take-map, take_all}
-use Rattle.std.proofs.Math.Seq.{take-add}
-use Rattle.std.proofs.lemmas.Grind.{div_ceil_times}
+use Rattle.std.proofs.lemmas.List.{append-nil, append_assoc, drop-map, map-append, take-map, take_all}
 use Rattle.rollout_machine.specs.ByteStrings.{bytes_below, same_bytes}
 use Rattle.rollout_model.specs.declared.target.Target.{Target as SeenTarget}
 use Rattle.std.specs.Cmp.Lexicographic.{slice_cmp}
@@ -24,10 +22,14 @@ use Rattle.desk_records.specs.declared.target_row.OwnedTag.{OwnedTag}
 use Rattle.std.specs.Option.{IsSomeAnd}
 use Rattle.desk_reads.proofs.Common.{Attribute, CommandList, IsValid, attributes_of, is_tag_list, records, true≢false}
 use Rattle.desk_reads.proofs.TargetRules.{tags_keep}
-use Rattle.desk_reads.specs.Targets.{AreAttributesOf, AreEnds, AreLeft, AreOwned, AreTagsOf, HasItsAttributes, HasItsTags, HasNoTagList, asked_listed}
+use Rattle.desk_reads.specs.Targets.{AreAttributesOf, AreEnds, AreLeft, AreLists, AreTagsLike, HasItsAttributes, HasNoTagList, HasTagsLike}
 use Rattle.desk_reads.specs.Targets.{attribute_ids, listed_ids, rises, tag_ids}
-use Rattle.desk_reads.specs.Targets.{own_attributes, own_listed, own_tags}
-use Rattle.desk_reads.specs.declared.targets.Asked.{Asked}
+use Rattle.desk_reads.specs.Targets.{own_attributes, own_listed, own_tags, target_listed}
+use Rattle.desk_reads.proofs.Common.{and_from, are_distinct_words, is_word, le-leb, leb-true, list_any, nat_eq, pointwise, same_pointwise}
+use Rattle.std.specs.Prelude.{nat_le}
+use Rattle.rollout_model.specs.Limits.{tag_limit}
+use Rattle.target_filter.specs.Names.{tags_like}
+use Rattle.desk_records.proofs.Membership.{few_pass, same_kept}
 use Rattle.desk_reads.proofs.WordOrder.{below_another, below_itself, below_other, below_through, below_under, compared_equal, compared_greater, compared_less}
 use Rattle.desk_reads.proofs.WordOrder.{list_all_more, not_back, order_dropped, order_more, order_taken}
 
@@ -204,9 +206,60 @@ kept_attributes id first last =
     kept (λ (o : OwnedAttribute). o.id) (λ (o : OwnedAttribute). o.attribute) id (λ (i : Bytes) (a : Attribute). record { id = i; attribute = a })
     (λ i a. refl) (λ i a. refl) (λ (t : Target). t.attributes) attributes_of refl (λ t. refl) first last
 
-whole_or_none : {X : Type 0} (b : Bool) (xs ys : List X) → xs ≡ cond b ys [] → (xs ≡ ys) ⊎ (xs ≡ [])
-whole_or_none true xs ys is = inl is
-whole_or_none false xs ys is = inr is
+-- ---- some of them
+
+module _ (p : Bytes → Bool) where
+  few_words : (ws : List Bytes) → length (filter p ws) ≤ length ws
+  few_words ws = few_pass p ws
+
+  each_word : (q : Bytes → Bool) (ws : List Bytes) → list_all q ws ≡ true → list_all q (filter p ws) ≡ true
+  each_word q [] all = refl
+  each_word q (w ∷ ws) all = grind (arith, each_word q ws, and_parts, and_from)
+
+  no_word : (q : Bytes → Bool) (ws : List Bytes) → list_any q ws ≡ false → list_any q (filter p ws) ≡ false
+  no_word q [] none = refl
+  no_word q (w ∷ ws) none = grind (arith, no_word q ws)
+
+  distinct_words : (ws : List Bytes) → are_distinct_words ws ≡ true → are_distinct_words (filter p ws) ≡ true
+  distinct_words [] distinct = refl
+  distinct_words (w ∷ ws) distinct = grind (arith, distinct_words ws, no_word (λ v. pointwise nat_eq v w) ws, and_parts, and_from)
+
+  -- some tags of a list are a list of tags
+  pub some_tags : (ws : List Bytes) → is_tag_list ws ≡ true → is_tag_list (filter p ws) ≡ true
+  some_tags ws is =
+      let parts = and_parts (nat_le (length ws) tag_limit) _ is in
+      let words = and_parts (list_all is_word ws) (are_distinct_words ws) parts.1 in
+      and_from _ _ (le-leb _ _ (omega (arith, few_words ws, leb-true _ _ parts.0)))
+      (and_from _ _ (each_word is_word ws words.0) (distinct_words ws words.1))
+
+  own_some : (id : Bytes) (os : List OwnedTag) → own_tags id (filter (λ (o : OwnedTag). p o.tag) os) ≡ filter p (own_tags id os)
+  own_some id [] = refl
+  own_some id (o ∷ os) = grind (arith, own_some id os)
+
+  not_before : (w : Bytes) (os : List OwnedTag) → list_all (λ v. not (bytes_below v w)) (tag_ids os) ≡ true
+      → list_all (λ v. not (bytes_below v w)) (tag_ids (filter (λ (o : OwnedTag). p o.tag) os)) ≡ true
+  not_before w [] all = refl
+  not_before w (o ∷ os) all = grind (arith, not_before w os, and_parts, and_from)
+
+  some_rise : (os : List OwnedTag) → rises (tag_ids os) ≡ true → rises (tag_ids (filter (λ (o : OwnedTag). p o.tag) os)) ≡ true
+  some_rise [] rise = refl
+  some_rise (o ∷ os) rise = grind (arith, some_rise os, not_before o.id os, and_parts, and_from)
+
+-- those that are this tag
+pub like_this : (b : ℕ) (bs : Bytes) (ws : List Bytes) → filter (λ (w : Bytes). same_bytes w (b ∷ bs)) ws ≡ tags_like (b ∷ bs) ws
+like_this b bs ws = same_kept (λ (w : Bytes). same_bytes w (b ∷ bs)) (λ (w : Bytes). pointwise nat_eq w (b ∷ bs)) ws (λ w has. sym (same_pointwise w (b ∷ bs)))
+
+filter_again : (p : Bytes → Bool) (ws : List Bytes) → filter p (filter p ws) ≡ filter p ws
+filter_again p [] = refl
+filter_again p (w ∷ ws) = grind (arith, filter_again p ws)
+
+pub like_again : (tag : Bytes) (ws : List Bytes) → tags_like tag (tags_like tag ws) ≡ tags_like tag ws
+like_again [] ws = refl
+like_again (b ∷ bs) ws = filter_again (λ (w : Bytes). pointwise nat_eq w (b ∷ bs)) ws
+
+whole_list : (b : Bool) (xs ys : List Bytes) → xs ≡ cond b ys [] → is_tag_list ys ≡ true → is_tag_list xs ≡ true
+whole_list true xs ys is list = ap is_tag_list is ∙ list
+whole_list false xs ys is list = ap is_tag_list is
 
 -- ---- of those that were listed
 
@@ -269,60 +322,84 @@ module _ (r : Records) (sorted : are_sorted r.targets ≡ true) where
   apart = sorted_from (ids_of r.targets) (and_parts (in_byte_order (ids_of r.targets)) _ sorted).0
 
   its_tags : (first last : Bytes) (l : ListedTarget) → bytes_below l.id first ≡ false → bytes_below last l.id ≡ false
-      → HasItsTags r true (flat_map owned_tags (targets_between first last r)) l
+      → HasTagsLike r [] (flat_map owned_tags (targets_between first last r)) l
   its_tags first last l low high = kept_tags l.id first last r.targets apart ∙ (rw (low, high) refl)
 
   its_attributes : (first last : Bytes) (l : ListedTarget) → bytes_below l.id first ≡ false → bytes_below last l.id ≡ false
-      → HasItsAttributes r true (flat_map owned_attributes (targets_between first last r)) l
+      → HasItsAttributes r (flat_map owned_attributes (targets_between first last r)) l
   its_attributes first last l low high = kept_attributes l.id first last r.targets apart ∙ (rw (low, high) refl)
+
+  tags_rise : (first last : Bytes) → rises (tag_ids (flat_map owned_tags (targets_between first last r))) ≡ true
+  tags_rise first last = flat_rises (λ (o : OwnedTag). o.id) (λ (o : OwnedTag). o.tag) (λ (i w : Bytes). record { id = i; tag = w }) (λ i w. refl)
+      (λ (t : Target). t.tags) (is_between first last) r.targets apart
+
+  tags_lists : (first last : Bytes) → AreLists r (flat_map owned_tags (targets_between first last r))
+  tags_lists first last = record {
+    each = λ id. whole_list (not (bytes_below id first) && not (bytes_below last id)) _ _ (kept_tags id first last r.targets apart);
+  }
 
   -- what was read from the first to the last
   pub tags_between : (first last : Bytes) (listed : List ListedTarget) (owned : List OwnedTag) → AreEnds listed first last
-      → owned ≡ flat_map owned_tags (targets_between first last r) → AreTagsOf r true listed owned
+      → owned ≡ flat_map owned_tags (targets_between first last r) → AreTagsLike r [] listed owned
   tags_between first last listed owned ends is = rw is (record {
-    rise = flat_rises (λ (o : OwnedTag). o.id) (λ (o : OwnedTag). o.tag) (λ (i w : Bytes). record { id = i; tag = w }) (λ i w. refl) (λ (t : Target). t.tags)
-        (is_between first last) r.targets apart;
-    owned_whole = record {
-      whole = λ id. whole_or_none (not (bytes_below id first) && not (bytes_below last id)) _ _ (kept_tags id first last r.targets apart);
-    };
-    each = from_ends (λ first last. HasItsTags r true (flat_map owned_tags (targets_between first last r))) its_tags first last listed ends;
+    rise = tags_rise first last;
+    lists = tags_lists first last;
+    each = from_ends (λ first last. HasTagsLike r [] (flat_map owned_tags (targets_between first last r))) its_tags first last listed ends;
   })
 
+  -- .. of one tag
+  module _ (b : ℕ) (bs : Bytes) where
+    abbrev is_this : Bytes → Bool
+    is_this w = same_bytes w (b ∷ bs)
+
+    abbrev of_this : List OwnedTag → List OwnedTag
+    of_this os = filter (λ (o : OwnedTag). same_bytes o.tag (b ∷ bs)) os
+
+    its_tag : (first last : Bytes) (l : ListedTarget) → bytes_below l.id first ≡ false → bytes_below last l.id ≡ false
+        → HasTagsLike r (b ∷ bs) (of_this (flat_map owned_tags (targets_between first last r))) l
+    its_tag first last l low high = own_some is_this l.id (flat_map owned_tags (targets_between first last r))
+        ∙ ap (filter is_this) (its_tags first last l low high) ∙ like_this b bs (tags_of (target_of r l.id))
+
+    pub tag_between : (first last : Bytes) (listed : List ListedTarget) (owned : List OwnedTag) → AreEnds listed first last
+        → owned ≡ of_this (flat_map owned_tags (targets_between first last r)) → AreTagsLike r (b ∷ bs) listed owned
+    tag_between first last listed owned ends is = rw is (record {
+      rise = some_rise is_this (flat_map owned_tags (targets_between first last r)) (tags_rise first last);
+      lists = record {
+        each = λ id list. ap is_tag_list (own_some is_this id (flat_map owned_tags (targets_between first last r)))
+            ∙ some_tags is_this (own_tags id (flat_map owned_tags (targets_between first last r))) ((tags_lists first last).each id list);
+      };
+      each = from_ends (λ first last. HasTagsLike r (b ∷ bs) (of_this (flat_map owned_tags (targets_between first last r)))) its_tag first last listed ends;
+    })
+
   pub attributes_between : (first last : Bytes) (listed : List ListedTarget) (owned : List OwnedAttribute) → AreEnds listed first last
-      → owned ≡ flat_map owned_attributes (targets_between first last r) → AreAttributesOf r true listed owned
+      → owned ≡ flat_map owned_attributes (targets_between first last r) → AreAttributesOf r listed owned
   attributes_between first last listed owned ends is = rw is (record {
     rise = flat_rises (λ (o : OwnedAttribute). o.id) (λ (o : OwnedAttribute). o.attribute) (λ (i : Bytes) (a : Attribute). record { id = i; attribute = a })
         (λ i a. refl) (λ (t : Target). t.attributes) (is_between first last) r.targets apart;
-    each = from_ends (λ first last. HasItsAttributes r true (flat_map owned_attributes (targets_between first last r))) its_attributes first last listed ends;
+    each = from_ends (λ first last. HasItsAttributes r (flat_map owned_attributes (targets_between first last r))) its_attributes first last listed ends;
   })
 
--- no tags are nobody's
-no_tags_between : (r : Records) → AreOwned r []
-no_tags_between r = record { whole = λ id. inr refl }
+-- no tags are a list of tags
+pub no_lists : (r : Records) → AreLists r []
+no_lists r = record { each = λ id list. refl }
 
-all_so : (P : ListedTarget → Type 0) → ((l : ListedTarget) → P l) → (ls : List ListedTarget) → AllByRecursion P ls
+pub all_so : (P : ListedTarget → Type 0) → ((l : ListedTarget) → P l) → (ls : List ListedTarget) → AllByRecursion P ls
 all_so P one [] = tt
 all_so P one (l ∷ ls) = (one l, all_so P one ls)
 
-pub unwanted_tags : (r : Records) (ls : List ListedTarget) → AreTagsOf r false ls []
-unwanted_tags r ls = record { rise = refl; owned_whole = no_tags_between r; each = λ ordered. all_so (HasItsTags r false []) (λ l. refl) ls }
+pub no_attributes_listed : (r : Records) → AreAttributesOf r [] []
+no_attributes_listed r = record { rise = refl; each = λ ordered. tt }
 
-pub unwanted_attributes : (r : Records) (ls : List ListedTarget) → AreAttributesOf r false ls []
-unwanted_attributes r ls = record { rise = refl; each = λ ordered. all_so (HasItsAttributes r false []) (λ l. refl) ls }
+pub none_listed : (r : Records) (tag : Bytes) → AreTagsLike r tag [] []
+none_listed r tag = record { rise = refl; lists = no_lists r; each = λ ordered. tt }
 
-pub no_attributes_listed : (r : Records) (wanted : Bool) → AreAttributesOf r wanted [] []
-no_attributes_listed r wanted = record { rise = refl; each = λ ordered. tt }
-
-pub none_listed : (r : Records) (wanted : Bool) → AreTagsOf r wanted [] []
-none_listed r wanted = record { rise = refl; owned_whole = no_tags_between r; each = λ ordered. tt }
-
--- each with its own is as it is asked for
-pub all_own : (r : Records) (asked : Asked) (tags : List OwnedTag) (attributes : List OwnedAttribute) (ls : List ListedTarget)
-    → AllByRecursion (HasItsTags r asked.tags tags) ls → AllByRecursion (HasItsAttributes r asked.attributes attributes) ls
-    → map (own_listed tags attributes) ls ≡ map (asked_listed r asked) ls
-all_own r asked tags attributes [] tagged attributed = refl
-all_own r asked tags attributes (l ∷ ls) tagged attributed =
-    λ i. record { id = l.id; name = l.name; tags = tagged.0 i; attributes = attributed.0 i } ∷ all_own r asked tags attributes ls tagged.1 attributed.1 i
+-- each with its own is whole
+pub all_own : (r : Records) (tags : List OwnedTag) (attributes : List OwnedAttribute) (ls : List ListedTarget)
+    → AllByRecursion (HasTagsLike r [] tags) ls → AllByRecursion (HasItsAttributes r attributes) ls
+    → map (own_listed tags attributes) ls ≡ map (target_listed r) ls
+all_own r tags attributes [] tagged attributed = refl
+all_own r tags attributes (l ∷ ls) tagged attributed =
+    λ i. record { id = l.id; name = l.name; tags = tagged.0 i; attributes = attributed.0 i } ∷ all_own r tags attributes ls tagged.1 attributed.1 i
 
 pub tags_left_more : (ls : List ListedTarget) (l : ListedTarget) (owned mid os : List OwnedTag) → AreLeft tag_ids own_tags (listed_ids ls) owned mid
     → AreLeft tag_ids own_tags (l.id ∷ []) mid os → AreLeft tag_ids own_tags (listed_ids (ls ++ l ∷ [])) owned os
@@ -338,20 +415,20 @@ attributes_left_more ls l owned mid os was is =
     (left_more (λ (o : OwnedAttribute). o.id) (λ (o : OwnedAttribute). o.attribute) (listed_ids ls) l.id owned mid os was is)
 
 -- one more with its own of what is left
-pub one_more_own : (tags : List OwnedTag) (attributes : List OwnedAttribute) (old was now : List SeenTarget) (ls : List ListedTarget) (l : ListedTarget)
+pub one_more_own : (tags : List OwnedTag) (attributes : List OwnedAttribute) (was now : List SeenTarget) (ls : List ListedTarget) (l : ListedTarget)
     (words : List Bytes) (own : List Attribute) (t : SeenTarget) → in_byte_order (listed_ids (ls ++ l ∷ [])) ≡ true
-    → (in_byte_order (listed_ids ls) ≡ true → was ≡ old ++ map (own_listed tags attributes) ls)
+    → (in_byte_order (listed_ids ls) ≡ true → was ≡ map (own_listed tags attributes) ls)
     → words ≡ cond (list_all (λ w. bytes_below w l.id) (listed_ids ls)) (own_tags l.id tags) []
     → own ≡ cond (list_all (λ w. bytes_below w l.id) (listed_ids ls)) (own_attributes l.id attributes) []
     → t ≡ record { id = l.id; name = l.name; tags = words; attributes = own } → now ≡ was ++ t ∷ []
-    → now ≡ old ++ map (own_listed tags attributes) (ls ++ l ∷ [])
-one_more_own tags attributes old was now ls l words own t ordered so_far tagged attributed is more =
+    → now ≡ map (own_listed tags attributes) (ls ++ l ∷ [])
+one_more_own tags attributes was now ls l words own t ordered so_far tagged attributed is more =
     let order = order_more (listed_ids ls) l.id (ap in_byte_order (sym (map-append (λ (l : ListedTarget). l.id) ls (l ∷ []))) ∙ ordered) in
     let its : own_tags l.id tags ≡ words = sym (tagged ∙ ap (λ b. cond b (own_tags l.id tags) []) order.1) in
     let others : own_attributes l.id attributes ≡ own = sym (attributed ∙ ap (λ b. cond b (own_attributes l.id attributes) []) order.1) in
     let same : own_listed tags attributes l ≡ t = (λ i. record { id = l.id; name = l.name; tags = its i; attributes = others i }) ∙ sym is in
-    more ∙ ap (λ x. x ++ t ∷ []) (so_far order.0) ∙ append_assoc old (map (own_listed tags attributes) ls) (t ∷ [])
-    ∙ ap (λ x. old ++ x) (ap (λ t. map (own_listed tags attributes) ls ++ t ∷ []) (sym same) ∙ sym (map-append (own_listed tags attributes) ls (l ∷ [])))
+    more ∙ ap (λ x. x ++ t ∷ []) (so_far order.0) ∙ ap (λ t. map (own_listed tags attributes) ls ++ t ∷ []) (sym same)
+    ∙ sym (map-append (own_listed tags attributes) ls (l ∷ []))
 
 -- ---- parts of what is listed
 
@@ -368,65 +445,7 @@ part_ordered r sorted n m =
     ap in_byte_order named ∙ order_taken n (drop m (ids_of r.targets))
     (order_dropped m (ids_of r.targets) (and_parts (in_byte_order (ids_of r.targets)) _ sorted).0)
 
-module _ {A : Type 0} (f : ListedTarget → A) (listed : List ListedTarget) (ordered : in_byte_order (listed_ids listed) ≡ true) where
-  -- the next part is in byte order
-  pub next_ordered : (k : ℕ) (part : List ListedTarget) → part ≡ take 100 (drop (k * 100) listed) → in_byte_order (listed_ids part) ≡ true
-  next_ordered k part is =
-      let named : listed_ids part ≡ take 100 (drop (k * 100) (listed_ids listed)) =
-      ap listed_ids is ∙ sym (take-map (λ (l : ListedTarget). l.id) 100 (drop (k * 100) listed))
-      ∙ ap (take 100) (sym (drop-map (λ (l : ListedTarget). l.id) (k * 100) listed)) in
-      ap in_byte_order named ∙ order_taken 100 (drop (k * 100) (listed_ids listed)) (order_dropped (k * 100) (listed_ids listed) ordered)
-
-  pub next_found : (k : ℕ) (found more : List A) (part : List ListedTarget) → part ≡ take 100 (drop (k * 100) listed) → found
-      ≡ map f (take (k * 100) listed) → more ≡ found ++ map f part → more ≡ map f (take ((k + 1) * 100) listed)
-  next_found k found more part is was now = grind (arith, take-add (k * 100) 100 listed, map-append)
-
-pub next_left : {X : Type 0} (k : ℕ) (xs left more : List X) → left ≡ drop (k * 100) xs → more ≡ drop 100 left → more ≡ drop ((k + 1) * 100) xs
-next_left k xs left more was is = grind (arith, drop-drop 100 (k * 100) xs)
-
-pub last_part : {A : Type 0} (f : ListedTarget → A) (listed : List ListedTarget) (found : List A) (k : ℕ)
-    → k ≡ length listed / 100 + min 1 (length listed % 100) → found ≡ map f (take (k * 100) listed) → found ≡ map f listed
-last_part f listed found k end was =
-    let enough = (div_ceil_times (length listed) 100 (omega arith)).0 in
-    was ∙ ap (map f) (take_all (k * 100) listed (omega (arith, end, enough)))
-
-pub cut_length : {X : Type 0} (left part more : List X) → part ≡ take 100 left → more ≡ drop 100 left → (found now all : ℕ) → found + length left ≡ all
-    → now ≡ found + length part → now + length more ≡ all
-cut_length left part more taken dropped found now all was is =
-    let joined = ap length (take-append-drop 100 left) in
-    let both = length-append (take 100 left) (drop 100 left) in
-    omega (arith, joined, both, ap length taken, ap length dropped, was, is)
-
--- ---- how many statements that takes
-
-pub work_by_part : (tags attributes : Bool) (start was now done : ℕ) → was ≤ start + (cond tags done 0 + cond attributes done 0)
-    → now ≤ was + (cond tags 1 0 + cond attributes 1 0) → now ≤ start + (cond tags (done + 1) 0 + cond attributes (done + 1) 0)
-work_by_part true true start was now done so_far one = omega (arith, so_far, one)
-work_by_part true false start was now done so_far one = omega (arith, so_far, one)
-work_by_part false true start was now done so_far one = omega (arith, so_far, one)
-work_by_part false false start was now done so_far one = omega (arith, so_far, one)
-
-pub work_unbegun : (tags attributes : Bool) (start : ℕ) → start ≤ start + (cond tags 0 0 + cond attributes 0 0)
-work_unbegun tags attributes start = omega arith
-
-pub work_ended : (tags attributes : Bool) (start now done parts : ℕ) → now ≤ start + (cond tags done 0 + cond attributes done 0) → done ≡ parts
-    → now ≤ start + (cond tags parts 0 + cond attributes parts 0)
-work_ended tags attributes start now done parts so_far all = rw all at so_far
-
--- ---- what is left
-
-pub none_left : (listed left : List ListedTarget) (k : ℕ) → k ≡ length listed / 100 + min 1 (length listed % 100) → left ≡ drop (k * 100) listed → (found : ℕ)
-    → found + length left ≡ length listed → found ≡ length listed
-none_left listed left k end is found counts =
-    let enough = (div_ceil_times (length listed) 100 (omega arith)).0 in
-    let empty = drop_all (k * 100) listed (omega (arith, end, enough)) in
-    omega (arith, ap length (is ∙ empty), counts)
-
 -- ---- at lists of accepted commands
 
-either_listed : (h : CommandList) → IsValid h → (id : Bytes) (ws : List Bytes) → (ws ≡ tags_of (target_of (records h) id)) ⊎ (ws ≡ []) → is_tag_list ws ≡ true
-either_listed h valid id ws (inl is) = ap is_tag_list is ∙ tags_keep h valid id
-either_listed h valid id ws (inr none) = ap is_tag_list none
-
-pub never_wrong : (h : CommandList) → IsValid h → (owned : List OwnedTag) → AreOwned (records h) owned → HasNoTagList owned → ⊥
-never_wrong h valid owned whole it = true≢false (sym (either_listed h valid it.id (own_tags it.id owned) (whole.whole it.id)) ∙ it.wrong)
+pub never_wrong : (h : CommandList) → IsValid h → (owned : List OwnedTag) → AreLists (records h) owned → HasNoTagList owned → ⊥
+never_wrong h valid owned lists it = true≢false (sym (lists.each it.id (tags_keep h valid it.id)) ∙ it.wrong)

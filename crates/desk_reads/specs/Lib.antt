@@ -3,3 +3,4 @@ pub mod AtLists
 pub mod Rollouts
 pub mod Counted
 pub mod Candidates
+pub mod Matches

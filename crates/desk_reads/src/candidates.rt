@@ -17,7 +17,7 @@ use target_filter::Filter;
 
 /// Targets by their ids and names, in byte order of their ids, and among them all that match: where the filter says how an id
 /// begins, few others are read. By one statement.
-pub fn read_candidates<S: Alter>(
+pub(crate) fn read_candidates<S: Alter>(
     change: &mut OpenChange<'_, S>,
     filter: &Filter,
 ) -> Result<Vec<ListedTarget>, Fault>

@@ -3,10 +3,11 @@
 
 mod candidates;
 mod devices;
+mod matching;
 mod rollouts;
 mod targets;
 
-pub use crate::candidates::read_candidates;
 pub use crate::devices::knows_device;
+pub use crate::matching::read_matching;
 pub use crate::rollouts::{SeenRollout, read_seen_rollout, size_of};
-pub use crate::targets::{Asked, named_by, read_all_asked, read_asked, read_listed, read_rest};
+pub use crate::targets::{ids_of, read_all_listed, read_listed};

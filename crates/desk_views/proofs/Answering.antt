@@ -25,5 +25,5 @@ pub use Rattle.desk_views.proofs.HistoryViews.{numbered_more, page_numbered}
 pub use Rattle.desk_views.proofs.MemberViews.{members_paged}
 pub use Rattle.desk_views.proofs.PageLemmas.{entry_is, numbered_length, page_ends, page_grows}
 pub use Rattle.desk_views.proofs.RolloutViews.{as_numbered, one_replied, one_seen}
-pub use Rattle.desk_views.proofs.TargetPages.{all_replied, content_is, matching_replied, nothing_yet, page_with}
+pub use Rattle.desk_views.proofs.TargetPages.{all_replied, content_is, matching_replied}
 pub use Rattle.desk_views.proofs.TargetViews.{id_found}

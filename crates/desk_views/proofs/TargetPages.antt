@@ -1,19 +1,18 @@
 -- From typed reads of targets to pages of them.
-use Rattle.desk_views.proofs.Common.{◌≡◌, ℕ, ◌+◌, ◌-◌, ◌&&◌, nat_le, nat_lt, Bool, true, cond, List, [], ◌∷◌, ◌++◌, map, filter, length}
-use Rattle.desk_views.proofs.Common.{take, drop, Some, None, refl, sym, ap, ◌∙◌, append_assoc, arith, length-drop, Vec, drop-append-le, drop_all}
-use Rattle.desk_views.proofs.Common.{length-append, map-append, take-append-le, take_all, Global, query_reply, targets_matching, Bytes, matches, seen, page_of}
+use Rattle.desk_views.proofs.Common.{◌≡◌, ℕ, true, List, [], ◌∷◌, map, filter, length}
+use Rattle.desk_views.proofs.Common.{take, drop, Some, None, refl, sym, ap, ◌∙◌, arith, Vec, drop_all}
+use Rattle.desk_views.proofs.Common.{Global, query_reply, targets_matching, Bytes, matches, seen, page_of}
 use Rattle.desk_views.proofs.Common.{target_shown, targets_shown, Records, PageOf, TargetsShown, Page, ShowTargets, Target, listed, reply_of, shown_target}
 use Rattle.desk_views.proofs.Common.{ShownTarget, Tree, filter_of, listed_target, IsContentOf, matching_shown, worded, target_listed, part_seen}
-use Rattle.desk_views.proofs.Common.{ListedTarget, cases_lt, inl, inr, nat_tests, length-map}
+use Rattle.desk_views.proofs.Common.{ListedTarget, cases_lt, inl, inr, length-map}
 use Rattle.desk_views.proofs.PageLemmas.{page_mapped}
-use Rattle.std.proofs.lemmas.List.Elements.{filter-append}
 use Rattle.rollout_model.specs.declared.page.PageOf.{PageOf as RustPageOf}
 use Rattle.rollout_model.specs.declared.request.Reply.TheVariants as reply
-use Rattle.rollout_model.specs.declared.target.Target.{Target as SeenTarget}
 use Rattle.target_filter.specs.Meaning.{holds}
 use Rattle.desk_records.specs.Targets.{are_sorted}
-use Rattle.desk_reads.specs.Targets.{with_rest}
-use Rattle.desk_reads.specs.declared.targets.Asked.{Asked}
+use Rattle.std.specs.Prelude.{min}
+use Rattle.std.proofs.lemmas.List.{drop-map, take-map}
+use Rattle.desk_reads.specs.Matches.{AreMatching}
 
 -- ---- what is found by its id
 
@@ -44,14 +43,6 @@ module _ (r : Records) where
   -- ---- those that match
 
   module _ (f : Tree) where
-    pub matching_join : (ts us : List SeenTarget) → matching_shown r f (ts ++ us) ≡ matching_shown r f ts ++ matching_shown r f us
-    matching_join ts us = ap (map (worded r)) (filter-append (holds f) ts us) ∙ map-append (worded r) (filter (holds f) ts) (filter (holds f) us)
-
-    pub rest_grow : (asked : Asked) (all : List ShownTarget) (ts : List SeenTarget) (t : SeenTarget)
-        → (all ++ matching_shown r f (map (with_rest r asked) ts)) ++ matching_shown r f (with_rest r asked t ∷ [])
-        ≡ all ++ matching_shown r f (map (with_rest r asked) (ts ++ t ∷ []))
-    rest_grow asked all ts t = grind (arith, append_assoc, map-append, matching_join)
-
     filter_seen : (ts : List Target) → filter (holds f) (map seen ts) ≡ map seen (filter (matches f) ts)
     filter_seen [] = refl
     filter_seen (t ∷ ts) = grind (arith, filter_seen ts)
@@ -66,33 +57,23 @@ module _ (r : Records) where
         shown.content.items _ _ shown.total matching_is (ap (λ (p : PageOf ShownTarget). p.content) is) refl (ap (λ (p : PageOf ShownTarget). p.total) is))
         ∙ sym (ap (targets_matching r page) tree)
 
--- the page of nothing
-pub nothing_yet : {X : Type 0} (page : Page) (items : Vec X Global) → items.items ≡ [] → listed (record { content = items; total = 0 }) ≡ page_of page []
-nothing_yet page items empty = grind (arith, drop_all)
+    -- those that match, and of these the ones on the page
+    pub page_matched : (page : Page) (found on : List ListedTarget) (content : Vec ShownTarget Global) (total : ℕ) → AreMatching r f found
+        → on ≡ take page.limit (drop page.offset found) → content.items ≡ map (worded r) (map (target_listed r) on) → total ≡ length found
+        → listed (record { content = content; total = total }) ≡ page_of page (matching_shown r f (map seen r.targets))
+    page_matched page found on content total are is shown count =
+        let all : map (worded r) (map (target_listed r) found) ≡ matching_shown r f (map seen r.targets) = ap (map (worded r)) are in
+        let part : map (worded r) (map (target_listed r) on) ≡ take page.limit (drop page.offset (map (worded r) (map (target_listed r) found))) =
+        ap (λ ls. map (worded r) (map (target_listed r) ls)) is ∙ grind (arith, take-map, drop-map) in
+        let many : length found ≡ length (map (worded r) (map (target_listed r) found)) = grind (arith, length-map) in
+        λ i. record {
+          content = (shown ∙ part ∙ ap (λ xs. take page.limit (drop page.offset xs)) all) i;
+          total = (count ∙ many ∙ ap length all) i;
+        }
 
--- ---- one target more
-
--- a list with one more entry has it on the page at its place
-pub next_on : {X : Type 0} (limit offset : ℕ) (all : List X) (x : X)
-    → take limit (drop offset (all ++ x ∷ [])) ≡ cond (nat_le offset (length all) && nat_lt (length all - offset) limit)
-    (take limit (drop offset all) ++ x ∷ []) (take limit (drop offset all))
-next_on limit offset all x = elim (cases_lt (length all) offset) [
-  | inl far ↦ grind (arith, nat_tests, drop_all offset all, drop_all offset (all ++ x ∷ []), length-append all (x ∷ []), far)
-  | inr near ↦ grind (
-    arith,
-    nat_tests,
-    near,
-    drop-append-le offset all (x ∷ []),
-    take-append-le limit (drop offset all) (x ∷ []),
-    take_all limit (drop offset all),
-    take_all limit (drop offset all ++ x ∷ []),
-    length-append (drop offset all) (x ∷ []),
-    length-drop offset all,
-  )
+-- behind so many, or behind all
+pub dropped : {X : Type 0} (offset : ℕ) (xs : List X) (from : ℕ) → from ≡ min (length xs) offset → drop from xs ≡ drop offset xs
+dropped offset xs from is = elim (cases_lt (length xs) offset) [
+  | inl far ↦ grind (arith, drop_all offset xs, drop_all from xs)
+  | inr near ↦ grind arith
 ]
-
-module _ (page : Page) (old : RustPageOf ShownTarget) (items : Vec ShownTarget Global) (all : List ShownTarget) (x : ShownTarget)
-    (was : listed old ≡ page_of page all) (on : Bool) (asked : on ≡ (nat_le page.offset old.total && nat_lt (old.total - page.offset) page.limit)) where
-  pub page_with : (total : ℕ) → total ≡ old.total + 1 → items.items ≡ cond on (old.content.items ++ x ∷ []) old.content.items
-      → listed (record { content = items; total = total }) ≡ page_of page (all ++ x ∷ [])
-  page_with total one is = grind (arith, next_on, length-append)

@@ -1,6 +1,6 @@
 //! Pages of lists.
 
-ghost use Rattle.std.specs.Prelude.{◌≡◌, ◌≤◌, ◌-◌, ◌^◌, ◌&&◌, ℕ, IfErr, IfOk, List, Some, drop, length, min, nat_le, nat_lt, take};
+ghost use Rattle.std.specs.Prelude.{◌≡◌, ◌≤◌, ◌-◌, ◌^◌, ℕ, IfErr, IfOk, List, Some, drop, length, min, take};
 ghost use Rattle.std.specs.Option.{option_map};
 ghost use Rattle.rollout_machine.specs.ByteStrings.{item_numbered};
 ghost use Rattle.rollout_machine.specs.CommandList.{CommandList};
@@ -110,13 +110,6 @@ pub(crate) fn total_of<T>(all: &[T]) -> Result<u32, Fault>
         Ok(total) => Ok(total),
         Err(_) => Err(Fault::Broken),
     }
-}
-
-/// Whether the entry that comes after so many others is on the page.
-pub(crate) fn is_on(page: Page, place: u32) -> bool
-    ensures { result ≡ (nat_le page.offset place && nat_lt (place - page.offset) page.limit) }
-{
-    page.offset <= place && place - page.offset < page.limit
 }
 
 /// The entries of a list that are on the page.

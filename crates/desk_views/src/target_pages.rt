@@ -1,23 +1,23 @@
 //! Pages of targets: of all, or of those that match a filter.
 
-ghost use Rattle.std.specs.Prelude.{◌≡◌, ◌≤◌, ◌<◌, ◌^◌, ◌+◌, ◌++◌, [], ◌∷◌, List, drop, length, map, take, true, IfOk, MatchOption, Some, None};
+ghost use Rattle.std.specs.Prelude.{◌≡◌, ◌≤◌, ◌+◌, [], drop, map, take, true, IfErr, IfOk, MatchOption, Some, None};
 ghost use Rattle.rollout_machine.specs.Answers.{query_reply};
 ghost use Rattle.rollout_machine.specs.Filters.{seen};
 ghost use Rattle.rollout_machine.specs.Objects.{page_of};
 ghost use Rattle.rollout_machine.specs.Requests.{ShowTargets};
 ghost use Rattle.rollout_machine.specs.Views.{listed, reply_of};
-ghost use Rattle.rollout_model.specs.declared.shown_target.ShownTarget.{ShownTarget};
+ghost use Rattle.sql_calls.specs.declared.fault.Fault.TheVariants.{Memory};
 ghost use Rattle.target_filter.specs.Grammar.{Tree};
 ghost use Rattle.target_filter.specs.Profile.{filter_of};
-ghost use Rattle.desk_reads.specs.AtLists.{FailsAtListsIn, FailsWith};
+ghost use Rattle.desk_reads.specs.AtLists.{FailsAtListsIn};
 ghost use Rattle.desk_views.specs.Targets.{AreEnds, IsContentOf, matching_shown, worded};
 ghost use Rattle.desk_records.specs.Targets.{ids_of, in_byte_order};
-ghost use Rattle.desk_reads.specs.Targets.{IsNamedBy, listed_ids, parts_left, target_listed, with_rest};
+ghost use Rattle.desk_reads.specs.Targets.{listed_ids, target_listed};
 ghost use Rattle.desk_store.specs.Changing.{FindsIn, StaysIn};
 
-use crate::pages::{is_on, total_of};
+use crate::pages::total_of;
 use crate::targets::with_word;
-use desk_reads::{Asked, named_by, read_all_asked, read_candidates, read_rest};
+use desk_reads::{ids_of, read_all_listed, read_listed, read_matching};
 use desk_store::{Fault, ListedTarget, OpenChange};
 use rollout_model::{ControllerId, FilterText, Page, PageOf, Refusal, Reply, ShownTarget, Target};
 use sqlite::Alter;
@@ -65,10 +65,7 @@ pub fn read_target_ids<S: Alter>(change: &mut OpenChange<'_, S>) -> Result<Vec<C
     ensures work { change.new.store.now.calls.work.statements ≤ change.old.store.now.calls.work.statements + 1 }
 {
     let listed = change.read_all_targets()?;
-    let mut ids = Vec::new(change.alloc());
-    for entry in listed {
-        ids.push(entry.id)?;
-    }
+    let ids = ids_of(change.alloc(), listed)?;
     Ok(ids)
 }
 
@@ -124,11 +121,7 @@ fn read_entries<S: Alter>(
         → content.items ≡ map (worded now) (map (target_listed now) entries.items)) }
     ensures fails { FailsAtListsIn S.Store change.old change.new result }
 {
-    let whole = Asked {
-        tags: true,
-        attributes: true,
-    };
-    let targets = read_all_asked(change, entries, whole)?;
+    let targets = read_all_listed(change, entries)?;
     let content = word_all(alloc, change, targets)?;
     Ok(content)
 }
@@ -172,12 +165,12 @@ fn show_matching<S: Alter>(
         Err(_) => return Ok(Reply::Refused(Refusal::BadFilter)),
     };
     laws::computed_filter();
-    let shown = read_matching(alloc, change, &filter, page)?;
+    let shown = read_matching_page(alloc, change, &filter, page)?;
     Ok(Reply::Targets(shown))
 }
 
-/// The page of the targets that match.
-fn read_matching<S: Alter>(
+/// The page of the targets that match. What they have is read only of those on the page.
+fn read_matching_page<S: Alter>(
     alloc: Global,
     change: &mut OpenChange<'_, S>,
     filter: &Filter,
@@ -188,121 +181,43 @@ fn read_matching<S: Alter>(
         (λ now shown. (f : Tree) → filter_of filter.now ≡ Some f → listed shown ≡ page_of page (matching_shown now f (map seen now.targets))) }
     ensures fails { FailsAtListsIn S.Store change.old change.new result }
 {
-    let entries = read_candidates(change, filter)?;
-    let mut shown = PageOf {
-        content: Vec::new(alloc),
-        total: 0,
-    };
-    add_matching(change, filter, page, entries, &mut shown)?;
-    Ok(shown)
+    let found = read_matching(change, filter)?;
+    let total = total_of(&found)?;
+    let on = entries_on(found, page)?;
+    let targets = read_each(alloc, change, on)?;
+    let content = word_all(alloc, change, targets)?;
+    Ok(PageOf { content, total })
 }
 
-/// Adds to the page those of the listed targets that match. No more is read of them than the filter names, before they are on the page.
-fn add_matching<S: Alter>(
+/// Those of the listed targets that are on a page.
+fn entries_on(found: Vec<ListedTarget>, page: Page) -> Result<Vec<ListedTarget>, Fault>
+    ensures ok { IfOk result (λ on. on.items ≡ take page.limit (drop page.offset found.items)) }
+    ensures err { IfErr result (λ fault. fault ≡ Memory) }
+{
+    let mut before = found;
+    let from = before.len().min(page.offset as usize);
+    let mut on = before.split_off(from)?;
+    on.truncate(page.limit as usize);
+    Ok(on)
+}
+
+/// Targets that were listed, each with its tags and its attributes: by two statements each, since others may stand between them.
+fn read_each<S: Alter>(
+    alloc: Global,
     change: &mut OpenChange<'_, S>,
-    filter: &Filter,
-    page: Page,
     entries: Vec<ListedTarget>,
-    shown: &mut PageOf<ShownTarget>,
-) -> Result<(), Fault>
+) -> Result<Vec<Target>, Fault>
     ensures stays { StaysIn S.Store change.old change.new result }
-    ensures reads { FindsIn S.Store change.old change.new result
-        (λ now _. in_byte_order (listed_ids entries.items) ≡ true → (f : Tree) → filter_of filter.now ≡ Some f → (all : List ShownTarget)
-        → listed shown.old ≡ page_of page all → listed shown.new ≡ page_of page (all ++ matching_shown now f (map (target_listed now) entries.items))) }
-    ensures fails { FailsWith S.Store (λ now. shown.old.total + length entries.items < 2 ^ 32) change.old change.new result }
-{
-    let asked = named_by(filter);
-    let targets = read_all_asked(change, entries, asked)?;
-    add_targets(change, filter, page, targets, asked, shown)?;
-    Ok(())
-}
-
-/// Adds to the page those of the targets that match, of which is known what the filter names.
-fn add_targets<S: Alter>(
-    change: &mut OpenChange<'_, S>,
-    filter: &Filter,
-    page: Page,
-    targets: Vec<Target>,
-    asked: Asked,
-    shown: &mut PageOf<ShownTarget>,
-) -> Result<(), Fault>
-    ensures stays { StaysIn S.Store change.old change.new result }
-    ensures reads { FindsIn S.Store change.old change.new result
-        (λ now _. (f : Tree) → filter_of filter.now ≡ Some f → IsNamedBy f asked → (all : List ShownTarget) → listed shown.old ≡ page_of page all
-        → listed shown.new ≡ page_of page (all ++ matching_shown now f (map (with_rest now asked) targets.items))) }
-    ensures fails { FailsWith S.Store (λ now. shown.old.total + length targets.items < 2 ^ 32) change.old change.new result }
-{
-    for target in targets {
-        add_if_match(change, filter, page, target, asked, shown)?;
-    }
-    Ok(())
-}
-
-/// Adds a target to the page, if it matches.
-fn add_if_match<S: Alter>(
-    change: &mut OpenChange<'_, S>,
-    filter: &Filter,
-    page: Page,
-    target: Target,
-    asked: Asked,
-    shown: &mut PageOf<ShownTarget>,
-) -> Result<(), Fault>
-    ensures stays { StaysIn S.Store change.old change.new result }
-    ensures reads { FindsIn S.Store change.old change.new result
-        (λ now _. (f : Tree) → filter_of filter.now ≡ Some f → IsNamedBy f asked → (all : List ShownTarget) → listed shown.old ≡ page_of page all
-        → listed shown.new ≡ page_of page (all ++ matching_shown now f (with_rest now asked target ∷ []))) }
-    ensures fails { FailsWith S.Store (λ now. shown.old.total + 1 < 2 ^ 32) change.old change.new result }
-    ensures counts { IfOk result (λ _. shown.new.total ≤ shown.old.total + 1) }
-{
-    let matches = filter.matches(&target);
-    if !matches {
-        return Ok(());
-    }
-    add(change, page, target, asked, shown)?;
-    Ok(())
-}
-
-/// Adds the next target of a list to its page. Its word, and what wasn't asked for of it, are read only where it is on the page.
-fn add<S: Alter>(
-    change: &mut OpenChange<'_, S>,
-    page: Page,
-    target: Target,
-    asked: Asked,
-    shown: &mut PageOf<ShownTarget>,
-) -> Result<(), Fault>
-    ensures stays { StaysIn S.Store change.old change.new result }
-    ensures reads { FindsIn S.Store change.old change.new result
-        (λ now _. (all : List ShownTarget) → listed shown.old ≡ page_of page all
-        → listed shown.new ≡ page_of page (all ++ worded now (with_rest now asked target) ∷ [])) }
-    ensures fails { FailsWith S.Store (λ now. shown.old.total + 1 < 2 ^ 32) change.old change.new result }
-    ensures counts { IfOk result (λ _. shown.new.total ≤ shown.old.total + 1) }
-    ensures work { change.new.store.now.calls.work.statements ≤ change.old.store.now.calls.work.statements + (parts_left asked + 3) }
-{
-    let place = shown.total;
-    let Some(total) = place.checked_add(1) else {
-        return Err(Fault::Broken);
-    };
-    shown.total = total;
-    if !is_on(page, place) {
-        return Ok(());
-    }
-    let entry = show_whole(change, target, asked)?;
-    shown.content.push(entry)?;
-    Ok(())
-}
-
-/// A target of which some was asked for, as it is shown: with the rest, and with its word.
-fn show_whole<S: Alter>(
-    change: &mut OpenChange<'_, S>,
-    target: Target,
-    asked: Asked,
-) -> Result<ShownTarget, Fault>
-    ensures stays { StaysIn S.Store change.old change.new result }
-    ensures reads { FindsIn S.Store change.old change.new result (λ now shown. shown ≡ worded now (with_rest now asked target)) }
+    ensures reads { FindsIn S.Store change.old change.new result (λ now targets. targets.items ≡ map (target_listed now) entries.items) }
     ensures fails { FailsAtListsIn S.Store change.old change.new result }
-    ensures work { change.new.store.now.calls.work.statements ≤ change.old.store.now.calls.work.statements + (parts_left asked + 3) }
 {
-    let whole = read_rest(change, target, asked)?;
-    let entry = with_word(change, whole)?;
-    Ok(entry)
+    let mut targets = Vec::new(alloc);
+    for entry in entries {
+        let target = read_listed(change, entry)?;
+        match targets.push(target) {
+            Ok(()) => {}
+            Err(_) => return Err(Fault::Memory),
+        }
+    }
+    Ok(targets)
 }

@@ -1,0 +1,210 @@
+//! Targets that a filter matches.
+
+ghost use Rattle.std.specs.Prelude.{◌≡◌, ◌≤◌, ◌+◌, ◌++◌, [], ◌∷◌, Some, drop, length, take, true, IfErr, IfOk};
+ghost use Rattle.std.specs.Option.{IsSomeAnd};
+ghost use Rattle.sql_calls.specs.declared.fault.Fault.TheVariants.{Memory};
+ghost use Rattle.target_filter.specs.Grammar.{Tree};
+ghost use Rattle.target_filter.specs.Profile.{filter_of};
+ghost use Rattle.desk_records.specs.Targets.{in_byte_order};
+ghost use Rattle.desk_reads.specs.AtLists.{FailsAtListsIn};
+ghost use Rattle.desk_reads.specs.Matches.{
+  AreMatching,
+  AreNamedAttributes,
+  AreNamedTags,
+  attributes_reads,
+  entries_matched,
+  reads_named,
+  tags_reads,
+  those_matched,
+};
+ghost use Rattle.desk_reads.specs.Targets.{AreTagsLike, listed_ids};
+ghost use Rattle.desk_store.specs.Changing.{FindsIn, StaysIn};
+
+use crate::candidates::read_candidates;
+use crate::targets::{attributes_of_all, ends_of, tags_of_all, with_own};
+use desk_store::{Fault, ListedTarget, OpenChange, OwnedAttribute, OwnedTag};
+use rollout_model::Target;
+use sqlite::Alter;
+use std::alloc::Global;
+use std::collections::VecDeque;
+use std::str;
+use target_filter::Filter;
+
+/// How many targets one statement reads the tags of, or the attributes.
+const PART: usize = 100;
+
+/// The targets that a filter matches, by their ids and names, in byte order of their ids. No more is read of the others than the filter
+/// names.
+pub fn read_matching<S: Alter>(
+    change: &mut OpenChange<'_, S>,
+    filter: &Filter,
+) -> Result<Vec<ListedTarget>, Fault>
+    ensures stays { StaysIn S.Store change.old change.new result }
+    ensures reads { FindsIn S.Store change.old change.new result
+        (λ now found. IsSomeAnd (filter_of filter.now) (λ f. AreMatching now f found.items)) }
+    ensures fails { FailsAtListsIn S.Store change.old change.new result }
+    ensures work { FindsIn S.Store change.old change.new result (λ now _. change.new.store.now.calls.work.statements
+        ≤ change.old.store.now.calls.work.statements + (1 + reads_named (filter_of filter.now) (length now.targets))) }
+{
+    let listed = read_candidates(change, filter)?;
+    let found = keep_all(change, filter, listed)?;
+    Ok(found)
+}
+
+/// Those of the targets, listed in byte order of their ids, that a filter matches: by two statements at most for up to 100 of them.
+fn keep_all<S: Alter>(
+    change: &mut OpenChange<'_, S>,
+    filter: &Filter,
+    listed: Vec<ListedTarget>,
+) -> Result<Vec<ListedTarget>, Fault>
+    ensures stays { StaysIn S.Store change.old change.new result }
+    ensures reads { FindsIn S.Store change.old change.new result
+        (λ now found. in_byte_order (listed_ids listed.items) ≡ true → (f : Tree) → filter_of filter.now ≡ Some f
+        → found.items ≡ those_matched now f listed.items) }
+    ensures fails { FailsAtListsIn S.Store change.old change.new result }
+    ensures work { IfOk result (λ _. change.new.store.now.calls.work.statements ≤ change.old.store.now.calls.work.statements
+        + reads_named (filter_of filter.now) (length listed.items)) }
+{
+    let mut found = Vec::new(change.alloc());
+    let parts = listed.len().div_ceil(PART);
+    let mut left = VecDeque::from(listed);
+    for _ in 0..parts {
+        let part = take_part(change.alloc(), &mut left)?;
+        keep_part(change, filter, part, &mut found)?;
+    }
+    Ok(found)
+}
+
+/// Takes as many off the front as one statement reads what they have. Those that are left stay where they are.
+fn take_part(alloc: Global, left: &mut VecDeque<ListedTarget>) -> Result<Vec<ListedTarget>, Fault>
+    ensures part { IfOk result (λ part. part.items ≡ take 100 left.old.items) }
+    ensures left { IfOk result (λ _. left.new.items ≡ drop 100 left.old.items) }
+    ensures err { IfErr result (λ fault. fault ≡ Memory) }
+{
+    let mut part = Vec::new(alloc);
+    for _ in 0..PART {
+        if let Some(entry) = left.pop_front() {
+            part.push(entry)?;
+        }
+    }
+    Ok(part)
+}
+
+/// Adds those of a part of the listed targets that the filter matches.
+fn keep_part<S: Alter>(
+    change: &mut OpenChange<'_, S>,
+    filter: &Filter,
+    part: Vec<ListedTarget>,
+    found: &mut Vec<ListedTarget>,
+) -> Result<(), Fault>
+    ensures stays { StaysIn S.Store change.old change.new result }
+    ensures reads { FindsIn S.Store change.old change.new result
+        (λ now _. in_byte_order (listed_ids part.items) ≡ true → (f : Tree) → filter_of filter.now ≡ Some f
+        → found.new.items ≡ found.old.items ++ those_matched now f part.items) }
+    ensures fails { FailsAtListsIn S.Store change.old change.new result }
+    ensures work { change.new.store.now.calls.work.statements ≤ change.old.store.now.calls.work.statements
+        + (tags_reads (filter_of filter.now) + attributes_reads (filter_of filter.now)) }
+{
+    let tags = named_tags(change, filter, &part)?;
+    let attributes = named_attributes(change, filter, &part)?;
+    let targets = with_own(change.alloc(), part, &tags, &attributes)?;
+    add_matching(filter, targets, found)?;
+    Ok(())
+}
+
+/// The tags of the targets from the first to the last that were listed, as far as a filter names them: by one statement, where it names
+/// any.
+fn named_tags<S: Alter>(
+    change: &mut OpenChange<'_, S>,
+    filter: &Filter,
+    listed: &[ListedTarget],
+) -> Result<Vec<OwnedTag>, Fault>
+    ensures stays { StaysIn S.Store change.old change.new result }
+    ensures reads { FindsIn S.Store change.old change.new result (λ now owned. AreNamedTags now (filter_of filter.now) listed.now owned.items) }
+    ensures fails { FailsAtListsIn S.Store change.old change.new result }
+    ensures work { change.new.store.now.calls.work.statements ≤ change.old.store.now.calls.work.statements + tags_reads (filter_of filter.now) }
+{
+    if !filter.names_tags() {
+        return Ok(Vec::new(change.alloc()));
+    }
+    let Ok(tag) = str::from_utf8(filter.only_tag()) else {
+        let all = tags_of_all(change, listed)?;
+        return Ok(all);
+    };
+    let owned = tags_like(change, listed, tag)?;
+    Ok(owned)
+}
+
+/// Those of their tags that are this one, or all where it is empty.
+fn tags_like<S: Alter>(
+    change: &mut OpenChange<'_, S>,
+    listed: &[ListedTarget],
+    tag: &str,
+) -> Result<Vec<OwnedTag>, Fault>
+    ensures stays { StaysIn S.Store change.old change.new result }
+    ensures reads { FindsIn S.Store change.old change.new result (λ now owned. AreTagsLike now tag.now listed.now owned.items) }
+    ensures fails { FailsAtListsIn S.Store change.old change.new result }
+    ensures work { change.new.store.now.calls.work.statements ≤ change.old.store.now.calls.work.statements + 1 }
+{
+    if tag.is_empty() {
+        let all = tags_of_all(change, listed)?;
+        return Ok(all);
+    }
+    let Some((first, last)) = ends_of(listed) else {
+        return Ok(Vec::new(change.alloc()));
+    };
+    let owned = change.read_tag_between(&first, &last, tag)?;
+    Ok(owned)
+}
+
+/// Their attributes, where the filter names one.
+fn named_attributes<S: Alter>(
+    change: &mut OpenChange<'_, S>,
+    filter: &Filter,
+    listed: &[ListedTarget],
+) -> Result<Vec<OwnedAttribute>, Fault>
+    ensures stays { StaysIn S.Store change.old change.new result }
+    ensures reads { FindsIn S.Store change.old change.new result
+        (λ now owned. AreNamedAttributes now (filter_of filter.now) listed.now owned.items) }
+    ensures fails { FailsAtListsIn S.Store change.old change.new result }
+    ensures work { change.new.store.now.calls.work.statements ≤ change.old.store.now.calls.work.statements + attributes_reads (filter_of filter.now) }
+{
+    if !filter.names_attributes() {
+        return Ok(Vec::new(change.alloc()));
+    }
+    let all = attributes_of_all(change, listed)?;
+    Ok(all)
+}
+
+/// Adds those of the targets that the filter matches, by their ids and names.
+fn add_matching(
+    filter: &Filter,
+    targets: Vec<Target>,
+    found: &mut Vec<ListedTarget>,
+) -> Result<(), Fault>
+    ensures ok { IfOk result (λ _. (f : Tree) → filter_of filter.now ≡ Some f
+        → found.new.items ≡ found.old.items ++ entries_matched f targets.items) }
+    ensures err { IfErr result (λ fault. fault ≡ Memory) }
+{
+    for target in targets {
+        add_if_match(filter, target, found)?;
+    }
+    Ok(())
+}
+
+/// Adds a target, if the filter matches it.
+fn add_if_match(filter: &Filter, target: Target, found: &mut Vec<ListedTarget>) -> Result<(), Fault>
+    ensures ok { IfOk result (λ _. (f : Tree) → filter_of filter.now ≡ Some f
+        → found.new.items ≡ found.old.items ++ entries_matched f (target ∷ [])) }
+    ensures err { IfErr result (λ fault. fault ≡ Memory) }
+{
+    let matches = filter.matches(&target);
+    if !matches {
+        return Ok(());
+    }
+    let Target { id, name, .. } = target;
+    match found.push(ListedTarget { id, name }) {
+        Ok(()) => Ok(()),
+        Err(_) => Err(Fault::Memory),
+    }
+}
