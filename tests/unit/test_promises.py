@@ -70,6 +70,12 @@ def test_an_edit_of_a_definition_stands_beside_a_law_that_rests_on_it():
     same(len(wrong("`rollout_machine::lists_rise_in_order`", mutant)), 1)
 
 
+def test_a_law_may_have_a_body():
+    edit = "`rollout_desk/over_any_file`"
+    same(wrong("`rollout_desk::goes_on_after_crash.before`", edit), [])
+    same(len(wrong("`rollout_desk::Desk::apply.counts`", edit)), 1)
+
+
 def test_no_mutant_has_to_be_said():
     same(wrong("`serve.headline`", ""), ["it names no mutant, and doesn't say none"])
 
