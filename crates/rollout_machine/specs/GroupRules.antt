@@ -1,7 +1,7 @@
 -- What a plan says of its groups: how many of the members that are left each takes, and its thresholds.
 use Rattle.std.specs.Prelude.{List}
 pub use Rattle.rollout_model.specs.declared.group_rule.GroupRule.{GroupRule}
-pub use Rattle.rollout_model.specs.PlanRules.{even_rule, rule_at, percentage_at, success_at, error_at}
+pub use Rattle.rollout_model.specs.PlanRules.{even_rule, rule_at, success_at, error_at}
 use Rattle.rollout_machine.specs.Commands.{RolloutPlan}
 use Rattle.rollout_machine.specs.Ranges.{each_from}
 

@@ -17,9 +17,6 @@ rule_by (Some d) plan = record { percentage = Some d.percentage; success = d.suc
 abbrev pub rule_at : RolloutPlan → ℕ → GroupRule
 rule_at plan i = rule_by (definition_numbered plan.groups.definitions i) plan
 
-abbrev pub percentage_at : RolloutPlan → ℕ → Option ℕ
-percentage_at plan i = (rule_at plan i).percentage
-
 abbrev pub success_at : RolloutPlan → ℕ → ℕ
 success_at plan i = (rule_at plan i).success
 
