@@ -5,7 +5,7 @@ use Rattle.target_filter.proofs.Common.{subst, is_empty, with_first_byte}
 use Rattle.target_filter.proofs.GreedyMatching.{in_front_one, whole_is}
 use Rattle.target_filter.specs.Meaning.{field_matches, attribute_matches, compared, pattern_of}
 use Rattle.target_filter.specs.Patterns.{matches, pieces}
-use Rattle.target_filter.specs.Names.{AreAlikeWhereNamed, before_star, first_piece, first_tag, first_told, is_only, is_tag_field, names_attributes, names_only}
+use Rattle.target_filter.specs.Names.{AreAlikeWhereNamed, before_star, first_piece, first_tag, first_told, is_only, is_tag_field, names_attributes, names_names, names_only}
 use Rattle.target_filter.specs.Names.{names_tags, only_tag}
 use Rattle.target_filter.specs.Names.{tag_start, tags_like}
 use Rattle.std.specs.Prelude.{filter}
@@ -155,7 +155,7 @@ like_tags tree ts us (b ∷ bs) is same =
 
 record AreAlike (tree : Tree) (t u : Target) : Type 0 where
   id : t.id ≡ u.id
-  name : t.name ≡ u.name
+  name : names_names tree ≡ true → t.name ≡ u.name
   tags : TagsAlike tree t.tags u.tags
   attributes : names_attributes tree ≡ true → t.attributes ≡ u.attributes
 
@@ -163,18 +163,18 @@ record AreAlike (tree : Tree) (t u : Target) : Type 0 where
 fields_alike : (f : Field) (o : Operator) (v : Value) (t u : Target) → AreAlike (Comparison f o v) t u
     → field_matches f (pattern_of v) t ≡ field_matches f (pattern_of v) u
 fields_alike Id o v t u h = ap (matches (pattern_of v)) h.id
-fields_alike Name o v t u h = ap (matches (pattern_of v)) h.name
+fields_alike Name o v t u h = ap (matches (pattern_of v)) (h.name refl)
 fields_alike Tag o v t u h = h.tags refl
 fields_alike (Attribute key) o v t u h = ap (list_any (attribute_matches key (pattern_of v))) (h.attributes refl)
 
 says_alike : (tree : Tree) (t u : Target) → AreAlike tree t u → holds tree t ≡ holds tree u
 says_alike (Or l r) t u h = both_ways _ _ _ _
-    (says_alike l t u (record { id = h.id; name = h.name; tags = h.tags.0; attributes = λ e. h.attributes (or_left _ _ e) }))
-    (says_alike r t u (record { id = h.id; name = h.name; tags = h.tags.1; attributes = λ e. h.attributes (or_right _ _ e) }))
+    (says_alike l t u (record { id = h.id; name = λ e. h.name (or_left _ _ e); tags = h.tags.0; attributes = λ e. h.attributes (or_left _ _ e) }))
+    (says_alike r t u (record { id = h.id; name = λ e. h.name (or_right _ _ e); tags = h.tags.1; attributes = λ e. h.attributes (or_right _ _ e) }))
 says_alike (And l r) t u h = and_ways _ _ _ _
-    (says_alike l t u (record { id = h.id; name = h.name; tags = h.tags.0; attributes = λ e. h.attributes (or_left _ _ e) }))
-    (says_alike r t u (record { id = h.id; name = h.name; tags = h.tags.1; attributes = λ e. h.attributes (or_right _ _ e) }))
-says_alike (Group tree) t u h = says_alike tree t u (record { id = h.id; name = h.name; tags = h.tags; attributes = λ e. h.attributes e })
+    (says_alike l t u (record { id = h.id; name = λ e. h.name (or_left _ _ e); tags = h.tags.0; attributes = λ e. h.attributes (or_left _ _ e) }))
+    (says_alike r t u (record { id = h.id; name = λ e. h.name (or_right _ _ e); tags = h.tags.1; attributes = λ e. h.attributes (or_right _ _ e) }))
+says_alike (Group tree) t u h = says_alike tree t u (record { id = h.id; name = λ e. h.name e; tags = h.tags; attributes = λ e. h.attributes e })
 says_alike (Comparison f o v) t u h = ap (compared o) (fields_alike f o v t u h)
 
 pub holds_alike : (tree : Tree) (t u : Target) → AreAlikeWhereNamed tree t u → holds tree t ≡ holds tree u

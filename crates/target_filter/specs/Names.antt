@@ -6,6 +6,12 @@ use Rattle.target_filter.specs.Grammar.{Field, Id, Name, Tag, Attribute, Operato
 use Rattle.target_filter.specs.Meaning.{pattern_of}
 use Rattle.target_filter.specs.Patterns.{pieces}
 
+abbrev pub is_name_field : Field → Bool
+is_name_field Id = false
+is_name_field Name = true
+is_name_field Tag = false
+is_name_field (Attribute key) = false
+
 abbrev pub is_tag_field : Field → Bool
 is_tag_field Id = false
 is_tag_field Name = false
@@ -18,14 +24,21 @@ is_attribute_field Name = false
 is_attribute_field Tag = false
 is_attribute_field (Attribute key) = true
 
--- some comparison is of tags
+-- some comparison is of names
+abbrev pub names_names : Tree → Bool
+names_names (Or left right) = names_names left || names_names right
+names_names (And left right) = names_names left || names_names right
+names_names (Group tree) = names_names tree
+names_names (Comparison field operator value) = is_name_field field
+
+-- .. of tags
 abbrev pub names_tags : Tree → Bool
 names_tags (Or left right) = names_tags left || names_tags right
 names_tags (And left right) = names_tags left || names_tags right
 names_tags (Group tree) = names_tags tree
 names_tags (Comparison field operator value) = is_tag_field field
 
--- some comparison is of an attribute
+-- .. of an attribute
 abbrev pub names_attributes : Tree → Bool
 names_attributes (Or left right) = names_attributes left || names_attributes right
 names_attributes (And left right) = names_attributes left || names_attributes right
@@ -82,10 +95,10 @@ tags_like (b ∷ bs) tags = filter (λ (w : List ℕ). pointwise nat_eq w (b ∷
 
 -- ---- what it doesn't depend on
 
--- the targets are alike in id and name, in tags where the filter names them, as far as it names one alone, and in attributes where it names them
+-- the targets are alike in id, in name and attributes where the filter names these, and in tags where it names them, as far as it names one alone
 pub record AreAlikeWhereNamed (tree : Tree) (t u : Target) : Type 0 where
   pub id : t.id ≡ u.id
-  pub name : t.name ≡ u.name
+  pub name : names_names tree ≡ true → t.name ≡ u.name
   pub tags : names_tags tree ≡ true → tags_like (only_tag tree) t.tags ≡ tags_like (only_tag tree) u.tags
   pub attributes : names_attributes tree ≡ true → t.attributes ≡ u.attributes
 

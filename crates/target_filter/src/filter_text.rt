@@ -5,7 +5,7 @@ ghost use Rattle.std.specs.Option.{IsSomeAnd};
 ghost use Rattle.std.specs.Result.{MatchResult};
 ghost use Rattle.target_filter.specs.Grammar.{Tree, IsFilter};
 ghost use Rattle.target_filter.specs.Meaning.{holds};
-ghost use Rattle.target_filter.specs.Names.{id_start, names_attributes, names_tags, only_tag};
+ghost use Rattle.target_filter.specs.Names.{id_start, names_attributes, names_names, names_tags, only_tag};
 ghost use Rattle.target_filter.specs.Profile.{IsProfileFilter, IsInProfile, filter_of};
 ghost use Rattle.target_filter.specs.Faults.{IsRefused};
 ghost use Rattle.target_filter.specs.Views.{tree_of};
@@ -102,6 +102,14 @@ impl Filter {
         ensures profile { IsInProfile self.now }
     {
         self.tree.holds(target)
+    }
+
+    /// Does the filter name targets' names? Where it doesn't, what it says of a target doesn't depend on the target's name.
+    pub fn names_names(&self) -> bool
+        ensures meaning { (tree : Tree) → IsFilter self.now tree → result ≡ names_names tree }
+        ensures computed { IsSomeAnd (filter_of self.now) (λ tree. result ≡ names_names tree) }
+    {
+        self.tree.names_names()
     }
 
     /// Does the filter name tags? Where it doesn't, what it says of a target doesn't depend on the target's tags.

@@ -24,7 +24,7 @@ pub fn not_equal_negates_equal()
     ensures { NegatesEqual }
 {}
 
-/// What a filter says of a target depends on its id and name, and on its tags and attributes where the filter names them.
+/// What a filter says of a target depends on its id, and on its name, tags and attributes where the filter names them.
 pub fn depends_on_named_alone()
     ensures { DependsOnNamedAlone }
 {}

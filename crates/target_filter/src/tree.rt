@@ -4,8 +4,8 @@ ghost use Rattle.std.specs.Prelude.{◌≡◌};
 ghost use Rattle.std.specs.List.{list_any};
 ghost use Rattle.target_filter.specs.Patterns.{matches};
 ghost use Rattle.target_filter.specs.Meaning.{holds, field_matches, attribute_matches, compared, pattern_of};
-ghost use Rattle.target_filter.specs.Names.{before_star, compared_start, first_tag, first_told, id_start, is_attribute_field, is_only, is_tag_field};
-ghost use Rattle.target_filter.specs.Names.{names_attributes, names_only, names_tags, only_tag, tag_start};
+ghost use Rattle.target_filter.specs.Names.{before_star, compared_start, first_tag, first_told, id_start, is_attribute_field, is_name_field, is_only};
+ghost use Rattle.target_filter.specs.Names.{is_tag_field, names_attributes, names_names, names_only, names_tags, only_tag, tag_start};
 ghost use Rattle.target_filter.specs.Views.{tree_of, field_of, operator_of, value_of};
 
 use crate::pattern::{before_star, matches};
@@ -73,6 +73,15 @@ impl Field {
                 pattern,
                 target.attributes.as_slice(),
             ),
+        }
+    }
+
+    fn is_name(&self) -> bool
+        ensures { result ≡ is_name_field (field_of self.now) }
+    {
+        match self {
+            Field::Name => true,
+            Field::Id | Field::Tag | Field::Attribute(_) => false,
         }
     }
 
@@ -160,6 +169,19 @@ impl Tree {
                 value.pattern(),
                 target,
             )),
+        }
+    }
+
+    /// Is some comparison of names?
+    pub(crate) fn names_names(&self) -> bool
+        ensures { result ≡ names_names (tree_of self.now) }
+    {
+        match self {
+            Tree::Or(left, right) | Tree::And(left, right) => {
+                left.names_names() || right.names_names()
+            }
+            Tree::Group(tree) => tree.names_names(),
+            Tree::Comparison(field, _, _) => field.is_name(),
         }
     }
 
