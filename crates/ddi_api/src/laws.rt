@@ -26,38 +26,31 @@ ghost use Rattle.ddi_api.specs.Replies.{reply_text};
 ghost use Rattle.ddi_api.specs.Routes.{device_table, method_of};
 ghost use Rattle.ddi_api.specs.Table.{device_call};
 
-/// The routes are words and parameters that take a whole segment, and no path meets two of them.
-pub fn device_routes_are_apart()
-    ensures { are_routes device_table ≡ true }
-{}
-
-/// Whoever doesn't say who it is in the one form is told so, whatever else the path, the query and the body hold.
-pub fn unauthorized_comes_first()
-    ensures { (m : WireMessage) → (call : DeviceCall) → device_call (path_of m.target) ≡ Some call → bytes_eq m.method (method_of call) ≡ true
-        → credential_of m ≡ None → device_reading m ≡ Rejected Unauthorized }
-{}
-
-/// A worked message asks for a poll.
-pub fn worked_poll()
-    ensures { device_reading (record {
+/// What requests ask:
+/// - `routes_are_apart`: the routes are words and parameters that take a whole segment, and no path meets two of them
+/// - `unauthorized_comes_first`: whoever doesn't say who it is in the one form is told so, whatever else the path, the query and the body
+///   hold
+/// - `poll`: a worked message asks for a poll
+/// - `strangers_..`: two fields of authorization say nothing, and an id that is no word is told nothing else
+pub fn requests()
+    ensures routes_are_apart { are_routes device_table ≡ true }
+    ensures unauthorized_comes_first { (m : WireMessage) → (call : DeviceCall) → device_call (path_of m.target) ≡ Some call
+        → bytes_eq m.method (method_of call) ≡ true → credential_of m ≡ None → device_reading m ≡ Rejected Unauthorized }
+    ensures poll { device_reading (record {
       method = codes "GET";
       target = codes "/DEFAULT/controller/v1/dev-01";
       fields = (codes "AUTHORIZATION", codes "TargetToken tok-dev-01") ∷ [];
       body = [];
     })
         ≡ Asks (Ask (Poll (record { id = codes "dev-01"; digest = digest_of (codes "tok-dev-01") }))) }
-{}
-
-/// Two fields of authorization say nothing, and an id that is no word is told nothing else.
-pub fn worked_strangers()
-    ensures twice { device_reading (record {
+    ensures strangers_twice { device_reading (record {
       method = codes "GET";
       target = codes "/DEFAULT/controller/v1/dev-01?x=1";
       fields = (codes "Authorization", codes "TargetToken tok-dev-01") ∷ (codes "authorization", codes "TargetToken tok-dev-01") ∷ [];
       body = [];
     })
         ≡ Rejected Unauthorized }
-    ensures id { device_reading (record {
+    ensures strangers_id { device_reading (record {
       method = codes "GET";
       target = codes "/DEFAULT/controller/v1/dev%2001/deploymentBase/0";
       fields = (codes "Authorization", codes "TargetToken tok-dev-01") ∷ [];
@@ -65,43 +58,30 @@ pub fn worked_strangers()
     }) ≡ Rejected Unauthorized }
 {}
 
-/// The whole text of a poll where nothing is offered.
-pub fn worked_poll_reply()
-    ensures { reply_text (PollShown (codes "dev-01") None)
-        ≡ codes "HTTP/1.1 200 OK\r\nContent-Type: application/json\r\nContent-Length: 55\r\n\r\n{\"_links\":{},"
-        ++ codes "\"config\":{\"polling\":{\"sleep\":\"00:05:00\"}}}" }
+/// What a field of authorization shows:
+/// - `token`: of an authorization only the digest of its token is left
+/// - `no_..`: two spaces, another case of the scheme or another scheme show no token
+pub fn authorizations()
+    ensures token { digest_of_value (codes "TargetToken tok-dev-01") ≡ Some (digest_of (codes "tok-dev-01")) }
+    ensures no_spaces { digest_of_value (codes "TargetToken  tok-dev-01") ≡ None }
+    ensures no_case { digest_of_value (codes "targettoken tok-dev-01") ≡ None }
+    ensures no_scheme { digest_of_value (codes "GatewayToken tok-dev-01") ≡ None }
+    ensures no_short { digest_of_value (codes "TargetToken tok-dev") ≡ None }
 {}
 
-/// A refused request is answered by the refusal's own text.
-pub fn refused_text()
-    ensures { (refusal : Refusal) → reply_text (Refused refusal) ≡ refusal_text refusal }
-{}
-
-/// Of an authorization only the digest of its token is left.
-pub fn worked_authorization()
-    ensures { digest_of_value (codes "TargetToken tok-dev-01") ≡ Some (digest_of (codes "tok-dev-01")) }
-{}
-
-/// Two spaces, another case of the scheme or another scheme show no token.
-pub fn no_authorization()
-    ensures spaces { digest_of_value (codes "TargetToken  tok-dev-01") ≡ None }
-    ensures case { digest_of_value (codes "targettoken tok-dev-01") ≡ None }
-    ensures scheme { digest_of_value (codes "GatewayToken tok-dev-01") ≡ None }
-    ensures short { digest_of_value (codes "TargetToken tok-dev") ≡ None }
-{}
-
-/// A worked body says that a deployment succeeded, with one line.
-pub fn worked_feedback()
-    ensures { feedback_body deployment_word (record { id = codes "dev-01"; digest = [] }) 4
+/// What bodies say:
+/// - `feedback`: a worked body says that a deployment succeeded, with one line
+/// - `cancel_feedback`: a worked body says that a device goes on in spite of a cancel, by a number
+/// - `config`: of equal keys the last one counts, and keys stand in byte order
+pub fn bodies()
+    ensures feedback { feedback_body deployment_word (record { id = codes "dev-01"; digest = [] }) 4
         (codes "{\"status\":{\"execution\":\"closed\",\"result\":{\"finished\":\"success\"},\"details\":[\"done\"]}}")
         ≡ Some (new_feedback (record { id = codes "dev-01"; digest = [] }) 4 Succeeded (codes "done" ∷ []) None) }
-{}
-
-/// A worked body says that a device goes on in spite of a cancel, by a number.
-pub fn worked_cancel_feedback()
-    ensures { feedback_body cancel_word (record { id = codes "dev-01"; digest = [] }) 4
+    ensures cancel_feedback { feedback_body cancel_word (record { id = codes "dev-01"; digest = [] }) 4
         (codes "{\"number\":7,\"status\":{\"execution\":\"rejected\",\"result\":{\"finished\":\"none\"}}}")
         ≡ Some (new_feedback (record { id = codes "dev-01"; digest = [] }) 4 RejectedCancel [] (Some 7)) }
+    ensures config { config_body (codes "{\"mode\":\"merge\",\"data\":{\"os\":\"a\",\"hw\":\"2\",\"os\":\"b\"}}")
+        ≡ Some (new_attribute (codes "hw") (codes "2") ∷ new_attribute (codes "os") (codes "b") ∷ []) }
 {}
 
 /// Numbers of feedback that are given, and two that stand for none.
@@ -123,47 +103,34 @@ pub fn no_numbers()
     ensures null { option_and_then number_given (body_data (codes "{\"number\":null}")) ≡ None }
 {}
 
-/// Of equal keys the last one counts, and keys stand in byte order.
-pub fn worked_config()
-    ensures { config_body (codes "{\"mode\":\"merge\",\"data\":{\"os\":\"a\",\"hw\":\"2\",\"os\":\"b\"}}")
-        ≡ Some (new_attribute (codes "hw") (codes "2") ∷ new_attribute (codes "os") (codes "b") ∷ []) }
+/// The texts of all replies of a kind are their letters:
+/// - `poll`: the texts of all polls are their letters
+/// - `cancel`: the texts of all cancels are their letters
+/// - `deployment`: the texts of all deployments are their letters
+pub fn letters()
+    ensures poll { (id : List ℕ) → (offer : Option Offer) → compact_text (poll_data id offer) ≡ poll_letters id offer }
+    ensures cancel { (action : ℕ) → compact_text (cancel_data action) ≡ cancel_letters action }
+    ensures deployment { (d : Deployment) → compact_text (deployment_data d) ≡ deployment_letters d }
 {}
 
-/// The texts of all polls are their letters.
-pub fn poll_text_letters()
-    ensures { (id : List ℕ) → (offer : Option Offer) → compact_text (poll_data id offer) ≡ poll_letters id offer }
-{}
-
-/// The texts of all cancels are their letters.
-pub fn cancel_text_letters()
-    ensures { (action : ℕ) → compact_text (cancel_data action) ≡ cancel_letters action }
-{}
-
-/// The texts of all deployments are their letters.
-pub fn deployment_text_letters()
-    ensures { (d : Deployment) → compact_text (deployment_data d) ≡ deployment_letters d }
-{}
-
-/// The text of a poll where nothing is offered.
-pub fn worked_poll_text()
-    ensures { compact_text (poll_data (codes "dev-01") None) ≡ codes "{\"_links\":{},\"config\":{\"polling\":{\"sleep\":\"00:05:00\"}}}" }
-{}
-
-/// The text of a poll where a deployment is offered.
-pub fn worked_offer_text()
-    ensures { compact_text (poll_data (codes "dev-04") (Some (record { action = 4; canceling = false })))
+/// The texts of replies:
+/// - `refused`: a refused request is answered by the refusal's own text
+/// - `poll_reply`: the whole text of a poll where nothing is offered
+/// - `poll`: the text of a poll where nothing is offered
+/// - `offer`: the text of a poll where a deployment is offered
+/// - `cancel`: the text of a cancel
+/// - `deployment`: the text of a deployment of one module with one artifact, whose digest is the same byte 32 times
+pub fn texts()
+    ensures refused { (refusal : Refusal) → reply_text (Refused refusal) ≡ refusal_text refusal }
+    ensures poll_reply { reply_text (PollShown (codes "dev-01") None)
+        ≡ codes "HTTP/1.1 200 OK\r\nContent-Type: application/json\r\nContent-Length: 55\r\n\r\n{\"_links\":{},"
+        ++ codes "\"config\":{\"polling\":{\"sleep\":\"00:05:00\"}}}" }
+    ensures poll { compact_text (poll_data (codes "dev-01") None) ≡ codes "{\"_links\":{},\"config\":{\"polling\":{\"sleep\":\"00:05:00\"}}}" }
+    ensures offer { compact_text (poll_data (codes "dev-04") (Some (record { action = 4; canceling = false })))
         ≡ codes "{\"_links\":{\"deploymentBase\":{\"href\":\"/DEFAULT/controller/v1/dev-04/deploymentBase/4\"}},"
         ++ codes "\"config\":{\"polling\":{\"sleep\":\"00:05:00\"}}}" }
-{}
-
-/// The text of a cancel.
-pub fn worked_cancel_text()
-    ensures { compact_text (cancel_data 1) ≡ codes "{\"cancelAction\":{\"stopId\":\"1\"},\"id\":\"1\"}" }
-{}
-
-/// The text of a deployment of one module with one artifact, whose digest is the same byte 32 times.
-pub fn worked_deployment_text()
-    ensures { compact_text (deployment_data (record {
+    ensures cancel { compact_text (cancel_data 1) ≡ codes "{\"cancelAction\":{\"stopId\":\"1\"},\"id\":\"1\"}" }
+    ensures deployment { compact_text (deployment_data (record {
       target = codes "dev-01";
       action = 1;
       chunks = record {

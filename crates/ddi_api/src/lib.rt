@@ -8,7 +8,7 @@ mod call;
 mod config_body;
 mod credential;
 mod feedback_body;
-mod laws;
+pub mod laws;
 mod object;
 mod reading;
 mod reply;
@@ -17,13 +17,6 @@ mod spelled;
 
 pub use call::{DeviceCall, method_of};
 pub use credential::read_credential;
-pub use laws::{
-    cancel_text_letters, deployment_text_letters, device_routes_are_apart, no_authorization,
-    no_numbers, poll_text_letters, refused_text, unauthorized_comes_first, worked_authorization,
-    worked_cancel_feedback, worked_cancel_text, worked_config, worked_deployment_text,
-    worked_feedback, worked_numbers, worked_offer_text, worked_poll, worked_poll_reply,
-    worked_poll_text, worked_strangers,
-};
 pub use reading::read_device;
 pub use reply::device_reply;
 pub use routes::DeviceRoutes;

@@ -12,7 +12,7 @@ use Rattle.desk_commands.proofs.Common.{CountsNumbers, TellsReports, entries_by,
 use Rattle.desk_commands.specs.ActionSteps.{with_changed_action}
 use Rattle.std.proofs.lemmas.List.Elements.{filter-append}
 use Rattle.campaign_core.specs.declared.own_group.Following.TheVariants as so
-use Rattle.offer_laws.specs.GroupOffers.{acted as acted_records}
+use Rattle.rollout_machine.specs.GroupOffers.{acted as acted_records}
 use Rattle.desk_records.proofs.NumberLists.{numbers_more}
 use Rattle.desk_commands.proofs.GroupNumbers.{Numbered, numbered_groups, only_at, set_numbered_still, started_one, starts_none}
 use Rattle.desk_commands.proofs.ItemSteps.{map_set, same_but_for, set_elsewhere, set_is_change, set_is_there, set_twice, zip_map}

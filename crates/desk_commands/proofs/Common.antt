@@ -56,7 +56,7 @@ pub use Rattle.rollout_machine.specs.declared.records.ActionRecord.{ActionRecord
 pub use Rattle.rollout_machine.specs.declared.records.GroupRecord.{GroupRecord}
 pub use Rattle.rollout_machine.specs.declared.records.RolloutRecord.{RolloutRecord}
 pub use Rattle.rollout_machine.specs.declared.standing.Standing.{Standing}
-pub use Rattle.offer_laws.specs.GroupOffers.{GroupStarts, acted, actor, group_offers, offers_before_start, put_offers, with_actor}
+pub use Rattle.rollout_machine.specs.GroupOffers.{GroupStarts, acted, actor, group_offers, offers_before_start, put_offers, with_actor}
 pub use Rattle.campaign_core.proofs.SoundLemmas.{records_are_sound}
 pub use Rattle.campaign_core.specs.OwnGroups.{effects_by, following, waits}
 pub use Rattle.campaign_core.specs.RolloutChecks.{AreSound, BothOrNone, ChangesAction, Decides, DecidesAs, IsActionView, IsCancelView, IsDeviceAction}

@@ -7,7 +7,7 @@ use Rattle.desk_commands.proofs.Common.{records_are_sound, GroupStarts, group_of
 use Rattle.desk_commands.proofs.Common.{set_numbered, with_groups, with_rollouts, StartsAndOffers, started, of_rollout}
 use Rattle.rollout_machine.specs.Records.{records}
 use Rattle.campaign_core.proofs.RolloutLemmas.{rollouts_changed}
-use Rattle.offer_laws.proofs.Starts.{offers_after_group, offers_after_no_group}
+use Rattle.rollout_machine.proofs.OfferStarts.{offers_after_group, offers_after_no_group}
 use Rattle.desk_commands.specs.GroupStarts.{with_offers}
 use Rattle.desk_commands.proofs.ItemSteps.{same_but_for, set_is_change, set_is_there, set_twice}
 

@@ -5,7 +5,7 @@ use Rattle.desk_commands.proofs.Common.{Command, Offer, first_offer, offer, has_
 use Rattle.desk_commands.proofs.Common.{RolloutRecord, acted, actor_of, Ledger, set_numbered, reoffered, in_place_of, any_starts, next_offer, next_offer_from}
 use Rattle.desk_commands.proofs.Common.{is_next, starts_at, parts_of, Reoffers, and_assoc, and_comm}
 use Rattle.std.proofs.lemmas.Bool.{le-leb}
-use Rattle.offer_laws.proofs.AnyGroup.{started_by_any_then}
+use Rattle.rollout_machine.proofs.AnyGroup.{started_by_any_then}
 use Rattle.desk_commands.proofs.ItemSteps.{same_but_for}
 
 -- ---- as the machine says

@@ -14,51 +14,35 @@ ghost use Rattle.desk_files.specs.TargetRecords.{new_row};
 
 use rollout_model::limits::FILE_LENGTH_LIMIT;
 
-/// The words of a field of tags, with one space between two, are the field.
-pub fn tags_are_joined()
-    ensures { TagsAreJoined }
+/// What holds of all files:
+/// - `tags_are_joined`: the words of a field of tags, with one space between two, are the field
+/// - `tables_are_csv`: a table of actions is what `csv` writes of its header and its records
+/// - `file_limit`: the constant is the limit of an import's file
+pub fn files()
+    ensures tags_are_joined { TagsAreJoined }
+    ensures tables_are_csv { TablesAreCsv }
+    ensures file_limit { FILE_LENGTH_LIMIT ≡ file_length_limit }
 {}
 
-/// A table of actions is what `csv` writes of its header and its records.
-pub fn tables_are_csv()
-    ensures { TablesAreCsv }
-{}
-
-/// The constant is the limit of an import's file.
-pub fn file_limit()
-    ensures { FILE_LENGTH_LIMIT ≡ file_length_limit }
-{}
-
-/// A worked file: three targets, the second of them without tags.
-pub fn worked_import()
-    ensures { targets_in_file
+/// Worked files and texts:
+/// - `import`: a worked file: three targets, the second of them without tags
+/// - `fault`: the same with the first id in place of the third: the fourth record is the faulty one
+/// - `cut`: a file that ends within a quoted field, without a line feed
+/// - `report`: the report of a worked rollout
+/// - `table`: a worked table of actions
+pub fn worked_files()
+    ensures import { targets_in_file
         (codes "controllerid,name,token,tags\ndev-01,Lab one,tok-dev-01,lab\ndev-02,Lab two,tok-dev-02,\ndev-03,Yard,tok-dev-03,lab outdoor\n")
         ≡ Ok (new_row (codes "dev-01") (codes "Lab one") (digest_of (codes "tok-dev-01")) (codes "lab" ∷ [])
         ∷ new_row (codes "dev-02") (codes "Lab two") (digest_of (codes "tok-dev-02")) []
         ∷ new_row (codes "dev-03") (codes "Yard") (digest_of (codes "tok-dev-03")) (codes "lab" ∷ codes "outdoor" ∷ []) ∷ []) }
-{}
-
-/// The same with the first id in place of the third: the fourth record is the faulty one.
-pub fn worked_fault()
-    ensures { targets_in_file (codes "controllerid,name,token,tags\ndev-01,Lab one,tok-dev-01,lab\ndev-02,Lab two,tok-dev-02,\ndev-01,"
+    ensures fault { targets_in_file (codes "controllerid,name,token,tags\ndev-01,Lab one,tok-dev-01,lab\ndev-02,Lab two,tok-dev-02,\ndev-01,"
         ++ codes "Yard,tok-dev-03,lab outdoor\n") ≡ Err 4 }
-{}
-
-/// A file that ends within a quoted field, without a line feed.
-pub fn worked_cut()
-    ensures { targets_in_file (codes "controllerid,name,token,tags\ndev-01,\"Lab") ≡ Err 0 }
-{}
-
-/// The report of a worked rollout.
-pub fn worked_report()
-    ensures { report_lines worked_rollout (worked_group 1 3 2 group.Running ∷ worked_group 2 3 0 group.Running ∷ worked_group 3 4 0 group.Scheduled ∷ [])
-        ≡ codes "rollout 1 spring\nstate running\ngroup  size    ok   bad  gone  open state\n"
+    ensures cut { targets_in_file (codes "controllerid,name,token,tags\ndev-01,\"Lab") ≡ Err 0 }
+    ensures report { report_lines worked_rollout (worked_group 1 3 2 group.Running ∷ worked_group 2 3 0 group.Running
+        ∷ worked_group 3 4 0 group.Scheduled ∷ []) ≡ codes "rollout 1 spring\nstate running\ngroup  size    ok   bad  gone  open state\n"
         ++ codes "    1     3     2     0     0     1 running\n    2     3     0     0     0     3 running\n"
         ++ codes "    3     4     0     0     0     4 scheduled\ntotal    10     2     0     0     8 running\n" }
-{}
-
-/// A worked table of actions.
-pub fn worked_table()
-    ensures { table_text (worked_action 11 (codes "dev-01") action.Finished ∷ worked_action 12 (codes "dev-02") action.Running ∷ [])
+    ensures table { table_text (worked_action 11 (codes "dev-01") action.Finished ∷ worked_action 12 (codes "dev-02") action.Running ∷ [])
         ≡ codes "action,controllerid,group,state\n11,dev-01,1,finished\n12,dev-02,1,running\n" }
 {}

@@ -8,7 +8,7 @@ mod fields;
 mod import;
 mod import_fault;
 mod imported_rows;
-mod laws;
+pub mod laws;
 mod record_reader;
 mod report;
 mod tags_field;
@@ -17,8 +17,4 @@ mod target_record;
 pub use actions_table::actions_csv;
 pub use import::read_targets;
 pub use import_fault::ImportFault;
-pub use laws::{
-    file_limit, tables_are_csv, tags_are_joined, worked_cut, worked_fault, worked_import,
-    worked_report, worked_table,
-};
 pub use report::rollout_report;

@@ -74,7 +74,7 @@ pub use Rattle.rollout_machine.specs.declared.outcome.Outcome.{Outcome}
 pub use Rattle.rollout_machine.specs.declared.records.ActionRecord.{ActionRecord}
 pub use Rattle.rollout_machine.specs.declared.records.GroupRecord.{GroupRecord}
 pub use Rattle.rollout_machine.specs.declared.records.RolloutRecord.{RolloutRecord}
-pub use Rattle.offer_laws.specs.GroupOffers.{OffersById, group_offers, lesser, member_of, offers_from, put_offer, put_offers}
+pub use Rattle.rollout_machine.specs.GroupOffers.{OffersById, group_offers, lesser, member_of, offers_from, put_offer, put_offers}
 pub use Rattle.sql_calls.proofs.Finding.{ShowsFirst}
 pub use Rattle.sql_calls.proofs.Inserts.{Inserted, given_rows, inserts}
 pub use Rattle.sql_calls.proofs.KeyedRows.{IsBlind, changed, found_id, held_added, held_changed, held_seen, next_is, on_content}

@@ -13,7 +13,7 @@ use Rattle.rollout_machine.specs.declared.records.RolloutRecord.{RolloutRecord}
 use Rattle.rollout_model.specs.declared.approval.Approval.{Approval}
 use Rattle.rollout_model.specs.declared.group_rule.GroupRule.{GroupRule}
 use Rattle.rollout_model.specs.declared.rollout.Offer.{Offer}
-use Rattle.offer_laws.specs.GroupOffers.{group_offers, put_offers}
+use Rattle.rollout_machine.specs.GroupOffers.{group_offers, put_offers}
 use Rattle.desk_records.specs.declared.new_entry.NewEntry.{NewEntry}
 use Rattle.desk_records.specs.declared.number_row.PlacedNumber.{PlacedNumber}
 use Rattle.desk_records.specs.Actions.{Tally, tally_of}

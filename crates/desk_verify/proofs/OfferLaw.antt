@@ -7,7 +7,7 @@ use Rattle.desk_verify.proofs.Common.{has_own_number, holds_started, is_started_
 use Rattle.desk_verify.proofs.Common.{IsRightOffer, TargetOffer, offer, has_started, offered_one, is_to, offer_row, Groups}
 use Rattle.rollout_machine.proofs.AtNumbers.{has_place}
 use Rattle.rollout_machine.proofs.Meanings.{is_candidate, least_offer, none_from}
-use Rattle.offer_laws.proofs.AnyGroup.{started_by_any}
+use Rattle.rollout_machine.proofs.AnyGroup.{started_by_any}
 use Rattle.desk_records.proofs.HeldCounts.{has_place as place_of}
 use Rattle.desk_verify.proofs.ActionLaw.{among, its_action}
 use Rattle.desk_verify.proofs.ActionLemmas.{same_action}

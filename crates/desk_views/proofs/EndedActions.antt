@@ -6,7 +6,7 @@ use Rattle.std.proofs.lemmas.Bool.{true_from_ne_false}
 use Rattle.std.specs.List.{last_or}
 use Rattle.rollout_machine.proofs.Induction.{invariant_of}
 use Rattle.rollout_machine.proofs.Valid.{its_group}
-use Rattle.offer_laws.proofs.Places.{found, group_at, started_is}
+use Rattle.rollout_machine.proofs.OfferPlaces.{found, group_at, started_is}
 use Rattle.desk_views.proofs.WordViews.{begun_is, ended_from}
 
 ended_started : (h : CommandList) → IsValid h → (i : ℕ) (a : ActionRecord) → slice_get (records h).actions i ≡ Some a → is_some a.outcome ≡ true

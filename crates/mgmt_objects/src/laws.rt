@@ -30,63 +30,34 @@ ghost use Rattle.mgmt_objects.specs.Thresholds.{percentage_of_text};
 ghost use Rattle.mgmt_objects.specs.TargetBodies.{new_row, targets_body};
 ghost use Rattle.mgmt_objects.specs.TargetObjects.{accepted_data, target_data};
 
-/// A worked body names the module that it spells.
-pub fn worked_module_body()
-    ensures { module_body (codes "[{\"name\":\"app\",\"type\":\"os\",\"version\":\"1.0\"}]") ≡ Some (new_label (codes "app") (codes "os") (codes "1.0")) }
-{}
-
-/// The text of a module is its letters.
-pub fn module_text_letters()
-    ensures { (m : Module) → compact_text (module_data m) ≡ module_letters m }
-{}
-
-/// The text of a worked module in an array of its own.
-pub fn worked_module_text()
-    ensures { compact_text (single (module_data (record { number = 1; locked = false; label = new_label (codes "app") (codes "os") (codes "1.0") })))
-        ≡ codes "[{\"id\":1,\"locked\":false,\"name\":\"app\",\"type\":\"os\",\"version\":\"1.0\"}]" }
-{}
-
-/// A worked body names the distribution set that it spells.
-pub fn worked_set_body()
-    ensures { set_body (codes "[{\"name\":\"r1\",\"version\":\"1\",\"modules\":[{\"id\":2},{\"id\":1}]}]")
+/// What worked bodies say:
+/// - `module`: a worked body names the module that it spells
+/// - `set`: a worked body names the distribution set that it spells
+/// - `targets`: a worked body puts the target that it spells, known by its token's digest alone
+/// - `rollout`: a worked body plans the rollout that it spells
+/// - `groups`: a worked body of named groups: the second has thresholds of its own, the others have the rollout's
+/// - `null_action`: a body whose action for an error is `null` plans nothing
+pub fn bodies()
+    ensures module { module_body (codes "[{\"name\":\"app\",\"type\":\"os\",\"version\":\"1.0\"}]")
+        ≡ Some (new_label (codes "app") (codes "os") (codes "1.0")) }
+    ensures set { set_body (codes "[{\"name\":\"r1\",\"version\":\"1\",\"modules\":[{\"id\":2},{\"id\":1}]}]")
         ≡ Some (new_set_label (codes "r1") (codes "1") (2 ∷ 1 ∷ [])) }
-{}
-
-/// The text of a worked distribution set.
-pub fn worked_set_text()
-    ensures { compact_text (set_data (record { number = 1; label = new_set_label (codes "r1") (codes "1") (1 ∷ []) }))
-        ≡ codes "{\"id\":1,\"modules\":[{\"id\":1}],\"name\":\"r1\",\"version\":\"1\"}" }
-{}
-
-/// The text of a worked artifact, whose digest is the same byte 32 times.
-pub fn worked_artifact_text()
-    ensures { compact_text (artifact_data (record { number = 1; filename = codes "abc.bin"; size = 3; digest = replicate 32 171 }))
-        ≡ codes "{\"hashes\":{\"sha256\":\"abababababababababababababababababababababababababababababababab\"},"
-        ++ codes "\"id\":1,\"providedFilename\":\"abc.bin\",\"size\":3}" }
-{}
-
-/// A worked body puts the target that it spells, known by its token's digest alone.
-pub fn worked_targets_body()
-    ensures { targets_body (codes "[{\"controllerId\":\"dev-01\",\"name\":\"press\",\"securityToken\":\"tok-dev-01\",\"tags\":[\"lab\"]}]")
+    ensures targets { targets_body (codes "[{\"controllerId\":\"dev-01\",\"name\":\"press\",\"securityToken\":\"tok-dev-01\",\"tags\":[\"lab\"]}]")
         ≡ Some (new_row (codes "dev-01") (codes "press") (digest_of (codes "tok-dev-01")) (codes "lab" ∷ []) ∷ []) }
-{}
-
-/// The text of a worked target.
-pub fn worked_target_text()
-    ensures { compact_text (target_data (record {
-      id = codes "dev-01";
-      name = codes "press";
-      tags = codes "hall" ∷ codes "lab" ∷ [];
-      attributes = record { key = codes "os"; value = codes "linux" } ∷ [];
-      word = InSync;
-    }))
-        ≡ codes "{\"attributes\":{\"os\":\"linux\"},\"controllerId\":\"dev-01\",\"name\":\"press\","
-        ++ codes "\"tags\":[\"hall\",\"lab\"],\"updateStatus\":\"in_sync\"}" }
-{}
-
-/// The text of a worked number of accepted rows.
-pub fn worked_accepted_text()
-    ensures { compact_text (accepted_data 100) ≡ codes "{\"accepted\":100}" }
+    ensures rollout { rollout_body (codes "{\"amountGroups\":3,\"distributionSetId\":1,\"errorCondition\":{\"condition\":\"THRESHOLD\","
+        ++ codes "\"expression\":\"100\"},\"name\":\"spring\",\"successAction\":{\"action\":\"NEXTGROUP\"},"
+        ++ codes "\"successCondition\":{\"condition\":\"THRESHOLD\",\"expression\":\"50\"},\"targetFilterQuery\":\"name==*\"}")
+        ≡ Some (new_plan (codes "spring") 1 (codes "name==*") (evenly 3) 50 100) }
+    ensures groups { rollout_body (codes "{\"distributionSetId\":1,\"errorCondition\":{\"condition\":\"THRESHOLD\",\"expression\":\"100\"},"
+        ++ codes "\"groups\":[{\"targetPercentage\":10},{\"errorCondition\":{\"condition\":\"THRESHOLD\",\"expression\":\"34\"},"
+        ++ codes "\"successCondition\":{\"condition\":\"THRESHOLD\",\"expression\":\"40\"},\"targetPercentage\":50},"
+        ++ codes "{\"targetPercentage\":100}],\"name\":\"spring\","
+        ++ codes "\"successCondition\":{\"condition\":\"THRESHOLD\",\"expression\":\"100\"},\"targetFilterQuery\":\"name==*\"}")
+        ≡ Some (new_plan (codes "spring") 1 (codes "name==*") (defined (new_definition 10 100 100 ∷ new_definition 50 40 34
+        ∷ new_definition 100 100 100 ∷ [])) 100 100) }
+    ensures null_action { rollout_body (codes "{\"amountGroups\":3,\"distributionSetId\":1,\"errorAction\":null,"
+        ++ codes "\"errorCondition\":{\"condition\":\"THRESHOLD\",\"expression\":\"100\"},\"name\":\"spring\","
+        ++ codes "\"successCondition\":{\"condition\":\"THRESHOLD\",\"expression\":\"50\"},\"targetFilterQuery\":\"name==*\"}") ≡ None }
 {}
 
 /// A percentage has digits alone, and no leading zero.
@@ -100,50 +71,46 @@ pub fn worked_percentages()
     ensures none { percentage_of_text [] ≡ None }
 {}
 
-/// A worked body plans the rollout that it spells.
-pub fn worked_rollout_body()
-    ensures { rollout_body (codes "{\"amountGroups\":3,\"distributionSetId\":1,\"errorCondition\":{\"condition\":\"THRESHOLD\","
-        ++ codes "\"expression\":\"100\"},\"name\":\"spring\",\"successAction\":{\"action\":\"NEXTGROUP\"},"
-        ++ codes "\"successCondition\":{\"condition\":\"THRESHOLD\",\"expression\":\"50\"},\"targetFilterQuery\":\"name==*\"}")
-        ≡ Some (new_plan (codes "spring") 1 (codes "name==*") (evenly 3) 50 100) }
+/// The texts of all objects of a kind are their letters:
+/// - `module`: the text of a module is its letters
+/// - `rollout`: the text of a rollout is its letters
+/// - `group`: the text of a group is its letters
+/// - `action`: the text of an action is its letters
+pub fn letters()
+    ensures module { (m : Module) → compact_text (module_data m) ≡ module_letters m }
+    ensures rollout { (r : Rollout) → compact_text (rollout_data r) ≡ rollout_letters r }
+    ensures group { (g : Group) → compact_text (group_data g) ≡ group_letters g }
+    ensures action { (a : Action) → compact_text (action_data a) ≡ action_letters a }
 {}
 
-/// A worked body of named groups: the second has thresholds of its own, the others have the rollout's.
-pub fn worked_groups_body()
-    ensures { rollout_body (codes "{\"distributionSetId\":1,\"errorCondition\":{\"condition\":\"THRESHOLD\",\"expression\":\"100\"},"
-        ++ codes "\"groups\":[{\"targetPercentage\":10},{\"errorCondition\":{\"condition\":\"THRESHOLD\",\"expression\":\"34\"},"
-        ++ codes "\"successCondition\":{\"condition\":\"THRESHOLD\",\"expression\":\"40\"},\"targetPercentage\":50},"
-        ++ codes "{\"targetPercentage\":100}],\"name\":\"spring\","
-        ++ codes "\"successCondition\":{\"condition\":\"THRESHOLD\",\"expression\":\"100\"},\"targetFilterQuery\":\"name==*\"}")
-        ≡ Some (new_plan (codes "spring") 1 (codes "name==*") (defined (new_definition 10 100 100 ∷ new_definition 50 40 34
-        ∷ new_definition 100 100 100 ∷ [])) 100 100) }
-{}
-
-/// A body whose action for an error is `null` plans nothing.
-pub fn worked_null_action()
-    ensures { rollout_body (codes "{\"amountGroups\":3,\"distributionSetId\":1,\"errorAction\":null,"
-        ++ codes "\"errorCondition\":{\"condition\":\"THRESHOLD\",\"expression\":\"100\"},\"name\":\"spring\","
-        ++ codes "\"successCondition\":{\"condition\":\"THRESHOLD\",\"expression\":\"50\"},\"targetFilterQuery\":\"name==*\"}") ≡ None }
-{}
-
-/// The text of a rollout is its letters.
-pub fn rollout_text_letters()
-    ensures { (r : Rollout) → compact_text (rollout_data r) ≡ rollout_letters r }
-{}
-
-/// The text of a group is its letters.
-pub fn group_text_letters()
-    ensures { (g : Group) → compact_text (group_data g) ≡ group_letters g }
-{}
-
-/// The text of an action is its letters.
-pub fn action_text_letters()
-    ensures { (a : Action) → compact_text (action_data a) ≡ action_letters a }
-{}
-
-/// The text of a worked rollout.
-pub fn worked_rollout_text()
-    ensures { compact_text (rollout_data (record {
+/// The texts of worked objects:
+/// - `module`: the text of a worked module in an array of its own
+/// - `set`: the text of a worked distribution set
+/// - `artifact`: the text of a worked artifact, whose digest is the same byte 32 times
+/// - `target`: the text of a worked target
+/// - `accepted`: the text of a worked number of accepted rows
+/// - `rollout`: the text of a worked rollout
+/// - `group`: the text of a worked group
+/// - `action`: the text of a worked action
+pub fn texts()
+    ensures module { compact_text (single (module_data (record { number = 1; locked = false; label = new_label (codes "app") (codes "os") (codes "1.0") })))
+        ≡ codes "[{\"id\":1,\"locked\":false,\"name\":\"app\",\"type\":\"os\",\"version\":\"1.0\"}]" }
+    ensures set { compact_text (set_data (record { number = 1; label = new_set_label (codes "r1") (codes "1") (1 ∷ []) }))
+        ≡ codes "{\"id\":1,\"modules\":[{\"id\":1}],\"name\":\"r1\",\"version\":\"1\"}" }
+    ensures artifact { compact_text (artifact_data (record { number = 1; filename = codes "abc.bin"; size = 3; digest = replicate 32 171 }))
+        ≡ codes "{\"hashes\":{\"sha256\":\"abababababababababababababababababababababababababababababababab\"},"
+        ++ codes "\"id\":1,\"providedFilename\":\"abc.bin\",\"size\":3}" }
+    ensures target { compact_text (target_data (record {
+      id = codes "dev-01";
+      name = codes "press";
+      tags = codes "hall" ∷ codes "lab" ∷ [];
+      attributes = record { key = codes "os"; value = codes "linux" } ∷ [];
+      word = InSync;
+    }))
+        ≡ codes "{\"attributes\":{\"os\":\"linux\"},\"controllerId\":\"dev-01\",\"name\":\"press\","
+        ++ codes "\"tags\":[\"hall\",\"lab\"],\"updateStatus\":\"in_sync\"}" }
+    ensures accepted { compact_text (accepted_data 100) ≡ codes "{\"accepted\":100}" }
+    ensures rollout { compact_text (rollout_data (record {
       number = 1;
       name = codes "spring";
       set_number = 1;
@@ -154,11 +121,7 @@ pub fn worked_rollout_text()
     }))
         ≡ codes "{\"distributionSetId\":1,\"id\":1,\"name\":\"spring\",\"status\":\"ready\","
         ++ codes "\"targetFilterQuery\":\"name==*\",\"totalGroups\":3,\"totalTargets\":10}" }
-{}
-
-/// The text of a worked group.
-pub fn worked_group_text()
-    ensures { compact_text (group_data (record {
+    ensures group { compact_text (group_data (record {
       number = 2;
       size = 5;
       ok = 2;
@@ -169,11 +132,7 @@ pub fn worked_group_text()
       word = group.Running;
     }))
         ≡ codes "{\"bad\":0,\"error\":34,\"gone\":0,\"id\":2,\"ok\":2,\"size\":5,\"status\":\"running\",\"success\":40}" }
-{}
-
-/// The text of a worked action.
-pub fn worked_action_text()
-    ensures { compact_text (action_data (record { number = 1; rollout = 1; group = 1; target = codes "dev-01"; word = action.Running }))
+    ensures action { compact_text (action_data (record { number = 1; rollout = 1; group = 1; target = codes "dev-01"; word = action.Running }))
         ≡ codes "{\"group\":1,\"id\":1,\"rollout\":1,\"status\":\"running\",\"target\":\"dev-01\"}" }
 {}
 

@@ -9,7 +9,7 @@ mod artifact_object;
 mod body;
 mod group_item;
 mod grouping_body;
-mod laws;
+pub mod laws;
 mod list;
 mod member;
 mod module_body;
@@ -24,13 +24,6 @@ mod target_object;
 mod threshold;
 
 pub use body::{only_item, read_value};
-pub use laws::{
-    action_text_letters, group_text_letters, module_text_letters, rollout_text_letters,
-    worked_accepted_text, worked_action_text, worked_artifact_text, worked_entry_text,
-    worked_group_text, worked_groups_body, worked_module_body, worked_module_text,
-    worked_null_action, worked_percentages, worked_rollout_body, worked_rollout_text,
-    worked_set_body, worked_set_text, worked_target_text, worked_targets_body,
-};
 pub use list::{Item, read_array, read_list};
 pub use member::{read_number, read_text, read_whole};
 pub use module_body::read_module_body;

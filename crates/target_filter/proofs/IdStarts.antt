@@ -1,6 +1,7 @@
 -- The id of a target that matches begins as the filter says.
 use Rattle.target_filter.proofs.Common.{◌≡◌, ℕ, Bool, true, ◌&&◌, List, [], ◌∷◌, refl, arith, Target}
-use Rattle.target_filter.proofs.Common.{Field, Id, Name, Tag, Attribute, Operator, Equal, NotEqual, Tree, Or, And, Group, Comparison, holds, IsJoined, pieces, matches}
+use Rattle.target_filter.proofs.Common.{Field, Id, Name, Tag, Attribute, Operator, Equal, NotEqual, Tree, Or, And, Group, Comparison, holds, IsJoined, pieces}
+use Rattle.target_filter.proofs.Common.{matches}
 use Rattle.target_filter.proofs.GreedyMatching.{matches_joins}
 use Rattle.target_filter.specs.Meaning.{field_matches, compared, pattern_of}
 use Rattle.target_filter.specs.Names.{BeginsWith, before_star, compared_start, first_piece, first_told, id_start}
@@ -22,7 +23,8 @@ begins_first : (first other text : List ℕ) → BeginsWith first text → Begin
 begins_first [] other text h k = k
 begins_first (b ∷ bs) other text h k = h
 
-id_begins : (o : Operator) (pattern : List ℕ) (t : Target) → compared o (matches pattern t.id) ≡ true → BeginsWith (compared_start Id o (before_star pattern)) t.id
+id_begins : (o : Operator) (pattern : List ℕ) (t : Target) → compared o (matches pattern t.id) ≡ true
+    → BeginsWith (compared_start Id o (before_star pattern)) t.id
 id_begins Equal pattern t h = joined_begins (pieces pattern) t.id (matches_joins pattern t.id h)
 id_begins NotEqual pattern t h = begins_empty t.id
 

@@ -5,7 +5,8 @@ use Rattle.target_filter.proofs.Common.{subst, is_empty, with_first_byte}
 use Rattle.target_filter.proofs.GreedyMatching.{in_front_one, whole_is}
 use Rattle.target_filter.specs.Meaning.{field_matches, attribute_matches, compared, pattern_of}
 use Rattle.target_filter.specs.Patterns.{matches, pieces}
-use Rattle.target_filter.specs.Names.{AreAlikeWhereNamed, before_star, first_piece, first_tag, first_told, is_only, is_tag_field, names_attributes, names_names, names_only}
+use Rattle.target_filter.specs.Names.{AreAlikeWhereNamed, before_star, first_piece, first_tag, first_told, is_only, is_tag_field, names_attributes}
+use Rattle.target_filter.specs.Names.{names_names, names_only}
 use Rattle.target_filter.specs.Names.{names_tags, only_tag}
 use Rattle.target_filter.specs.Names.{tag_start, tags_like}
 use Rattle.std.specs.Prelude.{filter}

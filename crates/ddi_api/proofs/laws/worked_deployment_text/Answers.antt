@@ -1,9 +1,0 @@
-use Rattle.ddi_api.proofs.Common.{refl}
-use Rattle.std.specs.Fmt.{digits}
-use Rattle.hex.specs.Hex.{encode_with}
-use Rattle.serde_json.proofs.OnLiterals.{serde_json_on_literals}
-use Rattle.ddi_api.proofs.laws.worked_deployment_text.Goals as goal
-
-pub returns : goal.returns
-unfolding serde_json_on_literals digits encode_with
-returns c = refl
