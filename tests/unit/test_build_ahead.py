@@ -2,6 +2,7 @@
 import os
 import shutil
 import subprocess
+import tempfile
 from pathlib import Path
 
 from harness.asserting import same
@@ -15,8 +16,13 @@ echo "$2 and the crates below passed$KEPT. This is not the gate"
 """
 
 
-def run_build(folder, fails="", kept=", and that is kept"):
+def run_build(**how):
     """Runs it over five crates. Answers its status, what it said, and which crates rt was asked for."""
+    with tempfile.TemporaryDirectory() as folder:
+        return run_build_in(Path(folder), **how)
+
+
+def run_build_in(folder, fails="", kept=", and that is kept"):
     for name in ("tools/build", "tools/lib/crate_graph.py"):
         (folder / name).parent.mkdir(parents=True, exist_ok=True)
         shutil.copy(ROOT / name, folder / name)
@@ -41,8 +47,8 @@ def run_build(folder, fails="", kept=", and that is kept"):
     return ran.returncode, ran.stdout, [it.split()[0] for it in noted.read_text().splitlines()]
 
 
-def test_each_crate_once_and_those_below_first(tmp_path):
-    status, _, asked = run_build(tmp_path)
+def test_each_crate_once_and_those_below_first():
+    status, _, asked = run_build()
     same(status, 0)
     same(sorted(asked), ["high", "low", "middle", "program", "side"])
     for name, below in (
@@ -55,14 +61,14 @@ def test_each_crate_once_and_those_below_first(tmp_path):
     same(asked[-1], "program")
 
 
-def test_nothing_above_a_crate_that_fails(tmp_path):
-    status, said, asked = run_build(tmp_path, fails="middle")
+def test_nothing_above_a_crate_that_fails():
+    status, said, asked = run_build(fails="middle")
     same(status, 1)
     assert "middle: NOT PROVED" in said
     assert "high" not in asked and "program" not in asked
 
 
-def test_a_machine_that_keeps_nothing(tmp_path):
-    status, said, asked = run_build(tmp_path, kept="")
+def test_a_machine_that_keeps_nothing():
+    status, said, asked = run_build(kept="")
     same((status, asked), (1, ["low"]))
     assert "low: PROVED, AND NOT KEPT" in said
