@@ -59,15 +59,15 @@ def test_a_mutant_that_aims_elsewhere():
 
 
 def test_a_mutant_of_what_implements_a_trait():
-    clause = "`contents_handler::Handler::handle.bound`"
+    clause = "`request_handler::Handler::handle.bound`"
     same(wrong(clause, "`rollout_desk/handle_runs_more`"), [])
     same(len(wrong(clause, "`rollout_desk/answer_runs_more`")), 1)
 
 
 def test_an_edit_of_a_definition_stands_beside_a_law_that_rests_on_it():
     mutant = "`rollout_machine/download_while_canceling`"
-    same(wrong("`rollout_machine::downloads_are_offered`", mutant), [])
-    same(len(wrong("`rollout_machine::lists_rise_in_order`", mutant)), 1)
+    same(wrong("`rollout_machine::offers.downloads_are_offered`", mutant), [])
+    same(len(wrong("`rollout_machine::lists.lists_rise_in_order`", mutant)), 1)
 
 
 def test_a_law_may_have_a_body():

@@ -22,8 +22,8 @@ use Rattle.desk_store.specs.Readable.{IsReadable}
 use Rattle.rollout_desk.specs.Causes.{FailsByCall, FailsByCalls, FailsHandingByCall}
 use Rattle.rollout_desk.specs.DeskStates.{desk_state}
 use Rattle.rollout_desk.specs.declared.desk.Desk.{Desk}
-use Rattle.contents_handler.specs.Failures.{HasCause, HasCauseHanding}
-use Rattle.contents_handler.specs.declared.download.Download.{Download}
+use Rattle.request_handler.specs.Failures.{HasCause, HasCauseHanding}
+use Rattle.request_handler.specs.declared.download.Download.{Download}
 use Rattle.sqlite_rules.proofs.ListLemmas.{all_has}
 use Rattle.rollout_desk.specs.Desks.{Known, desk_state_knowing}
 use Rattle.rollout_desk.proofs.ApplyLemmas.{stood}

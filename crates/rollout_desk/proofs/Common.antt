@@ -35,7 +35,7 @@ pub use Rattle.rollout_machine.specs.Standing.{Applies, AppliesAt, Becomes, Desk
 pub use Rattle.rollout_machine.specs.StoreFailures.{is_failed_store, is_store}
 pub use Rattle.rollout_machine.specs.Validity.{IsValid}
 pub use Rattle.rollout_machine.specs.Views.{command_of, query_of, reply_of, request_of}
-pub use Rattle.contents_handler.specs.Downloads.{BeginsAt, HandsPieces, Sends, next_length, sent}
+pub use Rattle.request_handler.specs.Downloads.{BeginsAt, HandsPieces, Sends, next_length, sent}
 pub use Rattle.sql_calls.proofs.FrameEnds.{rest_shows}
 pub use Rattle.sql_calls.specs.Standing.{Begins, Doubts, HoldIn, IsAtRest, Keeps, Opens, Rests, Sees, Spoiled, Wears}
 pub use Rattle.sql_calls.specs.declared.fault.Fault.{Fault}

@@ -14,7 +14,7 @@ use Rattle.rollout_machine.specs.Records.{records}
 use Rattle.rollout_machine.specs.Requests.{Download as DownloadOf}
 use Rattle.rollout_model.specs.declared.artifact.Artifact.{Artifact}
 use Rattle.rollout_model.specs.declared.request.Reply as model
-use Rattle.contents_handler.specs.declared.download.Download.{Download}
+use Rattle.request_handler.specs.declared.download.Download.{Download}
 use Rattle.rollout_desk.specs.Downloads.{Begins}
 use Rattle.rollout_desk.specs.Looks.{IsOtherThan, Looked, ReadsDownload}
 use Rattle.rollout_desk.specs.Desks.{Known, desk_state_knowing}

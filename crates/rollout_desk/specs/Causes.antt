@@ -11,8 +11,8 @@ use Rattle.rollout_machine.specs.Standing.{StandsFor}
 use Rattle.desk_records.specs.Holds.{HoldsRecords}
 use Rattle.desk_reads.specs.Counted.{AreCounted}
 use Rattle.desk_store.specs.Blaming.{HasFailed}
-use Rattle.contents_handler.specs.Downloads.{Sends}
-use Rattle.contents_handler.specs.declared.download.Download.{Download}
+use Rattle.request_handler.specs.Downloads.{Sends}
+use Rattle.request_handler.specs.declared.download.Download.{Download}
 use Rattle.rollout_desk.specs.DeskStates.{desk_state}
 use Rattle.rollout_desk.specs.Desks.{desk_state_at}
 use Rattle.rollout_desk.specs.declared.desk.Desk.{Desk}

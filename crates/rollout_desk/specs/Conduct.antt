@@ -2,7 +2,7 @@
 use Rattle.std.specs.Prelude.{◌≡◌, ◌≢◌, Bool, true, false, map, Contains, Result, Ok, Err, Vec, MatchResult}
 use Rattle.std.specs.declared.alloc.Global.{Global}
 use Rattle.sqlite.specs.Store.{Ghosts}
-use Rattle.contents_handler.specs.declared.download.Download.{Download}
+use Rattle.request_handler.specs.declared.download.Download.{Download}
 use Rattle.rollout_machine.specs.Replies.{Reply, Refused}
 use Rattle.rollout_machine.specs.Requests.{Asks, Request}
 use Rattle.rollout_machine.specs.Standing.{Applies, StaysStopped}

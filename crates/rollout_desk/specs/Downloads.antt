@@ -1,12 +1,12 @@
--- Downloads: what a desk says of them beside the words of `contents_handler`.
+-- Downloads: what a desk says of them beside the words of `request_handler`.
 use Rattle.std.specs.Prelude.{◌≡◌, ◌⊎◌, ℕ, ◌*◌, Bool, true, false, take, drop, Vec, Option, Some, None, Result, Ok, Err, IfOk, IfErr}
 use Rattle.std.specs.declared.alloc.Global.{Global}
 use Rattle.std.specs.Option.{option_map}
 use Rattle.sqlite.specs.Held.{state}
 use Rattle.sqlite.specs.Store.{Ghosts}
-use Rattle.contents_handler.specs.Downloads.{HandsPieces, Sends, Begins as BeginsAnswered}
-use Rattle.contents_handler.specs.declared.answered.Answered.TheVariants as answered
-use Rattle.contents_handler.specs.declared.download.Download.{Download}
+use Rattle.request_handler.specs.Downloads.{HandsPieces, Sends, Begins as BeginsAnswered}
+use Rattle.request_handler.specs.declared.answered.Answered.TheVariants as answered
+use Rattle.request_handler.specs.declared.download.Download.{Download}
 use Rattle.rollout_machine.specs.ByteStrings.{item_numbered}
 use Rattle.rollout_machine.specs.CommandList.{CommandList, ◌▸◌}
 use Rattle.rollout_machine.specs.Commands.{Bytes, Command}

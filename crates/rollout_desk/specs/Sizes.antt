@@ -11,7 +11,7 @@ use Rattle.rollout_machine.specs.Requests.{Query, Poll, ShowDeployment, ShowCanc
 use Rattle.rollout_machine.specs.Views.{reply_of}
 use Rattle.rollout_model.specs.declared.request.Reply.{Reply}
 use Rattle.desk_records.specs.Tables.{HoldsTables, Tables}
-use Rattle.contents_handler.specs.declared.download.Download as begun
+use Rattle.request_handler.specs.declared.download.Download as begun
 use Rattle.desk_store.specs.declared.change.OpenChange.{OpenChange}
 use Rattle.desk_reads.specs.AtLists.{FailsAtListsIn}
 use Rattle.desk_views.specs.Kept.{TellsKept}

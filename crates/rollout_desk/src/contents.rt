@@ -1,7 +1,7 @@
 //! A desk as what hands out contents piece by piece.
 
 use crate::desk::Desk;
-use contents_handler::{Answered, ContentsHandler, Download};
+use request_handler::{Answered, ContentsHandler, Download};
 use rollout_model::{Query, Refusal};
 use sqlite::Alter;
 

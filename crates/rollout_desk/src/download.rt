@@ -5,12 +5,12 @@ ghost use Rattle.rollout_machine.specs.Requests.{Ask, Asks, Download as Download
 ghost use Rattle.rollout_machine.specs.Views.{query_of};
 ghost use Rattle.rollout_desk.specs.Conduct.{BehavesBeginning, BehavesHanding};
 ghost use Rattle.rollout_desk.specs.DeskStates.{desk_state};
-ghost use Rattle.contents_handler.specs.Downloads.{KeepsCount};
+ghost use Rattle.request_handler.specs.Downloads.{KeepsCount};
 ghost use Rattle.rollout_desk.specs.Downloads.{Begins, DownloadsGoOn, HandsOut, IsInterruption, KeepsToQuery, artifact_in};
 
 use crate::desk::Desk;
 use crate::look::{look_for_download, of_length, read_piece};
-use contents_handler::Download;
+use request_handler::Download;
 use rollout_machine::is_failed_store;
 use rollout_model::{Artifact, ArtifactNo, Credential, Filename, ModuleNo, Query, Refusal, Reply};
 use sqlite::Alter;

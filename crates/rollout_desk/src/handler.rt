@@ -3,7 +3,7 @@
 ghost use Rattle.std.specs.Prelude.{◌≡◌};
 
 use crate::desk::Desk;
-use contents_handler::Handler;
+use request_handler::Handler;
 use rollout_model::{Reply, Request};
 use sqlite::Alter;
 

@@ -19,6 +19,6 @@ pub use crate::download::downloads_go_on;
 pub use crate::handler::counts_what_its_store_counts;
 pub use crate::laws::records_can_be_migrated;
 pub use crate::opening::goes_on_after_crash;
-pub use contents_handler::Download;
 pub use desk_opening::OpenFault;
 pub use desk_verify::{CheckedTable, Damage};
+pub use request_handler::Download;

@@ -15,7 +15,7 @@ pub use Rattle.rollout_machine.specs.Commands.{Bytes, Command}
 pub use Rattle.rollout_machine.specs.Replies.{ContentsShown, Refused, Reply}
 pub use Rattle.rollout_machine.specs.Requests.{Asked, Asks, Rejected, one}
 pub use Rattle.rollout_machine.specs.Standing.{Applies, AppliesAt, DeskState, IsInDoubt, StandsFor, StaysStopped}
-pub use Rattle.contents_handler.specs.Downloads.{HandsPieces, Sends, sent}
+pub use Rattle.request_handler.specs.Downloads.{HandsPieces, Sends, sent}
 pub use Rattle.http_wire.specs.Inbox.{message_of}
 pub use Rattle.http_wire.specs.Messages.{IsFault, IsUndecided, WireMessage}
 pub use Rattle.http_wire.specs.Streams.{Begins}

@@ -6,9 +6,9 @@ use Rattle.stream_server.proofs.Common.{Refused, ContentsShown, DeskState, Stand
 use Rattle.stream_server.proofs.Common.{Serves}
 use Rattle.std.specs.declared.alloc.Global.{Global}
 use Rattle.std.specs.Fmt.{decimal}
-use Rattle.contents_handler.specs.Downloads.{Begins}
-use Rattle.contents_handler.specs.declared.download.Download.{Download}
-use Rattle.contents_handler.specs.declared.answered.Answered.TheVariants.{Contents}
+use Rattle.request_handler.specs.Downloads.{Begins}
+use Rattle.request_handler.specs.declared.download.Download.{Download}
+use Rattle.request_handler.specs.declared.answered.Answered.TheVariants.{Contents}
 use Rattle.http_wire.specs.Replies.{reason}
 use Rattle.stream_server.specs.declared.served.ServeFault.TheVariants as serve_fault
 use Rattle.stream_server.specs.Contents.{contents_head, download_fault, SendsContents, WritesOut}

@@ -1,8 +1,8 @@
 -- A reply with contents, as it is written piece by piece. Of the functions in this crate alone.
 use Rattle.std.specs.Prelude.{◌≡◌, ◌≤◌, ◌++◌, ℕ, false, if◌then◌else◌, List, length, Option, Some, None}
 use Rattle.std.specs.Io.KnownBytes.{Appends}
-use Rattle.contents_handler.specs.Downloads.{Sends, sent}
-use Rattle.contents_handler.specs.declared.download.Download.{Download}
+use Rattle.request_handler.specs.Downloads.{Sends, sent}
+use Rattle.request_handler.specs.declared.download.Download.{Download}
 use Rattle.http_wire.specs.Replies.{reply_head}
 use Rattle.http_wire.specs.declared.reply.ContentType.TheVariants.{Octets}
 use Rattle.rollout_machine.specs.CommandList.{CommandList}

@@ -1,7 +1,7 @@
 //! Answers to messages.
 
 ghost use Rattle.std.specs.Prelude.{◌≡◌, ◌≢◌, ℕ, ◌+◌, ◌<◌, ◌^◌, ◌-◌, ◌∷◌, [], List, length, min, true, false, IfOk, IfErr};
-ghost use Rattle.contents_handler.specs.Downloads.{Begins, IfContents, IfReply};
+ghost use Rattle.request_handler.specs.Downloads.{Begins, IfContents, IfReply};
 ghost use Rattle.http_wire.specs.Messages.{WireMessage};
 ghost use Rattle.http_wire.specs.Inbox.{message_of};
 ghost use Rattle.http_wire.specs.Watched.{inner_of, has_failed};
@@ -18,8 +18,8 @@ use crate::ServeFault;
 use crate::download::send_contents;
 use crate::reply::write_reply;
 use crate::routes::Routes;
-use contents_handler::{Answered, ContentsHandler};
 use http_wire::{Inbox, Message, Watched, WireFault};
+use request_handler::{Answered, ContentsHandler};
 use rollout_machine::says_store_failed;
 use rollout_model::{Refusal, Reply, Request};
 use std::alloc::Global;

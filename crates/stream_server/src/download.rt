@@ -9,9 +9,9 @@ ghost use Rattle.stream_server.specs.Parts.{fault_of};
 
 use crate::ServeFault;
 use crate::reply::send;
-use contents_handler::{ContentsHandler, Download};
 use http_wire::Watched;
 use itoa::Buffer;
+use request_handler::{ContentsHandler, Download};
 use rollout_machine::is_failed_store;
 use rollout_model::Refusal;
 use std::alloc::{AllocError, Global};

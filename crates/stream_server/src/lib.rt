@@ -19,5 +19,5 @@ pub use crate::listening::{ListenFault, serve_on};
 pub use crate::reply::send;
 pub use crate::served::{ServeFault, Served};
 pub use crate::serving::serve;
-pub use contents_handler::{ContentsHandler, Handler};
 pub use http_wire::End;
+pub use request_handler::{ContentsHandler, Handler};

@@ -9,8 +9,8 @@ ghost use Rattle.stream_server.specs.Listening.{ComesToEnd, Keeps, KeepsOn, Stop
 use crate::connections::{Arrival, Connections};
 use crate::serving::serve;
 use crate::{Interface, ServeFault, Served};
-use contents_handler::ContentsHandler;
 use http_wire::Watched;
+use request_handler::ContentsHandler;
 use std::alloc::Global;
 
 /// Why no further connection is served.

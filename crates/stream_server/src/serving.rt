@@ -10,8 +10,8 @@ ghost use Rattle.stream_server.specs.Parts.{ServesStream};
 use crate::routes::Routes;
 use crate::stream::serve_stream;
 use crate::{Interface, ServeFault, Served};
-use contents_handler::ContentsHandler;
 use http_wire::Watched;
+use request_handler::ContentsHandler;
 use std::alloc::Global;
 use std::io::{Read, Write};
 

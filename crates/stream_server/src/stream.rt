@@ -10,8 +10,8 @@ use crate::answer::answer_all;
 use crate::reply::write_refusal;
 use crate::routes::Routes;
 use crate::{ServeFault, Served};
-use contents_handler::ContentsHandler;
 use http_wire::{End, Inbox, Watched};
+use request_handler::ContentsHandler;
 use std::alloc::Global;
 use std::io::{Read, Write};
 

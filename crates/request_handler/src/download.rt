@@ -1,7 +1,7 @@
 //! How far a download is.
 
 ghost use Rattle.std.specs.Prelude.{◌≡◌, ◌+◌, ◌<◌, ◌≤◌, ◌^◌};
-ghost use Rattle.contents_handler.specs.Downloads.{next_length};
+ghost use Rattle.request_handler.specs.Downloads.{next_length};
 
 use rollout_model::ArtifactNo;
 use rollout_model::limits::PIECE_LENGTH;

@@ -5,8 +5,8 @@ use Rattle.rollout_machine.specs.CommandList.{CommandList}
 use Rattle.rollout_machine.specs.Commands.{Bytes}
 use Rattle.rollout_machine.specs.Records.{Records, records}
 use Rattle.rollout_machine.specs.Standing.{DeskState, StandsFor}
-use Rattle.contents_handler.specs.Downloads.{Sends}
-use Rattle.contents_handler.specs.declared.download.Download.{Download}
+use Rattle.request_handler.specs.Downloads.{Sends}
+use Rattle.request_handler.specs.declared.download.Download.{Download}
 use Rattle.rollout_machine.specs.declared.records.ActionRecord.{ActionRecord}
 
 -- 32 bits count the entries of each history, and one more

@@ -13,8 +13,8 @@ pub trait ContentsHandler: Handler {
     ghost use Rattle.rollout_machine.specs.Requests.{Ask, Asks};
     ghost use Rattle.rollout_machine.specs.Views.{query_of, reply_of};
     ghost use Rattle.rollout_machine.specs.Standing.{StaysStopped};
-    ghost use Rattle.contents_handler.specs.Downloads.{Begins, HandsPieces, IfContents, IfReply, KeepsCount};
-    ghost use Rattle.contents_handler.specs.Failures.{HasCause, HasCauseHanding};
+    ghost use Rattle.request_handler.specs.Downloads.{Begins, HandsPieces, IfContents, IfReply, KeepsCount};
+    ghost use Rattle.request_handler.specs.Failures.{HasCause, HasCauseHanding};
 
     /// Begins a download of the contents that a query asks for. Any other query, and one that is refused, is answered as `handle` answers it.
     fn begin_download(&mut self, query: &Query) -> Answered

@@ -3,8 +3,8 @@
 ghost use Rattle.std.specs.Prelude.{◌≡◌, ◌≢◌, IfErr};
 ghost use Rattle.rollout_model.specs.declared.refusal.Refusal.TheVariants.{StoreFailed};
 
-use contents_handler::{Answered, ContentsHandler, Download, Handler};
 use http_wire::Watched;
+use request_handler::{Answered, ContentsHandler, Download, Handler};
 use rollout_model::{Command, Module, ModuleLabel, ModuleNo, Query, Refusal, Reply, Request};
 use std::alloc::Global;
 use std::io;
@@ -55,7 +55,7 @@ impl Shelf {
 
 impl Handler for Shelf {
     ghost use Rattle.std.specs.Prelude.{⊤, refl};
-    ghost use Rattle.library_tests.specs.Unknown.{unknown};
+    ghost use Rattle.unit_tests.specs.Unknown.{unknown};
 
     ghost File = { ⊤ };
 

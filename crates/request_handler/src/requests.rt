@@ -11,7 +11,7 @@ pub trait Handler {
     ghost use Rattle.rollout_machine.specs.Replies.{Refused};
     ghost use Rattle.rollout_machine.specs.Views.{request_of, reply_of};
     ghost use Rattle.rollout_machine.specs.Standing.{DeskState, Applies, StaysStopped};
-    ghost use Rattle.contents_handler.specs.Failures.{HasCause, MayCount};
+    ghost use Rattle.request_handler.specs.Failures.{HasCause, MayCount};
 
     /// What a crash leaves.
     ghost File: { Type 0 };

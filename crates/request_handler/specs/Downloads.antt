@@ -15,9 +15,9 @@ use Rattle.rollout_model.specs.Limits.{piece_length}
 use Rattle.rollout_model.specs.declared.refusal.Refusal.{Refusal}
 use Rattle.rollout_model.specs.declared.refusal.Refusal.TheVariants.{NoMemory, StoreFailed}
 use Rattle.rollout_model.specs.declared.request.Reply.{Reply}
-use Rattle.contents_handler.specs.declared.download.Download.{Download}
-use Rattle.contents_handler.specs.declared.answered.Answered.{Answered}
-use Rattle.contents_handler.specs.declared.answered.Answered.TheVariants as answered
+use Rattle.request_handler.specs.declared.download.Download.{Download}
+use Rattle.request_handler.specs.declared.answered.Answered.{Answered}
+use Rattle.request_handler.specs.declared.answered.Answered.TheVariants as answered
 
 -- how many bytes were handed out: whole pieces, or all there are
 abbrev pub sent : Download → ℕ
