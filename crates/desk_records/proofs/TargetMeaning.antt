@@ -1,7 +1,7 @@
 -- Written by tools/gen/sql-proofs. What it makes is proved; the tool is not trusted.
 -- What the texts of src/target_texts.rt mean, wherever their tables stand.
 use Rattle.desk_records.proofs.Common.{refl, List, [], ◌∷◌, ℕ, codes, pos, negsuc, false, Null, Int, Binary, Values, Query, Term, lit, col, simple, by}
-use Rattle.desk_records.specs.declared.target_texts.TheConstants.{GET_TARGET, COUNT_TARGETS, LIST_ALL_TARGETS, LIST_TARGETS_BETWEEN, LIST_TARGET_TAGS, LIST_TAGS_BETWEEN, LIST_TAG_BETWEEN, PUT_TARGET, SET_TARGET, PUT_TARGET_TAG, DROP_TARGET_TAG, LIST_TARGET_ATTRIBUTES, LIST_ATTRIBUTES_BETWEEN, PUT_TARGET_ATTRIBUTE, SET_TARGET_ATTRIBUTE}
+use Rattle.desk_records.specs.declared.target_texts.TheConstants.{GET_TARGET, COUNT_TARGETS, LIST_ALL_TARGETS, LIST_TARGET_IDS, LIST_TARGETS_BETWEEN, LIST_TARGET_TAGS, LIST_TAGS_BETWEEN, LIST_TAG_BETWEEN, PUT_TARGET, SET_TARGET, PUT_TARGET_TAG, DROP_TARGET_TAG, LIST_TARGET_ATTRIBUTES, LIST_ATTRIBUTES_BETWEEN, PUT_TARGET_ATTRIBUTE, SET_TARGET_ATTRIBUTE}
 use Rattle.desk_records.specs.Schema.{Targets, TargetTags, TargetAttributes}
 use Rattle.desk_records.proofs.MeaningWords.{compiling, Asks, Counts, Puts, Changes, Drops, at_key, at_least, at_most, in_order, changing, no_limit, no_offset}
 
@@ -22,6 +22,12 @@ listed_target_columns = col 1 1 ∷ col 1 2 ∷ []
 
 pub list_all_targets_is : Asks Targets LIST_ALL_TARGETS.now (in_order 1 false [] listed_target_columns no_limit no_offset) (codes "controller" ∷ codes "name" ∷ [])
 list_all_targets_is = unfold compiling in record { queries = λ tree. record { parsed = _; select = _; source = _; page = _; shown = _; read = refl; is = (refl, refl, refl, refl); core = (refl, refl, refl); from = (refl, refl, refl, refl, refl); shows = (tt, (tt, tt)); filter = tt; sorts = (tt, tt); paged = λ s. refl; named = (refl, refl); becomes = (refl, (refl, refl, refl)) }; shape = λ tree. refl }
+
+abbrev pub target_id_columns : List Term
+target_id_columns = col 1 1 ∷ []
+
+pub list_target_ids_is : Asks Targets LIST_TARGET_IDS.now (in_order 1 false [] target_id_columns no_limit no_offset) (codes "controller" ∷ [])
+list_target_ids_is = unfold compiling in record { queries = λ tree. record { parsed = _; select = _; source = _; page = _; shown = _; read = refl; is = (refl, refl, refl, refl); core = (refl, refl, refl); from = (refl, refl, refl, refl, refl); shows = (tt, tt); filter = tt; sorts = (tt, tt); paged = λ s. refl; named = (refl, refl); becomes = (refl, (refl, refl, refl)) }; shape = λ tree. refl }
 
 abbrev pub between_ids : List Term
 between_ids = at_least 1 0 ∷ at_most 1 1 ∷ []

@@ -156,6 +156,7 @@ pub use crate::target_texts::LIST_ATTRIBUTES_BETWEEN;
 pub use crate::target_texts::LIST_TAG_BETWEEN;
 pub use crate::target_texts::LIST_TAGS_BETWEEN;
 pub use crate::target_texts::LIST_TARGET_ATTRIBUTES;
+pub use crate::target_texts::LIST_TARGET_IDS;
 pub use crate::target_texts::LIST_TARGET_TAGS;
 pub use crate::target_texts::LIST_TARGETS_BETWEEN;
 pub use crate::target_texts::PUT_TARGET;

@@ -8,6 +8,9 @@ pub const COUNT_TARGETS: &str = "SELECT count(*) FROM target";
 /// All targets, in byte order of their ids.
 pub const LIST_ALL_TARGETS: &str = "SELECT controller, name FROM target ORDER BY controller";
 
+/// The ids of all targets, in byte order.
+pub const LIST_TARGET_IDS: &str = "SELECT controller FROM target ORDER BY controller";
+
 /// The targets from an id to another, in byte order of their ids.
 pub const LIST_TARGETS_BETWEEN: &str =
     "SELECT controller, name FROM target WHERE controller >= ?1 AND controller <= ?2 ORDER BY controller";

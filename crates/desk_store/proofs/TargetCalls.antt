@@ -4,7 +4,7 @@ use Rattle.desk_store.proofs.Common.{State, Fault, TakesFirst, Finds, COUNT_TARG
 use Rattle.desk_store.proofs.Common.{counted_at, Target}
 use Rattle.std.specs.Prelude.{Bool, true, false}
 use Rattle.desk_records.specs.Columns.{has_word}
-use Rattle.desk_records.specs.ReadRows.{broken_owned_tag_column, columns_of_owned_tag}
+use Rattle.desk_records.specs.ReadRows.{broken_listed_target_column, broken_owned_tag_column, columns_of_listed_target, columns_of_owned_tag}
 use Rattle.desk_records.proofs.WrittenRows.{shown_listed_target}
 use Rattle.desk_records.specs.RowFaults.{BreaksRule}
 use Rattle.desk_records.specs.declared.table_columns.Column.TheVariants as rule
@@ -30,6 +30,10 @@ count_read {row = row} = first_tells (in_ledgers (tables_know (counted_at count_
 pub rows_listed : (ts : List Target) → map listed_row ts ≡ map shown_listed_target (map listed_target ts)
 rows_listed [] = refl
 rows_listed (t ∷ ts) = ap (λ l. listed_row t ∷ l) (rows_listed ts)
+
+-- a row whose id breaks its rule breaks one
+pub id_breaks : (row : Row) → has_word (column row 1) ≡ false → BreaksRule (broken_listed_target_column (columns_of_listed_target row))
+id_breaks row is = record { first = rule.TargetId; is = rw is refl }
 
 -- ---- tags
 

@@ -13,7 +13,7 @@ use Rattle.desk_store.proofs.Common.{put_set_module_is}
 use Rattle.desk_store.proofs.Common.{put_target_attribute_is, put_target_is, put_target_tag_is, set_action_is, set_group_is, set_offer_is, set_rollout_is}
 use Rattle.desk_store.proofs.Common.{set_target_attribute_is, set_target_is}
 use Rattle.desk_records.proofs.TargetMeaning.{list_all_targets_is, list_attributes_between_is, list_tag_between_is, list_tags_between_is}
-use Rattle.desk_records.proofs.TargetMeaning.{list_targets_between_is}
+use Rattle.desk_records.proofs.TargetMeaning.{list_target_ids_is, list_targets_between_is}
 use Rattle.desk_store.proofs.Known.{known, tables_know}
 use Rattle.desk_store.proofs.WriteCalls.{puts, changes, drops}
 use Rattle.desk_store.proofs.NextOfferCalls.{next}
@@ -40,8 +40,7 @@ texts_read = (_, known find_artifact_is) ∷ (_, known find_module_is) ∷ (_, k
     (_, known list_numbers_is) ∷ (_, known list_offers_is) ∷ (_, known list_places_is) ∷ (_, known list_rules_is) ∷ (_, known list_set_modules_is) ∷
     (_, known list_attributes_between_is) ∷ (_, known list_tag_between_is) ∷ (_, known list_tags_between_is) ∷ (_, known list_action_numbers_is)
     ∷ (_, known list_target_actions_is)
-    ∷ (_, known list_target_attributes_is)
-    ∷ (_, known list_target_tags_is)
+    ∷ (_, known list_target_attributes_is) ∷ (_, known list_target_ids_is) ∷ (_, known list_target_tags_is)
     ∷ (_, known list_targets_between_is) ∷
     (_, known module_locked_is) ∷ (_, next) ∷ (_, tables_know (counted_at count_actions_is)) ∷ (_, tables_know (counted_at count_groups_is)) ∷
     (_, tables_know (counted_at count_members_is)) ∷ (_, tables_know (counted_at count_targets_is)) ∷ []

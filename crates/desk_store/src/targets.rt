@@ -5,7 +5,7 @@ ghost use Rattle.std.specs.Option.{option_map};
 ghost use Rattle.rollout_machine.specs.ByteStrings.{same_bytes};
 ghost use Rattle.rollout_machine.specs.Verdicts.{tags_of, target_of};
 ghost use Rattle.desk_records.specs.TargetRow.{listed_target, owned_tags, stored_target};
-ghost use Rattle.desk_records.specs.Targets.{AddsTag, AddsTarget, renamed, targets_between, untagged, with_changed};
+ghost use Rattle.desk_records.specs.Targets.{AddsTag, AddsTarget, ids_of, renamed, targets_between, untagged, with_changed};
 ghost use Rattle.desk_store.specs.Counting.{AddsIn};
 ghost use Rattle.desk_store.specs.Changing.{FindsIn, KeepsTables, MakesIn, StaysIn};
 ghost use Rattle.desk_store.specs.Failing.{FailsIn, WritesIn};
@@ -14,8 +14,8 @@ use crate::change::OpenChange;
 use crate::reading::{counted_in, read_all, read_optional};
 use desk_records::{
     COUNT_TARGETS, DROP_TARGET_TAG, GET_TARGET, LIST_ALL_TARGETS, LIST_TAG_BETWEEN,
-    LIST_TAGS_BETWEEN, LIST_TARGET_TAGS, LIST_TARGETS_BETWEEN, ListedTarget, OwnedTag, PUT_TARGET,
-    PUT_TARGET_TAG, SET_TARGET, StoredTarget,
+    LIST_TAGS_BETWEEN, LIST_TARGET_IDS, LIST_TARGET_TAGS, LIST_TARGETS_BETWEEN, ListedTarget,
+    OwnedTag, PUT_TARGET, PUT_TARGET_TAG, SET_TARGET, StoredTarget,
 };
 use rollout_model::{ControllerId, Digest, Text, Word};
 use sql_calls::Fault;
@@ -96,6 +96,18 @@ impl<'a, S: Alter> OpenChange<'a, S> {
     {
         let alloc = self.store.alloc;
         let rows = self.ask(LIST_ALL_TARGETS, &[])?;
+        read_all(alloc, &rows)
+    }
+
+    /// The ids of all targets, in byte order. A row that breaks the column's rule is `Broken`.
+    pub fn read_target_ids(&mut self) -> Result<Vec<ControllerId>, Fault>
+        ensures stays { StaysIn S.Store self.old self.new result }
+        ensures reads { FindsIn S.Store self.old self.new result (λ r ids. ids.items ≡ ids_of r.targets) }
+        ensures fails { FailsIn S.Store self.old self.new result }
+        ensures work { self.new.store.now.calls.work.statements ≤ self.old.store.now.calls.work.statements + 1 }
+    {
+        let alloc = self.store.alloc;
+        let rows = self.ask(LIST_TARGET_IDS, &[])?;
         read_all(alloc, &rows)
     }
 
