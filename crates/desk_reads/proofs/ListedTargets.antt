@@ -22,7 +22,7 @@ all_given s t u xs all is given none = All-taken s xs (u, (t, given, none)) ∙ 
 
 -- ---- what is found by its id
 
-abbrev found : List Target → Target → Option Target
+abbrev pub found : List Target → Target → Option Target
 found all t = find (has_id t.id) all
 
 passes_by : (x : Target) (xs ys : List Target) → contains_word x.id (ids_of ys) ≡ false → map (found (x ∷ xs)) ys ≡ map (found xs) ys
@@ -41,23 +41,25 @@ module _ (r : Records) where
   all_seen [] is = refl
   all_seen (t ∷ ts) is = grind (arith, all_seen ts, one_seen)
 
+  all_found : are_sorted r.targets ≡ true → map (found r.targets) r.targets ≡ map Some r.targets
+  all_found sorted = finds_all r.targets (sorted_from (ids_of r.targets) (and_parts (in_byte_order (ids_of r.targets)) _ sorted).0)
+
+  -- a part of those that are found by their ids
+  pub part_found : (n m : ℕ) (ts : List Target) → map (found r.targets) ts ≡ map Some ts → map (found r.targets) (take n (drop m ts))
+      ≡ map Some (take n (drop m ts))
+  part_found n m ts is =
+      sym (take-map (found r.targets) n (drop m ts)) ∙ ap (take n) (sym (drop-map (found r.targets) m ts) ∙ ap (drop m) is ∙ drop-map Some m ts)
+      ∙ take-map Some n (drop m ts)
+
   -- a part of the targets, listed and then read by their ids
   pub part_seen : are_sorted r.targets ≡ true → (n m : ℕ) → map (target_listed r) (map listed_target (take n (drop m r.targets)))
       ≡ map seen (take n (drop m r.targets))
-  part_seen sorted n m =
-      let all = finds_all r.targets (sorted_from (ids_of r.targets) (and_parts (in_byte_order (ids_of r.targets)) _ sorted).0) in
-      let ts = drop m r.targets in
-      all_seen (take n ts) (sym (take-map (found r.targets) n ts) ∙ ap (take n) (sym (drop-map (found r.targets) m r.targets) ∙ ap (drop m) all
-      ∙ drop-map Some m r.targets) ∙ take-map Some n ts)
+  part_seen sorted n m = all_seen (take n (drop m r.targets)) (part_found n m r.targets (all_found sorted))
 
-  passing_found : (p : Target → Bool) (ts : List Target) → map (found r.targets) ts ≡ map Some ts → map (found r.targets) (filter p ts)
-      ≡ map Some (filter p ts)
-  passing_found p [] is = refl
-  passing_found p (t ∷ ts) is = grind (arith, passing_found p ts)
+  each_found : (p : Target → Bool) (ts : List Target) → map (found r.targets) ts ≡ map Some ts → map (found r.targets) (filter p ts) ≡ map Some (filter p ts)
+  each_found p [] is = refl
+  each_found p (t ∷ ts) is = grind (arith, each_found p ts)
 
-  -- .. those that pass a test
-  pub passing_seen : are_sorted r.targets ≡ true → (p : Target → Bool) → map (target_listed r) (map listed_target (filter p r.targets))
-      ≡ map seen (filter p r.targets)
-  passing_seen sorted p =
-      let all = finds_all r.targets (sorted_from (ids_of r.targets) (and_parts (in_byte_order (ids_of r.targets)) _ sorted).0) in
-      all_seen (filter p r.targets) (passing_found p r.targets all)
+  -- those that pass a test are found by their ids
+  pub passing_found : are_sorted r.targets ≡ true → (p : Target → Bool) → map (found r.targets) (filter p r.targets) ≡ map Some (filter p r.targets)
+  passing_found sorted p = each_found p r.targets (all_found sorted)

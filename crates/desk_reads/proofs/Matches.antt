@@ -11,7 +11,9 @@ use Rattle.desk_reads.proofs.Common.{add-one}
 use Rattle.std.proofs.Math.Seq.{take-add}
 use Rattle.std.specs.Int.{div_ceil}
 use Rattle.std.proofs.lemmas.Grind.{div_ceil_times}
-use Rattle.rollout_machine.specs.Filters.{seen}
+use Rattle.rollout_machine.specs.Filters.{matches}
+use Rattle.rollout_machine.specs.Rollouts.{chosen}
+use Rattle.rollout_machine.specs.Targets.{Target}
 use Rattle.rollout_model.specs.declared.target.Target.{Target as SeenTarget}
 use Rattle.target_filter.proofs.Naming.{holds_alike}
 use Rattle.target_filter.specs.Grammar.{Tree}
@@ -23,8 +25,8 @@ use Rattle.desk_records.specs.declared.target_row.OwnedTag.{OwnedTag}
 use Rattle.desk_reads.proofs.Owned.{all_so, like_again, no_lists}
 use Rattle.desk_reads.proofs.WordOrder.{order_dropped, order_taken}
 use Rattle.desk_reads.specs.Candidates.{AreCandidates}
-use Rattle.desk_reads.specs.Matches.{AreMatching, AreNamedAttributes, AreNamedTags, HasNamedAttributes, HasNamedTags, attributes_reads, entry_of}
-use Rattle.desk_reads.specs.Matches.{is_matched, reads_named, tags_reads}
+use Rattle.desk_reads.specs.Matches.{AreNamedAttributes, AreNamedTags, HasNamedAttributes, HasNamedTags, attributes_reads, ids_matched, is_matched}
+use Rattle.desk_reads.specs.Matches.{reads_named, tags_reads, those_matched}
 use Rattle.std.specs.Prelude.{flat_map}
 use Rattle.rollout_machine.specs.ByteStrings.{same_bytes}
 use Rattle.desk_records.proofs.Membership.{few_pass}
@@ -35,8 +37,8 @@ use Rattle.desk_reads.specs.Targets.{AreAttributesOf, AreEnds, AreTagsLike, HasI
 
 -- ---- what a filter names
 
--- what holds of the filter's tree holds of this one
-of_tree : {X : Type 0} (o : Option Tree) (f : Tree) (x : X) (of : Tree → X) → IsSomeAnd o (λ f. x ≡ of f) → o ≡ Some f → x ≡ of f
+-- what is computed of the filter's tree is that of this one
+pub of_tree : {X : Type 0} (o : Option Tree) (f : Tree) (x : X) (of : Tree → X) → IsSomeAnd o (λ f. x ≡ of f) → o ≡ Some f → x ≡ of f
 of_tree o f x of computed is = rw is at computed
 
 module _ (r : Records) (o : Option Tree) (ls : List ListedTarget) where
@@ -111,64 +113,50 @@ module _ (r : Records) (f : Tree) (tags : List OwnedTag) (attributes : List Owne
   matched_alike : (l : ListedTarget) → HasNamedTags r f tags l → HasNamedAttributes r f attributes l
       → holds f (own_listed tags attributes l) ≡ is_matched r f l
   matched_alike l tagged attributed =
-      holds_alike f (own_listed tags attributes l) (target_listed r l) (record { id = refl; name = refl; tags = tagged; attributes = attributed })
-
-  one_kept : (l : ListedTarget) (ts : List SeenTarget) (ls : List ListedTarget) → holds f (own_listed tags attributes l) ≡ is_matched r f l
-      → map entry_of (filter (holds f) ts) ≡ filter (is_matched r f) ls
-      → map entry_of (filter (holds f) (own_listed tags attributes l ∷ ts)) ≡ filter (is_matched r f) (l ∷ ls)
-  one_kept l ts ls same so_far = grind arith
+      holds_alike f (own_listed tags attributes l) (target_listed r l) (record { id = refl; name = λ names. refl; tags = tagged; attributes = attributed })
 
   pub kept_matched : (ls : List ListedTarget) → AllByRecursion (HasNamedTags r f tags) ls → AllByRecursion (HasNamedAttributes r f attributes) ls
-      → map entry_of (filter (holds f) (map (own_listed tags attributes) ls)) ≡ filter (is_matched r f) ls
+      → ids_matched f (map (own_listed tags attributes) ls) ≡ those_matched r f ls
   kept_matched [] tagged attributed = refl
-  kept_matched (l ∷ ls) tagged attributed =
-      one_kept l (map (own_listed tags attributes) ls) ls (matched_alike l tagged.0 attributed.0) (kept_matched ls tagged.1 attributed.1)
+  kept_matched (l ∷ ls) tagged attributed = grind (arith, matched_alike l tagged.0 attributed.0, kept_matched ls tagged.1 attributed.1)
 
 module _ (f : Tree) where
-  pub matched_more : (ts : List SeenTarget) (t : SeenTarget) → map entry_of (filter (holds f) (ts ++ t ∷ []))
-      ≡ map entry_of (filter (holds f) ts) ++ map entry_of (filter (holds f) (t ∷ []))
-  matched_more ts t = ap (map entry_of) (filter-append (holds f) ts (t ∷ [])) ∙ map-append entry_of (filter (holds f) ts) (filter (holds f) (t ∷ []))
+  pub matched_more : (ts : List SeenTarget) (t : SeenTarget) → ids_matched f (ts ++ t ∷ []) ≡ ids_matched f ts ++ ids_matched f (t ∷ [])
+  matched_more ts t = ap (map (λ (t : SeenTarget). t.id)) (filter-append (holds f) ts (t ∷ []))
+      ∙ map-append (λ (t : SeenTarget). t.id) (filter (holds f) ts) (filter (holds f) (t ∷ []))
 
--- its entry is added where it matches
+-- its id is added where it matches
 pub one_matched : (o : Option Tree) (f : Tree) (t : SeenTarget) (is_match : Bool) → IsSomeAnd o (λ f. is_match ≡ holds f t) → o ≡ Some f
-    → map entry_of (filter (holds f) (t ∷ [])) ≡ cond is_match (entry_of t ∷ []) []
+    → ids_matched f (t ∷ []) ≡ cond is_match (t.id ∷ []) []
 one_matched o f t is_match computed tree = let matched : is_match ≡ holds f t = (rw tree at computed) in grind (arith, matched)
 
 -- ---- of all targets
 
-listed_matched : (r : Records) (f : Tree) (ls : List ListedTarget) → map (target_listed r) (filter (is_matched r f) ls)
-    ≡ filter (holds f) (map (target_listed r) ls)
-listed_matched r f [] = refl
-listed_matched r f (l ∷ ls) = grind (arith, listed_matched r f ls)
+pub matching_are : (r : Records) (o : Option Tree) (ls : List ListedTarget) (ids : List Bytes) → IsSomeAnd o (λ f. AreCandidates r f ls)
+    → (in_byte_order (listed_ids ls) ≡ true → (f : Tree) → o ≡ Some f → ids ≡ those_matched r f ls) → IsSomeAnd o (λ f. ids ≡ chosen (Some f) r.targets)
+matching_are r None ls ids are is = absurd are
+matching_are r (Some f) ls ids are is = is are.ordered f refl ∙ are.matching
 
-pub matching_are : (r : Records) (o : Option Tree) (ls found : List ListedTarget) → IsSomeAnd o (λ f. AreCandidates r f ls)
-    → (in_byte_order (listed_ids ls) ≡ true → (f : Tree) → o ≡ Some f → found ≡ filter (is_matched r f) ls) → IsSomeAnd o (λ f. AreMatching r f found)
-matching_are r None ls found are is = absurd are
-matching_are r (Some f) ls found are is = ap (map (target_listed r)) (is are.ordered f refl) ∙ listed_matched r f ls ∙ are.matching
-
--- of the filter's tree
-pub matching_of : (r : Records) (o : Option Tree) (f : Tree) (found : List ListedTarget) → IsSomeAnd o (λ f. AreMatching r f found) → o ≡ Some f
-    → AreMatching r f found
-matching_of r o f found are is = rw is at are
-
--- whatever its tree is
-pub few_matching : (r : Records) (o : Option Tree) (found : List ListedTarget) → IsSomeAnd o (λ f. AreMatching r f found) → length found ≤ length r.targets
-few_matching r None found are = absurd are
-few_matching r (Some f) found are =
-    omega (arith, length-map found (target_listed r), ap length are, few_pass (holds f) (map seen r.targets), length-map r.targets seen)
+-- whatever the filter's tree is
+pub few_matching : (r : Records) (o : Option Tree) (ids : List Bytes) → IsSomeAnd o (λ f. ids ≡ chosen (Some f) r.targets) → length ids ≤ length r.targets
+few_matching r None ids are = absurd are
+few_matching r (Some f) ids are =
+    omega (arith, ap length are, length-map (filter (matches f) r.targets) (λ (t : Target). t.id), few_pass (matches f) r.targets)
 
 -- ---- part by part
 
 module _ (p : ListedTarget → Bool) (listed : List ListedTarget) where
-  pub next_kept : (k : ℕ) (found more part : List ListedTarget) → part ≡ take 100 (drop (k * 100) listed) → found ≡ filter p (take (k * 100) listed)
-      → more ≡ found ++ filter p part → more ≡ filter p (take ((k + 1) * 100) listed)
-  next_kept k found more part is was now = grind (arith, take-add (k * 100) 100 listed, filter-append)
+  abbrev kept : List ListedTarget → List Bytes
+  kept ls = listed_ids (filter p ls)
 
-  pub all_kept : (found : List ListedTarget) (k : ℕ) → k ≡ length listed / 100 + min 1 (length listed % 100) → found ≡ filter p (take (k * 100) listed)
-      → found ≡ filter p listed
-  all_kept found k end was =
+  pub next_kept : (k : ℕ) (ids more : List Bytes) (part : List ListedTarget) → part ≡ take 100 (drop (k * 100) listed) → ids ≡ kept (take (k * 100) listed)
+      → more ≡ ids ++ kept part → more ≡ kept (take ((k + 1) * 100) listed)
+  next_kept k ids more part is was now = grind (arith, take-add (k * 100) 100 listed, filter-append, map-append)
+
+  pub all_kept : (ids : List Bytes) (k : ℕ) → k ≡ length listed / 100 + min 1 (length listed % 100) → ids ≡ kept (take (k * 100) listed) → ids ≡ kept listed
+  all_kept ids k end was =
       let enough = (div_ceil_times (length listed) 100 (omega arith)).0 in
-      was ∙ ap (filter p) (take_all (k * 100) listed (omega (arith, end, enough)))
+      was ∙ ap kept (take_all (k * 100) listed (omega (arith, end, enough)))
 
 -- the next part is in byte order
 pub next_ordered : (listed : List ListedTarget) → in_byte_order (listed_ids listed) ≡ true → (k : ℕ) (part : List ListedTarget)

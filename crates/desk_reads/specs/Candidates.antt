@@ -1,20 +1,20 @@
 -- The targets among which those are that a filter matches.
-use Rattle.std.specs.Prelude.{◌≡◌, ◌≤◌, ◌+◌, ℕ, Bool, true, List, [], ◌∷◌, ◌++◌, filter, length, map}
+use Rattle.std.specs.Prelude.{◌≡◌, ◌≤◌, ◌+◌, ℕ, Bool, true, List, [], ◌∷◌, ◌++◌, filter, length, map, Some}
 use Rattle.rollout_machine.specs.Commands.{Bytes}
-use Rattle.rollout_machine.specs.Filters.{seen}
 use Rattle.rollout_machine.specs.Records.{Records}
+use Rattle.rollout_machine.specs.Rollouts.{chosen}
 use Rattle.rollout_machine.specs.Targets.{Target}
 use Rattle.target_filter.specs.Grammar.{Tree}
-use Rattle.target_filter.specs.Meaning.{holds}
 use Rattle.target_filter.specs.Names.{BeginsWith}
 use Rattle.desk_records.specs.TargetRow.{listed_target}
 use Rattle.desk_records.specs.Targets.{in_byte_order}
 use Rattle.desk_records.specs.declared.target_row.ListedTarget.{ListedTarget}
-use Rattle.desk_reads.specs.Targets.{listed_ids, target_listed}
+use Rattle.desk_reads.specs.Matches.{those_matched}
+use Rattle.desk_reads.specs.Targets.{listed_ids}
 
--- Those that match of the listed targets are those that match of all. They were listed in byte order of their ids, and are no more than all.
+-- The listed targets that match have the ids of all that match. They were listed in byte order of their ids, and are no more than all.
 pub record AreCandidates (r : Records) (f : Tree) (ls : List ListedTarget) : Type 0 where
-  pub matching : filter (holds f) (map (target_listed r) ls) ≡ filter (holds f) (map seen r.targets)
+  pub matching : those_matched r f ls ≡ chosen (Some f) r.targets
   pub ordered : in_byte_order (listed_ids ls) ≡ true
   pub few : length ls ≤ length r.targets
 

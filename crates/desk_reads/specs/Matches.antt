@@ -2,7 +2,7 @@
 use Rattle.std.specs.Prelude.{◌≡◌, ℕ, ◌+◌, ◌*◌, Bool, true, cond, List, filter, map, Option, Some, None}
 use Rattle.std.specs.Int.{div_ceil}
 use Rattle.std.specs.List.{AllByRecursion}
-use Rattle.rollout_machine.specs.Filters.{seen}
+use Rattle.rollout_machine.specs.Commands.{Bytes}
 use Rattle.rollout_machine.specs.Records.{Records}
 use Rattle.rollout_machine.specs.Verdicts.{tags_of, target_of}
 use Rattle.rollout_model.specs.declared.target.Target.{Target}
@@ -19,21 +19,13 @@ use Rattle.desk_reads.specs.Targets.{AreLists, attribute_ids, listed_ids, own_at
 abbrev pub is_matched : Records → Tree → ListedTarget → Bool
 is_matched r f l = holds f (target_listed r l)
 
--- they are all that the filter matches, in the order of their ids
-abbrev pub AreMatching : Records → Tree → List ListedTarget → Type 0
-AreMatching r f ls = map (target_listed r) ls ≡ filter (holds f) (map seen r.targets)
+-- the ids of those of the listed targets that it matches
+abbrev pub those_matched : Records → Tree → List ListedTarget → List Bytes
+those_matched r f ls = listed_ids (filter (is_matched r f) ls)
 
--- a target by its id and name
-abbrev pub entry_of : Target → ListedTarget
-entry_of t = record { id = t.id; name = t.name }
-
--- those of the listed targets that it matches
-abbrev pub those_matched : Records → Tree → List ListedTarget → List ListedTarget
-those_matched r f ls = filter (is_matched r f) ls
-
--- .. and of these targets, by their ids and names
-abbrev pub entries_matched : Tree → List Target → List ListedTarget
-entries_matched f ts = map entry_of (filter (holds f) ts)
+-- .. and of those of these targets
+abbrev pub ids_matched : Tree → List Target → List Bytes
+ids_matched f ts = map (λ (t : Target). t.id) (filter (holds f) ts)
 
 -- ---- what a filter names of listed targets
 

@@ -7,16 +7,18 @@ ghost use Rattle.sql_calls.specs.declared.fault.Fault.TheVariants.{Memory};
 ghost use Rattle.target_filter.specs.Profile.{filter_of};
 ghost use Rattle.desk_reads.specs.AtLists.{FailsAtListsIn};
 ghost use Rattle.desk_reads.specs.Candidates.{AreBegun, AreCandidates, IsNextTo};
+ghost use Rattle.desk_reads.specs.Targets.{listed_ids};
 ghost use Rattle.desk_store.specs.Changing.{FindsIn, StaysIn};
 
 use desk_store::{Fault, ListedTarget, OpenChange};
+use rollout_model::{ControllerId, Text};
 use sqlite::Alter;
 use std::alloc::Global;
 use std::str;
 use target_filter::Filter;
 
-/// Targets by their ids and names, in byte order of their ids, and among them all that match: where the filter says how an id
-/// begins, few others are read. By one statement.
+/// Targets in byte order of their ids, and among them all that match: where the filter says how an id begins, few others are read. By
+/// one statement, which reads ids alone where the filter neither says that nor names names.
 pub(crate) fn read_candidates<S: Alter>(
     change: &mut OpenChange<'_, S>,
     filter: &Filter,
@@ -28,7 +30,28 @@ pub(crate) fn read_candidates<S: Alter>(
     ensures work { change.new.store.now.calls.work.statements ≤ change.old.store.now.calls.work.statements + 1 }
 {
     let start = filter.id_start();
+    if start.is_empty() && !filter.names_names() {
+        let ids = change.read_target_ids()?;
+        let all = unnamed(change.alloc(), ids)?;
+        return Ok(all);
+    }
     let listed = read_begun(change, start)?;
+    Ok(listed)
+}
+
+/// The targets of these ids, each under a name that stands for any.
+fn unnamed(alloc: Global, ids: Vec<ControllerId>) -> Result<Vec<ListedTarget>, Fault>
+    ensures ok { IfOk result (λ listed. listed_ids listed.items ≡ ids.items) }
+    ensures err { IfErr result (λ fault. fault ≡ Memory) }
+{
+    let mut listed = Vec::new(alloc);
+    for id in ids {
+        let name = Text::read(alloc, "-")?;
+        listed.push(ListedTarget {
+            id,
+            name: name.unwrap(),
+        })?;
+    }
     Ok(listed)
 }
 

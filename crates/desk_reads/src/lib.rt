@@ -10,4 +10,4 @@ mod targets;
 pub use crate::devices::knows_device;
 pub use crate::matching::read_matching;
 pub use crate::rollouts::{SeenRollout, read_seen_rollout, size_of};
-pub use crate::targets::{ids_of, read_all_listed, read_listed};
+pub use crate::targets::{read_all_listed, read_listed};

@@ -2,17 +2,17 @@
 
 ghost use Rattle.std.specs.Prelude.{◌≡◌, ◌≤◌, ◌+◌, ◌++◌, [], ◌∷◌, Some, drop, length, take, true, IfErr, IfOk};
 ghost use Rattle.std.specs.Option.{IsSomeAnd};
+ghost use Rattle.rollout_machine.specs.Rollouts.{chosen};
 ghost use Rattle.sql_calls.specs.declared.fault.Fault.TheVariants.{Memory};
 ghost use Rattle.target_filter.specs.Grammar.{Tree};
 ghost use Rattle.target_filter.specs.Profile.{filter_of};
 ghost use Rattle.desk_records.specs.Targets.{in_byte_order};
 ghost use Rattle.desk_reads.specs.AtLists.{FailsAtListsIn};
 ghost use Rattle.desk_reads.specs.Matches.{
-  AreMatching,
   AreNamedAttributes,
   AreNamedTags,
   attributes_reads,
-  entries_matched,
+  ids_matched,
   reads_named,
   tags_reads,
   those_matched,
@@ -23,7 +23,7 @@ ghost use Rattle.desk_store.specs.Changing.{FindsIn, StaysIn};
 use crate::candidates::read_candidates;
 use crate::targets::{attributes_of_all, ends_of, tags_of_all, with_own};
 use desk_store::{Fault, ListedTarget, OpenChange, OwnedAttribute, OwnedTag};
-use rollout_model::Target;
+use rollout_model::{ControllerId, Target};
 use sqlite::Alter;
 use std::alloc::Global;
 use std::collections::VecDeque;
@@ -33,46 +33,46 @@ use target_filter::Filter;
 /// How many targets one statement reads the tags of, or the attributes.
 const PART: usize = 100;
 
-/// The targets that a filter matches, by their ids and names, in byte order of their ids. No more is read of the others than the filter
-/// names.
+/// The ids of the targets that a filter matches, in byte order. No more is read of any target than the filter names.
 pub fn read_matching<S: Alter>(
     change: &mut OpenChange<'_, S>,
     filter: &Filter,
-) -> Result<Vec<ListedTarget>, Fault>
+) -> Result<Vec<ControllerId>, Fault>
     ensures stays { StaysIn S.Store change.old change.new result }
     ensures reads { FindsIn S.Store change.old change.new result
-        (λ now found. IsSomeAnd (filter_of filter.now) (λ f. AreMatching now f found.items)) }
+        (λ now ids. IsSomeAnd (filter_of filter.now) (λ f. ids.items ≡ chosen (Some f) now.targets)) }
     ensures fails { FailsAtListsIn S.Store change.old change.new result }
     ensures work { FindsIn S.Store change.old change.new result (λ now _. change.new.store.now.calls.work.statements
         ≤ change.old.store.now.calls.work.statements + (1 + reads_named (filter_of filter.now) (length now.targets))) }
 {
     let listed = read_candidates(change, filter)?;
-    let found = keep_all(change, filter, listed)?;
-    Ok(found)
+    let ids = keep_all(change, filter, listed)?;
+    Ok(ids)
 }
 
-/// Those of the targets, listed in byte order of their ids, that a filter matches: by two statements at most for up to 100 of them.
+/// The ids of those of the targets, listed in byte order of their ids, that a filter matches: by two statements at most for up to 100 of
+/// them.
 fn keep_all<S: Alter>(
     change: &mut OpenChange<'_, S>,
     filter: &Filter,
     listed: Vec<ListedTarget>,
-) -> Result<Vec<ListedTarget>, Fault>
+) -> Result<Vec<ControllerId>, Fault>
     ensures stays { StaysIn S.Store change.old change.new result }
     ensures reads { FindsIn S.Store change.old change.new result
-        (λ now found. in_byte_order (listed_ids listed.items) ≡ true → (f : Tree) → filter_of filter.now ≡ Some f
-        → found.items ≡ those_matched now f listed.items) }
+        (λ now ids. in_byte_order (listed_ids listed.items) ≡ true → (f : Tree) → filter_of filter.now ≡ Some f
+        → ids.items ≡ those_matched now f listed.items) }
     ensures fails { FailsAtListsIn S.Store change.old change.new result }
     ensures work { IfOk result (λ _. change.new.store.now.calls.work.statements ≤ change.old.store.now.calls.work.statements
         + reads_named (filter_of filter.now) (length listed.items)) }
 {
-    let mut found = Vec::new(change.alloc());
+    let mut ids = Vec::new(change.alloc());
     let parts = listed.len().div_ceil(PART);
     let mut left = VecDeque::from(listed);
     for _ in 0..parts {
         let part = take_part(change.alloc(), &mut left)?;
-        keep_part(change, filter, part, &mut found)?;
+        keep_part(change, filter, part, &mut ids)?;
     }
-    Ok(found)
+    Ok(ids)
 }
 
 /// Takes as many off the front as one statement reads what they have. Those that are left stay where they are.
@@ -90,17 +90,17 @@ fn take_part(alloc: Global, left: &mut VecDeque<ListedTarget>) -> Result<Vec<Lis
     Ok(part)
 }
 
-/// Adds those of a part of the listed targets that the filter matches.
+/// Adds the ids of those of a part of the listed targets that the filter matches.
 fn keep_part<S: Alter>(
     change: &mut OpenChange<'_, S>,
     filter: &Filter,
     part: Vec<ListedTarget>,
-    found: &mut Vec<ListedTarget>,
+    ids: &mut Vec<ControllerId>,
 ) -> Result<(), Fault>
     ensures stays { StaysIn S.Store change.old change.new result }
     ensures reads { FindsIn S.Store change.old change.new result
         (λ now _. in_byte_order (listed_ids part.items) ≡ true → (f : Tree) → filter_of filter.now ≡ Some f
-        → found.new.items ≡ found.old.items ++ those_matched now f part.items) }
+        → ids.new.items ≡ ids.old.items ++ those_matched now f part.items) }
     ensures fails { FailsAtListsIn S.Store change.old change.new result }
     ensures work { change.new.store.now.calls.work.statements ≤ change.old.store.now.calls.work.statements
         + (tags_reads (filter_of filter.now) + attributes_reads (filter_of filter.now)) }
@@ -108,7 +108,7 @@ fn keep_part<S: Alter>(
     let tags = named_tags(change, filter, &part)?;
     let attributes = named_attributes(change, filter, &part)?;
     let targets = with_own(change.alloc(), part, &tags, &attributes)?;
-    add_matching(filter, targets, found)?;
+    add_matching(filter, targets, ids)?;
     Ok(())
 }
 
@@ -176,35 +176,31 @@ fn named_attributes<S: Alter>(
     Ok(all)
 }
 
-/// Adds those of the targets that the filter matches, by their ids and names.
+/// Adds the ids of those of the targets that the filter matches.
 fn add_matching(
     filter: &Filter,
     targets: Vec<Target>,
-    found: &mut Vec<ListedTarget>,
+    ids: &mut Vec<ControllerId>,
 ) -> Result<(), Fault>
     ensures ok { IfOk result (λ _. (f : Tree) → filter_of filter.now ≡ Some f
-        → found.new.items ≡ found.old.items ++ entries_matched f targets.items) }
+        → ids.new.items ≡ ids.old.items ++ ids_matched f targets.items) }
     ensures err { IfErr result (λ fault. fault ≡ Memory) }
 {
     for target in targets {
-        add_if_match(filter, target, found)?;
+        add_if_match(filter, &target, ids)?;
     }
     Ok(())
 }
 
-/// Adds a target, if the filter matches it.
-fn add_if_match(filter: &Filter, target: Target, found: &mut Vec<ListedTarget>) -> Result<(), Fault>
+/// Adds the id of a target, if the filter matches it.
+fn add_if_match(filter: &Filter, target: &Target, ids: &mut Vec<ControllerId>) -> Result<(), Fault>
     ensures ok { IfOk result (λ _. (f : Tree) → filter_of filter.now ≡ Some f
-        → found.new.items ≡ found.old.items ++ entries_matched f (target ∷ [])) }
+        → ids.new.items ≡ ids.old.items ++ ids_matched f (target.now ∷ [])) }
     ensures err { IfErr result (λ fault. fault ≡ Memory) }
 {
-    let matches = filter.matches(&target);
-    if !matches {
+    if !filter.matches(target) {
         return Ok(());
     }
-    let Target { id, name, .. } = target;
-    match found.push(ListedTarget { id, name }) {
-        Ok(()) => Ok(()),
-        Err(_) => Err(Fault::Memory),
-    }
+    ids.push(target.id)?;
+    Ok(())
 }

@@ -15,18 +15,6 @@ use sqlite::Alter;
 use std::alloc::Global;
 use std::cmp::Ordering;
 
-/// The ids of targets that were listed.
-pub fn ids_of(alloc: Global, listed: Vec<ListedTarget>) -> Result<Vec<ControllerId>, Fault>
-    ensures ok { IfOk result (λ ids. ids.items ≡ listed_ids listed.items) }
-    ensures err { IfErr result (λ fault. fault ≡ Memory) }
-{
-    let mut ids = Vec::new(alloc);
-    for entry in listed {
-        ids.push(entry.id)?;
-    }
-    Ok(ids)
-}
-
 /// A target that was listed, with its tags and its attributes: by two statements.
 pub fn read_listed<S: Alter>(
     change: &mut OpenChange<'_, S>,

@@ -12,7 +12,7 @@ loop-init g c = record {
   fails = search rules;
   left = c.from-left.ensures.0;
   work = omega arith;
-  reads = known (λ r ordered f tree. c.new-found.ensures.items);
+  reads = known (λ r ordered f tree. c.new-ids.ensures.items);
 }
 
 pub loop-preserved : goal.loop-preserved
@@ -24,13 +24,13 @@ loop-preserved g c =
       left = next_left c.loop.counter c.args.listed.items c.loop.left.items _ c.loop.invariant.left c.in_ok-part.ensures.left;
       work = one_part_more _ _ _ _ c.loop.counter c.loop.invariant.work c.in_ok-keep_part.ensures.work;
       reads = finds_as (both_found c.loop.invariant.reads c.in_ok-keep_part.ensures.reads)
-          (λ r is ordered f tree. next_kept (is_matched r f) c.args.listed.items c.loop.counter c.loop.found.items _ c.in_ok-part.part.items part
+          (λ r is ordered f tree. next_kept (is_matched r f) c.args.listed.items c.loop.counter c.loop.ids.items _ c.in_ok-part.part.items part
           (is.0 ordered f tree) (is.1 (next_ordered c.args.listed.items ordered c.loop.counter c.in_ok-part.part.items part) f tree));
     }
 
 pub returns-clause-reads : goal.returns-clause-reads
 returns-clause-reads g c = finds_as c.loop.invariant.reads (λ r is ordered f tree.
-    all_kept (is_matched r f) c.args.listed.items c.loop.found.items c.loop.counter
+    all_kept (is_matched r f) c.args.listed.items c.loop.ids.items c.loop.counter
     (omega (arith, c.loop-test.false, c.loop.auto.counter-end, c.div_ceil-parts.ensures)) (is ordered f tree))
 
 pub returns-clause-work : goal.returns-clause-work

@@ -1,11 +1,10 @@
-use Rattle.desk_reads.proofs.Common.{ap, ◌∙◌, both_found, finds_as, inl, inr, map}
+use Rattle.desk_reads.proofs.Common.{ap, ◌∙◌, both_found, finds_as, inl, inr}
 use Rattle.std.proofs.Common.{rules}
-use Rattle.std.specs.Prelude.{◌++◌, filter}
-use Rattle.target_filter.specs.Meaning.{holds}
+use Rattle.std.specs.Prelude.{◌++◌}
 use Rattle.desk_reads.proofs.ListFailLemmas.{fails_never_at, fails_out}
 use Rattle.desk_reads.proofs.Matches.{kept_matched}
 use Rattle.desk_reads.proofs.Owned.{never_wrong}
-use Rattle.desk_reads.specs.Matches.{entry_of}
+use Rattle.desk_reads.specs.Matches.{ids_matched}
 use Rattle.desk_reads.proofs.matching.keep_part.Goals as goal
 
 pub returns-clause-reads : goal.returns-clause-reads
@@ -13,8 +12,8 @@ returns-clause-reads g c =
     finds_as (both_found c.in_ok-tags.ensures.reads c.in_ok-attributes.ensures.reads)
     (λ r is ordered f tree.
     let own = (rw (c.deref-3.ensures.value, c.deref-4.ensures.value) at c.in_ok-targets.ensures.ok) ordered is.0.rise is.1.rise in
-    c.in_ok-add_matching.ensures.ok f tree ∙ ap (λ ts. c.args.found.now.items ++ map entry_of (filter (holds f) ts)) own
-    ∙ ap (λ ls. c.args.found.now.items ++ ls) (kept_matched r f c.in_ok-tags.tags.items c.in_ok-attributes.attributes.items c.args.part.items
+    c.in_ok-add_matching.ensures.ok f tree ∙ ap (λ ts. c.args.ids.now.items ++ ids_matched f ts) own
+    ∙ ap (λ ids. c.args.ids.now.items ++ ids) (kept_matched r f c.in_ok-tags.tags.items c.in_ok-attributes.attributes.items c.args.part.items
     ((rw c.deref.ensures.value at is.0).each f tree ordered) ((rw c.deref-2.ensures.value at is.1).each f tree ordered)))
 
 -- what each target's own tags are is a list of tags
