@@ -8,7 +8,7 @@ use Rattle.sql_front.proofs.Upsert.{key_found}
 use Rattle.sql_calls.proofs.KeyConflicts.{HasKeyIndex, key_index, key_only}
 use Rattle.desk_records.proofs.Comparisons.{numbers_at_least, numbers_at_most, numbers_equal}
 use Rattle.desk_records.proofs.GroupOffersMeaning.{in_group, group_columns, group_query, taking_query, put_group_offers_command}
-use Rattle.desk_records.proofs.OfferPuts.{puts_all, source_of}
+use Rattle.desk_records.proofs.OfferPuts.{puts_several, source_of}
 use Rattle.desk_records.proofs.OfferWrites.{offers_after}
 use Rattle.desk_records.proofs.MeaningWords.{no_offset}
 
@@ -71,7 +71,7 @@ offers_group number bounds old new text count l next holds change w =
     numbered_in_order (action_row l.records.rollouts) (λ n x. refl) from in_group group_columns (lit (Int _)) no_offset params old.now.trees zs
     (holds.rows Actions) made.sources answer
     ∙ shows_offers l.records number bounds 1 l.records.actions l.tallies change.tallied in
-    let held = puts_all old.now.schema spot.tree key _ _ _ (group_offers l.records number bounds) l.offers old.now.trees new.now.trees (holds.rows Offers)
+    let held = puts_several old.now.schema spot.tree key _ _ _ (group_offers l.records number bounds) l.offers old.now.trees new.now.trees (holds.rows Offers)
     (subst (λ rs. PutsEach old.now.schema table params (Some (1 ∷ [])) (Some (record { lets = []; body = taking_query spot.tree })) rs old.now.trees
     new.now.trees) sources made.puts) in
     let others = all_from _ old.now.schema.tables

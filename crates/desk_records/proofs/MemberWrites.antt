@@ -38,11 +38,11 @@ adds_members terms (suc k) place ids puts old new text count l next holds change
     (λ tree. refl) (member_rows (suc k) place ids) (λ tree. puts tree (suc k) place) (λ tree. cast_members tree (suc k) place ids) refl refl
     (parts_are_more member_row (λ (z : RolloutRecord). z.members) x y ids refl k place xs change.is_there change.place_is))
 
-pub adds_one : (number place : ℕ) (id : Bytes) (old new : State) (text : List ℕ) (count : ℕ) (l next : Ledger) (holds : HoldsLedger old.now l)
+pub adds_member : (number place : ℕ) (id : Bytes) (old new : State) (text : List ℕ) (count : ℕ) (l next : Ledger) (holds : HoldsLedger old.now l)
     → AddsMembers number place (id ∷ []) l next
     → (w : Writes old new None (Insert (holds.spot Members).at (Values member_terms 4)) text (members_given number place (id ∷ [])) count)
     → HoldsLedger new.now next
-adds_one number place id = adds_members member_terms number place (id ∷ []) (λ tree number place. refl)
+adds_member number place id = adds_members member_terms number place (id ∷ []) (λ tree number place. refl)
 
 -- ---- sixteen
 

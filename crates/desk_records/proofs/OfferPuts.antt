@@ -201,10 +201,10 @@ module _ (schema : Schema) (tree : ℕ) (key : IsKeyOnly schema (offer_table tre
 abbrev pub source_of : TargetOffer → Row
 source_of o = Null ∷ offer_row o
 
-pub puts_all : (schema : Schema) (tree : ℕ) → IsKeyOnly schema (offer_table tree) 1
+pub puts_several : (schema : Schema) (tree : ℕ) → IsKeyOnly schema (offer_table tree) 1
     → (a b c : Value) (os : List TargetOffer) (offers : OffersById) (db next : Trees) → HoldsOffers (db tree) offers
     → PutsEach schema (offer_table tree) (a ∷ b ∷ c ∷ []) (Some (1 ∷ [])) (Some (record { lets = []; body = taking_query tree })) (map source_of os) db next
     → HoldsOffers (next tree) (put_offers offers os)
-puts_all schema tree key a b c [] offers db next h each = subst (λ (d : Trees). HoldsOffers (d tree) offers) (sym each) h
-puts_all schema tree key a b c (o ∷ os) offers db next h each =
-    puts_all schema tree key a b c os (put_offer offers o) each.0 next (puts_one schema tree key a b c o offers db h each.0 each.1) each.2
+puts_several schema tree key a b c [] offers db next h each = subst (λ (d : Trees). HoldsOffers (d tree) offers) (sym each) h
+puts_several schema tree key a b c (o ∷ os) offers db next h each =
+    puts_several schema tree key a b c os (put_offer offers o) each.0 next (puts_one schema tree key a b c o offers db h each.0 each.1) each.2

@@ -23,7 +23,7 @@ pub use Rattle.desk_store.proofs.FailLemmas.{all_fails, first_fails, first_tells
 pub use Rattle.desk_store.proofs.GroupOfferCalls.{knows_put_group_offers}
 pub use Rattle.desk_store.proofs.MemberActionCalls.{knows_put_actions}
 pub use Rattle.desk_store.proofs.MemberCalls.{pushed}
-pub use Rattle.desk_store.proofs.Common.{adds_one, adds_sixteen}
+pub use Rattle.desk_store.proofs.Common.{adds_member, adds_sixteen}
 pub use Rattle.desk_store.proofs.Known.{in_ledgers, known}
 pub use Rattle.desk_store.proofs.LedgerReads.{both_mapped}
 pub use Rattle.desk_store.proofs.NextOfferCalls.{next_offer_read}

@@ -47,7 +47,7 @@ pub use Rattle.desk_records.proofs.ArtifactMeaning.{all_columns, find_artifact_i
 pub use Rattle.desk_records.proofs.ArtifactMeaning.{list_artifacts_is, put_artifact_is, put_piece_is}
 pub use Rattle.desk_records.proofs.GroupOfferWrites.{offers_group, offers_keyed}
 pub use Rattle.desk_records.proofs.MemberActionWrites.{adds_actions}
-pub use Rattle.desk_records.proofs.MemberWrites.{adds_one, adds_sixteen}
+pub use Rattle.desk_records.proofs.MemberWrites.{adds_member, adds_sixteen}
 pub use Rattle.desk_records.proofs.LedgerWrites.{adds_rollout, sets_action, sets_rollout}
 pub use Rattle.desk_records.proofs.NumberColumns.{is_number_in, number_in_good, number_in_is, number_is}
 pub use Rattle.desk_records.proofs.OfferWrites.{drops_offer, sets_offer}
