@@ -3,27 +3,20 @@ use Rattle.desk_commands.proofs.Common.{◌≡◌, ◌<◌, ℕ, zero, suc, ◌+
 use Rattle.desk_commands.proofs.Common.{set, slice_get, Some, None, refl, sym, ap, subst, ◌∙◌, arith, list_all, and_parts, nat_tests, length-append}
 use Rattle.desk_commands.proofs.Common.{length-map, length-take-le, map-append, command_reply, item_numbered, CommandList, Bytes, CreateRollout}
 use Rattle.desk_commands.proofs.Common.{RolloutPlan, GroupRule, rule_at, rules_of, first_offer, Records, action_in, rollouts_in, new_group, new_rollout}
-use Rattle.desk_commands.proofs.Common.{step_records, bounds_at, chosen, rollouts, RolloutWord, Target, IsValid, check, reply_of, Bounds, ActionRecord}
-use Rattle.desk_commands.proofs.Common.{RolloutRecord, each_from_more, length_each, numbered_each, Tree, filter_of, IsPlanView, approval_at, plan_refusal}
+use Rattle.desk_commands.proofs.Common.{step_records, bounds_at, chosen, rollouts, RolloutWord, IsValid, check, reply_of, Bounds, ActionRecord}
+use Rattle.desk_commands.proofs.Common.{RolloutRecord, each_from_more, length_each, numbered_each, filter_of, IsPlanView, approval_at, plan_refusal}
 use Rattle.desk_commands.proofs.Common.{Ledger, ledger_of, AddsGroup, AddsMembers, AddsRule, cut_group, set_numbered, with_rollouts, with_rules}
-use Rattle.desk_commands.proofs.Common.{same_ledger, target_listed, CreatesRollout, IsChosen, IsWordOf, and_rollout}
+use Rattle.desk_commands.proofs.Common.{same_ledger, CreatesRollout, IsChosen, IsWordOf, and_rollout}
 use Rattle.desk_commands.proofs.Common.{in_part, shown_new, invariant_of, not-true}
 use Rattle.rollout_machine.specs.Records.{records}
 use Rattle.std.proofs.lemmas.Option.{slice_get-get_or, slice_get_within}
 use Rattle.rollout_machine.specs.Actions.{ActionPlace, action_places}
-use Rattle.rollout_machine.specs.Filters.{seen}
 use Rattle.rollout_machine.specs.Groupings.{bounds_by, cut_by}
 use Rattle.rollout_machine.specs.Rollouts.{Rollout as MadeRollout}
 use Rattle.rollout_model.specs.declared.request.Reply.TheVariants as reply
 use Rattle.rollout_model.specs.declared.rollout.Rollout.{Rollout}
-use Rattle.rollout_model.specs.declared.target.Target.{Target as SeenTarget}
-use Rattle.target_filter.specs.Meaning.{holds}
 use Rattle.campaign_core.specs.declared.rollout_checks.plans.NewRollout.{NewRollout}
 use Rattle.campaign_core.specs.declared.rollout_checks.plans.PlanView.{PlanView}
-use Rattle.desk_records.specs.declared.target_row.ListedTarget.{ListedTarget}
-use Rattle.desk_reads.specs.Matches.{AreMatching}
-use Rattle.desk_reads.specs.Targets.{listed_ids}
-use Rattle.std.specs.Prelude.{filter}
 use Rattle.desk_commands.specs.declared.creation.Chosen.{Chosen}
 use Rattle.std.proofs.lemmas.List.{append-nil, append_assoc, length-drop}
 use Rattle.std.proofs.Math.Seq.{take-add}
@@ -38,21 +31,6 @@ use Rattle.rollout_machine.specs.Ranges.{each_from}
 -- what is said of so many of its groups
 abbrev pub first_rules : RolloutPlan → ℕ → List GroupRule
 first_rules plan groups = each_from (rule_at plan) 1 groups
-
--- ---- the members
-
-ids_seen : (f : Tree) (ts : List Target) → map (λ (t : SeenTarget). t.id) (filter (holds f) (map seen ts)) ≡ chosen (Some f) ts
-ids_seen f [] = refl
-ids_seen f (t ∷ ts) = grind (arith, ids_seen f ts)
-
-ids_again : (r : Records) (ls : List ListedTarget) → listed_ids ls ≡ map (λ (t : SeenTarget). t.id) (map (target_listed r) ls)
-ids_again r [] = refl
-ids_again r (l ∷ ls) = ap (λ ids. l.id ∷ ids) (ids_again r ls)
-
--- the ids of those that match are those of all targets that do
-pub all_chosen : (r : Records) (f : Tree) (ls : List ListedTarget) → AreMatching r f ls → (ids : List Bytes) → ids ≡ listed_ids ls
-    → ids ≡ chosen (Some f) r.targets
-all_chosen r f ls are ids is = is ∙ ids_again r ls ∙ ap (map (λ (t : SeenTarget). t.id)) are ∙ ids_seen f r.targets
 
 -- ---- the verdict
 

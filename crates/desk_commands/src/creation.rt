@@ -1,13 +1,10 @@
 //! Rollouts: creating one.
 
-ghost use Rattle.std.specs.Prelude.{◌≡◌, ◌≤◌, ◌+◌, ◌*◌, ◌/◌, ◌%◌, ◌++◌, [], ◌∷◌, length, IfErr, IfOk, IfSome, Some};
+ghost use Rattle.std.specs.Prelude.{◌≡◌, ◌≤◌, ◌+◌, ◌*◌, ◌/◌, ◌%◌, ◌++◌, [], ◌∷◌, length, IfErr, IfOk, IfSome};
 ghost use Rattle.sql_calls.specs.declared.fault.Fault.TheVariants.{Memory};
 ghost use Rattle.rollout_machine.specs.Commands.{CreateRollout};
 ghost use Rattle.rollout_machine.specs.GroupRules.{rules_of};
 ghost use Rattle.rollout_machine.specs.Groupings.{cut_by};
-ghost use Rattle.rollout_machine.specs.Rollouts.{chosen};
-ghost use Rattle.target_filter.specs.Grammar.{Tree};
-ghost use Rattle.target_filter.specs.Profile.{filter_of};
 ghost use Rattle.campaign_core.specs.RolloutChecks.{IsPlanView};
 ghost use Rattle.desk_commands.specs.Creations.{CreatesRollout, IsChosen, IsWordOf, in_part, shown_new};
 ghost use Rattle.desk_records.specs.LedgerSteps.{AddsMembers};
@@ -20,7 +17,7 @@ ghost use Rattle.desk_store.specs.Failing.{WritesIn};
 
 use crate::step::Step;
 use campaign_core::{NewRollout, PlanView, cut_grouping, new_rollout};
-use desk_reads::{ids_of, read_matching};
+use desk_reads::read_matching;
 use desk_store::{Fault, OpenChange};
 use rollout_machine::Bounds;
 use rollout_model::{
@@ -37,22 +34,6 @@ pub(crate) struct Chosen {
     pub bad_filter: bool,
     /// In byte order of their ids.
     pub members: Vec<ControllerId>,
-}
-
-/// The ids of all targets that match.
-fn all_matching<S: Alter>(
-    alloc: Global,
-    change: &mut OpenChange<'_, S>,
-    filter: &Filter,
-) -> Result<Vec<ControllerId>, Fault>
-    ensures stays { StaysIn S.Store change.old change.new result }
-    ensures reads { FindsIn S.Store change.old change.new result
-        (λ r members. (f : Tree) → filter_of filter.now ≡ Some f → members.items ≡ chosen (Some f) r.targets) }
-    ensures fails { FailsAtListsIn S.Store change.old change.new result }
-{
-    let found = read_matching(change, filter)?;
-    let members = ids_of(alloc, found)?;
-    Ok(members)
 }
 
 /// The targets that the filter of a text chooses.
@@ -77,7 +58,7 @@ fn choose<S: Alter>(
         }
     };
     laws::computed_filter();
-    let members = all_matching(alloc, change, &filter)?;
+    let members = read_matching(change, &filter)?;
     Ok(Chosen {
         bad_filter: false,
         members,

@@ -1,18 +1,17 @@
 -- From typed reads of targets to pages of them.
 use Rattle.desk_views.proofs.Common.{◌≡◌, ℕ, true, List, [], ◌∷◌, map, filter, length}
-use Rattle.desk_views.proofs.Common.{take, drop, Some, None, refl, sym, ap, ◌∙◌, arith, Vec, drop_all}
-use Rattle.desk_views.proofs.Common.{Global, query_reply, targets_matching, Bytes, matches, seen, page_of}
-use Rattle.desk_views.proofs.Common.{target_shown, targets_shown, Records, PageOf, TargetsShown, Page, ShowTargets, Target, listed, reply_of, shown_target}
+use Rattle.desk_views.proofs.Common.{take, drop, Some, None, refl, sym, ap, ◌∙◌, arith, Vec}
+use Rattle.desk_views.proofs.Common.{Global, query_reply, targets_matching, Bytes, chosen, matches, seen, page_of, targets_of}
+use Rattle.desk_views.proofs.Common.{target_shown, targets_shown, Records, PageOf, TargetsShown, Page, ShowTargets, Target, reply_of, shown_target}
 use Rattle.desk_views.proofs.Common.{ShownTarget, Tree, filter_of, listed_target, IsContentOf, matching_shown, worded, target_listed, part_seen}
-use Rattle.desk_views.proofs.Common.{ListedTarget, cases_lt, inl, inr, length-map}
+use Rattle.desk_views.proofs.Common.{ListedTarget, length-map}
 use Rattle.desk_views.proofs.PageLemmas.{page_mapped}
+use Rattle.rollout_machine.specs.Views.{listed_targets}
 use Rattle.rollout_model.specs.declared.page.PageOf.{PageOf as RustPageOf}
 use Rattle.rollout_model.specs.declared.request.Reply.TheVariants as reply
-use Rattle.target_filter.specs.Meaning.{holds}
-use Rattle.desk_records.specs.Targets.{are_sorted}
-use Rattle.std.specs.Prelude.{min}
+use Rattle.desk_records.specs.Targets.{are_sorted, ids_of}
 use Rattle.std.proofs.lemmas.List.{drop-map, take-map}
-use Rattle.desk_reads.specs.Matches.{AreMatching}
+use Rattle.desk_reads.proofs.ListedTargets.{found, part_found, passing_found}
 
 -- ---- what is found by its id
 
@@ -42,38 +41,24 @@ module _ (r : Records) where
 
   -- ---- those that match
 
-  module _ (f : Tree) where
-    filter_seen : (ts : List Target) → filter (holds f) (map seen ts) ≡ map seen (filter (matches f) ts)
-    filter_seen [] = refl
-    filter_seen (t ∷ ts) = grind (arith, filter_seen ts)
+  -- the targets of the ids of some are these
+  of_ids : (ts : List Target) → map (found r.targets) ts ≡ map Some ts → targets_of r (ids_of ts) ≡ ts
+  of_ids [] is = refl
+  of_ids (t ∷ ts) is = grind (arith, of_ids ts)
 
-    matching_is : map shown_target (matching_shown r f (map seen r.targets)) ≡ targets_shown r (filter (matches f) r.targets)
-    matching_is = ap (λ l. map shown_target (map (worded r) l)) (filter_seen r.targets) ∙ all_shown (filter (matches f) r.targets)
+  -- those that match, and of these the ones on the page
+  pub page_matched : are_sorted r.targets ≡ true → (f : Tree) (page : Page) (ids on : List Bytes) (content : Vec ShownTarget Global) (total : ℕ)
+      → ids ≡ chosen (Some f) r.targets → on ≡ take page.limit (drop page.offset ids) → map shown_target content.items ≡ targets_shown r (targets_of r on)
+      → total ≡ length ids → listed_targets (record { content = content; total = total }) ≡ page_of page (matching_shown r f)
+  page_matched sorted f page ids on content total are is shown count =
+      let ts = filter (matches f) r.targets in
+      let part = take page.limit (drop page.offset ts) in
+      let named : on ≡ ids_of part = is ∙ ap (λ l. take page.limit (drop page.offset l)) are ∙ grind (arith, take-map, drop-map) in
+      let these : targets_of r on ≡ part = ap (targets_of r) named
+      ∙ of_ids part (part_found r page.limit page.offset ts (passing_found r sorted (matches f))) in
+      page_mapped (target_shown r) page ts part _ _ total (sym (shown_map ts)) refl (shown ∙ ap (targets_shown r) these ∙ shown_map part)
+      (count ∙ ap length are ∙ length-map ts (λ (t : Target). t.id))
 
-    pub matching_replied : (page : Page) (shown : RustPageOf ShownTarget) (text : Bytes) → filter_of text ≡ Some f → listed shown
-        ≡ page_of page (matching_shown r f (map seen r.targets))
-        → reply_of (reply.Targets shown) ≡ query_reply r (ShowTargets (Some text) page)
-    matching_replied page shown text tree is = ap TargetsShown (page_mapped shown_target page (matching_shown r f (map seen r.targets))
-        shown.content.items _ _ shown.total matching_is (ap (λ (p : PageOf ShownTarget). p.content) is) refl (ap (λ (p : PageOf ShownTarget). p.total) is))
-        ∙ sym (ap (targets_matching r page) tree)
-
-    -- those that match, and of these the ones on the page
-    pub page_matched : (page : Page) (found on : List ListedTarget) (content : Vec ShownTarget Global) (total : ℕ) → AreMatching r f found
-        → on ≡ take page.limit (drop page.offset found) → content.items ≡ map (worded r) (map (target_listed r) on) → total ≡ length found
-        → listed (record { content = content; total = total }) ≡ page_of page (matching_shown r f (map seen r.targets))
-    page_matched page found on content total are is shown count =
-        let all : map (worded r) (map (target_listed r) found) ≡ matching_shown r f (map seen r.targets) = ap (map (worded r)) are in
-        let part : map (worded r) (map (target_listed r) on) ≡ take page.limit (drop page.offset (map (worded r) (map (target_listed r) found))) =
-        ap (λ ls. map (worded r) (map (target_listed r) ls)) is ∙ grind (arith, take-map, drop-map) in
-        let many : length found ≡ length (map (worded r) (map (target_listed r) found)) = grind (arith, length-map) in
-        λ i. record {
-          content = (shown ∙ part ∙ ap (λ xs. take page.limit (drop page.offset xs)) all) i;
-          total = (count ∙ many ∙ ap length all) i;
-        }
-
--- behind so many, or behind all
-pub dropped : {X : Type 0} (offset : ℕ) (xs : List X) (from : ℕ) → from ≡ min (length xs) offset → drop from xs ≡ drop offset xs
-dropped offset xs from is = elim (cases_lt (length xs) offset) [
-  | inl far ↦ grind (arith, drop_all offset xs, drop_all from xs)
-  | inr near ↦ grind arith
-]
+  pub matching_replied : (f : Tree) (page : Page) (shown : RustPageOf ShownTarget) (text : Bytes) → filter_of text ≡ Some f → listed_targets shown
+      ≡ page_of page (matching_shown r f) → reply_of (reply.Targets shown) ≡ query_reply r (ShowTargets (Some text) page)
+  matching_replied f page shown text tree is = ap TargetsShown is ∙ sym (ap (targets_matching r page) tree)

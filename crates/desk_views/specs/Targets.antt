@@ -2,23 +2,24 @@
 use Rattle.std.specs.Prelude.{◌≡◌, ◌-◌, List, filter, length, map, slice_get}
 use Rattle.std.specs.Option.{IsSomeAnd}
 use Rattle.rollout_machine.specs.Commands.{Bytes}
+use Rattle.rollout_machine.specs.Filters.{matches}
 use Rattle.rollout_machine.specs.Objects.{page_of, targets_shown}
 use Rattle.rollout_machine.specs.Records.{Records}
+use Rattle.rollout_machine.specs.Replies.{ShownTarget as TargetShown}
 use Rattle.rollout_machine.specs.Requests.{Page}
 use Rattle.rollout_machine.specs.StateWords.{target_word}
 use Rattle.rollout_machine.specs.Views.{shown_target}
 use Rattle.rollout_model.specs.declared.shown_target.ShownTarget.{ShownTarget}
 use Rattle.rollout_model.specs.declared.target.Target.{Target}
 use Rattle.target_filter.specs.Grammar.{Tree}
-use Rattle.target_filter.specs.Meaning.{holds}
 
 -- as it is shown, with the word that its actions say
 abbrev pub worded : Records → Target → ShownTarget
 worded r t = record { id = t.id; name = t.name; tags = t.tags; attributes = t.attributes; word = target_word r t.id }
 
--- those of these targets that match, as they are shown
-abbrev pub matching_shown : Records → Tree → List Target → List ShownTarget
-matching_shown r f ts = map (worded r) (filter (holds f) ts)
+-- the targets that match, as they are shown
+abbrev pub matching_shown : Records → Tree → List TargetShown
+matching_shown r f = targets_shown r (filter (matches f) r.targets)
 
 -- these targets are those on the page of all
 abbrev pub IsContentOf : Page → Records → List ShownTarget → Type 0

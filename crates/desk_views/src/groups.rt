@@ -1,15 +1,13 @@
 //! Groups of rollouts.
 
-ghost use Rattle.std.specs.Prelude.{◌≡◌, ◌+◌, ◌-◌, ◌<◌, ◌≤◌, ◌^◌, ◌++◌, ◌⊎◌, IfErr, IfOk, MatchResult, Some, None, drop, length, map, min, take};
-ghost use Rattle.rollout_machine.specs.Answers.{target_if, targets_of};
+ghost use Rattle.std.specs.Prelude.{◌≡◌, ◌+◌, ◌-◌, ◌<◌, ◌≤◌, ◌^◌, ◌⊎◌, IfErr, IfOk, MatchResult, Some, None, drop, length, map, min, take};
 ghost use Rattle.rollout_machine.specs.ByteStrings.{item_numbered};
 ghost use Rattle.rollout_machine.specs.Commands.{RolloutPlan};
 ghost use Rattle.rollout_machine.specs.GroupRules.{rule_at, rules_of};
-ghost use Rattle.rollout_machine.specs.Objects.{group_shown, page_of, targets_shown};
+ghost use Rattle.rollout_machine.specs.Objects.{group_shown, page_of};
 ghost use Rattle.rollout_machine.specs.Requests.{ShowGroup, ShowGroupTargets, ShowGroups};
 ghost use Rattle.rollout_machine.specs.StateWords.{size_of_group};
-ghost use Rattle.rollout_machine.specs.Verdicts.{target_of};
-ghost use Rattle.rollout_machine.specs.Views.{listed, shown_target};
+ghost use Rattle.rollout_machine.specs.Views.{listed};
 ghost use Rattle.rollout_machine.specs.declared.records.RolloutRecord.{RolloutRecord};
 ghost use Rattle.desk_reads.specs.AtLists.{FailsAtListsIn, FailsWith};
 ghost use Rattle.desk_reads.specs.Rollouts.{IsSeenOf};
@@ -20,14 +18,12 @@ ghost use Rattle.desk_views.specs.Showing.{ShowsIn};
 ghost use Rattle.desk_store.specs.Changing.{FindsIn, StaysIn};
 
 use crate::pages::{count_on, part_on};
-use crate::targets::read_shown;
+use crate::targets::read_targets;
 use campaign_core::{GroupStatus, group_word};
 use desk_reads::{SeenRollout, read_seen_rollout, size_of};
 use desk_store::{Fault, OpenChange};
 use rollout_machine::{Bounds, GroupRecord};
-use rollout_model::{
-    ControllerId, Group, GroupRule, Page, PageOf, Refusal, Reply, RolloutNo, ShownTarget,
-};
+use rollout_model::{Group, GroupRule, Page, PageOf, Refusal, Reply, RolloutNo};
 use sqlite::Alter;
 use std::alloc::Global;
 
@@ -109,7 +105,7 @@ pub fn show_group_targets<S: Alter>(
     };
     let total = count_of(&found)?;
     let members = change.read_members(number, members_on(&found, total, page))?;
-    let content = read_targets(alloc, change, members)?;
+    let content = read_targets(alloc, change, &members)?;
     Ok(Reply::Targets(PageOf { content, total }))
 }
 
@@ -124,43 +120,6 @@ fn members_on(group: &GroupRecord, total: u32, page: Page) -> Page
         offset: before.min(last),
         limit: count_on(page, total),
     }
-}
-
-/// The targets of these ids, as they are shown.
-fn read_targets<S: Alter>(
-    alloc: Global,
-    change: &mut OpenChange<'_, S>,
-    ids: Vec<ControllerId>,
-) -> Result<Vec<ShownTarget>, Fault>
-    ensures stays { StaysIn S.Store change.old change.new result }
-    ensures reads { FindsIn S.Store change.old change.new result
-        (λ now content. map shown_target content.items ≡ targets_shown now (targets_of now ids.items)) }
-    ensures fails { FailsAtListsIn S.Store change.old change.new result }
-{
-    let mut content = Vec::new(alloc);
-    for id in ids {
-        add_target(change, id, &mut content)?;
-    }
-    Ok(content)
-}
-
-/// Adds the target of an id, where it is there.
-fn add_target<S: Alter>(
-    change: &mut OpenChange<'_, S>,
-    id: ControllerId,
-    content: &mut Vec<ShownTarget>,
-) -> Result<(), Fault>
-    ensures stays { StaysIn S.Store change.old change.new result }
-    ensures reads { FindsIn S.Store change.old change.new result
-        (λ now _. map shown_target content.new.items ≡ map shown_target content.old.items ++ targets_shown now (target_if (target_of now id))) }
-    ensures fails { FailsAtListsIn S.Store change.old change.new result }
-{
-    let shown = match read_shown(change, id)? {
-        Some(shown) => shown,
-        None => return Ok(()),
-    };
-    content.push(shown)?;
-    Ok(())
 }
 
 /// How many members a group has. Where they are more than are counted, the store has failed.

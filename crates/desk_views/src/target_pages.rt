@@ -1,12 +1,10 @@
 //! Pages of targets: of all, or of those that match a filter.
 
-ghost use Rattle.std.specs.Prelude.{◌≡◌, ◌≤◌, ◌+◌, [], drop, map, take, true, IfErr, IfOk, MatchOption, Some, None};
+ghost use Rattle.std.specs.Prelude.{◌≡◌, ◌≤◌, ◌+◌, [], drop, map, take, true, MatchOption, Some, None};
 ghost use Rattle.rollout_machine.specs.Answers.{query_reply};
-ghost use Rattle.rollout_machine.specs.Filters.{seen};
 ghost use Rattle.rollout_machine.specs.Objects.{page_of};
 ghost use Rattle.rollout_machine.specs.Requests.{ShowTargets};
-ghost use Rattle.rollout_machine.specs.Views.{listed, reply_of};
-ghost use Rattle.sql_calls.specs.declared.fault.Fault.TheVariants.{Memory};
+ghost use Rattle.rollout_machine.specs.Views.{listed_targets, reply_of};
 ghost use Rattle.target_filter.specs.Grammar.{Tree};
 ghost use Rattle.target_filter.specs.Profile.{filter_of};
 ghost use Rattle.desk_reads.specs.AtLists.{FailsAtListsIn};
@@ -16,8 +14,8 @@ ghost use Rattle.desk_reads.specs.Targets.{listed_ids, target_listed};
 ghost use Rattle.desk_store.specs.Changing.{FindsIn, StaysIn};
 
 use crate::pages::total_of;
-use crate::targets::with_word;
-use desk_reads::{ids_of, read_all_listed, read_listed, read_matching};
+use crate::targets::{read_targets, with_word};
+use desk_reads::{read_all_listed, read_matching};
 use desk_store::{Fault, ListedTarget, OpenChange};
 use rollout_model::{ControllerId, FilterText, Page, PageOf, Refusal, Reply, ShownTarget, Target};
 use sqlite::Alter;
@@ -64,8 +62,7 @@ pub fn read_target_ids<S: Alter>(change: &mut OpenChange<'_, S>) -> Result<Vec<C
     ensures fails { FailsAtListsIn S.Store change.old change.new result }
     ensures work { change.new.store.now.calls.work.statements ≤ change.old.store.now.calls.work.statements + 1 }
 {
-    let listed = change.read_all_targets()?;
-    let ids = ids_of(change.alloc(), listed)?;
+    let ids = change.read_target_ids()?;
     Ok(ids)
 }
 
@@ -169,7 +166,8 @@ fn show_matching<S: Alter>(
     Ok(Reply::Targets(shown))
 }
 
-/// The page of the targets that match. What they have is read only of those on the page.
+/// The page of the targets that match. What they have is read only of those on the page, of each by its id, since others may stand between
+/// them.
 fn read_matching_page<S: Alter>(
     alloc: Global,
     change: &mut OpenChange<'_, S>,
@@ -178,46 +176,11 @@ fn read_matching_page<S: Alter>(
 ) -> Result<PageOf<ShownTarget>, Fault>
     ensures stays { StaysIn S.Store change.old change.new result }
     ensures reads { FindsIn S.Store change.old change.new result
-        (λ now shown. (f : Tree) → filter_of filter.now ≡ Some f → listed shown ≡ page_of page (matching_shown now f (map seen now.targets))) }
+        (λ now shown. (f : Tree) → filter_of filter.now ≡ Some f → listed_targets shown ≡ page_of page (matching_shown now f)) }
     ensures fails { FailsAtListsIn S.Store change.old change.new result }
 {
-    let found = read_matching(change, filter)?;
-    let total = total_of(&found)?;
-    let on = entries_on(found, page)?;
-    let targets = read_each(alloc, change, on)?;
-    let content = word_all(alloc, change, targets)?;
+    let ids = read_matching(change, filter)?;
+    let total = total_of(&ids)?;
+    let content = read_targets(alloc, change, ids_on(&ids, page))?;
     Ok(PageOf { content, total })
-}
-
-/// Those of the listed targets that are on a page.
-fn entries_on(found: Vec<ListedTarget>, page: Page) -> Result<Vec<ListedTarget>, Fault>
-    ensures ok { IfOk result (λ on. on.items ≡ take page.limit (drop page.offset found.items)) }
-    ensures err { IfErr result (λ fault. fault ≡ Memory) }
-{
-    let mut before = found;
-    let from = before.len().min(page.offset as usize);
-    let mut on = before.split_off(from)?;
-    on.truncate(page.limit as usize);
-    Ok(on)
-}
-
-/// Targets that were listed, each with its tags and its attributes: by two statements each, since others may stand between them.
-fn read_each<S: Alter>(
-    alloc: Global,
-    change: &mut OpenChange<'_, S>,
-    entries: Vec<ListedTarget>,
-) -> Result<Vec<Target>, Fault>
-    ensures stays { StaysIn S.Store change.old change.new result }
-    ensures reads { FindsIn S.Store change.old change.new result (λ now targets. targets.items ≡ map (target_listed now) entries.items) }
-    ensures fails { FailsAtListsIn S.Store change.old change.new result }
-{
-    let mut targets = Vec::new(alloc);
-    for entry in entries {
-        let target = read_listed(change, entry)?;
-        match targets.push(target) {
-            Ok(()) => {}
-            Err(_) => return Err(Fault::Memory),
-        }
-    }
-    Ok(targets)
 }

@@ -1,9 +1,9 @@
 //! Targets, one at a time.
 
-ghost use Rattle.std.specs.Prelude.{◌≡◌, ◌≤◌, ◌+◌};
+ghost use Rattle.std.specs.Prelude.{◌≡◌, ◌≤◌, ◌+◌, ◌++◌, map};
 ghost use Rattle.std.specs.Option.{option_map};
-ghost use Rattle.rollout_machine.specs.Answers.{query_reply};
-ghost use Rattle.rollout_machine.specs.Objects.{target_shown};
+ghost use Rattle.rollout_machine.specs.Answers.{query_reply, target_if, targets_of};
+ghost use Rattle.rollout_machine.specs.Objects.{target_shown, targets_shown};
 ghost use Rattle.rollout_machine.specs.Requests.{ShowTarget};
 ghost use Rattle.rollout_machine.specs.Verdicts.{target_of};
 ghost use Rattle.rollout_machine.specs.Views.{reply_of, shown_target};
@@ -16,6 +16,7 @@ use desk_reads::read_listed;
 use desk_store::{Fault, ListedTarget, OpenChange, StoredTarget};
 use rollout_model::{ControllerId, Refusal, Reply, ShownTarget, Target, TargetWord};
 use sqlite::Alter;
+use std::alloc::Global;
 
 /// Shows the target of an id, with its tags and its attributes.
 pub fn show_target<S: Alter>(
@@ -33,7 +34,7 @@ pub fn show_target<S: Alter>(
 }
 
 /// The target of an id as it is shown.
-pub(crate) fn read_shown<S: Alter>(
+fn read_shown<S: Alter>(
     change: &mut OpenChange<'_, S>,
     id: ControllerId,
 ) -> Result<Option<ShownTarget>, Fault>
@@ -50,6 +51,43 @@ pub(crate) fn read_shown<S: Alter>(
     let target = read_listed(change, listed)?;
     let shown = with_word(change, target)?;
     Ok(Some(shown))
+}
+
+/// The targets of these ids, as they are shown.
+pub(crate) fn read_targets<S: Alter>(
+    alloc: Global,
+    change: &mut OpenChange<'_, S>,
+    ids: &[ControllerId],
+) -> Result<Vec<ShownTarget>, Fault>
+    ensures stays { StaysIn S.Store change.old change.new result }
+    ensures reads { FindsIn S.Store change.old change.new result
+        (λ now content. map shown_target content.items ≡ targets_shown now (targets_of now ids.now)) }
+    ensures fails { FailsAtListsIn S.Store change.old change.new result }
+{
+    let mut content = Vec::new(alloc);
+    for id in ids {
+        add_target(change, *id, &mut content)?;
+    }
+    Ok(content)
+}
+
+/// Adds the target of an id, where it is there.
+fn add_target<S: Alter>(
+    change: &mut OpenChange<'_, S>,
+    id: ControllerId,
+    content: &mut Vec<ShownTarget>,
+) -> Result<(), Fault>
+    ensures stays { StaysIn S.Store change.old change.new result }
+    ensures reads { FindsIn S.Store change.old change.new result
+        (λ now _. map shown_target content.new.items ≡ map shown_target content.old.items ++ targets_shown now (target_if (target_of now id))) }
+    ensures fails { FailsAtListsIn S.Store change.old change.new result }
+{
+    let shown = match read_shown(change, id)? {
+        Some(shown) => shown,
+        None => return Ok(()),
+    };
+    content.push(shown)?;
+    Ok(())
 }
 
 /// The id and name of a target that was found.

@@ -1,4 +1,6 @@
 use Rattle.desk_commands.proofs.Answering.{is_none, chosen, sym, ap, ◌∙◌, finds_as, filter_of}
+use Rattle.std.specs.Prelude.{Some}
+use Rattle.desk_reads.proofs.Matches.{of_tree}
 use Rattle.desk_commands.proofs.creation.choose.Goals as goal
 
 pub returns-clause-reads : goal.returns-clause-reads
@@ -8,4 +10,5 @@ returns-clause-reads g c =
     finds_as c.in_ok-members.ensures.reads
     (λ r is.
     let its = ap filter_of (sym c.as_str-words.ensures) ∙ tree in
-    record { bad_filter = sym (ap is_none its); members = is known.0 (ap filter_of c.in-Ok.ensures.text ∙ tree) ∙ sym (ap (λ o. chosen o r.targets) its) })
+    let members = of_tree _ known.0 c.in_ok-members.members.items (λ f. chosen (Some f) r.targets) is (ap filter_of c.in-Ok.ensures.text ∙ tree) in
+    record { bad_filter = sym (ap is_none its); members = members ∙ sym (ap (λ o. chosen o r.targets) its) })

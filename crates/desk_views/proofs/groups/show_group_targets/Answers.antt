@@ -16,7 +16,7 @@ returns-clause-shows g c =
     (is.0.0 ∙ ap (group_numbered c.args.group) (groups_are r of c.args.number))
     (λ x there in_it. ap TargetsShown (members_paged r of c.args.number c.args.group c.args.page c.members_on.result c.in-Some.found c.in_ok-total.total
     c.in_ok-members.members.items c.in_ok-content.content.items c.in_ok-total.ensures
-    c.members_on.ensures.limit c.members_on.ensures.offset is.0.1 is.1 x there in_it)))
+    c.members_on.ensures.limit c.members_on.ensures.offset is.0.1 (rw c.deref.ensures.value at is.1) x there in_it)))
 
 pub returns-in_err-total-clause-fails : goal.returns-in_err-total-clause-fails
 returns-in_err-total-clause-fails g c =

@@ -1,6 +1,6 @@
 use Rattle.desk_views.proofs.Common.{arith, append-nil, map-append}
 use Rattle.desk_views.proofs.Answering.{finds_as}
-use Rattle.desk_views.proofs.groups.add_target.Goals as goal
+use Rattle.desk_views.proofs.targets.add_target.Goals as goal
 
 pub returns-in-None-clause-reads : goal.returns-in-None-clause-reads
 returns-in-None-clause-reads g c = finds_as (rw c.in-None.is at c.in_ok-shown.ensures.reads) (λ r is. grind (arith, append-nil))
