@@ -5,6 +5,7 @@ files, for tests that play a wrong configuration."""
 
 import contextlib
 import os
+import re
 import resource
 import shutil
 import signal
@@ -30,6 +31,10 @@ FORMS = {
     "port": {"FWDESK_LOCAL_PORT": "{local_port}"},
 }
 FLEET = "acme"
+# what the HAProxy before the desk has in its environment
+MEMORY = dict(
+    re.findall(r"(MALLOC_\w+)=(\d+)", (ROOT / "deploy/systemd/haproxy-desks.service").read_text())
+)
 # files that the edge has open at the most: two of each connection of its `maxconn`, and its own
 FILES = 20_000
 
@@ -183,7 +188,11 @@ class Edge:
         own = self.folder / f"{name}.log"
         with open(self.log, "ab") as audit, open(own, "ab") as told:
             child = subprocess.Popen(
-                words, env=self.environment, stdout=audit, stderr=told, start_new_session=True
+                words,
+                env=self.environment | (MEMORY if name == "desks" else {}),
+                stdout=audit,
+                stderr=told,
+                start_new_session=True,
             )
         self.children.append(child)
         keep_priority(child)
