@@ -129,6 +129,24 @@ def test_operator_waits_behind_no_device(crowd: Crowd) -> None:
     assert told == [200] * (POLLS + 1 + len(first))
 
 
+def test_converter_has_the_turn_of_its_device(crowd: Crowd) -> None:
+    """What fwdesk-hawkbit looks at for a device waits behind the devices that came before it. By the field that names such a
+    device nobody else comes later than an operator does."""
+    stage = crowd.stage
+    named, looked = "X-Fwdesk-Device: turn-1\r\n", f"{TARGETS}/turn-1"
+    way_in = stage.open_path(stage.edge.run / "fwdesk/hawkbit.sock")
+    crowd.begin(way_in, stage.near_base + looked, named)
+    crowd.wait_for(POLLS)
+    crowd.begin(stage.open(), stage.base + TARGETS, named + login("zoe"))
+    crowd.begin(stage.open_near(), stage.near_base + TARGETS, named)
+    crowd.wait_for(POLLS + 2)
+    told, came = crowd.told(), crowd.desk.came
+    print(f"{stage.form}: behind {came.index(looked)} of {len(came)} requests")
+    assert came[1:3] == [TARGETS, TARGETS]
+    assert came.index(looked) > PLACES
+    assert told == [200] * (POLLS + 3)
+
+
 def test_stranger_comes_to_no_queue(crowd: Crowd) -> None:
     """Who has no right login is refused, while the desk answers nobody: a request for an operator's path takes nobody's turn."""
     stage = crowd.stage
