@@ -209,6 +209,12 @@ def ended(links: list[socket.socket]) -> int:
     return len(poll.poll(0))
 
 
+def lost(links: list[socket.socket], asked: int) -> int:
+    """How many of so many connections that were asked for were ended, those too that `hold` left out, since they were ended
+    while they were opened."""
+    return asked - len(links) + ended(links)
+
+
 def load() -> str:
     """The machine's load, for what is printed."""
     return f"load {os.getloadavg()[0]:.0f}"

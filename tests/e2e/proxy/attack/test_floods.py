@@ -11,7 +11,7 @@ import time
 from typing import Iterator
 
 import pytest
-from .crowd import compare, ended, hold, load, make_sources, silent
+from .crowd import compare, ended, hold, load, lost, make_sources, silent
 from harness.processes import HOST, eventually, free_port
 from harness.stand_in import StandIn
 from .stage import DEVICES, Link, Plain, Stage, token
@@ -277,10 +277,10 @@ def test_address_has_a_thousand_connections(quiet: Stage) -> None:
         hold(links, lambda: silent(quiet.port, "127.4.3.1"), 1000)
         eventually("a thousand connections", lambda: quiet.connections() == len(links) == 1000)
         hold(links, lambda: silent(quiet.port, "127.4.3.1"), 1)
-        eventually("one that is ended", lambda: ended(links) == 1, 5)
+        eventually("one that is ended", lambda: lost(links, 1001) == 1, 5)
         hold(links, lambda: silent(quiet.port, "127.4.3.2"), 1)
         time.sleep(0.5)
-        assert (len(links), ended(links), ended(links[-1:])) == (1002, 1, 0)
+        assert (lost(links, 1002), ended(links[-1:])) == (1, 0)
     finally:
         for it in links:
             it.close()

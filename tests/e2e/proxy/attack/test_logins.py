@@ -9,7 +9,7 @@ from concurrent.futures import ThreadPoolExecutor
 from typing import Iterator
 
 import pytest
-from .crowd import compare, ended, hold, load, make_sources, silent
+from .crowd import compare, ended, hold, load, lost, make_sources, silent
 from harness.processes import HOST, eventually, free_port
 from .stage import GUESSED, TLS, Link, Plain, Stage, login
 
@@ -310,10 +310,10 @@ def test_network_has_a_thousand_connections(both: Stage, network: str) -> None:
             hold(links, lambda: silent(both.port, f"{network}:3::{host}"), 200)
         eventually("a thousand connections", lambda: both.connections() == len(links) == 1000)
         hold(links, lambda: silent(both.port, f"{network}:3::6"), 1)
-        eventually("one that is ended", lambda: ended(links) == 1, 5)
+        eventually("one that is ended", lambda: lost(links, 1001) == 1, 5)
         hold(links, lambda: silent(both.port, f"{network}:4::6"), 1)
         time.sleep(0.5)
-        assert (len(links), ended(links), ended(links[-1:])) == (1002, 1, 0)
+        assert (lost(links, 1002), ended(links[-1:])) == (1, 0)
     finally:
         for it in links:
             it.close()
