@@ -271,14 +271,14 @@ def test_differing_rows_are_told():
 
 
 def test_differing_limits_are_told():
-    definitions = "lamp_limit = 1200\n\nbulb_limit = 7\n\nshade_limit = lamp_limit\n"
+    definitions = "limits = record {\n  lamps = 1200;\n  bulb = 7; -- of a lamp\n}\n"
     code = "pub const LAMP_LIMIT: u32 = 1_200;\npub const BULB_LIMIT: usize = 7;\n"
     code += "pub const SHADE_LIMIT: usize = LAMP_LIMIT;\n"
-    for text, read in (
-        (definitions, literals.limits_of_definitions),
-        (code, literals.limits_of_code),
+    for text, read, others in (
+        (definitions, lambda it: literals.limits_of_definitions(it, tables()), {}),
+        (code, literals.limits_of_code, {"shade_limit": "lamp_limit"}),
     ):
-        same(read(text), {"lamp_limit": 1200, "bulb_limit": 7, "shade_limit": "lamp_limit"})
+        same(read(text), {"lamp_limit": 1200, "bulb_limit": 7} | others)
         same(list(literals.differing_limits(read(text), tables(), set())), [])
         other = read(text.replace("7", "8"))
         same(

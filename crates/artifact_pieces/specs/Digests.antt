@@ -2,7 +2,7 @@
 use Rattle.std.specs.Prelude.{◌≡◌, true, ℕ, List, Option, Some, None, Result, Ok, Err}
 use Rattle.hex.specs.Hex.{encode_lower, decode_sized}
 use Rattle.hex.specs.declared.error.FromHexError.{FromHexError}
-use Rattle.rollout_model.specs.Limits.{digest_length}
+use Rattle.rollout_model.specs.Limits.{limits}
 use Rattle.rollout_model.specs.Rules.{is_digest}
 use Rattle.sha2.specs.Sha256.{sha256}
 
@@ -20,7 +20,7 @@ decoded (Err e) = None
 
 -- the digest that a text names: twice as many hexadecimal digits as a digest has bytes, of either case
 abbrev pub digest_named : List ℕ → Option (List ℕ)
-digest_named text = decoded (decode_sized text digest_length)
+digest_named text = decoded (decode_sized text limits.digest_length)
 
 -- the digits of a digest name it
 abbrev pub DigestsAreReadBack : Type 0

@@ -3,15 +3,15 @@ use Rattle.std.specs.Prelude.{ℕ, All, ◌≤◌, ◌+◌, ◌-◌, ◌*◌, �
 use Rattle.std.specs.List.{flat_map, range_with_len}
 use Rattle.std.specs.Int.{div_ceil}
 use Rattle.artifact_pieces.specs.declared.pieces.Piece.{Piece}
-use Rattle.rollout_model.specs.Limits.{piece_length}
+use Rattle.rollout_model.specs.Limits.{limits}
 
 -- how many pieces contents of this length have: none has no byte
 abbrev pub piece_count : ℕ → ℕ
-piece_count total = div_ceil total piece_length
+piece_count total = div_ceil total limits.piece_length
 
 -- a piece by its place, counted from 0: all have the same length, but the last one may be shorter
 abbrev pub piece_at : ℕ → ℕ → Piece
-piece_at total place = record { from = place * piece_length; len = min piece_length (total - place * piece_length) }
+piece_at total place = record { from = place * limits.piece_length; len = min limits.piece_length (total - place * limits.piece_length) }
 
 -- the pieces of contents of this length, but the first few
 abbrev pub pieces_from : ℕ → ℕ → List Piece

@@ -10,7 +10,7 @@ use Rattle.campaign_core.proofs.Common.{canceling_after, change_by, change_if_fr
 use Rattle.campaign_core.proofs.Common.{device_refusal, Result, LeadsTo, DecidesAt, JudgesFeedback, of_device, step_records, report_refusal}
 use Rattle.campaign_core.proofs.Common.{says_fresh, ActionChange, DeviceAction}
 use Rattle.rollout_machine.specs.Verdicts as row
-use Rattle.rollout_model.specs.Limits.{note_limit}
+use Rattle.rollout_model.specs.Limits.{limits}
 use Rattle.campaign_core.specs.declared.rollout_checks.RolloutChange.{RolloutChange}
 use Rattle.campaign_core.proofs.ActionLemmas.{acts, stays}
 use Rattle.campaign_core.proofs.ItemLemmas.{found}
@@ -63,7 +63,7 @@ pub record IsReport (c : Command) (device : Credential) (k : ℕ) (new : Reporte
   pub said : (b : Bool) → unwrap_or (cancel_standing_said c) b ≡ canceling b
 
 abbrev note_test : Said → ℕ → Bool → Bool × Refusal
-note_test said notes asked = (asked && (says_note said && nat_le note_limit notes), Quota)
+note_test said notes asked = (asked && (says_note said && nat_le limits.notes notes), Quota)
 
 pub on_deployment : (feedback : DeviceFeedback DeploymentWord) → IsReport (Feedback feedback) feedback.credential feedback.action
     (reported OfDeployment feedback) (outcome_of_deployment feedback.word)

@@ -12,7 +12,7 @@ use Rattle.rollout_machine.specs.Records.{ArtifactRecord, Records, records}
 use Rattle.rollout_machine.specs.Targets.{Target, with_attributes}
 use Rattle.rollout_machine.specs.Validity.{IsValid}
 use Rattle.rollout_machine.specs.Verdicts.{first_refusal, check, is_known, is_named_by_set, target_keys, tags_of, target_of, verdict, wrong_digest}
-use Rattle.rollout_model.specs.Limits.{artifact_limit, attribute_limit, module_artifact_limit, module_limit, set_limit, tag_limit, target_limit}
+use Rattle.rollout_model.specs.Limits.{limits}
 use Rattle.rollout_model.specs.declared.refusal.Refusal.{Refusal}
 use Rattle.rollout_model.specs.declared.refusal.Refusal.TheVariants.{Unauthorized, NotFound, Locked, Exists, Quota, WrongDigest}
 use Rattle.campaign_core.specs.declared.checks.View.{View}
@@ -43,7 +43,7 @@ pub record IsModuleView (v : ModuleView) (label : ModuleLabel) (rs : Records) : 
   pub count : v.count ≡ length rs.modules
 
 abbrev pub module_refusal : ModuleView → Option Refusal
-module_refusal v = first_refusal ((v.same, Exists) ∷ (nat_le module_limit v.count, Quota) ∷ [])
+module_refusal v = first_refusal ((v.same, Exists) ∷ (nat_le limits.modules v.count, Quota) ∷ [])
 
 -- the label is put behind the modules that are there, under the next number
 pub record AddsModule (m : NewModule) (label : ModuleLabel) (old new : Records) : Type 0 where
@@ -73,7 +73,7 @@ pub record IsArtifactView (v : ArtifactView) (u : Upload) (rs : Records) : Type 
 abbrev pub artifact_refusal : ArtifactView → Option Refusal
 artifact_refusal v =
     first_refusal ((v.misses_module, NotFound) ∷ (v.locked, Locked) ∷ (v.same, Exists)
-    ∷ (nat_le module_artifact_limit v.module_count || nat_le artifact_limit v.count, Quota) ∷ (v.wrong_digest, WrongDigest) ∷ [])
+    ∷ (nat_le limits.module_artifacts v.module_count || nat_le limits.artifacts v.count, Quota) ∷ (v.wrong_digest, WrongDigest) ∷ [])
 
 -- the upload is put behind the artifacts that are there, with its size and digest, under the next number
 pub record AddsUpload (a : NewArtifact) (u : Upload) (old new : Records) : Type 0 where
@@ -101,7 +101,7 @@ pub record IsSetView (v : SetView) (label : SetLabel) (rs : Records) : Type 0 wh
   pub count : v.count ≡ length rs.sets
 
 abbrev pub set_refusal : SetView → Option Refusal
-set_refusal v = first_refusal ((v.misses_module, NotFound) ∷ (v.same, Exists) ∷ (nat_le set_limit v.count, Quota) ∷ [])
+set_refusal v = first_refusal ((v.misses_module, NotFound) ∷ (v.same, Exists) ∷ (nat_le limits.sets v.count, Quota) ∷ [])
 
 -- the label is put behind the sets that are there, under the next number
 pub record AddsSet (s : NewSet) (label : SetLabel) (old new : Records) : Type 0 where
@@ -115,7 +115,7 @@ pub record IsImportView (v : ImportView) (rows : List TargetRow) (rs : Records) 
   pub count_after : v.count_after ≡ length (with_words (map (λ (row : TargetRow). row.id) rows) (map (λ (t : Target). t.id) rs.targets))
 
 abbrev pub import_refusal : ImportView → Option Refusal
-import_refusal v = first_refusal ((nat_lt target_limit v.count_after, Quota) ∷ [])
+import_refusal v = first_refusal ((nat_lt limits.targets v.count_after, Quota) ∷ [])
 
 -- ---- tags
 
@@ -126,7 +126,7 @@ pub record IsTagView (v : TagView) (t x : Bytes) (rs : Records) : Type 0 where
   pub count : v.count ≡ length (tags_of (target_of rs t))
 
 abbrev pub tag_refusal : TagView → Option Refusal
-tag_refusal v = first_refusal ((v.misses_target, NotFound) ∷ (not v.same && nat_le tag_limit v.count, Quota) ∷ [])
+tag_refusal v = first_refusal ((v.misses_target, NotFound) ∷ (not v.same && nat_le limits.tags v.count, Quota) ∷ [])
 
 -- of a tag of target t, in these records
 pub record IsUntagView (v : UntagView) (t : Bytes) (rs : Records) : Type 0 where
@@ -147,7 +147,7 @@ pub record IsAttributesView (v : AttributesView) (device : Credential) (given : 
   pub count_after : v.count + v.added ≡ length (with_words (map (λ (a : Attribute). a.key) given) (target_keys (target_of rs device.id)))
 
 abbrev pub attributes_refusal : AttributesView → Option Refusal
-attributes_refusal v = first_refusal ((v.misses_device, Unauthorized) ∷ (nat_lt attribute_limit (v.count + v.added), Quota) ∷ [])
+attributes_refusal v = first_refusal ((v.misses_device, Unauthorized) ∷ (nat_lt limits.attributes (v.count + v.added), Quota) ∷ [])
 
 -- the attributes of target t get the values that are given, where it is there
 abbrev pub ChangesAttributes : List Attribute → Bytes → Records → Records → Type 0

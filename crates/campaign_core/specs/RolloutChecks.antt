@@ -27,7 +27,7 @@ use Rattle.rollout_machine.specs.declared.standing.Standing.{Standing}
 use Rattle.rollout_machine.specs.declared.standing.Standing.TheVariants.{Fresh}
 use Rattle.rollout_machine.specs.declared.view.Effects.{Effects}
 use Rattle.campaign_core.specs.OwnGroups.{OwnDecides, effects_by, following, own_view_of}
-use Rattle.rollout_model.specs.Limits.{note_limit, rollout_limit}
+use Rattle.rollout_model.specs.Limits.{limits}
 use Rattle.rollout_model.specs.declared.refusal.Refusal.{Refusal}
 use Rattle.rollout_model.specs.declared.refusal.Refusal.TheVariants.{BadFilter, ClosedAction, Exists, NotFound, OldNumber, Quota, TooFewTargets}
 use Rattle.rollout_model.specs.declared.refusal.Refusal.TheVariants.{Unauthorized, WrongState}
@@ -87,7 +87,7 @@ pub record IsPlanView (v : PlanView) (plan : RolloutPlan) (rs : Records) : Type 
 
 abbrev pub plan_refusal : PlanView → Grouping → Option Refusal
 plan_refusal v groups = first_refusal ((v.bad_filter, BadFilter) ∷ (v.misses_set, NotFound) ∷ (v.same_name, Exists)
-    ∷ (leaves_empty groups v.members, TooFewTargets) ∷ (nat_le rollout_limit v.count, Quota) ∷ [])
+    ∷ (leaves_empty groups v.members, TooFewTargets) ∷ (nat_le limits.rollouts v.count, Quota) ∷ [])
 
 -- that of a new rollout, on a desk with approval or without
 abbrev pub approval_at : Bool → Approval
@@ -227,7 +227,7 @@ is_overtaken v = is_none v.action.outcome && says_old v.standing
 
 -- a note for which there is no room
 abbrev pub lacks_room : Bool → DeviceAction → Bool
-lacks_room note v = is_fresh v && (note && nat_le note_limit v.notes)
+lacks_room note v = is_fresh v && (note && nat_le limits.notes v.notes)
 
 -- what feedback of both kinds is refused with first
 abbrev pub report_refusal : Option Outcome → DeviceAction → Option Refusal

@@ -3,7 +3,7 @@
 ghost use Rattle.std.specs.Prelude.{◌≡◌, ◌≤◌, false, is_some, length, IfOk};
 ghost use Rattle.rollout_machine.specs.Groupings.{cut_by, leaves_empty, percentages};
 ghost use Rattle.rollout_machine.specs.Splits.{first_empty, split};
-ghost use Rattle.rollout_model.specs.Limits.{group_limit};
+ghost use Rattle.rollout_model.specs.Limits.{limits};
 
 use crate::groups::cut_groups;
 use crate::splits::{share, split_groups};
@@ -55,7 +55,7 @@ fn split_defined(
     members: u32,
     definitions: &[GroupDefinition],
 ) -> Result<Vec<Bounds>, AllocError>
-    requires few { length definitions.now ≤ group_limit }
+    requires few { length definitions.now ≤ limits.groups }
     ensures { IfOk result (λ groups. groups.items ≡ split members (percentages definitions.now)) }
 {
     let percentages = percentages(alloc, definitions)?;

@@ -2,7 +2,7 @@
 
 ghost use Rattle.std.specs.Prelude.{◌≡◌, ◌≤◌, ◌⊎◌, IfOk, IfErr, None, Some, length};
 ghost use Rattle.rollout_machine.specs.Splits.{LeavesNoneEmpty, first_empty, share, split, split_bounds_of, split_last};
-ghost use Rattle.rollout_model.specs.Limits.{group_limit};
+ghost use Rattle.rollout_model.specs.Limits.{limits};
 
 use rollout_machine::Bounds;
 use rollout_model::Percentage;
@@ -59,7 +59,7 @@ pub fn split_groups(
     members: u32,
     percentages: &[Percentage],
 ) -> Result<Vec<Bounds>, SplitFault>
-    requires few { length percentages.now ≤ group_limit }
+    requires few { length percentages.now ≤ limits.groups }
     ensures split { IfOk result (λ groups. groups.items ≡ split members percentages.now) }
     ensures none_empty { IfOk result (λ groups. first_empty members percentages.now ≡ None) }
     ensures empty { IfErr result (λ fault. (fault ≡ SplitFault.Memory)

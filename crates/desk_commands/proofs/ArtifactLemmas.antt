@@ -7,7 +7,7 @@ use Rattle.desk_commands.proofs.Common.{AddsArtifact, AddsContents, same_pointwi
 use Rattle.desk_records.specs.Artifacts.{with_artifact, and_piece, AddsPiece}
 use Rattle.rollout_machine.specs.Digests.{digest_of}
 use Rattle.rollout_machine.specs.Objects.{artifact_shown, artifacts_shown}
-use Rattle.rollout_model.specs.Limits.{piece_length}
+use Rattle.rollout_model.specs.Limits.{limits}
 use Rattle.rollout_model.specs.declared.request.Reply.TheVariants as reply
 use Rattle.campaign_core.specs.Checks.{IsArtifactView}
 use Rattle.campaign_core.specs.declared.checks.artifacts.ArtifactView.{ArtifactView}
@@ -49,7 +49,7 @@ adds_first_piece number before n bytes some is r next h =
         last = h.last;
         number_is = h.number_is;
         sequence_least = omega arith;
-        so_far = h.so_far some ∙ ap (λ k. k * piece_length) place;
+        so_far = h.so_far some ∙ ap (λ k. k * limits.piece_length) place;
         bytes_least = omega (arith, front, is, some);
         bytes_limit = omega (arith, front, is);
         next_is = refl;

@@ -5,7 +5,7 @@ use Rattle.std.specs.Option.{is_none}
 use Rattle.rollout_machine.specs.ByteStrings.{item_numbered}
 use Rattle.rollout_machine.specs.Commands.{Bytes, SetLabel}
 use Rattle.rollout_machine.specs.Records.{ArtifactRecord, Records}
-use Rattle.rollout_model.specs.Limits.{piece_length}
+use Rattle.rollout_model.specs.Limits.{limits}
 use Rattle.rollout_model.specs.declared.artifact.Artifact.{Artifact}
 use Rattle.desk_records.specs.Artifacts.{and_piece}
 
@@ -39,7 +39,7 @@ pub record AddsContents (number before : ℕ) (bytes : Bytes) (r next : Records)
   pub artifact : ArtifactRecord
   pub last : r.artifacts ≡ others ++ artifact ∷ []
   pub number_is : number ≡ length others + 1
-  pub so_far : 1 ≤ length bytes → length artifact.contents ≡ before * piece_length
+  pub so_far : 1 ≤ length bytes → length artifact.contents ≡ before * limits.piece_length
   pub next_is : next ≡ record r { artifacts = others ++ and_piece artifact bytes ∷ [] }
 
 -- an artifact of a module, with its contents

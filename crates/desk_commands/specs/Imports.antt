@@ -14,7 +14,7 @@ use Rattle.rollout_machine.specs.RecordSteps.{step_records}
 use Rattle.rollout_machine.specs.Targets.{Target}
 use Rattle.rollout_machine.specs.Validity.{IsValid}
 use Rattle.rollout_machine.specs.Verdicts.{check, target_of, tags_of}
-use Rattle.rollout_model.specs.Limits.{target_limit}
+use Rattle.rollout_model.specs.Limits.{limits}
 use Rattle.rollout_model.specs.Rules.{are_distinct_words}
 use Rattle.rollout_model.specs.declared.refusal.Refusal.{Refusal}
 use Rattle.rollout_model.specs.declared.refusal.Refusal.TheVariants.{Quota}
@@ -71,8 +71,8 @@ PutsOver stored row r next = (stored ≡ option_map stored_target (target_of r r
 
 -- the desk has no more targets than it takes, and so many where they are counted
 abbrev pub HasCounted : Option ℕ → Records → Type 0
-HasCounted None r = length r.targets ≤ target_limit
-HasCounted (Some count) r = (count ≡ length r.targets) × (count ≤ target_limit)
+HasCounted None r = length r.targets ≤ limits.targets
+HasCounted (Some count) r = (count ≡ length r.targets) × (count ≤ limits.targets)
 
 -- counted, so many
 abbrev pub CountsTargets : Option ℕ → Records → ℕ → Type 0
@@ -80,7 +80,7 @@ CountsTargets counted r count = HasCounted counted r → HasCounted (Some count)
 
 -- the row is of a target that isn't there, and the desk takes no more
 abbrev pub IsTooMany : TargetRow → Records → Type 0
-IsTooMany row r = (target_of r row.id ≡ None) × (length r.targets ≡ target_limit)
+IsTooMany row r = (target_of r row.id ≡ None) × (length r.targets ≡ limits.targets)
 
 abbrev pub with_row : TargetRow → Records → Records
 with_row row r = step_records r (PutTargets (row ∷ []))

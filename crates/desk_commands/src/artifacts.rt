@@ -4,7 +4,7 @@ ghost use Rattle.std.specs.Prelude.{◌≡◌, ◌≤◌, ◌+◌, ◌*◌, leng
 ghost use Rattle.rollout_machine.specs.Commands.{AddArtifact};
 ghost use Rattle.rollout_machine.specs.Digests.{digest_of};
 ghost use Rattle.rollout_machine.specs.Verdicts.{wrong_digest};
-ghost use Rattle.rollout_model.specs.Limits.{artifact_size_limit, piece_length};
+ghost use Rattle.rollout_model.specs.Limits.{limits};
 ghost use Rattle.campaign_core.specs.Checks.{IsArtifactView};
 ghost use Rattle.desk_commands.specs.Additions.{AddsArtifact, AddsContents};
 ghost use Rattle.desk_store.specs.Changing.{FindsIn, MakesIn, StaysIn};
@@ -65,7 +65,7 @@ fn write_pieces<S: Alter>(
     before: u32,
     bytes: &[u8],
 ) -> Result<(), Fault>
-    requires { before * piece_length + length bytes.now ≤ artifact_size_limit }
+    requires { before * limits.piece_length + length bytes.now ≤ limits.artifact_size }
     ensures stays { WritesIn S.Store change.old change.new result }
     ensures writes { MakesIn S.Store change.old change.new result (AddsContents number before bytes.now) }
 {

@@ -4,7 +4,7 @@ ghost use Rattle.std.specs.Prelude.{◌≡◌, [], ◌∷◌, codes, ◌++◌, O
 ghost use Rattle.rollout_model.specs.declared.action_word.ActionWord.TheVariants as action;
 ghost use Rattle.rollout_model.specs.declared.group_word.GroupWord.TheVariants as group;
 ghost use Rattle.rollout_model.specs.declared.rollout_word.RolloutWord.TheVariants as rollout;
-ghost use Rattle.rollout_model.specs.Limits.{file_length_limit};
+ghost use Rattle.rollout_model.specs.Limits.{limits};
 ghost use Rattle.artifact_pieces.specs.Digests.{digest_of};
 ghost use Rattle.desk_files.specs.ActionTables.{table_text};
 ghost use Rattle.desk_files.specs.Imports.{targets_in_file};
@@ -21,7 +21,7 @@ use rollout_model::limits::FILE_LENGTH_LIMIT;
 pub fn files()
     ensures tags_are_joined { TagsAreJoined }
     ensures tables_are_csv { TablesAreCsv }
-    ensures file_limit { FILE_LENGTH_LIMIT ≡ file_length_limit }
+    ensures file_limit { FILE_LENGTH_LIMIT ≡ limits.file_length }
 {}
 
 /// Worked files and texts:

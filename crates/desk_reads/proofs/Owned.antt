@@ -27,7 +27,7 @@ use Rattle.desk_reads.specs.Targets.{attribute_ids, listed_ids, rises, tag_ids}
 use Rattle.desk_reads.specs.Targets.{own_attributes, own_listed, own_tags, target_listed}
 use Rattle.desk_reads.proofs.Common.{and_from, are_distinct_words, is_word, le-leb, leb-true, list_any, nat_eq, pointwise, same_pointwise}
 use Rattle.std.specs.Prelude.{nat_le}
-use Rattle.rollout_model.specs.Limits.{tag_limit}
+use Rattle.rollout_model.specs.Limits.{limits}
 use Rattle.target_filter.specs.Names.{tags_like}
 use Rattle.desk_records.proofs.Membership.{few_pass, same_kept}
 use Rattle.desk_reads.proofs.WordOrder.{below_another, below_itself, below_other, below_through, below_under, compared_equal, compared_greater, compared_less}
@@ -227,7 +227,7 @@ module _ (p : Bytes → Bool) where
   -- some tags of a list are a list of tags
   pub some_tags : (ws : List Bytes) → is_tag_list ws ≡ true → is_tag_list (filter p ws) ≡ true
   some_tags ws is =
-      let parts = and_parts (nat_le (length ws) tag_limit) _ is in
+      let parts = and_parts (nat_le (length ws) limits.tags) _ is in
       let words = and_parts (list_all is_word ws) (are_distinct_words ws) parts.1 in
       and_from _ _ (le-leb _ _ (omega (arith, few_words ws, leb-true _ _ parts.0)))
       (and_from _ _ (each_word is_word ws words.0) (distinct_words ws words.1))

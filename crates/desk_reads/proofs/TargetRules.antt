@@ -9,7 +9,7 @@ use Rattle.desk_reads.proofs.Common.{is_tag_list, is_word, has_mapped}
 use Rattle.rollout_machine.proofs.Orders.{sorted_all, sorted_without}
 use Rattle.rollout_machine.proofs.TargetMeanings.{targets_are_named}
 use Rattle.rollout_machine.specs.Records.{records}
-use Rattle.rollout_model.specs.Limits.{tag_limit}
+use Rattle.rollout_model.specs.Limits.{limits}
 use Rattle.rollout_model.specs.Pairs.{is_attribute}
 use Rattle.desk_store.proofs.ReadableTargets.{KeepsTarget}
 use Rattle.desk_reads.proofs.ListMembers.{target_words}
@@ -51,7 +51,7 @@ length_sorted (w ∷ ws) = omega (arith, length_with w (sorted_words ws), length
 -- ---- tags
 
 pub record KeepsTags (ws : List Bytes) : Type 0 where
-  pub few : length ws ≤ tag_limit
+  pub few : length ws ≤ limits.tags
   pub words : list_all is_word ws ≡ true
   pub sorted : IsSorted ws
 
@@ -68,7 +68,7 @@ pub row_for : (t : Bytes) (rows : List TargetRow) → list_all is_target_row row
 row_for t [] good row is = absurd cc
 row_for t (r ∷ rows) good row is = grind (arith, row_for t rows, and_parts)
 
-with_tag : (x : Bytes) (ws : List Bytes) → KeepsTags ws → is_word x ≡ true → (contains_word x ws ≡ false → length ws < tag_limit) → KeepsTags (with_word x ws)
+with_tag : (x : Bytes) (ws : List Bytes) → KeepsTags ws → is_word x ≡ true → (contains_word x ws ≡ false → length ws < limits.tags) → KeepsTags (with_word x ws)
 with_tag x ws keeps word room = grind (arith, with_there, room, length_with, words_with, sorted_with)
 
 -- ---- what is found of a target
@@ -79,7 +79,7 @@ found_target h t [] = inl refl
 found_target h t (u ∷ ids) = grind (arith, found_target h t ids, same_true u t)
 
 -- an accepted tag has room
-room : (h : CommandList) (u x : Bytes) → verdict h (Tag u x) ≡ None → contains_word x (tags_in u h) ≡ false → length (tags_in u h) < tag_limit
+room : (h : CommandList) (u x : Bytes) → verdict h (Tag u x) ≡ None → contains_word x (tags_in u h) ≡ false → length (tags_in u h) < limits.tags
 unfolding records
 room h u x accepted new = grind (arith, found_target h u (target_ids h), none_holds (verdict_row (records h) (Tag u x)) accepted, leb-false)
 

@@ -1,7 +1,7 @@
 -- What columns with a number say of it.
 use Rattle.desk_records.proofs.Common.{◌≡◌, ◌<◌, ◌≤◌, ◌^◌, ◌&&◌, [], ◌∷◌, ℕ, ℤ, pos, Bool, true, Some, None, refl, sym, ap, ap₂, ◌∙◌, arith, nat_lt, nat_le}
 use Rattle.desk_records.proofs.Common.{is_eq, if◌then◌else◌, and_parts, nat_tests, ints, Value, Int, Row, column, value_cmp-Int, value_cmp-Null, has_rowid}
-use Rattle.desk_records.proofs.Common.{is_true, Compare, Eq, Binary, passes, number_limit, is_number, has_at, is_number_of, and-true}
+use Rattle.desk_records.proofs.Common.{is_true, Compare, Eq, Binary, passes, limits, is_number, has_at, is_number_of, and-true}
 use Rattle.sqlite_sql.specs.Ops.{binary}
 use Rattle.desk_records.specs.Codes.{coded_in, number_in}
 use Rattle.desk_records.proofs.Comparisons.{judged}
@@ -24,7 +24,7 @@ is_small n few = let test : nat_lt n (2 ^ 32) ≡ true = grind (arith, nat_tests
 
 -- ---- a number of a range
 
-pub is_in_range : (n : ℕ) → 1 ≤ n → n ≤ number_limit → is_number n ≡ true
+pub is_in_range : (n : ℕ) → 1 ≤ n → n ≤ limits.number → is_number n ≡ true
 is_in_range n low high = grind (arith, nat_tests, low, high)
 
 -- .. is read as itself
@@ -66,7 +66,8 @@ pub number_in_good : (v : Value) (n : ℕ) → number_in v ≡ Some n → is_num
 number_in_good v n h = grind arith
 
 pub number_in_least : (v : Value) (n : ℕ) → number_in v ≡ Some n → 1 ≤ n
-number_in_least v n h = let low : nat_le 1 n ≡ true = (and_parts (nat_le 1 n) (nat_le n number_limit) (number_in_good v n h)).0 in grind (arith, nat_tests, low)
+number_in_least v n h = let low : nat_le 1 n ≡ true = (and_parts (nat_le 1 n) (nat_le n limits.number) (number_in_good v n h)).0 in
+    grind (arith, nat_tests, low)
 
 -- a row has its own number
 pub has_own_number : (n : ℕ) (rest : Row) → has_rowid (pos n) (Int (pos n) ∷ rest) ≡ true

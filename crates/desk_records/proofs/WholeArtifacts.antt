@@ -1,6 +1,6 @@
 -- What the artifacts of a list of accepted commands have: the size and the digest of their contents, and columns that keep their rules.
 use Rattle.desk_records.proofs.Common.{◌≡◌, ◌≤◌, ◌++◌, ℕ, zero, suc, ◌*◌, ◌/◌, ◌%◌, ◌^◌, true, List, [], ◌∷◌, length, All, refl, ap, arith, length-append}
-use Rattle.desk_records.proofs.Common.{slice_index, list_all, le-leb, nat_tests, All-append, All-nil, artifact_size_limit, is_byte, is_digest, is_filename}
+use Rattle.desk_records.proofs.Common.{slice_index, list_all, le-leb, nat_tests, All-append, All-nil, limits, is_byte, is_digest, is_filename}
 use Rattle.desk_records.proofs.Common.{is_number, ArtifactRecord, added_artifacts, artifacts}
 use Rattle.std.specs.Int.{bytes_high_first}
 use Rattle.sha2.specs.Sha256.{digest_bytes, sha256}
@@ -32,7 +32,7 @@ all_whole h = are_whole h
 pub record KeepsRules (a : ArtifactRecord) : Type 0 where
   pub module_number : is_number a.module_number ≡ true
   pub filename : is_filename a.filename ≡ true
-  pub few : length a.contents ≤ artifact_size_limit
+  pub few : length a.contents ≤ limits.artifact_size
 
 added_keep : (c : Command) → IsWellFormed c → All KeepsRules (added_artifacts c)
 added_keep c good = grind (arith, nat_tests)

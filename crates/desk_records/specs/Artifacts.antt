@@ -3,7 +3,7 @@ use Rattle.std.specs.Prelude.{◌≡◌, ◌≤◌, ◌&&◌, ℕ, ◌+◌, ◌-
 use Rattle.sqlite_value.specs.declared.value.Value.TheVariants.{Null, Int, Text, Blob}
 use Rattle.sqlite_value.specs.Order.{Row}
 use Rattle.artifact_pieces.specs.Pieces.{pieces_of, piece_bytes}
-use Rattle.rollout_model.specs.Limits.{piece_length}
+use Rattle.rollout_model.specs.Limits.{limits}
 use Rattle.rollout_machine.specs.ByteStrings.{same_bytes, item_numbered}
 use Rattle.rollout_machine.specs.Commands.{Bytes}
 use Rattle.rollout_machine.specs.Records.{ArtifactRecord, Records}
@@ -66,7 +66,7 @@ pub record AddsPiece (number sequence : ℕ) (bytes : Bytes) (r next : Records) 
   pub last : r.artifacts ≡ before ++ artifact ∷ []
   pub number_is : number ≡ length before + 1
   pub sequence_least : 1 ≤ sequence
-  pub so_far : length artifact.contents ≡ (sequence - 1) * piece_length
+  pub so_far : length artifact.contents ≡ (sequence - 1) * limits.piece_length
   pub bytes_least : 1 ≤ length bytes
-  pub bytes_limit : length bytes ≤ piece_length
+  pub bytes_limit : length bytes ≤ limits.piece_length
   pub next_is : next ≡ record r { artifacts = before ++ and_piece artifact bytes ∷ [] }

@@ -1,7 +1,7 @@
 -- What the order `import` asks, what it comes to, and what is told of it.
 use Rattle.std.specs.Prelude.{◌≡◌, ℕ, nat_le, if◌then◌else◌, Bool, true, List, [], length, Option, Some, None, codes}
 use Rattle.std.specs.Io.KnownBytes.{Appends}
-use Rattle.rollout_model.specs.Limits.{file_length_limit}
+use Rattle.rollout_model.specs.Limits.{limits}
 use Rattle.rollout_model.specs.declared.refusal.Refusal.TheVariants.{TooLarge}
 use Rattle.rollout_machine.specs.CommandList.{CommandList}
 use Rattle.rollout_machine.specs.Requests.{Asked, Rejected}
@@ -13,7 +13,7 @@ use Rattle.desk_server.specs.Telling.{TellsReply}
 
 -- a file asks that its targets are put; one over the limit is too large, whatever it says
 abbrev pub asked_by_file : List ℕ → Asked
-asked_by_file file = if nat_le (length file) file_length_limit then import_asked (targets_in_file file) else Rejected TooLarge
+asked_by_file file = if nat_le (length file) limits.file_length then import_asked (targets_in_file file) else Rejected TooLarge
 
 -- the line of a file that can't be read
 abbrev pub file_line : List ℕ

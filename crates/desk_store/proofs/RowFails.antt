@@ -8,7 +8,7 @@ use Rattle.desk_store.proofs.Common.{COUNT_TARGETS, GET_DESK, NEXT_OFFER, Target
 use Rattle.desk_store.proofs.Common.{nat_tests, Offer, Bytes, ActionRecord, next_offer, gets_desk, told_desk, rows_of, gets_next_offer, is_number_in}
 use Rattle.desk_store.proofs.Common.{FindsLedger, FailsIn, IsBroken, Asks, BreaksColumn}
 use Rattle.rollout_machine.specs.declared.records.RolloutRecord.{RolloutRecord}
-use Rattle.rollout_model.specs.Limits.{number_limit}
+use Rattle.rollout_model.specs.Limits.{limits}
 use Rattle.desk_records.specs.NextOffers.{next_offer_from}
 use Rattle.desk_records.proofs.NumberColumns.{is_in_range, small_is}
 use Rattle.desk_store.specs.Breaking.{TellsOnly}
@@ -61,7 +61,7 @@ next_from : (rollouts : List RolloutRecord) (id : Bytes) (k n : ℕ) (as' : List
 next_from rollouts id k n [] o is = absurd cc
 next_from rollouts id k n (a ∷ more) o is = grind (arith, next_from rollouts id k (suc n) more o)
 
-next_in_range : (rollouts : List RolloutRecord) (id : Bytes) (k : ℕ) (as' : List ActionRecord) → length as' ≤ number_limit → (o : Offer)
+next_in_range : (rollouts : List RolloutRecord) (id : Bytes) (k : ℕ) (as' : List ActionRecord) → length as' ≤ limits.number → (o : Offer)
     → next_offer_from rollouts id k 1 as' ≡ Some o → is_number o.action ≡ true
 next_in_range rollouts id k as' few o is = let its = next_from rollouts id k 1 as' o is in is_in_range o.action its.0 (omega (arith, its.1, few))
 

@@ -2,7 +2,7 @@
 use Rattle.std.specs.Prelude.{◌≡◌, ◌≤◌, length, Result}
 use Rattle.sqlite.specs.Store.{Ghosts}
 use Rattle.sql_calls.specs.declared.fault.Fault.{Fault}
-use Rattle.rollout_model.specs.Limits.{number_limit}
+use Rattle.rollout_model.specs.Limits.{limits}
 use Rattle.desk_records.specs.Holds.{HoldsLedger, Ledger}
 use Rattle.desk_store.specs.Breaking.{BreaksFirst, BreaksOnly, NeverBreaks}
 use Rattle.desk_store.specs.Changing.{StaysIn}
@@ -37,4 +37,4 @@ module _ {S : Type 0} (g : Ghosts S) where
 -- each action has its tally, and a number within the limit
 pub record AreActionsNumbered (l : Ledger) : Type 0 where
   pub tallied : length l.tallies ≡ length l.records.actions
-  pub few : length l.records.actions ≤ number_limit
+  pub few : length l.records.actions ≤ limits.number

@@ -4,7 +4,7 @@ use Rattle.desk_verify.proofs.Common.{refl, Ok, Err, Result, sym, ap, subst, ◌
 use Rattle.desk_verify.proofs.Common.{Wears, Fault, number_of, number_in, AreSaid, IsLastNumber, AreMembers, OwnedOffer, PlacedMember, Members, Offers, Place}
 use Rattle.desk_verify.proofs.Common.{Rollouts, number_in_good, number_in_is, HoldsTables, Tables, BlamesGiven, FindsTables, seen_in, AreActions, AreOffers}
 use Rattle.desk_verify.proofs.Common.{SaysOffer, any_row, large_number, many_rows, count_on, AgreesActions, AgreeBefore, Passes, checked, Artifact}
-use Rattle.desk_verify.proofs.Common.{AgreesMembers, IsUpTo, number_limit, ReadsOf, SaysMember, is_of, unread, rules, leb-true, is_in_range}
+use Rattle.desk_verify.proofs.Common.{AgreesMembers, IsUpTo, limits, ReadsOf, SaysMember, is_of, unread, rules, leb-true, is_in_range}
 use Rattle.desk_verify.proofs.Common.{err_from_is_err_and}
 use Rattle.std.proofs.lemmas.List.Filters.{length-filter_both}
 use Rattle.std.specs.Ordering.{is_eq}
@@ -70,7 +70,7 @@ past_limit reading n none given = unread reading (large_number up.there.row up.t
     go (Some m) is =
         let same : m ≡ up.last = one_rowid m up.last [] (ap (λ v. is_eq (value_cmp v (Int (pos up.last)))) (sym (number_in_is (column up.there.row 0) m is))
         ∙ up.there.numbered) in
-        grind (arith, leb-true m number_limit, and_parts, number_in_good (column up.there.row 0) m is, is_in_range n up.low, none)
+        grind (arith, leb-true m limits.number, and_parts, number_in_good (column up.there.row 0) m is, is_in_range n up.low, none)
 
 -- ---- members
 

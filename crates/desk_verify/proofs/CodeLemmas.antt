@@ -1,6 +1,6 @@
 -- What codes and numbers are read as that the program writes.
 use Rattle.desk_verify.proofs.Common.{◌≡◌, ◌≤◌, ◌<◌, ◌^◌, ℕ, pos, Bool, true, false, [], ◌∷◌, nat_eq, nat_lt, Option, Some, None, refl, arith, ap, and_parts}
-use Rattle.desk_verify.proofs.Common.{leb-true, nat_tests, is_some, Int, Said, Outcome, group_limit, is_feedback_number, is_percentage, is_small, kind_code}
+use Rattle.desk_verify.proofs.Common.{leb-true, nat_tests, is_some, Int, Said, Outcome, limits, is_feedback_number, is_percentage, is_small, kind_code}
 use Rattle.desk_verify.proofs.Common.{outcome_code, word_code, has_size, approval_in, feedback_number_in, flag_in, group_count_in, outcome_in, percentage_in}
 use Rattle.desk_verify.proofs.Common.{place_in, said_by, broken_group_column, approval_code, flag}
 use Rattle.rollout_model.specs.declared.approval.Approval.{Approval}
@@ -19,7 +19,7 @@ place_is n low few = let some : nat_eq n 0 ≡ false = grind (arith, nat_tests, 
 pub percentage_is : (p : ℕ) → is_percentage p ≡ true → percentage_in (Int (pos p)) ≡ Some p
 percentage_is p good = grind (arith, leb-true, and_parts, nat_tests)
 
-pub group_count_is : (n : ℕ) → 1 ≤ n → n ≤ group_limit → group_count_in (Int (pos n)) ≡ Some n
+pub group_count_is : (n : ℕ) → 1 ≤ n → n ≤ limits.groups → group_count_in (Int (pos n)) ≡ Some n
 group_count_is n low high = grind (arith, nat_tests)
 
 pub feedback_number_is : (n : ℕ) → is_feedback_number n ≡ true → feedback_number_in (Int (pos n)) ≡ Some n

@@ -3,7 +3,7 @@ use Rattle.desk_records.proofs.Membership.{has_alone}
 use Rattle.desk_verify.proofs.Common.{◌≡◌, ◌<◌, ◌⊎◌, inl, inr, ◌++◌, ℕ, zero, suc, ◌+◌, ◌-◌, ◌*◌, List, [], ◌∷◌, length, map, slice_get, get_or, min}
 use Rattle.desk_verify.proofs.Common.{drop, Vec, vec_items, Some, None, refl, sym, ap, ap₂, subst, ◌∙◌, arith, length-append, Global, Row}
 use Rattle.desk_verify.proofs.Common.{piece_count, Bytes, ArePieces, pieces_in, Pieces, Tables, count_pieces, nth_piece, one_more, same_contents, HashesPieces}
-use Rattle.desk_verify.proofs.Common.{IsHashed, HasPieces, length-drop, length-take, piece_length}
+use Rattle.desk_verify.proofs.Common.{IsHashed, HasPieces, length-drop, length-take, limits}
 use Rattle.std.proofs.lemmas.Grind.{div_ceil_times}
 use Rattle.std.proofs.lemmas.Option.{slice_get_cases}
 use Rattle.sha2.specs.Hashers.{Holds256}
@@ -37,7 +37,7 @@ other_length t number place size (x ∷ found) one single is other all piece lon
 pub record IsHashedTo (t : Tables) (number size k : ℕ) (hasher : Sha256) : Type 0 where
   pub contents : Bytes
   pub holds : Holds256 hasher contents
-  pub long : length contents ≡ min (k * piece_length) size
+  pub long : length contents ≡ min (k * limits.piece_length) size
   pub count : length (pieces_in contents) ≡ k
   pub pieces : HasPieces t number contents
 
@@ -47,10 +47,11 @@ pushed [] x (suc k) y is = absurd cc
 pushed (z ∷ xs) x k y is = grind (arith, pushed xs x)
 
 -- a place before the last is within the contents
-within_size : (size k : ℕ) → k < piece_count size → k * piece_length < size
-within_size size k few = let bounds = div_ceil_times size piece_length (omega arith) in omega (arith, few, bounds.0, bounds.1)
+within_size : (size k : ℕ) → k < piece_count size → k * limits.piece_length < size
+within_size size k few = let bounds = div_ceil_times size limits.piece_length (omega arith) in omega (arith, few, bounds.0, bounds.1)
 
-pub more_hashed : (t : Tables) (number size k asked : ℕ) (old new : Sha256) → k < piece_count size → asked ≡ min (size - k * piece_length) piece_length
+pub more_hashed : (t : Tables) (number size k asked : ℕ) (old new : Sha256) → k < piece_count size
+    → asked ≡ min (size - k * limits.piece_length) limits.piece_length
     → IsHashedTo t number size k old → IsHashed t number (k + 1) asked old new → IsHashedTo t number size (k + 1) new
 more_hashed t number size k asked old new few is so_far next = record {
   contents = so_far.contents ++ next.piece;
@@ -61,24 +62,24 @@ more_hashed t number size k asked old new few is so_far next = record {
       grind (arith, so_far.pieces at piece, next.lies, so_far.count));
 }
   where
-    within : k * piece_length < size
+    within : k * limits.piece_length < size
     within = within_size size k few
 
-    whole : length so_far.contents ≡ k * piece_length
+    whole : length so_far.contents ≡ k * limits.piece_length
     whole = omega (arith, so_far.long, within)
 
     grown : pieces_in (so_far.contents ++ next.piece) ≡ pieces_in so_far.contents ++ next.piece ∷ []
     grown = one_more so_far.contents next.piece k whole (omega (arith, next.long, is, within)) (omega (arith, next.long, is))
 
 -- contents of this size have a piece at each place, of the length that is asked for
-pub none_fits : (t : Tables) (number size k asked : ℕ) → k < piece_count size → asked ≡ min (size - k * piece_length) piece_length
+pub none_fits : (t : Tables) (number size k asked : ℕ) → k < piece_count size → asked ≡ min (size - k * limits.piece_length) limits.piece_length
     → ((piece : Bytes) → length piece ≡ asked → ArePieces (t Pieces) number (k + 1) (piece ∷ []) → ⊥)
     → HashesPieces t number size None
 none_fits t number size k asked few is fails contents long has =
     let many = count_pieces contents ∙ ap piece_count long in
     elim (slice_get_cases (pieces_in contents) k).1 [
-      | inl it ↦ (let taken = length-take piece_length (drop (k * piece_length) contents) in
-          grind (arith, nth_piece contents it.0 k it.2, taken, length-drop (k * piece_length) contents, fails it.0, has k it.0 it.2))
+      | inl it ↦ (let taken = length-take limits.piece_length (drop (k * limits.piece_length) contents) in
+          grind (arith, nth_piece contents it.0 k it.2, taken, length-drop (k * limits.piece_length) contents, fails it.0, has k it.0 it.2))
       | inr past ↦ omega (arith, past.0, many, few)
     ]
 

@@ -3,7 +3,7 @@ pub use Rattle.desk_views.proofs.Common.{◌≡◌, map, take, shown_among, ◌+
 pub use Rattle.desk_views.proofs.Common.{length, rules, take_all, both_found, finds_as, listed_shown, Ok, Fault, FindsAtListsIn, FailsAtListsIn, StaysIn}
 pub use Rattle.desk_views.proofs.Common.{ledger_found, ◌≤◌, Err, nat_tests, item_numbered, group_holding, shown_in, groups_are, action_of_target, nat_eq, not}
 pub use Rattle.desk_views.proofs.Common.{is_some, stored_rollout, actions_of_rollout, ActionsTableShown, page_of, drop, same_bytes, actor_of, stored_target}
-pub use Rattle.desk_views.proofs.Common.{actions_of_target, ActionsShown, target_of, found_if, ◌*◌, IsSome, artifact_size_limit, piece_length}
+pub use Rattle.desk_views.proofs.Common.{actions_of_target, ActionsShown, target_of, found_if, ◌*◌, IsSome, limits}
 pub use Rattle.desk_views.proofs.Common.{pieces_of_artifact, ◌-◌, FindsIn, Some, None, artifacts_shown, refl, IfOk, subst, named, IsOfName, same_pointwise}
 pub use Rattle.desk_views.proofs.Common.{or_not_found, found_then, chunks_of, known, chunk, modules_offered, List, false, true, inl, inr, rules_of, group_shown}
 pub use Rattle.desk_views.proofs.Common.{RolloutRecord, IsSeenOf, Broken, said_of, targets_of, targets_shown, shown_target, BothOrNone, GroupShown}

@@ -13,7 +13,7 @@ pub use Rattle.std.specs.Option.{IsSome, is_some, option_map, unwrap_or}
 pub use Rattle.std.specs.Result.{IsErrAnd}
 pub use Rattle.std.specs.declared.alloc.Global.{Global}
 pub use Rattle.sqlite_rules.specs.Lists.{Has}
-pub use Rattle.rollout_model.specs.Limits.{artifact_size_limit, piece_length}
+pub use Rattle.rollout_model.specs.Limits.{limits}
 pub use Rattle.rollout_model.specs.Rules.{is_byte, is_contents, is_module_list, number_of}
 pub use Rattle.rollout_model.specs.declared.refusal.Refusal.TheVariants.{NotFound}
 pub use Rattle.rollout_model.specs.declared.shown_target.ShownTarget.{ShownTarget}

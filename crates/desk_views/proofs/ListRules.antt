@@ -1,8 +1,8 @@
 -- What accepted commands keep: few modules and sets, the rule of the modules of each set, and that of the contents of each artifact.
 use Rattle.desk_views.proofs.Common.{◌≡◌, ◌≤◌, ◌+◌, ◌-◌, ◌*◌, ℕ, zero, suc, true, List, length, All, Option, Some, None, sym, subst, arith, nat_le, and_parts}
 use Rattle.desk_views.proofs.Common.{leb-true, list_all, length-map, pieces_of_artifact, item_numbered, ArtifactRecord, Records, added_artifacts, artifacts}
-use Rattle.desk_views.proofs.Common.{SetLabel, AreOfList, contents_found, div_ceil_times, piece_at, piece_bytes, piece_count, pieces_of, artifact_size_limit}
-use Rattle.desk_views.proofs.Common.{piece_length, is_byte, is_contents, is_module_list, CommandList, Make, ◌▸◌, IsValid, limits_hold}
+use Rattle.desk_views.proofs.Common.{SetLabel, AreOfList, contents_found, div_ceil_times, piece_at, piece_bytes, piece_count, pieces_of, limits}
+use Rattle.desk_views.proofs.Common.{is_byte, is_contents, is_module_list, CommandList, Make, ◌▸◌, IsValid, limits_hold}
 use Rattle.rollout_machine.specs.Records.{records}
 use Rattle.std.proofs.lemmas.List.Elements.{All-append, All-get_or, All-nil}
 use Rattle.std.proofs.lemmas.List.FromFn.{length-map-range_with_len}
@@ -57,13 +57,13 @@ pieces_few : (found : Option ArtifactRecord) → is_contents (contents_found fou
 pieces_few None kept = omega arith
 pieces_few (Some a) kept = grind (
   arith,
-  and_parts (nat_le (length a.contents) artifact_size_limit) (list_all is_byte a.contents),
+  and_parts (nat_le (length a.contents) limits.artifact_size) (list_all is_byte a.contents),
   leb-true,
-  div_ceil_times (length a.contents) piece_length,
+  div_ceil_times (length a.contents) limits.piece_length,
   length-map (pieces_of (length a.contents)) (piece_bytes a.contents),
   length-map-range_with_len (piece_at (length a.contents)) 0 (piece_count (length a.contents) - 0),
 )
 
 pub no_piece : (r : Records) → AreOfList r → (k before : ℕ) (piece : List ℕ) → Some piece ≡ item_numbered (pieces_of_artifact (item_numbered r.artifacts k))
-    (before + 1) → artifact_size_limit ≤ before * piece_length → ⊥
+    (before + 1) → limits.artifact_size ≤ before * limits.piece_length → ⊥
 no_piece r of k before piece found full = grind (arith, slice_get_within, pieces_few, keeps_contents)

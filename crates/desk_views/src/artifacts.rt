@@ -9,7 +9,7 @@ ghost use Rattle.rollout_machine.specs.Requests.{ShowArtifacts, ShowArtifact, Sh
 ghost use Rattle.rollout_machine.specs.Views.{reply_of};
 ghost use Rattle.desk_reads.specs.AtLists.{FailsAtListsIn, FailsWith};
 ghost use Rattle.desk_views.specs.Contents.{contents_found};
-ghost use Rattle.rollout_model.specs.Limits.{artifact_size_limit, piece_length};
+ghost use Rattle.rollout_model.specs.Limits.{limits};
 ghost use Rattle.rollout_model.specs.Rules.{is_contents};
 ghost use Rattle.sql_calls.specs.declared.fault.Fault.TheVariants.{Broken, Memory};
 ghost use Rattle.desk_store.specs.Rows.{IfRowsBroken};
@@ -168,8 +168,8 @@ fn read_pieces<S: Alter>(
 /// What was found behind so many pieces. Where these are as many as contents may have, the store has failed.
 fn within_limit(before: u32, found: Option<Vec<u8>>) -> Result<Option<Vec<u8>>, Fault>
     ensures same { IfOk result (λ piece. piece ≡ found) }
-    ensures few { IfOk result (λ piece. IfSome piece (λ _. before * piece_length < artifact_size_limit)) }
-    ensures err { IfErr result (λ fault. (fault ≡ Broken) × IsSome found × (artifact_size_limit ≤ before * piece_length)) }
+    ensures few { IfOk result (λ piece. IfSome piece (λ _. before * limits.piece_length < limits.artifact_size)) }
+    ensures err { IfErr result (λ fault. (fault ≡ Broken) × IsSome found × (limits.artifact_size ≤ before * limits.piece_length)) }
 {
     match found {
         Some(piece) if before < PIECE_LIMIT => Ok(Some(piece)),

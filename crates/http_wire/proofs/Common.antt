@@ -12,7 +12,7 @@ pub use Rattle.std.specs.List.{flat_map, list_all}
 pub use Rattle.std.specs.Option.{is_some, option_to_list}
 pub use Rattle.std.specs.Str.Parse.{digits_value}
 pub use Rattle.memchr.specs.Find.{FindsNeedle, OccursAt, is_byte, places}
-pub use Rattle.rollout_model.specs.Limits.{body_length_limit, field_limit, head_length_limit}
+pub use Rattle.rollout_model.specs.Limits.{limits}
 pub use Rattle.http_wire.specs.BodyLengths.{body_length, is_digits, length_by, length_of, unless_coded}
 pub use Rattle.http_wire.specs.Faults.{BadCoding, BadHead, BadLength, Cut, End, Fault, HeadTooLarge, Input, TooLarge, WireFault}
 pub use Rattle.http_wire.specs.Fields.{fields_named, is_named, sole_value}

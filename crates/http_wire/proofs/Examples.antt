@@ -1,6 +1,6 @@
 -- Computed examples: they guard the definitions against slips.
 use Rattle.http_wire.proofs.Common.{◌≡◌, ℕ, ◌+◌, true, false, List, [], ◌∷◌, ◌++◌, Some, None, refl, codes, decimal, replicate, map, Ok, Err, flat_map}
-use Rattle.http_wire.proofs.Common.{body_length_limit, TooLarge, BadLength, BadCoding, line_ends, sole_value}
+use Rattle.http_wire.proofs.Common.{limits, TooLarge, BadLength, BadCoding, line_ends, sole_value}
 use Rattle.std.specs.Fmt.{digits}
 use Rattle.httparse.specs.Grammar.{trim_ows}
 use Rattle.rollout_model.specs.declared.Refusal.TheVariants as refusals
@@ -15,11 +15,11 @@ no_length : body_length [] ≡ Ok 0
 unfolding body_length
 no_length = refl
 
-length_over : body_length ((codes "Content-LENGTH", decimal (body_length_limit + 1)) ∷ []) ≡ Err TooLarge
+length_over : body_length ((codes "Content-LENGTH", decimal (limits.body_length + 1)) ∷ []) ≡ Err TooLarge
 unfolding body_length digits
 length_over = refl
 
-length_at_limit : body_length ((codes "Content-LENGTH", codes "000" ++ decimal body_length_limit) ∷ []) ≡ Ok body_length_limit
+length_at_limit : body_length ((codes "Content-LENGTH", codes "000" ++ decimal limits.body_length) ∷ []) ≡ Ok limits.body_length
 unfolding body_length digits
 length_at_limit = refl
 

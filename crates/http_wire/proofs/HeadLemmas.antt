@@ -2,7 +2,7 @@
 -- first, the version is 1.1 and the target is in origin form.
 use Rattle.http_wire.proofs.Common.{◌≡◌, ◌≢◌, ℕ, Bool, ◌+◌, ◌<◌, ◌≤◌, true, cond, eqb, List, [], ◌∷◌, ◌++◌, map, length, get_or, take, drop, refl, sym, ap, ◌∙◌}
 use Rattle.http_wire.proofs.Common.{subst, arith, append_assoc, inl, inr, IsAscii, All, flat_map, and_parts, and_from, eqb-true, cases_lt, not_from_false}
-use Rattle.http_wire.proofs.Common.{ne_eqb, false≢true, append-nil, get_or_past, length-map, drop_all, field_limit, FieldLine, HeadParts, line_text}
+use Rattle.http_wire.proofs.Common.{ne_eqb, false≢true, append-nil, get_or_past, length-map, drop_all, limits, FieldLine, HeadParts, line_text}
 use Rattle.http_wire.proofs.Common.{IsOriginForm, IsFieldLine, SpellsHead, name_and_value, line_ends, HasFewFields, lf_follows_cr, is_no_line_break, IsStrict}
 use Rattle.http_wire.proofs.Common.{IsHeadAt}
 use Rattle.std.proofs.lemmas.Bool.Decides.{nat_tests}
@@ -170,7 +170,7 @@ lines_count : (ls : List FieldLine) (rest : List ℕ) → length ls + line_ends 
 lines_count [] rest = omega arith
 lines_count (l ∷ ls) rest = grind (arith, lines_count ls, line_ends_skip, append_assoc, cons-append)
 
-pub few_lines : (region : List ℕ) (h : HeadParts) → SpellsHead region h → HasFewFields region → length (map field_of h.lines) ≤ field_limit
+pub few_lines : (region : List ℕ) (h : HeadParts) → SpellsHead region h → HasFewFields region → length (map field_of h.lines) ≤ limits.fields
 few_lines region h s room =
     let fields = flat_map print_field (map field_of h.lines) in
     let count = lines_count h.lines (13 ∷ 10 ∷ []) in

@@ -1,7 +1,7 @@
 -- At the front of the bytes stands one message, one fault or neither, and more bytes leave it there.
 use Rattle.http_wire.proofs.Common.{◌≡◌, ℕ, ◌+◌, ◌<◌, ◌≤◌, ◌⊎◌, List, [], ◌∷◌, ◌++◌, length, map, take, drop, refl, sym, ap, ◌∙◌, subst, arith, append_assoc}
 use Rattle.http_wire.proofs.Common.{inl, inr, Result, Ok, Err, Option, Some, None, append-nil, ◌^◌, length-append, take_at, drop_at}
-use Rattle.http_wire.proofs.Common.{take-append-drop, length-take-le, cond_both, ltb-false, head_length_limit, field_limit, body_length_limit}
+use Rattle.http_wire.proofs.Common.{take-append-drop, length-take-le, cond_both, ltb-false, limits}
 use Rattle.http_wire.proofs.Common.{WireFault, TooLarge, BadHead, BadLength, HeadTooLarge, BadCoding, HasRegion, HasNoRegion, HasFewFields, line_ends}
 use Rattle.http_wire.proofs.Common.{FieldLine, HeadParts, SpellsHead, NameAndValue, name_and_value, length_of, length_by, unless_coded}
 use Rattle.http_wire.proofs.Common.{WireMessage, IsHeadWith, IsMessage, IsBadRegion, IsFault, IsUndecided, Begins, HasMessages, EndsAs}
@@ -67,7 +67,7 @@ IsBodyFault BadLength = Unit {0}
 IsBodyFault BadCoding = Unit {0}
 
 abbrev IsOfBody : Result ℕ WireFault → Type 0
-IsOfBody (Ok n) = n ≤ body_length_limit
+IsOfBody (Ok n) = n ≤ limits.body_length
 IsOfBody (Err f) = IsBodyFault f
 
 length_of_body : (text : List ℕ) → IsOfBody (length_of text)
@@ -127,7 +127,7 @@ missing_body bytes region after m t fs n has good short = (
 )
 
 -- one more byte at least where a head may still end
-pub missing_head : (bytes : List ℕ) → HasNoRegion bytes → length bytes < head_length_limit → StandsFirst bytes (Err (Wants (length bytes + 1)))
+pub missing_head : (bytes : List ℕ) → HasNoRegion bytes → length bytes < limits.head_length → StandsFirst bytes (Err (Wants (length bytes + 1)))
 missing_head bytes none short =
     (omega arith, λ more few. subst IsUndecided (sym (append_nothing bytes more (omega (arith, few, length-append bytes more)))) undecided)
   where
@@ -211,7 +211,7 @@ abbrev HasFormFault : List ℕ → WireFault → Type 0
 HasFormFault region f = (f ≡ BadHead) × HasFewFields region × ((h : HeadParts) → SpellsHead region h → ⊥)
 
 abbrev HasSizeFault : List ℕ → WireFault → Type 0
-HasSizeFault region f = (f ≡ HeadTooLarge) × (field_limit + 2 < line_ends region)
+HasSizeFault region f = (f ≡ HeadTooLarge) × (limits.fields + 2 < line_ends region)
 
 classes : (region : List ℕ) (f : WireFault) → IsBadRegion region f → HasSizeFault region f ⊎ (HasFormFault region f ⊎ HasLengthFault region f)
 classes region f bad = grind arith

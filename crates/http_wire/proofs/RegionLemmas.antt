@@ -1,7 +1,7 @@
 -- The head region by places, and that more bytes leave it as it is.
 use Rattle.http_wire.proofs.Common.{◌≡◌, ℕ, zero, suc, ◌+◌, ◌-◌, ◌<◌, ◌≤◌, min, List, ◌++◌, length, take, drop, get_or, codes, refl, sym, ap, ◌∙◌, subst}
 use Rattle.http_wire.proofs.Common.{arith, append_assoc, inl, inr, Some, None, cases_order, cases_lt, get_or-take, get_or_append_left, length-take-le}
-use Rattle.http_wire.proofs.Common.{length-append, take-append-drop, take_at, drop_at, FindsNeedle, OccursAt, head_length_limit, IsHeadEndAt, HasRegion}
+use Rattle.http_wire.proofs.Common.{length-append, take-append-drop, take_at, drop_at, FindsNeedle, OccursAt, limits, IsHeadEndAt, HasRegion}
 use Rattle.http_wire.proofs.Common.{HasNoRegion}
 
 -- four places of one list are those of another
@@ -21,7 +21,7 @@ pub front_of_end : (a b : List ℕ) (k : ℕ) → k + 4 ≤ length a → IsHeadE
 front_of_end a b k le = same_end a (a ++ b) k (λ i l. sym (get_or_append_left a b 0 i (omega arith)))
 
 -- the first place of CR LF CR LF gives the region
-pub region_at : (bytes : List ℕ) (k : ℕ) → k + 4 ≤ length bytes → k + 4 ≤ head_length_limit → IsHeadEndAt bytes k
+pub region_at : (bytes : List ℕ) (k : ℕ) → k + 4 ≤ length bytes → k + 4 ≤ limits.head_length → IsHeadEndAt bytes k
     → ((j : ℕ) → j < k → IsHeadEndAt bytes j → ⊥) → HasRegion bytes (take (k + 4) bytes) (drop (k + 4) bytes)
 region_at bytes k fits limit here before =
     let size : length (take (k + 4) bytes) ≡ k + 4 = length-take-le (k + 4) bytes fits in
@@ -36,7 +36,7 @@ region_at bytes k fits limit here before =
 
 -- a region has its end at a place of the bytes
 pub end_of_region : (bytes region after : List ℕ) → HasRegion bytes region after
-    → (k : ℕ) × (length region ≡ k + 4) × (k + 4 ≤ length bytes) × (k + 4 ≤ head_length_limit) × IsHeadEndAt bytes k
+    → (k : ℕ) × (length region ≡ k + 4) × (k + 4 ≤ length bytes) × (k + 4 ≤ limits.head_length) × IsHeadEndAt bytes k
 end_of_region bytes region after h =
     let k = length region - 4 in
     let size : length region ≡ k + 4 = omega (arith, h.size) in (
@@ -48,7 +48,7 @@ end_of_region bytes region after h =
     )
 
 -- no place gives no region
-pub no_region : (bytes : List ℕ) → ((k : ℕ) → k + 4 ≤ length bytes → k + 4 ≤ head_length_limit → IsHeadEndAt bytes k → ⊥) → HasNoRegion bytes
+pub no_region : (bytes : List ℕ) → ((k : ℕ) → k + 4 ≤ length bytes → k + 4 ≤ limits.head_length → IsHeadEndAt bytes k → ⊥) → HasNoRegion bytes
 no_region bytes none region after h =
     let at = end_of_region bytes region after h in none at.0 at.2 at.3 at.4
 
@@ -70,7 +70,7 @@ needle_of_end bytes k fits h = record { fits = fits; reads = at }
     at (suc (suc (suc (suc j)))) l = absurd (omega (arith, l))
 
 -- within the limit it stands first at the region's end, or nowhere
-pub region_found : (bytes : List ℕ) (n k : ℕ) → n ≤ length bytes → n ≤ head_length_limit → FindsNeedle (take n bytes) (codes "\r\n\r\n") 0 (Some k)
+pub region_found : (bytes : List ℕ) (n k : ℕ) → n ≤ length bytes → n ≤ limits.head_length → FindsNeedle (take n bytes) (codes "\r\n\r\n") 0 (Some k)
     → HasRegion bytes (take (k + 4) bytes) (drop (k + 4) bytes)
 region_found bytes n k fits limit found =
     let size = length-take-le n bytes fits in
@@ -78,7 +78,7 @@ region_found bytes n k fits limit found =
     region_at bytes k (omega arith) (omega arith) (end_in_take bytes n k room (end_of_needle (take n bytes) k found.1))
     (λ j l here. found.0.before j (omega arith) l (needle_of_end (take n bytes) j (omega arith) (take_of_end bytes n j (omega arith) here)))
 
-pub no_region_found : (bytes : List ℕ) (n : ℕ) → n ≡ min (length bytes) head_length_limit → FindsNeedle (take n bytes) (codes "\r\n\r\n") 0 None
+pub no_region_found : (bytes : List ℕ) (n : ℕ) → n ≡ min (length bytes) limits.head_length → FindsNeedle (take n bytes) (codes "\r\n\r\n") 0 None
     → HasNoRegion bytes
 no_region_found bytes n least found =
     let size = length-take-le n bytes (omega arith) in
@@ -110,7 +110,7 @@ pub region_append : (bytes region after more : List ℕ) → HasRegion bytes reg
 region_append bytes region after more h = grind (arith, append_assoc)
 
 -- without a region no place ends one
-pub no_end_below : (bytes : List ℕ) → HasNoRegion bytes → (n : ℕ) → n + 3 ≤ length bytes → n + 3 ≤ head_length_limit
+pub no_end_below : (bytes : List ℕ) → HasNoRegion bytes → (n : ℕ) → n + 3 ≤ length bytes → n + 3 ≤ limits.head_length
     → (k : ℕ) → k < n → IsHeadEndAt bytes k → ⊥
 no_end_below bytes none zero fits limit k l here = absurd (omega arith)
 no_end_below bytes none (suc n) fits limit k l here =
@@ -122,10 +122,10 @@ no_end_below bytes none (suc n) fits limit k l here =
           none _ _ (region_at bytes k (omega arith) (omega arith) here (λ j lt. before j (omega arith)))
     ]
 
-pub no_end : (bytes : List ℕ) → HasNoRegion bytes → (k : ℕ) → k + 4 ≤ length bytes → k + 4 ≤ head_length_limit → IsHeadEndAt bytes k → ⊥
+pub no_end : (bytes : List ℕ) → HasNoRegion bytes → (k : ℕ) → k + 4 ≤ length bytes → k + 4 ≤ limits.head_length → IsHeadEndAt bytes k → ⊥
 no_end bytes none k fits limit = no_end_below bytes none (suc k) (omega arith) (omega arith) k (omega arith)
 
 -- with as many bytes as the limit, more bytes make no region
-pub no_region_append : (bytes more : List ℕ) → head_length_limit ≤ length bytes → HasNoRegion bytes → HasNoRegion (bytes ++ more)
+pub no_region_append : (bytes more : List ℕ) → limits.head_length ≤ length bytes → HasNoRegion bytes → HasNoRegion (bytes ++ more)
 no_region_append bytes more long none = no_region (bytes ++ more) (λ k fits limit h.
     no_end bytes none k (omega arith) limit (end_in_front bytes more k (omega arith) h))

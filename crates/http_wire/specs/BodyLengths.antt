@@ -3,7 +3,7 @@ use Rattle.std.specs.Prelude.{ℕ, Bool, ◌&&◌, nat_lt, if◌then◌else◌, 
 use Rattle.std.specs.List.{list_all}
 use Rattle.std.specs.Char.{is_ascii_digit}
 use Rattle.std.specs.Str.Parse.{digits_value}
-use Rattle.rollout_model.specs.Limits.{body_length_limit}
+use Rattle.rollout_model.specs.Limits.{limits}
 use Rattle.http_wire.specs.Faults.{WireFault, TooLarge, BadLength, BadCoding}
 use Rattle.http_wire.specs.Heads.{NameAndValue}
 use Rattle.http_wire.specs.Fields.{fields_named}
@@ -16,7 +16,7 @@ is_digits text = nat_lt 0 (length text) && list_all is_ascii_digit text
 abbrev pub length_of : List ℕ → Result ℕ WireFault
 length_of text =
     if is_digits text
-    then (if nat_lt body_length_limit (digits_value 10 text) then Err TooLarge else Ok (digits_value 10 text))
+    then (if nat_lt limits.body_length (digits_value 10 text) then Err TooLarge else Ok (digits_value 10 text))
     else Err BadLength
 
 -- the length by the fields content-length: none of them says 0, and two are a fault

@@ -1,6 +1,6 @@
 -- What the bytes of a stream begin with: a message, a fault or neither.
 use Rattle.std.specs.Prelude.{◌≡◌, ℕ, ◌+◌, ◌<◌, ◌≤◌, ◌⊎◌, List, ◌++◌, length, map, Ok, Err}
-use Rattle.rollout_model.specs.Limits.{head_length_limit, field_limit}
+use Rattle.rollout_model.specs.Limits.{limits}
 use Rattle.http_wire.specs.Faults.{WireFault, BadHead, HeadTooLarge}
 use Rattle.http_wire.specs.Regions.{HasRegion, HasNoRegion, HasFewFields, line_ends}
 use Rattle.http_wire.specs.Heads.{HeadParts, SpellsHead, NameAndValue, name_and_value}
@@ -31,7 +31,7 @@ pub record IsMessage (bytes : List ℕ) (m : WireMessage) (rest : List ℕ) : Ty
 
 -- a region that is at fault: too many fields, else no head, else the fault of the body's length
 abbrev pub IsBadRegion : List ℕ → WireFault → Type 0
-IsBadRegion region HeadTooLarge = field_limit + 2 < line_ends region
+IsBadRegion region HeadTooLarge = limits.fields + 2 < line_ends region
 IsBadRegion region BadHead = HasFewFields region × ((h : HeadParts) → SpellsHead region h → ⊥)
 IsBadRegion region f =
     (method target : List ℕ) × (fields : List NameAndValue) × IsHeadWith region method target fields × (body_length fields ≡ Err f)
@@ -40,7 +40,7 @@ IsBadRegion region f =
 abbrev pub IsFault : List ℕ → WireFault → Type 0
 IsFault bytes f =
     ((region after : List ℕ) × HasRegion bytes region after × IsBadRegion region f)
-    ⊎ (HasNoRegion bytes × (head_length_limit ≤ length bytes) × (f ≡ HeadTooLarge))
+    ⊎ (HasNoRegion bytes × (limits.head_length ≤ length bytes) × (f ≡ HeadTooLarge))
 
 -- neither a whole message nor at fault
 pub record IsUndecided (bytes : List ℕ) : Type 0 where

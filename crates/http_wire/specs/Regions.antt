@@ -2,7 +2,7 @@
 use Rattle.std.specs.Prelude.{◌≡◌, ℕ, ◌+◌, ◌-◌, ◌<◌, ◌≤◌, ◌&&◌, ◌==◌, if◌then◌else◌, List, [], ◌∷◌, ◌++◌, length, slice_index, ⊤}
 use Rattle.std.specs.List.{flat_map}
 use Rattle.httparse.specs.Ascii.{line_feed, carriage_return, crlf_bytes}
-use Rattle.rollout_model.specs.Limits.{head_length_limit, field_limit}
+use Rattle.rollout_model.specs.Limits.{limits}
 
 -- CR LF stands at place k
 abbrev pub IsLineEndAt : List ℕ → ℕ → Type 0
@@ -15,7 +15,7 @@ IsHeadEndAt bytes k = IsLineEndAt bytes k × IsLineEndAt bytes (k + 2)
 -- the bytes up to and with the first CR LF CR LF, and those after it
 pub record HasRegion (bytes region after : List ℕ) : Type 0 where
   pub split : bytes ≡ region ++ after
-  pub limit : length region ≤ head_length_limit
+  pub limit : length region ≤ limits.head_length
   pub size : 4 ≤ length region
   pub ends : IsHeadEndAt region (length region - 4)
   pub first : (k : ℕ) → k + 4 < length region → IsHeadEndAt region k → ⊥
@@ -31,7 +31,7 @@ line_ends (b ∷ bytes) = (if (b == carriage_return) && (slice_index bytes 0 == 
 
 -- the lines are the request line, at most as many fields as the limit, and the empty line
 abbrev pub HasFewFields : List ℕ → Type 0
-HasFewFields region = line_ends region ≤ field_limit + 2
+HasFewFields region = line_ends region ≤ limits.fields + 2
 
 -- ---- what `line_ends` counts
 

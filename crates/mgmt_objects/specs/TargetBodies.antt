@@ -5,7 +5,7 @@ use Rattle.std.specs.Cmp.Lexicographic.{pointwise}
 use Rattle.serde_json.specs.Data.{Data}
 use Rattle.serde_json.specs.Find.{get, as_str}
 use Rattle.artifact_pieces.specs.Digests.{digest_of}
-use Rattle.rollout_model.specs.Limits.{posted_target_limit}
+use Rattle.rollout_model.specs.Limits.{limits}
 use Rattle.rollout_model.specs.Rules.{is_between, tag_list_of, token_of, word_of}
 use Rattle.rollout_model.specs.declared.target_row.TargetRow.{TargetRow}
 use Rattle.mgmt_objects.specs.Bodies.{body_data, text_member}
@@ -55,7 +55,7 @@ have_distinct_ids (row ∷ rows) = not (has_row_of row.id rows) && have_distinct
 
 -- 1 to 100 rows, no two of one id
 abbrev pub are_posted : List TargetRow → Bool
-are_posted rows = is_between 1 posted_target_limit (length rows) && have_distinct_ids rows
+are_posted rows = is_between 1 limits.posted_targets (length rows) && have_distinct_ids rows
 
 abbrev pub posted_rows : List TargetRow → Option (List TargetRow)
 posted_rows rows = if are_posted rows then Some rows else None

@@ -11,7 +11,7 @@ use Rattle.rollout_machine.specs.Replies.{ContentsShown}
 use Rattle.rollout_machine.specs.Requests.{Asked}
 use Rattle.rollout_machine.specs.Standing.{DeskState, StandsFor, IsInDoubt, Applies}
 use Rattle.rollout_machine.specs.Views.{reply_of}
-use Rattle.rollout_model.specs.Limits.{piece_length}
+use Rattle.rollout_model.specs.Limits.{limits}
 use Rattle.rollout_model.specs.declared.refusal.Refusal.{Refusal}
 use Rattle.rollout_model.specs.declared.refusal.Refusal.TheVariants.{NoMemory, StoreFailed}
 use Rattle.rollout_model.specs.declared.request.Reply.{Reply}
@@ -21,11 +21,11 @@ use Rattle.request_handler.specs.declared.answered.Answered.TheVariants as answe
 
 -- how many bytes were handed out: whole pieces, or all there are
 abbrev pub sent : Download → ℕ
-sent p = min (p.pieces * piece_length) p.size
+sent p = min (p.pieces * limits.piece_length) p.size
 
 -- how many bytes the next piece has
 abbrev pub next_length : Download → ℕ
-next_length p = min piece_length (p.size - p.pieces * piece_length)
+next_length p = min limits.piece_length (p.size - p.pieces * limits.piece_length)
 
 -- at the list h these are the contents of the artifact, and its size is their length
 pub record Sends (h : CommandList) (p : Download) (contents : Bytes) : Type 0 where
@@ -57,7 +57,7 @@ Begins old new asked (answered.Reply r) = Applies old new asked (reply_of r)
 
 -- the next piece of the contents is handed out; with it, what was handed out so far is a first part of the contents
 pub record HandsOutPiece (contents : Bytes) (p q : Download) (piece : Bytes) : Type 0 where
-  pub next : piece ≡ take piece_length (drop (sent p) contents)
+  pub next : piece ≡ take limits.piece_length (drop (sent p) contents)
   pub joined : take (sent q) contents ≡ take (sent p) contents ++ piece
 
 -- The next piece at the list h, or all were handed out. Or memory was wanted, and the same piece is next; or the store failed, and a crash leaves the list.

@@ -16,7 +16,7 @@ pub use Rattle.sqlite.specs.Tree.{Trees}
 pub use Rattle.sqlite.specs.WalReads.{AreClean}
 pub use Rattle.sqlite_disk.specs.declared.Files.{Files}
 pub use Rattle.sqlite_store.specs.declared.store.FileStore.{FileStore}
-pub use Rattle.rollout_model.specs.Limits.{piece_length}
+pub use Rattle.rollout_model.specs.Limits.{limits}
 pub use Rattle.rollout_model.specs.declared.refusal.Refusal.{Refusal}
 pub use Rattle.rollout_model.specs.declared.refusal.Refusal.TheVariants.{NoMemory, NotFound, StoreFailed, Unauthorized}
 pub use Rattle.rollout_machine.proofs.Answering.{accepted_step, query_answer, refused_answer}

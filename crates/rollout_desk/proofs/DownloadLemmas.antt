@@ -4,7 +4,7 @@ use Rattle.rollout_desk.proofs.Common.{Option, Some, None, Result, Ok, Err, refl
 use Rattle.rollout_desk.proofs.Common.{HoldsRecords, piece_numbered, pieces_of_artifact, Answer, query_reply, if_found, artifact_if, item_numbered, CommandList}
 use Rattle.rollout_desk.proofs.Common.{followed_by, Bytes, Command, Credential, ArtifactRecord, Records, added_artifacts, artifacts, Reply, Refused}
 use Rattle.rollout_desk.proofs.Common.{ArtifactShown, ContentsShown, Ask, Asks, Request, ShowArtifact, ShowContents, one, DeskState, StandsFor, Applies}
-use Rattle.rollout_desk.proofs.Common.{reply_of, query_answer, piece_length, Refusal, StoreFailed, desk_state_at, sent, next_length, BeginsAt}
+use Rattle.rollout_desk.proofs.Common.{reply_of, query_answer, limits, Refusal, StoreFailed, desk_state_at, sent, next_length, BeginsAt}
 use Rattle.rollout_desk.proofs.Common.{HandsPieces, artifact_in, BeginsOffered, HandsItsArtifact, IsNextOf, RefusesContents, DownloadsGoOn, FindsDownload}
 use Rattle.rollout_desk.proofs.Common.{is_store, IsAtRest, Looks, bytes_of, IsPromised, length, length-take, length-drop, Sends, HasCleanDisk, Ghosts, state}
 use Rattle.desk_views.specs.Downloads.{downloadable}
@@ -50,13 +50,14 @@ module _ (known : Known) (was : Bool) (a b : State) (p : Download) where
   handed found piece look is more runs h contents clean standing sends =
       let looked : Looks HoldsRecords a b (Ok (Some piece)) (IsNextPiece p) = subst (λ x. Looks HoldsRecords a b x (IsNextPiece p)) is look in
       let it = looked.looks (records h) (λ _. standing.shows.0) in
-      let before : p.pieces * piece_length < p.size = omega (arith, more) in
-      let next : piece.items ≡ take piece_length (drop (p.pieces * piece_length) contents) = piece_is (records h) p.number p.pieces contents piece.items
+      let before : p.pieces * limits.piece_length < p.size = omega (arith, more) in
+      let next : piece.items ≡ take limits.piece_length (drop (p.pieces * limits.piece_length) contents) =
+      piece_is (records h) p.number p.pieces contents piece.items
       sends.artifact (it.1 clean) in (
         again h standing runs (it.0 clean),
         record { artifact = sends.artifact; size = sends.size },
         record {
-          next = next ∙ ap (λ n. take piece_length (drop n contents)) (sym (so_far contents p.size p.pieces sends.size before));
+          next = next ∙ ap (λ n. take limits.piece_length (drop n contents)) (sym (so_far contents p.size p.pieces sends.size before));
           joined = joins contents p.size p.pieces sends.size before ∙ ap (λ l. take (sent p) contents ++ l) (sym next);
         },
       )
@@ -90,13 +91,14 @@ module _ (known : Known) (was : Bool) (a b : State) (p : Download) where
       go x other ((look.looks (records h) (λ _. standing.shows.0)).1 clean ∙ piece_there (records h) p.number p.pieces contents sends.artifact
       (omega (arith, more, sends.size)))
     where
-      go : (x : Option (Vec ℕ Global)) → IsOtherThan (next_length p) (Ok x) → bytes_of x ≡ Some (take piece_length (drop (p.pieces * piece_length) contents))
+      go : (x : Option (Vec ℕ Global)) → IsOtherThan (next_length p) (Ok x) → bytes_of x
+          ≡ Some (take limits.piece_length (drop (p.pieces * limits.piece_length) contents))
           → ⊥
       go None other is = absurd cc
       go (Some piece) other is =
-          let same : piece.items ≡ take piece_length (drop (p.pieces * piece_length) contents) = cc in
-          other (ap length same ∙ length-take piece_length (drop (p.pieces * piece_length) contents)
-          ∙ omega (arith, length-drop (p.pieces * piece_length) contents, sends.size))
+          let same : piece.items ≡ take limits.piece_length (drop (p.pieces * limits.piece_length) contents) = cc in
+          other (ap length same ∙ length-take limits.piece_length (drop (p.pieces * limits.piece_length) contents)
+          ∙ omega (arith, length-drop (p.pieces * limits.piece_length) contents, sends.size))
   never_other (Err refusal) look more h contents clean standing sends other = other
 
 -- ---- the first answer

@@ -1,7 +1,7 @@
 -- From pieces in the records to pieces that are handed out.
 use Rattle.rollout_desk.proofs.Common.{◌≡◌, ◌<◌, ◌+◌, ◌*◌, ◌++◌, ℕ, zero, suc, List, take, drop, length, min, Option, Some, All, sym, subst, ap, ◌∙◌}
 use Rattle.rollout_desk.proofs.Common.{arith, add-one, slice_get, option_map, pieces_in, pieces_of_artifact, piece_numbered, IsWhole, all_whole, item_numbered}
-use Rattle.rollout_desk.proofs.Common.{CommandList, Bytes, ArtifactRecord, Records, records, piece_length, get_or, []}
+use Rattle.rollout_desk.proofs.Common.{CommandList, Bytes, ArtifactRecord, Records, records, limits, get_or, []}
 use Rattle.std.proofs.lemmas.Grind.{div_ceil_times}
 use Rattle.std.proofs.Math.Seq.{take-add}
 use Rattle.std.proofs.lemmas.List.{take_min}
@@ -29,32 +29,33 @@ pieces_are found contents is = grind arith
 
 pub piece_is : (r : Records) (number k : ℕ) (contents piece : Bytes) → option_map (λ (a : ArtifactRecord). a.contents) (item_numbered r.artifacts number)
     ≡ Some contents → Some piece ≡ piece_numbered r.artifacts number (k + 1)
-    → piece ≡ take piece_length (drop (k * piece_length) contents)
+    → piece ≡ take limits.piece_length (drop (k * limits.piece_length) contents)
 piece_is r number k contents piece has is = grind (arith, nth_piece, pieces_are, add-one)
 
 -- .. is there, where the contents reach so far
-nth_there : (contents : Bytes) (k : ℕ) → k * piece_length < length contents → slice_get (pieces_in contents) k
-    ≡ Some (take piece_length (drop (k * piece_length) contents))
+nth_there : (contents : Bytes) (k : ℕ) → k * limits.piece_length < length contents → slice_get (pieces_in contents) k
+    ≡ Some (take limits.piece_length (drop (k * limits.piece_length) contents))
 nth_there contents k within =
-    let ends = div_ceil_times (length contents) piece_length (omega arith) in
+    let ends = div_ceil_times (length contents) limits.piece_length (omega arith) in
     let few : k < length (pieces_in contents) = omega (arith, count_pieces contents, ends.0, within) in
     let there = slice_get-get_or (pieces_in contents) k [] few in
     there ∙ ap Some (nth_piece contents (get_or (pieces_in contents) k []) k there)
 
 pub piece_there : (r : Records) (number k : ℕ) (contents : Bytes) → option_map (λ (a : ArtifactRecord). a.contents) (item_numbered r.artifacts number)
-    ≡ Some contents → k * piece_length < length contents
-    → piece_numbered r.artifacts number (k + 1) ≡ Some (take piece_length (drop (k * piece_length) contents))
+    ≡ Some contents → k * limits.piece_length < length contents
+    → piece_numbered r.artifacts number (k + 1) ≡ Some (take limits.piece_length (drop (k * limits.piece_length) contents))
 piece_there r number k contents has within = grind (arith, add-one, pieces_are, nth_there)
 
 -- ---- what was handed out so far
 
-module _ (contents : Bytes) (size k : ℕ) (is : size ≡ length contents) (more : k * piece_length < size) where
-  pub so_far : min (k * piece_length) size ≡ k * piece_length
+module _ (contents : Bytes) (size k : ℕ) (is : size ≡ length contents) (more : k * limits.piece_length < size) where
+  pub so_far : min (k * limits.piece_length) size ≡ k * limits.piece_length
   so_far = omega (arith, more)
 
-  pub joins : take (min ((k + 1) * piece_length) size) contents ≡ take (min (k * piece_length) size) contents ++ take piece_length
-      (drop (k * piece_length) contents)
+  pub joins : take (min ((k + 1) * limits.piece_length) size) contents ≡ take (min (k * limits.piece_length) size) contents ++ take limits.piece_length
+      (drop (k * limits.piece_length) contents)
   joins =
-      let next : (k + 1) * piece_length ≡ k * piece_length + piece_length = omega arith in
-      ap (λ n. take (min ((k + 1) * piece_length) n) contents) is ∙ take_min ((k + 1) * piece_length) contents ∙ ap (λ n. take n contents) next
-      ∙ take-add (k * piece_length) piece_length contents ∙ ap (λ n. take n contents ++ take piece_length (drop (k * piece_length) contents)) (sym so_far)
+      let next : (k + 1) * limits.piece_length ≡ k * limits.piece_length + limits.piece_length = omega arith in
+      ap (λ n. take (min ((k + 1) * limits.piece_length) n) contents) is ∙ take_min ((k + 1) * limits.piece_length) contents ∙ ap (λ n. take n contents) next
+      ∙ take-add (k * limits.piece_length) limits.piece_length contents
+      ∙ ap (λ n. take n contents ++ take limits.piece_length (drop (k * limits.piece_length) contents)) (sym so_far)

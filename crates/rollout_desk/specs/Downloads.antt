@@ -16,7 +16,7 @@ use Rattle.rollout_machine.specs.Replies.{Refused}
 use Rattle.rollout_machine.specs.Requests.{Asked, Query, ShowContents, Download as DownloadOf}
 use Rattle.rollout_machine.specs.Standing.{DeskState, StandsFor, IsInDoubt}
 use Rattle.rollout_machine.specs.Views.{reply_of}
-use Rattle.rollout_model.specs.Limits.{piece_length}
+use Rattle.rollout_model.specs.Limits.{limits}
 use Rattle.rollout_model.specs.declared.artifact.Artifact.{Artifact}
 use Rattle.rollout_model.specs.declared.refusal.Refusal.{Refusal}
 use Rattle.rollout_model.specs.declared.refusal.Refusal.TheVariants.{NoMemory, StoreFailed, Stopped}
@@ -61,7 +61,7 @@ pub record KeepsToQuery {S : Type 0} (g : Ghosts S) (old new : Desk S) (query : 
 pub record IsNextOf (h : CommandList) (p : Download) (piece : Bytes) : Type 0 where
   pub contents : Bytes
   pub artifact : option_map (λ (a : ArtifactRecord). a.contents) (item_numbered (records h).artifacts p.number) ≡ Some contents
-  pub next : piece ≡ take piece_length (drop (p.pieces * piece_length) contents)
+  pub next : piece ≡ take limits.piece_length (drop (p.pieces * limits.piece_length) contents)
 
 -- at the list h, for which the desk stands as before
 abbrev pub StaysAt : {File : Type 0} → CommandList → DeskState File → Download → Result (Option (Vec ℕ Global)) Refusal → Type 0

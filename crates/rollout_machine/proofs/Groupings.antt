@@ -5,7 +5,7 @@ use Rattle.rollout_machine.proofs.Common.{subst, ◌∙◌, is_some, AllByRecurs
 use Rattle.rollout_machine.proofs.Common.{is_plan, RolloutPlan, GroupDefinition, GroupingCovers, last_defined, percentages, some_empty, IsCut, LeavesNoneEmpty}
 use Rattle.rollout_machine.proofs.Common.{first_empty, split_last}
 use Rattle.rollout_model.specs.Groupings.{define_each, definition_numbered, ends_whole, is_definition}
-use Rattle.rollout_model.specs.Limits.{percentage_limit}
+use Rattle.rollout_model.specs.Limits.{limits}
 use Rattle.rollout_model.specs.PlanRules.{rule_by}
 use Rattle.rollout_model.specs.Rules.{is_between, is_group_count, is_percentage}
 use Rattle.rollout_machine.specs.GroupRules.{GroupRule, rule_at, success_at, error_at}
@@ -32,7 +32,7 @@ are_whole (d ∷ next ∷ more) all e =
     record {
       before = d.percentage ∷ rest.before;
       are = ap (λ ps. d.percentage ∷ ps) rest.are;
-      some = (least 1 percentage_limit d.percentage (and_parts _ _ parts.0).0, rest.some);
+      some = (least 1 limits.percentage d.percentage (and_parts _ _ parts.0).0, rest.some);
     }
 
 whole_is_cut : (ps : List ℕ) (m : ℕ) → AreWhole ps → LeavesNoneEmpty m ps → IsCut (split_last m ps) m (length ps)
@@ -75,7 +75,7 @@ pub record HasThresholds (s e : ℕ) : Type 0 where
   pub error : 1 ≤ e
 
 thresholds : (success error : ℕ) → is_percentage success ≡ true → is_percentage error ≡ true → HasThresholds success error
-thresholds success error s e = record { success = least 1 percentage_limit success s; error = least 1 percentage_limit error e }
+thresholds success error s e = record { success = least 1 limits.percentage success s; error = least 1 limits.percentage error e }
 
 -- what holds of the rollout's own thresholds, and of each definition that keeps its rules, holds of what is said of each group
 pub each_rule : (P : GroupRule → Type 0) (plan : RolloutPlan) (i : ℕ) → is_plan plan ≡ true

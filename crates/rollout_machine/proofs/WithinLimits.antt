@@ -17,7 +17,7 @@ use Rattle.rollout_machine.proofs.Valid.{NoneHolds, none_holds}
 use Rattle.std.specs.Prelude.{◌*◌}
 use Rattle.rollout_machine.specs.ByteStrings.{item_numbered}
 use Rattle.rollout_machine.specs.Records.{GroupRecord, Records, RolloutRecord}
-use Rattle.rollout_model.specs.Limits.{artifact_limit, group_limit, rollout_limit, target_limit}
+use Rattle.rollout_model.specs.Limits.{limits}
 
 -- a group counts no more actions than its rollout has members
 pub record CountsNoMore (members : ℕ) (g : GroupRecord) : Type 0 where
@@ -27,17 +27,17 @@ pub record CountsNoMore (members : ℕ) (g : GroupRecord) : Type 0 where
 
 -- a rollout has no more members than a desk takes targets, and no more groups than the limit and than its members
 pub record IsWithinLimits (x : RolloutRecord) : Type 0 where
-  pub members : length x.members ≤ target_limit
+  pub members : length x.members ≤ limits.targets
   pub some_groups : 1 ≤ x.plan.groups.count
-  pub groups : x.plan.groups.count ≤ group_limit
+  pub groups : x.plan.groups.count ≤ limits.groups
   pub enough : x.plan.groups.count ≤ length x.members
   pub counts : (i : ℕ) (g : GroupRecord) → item_numbered x.groups i ≡ Some g → CountsNoMore (length x.members) g
 
 pub record AreWithinLimits (rs : Records) : Type 0 where
-  pub artifacts : length rs.artifacts ≤ artifact_limit
-  pub targets : length rs.targets ≤ target_limit
-  pub rollouts : length rs.rollouts ≤ rollout_limit
-  pub actions : length rs.actions ≤ rollout_limit * target_limit
+  pub artifacts : length rs.artifacts ≤ limits.artifacts
+  pub targets : length rs.targets ≤ limits.targets
+  pub rollouts : length rs.rollouts ≤ limits.rollouts
+  pub actions : length rs.actions ≤ limits.rollouts * limits.targets
   pub each : (r : ℕ) (x : RolloutRecord) → item_numbered rs.rollouts r ≡ Some x → IsWithinLimits x
 
 abbrev pub LimitsHold : Type 0

@@ -7,7 +7,7 @@ use Rattle.rollout_model.specs.Rules.{is_feedback_number, is_module_list, is_num
 use Rattle.rollout_machine.specs.Commands.{AddArtifact, Cancel, CancelFeedback, RolloutPlan, Start, Command, Pause, CreateRollout}
 use Rattle.rollout_machine.specs.Commands.{SetLabel, PutTargets, Untag, Deny, Approve, AddModule, Feedback, PutAttributes, Tag, Resume, TriggerNext}
 use Rattle.rollout_machine.specs.Commands.{AddSet, Upload, Bytes, Credential, DeviceFeedback}
-use Rattle.rollout_model.specs.Limits.{artifact_size_limit, attribute_limit}
+use Rattle.rollout_model.specs.Limits.{limits}
 use Rattle.std.specs.Prelude.{◌≡◌, Bool, true, ◌&&◌, nat_le, length, ℕ, Option, Some, None}
 use Rattle.std.specs.List.{list_all}
 use Rattle.std.specs.Str.{is_utf8}
@@ -32,7 +32,7 @@ is_device_feedback feedback = is_credential feedback.credential
 
 abbrev pub is_upload : Upload → Bool
 is_upload u = is_number u.module_number && (is_filename u.filename
-    && (is_digest_or_none u.expected && (nat_le (length u.contents) artifact_size_limit && list_all is_byte u.contents)))
+    && (is_digest_or_none u.expected && (nat_le (length u.contents) limits.artifact_size && list_all is_byte u.contents)))
 
 abbrev pub is_set_label : SetLabel → Bool
 is_set_label s = is_text s.name && (is_text s.version && is_module_list s.modules)
@@ -50,7 +50,7 @@ is_well_formed (AddSet s) = is_set_label s
 is_well_formed (PutTargets rows) = list_all is_target_row rows
 is_well_formed (Tag t x) = is_word t && is_word x
 is_well_formed (Untag t x) = is_word t && is_word x
-is_well_formed (PutAttributes device attributes) = is_credential device && (nat_le (length attributes) attribute_limit && list_all is_attribute attributes)
+is_well_formed (PutAttributes device attributes) = is_credential device && (nat_le (length attributes) limits.attributes && list_all is_attribute attributes)
 is_well_formed (CreateRollout plan) = is_plan plan
 is_well_formed (Approve r) = is_number r
 is_well_formed (Deny r) = is_number r

@@ -12,8 +12,7 @@ use Rattle.rollout_machine.specs.Counts.{is_outcome}
 use Rattle.rollout_machine.specs.Digests.{digest_of}
 use Rattle.rollout_machine.specs.Groupings.{leaves_empty}
 use Rattle.target_filter.specs.Profile.{filter_of}
-use Rattle.rollout_model.specs.Limits.{rollout_limit, module_limit, set_limit, module_artifact_limit, artifact_limit, target_limit, tag_limit}
-use Rattle.rollout_model.specs.Limits.{attribute_limit, note_limit}
+use Rattle.rollout_model.specs.Limits.{limits}
 use Rattle.rollout_machine.specs.Records.{ArtifactRecord, GroupRecord, RolloutRecord, ActionRecord, Records, records}
 use Rattle.rollout_model.specs.declared.refusal.Refusal.{Refusal}
 use Rattle.rollout_model.specs.declared.refusal.Refusal.TheVariants.{Unauthorized, NotFound, Exists, Locked, WrongState, ClosedAction, OldNumber, Quota}
@@ -104,7 +103,7 @@ is_new new a = is_none a.outcome && not (says_again (standing_of a.history new))
 
 -- a note for which there is no room
 abbrev pub is_beyond : Reported → ActionRecord → Bool
-is_beyond new a = is_note new.entry && nat_le note_limit (notes_of a)
+is_beyond new a = is_note new.entry && nat_le limits.notes (notes_of a)
 
 abbrev pub plan_row : Records → RolloutPlan → List (Bool × Refusal)
 plan_row rs plan =
@@ -112,7 +111,7 @@ plan_row rs plan =
     ∷ (is_none (item_numbered rs.sets plan.set_number), NotFound)
     ∷ (list_any (λ (x : RolloutRecord). same_bytes x.plan.name plan.name) rs.rollouts, Exists)
     ∷ (leaves_empty plan.groups (length (chosen (filter_of plan.filter_text) rs.targets)), TooFewTargets)
-    ∷ (nat_le rollout_limit (length rs.rollouts), Quota) ∷ []
+    ∷ (nat_le limits.rollouts (length rs.rollouts), Quota) ∷ []
 
 -- a set names the module
 abbrev pub is_named_by_set : List SetLabel → ℕ → Bool
@@ -124,33 +123,33 @@ wrong_digest u = elim u.expected [ None ↦ false | Some d ↦ not (same_bytes d
 abbrev pub verdict_row : Records → Command → List (Bool × Refusal)
 verdict_row rs (AddModule label) =
     (list_any (λ (m : ModuleLabel). same_bytes m.name label.name && (same_bytes m.kind label.kind && same_bytes m.version label.version)) rs.modules, Exists)
-    ∷ (nat_le module_limit (length rs.modules), Quota) ∷ []
+    ∷ (nat_le limits.modules (length rs.modules), Quota) ∷ []
 verdict_row rs (AddArtifact u) =
     (is_none (item_numbered rs.modules u.module_number), NotFound)
     ∷ (is_named_by_set rs.sets u.module_number, Locked)
     ∷ (list_any (λ (v : ArtifactRecord). nat_eq v.module_number u.module_number && same_bytes v.filename u.filename) rs.artifacts, Exists)
     ∷ (
-      nat_le module_artifact_limit (length (filter (λ (v : ArtifactRecord). nat_eq v.module_number u.module_number) rs.artifacts))
-          || nat_le artifact_limit (length rs.artifacts),
+      nat_le limits.module_artifacts (length (filter (λ (v : ArtifactRecord). nat_eq v.module_number u.module_number) rs.artifacts))
+          || nat_le limits.artifacts (length rs.artifacts),
       Quota,
     )
     ∷ (wrong_digest u, WrongDigest) ∷ []
 verdict_row rs (AddSet s) =
     (list_any (λ m. is_none (item_numbered rs.modules m)) s.modules, NotFound)
     ∷ (list_any (λ (v : SetLabel). same_bytes v.name s.name && same_bytes v.version s.version) rs.sets, Exists)
-    ∷ (nat_le set_limit (length rs.sets), Quota) ∷ []
+    ∷ (nat_le limits.sets (length rs.sets), Quota) ∷ []
 verdict_row rs (PutTargets rows) =
-    (nat_lt target_limit (length (with_words (map (λ (row : TargetRow). row.id) rows) (map (λ (t : Target). t.id) rs.targets))), Quota) ∷ []
+    (nat_lt limits.targets (length (with_words (map (λ (row : TargetRow). row.id) rows) (map (λ (t : Target). t.id) rs.targets))), Quota) ∷ []
 verdict_row rs (Tag t x) =
     (is_none (target_of rs t), NotFound) ∷ (
       not (contains_word x (tags_of (target_of rs t)))
-          && nat_le tag_limit (length (tags_of (target_of rs t))),
+          && nat_le limits.tags (length (tags_of (target_of rs t))),
       Quota,
     ) ∷ []
 verdict_row rs (Untag t x) = (is_none (target_of rs t), NotFound) ∷ []
 verdict_row rs (PutAttributes device attributes) =
     (not (is_known rs device), Unauthorized)
-    ∷ (nat_lt attribute_limit (length (with_words (map (λ (a : Attribute). a.key) attributes) (target_keys (target_of rs device.id)))), Quota) ∷ []
+    ∷ (nat_lt limits.attributes (length (with_words (map (λ (a : Attribute). a.key) attributes) (target_keys (target_of rs device.id)))), Quota) ∷ []
 verdict_row rs (CreateRollout plan) = plan_row rs plan
 verdict_row rs (Approve r) = rollout_word_row rs r is_waiting
 verdict_row rs (Deny r) = rollout_word_row rs r is_waiting

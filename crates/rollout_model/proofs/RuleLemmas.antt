@@ -7,7 +7,7 @@ use Rattle.std.proofs.lemmas.Bool.Decides.{nat_tests}
 use Rattle.std.proofs.lemmas.Str.{IsUtf8-from_ascii, is_utf8-from_IsUtf8}
 use Rattle.std.proofs.lemmas.Str.Ascii.{IsAscii-nil, IsAscii-cons}
 use Rattle.rollout_model.specs.Rules.{is_word_letter, is_between, is_spelled, is_byte, is_contents, is_digest}
-use Rattle.rollout_model.specs.Limits.{artifact_size_limit}
+use Rattle.rollout_model.specs.Limits.{limits}
 use Rattle.std.specs.Prelude.{length, nat_le, suc}
 use Rattle.std.proofs.Common.{Fits, w8, slice_index_or, eq-eqb}
 use Rattle.std.proofs.lemmas.Bool.{le-leb}
@@ -46,5 +46,5 @@ fits_are_bytes (b ∷ bs) fits =
 pub bytes_are_digest : (bs : List ℕ) → length bs ≡ 32 → ((i : ℕ) → Fits w8 (slice_index_or bs i 0)) → is_digest bs ≡ true
 bytes_are_digest bs whole fits = rw (eq-eqb (length bs) 32 whole, fits_are_bytes bs fits) refl
 
-pub contents_are_few : (bs : List ℕ) → ((i : ℕ) → Fits w8 (slice_index_or bs i 0)) → nat_le (length bs) artifact_size_limit ≡ is_contents bs
-contents_are_few bs fits = rw (fits_are_bytes bs fits) (and_true (nat_le (length bs) artifact_size_limit))
+pub contents_are_few : (bs : List ℕ) → ((i : ℕ) → Fits w8 (slice_index_or bs i 0)) → nat_le (length bs) limits.artifact_size ≡ is_contents bs
+contents_are_few bs fits = rw (fits_are_bytes bs fits) (and_true (nat_le (length bs) limits.artifact_size))

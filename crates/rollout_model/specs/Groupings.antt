@@ -1,7 +1,7 @@
 -- How a rollout is cut into groups: evenly, or as each of them is defined.
 use Rattle.std.specs.Prelude.{ℕ, zero, suc, Bool, true, false, ◌&&◌, nat_eq, List, [], ◌∷◌, length, slice_get, Option, Some, None, if◌then◌else◌}
 use Rattle.std.specs.List.{list_all}
-use Rattle.rollout_model.specs.Limits.{group_limit}
+use Rattle.rollout_model.specs.Limits.{limits}
 use Rattle.rollout_model.specs.Rules.{is_between, is_group_count, is_percentage}
 use Rattle.rollout_model.specs.declared.group_definition.GroupDefinition.{GroupDefinition}
 
@@ -21,7 +21,7 @@ ends_whole (d ∷ e ∷ more) = ends_whole (e ∷ more)
 
 -- the definitions of a rollout's groups
 abbrev pub are_definitions : List GroupDefinition → Bool
-are_definitions ds = is_between 1 group_limit (length ds) && (list_all is_definition ds && ends_whole ds)
+are_definitions ds = is_between 1 limits.groups (length ds) && (list_all is_definition ds && ends_whole ds)
 
 abbrev pub definitions_of : List GroupDefinition → Option (List GroupDefinition)
 definitions_of ds = if are_definitions ds then Some ds else None

@@ -1,7 +1,5 @@
 -- The rules of the short texts and the numbers: which letters, how long, in which range.
-use Rattle.rollout_model.specs.Limits.{word_length_limit, filename_length_limit, text_length_limit, detail_length_limit, detail_limit, digest_length}
-use Rattle.rollout_model.specs.Limits.{artifact_size_limit, feedback_number_limit, group_limit, percentage_limit, number_limit, set_module_limit, tag_limit}
-use Rattle.rollout_model.specs.Limits.{token_length_least, token_length_limit}
+use Rattle.rollout_model.specs.Limits.{limits}
 use Rattle.std.specs.Prelude.{ℕ, Bool, true, ◌&&◌, ◌||◌, not, nat_eq, nat_le, List, [], ◌∷◌, length, codes, Option, Some, None, if◌then◌else◌}
 use Rattle.std.specs.List.{list_any, list_all}
 use Rattle.std.specs.Cmp.Lexicographic.{pointwise}
@@ -25,57 +23,57 @@ is_spelled letter low high bs = is_between low high (length bs) && list_all lett
 
 -- the id of a target, a tag, the key of an attribute
 abbrev pub is_word : List ℕ → Bool
-is_word bs = is_spelled is_word_letter 1 word_length_limit bs
+is_word bs = is_spelled is_word_letter 1 limits.word_length bs
 
 -- what a device is known by
 abbrev pub is_token : List ℕ → Bool
-is_token bs = is_spelled is_word_letter token_length_least token_length_limit bs
+is_token bs = is_spelled is_word_letter limits.token_length_least limits.token_length bs
 
 abbrev pub is_filename : List ℕ → Bool
-is_filename bs = is_spelled is_word_letter 1 filename_length_limit bs
+is_filename bs = is_spelled is_word_letter 1 limits.filename_length bs
 
 -- a name, a kind or a version
 abbrev pub is_text : List ℕ → Bool
-is_text bs = is_spelled is_text_letter 1 text_length_limit bs && is_utf8 bs
+is_text bs = is_spelled is_text_letter 1 limits.text_length bs && is_utf8 bs
 
 -- the value of an attribute
 abbrev pub is_value : List ℕ → Bool
-is_value bs = is_spelled is_text_letter 0 text_length_limit bs && is_utf8 bs
+is_value bs = is_spelled is_text_letter 0 limits.text_length bs && is_utf8 bs
 
 -- a line that a device adds to its feedback
 abbrev pub is_detail : List ℕ → Bool
-is_detail bs = is_spelled is_text_letter 0 detail_length_limit bs && is_utf8 bs
+is_detail bs = is_spelled is_text_letter 0 limits.detail_length bs && is_utf8 bs
 
 -- the lines of one feedback
 abbrev pub are_details : List (List ℕ) → Bool
-are_details lines = nat_le (length lines) detail_limit && list_all is_detail lines
+are_details lines = nat_le (length lines) limits.details && list_all is_detail lines
 
 abbrev pub is_byte : ℕ → Bool
 is_byte b = nat_le b 255
 
 -- a SHA-256 digest
 abbrev pub is_digest : List ℕ → Bool
-is_digest bs = nat_eq (length bs) digest_length && list_all is_byte bs
+is_digest bs = nat_eq (length bs) limits.digest_length && list_all is_byte bs
 
 -- the contents of an artifact
 abbrev pub is_contents : List ℕ → Bool
-is_contents bs = nat_le (length bs) artifact_size_limit && list_all is_byte bs
+is_contents bs = nat_le (length bs) limits.artifact_size && list_all is_byte bs
 
 -- a number of a module, artifact, set, rollout or action
 abbrev pub is_number : ℕ → Bool
-is_number n = is_between 1 number_limit n
+is_number n = is_between 1 limits.number n
 
 -- a number that a device gives its feedback
 abbrev pub is_feedback_number : ℕ → Bool
-is_feedback_number n = is_between 1 feedback_number_limit n
+is_feedback_number n = is_between 1 limits.feedback_number n
 
 -- a threshold of a rollout
 abbrev pub is_percentage : ℕ → Bool
-is_percentage p = is_between 1 percentage_limit p
+is_percentage p = is_between 1 limits.percentage p
 
 -- how many groups a rollout has
 abbrev pub is_group_count : ℕ → Bool
-is_group_count n = is_between 1 group_limit n
+is_group_count n = is_between 1 limits.groups n
 
 -- no number stands twice
 abbrev pub are_distinct_numbers : List ℕ → Bool
@@ -84,7 +82,7 @@ are_distinct_numbers (n ∷ ns) = not (list_any (λ m. nat_eq m n) ns) && are_di
 
 -- the modules of a distribution set
 abbrev pub is_module_list : List ℕ → Bool
-is_module_list ns = is_between 1 set_module_limit (length ns) && (list_all is_number ns && are_distinct_numbers ns)
+is_module_list ns = is_between 1 limits.set_modules (length ns) && (list_all is_number ns && are_distinct_numbers ns)
 
 -- no word stands twice
 abbrev pub are_distinct_words : List (List ℕ) → Bool
@@ -93,7 +91,7 @@ are_distinct_words (w ∷ ws) = not (list_any (λ v. pointwise nat_eq v w) ws) &
 
 -- the tags of a target
 abbrev pub is_tag_list : List (List ℕ) → Bool
-is_tag_list ws = nat_le (length ws) tag_limit && (list_all is_word ws && are_distinct_words ws)
+is_tag_list ws = nat_le (length ws) limits.tags && (list_all is_word ws && are_distinct_words ws)
 
 -- ---- what the readers answer
 

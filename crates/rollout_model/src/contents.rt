@@ -3,7 +3,7 @@
 ghost use Rattle.std.specs.Prelude.{◌≡◌, ◌≤◌, length, true, nat_eq, IfOk};
 ghost use Rattle.std.specs.Cmp.{on_per, partial_equiv_from_equiv};
 ghost use Rattle.std.specs.Cmp.Lexicographic.{pointwise, nat_list_eq_equiv};
-ghost use Rattle.rollout_model.specs.Limits.{artifact_size_limit};
+ghost use Rattle.rollout_model.specs.Limits.{limits};
 ghost use Rattle.rollout_model.specs.Rules.{is_contents, contents_of};
 
 use crate::limits::ARTIFACT_SIZE_LIMIT;
@@ -48,7 +48,7 @@ impl Contents {
     pub fn as_slice(&self) -> &[u8]
         ensures value { result.now ≡ self.now }
         ensures contents { is_contents result.now ≡ true }
-        ensures fits { length result.now ≤ artifact_size_limit }
+        ensures fits { length result.now ≤ limits.artifact_size }
     {
         self.bytes.as_slice()
     }

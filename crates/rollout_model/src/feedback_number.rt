@@ -1,7 +1,7 @@
 //! The numbers that devices give their feedback.
 
 ghost use Rattle.std.specs.Prelude.{◌≡◌, ◌≤◌, true};
-ghost use Rattle.rollout_model.specs.Limits.{feedback_number_limit};
+ghost use Rattle.rollout_model.specs.Limits.{limits};
 ghost use Rattle.rollout_model.specs.Rules.{feedback_number_of, is_feedback_number};
 
 use std::marker::Model;
@@ -41,7 +41,7 @@ impl FeedbackNumber {
         ensures value { result ≡ self.now }
         ensures number { is_feedback_number result ≡ true }
         ensures least { 1 ≤ result }
-        ensures greatest { result ≤ feedback_number_limit }
+        ensures greatest { result ≤ limits.feedback_number }
     {
         self.number
     }

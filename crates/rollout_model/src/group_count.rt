@@ -1,7 +1,7 @@
 //! How many groups a rollout has.
 
 ghost use Rattle.std.specs.Prelude.{◌≡◌, ◌≤◌, true};
-ghost use Rattle.rollout_model.specs.Limits.{group_limit};
+ghost use Rattle.rollout_model.specs.Limits.{limits};
 ghost use Rattle.rollout_model.specs.Rules.{is_group_count, group_count_of};
 
 use crate::limits::GROUP_LIMIT;
@@ -42,7 +42,7 @@ impl GroupCount {
         ensures value { result ≡ self.now }
         ensures count { is_group_count result ≡ true }
         ensures least { 1 ≤ result }
-        ensures greatest { result ≤ group_limit }
+        ensures greatest { result ≤ limits.groups }
     {
         self.count
     }

@@ -1,7 +1,7 @@
 //! Typed numbers.
 
 ghost use Rattle.std.specs.Prelude.{◌≡◌, ◌≤◌, true};
-ghost use Rattle.rollout_model.specs.Limits.{number_limit};
+ghost use Rattle.rollout_model.specs.Limits.{limits};
 ghost use Rattle.rollout_model.specs.Rules.{is_number, number_of};
 
 use crate::limits::NUMBER_LIMIT;
@@ -47,7 +47,7 @@ impl<Kind> Number<Kind> {
         ensures value { result ≡ self.now }
         ensures number { is_number result ≡ true }
         ensures least { 1 ≤ result }
-        ensures greatest { result ≤ number_limit }
+        ensures greatest { result ≤ limits.number }
     {
         self.number
     }

@@ -1,7 +1,7 @@
 //! Percentages of a group.
 
 ghost use Rattle.std.specs.Prelude.{◌≡◌, ◌≤◌, true};
-ghost use Rattle.rollout_model.specs.Limits.{percentage_limit};
+ghost use Rattle.rollout_model.specs.Limits.{limits};
 ghost use Rattle.rollout_model.specs.Rules.{is_percentage, percentage_of};
 
 use crate::limits::PERCENTAGE_LIMIT;
@@ -42,7 +42,7 @@ impl Percentage {
         ensures value { result ≡ self.now }
         ensures percentage { is_percentage result ≡ true }
         ensures least { 1 ≤ result }
-        ensures greatest { result ≤ percentage_limit }
+        ensures greatest { result ≤ limits.percentage }
     {
         self.percent
     }

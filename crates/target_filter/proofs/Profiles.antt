@@ -2,7 +2,7 @@
 use Rattle.target_filter.proofs.Common.{◌≡◌, ◌⊎◌, ℕ, ◌+◌, ◌*◌, ◌≤◌, List, length, Bool, true, cond, ◌&&◌, Option, Some, None, refl}
 use Rattle.target_filter.proofs.Common.{subst, arith, nat_le, nat_eq, option_and_then, pointwise, nat_tests, Decides-eqb, slice_eq-Decides}
 use Rattle.target_filter.proofs.Common.{Tree, OrLevel, is_at, spelling, nesting, or_at, IsProfileFilter, IsInProfile, is_profile_filter, filter_of}
-use Rattle.rollout_model.specs.Limits.{filter_length_limit, filter_depth_limit}
+use Rattle.rollout_model.specs.Limits.{limits}
 use Rattle.target_filter.proofs.ScannedTrees.{both}
 use Rattle.target_filter.proofs.Beginnings.{all_of}
 use Rattle.target_filter.specs.declared.comparison.ParseFault.{ParseFault}
@@ -18,24 +18,24 @@ of_le m n h = grind (arith, nat_tests)
 -- the test and the record
 passes : (text : List ℕ) (t : Tree) → is_profile_filter text t ≡ true → IsProfileFilter text t
 passes text t h =
-    let p = both (is_at OrLevel t && pointwise nat_eq text (spelling t) && nat_le (length text) filter_length_limit) (nat_le (nesting t) filter_depth_limit)
+    let p = both (is_at OrLevel t && pointwise nat_eq text (spelling t) && nat_le (length text) limits.filter_length) (nat_le (nesting t) limits.filter_depth)
     h in
-    let q = both (is_at OrLevel t && pointwise nat_eq text (spelling t)) (nat_le (length text) filter_length_limit) p.0 in
+    let q = both (is_at OrLevel t && pointwise nat_eq text (spelling t)) (nat_le (length text) limits.filter_length) p.0 in
     let r = both (is_at OrLevel t) (pointwise nat_eq text (spelling t)) q.0 in
     record {
       filter = record { level = r.0; spells = (slice_eq-Decides Decides-eqb text (spelling t) (pointwise nat_eq text (spelling t)) refl).0 r.1 };
-      short = le_of (length text) filter_length_limit q.1;
-      shallow = le_of (nesting t) filter_depth_limit p.1;
+      short = le_of (length text) limits.filter_length q.1;
+      shallow = le_of (nesting t) limits.filter_depth p.1;
     }
 
 passed : (text : List ℕ) (t : Tree) → IsProfileFilter text t → is_profile_filter text t ≡ true
 passed text t h =
-    all_of (is_at OrLevel t && pointwise nat_eq text (spelling t) && nat_le (length text) filter_length_limit) (nat_le (nesting t) filter_depth_limit)
-    (all_of (is_at OrLevel t && pointwise nat_eq text (spelling t)) (nat_le (length text) filter_length_limit)
+    all_of (is_at OrLevel t && pointwise nat_eq text (spelling t) && nat_le (length text) limits.filter_length) (nat_le (nesting t) limits.filter_depth)
+    (all_of (is_at OrLevel t && pointwise nat_eq text (spelling t)) (nat_le (length text) limits.filter_length)
     (all_of (is_at OrLevel t) (pointwise nat_eq text (spelling t)) h.filter.level
     ((slice_eq-Decides Decides-eqb text (spelling t) (pointwise nat_eq text (spelling t)) refl).1 h.filter.spells))
-    (of_le (length text) filter_length_limit h.short))
-    (of_le (nesting t) filter_depth_limit h.shallow)
+    (of_le (length text) limits.filter_length h.short))
+    (of_le (nesting t) limits.filter_depth h.shallow)
 
 abbrev taken : List ℕ → Tree × List ℕ → Option Tree
 taken text found = cond (is_profile_filter text found.0) (Some found.0) None

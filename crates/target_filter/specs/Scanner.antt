@@ -2,7 +2,7 @@
 use Rattle.std.specs.Prelude.{◌≡◌, ◌⊎◌, ◌≤◌, ◌<◌, length, take, slice_index, ℕ, ◌+◌, ◌-◌, List, [], ◌∷◌, max, Bool, true, false, cond, nat_lt, ◌==◌}
 use Rattle.std.specs.Prelude.{◌&&◌, codes, Option, Some, None}
 use Rattle.std.specs.Option.{option_and_then}
-use Rattle.rollout_model.specs.Limits.{word_length_limit}
+use Rattle.rollout_model.specs.Limits.{limits}
 use Rattle.rollout_model.specs.Rules.{is_word_letter}
 use Rattle.target_filter.specs.Grammar.{is_bare_byte, is_quotable_byte}
 
@@ -53,7 +53,7 @@ abbrev pub next : Mode → ℕ → Move
 next AtomStart b = at_atom_start b
 next (FieldName [] keyed) b = at_operator b
 next (FieldName (x ∷ xs) keyed) b = cond (b == x) (Go (mode_of_name xs keyed)) Stop
-next (Key n) b = cond (is_word_letter b) (cond (nat_lt n word_length_limit) (Go (Key (n + 1))) Stop) (cond (nat_lt 0 n) (at_operator b) Stop)
+next (Key n) b = cond (is_word_letter b) (cond (nat_lt n limits.word_length) (Go (Key (n + 1))) Stop) (cond (nat_lt 0 n) (at_operator b) Stop)
 next Equals b = cond (b == 61) (Go Value) Stop
 next Value b = cond (is_bare_byte b) (Go Bare) (cond (b == 34) (Go Quoted) Stop)
 next Bare b = cond (is_bare_byte b) (Go Bare) (at_atom_end b)

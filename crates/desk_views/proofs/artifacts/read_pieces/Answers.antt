@@ -1,6 +1,6 @@
 use Rattle.desk_views.proofs.ArtifactViews.{all_taken, together_is}
 use Rattle.desk_views.proofs.ListRules.{no_piece}
-use Rattle.desk_views.proofs.Answering.{◌≤◌, ◌*◌, ◌++◌, sym, ap, ◌∙◌, arith, rules, IsSome, artifact_size_limit, piece_length, both_found, finds_as}
+use Rattle.desk_views.proofs.Answering.{◌≤◌, ◌*◌, ◌++◌, sym, ap, ◌∙◌, arith, rules, IsSome, limits, both_found, finds_as}
 use Rattle.desk_views.proofs.Answering.{pieces_of_artifact, item_numbered, pieces_grow, never_fails, told}
 use Rattle.desk_views.proofs.artifacts.read_pieces.Goals as goal
 
@@ -20,8 +20,8 @@ loop-bytes-preserved g c = record {
 }
 
 pub returns-in_err-piece-clause-fails : goal.returns-in_err-piece-clause-fails
-returns-in_err-piece-clause-fails g c = let full : IsSome c.in_ok-found.found × (artifact_size_limit ≤ c.loop-bytes.pieces * piece_length) =
+returns-in_err-piece-clause-fails g c = let full : IsSome c.in_ok-found.found × (limits.artifact_size ≤ c.loop-bytes.pieces * limits.piece_length) =
     (c.in_err-piece.ensures.err.1, c.in_err-piece.ensures.err.2) in
     never_fails (λ l it. it) (both_found c.loop-bytes.invariant.reads c.in_ok-found.ensures.reads) _
-    (told {Why = IsSome c.in_ok-found.found × (artifact_size_limit ≤ c.loop-bytes.pieces * piece_length)} _ (c.in_err-piece.ensures.err.0, full))
+    (told {Why = IsSome c.in_ok-found.found × (limits.artifact_size ≤ c.loop-bytes.pieces * limits.piece_length)} _ (c.in_err-piece.ensures.err.0, full))
     (λ r is of _ readable full. grind (arith, no_piece)) _ c.from_residual-in_err-piece.ensures.1

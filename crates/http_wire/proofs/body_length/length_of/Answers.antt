@@ -1,5 +1,5 @@
 use Rattle.http_wire.proofs.Common.{◌≡◌, ℕ, ◌+◌, ◌*◌, ◌<◌, true, List, length, get_or, take, sym, arith, Err, digits_value, and_parts, lt-ltb, cond-true}
-use Rattle.http_wire.proofs.Common.{AllPass-from_list_all, body_length_limit, TooLarge, is_digits, length_of}
+use Rattle.http_wire.proofs.Common.{AllPass-from_list_all, limits, TooLarge, is_digits, length_of}
 use Rattle.std.specs.Char.{is_ascii_digit, digit_value}
 use Rattle.std.proofs.lemmas.Int.Digits.{digits_value_more}
 use Rattle.std.proofs.lemmas.Str.Parse.{digits_value-take-le}
@@ -12,7 +12,7 @@ more : (text : List ℕ) (i n d : ℕ) → i < length text → n ≡ digits_valu
     → n * 10 + d ≡ digits_value 10 (take (i + 1) text)
 more text i n d l e f = omega (arith, digits_value_more 10 text i l)
 
-too_large : (text : List ℕ) (i n : ℕ) → true ≡ is_digits text → body_length_limit < n → n ≡ digits_value 10 (take (i + 1) text)
+too_large : (text : List ℕ) (i n : ℕ) → true ≡ is_digits text → limits.body_length < n → n ≡ digits_value 10 (take (i + 1) text)
     → Err TooLarge ≡ length_of text
 too_large text i n digits large e = grind (arith, digits_value-take-le, cond-true, lt-ltb)
 
