@@ -30,7 +30,7 @@ pub use Rattle.rollout_machine.specs.RecordSteps.{new_actions, outcome_if_new, o
 pub use Rattle.rollout_machine.specs.RecordSteps.{step_action, step_records, triggered, view_from_group, view_of}
 pub use Rattle.rollout_machine.specs.Records.{Approval, Denied, Given, Records, action_in, approval_of, group_in, records, rollout_in}
 pub use Rattle.rollout_machine.specs.Reports.{OfCancel, OfDeployment, Reported, Said, is_again, reported, reported_by, says_again, says_old, standing_of}
-pub use Rattle.rollout_machine.specs.Rollouts.{Rollout, error_at, size_in, success_at}
+pub use Rattle.rollout_machine.specs.Rollouts.{Rollout, rule_at, size_in}
 pub use Rattle.rollout_machine.specs.Splits.{first_empty, first_empty_from, split, split_bounds_of, split_last}
 pub use Rattle.rollout_machine.specs.StateWords.{ActionWord, GroupWord, InError, InSync, PausedRollout, Pending, RolloutWord, RunningRollout, TargetWord}
 pub use Rattle.rollout_machine.specs.StateWords.{Unknown, all_final, group_is_started, group_number_of, group_numbered, has_started, is_for, number_of_group}

@@ -3,7 +3,7 @@ use Rattle.campaign_core.proofs.Common.{◌≡◌, ◌<◌, ◌≤◌, ℕ, zero
 use Rattle.campaign_core.proofs.Common.{◌∙◌, arith, inl, inr, nat_eq, nat_lt, cases_lt, cases_order, eq-eqb, eqb-true, le-ltb, lt-ltb, ltb-true, ne_eqb}
 use Rattle.campaign_core.proofs.Common.{Invariant, invariant_of, IsPlace, its_group, ActionPlace, CommandList, ◌▸◌, IsLast, IsView, error_begins}
 use Rattle.campaign_core.proofs.Common.{feedback_pauses, good_after, last_with, next_if, starts_next, is_group_started, is_paused, is_rollout_started}
-use Rattle.campaign_core.proofs.Common.{each_from, group_view, last_started, view_of, action_in, group_in, rollout_in, Rollout, error_at, size_in, success_at}
+use Rattle.campaign_core.proofs.Common.{each_from, group_view, last_started, view_of, action_in, group_in, rollout_in, Rollout, rule_at, size_in}
 use Rattle.campaign_core.proofs.Common.{group_is_started, group_numbered, number_of_group, Outcome, Good, Bad, Gone, ActionRecord, GroupRecord, Effects}
 use Rattle.campaign_core.proofs.Common.{GroupView, RolloutView, HasPlace, has_place, FollowsOutcome, IsOwnView, OwnDecides, OwnGroupDecides, effects_by}
 use Rattle.campaign_core.proofs.Common.{effects_of, following, own_effects, own_view_of, waits, OwnView, and-not_self}
@@ -157,8 +157,8 @@ last_seen x r l h = record {
   size = size_in x l;
   ok = tally Good x r l h;
   bad = tally Bad x r l h;
-  success = success_at x.plan l;
-  error = error_at x.plan l;
+  success = (rule_at x.plan l).success;
+  error = (rule_at x.plan l).error;
 }
 
 abbrev both_seen : OwnView → Rollout → ℕ → ℕ → CommandList → RolloutView

@@ -12,7 +12,7 @@ use Rattle.rollout_machine.specs.Progress.{is_group_started, is_paused, is_rollo
 use Rattle.rollout_machine.specs.Ranges.{each_from}
 use Rattle.rollout_machine.specs.Records as records
 use Rattle.rollout_machine.specs.declared.records.ActionRecord.{ActionRecord}
-use Rattle.rollout_machine.specs.Rollouts.{Rollout, rollout_at, error_at, size_in}
+use Rattle.rollout_machine.specs.Rollouts.{Rollout, rollout_at, rule_at, size_in}
 use Rattle.rollout_machine.specs.StateWords as words
 use Rattle.campaign_core.specs.declared.status_words.RolloutStatus.{RolloutStatus}
 use Rattle.campaign_core.specs.declared.status_words.GroupStatus.{GroupStatus}
@@ -61,7 +61,7 @@ status_of_group x r h i = record {
   ok = tally Good x r i h;
   bad = tally Bad x r i h;
   gone = tally Gone x r i h;
-  error = error_at x.plan i;
+  error = (rule_at x.plan i).error;
 }
 
 -- that of the action of a member of rollout x, in its group i

@@ -2,8 +2,8 @@
 use Rattle.std.specs.Prelude.{ℕ, List, [], ◌∷◌, Bool, true, false, codes, bytes_eq, unwrap_or, Option, Some, None, option_and_then, option_map, if◌then◌else◌}
 use Rattle.serde_json.specs.Data.{Data, Members, no_members, member}
 use Rattle.serde_json.specs.Find.{get, as_str, as_object}
-use Rattle.rollout_model.specs.Pairs.{config_data_of}
-use Rattle.rollout_model.specs.Rules.{value_of, word_of}
+use Rattle.rollout_model.specs.Pairs.{is_config_data}
+use Rattle.rollout_model.specs.Rules.{kept_if, is_value, is_word}
 use Rattle.rollout_model.specs.declared.target.Attribute.{Attribute}
 use Rattle.mgmt_objects.specs.Bodies.{body_data}
 
@@ -12,7 +12,8 @@ new_attribute key value = record { key = key; value = value }
 
 -- a key that is a word, and a value of attributes
 abbrev pub attribute_of : List ℕ → Data → Option Attribute
-attribute_of key d = option_and_then (λ word. option_map (λ value. new_attribute word value) (option_and_then value_of (as_str d))) (word_of key)
+attribute_of key d = option_and_then (λ word. option_map (λ value. new_attribute word value) (option_and_then (kept_if is_value) (as_str d)))
+    (kept_if is_word key)
 
 -- the members of an object, which has each key once, by their keys in byte order
 abbrev pub member_attributes : Members → Option (List Attribute)
@@ -21,7 +22,7 @@ member_attributes (member key d members) = option_and_then (λ attribute. option
 
 -- at most 32 attributes
 abbrev pub data_member : Data → Option (List Attribute)
-data_member d = option_and_then config_data_of (option_and_then member_attributes (option_and_then as_object (get (codes "data") d)))
+data_member d = option_and_then (kept_if is_config_data) (option_and_then member_attributes (option_and_then as_object (get (codes "data") d)))
 
 abbrev pub is_merge : Option Data → Bool
 is_merge None = true

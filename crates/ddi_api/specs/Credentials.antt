@@ -3,7 +3,7 @@ use Rattle.std.specs.Prelude.{ℕ, List, codes, length, take, drop, bytes_eq, Op
 use Rattle.http_wire.specs.Messages.{WireMessage}
 use Rattle.http_wire.specs.Fields.{sole_value}
 use Rattle.artifact_pieces.specs.Digests.{digest_of}
-use Rattle.rollout_model.specs.Rules.{token_of}
+use Rattle.rollout_model.specs.Rules.{kept_if, is_token}
 use Rattle.rollout_model.specs.declared.credential.Credential.{Credential}
 use Rattle.mgmt_api.specs.Reading.{path_word}
 
@@ -20,7 +20,7 @@ authorization_of m = sole_value (codes "authorization") m.fields
 
 -- the digest of the token that such a value shows
 abbrev pub digest_of_value : List ℕ → Option (List ℕ)
-digest_of_value value = option_map digest_of (option_and_then token_of (after_scheme value))
+digest_of_value value = option_map digest_of (option_and_then (kept_if is_token) (after_scheme value))
 
 abbrev pub digest_shown : WireMessage → Option (List ℕ)
 digest_shown m = option_and_then digest_of_value (authorization_of m)

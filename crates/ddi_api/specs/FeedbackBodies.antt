@@ -2,7 +2,7 @@
 use Rattle.std.specs.Prelude.{ℕ, List, [], ◌∷◌, codes, bytes_eq, ◌&&◌, Option, Some, None, option_and_then, option_map, if◌then◌else◌}
 use Rattle.serde_json.specs.Data.{Data}
 use Rattle.serde_json.specs.Find.{get, as_str}
-use Rattle.rollout_model.specs.Rules.{detail_of, details_of, feedback_number_of}
+use Rattle.rollout_model.specs.Rules.{kept_if, is_detail, are_details, is_feedback_number}
 use Rattle.rollout_model.specs.declared.feedback.DeviceFeedback.{DeviceFeedback}
 use Rattle.rollout_machine.specs.Commands.{Credential, Proceeding, Scheduled, Resumed, DeploymentWord, Succeeded, Failed, Rejected, Noted, CancelWord}
 use Rattle.rollout_machine.specs.Commands.{ClosedCancel, CanceledCancel, RejectedCancel, NotedCancel}
@@ -55,7 +55,7 @@ status_word words status = option_and_then (λ execution. option_and_then (words
 
 -- a value that is a line
 abbrev pub detail_in : Data → Option (List ℕ)
-detail_in d = option_and_then detail_of (as_str d)
+detail_in d = option_and_then (kept_if is_detail) (as_str d)
 
 abbrev pub lines_if : Option Data → Option (List (List ℕ))
 lines_if None = Some []
@@ -63,11 +63,11 @@ lines_if (Some d) = array_of detail_in d
 
 -- at most 8 lines, and none where `details` is missing
 abbrev pub details_member : Data → Option (List (List ℕ))
-details_member status = option_and_then details_of (lines_if (get (codes "details") status))
+details_member status = option_and_then (kept_if are_details) (lines_if (get (codes "details") status))
 
 -- the number of a feedback
 abbrev pub json_feedback_number : Data → Option ℕ
-json_feedback_number d = option_and_then feedback_number_of (whole_of d)
+json_feedback_number d = option_and_then (kept_if is_feedback_number) (whole_of d)
 
 -- the number that the device gave, which stands beside `status`, and none where it is missing
 abbrev pub number_given : Data → Option (Option ℕ)

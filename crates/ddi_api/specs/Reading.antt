@@ -5,7 +5,7 @@ use Rattle.http_wire.specs.Targets.{path_of}
 use Rattle.rollout_model.specs.declared.refusal.Refusal.{Refusal}
 use Rattle.rollout_model.specs.declared.refusal.Refusal.TheVariants.{BadRequest, Unauthorized, NotFound, BadMethod, NoMemory}
 use Rattle.rollout_model.specs.declared.credential.Credential.{Credential}
-use Rattle.rollout_model.specs.Rules.{filename_of}
+use Rattle.rollout_model.specs.Rules.{kept_if, is_filename}
 use Rattle.rollout_machine.specs.Commands.{PutAttributes, Feedback, CancelFeedback}
 use Rattle.rollout_machine.specs.Requests.{Ask, Query, Poll, ShowDeployment, ShowCancel, Download, Asked, Rejected, Asks}
 use Rattle.rollout_machine.specs.Views.{request_of}
@@ -22,7 +22,7 @@ use Rattle.ddi_api.specs.declared.call.DeviceCall.TheVariants as call
 
 -- the filename that the segment at this place of the path is
 abbrev pub filename_in : WireMessage → ℕ → Option (List ℕ)
-filename_in m place = option_and_then filename_of (slice_get (segments (path_of m.target)) place)
+filename_in m place = option_and_then (kept_if is_filename) (slice_get (segments (path_of m.target)) place)
 
 -- no query
 abbrev pub shown_to_device : Query → WireMessage → Asked

@@ -11,8 +11,8 @@ pub use Rattle.std.specs.List.{ends_with, find, flat_map, list_all, list_any, ra
 pub use Rattle.csv.specs.Records.{fields_of}
 pub use Rattle.csv.specs.declared.reader.Reader.{Reader}
 pub use Rattle.rollout_model.proofs.RuleLemmas.{both, spelled_is_utf8}
-pub use Rattle.rollout_model.specs.Rules.{are_distinct_words, is_between, is_spelled, is_text, is_text_letter, is_token, is_word, is_word_letter, tag_list_of}
-pub use Rattle.rollout_model.specs.Rules.{text_of, token_of, word_of}
+pub use Rattle.rollout_model.specs.Rules.{are_distinct_words, is_between, is_spelled, is_text, is_text_letter, is_token, is_word, is_word_letter, kept_if}
+pub use Rattle.rollout_model.specs.Rules.{is_tag_list}
 pub use Rattle.rollout_model.specs.declared.target_row.TargetRow.{TargetRow}
 pub use Rattle.desk_files.specs.ImportSteps.{HasIds, Pushes, TakesRecord, has_id, if_new, row_behind}
 pub use Rattle.desk_files.specs.Imports.{distinct_rows, each_row, faulty_line, ids_of_rows, import_of, is_header, records_of, rows_of, targets_in_file}

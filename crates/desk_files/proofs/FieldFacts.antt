@@ -1,7 +1,7 @@
 -- Records of four fields, and fields that are no text.
 use Rattle.desk_files.proofs.Common.{◌≡◌, ◌<◌, ◌≤◌, ◌==◌, ℕ, List, [], ◌∷◌, length, Bool, true, false, cond, Option, Some, None, refl, arith, nat_le, count_by}
 use Rattle.desk_files.proofs.Common.{Bor, get_or, map, take, ◌+◌, ◌++◌, list_all, slice_split, map-append, take_more, list_all-map, list_all_at}
-use Rattle.desk_files.proofs.Common.{is_spelled, is_text, is_text_letter, is_token, is_word, tag_list_of, text_of, token_of, word_of, both}
+use Rattle.desk_files.proofs.Common.{is_spelled, is_text, is_text_letter, is_token, is_word, kept_if, is_tag_list, both}
 use Rattle.desk_files.proofs.Common.{spelled_is_utf8, field_tags}
 use Rattle.std.proofs.lemmas.List.Splits.{length-slice_split}
 use Rattle.std.specs.Str.{IsUtf8, is_utf8}
@@ -23,34 +23,35 @@ refused : (v : Bool) (bs : List ℕ) → (v ≡ true → ⊥) → cond v (Some b
 refused v bs not_so = grind arith
 
 -- words, tokens and texts are UTF-8
-pub word_of-no_text : (bs : List ℕ) → (IsUtf8 bs → ⊥) → word_of bs ≡ None
-word_of-no_text bs unread = refused (is_word bs) bs (λ is. unread (spelled_is_utf8 1 64 bs is))
+pub is_word-no_text : (bs : List ℕ) → (IsUtf8 bs → ⊥) → kept_if is_word bs ≡ None
+is_word-no_text bs unread = refused (is_word bs) bs (λ is. unread (spelled_is_utf8 1 64 bs is))
 
-pub token_of-no_text : (bs : List ℕ) → (IsUtf8 bs → ⊥) → token_of bs ≡ None
-token_of-no_text bs unread = refused (is_token bs) bs (λ is. unread (spelled_is_utf8 8 64 bs is))
+pub is_token-no_text : (bs : List ℕ) → (IsUtf8 bs → ⊥) → kept_if is_token bs ≡ None
+is_token-no_text bs unread = refused (is_token bs) bs (λ is. unread (spelled_is_utf8 8 64 bs is))
 
-pub text_of-no_text : (bs : List ℕ) → (IsUtf8 bs → ⊥) → text_of bs ≡ None
-text_of-no_text bs unread = refused (is_text bs) bs (λ is. unread (IsUtf8-from_is_utf8 bs (both (is_spelled is_text_letter 1 128 bs) (is_utf8 bs) is).1))
+pub is_text-no_text : (bs : List ℕ) → (IsUtf8 bs → ⊥) → kept_if is_text bs ≡ None
+is_text-no_text bs unread = refused (is_text bs) bs (λ is. unread (IsUtf8-from_is_utf8 bs (both (is_spelled is_text_letter 1 128 bs) (is_utf8 bs) is).1))
 
 -- ---- tags
 
-pub tag_list_of-many : (ws : List (List ℕ)) → 16 < length ws → tag_list_of ws ≡ None
-tag_list_of-many ws many = let few : nat_le (length ws) 16 ≡ false = grind arith in rw few refl
+pub is_tag_list-many : (ws : List (List ℕ)) → 16 < length ws → kept_if is_tag_list ws ≡ None
+is_tag_list-many ws many = let few : nat_le (length ws) 16 ≡ false = grind arith in rw few refl
 
 -- a field with 16 spaces has more than 16 tags
 pub tags_of-many : (field : List ℕ) → 16 ≤ count_by (λ b. b == 32) field → field_tags field ≡ None
 tags_of-many [] many = absurd (omega arith)
 tags_of-many (b ∷ bs) many =
     let n = length-slice_split (λ c. c == 32) (b ∷ bs) in
-    tag_list_of-many (slice_split (λ c. c == 32) (b ∷ bs)) (omega (arith, n))
+    is_tag_list-many (slice_split (λ c. c == 32) (b ∷ bs)) (omega (arith, n))
 
 -- ---- the parts of a field
 
-pub no_words : (parts : List (Bor (List ℕ))) (i : ℕ) (d : Bor (List ℕ)) (r : Option (List ℕ)) → i < length parts → r ≡ word_of (get_or parts i d).now → r ≡ None
+pub no_words : (parts : List (Bor (List ℕ))) (i : ℕ) (d : Bor (List ℕ)) (r : Option (List ℕ)) → i < length parts → r ≡ kept_if is_word (get_or parts i d).now
+    → r ≡ None
     → list_all is_word (map (λ part. part.now) parts) ≡ false
 no_words parts i d r within read none = grind (arith, list_all-map, list_all_at)
 
-word_is : (bs w : List ℕ) → Some w ≡ word_of bs → w ≡ bs
+word_is : (bs w : List ℕ) → Some w ≡ kept_if is_word bs → w ≡ bs
 word_is bs w read = by (is_word bs) read
   where
     by : (v : Bool) → Some w ≡ cond v (Some bs) None → w ≡ bs
@@ -58,7 +59,7 @@ word_is bs w read = by (is_word bs) read
     by false e = cc e
 
 pub more_words : (parts : List (Bor (List ℕ))) (i : ℕ) (d : Bor (List ℕ)) (ws : List (List ℕ)) (w : List ℕ) → i < length parts → Some w
-    ≡ word_of (get_or parts i d).now → ws ≡ map (λ part. part.now) (take i parts)
+    ≡ kept_if is_word (get_or parts i d).now → ws ≡ map (λ part. part.now) (take i parts)
     → ws ++ w ∷ [] ≡ map (λ part. part.now) (take (i + 1) parts)
 more_words parts i d ws w within read so_far =
     let more : take (i + 1) parts ≡ take i parts ++ get_or parts i d ∷ [] = take_more parts i d within in

@@ -3,7 +3,7 @@
 ghost use Rattle.std.specs.Prelude.{◌≡◌, ◌==◌, false, map, count_by, IfOk};
 ghost use Rattle.std.specs.List.{list_all, slice_split};
 ghost use Rattle.std.specs.Option.{MatchOption};
-ghost use Rattle.rollout_model.specs.Rules.{is_word, word_of};
+ghost use Rattle.rollout_model.specs.Rules.{is_word, kept_if};
 ghost use Rattle.desk_files.specs.TargetRecords.{field_tags};
 
 use rollout_model::{Tags, Word};
@@ -14,7 +14,7 @@ use std::str;
 const TOO_MANY_SPACES: usize = 16;
 
 fn read_word(field: &[u8]) -> Option<Word>
-    ensures { result ≡ word_of field.now }
+    ensures { result ≡ kept_if is_word field.now }
 {
     let Ok(text) = str::from_utf8(field) else {
         return None;

@@ -2,7 +2,7 @@
 
 ghost use Rattle.std.specs.Prelude.{◌≡◌, IfOk};
 ghost use Rattle.csv.specs.Records.{fields_of};
-ghost use Rattle.rollout_model.specs.Rules.{text_of, word_of};
+ghost use Rattle.rollout_model.specs.Rules.{kept_if, is_text, is_word};
 ghost use Rattle.desk_files.specs.TargetRecords.{row_of, row_of_fields, token_digest_of};
 
 use crate::fields::{Fields, four_fields};
@@ -14,7 +14,7 @@ use std::alloc::{AllocError, Global};
 use std::str;
 
 fn read_id(field: &[u8]) -> Option<ControllerId>
-    ensures { result ≡ word_of field.now }
+    ensures { result ≡ kept_if is_word field.now }
 {
     let Ok(text) = str::from_utf8(field) else {
         return None;
@@ -23,7 +23,7 @@ fn read_id(field: &[u8]) -> Option<ControllerId>
 }
 
 fn read_name(alloc: Global, field: &[u8]) -> Result<Option<Text>, AllocError>
-    ensures { IfOk result (λ name. name ≡ text_of field.now) }
+    ensures { IfOk result (λ name. name ≡ kept_if is_text field.now) }
 {
     let Ok(text) = str::from_utf8(field) else {
         return Ok(None);

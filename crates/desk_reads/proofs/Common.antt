@@ -8,7 +8,7 @@ pub use Rattle.std.specs.Option.{is_some, option_map}
 pub use Rattle.sqlite_rules.proofs.ListLemmas.{has_either, has_filtered, test_has}
 pub use Rattle.sqlite_rules.specs.Lists.{Has}
 pub use Rattle.rollout_model.specs.Rows.{is_target_row}
-pub use Rattle.rollout_model.specs.Rules.{are_details, are_distinct_words, is_number, is_tag_list, is_text, is_word, number_of}
+pub use Rattle.rollout_model.specs.Rules.{are_details, are_distinct_words, is_number, is_tag_list, is_text, is_word, kept_if}
 pub use Rattle.rollout_machine.proofs.Imports.{AllAbove, IsSorted, below_apart, not_above, sorted_with, with_there}
 pub use Rattle.rollout_machine.proofs.Lists.{each_there, length_each, numbered_each}
 pub use Rattle.rollout_machine.proofs.TargetTies.{same_by, same_pointwise, same_refl, same_sym, same_true}

@@ -1,6 +1,6 @@
 -- What is said of the groups of a rollout, as it is read.
 use Rattle.desk_reads.proofs.Common.{◌≡◌, ◌≤◌, ℕ, Some, sym, ap, ◌∙◌, arith, item_numbered, Records, RolloutRecord, each_there, numbered_each}
-use Rattle.desk_reads.proofs.Common.{ledger_of, rule_numbered, rules_numbered, RolloutPlan, number_of}
+use Rattle.desk_reads.proofs.Common.{ledger_of, rule_numbered, rules_numbered, RolloutPlan, kept_if, is_number}
 use Rattle.std.proofs.lemmas.Option.{slice_get-map}
 use Rattle.rollout_machine.specs.GroupRules.{GroupRule, rule_at, rules_of}
 
@@ -23,5 +23,5 @@ pub said_of : (r : Records) (number i : ℕ) (x : RolloutRecord) (rule : GroupRu
 said_of r number i x rule there found = rule_is x.plan i rule (ap (λ its. item_numbered its i) (sym (rules_there r number x there)) ∙ sym found)
 
 -- a number in its range is itself
-pub same_number : (n k : ℕ) → number_of n ≡ Some k → k ≡ n
+pub same_number : (n k : ℕ) → kept_if is_number n ≡ Some k → k ≡ n
 same_number n k is = grind arith

@@ -53,7 +53,7 @@ pub use Rattle.sqlite_value.specs.declared.value.Value.{Value}
 pub use Rattle.sqlite_value.specs.declared.value.Value.TheVariants.{Blob, Int, Null, Text}
 pub use Rattle.rollout_model.proofs.RuleLemmas.{spelled_is_utf8}
 pub use Rattle.rollout_model.specs.Limits.{limits}
-pub use Rattle.rollout_model.specs.Rules.{are_details, detail_of, details_of, is_byte, is_detail, is_digest, is_filename, is_number, is_text, is_text_letter}
+pub use Rattle.rollout_model.specs.Rules.{are_details, kept_if, is_byte, is_detail, is_digest, is_filename, is_number, is_text, is_text_letter}
 pub use Rattle.rollout_model.specs.Rules.{is_value}
 pub use Rattle.rollout_model.specs.declared.group_rule.GroupRule.{GroupRule}
 pub use Rattle.rollout_model.specs.declared.rollout.Offer.{Offer}

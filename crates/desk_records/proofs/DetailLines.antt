@@ -2,7 +2,7 @@
 use Rattle.desk_records.proofs.Common.{◌≡◌, ◌≢◌, ◌≤◌, ◌<◌, ℕ, suc, Bool, true, false, not, nat_eq, List, [], ◌∷◌, ◌++◌, length, get_or, Option, Some, None}
 use Rattle.desk_records.proofs.Common.{IfNone, refl, sym, ap, ap₂, subst, ◌∙◌, arith, append-nil, append_assoc, length-append, if◌then◌else◌, list_all, IsUtf8}
 use Rattle.desk_records.proofs.Common.{and_parts, nat_tests, list_all-append, IsUtf8-append, IsUtf8-from_ascii, IsUtf8-from_is_utf8, IsUtf8-nil, Value, Text}
-use Rattle.desk_records.proofs.Common.{Bytes, are_details, detail_of, details_of, is_detail, is_text_letter, lines_of}
+use Rattle.desk_records.proofs.Common.{Bytes, are_details, kept_if, is_detail, is_text_letter, lines_of}
 use Rattle.std.proofs.lemmas.Str.Ascii.{IsAscii-cons, IsAscii-nil}
 use Rattle.desk_records.specs.EntryRow.{HasNoDetails}
 
@@ -17,10 +17,10 @@ line_more text rest line more lines is next = is ∙ ap (λ r. lines_of lines ++
     go [] = grind (arith, append_assoc, append-nil)
     go (l ∷ ls) = grind (arith, append_assoc, go ls)
 
-pub detail_is : (line d : Bytes) → detail_of line ≡ Some d → (d ≡ line) × (is_detail d ≡ true)
+pub detail_is : (line d : Bytes) → kept_if is_detail line ≡ Some d → (d ≡ line) × (is_detail d ≡ true)
 detail_is line d is = (grind arith, grind arith)
 
-pub no_detail : (line : Bytes) → detail_of line ≡ None → is_detail line ≡ false
+pub no_detail : (line : Bytes) → kept_if is_detail line ≡ None → is_detail line ≡ false
 no_detail line is = grind arith
 
 pub one_more : (lines : List Bytes) (d : Bytes) → list_all is_detail lines ≡ true → is_detail d ≡ true → list_all is_detail (lines ++ d ∷ []) ≡ true
@@ -89,7 +89,8 @@ feed_within [] rest h = absurd cc
 feed_within (b ∷ m) rest h = grind (arith, feed_within m rest)
 
 -- the lines are all that there is, or they don't say the text
-pub all_or_none : (text rest : Bytes) (lines : List Bytes) (found : Option (List Bytes)) → found ≡ (if nat_eq (length rest) 0 then details_of lines else None)
+pub all_or_none : (text rest : Bytes) (lines : List Bytes) (found : Option (List Bytes))
+    → found ≡ (if nat_eq (length rest) 0 then kept_if are_details lines else None)
     → text ≡ lines_of lines ++ rest → list_all is_detail lines ≡ true → length lines ≤ 8
     → (rest ≢ [] → (more : List Bytes) → list_all is_detail more ≡ true → length (lines ++ more) ≤ 8 → rest ≢ lines_of more)
     → IfNone found (HasNoDetails (Text text))

@@ -5,7 +5,7 @@ use Rattle.sqlite_value.specs.declared.value.Value.{Value}
 use Rattle.sqlite_value.specs.declared.value.Value.TheVariants.{Null}
 use Rattle.rollout_machine.specs.declared.outcome.Outcome.{Outcome}
 use Rattle.rollout_machine.specs.declared.outcome.Outcome.TheVariants.{Good, Bad, Gone}
-use Rattle.rollout_model.specs.Rules.{number_of, feedback_number_of, group_count_of, percentage_of}
+use Rattle.rollout_model.specs.Rules.{kept_if, is_number, is_feedback_number, is_group_count, is_percentage}
 use Rattle.rollout_model.specs.declared.approval.Approval.{Approval}
 use Rattle.rollout_model.specs.declared.approval.Approval.TheVariants.{Waiting, Denied, Given}
 use Rattle.desk_records.specs.Columns.{small_number}
@@ -55,7 +55,7 @@ abbrev pub outcome_in : Value → Option (Option Outcome)
 outcome_in = coded_in outcome_from
 
 abbrev pub number_in : Value → Option ℕ
-number_in = coded_in number_of
+number_in = coded_in (kept_if is_number)
 
 -- a place, counted from 1
 abbrev pub place_from : ℕ → Option ℕ
@@ -65,13 +65,13 @@ abbrev pub place_in : Value → Option ℕ
 place_in = coded_in place_from
 
 abbrev pub feedback_number_in : Value → Option ℕ
-feedback_number_in = coded_in feedback_number_of
+feedback_number_in = coded_in (kept_if is_feedback_number)
 
 abbrev pub group_count_in : Value → Option ℕ
-group_count_in = coded_in group_count_of
+group_count_in = coded_in (kept_if is_group_count)
 
 abbrev pub percentage_in : Value → Option ℕ
-percentage_in = coded_in percentage_of
+percentage_in = coded_in (kept_if is_percentage)
 
 -- None in Some is no value
 abbrev pub percentage_or_none_in : Value → Option (Option ℕ)

@@ -3,7 +3,7 @@
 ghost use Rattle.std.specs.Prelude.{◌≡◌, ◌⊎◌, IfOk, IfErr, IfSome, IfNone, MatchResult, Some, None, length, nat_eq, if◌then◌else◌};
 ghost use Rattle.sqlite_value.specs.Order.{column};
 ghost use Rattle.desk_records.specs.Actions.{lines_of};
-ghost use Rattle.rollout_model.specs.Rules.{details_of};
+ghost use Rattle.rollout_model.specs.Rules.{kept_if, are_details};
 ghost use Rattle.desk_records.specs.EntryRow.{BreaksEntry, BreaksSequenced, HasNoDetails, IsEntryRow, IsSequencedRow};
 ghost use Rattle.desk_records.specs.EntryRow.{broken_word, cancel_in, deployment_in, said_in};
 ghost use Rattle.desk_records.specs.Columns.{StoredText};
@@ -132,7 +132,7 @@ fn read_lines(alloc: Global, text: &str) -> Result<Option<Details>, AllocError>
 
 /// The lines as details, where nothing is left.
 fn details_of(lines: Vec<Detail>, rest: &str) -> Option<Details>
-    ensures { result ≡ (if nat_eq (length rest.now) 0 then details_of lines.items else None) }
+    ensures { result ≡ (if nat_eq (length rest.now) 0 then kept_if are_details lines.items else None) }
 {
     if !rest.is_empty() {
         return None;

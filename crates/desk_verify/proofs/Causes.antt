@@ -1,7 +1,8 @@
 -- What a failed store is blamed on in the checks.
 use Rattle.desk_verify.proofs.Common.{◌≡◌, ◌≤◌, ◌<◌, ◌^◌, ℕ, pos, ◌+◌, slice_index_or, take, Bool, not, false, List, [], length, filter, Option, Some, None}
 use Rattle.desk_verify.proofs.Common.{refl, Ok, Err, Result, sym, ap, subst, ◌∙◌, arith, and_parts, AllByRecursion, Int, Row, column, value_cmp, State, Finds}
-use Rattle.desk_verify.proofs.Common.{Wears, Fault, number_of, number_in, AreSaid, IsLastNumber, AreMembers, OwnedOffer, PlacedMember, Members, Offers, Place}
+use Rattle.desk_verify.proofs.Common.{Wears, Fault, kept_if, is_number, number_in, AreSaid, IsLastNumber, AreMembers, OwnedOffer, PlacedMember, Members}
+use Rattle.desk_verify.proofs.Common.{Offers, Place}
 use Rattle.desk_verify.proofs.Common.{Rollouts, number_in_good, number_in_is, HoldsTables, Tables, BlamesGiven, FindsTables, seen_in, AreActions, AreOffers}
 use Rattle.desk_verify.proofs.Common.{SaysOffer, any_row, large_number, many_rows, count_on, AgreesActions, AgreeBefore, Passes, checked, Artifact}
 use Rattle.desk_verify.proofs.Common.{AgreesMembers, IsUpTo, limits, ReadsOf, SaysMember, is_of, unread, rules, leb-true, is_in_range}
@@ -55,11 +56,11 @@ pub up_to : (t : Tables) (before last : ℕ) → IsLastNumber (t Rollouts) last 
 up_to t before last is within = grind arith
 
 -- the number that is made of a number is that
-pub same_number : (n m : ℕ) → number_of n ≡ Some m → m ≡ n
+pub same_number : (n m : ℕ) → kept_if is_number n ≡ Some m → m ≡ n
 same_number n m h = grind arith
 
 -- a number that is too large is that of no rollout, and then the last one is too
-pub past_limit : (reading : Reading) (n : ℕ) → number_of n ≡ None → ReadsUpTo n reading → HasUnreadable reading
+pub past_limit : (reading : Reading) (n : ℕ) → kept_if is_number n ≡ None → ReadsUpTo n reading → HasUnreadable reading
 past_limit reading n none given = unread reading (large_number up.there.row up.there.among (go (number_in (column up.there.row 0)) refl)) given.rollouts
   where
     up : IsUpTo n reading.tables

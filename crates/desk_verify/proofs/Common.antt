@@ -24,7 +24,7 @@ pub use Rattle.sqlite_value.specs.Order.{Row, column, value_cmp}
 pub use Rattle.sqlite_value.specs.declared.value.Value.TheVariants.{Int, Null, Text}
 pub use Rattle.rollout_model.specs.Groupings.{Grouping, define_each, is_grouping}
 pub use Rattle.rollout_model.specs.Limits.{limits}
-pub use Rattle.rollout_model.specs.Rules.{is_digest, is_feedback_number, is_number, is_percentage, is_word, number_of}
+pub use Rattle.rollout_model.specs.Rules.{is_digest, is_feedback_number, is_number, is_percentage, is_word, kept_if}
 pub use Rattle.rollout_model.specs.declared.rollout.Offer.{Offer}
 pub use Rattle.artifact_pieces.specs.Pieces.{piece_count}
 pub use Rattle.rollout_machine.proofs.GroupCounts.{groups_are_counted}

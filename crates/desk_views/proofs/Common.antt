@@ -14,7 +14,7 @@ pub use Rattle.std.specs.Result.{IsErrAnd}
 pub use Rattle.std.specs.declared.alloc.Global.{Global}
 pub use Rattle.sqlite_rules.specs.Lists.{Has}
 pub use Rattle.rollout_model.specs.Limits.{limits}
-pub use Rattle.rollout_model.specs.Rules.{is_byte, is_contents, is_module_list, number_of}
+pub use Rattle.rollout_model.specs.Rules.{is_byte, is_contents, is_module_list, kept_if, is_number}
 pub use Rattle.rollout_model.specs.declared.refusal.Refusal.TheVariants.{NotFound}
 pub use Rattle.rollout_model.specs.declared.shown_target.ShownTarget.{ShownTarget}
 pub use Rattle.target_filter.specs.Grammar.{Tree}

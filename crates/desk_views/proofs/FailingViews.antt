@@ -1,5 +1,5 @@
 -- Why a view of a list of accepted commands is no failed store by itself.
-use Rattle.desk_views.proofs.Common.{◌≡◌, ◌≤◌, ℕ, List, length, None, Result, Ok, IfErr, arith, Broken, number_of, Records, HoldsLedger, Ledger}
+use Rattle.desk_views.proofs.Common.{◌≡◌, ◌≤◌, ℕ, List, length, None, Result, Ok, IfErr, arith, Broken, kept_if, is_number, Records, HoldsLedger, Ledger}
 use Rattle.desk_views.proofs.Common.{ledger_of, FindsIn, IsReadable, IfRowsBroken, IsOfList, AreOfList, item_numbered, Fault, IsErrAnd}
 use Rattle.std.proofs.lemmas.Option.{slice_get_cases}
 use Rattle.sqlite.specs.Store.{Ghosts}
@@ -34,7 +34,7 @@ never_answers kept out why failed = grind arith
 -- ---- entries of lists
 
 -- a number of an entry is one
-pub numbered_so : (n most : ℕ) → None ≡ number_of n → 1 ≤ n → n ≤ most → most ≤ 1000 → ⊥
+pub numbered_so : (n most : ℕ) → None ≡ kept_if is_number n → 1 ≤ n → n ≤ most → most ≤ 1000 → ⊥
 numbered_so n most none low high few = grind (arith, is_in_range)
 
 -- .. of which there is one

@@ -9,7 +9,7 @@ use Rattle.rollout_model.specs.declared.refusal.Refusal.{Refusal}
 use Rattle.rollout_model.specs.declared.page.PageOf.{PageOf}
 use Rattle.rollout_model.specs.declared.shown_target.ShownTarget.{ShownTarget}
 use Rattle.rollout_machine.specs.Replies.{Refused}
-use Rattle.rollout_model.specs.Rules.{is_word, word_of}
+use Rattle.rollout_model.specs.Rules.{is_word, kept_if}
 use Rattle.rollout_model.proofs.RuleLemmas.{spelled_is_utf8}
 use Rattle.rollout_machine.specs.Views.{listed, listed_targets, shown_target}
 use Rattle.request_target.specs.Rows.{are_routes}
@@ -48,8 +48,8 @@ pub page_reply-targets : (page : PageOf ShownTarget) → page_reply shown_target
 page_reply-targets page = ap (λ shown. json_reply 200 (compact_text (page_data shown page.total))) (map-shown_target page.content.items)
 
 -- a word is a text
-pub word_of-no_text : (bs : List ℕ) → (IsUtf8 bs → ⊥) → word_of bs ≡ None
-word_of-no_text bs unread = by (is_word bs) refl
+pub is_word-no_text : (bs : List ℕ) → (IsUtf8 bs → ⊥) → kept_if is_word bs ≡ None
+is_word-no_text bs unread = by (is_word bs) refl
   where
     by : (v : Bool) → is_word bs ≡ v → cond v (Some bs) None ≡ None
     by true is = absurd (unread (spelled_is_utf8 1 64 bs is))

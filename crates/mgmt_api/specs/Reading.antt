@@ -8,7 +8,7 @@ use Rattle.rollout_model.specs.declared.refusal.Refusal.{Refusal}
 use Rattle.rollout_model.specs.declared.refusal.Refusal.TheVariants.{BadRequest, NotFound, BadMethod, BadImportLine, NoMemory}
 use Rattle.rollout_model.specs.declared.request.Request.{Request as RustRequest}
 use Rattle.rollout_model.specs.declared.target_row.TargetRow.{TargetRow}
-use Rattle.rollout_model.specs.Rules.{number_of as item_number_of, word_of}
+use Rattle.rollout_model.specs.Rules.{kept_if, is_number, is_word}
 use Rattle.rollout_machine.specs.Commands.{Command, AddModule, AddArtifact, AddSet, PutTargets, Tag, Untag, CreateRollout, Cancel}
 use Rattle.rollout_machine.specs.Requests.{Do, Ask, Query, Page, ShowModules, ShowModule, ShowArtifacts, ShowArtifact, ShowContents, ShowSets}
 use Rattle.rollout_machine.specs.Requests.{ShowSet, ShowTargets, ShowTarget, ShowTargetActions, ShowAction, ShowHistory, ShowRollouts, ShowRollout}
@@ -66,7 +66,7 @@ path_number m place = option_and_then decimal_number (slice_get (segments (path_
 
 -- the number of an item, from 1 to 2,147,483,647
 abbrev pub item_in : WireMessage → ℕ → Option ℕ
-item_in m place = option_and_then item_number_of (path_number m place)
+item_in m place = option_and_then (kept_if is_number) (path_number m place)
 
 -- what is asked of the item whose number stands at this place of the path; what is no such number is not found
 abbrev pub of_item : ℕ → (ℕ → Asked) → WireMessage → Asked
@@ -82,7 +82,7 @@ of_artifact query m = of_item 4 (λ number. of_item 6 (λ artifact. without_quer
 
 -- the word that the segment at this place of the path is
 abbrev pub path_word : WireMessage → ℕ → Option (List ℕ)
-path_word m place = option_and_then word_of (slice_get (segments (path_of m.target)) place)
+path_word m place = option_and_then (kept_if is_word) (slice_get (segments (path_of m.target)) place)
 
 -- what is asked of the target or tag that stands at this place of the path; what is no word is not found
 abbrev pub of_word : ℕ → (List ℕ → Asked) → WireMessage → Asked

@@ -3,7 +3,7 @@ use Rattle.std.specs.Prelude.{ℕ, List, [], ◌∷◌, codes, Option, Some, Non
 use Rattle.artifact_pieces.specs.Digests.{digest_named}
 use Rattle.request_target.specs.Pairs.{Pair}
 use Rattle.request_target.specs.Queries.{query_pairs_of, value_of}
-use Rattle.rollout_model.specs.Rules.{contents_of, filename_of}
+use Rattle.rollout_model.specs.Rules.{kept_if, is_contents, is_filename}
 use Rattle.rollout_model.specs.declared.artifact.Upload.{Upload}
 
 abbrev pub upload_keys : List (List ℕ)
@@ -11,7 +11,7 @@ upload_keys = codes "filename" ∷ codes "sha256" ∷ []
 
 -- the name is required
 abbrev pub filename_given : List Pair → Option (List ℕ)
-filename_given pairs = option_and_then filename_of (value_of (codes "filename") pairs)
+filename_given pairs = option_and_then (kept_if is_filename) (value_of (codes "filename") pairs)
 
 abbrev pub digest_or_none : Option (List ℕ) → Option (Option (List ℕ))
 digest_or_none None = Some None
@@ -26,7 +26,7 @@ abbrev pub upload_of : ℕ → List ℕ → List Pair → Option Upload
 upload_of number body pairs =
     option_and_then (λ filename. option_and_then (λ expected. option_map
     (λ contents. record { module_number = number; filename = filename; expected = expected; contents = contents })
-    (contents_of body)) (digest_expected pairs)) (filename_given pairs)
+    (kept_if is_contents body)) (digest_expected pairs)) (filename_given pairs)
 
 -- a query that holds no other key, and none twice
 abbrev pub upload_asked : ℕ → List ℕ → List ℕ → Option Upload

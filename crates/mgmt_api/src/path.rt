@@ -1,7 +1,7 @@
 //! What stands in a path, and whether there is a query.
 
 ghost use Rattle.std.specs.Prelude.{◌≡◌, option_and_then, option_map};
-ghost use Rattle.rollout_model.specs.Rules.{word_of};
+ghost use Rattle.rollout_model.specs.Rules.{kept_if, is_word};
 ghost use Rattle.http_wire.specs.Inbox.{message_of};
 ghost use Rattle.mgmt_api.specs.Reading.{TakesNoQuery, item_in, path_number, path_word};
 
@@ -47,7 +47,7 @@ pub(crate) fn read_group(message: &Message<'_>) -> Option<u32>
 
 /// The text of the segment at a place; `None` where there is none, or it is no UTF-8.
 fn text_in<'a>(message: &'a Message<'_>, place: usize) -> Option<&'a str>
-    ensures { option_and_then word_of (option_map (λ s. s.now) result) ≡ path_word (message_of message.now) place }
+    ensures { option_and_then (kept_if is_word) (option_map (λ s. s.now) result) ≡ path_word (message_of message.now) place }
 {
     let segment = segment_at(message.path(), place)?;
     let Ok(text) = str::from_utf8(segment) else {

@@ -3,7 +3,7 @@
 ghost use Rattle.std.specs.Prelude.{◌≡◌, map};
 ghost use Rattle.request_target.specs.Pairs.{seen};
 ghost use Rattle.mgmt_objects.specs.Readings.{ReadsAs};
-ghost use Rattle.rollout_model.specs.Rules.{contents_of};
+ghost use Rattle.rollout_model.specs.Rules.{kept_if, is_contents};
 ghost use Rattle.mgmt_api.specs.UploadQueries.{digest_expected, filename_given, upload_asked, upload_of};
 
 use artifact_pieces::read_digest;
@@ -32,7 +32,7 @@ fn digest_expected(pairs: &[(String, String)]) -> Option<Option<Digest>>
 }
 
 fn read_contents(alloc: Global, body: &[u8]) -> Result<Contents, Refusal>
-    ensures { ReadsAs (contents_of body.now) result }
+    ensures { ReadsAs (kept_if is_contents body.now) result }
 {
     let bytes = Vec::from_slice(alloc, body)?;
     match Contents::from_bytes(bytes) {

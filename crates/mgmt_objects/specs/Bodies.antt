@@ -4,7 +4,7 @@ use Rattle.std.specs.Str.{is_utf8}
 use Rattle.serde_json.specs.Data.{Data, Items, no_items, item}
 use Rattle.serde_json.specs.Read.{read}
 use Rattle.serde_json.specs.Find.{get, as_str, as_array, as_number, as_u64}
-use Rattle.rollout_model.specs.Rules.{text_of, number_of}
+use Rattle.rollout_model.specs.Rules.{kept_if, is_text, is_number}
 
 -- the value that a body writes
 abbrev pub body_data : List ℕ → Option Data
@@ -25,7 +25,7 @@ string_member key d = option_and_then as_str (get key d)
 
 -- a member that is a name, a type or a version
 abbrev pub text_member : List ℕ → Data → Option (List ℕ)
-text_member key d = option_and_then text_of (string_member key d)
+text_member key d = option_and_then (kept_if is_text) (string_member key d)
 
 -- a whole number, without sign, fraction or exponent
 abbrev pub whole_of : Data → Option ℕ
@@ -33,7 +33,7 @@ whole_of d = option_and_then as_u64 (as_number d)
 
 -- a member that is a whole number from 1 to 2,147,483,647
 abbrev pub number_member : List ℕ → Data → Option ℕ
-number_member key d = option_and_then number_of (option_and_then whole_of (get key d))
+number_member key d = option_and_then (kept_if is_number) (option_and_then whole_of (get key d))
 
 -- what a member says that may be missing
 abbrev pub if_given : {A : Type 0} → (Data → Option A) → Option Data → Option (Option A)

@@ -3,8 +3,8 @@ use Rattle.std.specs.Prelude.{ℕ, List, map, codes, Option, Some, None, option_
 use Rattle.std.specs.Option.{unwrap_or}
 use Rattle.serde_json.specs.Data.{Data}
 use Rattle.serde_json.specs.Find.{get}
-use Rattle.rollout_model.specs.Groupings.{Grouping, defined, definitions_of, evenly}
-use Rattle.rollout_model.specs.Rules.{group_count_of, percentage_of}
+use Rattle.rollout_model.specs.Groupings.{Grouping, defined, are_definitions, evenly}
+use Rattle.rollout_model.specs.Rules.{kept_if, is_group_count, is_percentage}
 use Rattle.rollout_model.specs.declared.group_definition.GroupDefinition.{GroupDefinition}
 use Rattle.mgmt_objects.specs.Bodies.{if_given, whole_of}
 use Rattle.mgmt_objects.specs.Thresholds.{threshold_of}
@@ -13,7 +13,7 @@ use Rattle.mgmt_objects.specs.declared.group_item.GroupItem.{GroupItem}
 
 -- a member that is a whole number from 1 to 100
 abbrev pub percentage_member : List ℕ → Data → Option ℕ
-percentage_member key d = option_and_then percentage_of (option_and_then whole_of (get key d))
+percentage_member key d = option_and_then (kept_if is_percentage) (option_and_then whole_of (get key d))
 
 -- a condition that may be missing: a group's own threshold, or none
 abbrev pub own_threshold : Option Data → Option (Option ℕ)
@@ -40,11 +40,11 @@ item_definitions success error d = option_map (λ items. map (item_definition su
 
 -- 1 to 50 groups, each with its definition, the last of 100 percent
 abbrev pub defined_groups : ℕ → ℕ → Data → Option Grouping
-defined_groups success error d = option_map defined (option_and_then definitions_of (item_definitions success error d))
+defined_groups success error d = option_map defined (option_and_then (kept_if are_definitions) (item_definitions success error d))
 
 -- a whole number from 1 to 50
 abbrev pub even_count : Data → Option ℕ
-even_count d = option_and_then group_count_of (whole_of d)
+even_count d = option_and_then (kept_if is_group_count) (whole_of d)
 
 -- so many groups, as even as can be
 abbrev pub even_groups : Data → Option Grouping

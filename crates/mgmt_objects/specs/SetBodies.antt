@@ -2,7 +2,7 @@
 use Rattle.std.specs.Prelude.{ℕ, List, Option, option_map, option_and_then, codes}
 use Rattle.serde_json.specs.Data.{Data}
 use Rattle.serde_json.specs.Find.{get, as_array}
-use Rattle.rollout_model.specs.Rules.{module_list_of}
+use Rattle.rollout_model.specs.Rules.{kept_if, is_module_list}
 use Rattle.rollout_model.specs.declared.distribution_set.SetLabel.{SetLabel}
 use Rattle.mgmt_objects.specs.Bodies.{body_data, only, text_member, number_member}
 use Rattle.mgmt_objects.specs.Traverse.{list_of, traverse}
@@ -17,7 +17,7 @@ ids_member key d = option_and_then (λ items. traverse id_of (list_of items)) (o
 
 -- 1 to 8 modules, none twice
 abbrev pub modules_member : Data → Option (List ℕ)
-modules_member d = option_and_then module_list_of (ids_member (codes "modules") d)
+modules_member d = option_and_then (kept_if is_module_list) (ids_member (codes "modules") d)
 
 abbrev pub new_set_label : List ℕ → List ℕ → List ℕ → SetLabel
 new_set_label name version modules = record { name = name; version = version; modules = modules }

@@ -6,14 +6,14 @@ use Rattle.serde_json.specs.Data.{Data}
 use Rattle.serde_json.specs.Find.{get, as_str}
 use Rattle.artifact_pieces.specs.Digests.{digest_of}
 use Rattle.rollout_model.specs.Limits.{limits}
-use Rattle.rollout_model.specs.Rules.{is_between, tag_list_of, token_of, word_of}
+use Rattle.rollout_model.specs.Rules.{is_between, kept_if, is_tag_list, is_token, is_word}
 use Rattle.rollout_model.specs.declared.target_row.TargetRow.{TargetRow}
 use Rattle.mgmt_objects.specs.Bodies.{body_data, text_member}
 use Rattle.mgmt_objects.specs.Traverse.{array_of}
 
 -- a value that is a word
 abbrev pub word_in : Data → Option (List ℕ)
-word_in d = option_and_then word_of (as_str d)
+word_in d = option_and_then (kept_if is_word) (as_str d)
 
 -- a member that is a word
 abbrev pub word_member : List ℕ → Data → Option (List ℕ)
@@ -21,7 +21,7 @@ word_member key d = option_and_then word_in (get key d)
 
 -- the digest of a member that is a token
 abbrev pub token_digest_member : List ℕ → Data → Option (List ℕ)
-token_digest_member key d = option_map digest_of (option_and_then token_of (option_and_then as_str (get key d)))
+token_digest_member key d = option_map digest_of (option_and_then (kept_if is_token) (option_and_then as_str (get key d)))
 
 abbrev pub words_if : Option Data → Option (List (List ℕ))
 words_if None = Some []
@@ -33,7 +33,7 @@ words_member key d = words_if (get key d)
 
 -- at most 16 tags, none twice
 abbrev pub tags_member : Data → Option (List (List ℕ))
-tags_member d = option_and_then tag_list_of (words_member (codes "tags") d)
+tags_member d = option_and_then (kept_if is_tag_list) (words_member (codes "tags") d)
 
 abbrev pub new_row : List ℕ → List ℕ → List ℕ → List (List ℕ) → TargetRow
 new_row id name digest tags = record { id = id; name = name; digest = digest; tags = tags }

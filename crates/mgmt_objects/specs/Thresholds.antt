@@ -2,7 +2,7 @@
 use Rattle.std.specs.Prelude.{ℕ, ◌+◌, ◌-◌, ◌*◌, List, [], ◌∷◌, Bool, false, ◌&&◌, ◌==◌, nat_le, bytes_eq, codes, Option, Some, None, option_and_then}
 use Rattle.std.specs.Prelude.{if◌then◌else◌}
 use Rattle.serde_json.specs.Data.{Data}
-use Rattle.rollout_model.specs.Rules.{percentage_of}
+use Rattle.rollout_model.specs.Rules.{kept_if, is_percentage}
 use Rattle.mgmt_objects.specs.Bodies.{string_member}
 
 abbrev pub is_digit : ℕ → Bool
@@ -20,7 +20,7 @@ percent_written (c ∷ cs) = if c == 48 then None else percent_after 0 (c ∷ cs
 
 -- a percentage from 1 to 100
 abbrev pub percentage_of_text : List ℕ → Option ℕ
-percentage_of_text text = option_and_then percentage_of (percent_written text)
+percentage_of_text text = option_and_then (kept_if is_percentage) (percent_written text)
 
 abbrev pub is_given_as : List ℕ → Option (List ℕ) → Bool
 is_given_as word None = false

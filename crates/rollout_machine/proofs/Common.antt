@@ -66,8 +66,8 @@ pub use Rattle.rollout_machine.specs.Requests.{Ask, Asked, Asks, Do, Download, P
 pub use Rattle.rollout_machine.specs.Requests.{ShowArtifacts, ShowCancel, ShowContents, ShowDeployment, ShowGroup, ShowGroupTargets, ShowGroups, ShowHistory}
 pub use Rattle.rollout_machine.specs.Requests.{ShowModule, ShowModules, ShowReport, ShowRollout, ShowRollouts, ShowSet, ShowSets, ShowTarget, ShowTargetActions}
 pub use Rattle.rollout_machine.specs.Requests.{ShowTargets}
-pub use Rattle.rollout_machine.specs.Rollouts.{Rollout, bounds_in, chosen, created, error_at, first_of, last_of, members_of, rollout_at, rollouts, size_in}
-pub use Rattle.rollout_machine.specs.Rollouts.{size_of, success_at}
+pub use Rattle.rollout_machine.specs.Rollouts.{Rollout, bounds_in, chosen, created, rule_at, first_of, last_of, members_of, rollout_at, rollouts, size_in}
+pub use Rattle.rollout_machine.specs.Rollouts.{size_of}
 pub use Rattle.rollout_machine.specs.Splits.{FirstEmptyTells, LeavesNoneEmpty, SplitCovers, first_empty, first_empty_from, left_by, share, split_bounds_of}
 pub use Rattle.rollout_machine.specs.Splits.{split_last}
 pub use Rattle.rollout_machine.specs.StateWords.{ApprovalDenied, ErrorGroup, FinishedGroup, FinishedRollout, GroupWord, InError, PausedRollout, Pending}

@@ -4,7 +4,7 @@ use Rattle.rollout_machine.proofs.Common.{None, nat_lt, nat_eq, and-true, or-fal
 use Rattle.rollout_machine.proofs.Common.{is_on_action, is_action_place, outcome, CommandList, Make, ◌▸◌, Command, Resume, TriggerNext, Outcome, Good, Bad}
 use Rattle.rollout_machine.proofs.Common.{tally, reaches, success_holds, is_outcome, IsLast, HasSoundPlan, StartedOnly, GetsOutcome, IsView, feedback_pauses}
 use Rattle.rollout_machine.proofs.Common.{good_after, next_if, starts_next, last_with, FollowsResume, FollowsTrigger, is_group_started}
-use Rattle.rollout_machine.proofs.Common.{next_started, is_paused, error_begins_at, is_trigger_of, some_up_to, Rollout, size_in, success_at, Effects}
+use Rattle.rollout_machine.proofs.Common.{next_started, is_paused, error_begins_at, is_trigger_of, some_up_to, Rollout, size_in, rule_at, Effects}
 use Rattle.rollout_machine.specs.declared.view.RolloutView.{RolloutView}
 use Rattle.rollout_machine.proofs.Starts.{starts_one_more, last_after}
 use Rattle.rollout_machine.proofs.Tallies.{untouched, no_success, tally_same, tally_gains, tally_elsewhere, quiet, paused_after_outcome, no_error_begins}
@@ -102,7 +102,7 @@ pub calm_errors : (x : Rollout) (r : ℕ) (h : CommandList) (c : Command) → ac
 calm_errors x r h c e = no_error_begins x r h c (λ j. calm_outcome h c r j e)
 
 pub calm_success : (x : Rollout) (r l : ℕ) (h : CommandList) (c : Command) → action_of h c ≡ None → success_holds x r l (h ▸ c) ≡ success_holds x r l h
-calm_success x r l h c e = ap (λ n. reaches n (size_in x l) (success_at x.plan l)) (tally_same Good x r l h c (λ j w. calm_outcome h c r j e))
+calm_success x r l h c e = ap (λ n. reaches n (size_in x l) (rule_at x.plan l).success) (tally_same Good x r l h c (λ j w. calm_outcome h c r j e))
 
 view_success : (v : RolloutView) (x : Rollout) (r g l : ℕ) (h : CommandList) → IsView v x r g l h → reaches v.last.ok v.last.size v.last.success
     ≡ success_holds x r l h

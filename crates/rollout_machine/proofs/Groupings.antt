@@ -4,11 +4,11 @@ use Rattle.rollout_machine.proofs.Common.{◌≡◌, ◌≤◌, ℕ, zero, suc, 
 use Rattle.rollout_machine.proofs.Common.{subst, ◌∙◌, is_some, AllByRecursion, list_all, and_parts, eqb-true, false≢true, leb-true, ltb-false, length-map}
 use Rattle.rollout_machine.proofs.Common.{is_plan, RolloutPlan, GroupDefinition, GroupingCovers, last_defined, percentages, some_empty, IsCut, LeavesNoneEmpty}
 use Rattle.rollout_machine.proofs.Common.{first_empty, split_last}
-use Rattle.rollout_model.specs.Groupings.{define_each, definition_numbered, ends_whole, is_definition}
+use Rattle.rollout_model.specs.Groupings.{define_each, ends_whole, is_definition}
 use Rattle.rollout_model.specs.Limits.{limits}
 use Rattle.rollout_model.specs.PlanRules.{rule_by}
-use Rattle.rollout_model.specs.Rules.{is_between, is_group_count, is_percentage}
-use Rattle.rollout_machine.specs.GroupRules.{GroupRule, rule_at, success_at, error_at}
+use Rattle.rollout_model.specs.Rules.{is_between, is_group_count, is_percentage, item_numbered}
+use Rattle.rollout_machine.specs.GroupRules.{GroupRule, rule_at}
 use Rattle.rollout_machine.proofs.Cuts.{even_is_cut}
 use Rattle.rollout_machine.proofs.Splits.{first_empty_tells, split_is_cut}
 
@@ -63,7 +63,7 @@ each_is [] i d all at = absurd cc
 each_is (e ∷ ds) zero d all at = let same : e ≡ d = cc in subst (λ f. is_definition f ≡ true) same (and_parts _ _ all).0
 each_is (e ∷ ds) (suc i) d all at = each_is ds i d (and_parts _ _ all).1 at
 
-numbered_is : (ds : List GroupDefinition) (count i : ℕ) (d : GroupDefinition) → define_each ds count ≡ true → definition_numbered ds i ≡ Some d
+numbered_is : (ds : List GroupDefinition) (count i : ℕ) (d : GroupDefinition) → define_each ds count ≡ true → item_numbered ds i ≡ Some d
     → is_definition d ≡ true
 numbered_is ds count zero d each at = absurd cc
 numbered_is [] count (suc i) d each at = absurd cc
@@ -84,14 +84,14 @@ pub each_rule : (P : GroupRule → Type 0) (plan : RolloutPlan) (i : ℕ) → is
 each_rule P plan i formed even defined =
     let parts = and_parts _ _ formed in
     let more = and_parts _ _ parts.1 in
-    go (definition_numbered plan.groups.definitions i) (even more.0 (and_parts _ _ more.1).0)
+    go (item_numbered plan.groups.definitions i) (even more.0 (and_parts _ _ more.1).0)
     (λ d at. defined d (numbered_is plan.groups.definitions plan.groups.count i d (and_parts _ _ parts.0).1 at))
   where
     go : (o : Option GroupDefinition) → P (rule_by None plan) → ((d : GroupDefinition) → o ≡ Some d → P (rule_by (Some d) plan)) → P (rule_by o plan)
     go None own each = own
     go (Some d) own each = each d refl
 
-pub has_thresholds : (plan : RolloutPlan) (i : ℕ) → is_plan plan ≡ true → HasThresholds (success_at plan i) (error_at plan i)
+pub has_thresholds : (plan : RolloutPlan) (i : ℕ) → is_plan plan ≡ true → HasThresholds (rule_at plan i).success (rule_at plan i).error
 has_thresholds plan i formed =
     each_rule (λ (rule : GroupRule). HasThresholds rule.success rule.error) plan i formed (thresholds plan.success plan.error)
     (λ d own. let parts = and_parts _ _ (and_parts _ _ own).1 in thresholds d.success d.error parts.0 parts.1)

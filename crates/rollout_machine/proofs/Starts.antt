@@ -1,5 +1,6 @@
 -- Which groups are started after one more command: those that were, and at most the next one.
-use Rattle.rollout_machine.proofs.Common.{◌≡◌, ℕ, zero, suc, ◌<◌, ◌≤◌, Bool, true, false, cond, ◌||◌, ◌&&◌, not, refl, ◌∙◌, arith, inl, inr, ◌⊎◌, nat_lt}
+use Rattle.rollout_machine.proofs.Common.{◌≡◌, ℕ, zero, suc, ◌<◌, ◌≤◌, Bool, true, false, cond, ◌||◌, ◌&&◌, not, refl, sym, subst, ◌∙◌, arith, inl, inr, ◌⊎◌}
+use Rattle.rollout_machine.proofs.Common.{nat_lt}
 use Rattle.rollout_machine.proofs.Common.{cases_eq, cases_Bool, ltb-true, false≢true, CommandList, Make, ◌▸◌, Command, success_holds, IsLast, is_group_started}
 use Rattle.rollout_machine.proofs.Common.{next_started, is_paused, is_trigger_of, is_start_of, is_rollout_started, Rollout}
 
@@ -43,7 +44,7 @@ no_further x r h c l w fresh (suc (suc k)) u = elim (cases_Bool (nat_lt (suc k) 
       (is_group_started x r (suc k) h) (not (is_paused x r (h ▸ c))) (success_holds x r (suc k) (h ▸ c)) (is_trigger_of r c)
       (w.beyond (suc (suc k)) (omega arith)) (w.beyond (suc k) (omega arith))
       (elim (cases_eq (suc k) (suc l)) [
-        | inl same ↦ inr (rw same (fresh (omega (arith, same, ltb-true _ _ more))))
+        | inl same ↦ inr (subst (λ i. success_holds x r i (h ▸ c) ≡ false) (sym same) (fresh (omega (arith, same, ltb-true _ _ more))))
         | inr other ↦ inl (no_further x r h c l w fresh (suc k) (omega arith))
       ])
 ]

@@ -4,7 +4,7 @@ use Rattle.rollout_machine.proofs.Common.{inr, Option, Some, None, nat_le, nat_e
 use Rattle.rollout_machine.proofs.Common.{ActionPlace, action_of, is_heard, is_on_action, is_action_place, outcome, outcome_given, cancel_stands, CommandList}
 use Rattle.rollout_machine.proofs.Common.{◌▸◌, Command, Outcome, Good, Bad, tally, reaches, success_holds, is_outcome}
 use Rattle.rollout_machine.proofs.Common.{IsInGroup, HasSoundPlan, StartedOnly, OutcomesStarted, GetsOutcome, is_group_started, is_paused, error_begins_at}
-use Rattle.rollout_machine.proofs.Common.{is_pause_of, is_resume_of, is_trigger_of, is_start_of, some_up_to, Rollout, success_at, error_at, first_of, size_in}
+use Rattle.rollout_machine.proofs.Common.{is_pause_of, is_resume_of, is_trigger_of, is_start_of, some_up_to, Rollout, rule_at, first_of, size_in}
 use Rattle.rollout_machine.proofs.Counts.{count_same, count_none, count_one, none_up_to, one_up_to}
 use Rattle.rollout_machine.proofs.Cuts.{one_group, size_positive}
 use Rattle.rollout_machine.proofs.Starts.{kept_started}
@@ -36,7 +36,7 @@ pub no_success : (x : Rollout) (r : ℕ) (h : CommandList) (c : Command) → Has
 no_success x r h c w s o i a e b =
     let none : tally Good x r i (h ▸ c) ≡ 0 =
     count_none _ _ _ (λ j l u. ap (is_outcome Good) (still_open x r h c s o i j a (record { low = l; high = u }) e)) in
-    rw none (few (success_at x.plan i) (size_in x i) (w.success i) (size_positive x i w a b))
+    rw none (few (rule_at x.plan i).success (size_in x i) (w.success i) (size_positive x i w a b))
   where
     few : (s n : ℕ) → 1 ≤ s → 1 ≤ n → nat_le (s * n) (100 * 0) ≡ false
     few zero n a b = absurd (omega arith)
@@ -111,7 +111,7 @@ paused_after_outcome x r g j h c o s w =
     let calm : (is_pause_of r c ≡ false) × (is_resume_of r c ≡ false) × (is_trigger_of r c ≡ false) × (is_start_of r c ≡ false) = quiet h c _ r w.on in
     let errors : some_up_to (error_begins_at x r h c) x.plan.groups.count ≡ error_begins_at x r h c g =
     one_up_to (error_begins_at x r h c) x.plan.groups.count g w.first w.last
-    (λ i a u ne. never_begins _ _ (ap (λ n. reaches n (size_in x i) (error_at x.plan i)) (tally_elsewhere Bad x r g j h c o s w i a ne))) in
+    (λ i a u ne. never_begins _ _ (ap (λ n. reaches n (size_in x i) (rule_at x.plan i).error) (tally_elsewhere Bad x r g j h c o s w i a ne))) in
     joined _ _ _ _ _ calm.0 errors calm.1
   where
     joined : (p s e q b : Bool) → p ≡ false → s ≡ e → q ≡ false → ((p || s) || (not q && b)) ≡ (e || b)
@@ -126,4 +126,4 @@ paused_after_outcome x r g j h c o s w =
 pub no_error_begins : (x : Rollout) (r : ℕ) (h : CommandList) (c : Command) → ((j : ℕ) → outcome (h ▸ c) r j ≡ outcome h r j)
     → some_up_to (error_begins_at x r h c) x.plan.groups.count ≡ false
 no_error_begins x r h c e = none_up_to (error_begins_at x r h c) x.plan.groups.count
-    (λ i a u. never_begins _ _ (ap (λ n. reaches n (size_in x i) (error_at x.plan i)) (tally_same Bad x r i h c (λ j v. e j))))
+    (λ i a u. never_begins _ _ (ap (λ n. reaches n (size_in x i) (rule_at x.plan i).error) (tally_same Bad x r i h c (λ j v. e j))))

@@ -8,7 +8,7 @@ use Rattle.rollout_machine.proofs.Common.{IsGroupView, IsView, feedback_pauses, 
 use Rattle.rollout_machine.proofs.Common.{is_pause_of, is_resume_of, is_trigger_of, is_start_of, is_rollout_started, each_from, is_item_number, start_group}
 use Rattle.rollout_machine.proofs.Common.{counted, last_started, group_view, view_from_group, view_of, rollout_after, resumed, triggered, begin_rollout}
 use Rattle.rollout_machine.proofs.Common.{Approval, Given, GroupRecord, RolloutRecord, group_in, rollout_in, approval_of, approval_by, decided, decision_on}
-use Rattle.rollout_machine.proofs.Common.{needs_approval, Rollout, success_at, first_of, last_of, size_in, bounds_in, group_holding, group_numbered, Bounds}
+use Rattle.rollout_machine.proofs.Common.{needs_approval, Rollout, rule_at, first_of, last_of, size_in, bounds_in, group_holding, group_numbered, Bounds}
 use Rattle.rollout_machine.proofs.Common.{lt-leb, Effects}
 use Rattle.rollout_machine.proofs.Cuts.{IsOwnGroup, held}
 use Rattle.rollout_machine.proofs.Starts.{starts_one_more, last_after}
@@ -182,7 +182,7 @@ calm_opens x r (suc k) h c f w = elim (cases_Bool (nat_lt (suc k) x.plan.groups.
   | inr above ↦ rw above refl
   | inl below ↦ (let owed : (not (is_paused x r h) && success_holds x r (suc k) h) ≡ false =
       settled x r (suc k) h (omega arith) f.sound f.is_last (ltb-true _ _ below) in
-      let same : success_holds x r (suc k) (h ▸ c) ≡ success_holds x r (suc k) h = ap (λ n. reaches n (size_in x (suc k)) (success_at x.plan (suc k)))
+      let same : success_holds x r (suc k) (h ▸ c) ≡ success_holds x r (suc k) h = ap (λ n. reaches n (size_in x (suc k)) (rule_at x.plan (suc k)).success)
       (calm_tally Good x r (suc k) h c w) in
       quiet_test _ _ _ _ _ _ (calm_paused x r h c w) same owed w.triggers)
 ]

@@ -1,5 +1,6 @@
 -- Byte strings: equality, byte order, and sorted lists of them without repetition.
-use Rattle.std.specs.Prelude.{ℕ, zero, suc, Bool, true, false, ◌&&◌, ◌||◌, cond, nat_eq, nat_lt, List, [], ◌∷◌, Option, None, slice_get}
+use Rattle.std.specs.Prelude.{Bool, true, false, ◌&&◌, ◌||◌, cond, nat_eq, nat_lt, List, [], ◌∷◌}
+pub use Rattle.rollout_model.specs.Rules.{item_numbered}
 use Rattle.rollout_machine.specs.Commands.{Bytes}
 
 abbrev pub same_bytes : Bytes → Bytes → Bool
@@ -39,8 +40,3 @@ sorted_words (w ∷ ws) = with_word w (sorted_words ws)
 abbrev pub without_word : Bytes → List Bytes → List Bytes
 without_word w [] = []
 without_word w (v ∷ vs) = cond (same_bytes w v) (without_word w vs) (v ∷ without_word w vs)
-
--- the item of this number, counted from 1
-abbrev pub item_numbered : {X : Type 0} → List X → ℕ → Option X
-item_numbered xs zero = None
-item_numbered xs (suc k) = slice_get xs k

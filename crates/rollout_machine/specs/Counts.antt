@@ -4,7 +4,7 @@ use Rattle.rollout_machine.specs.Actions.{outcome}
 use Rattle.rollout_machine.specs.CommandList.{CommandList}
 use Rattle.rollout_machine.specs.Commands.{Outcome, Good, Bad, Gone}
 use Rattle.rollout_machine.specs.Ranges.{count_from}
-use Rattle.rollout_machine.specs.Rollouts.{success_at, error_at, Rollout, first_of, size_in}
+use Rattle.rollout_machine.specs.Rollouts.{rule_at, Rollout, first_of, size_in}
 
 abbrev pub is_outcome : Outcome → Option Outcome → Bool
 is_outcome Good (Some Good) = true
@@ -20,7 +20,7 @@ abbrev pub reaches : ℕ → ℕ → ℕ → Bool
 reaches good size percent = nat_le (percent * size) (100 * good)
 
 abbrev pub success_holds : Rollout → ℕ → ℕ → CommandList → Bool
-success_holds x r i h = reaches (tally Good x r i h) (size_in x i) (success_at x.plan i)
+success_holds x r i h = reaches (tally Good x r i h) (size_in x i) (rule_at x.plan i).success
 
 abbrev pub error_holds : Rollout → ℕ → ℕ → CommandList → Bool
-error_holds x r i h = reaches (tally Bad x r i h) (size_in x i) (error_at x.plan i)
+error_holds x r i h = reaches (tally Bad x r i h) (size_in x i) (rule_at x.plan i).error

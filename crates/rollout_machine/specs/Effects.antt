@@ -7,7 +7,7 @@ use Rattle.rollout_machine.specs.Commands.{Command, Resume, TriggerNext, Outcome
 use Rattle.rollout_machine.specs.Counts.{tally, reaches, is_outcome}
 use Rattle.rollout_machine.specs.Groups.{IsCut}
 use Rattle.rollout_machine.specs.Progress.{is_group_started, is_paused}
-use Rattle.rollout_machine.specs.Rollouts.{success_at, error_at, Rollout, first_of, last_of, size_in, size_of}
+use Rattle.rollout_machine.specs.Rollouts.{rule_at, Rollout, first_of, last_of, size_in, size_of}
 use Rattle.rollout_machine.specs.declared.view.GroupView.{GroupView}
 use Rattle.rollout_machine.specs.declared.view.RolloutView.{RolloutView}
 use Rattle.rollout_machine.specs.declared.view.Effects.{Effects}
@@ -27,8 +27,8 @@ pub record IsInGroup (x : Rollout) (i j : ℕ) : Type 0 where
 pub record HasSoundPlan (x : Rollout) : Type 0 where
   pub some_groups : 1 ≤ x.plan.groups.count
   pub cut : IsCut (last_of x) (size_of x) x.plan.groups.count
-  pub success : (i : ℕ) → 1 ≤ success_at x.plan i
-  pub error : (i : ℕ) → 1 ≤ error_at x.plan i
+  pub success : (i : ℕ) → 1 ≤ (rule_at x.plan i).success
+  pub error : (i : ℕ) → 1 ≤ (rule_at x.plan i).error
 
 -- a command is only on actions of started groups
 pub record StartedOnly (x : Rollout) (r : ℕ) (h : CommandList) (c : Command) : Type 0 where
@@ -53,8 +53,8 @@ pub record IsGroupView (v : GroupView) (x : Rollout) (r i : ℕ) (h : CommandLis
   pub size : v.size ≡ size_in x i
   pub ok : v.ok ≡ tally Good x r i h
   pub bad : v.bad ≡ tally Bad x r i h
-  pub success : v.success ≡ success_at x.plan i
-  pub error : v.error ≡ error_at x.plan i
+  pub success : v.success ≡ (rule_at x.plan i).success
+  pub error : v.error ≡ (rule_at x.plan i).error
 
 -- the view of rollout r at h, with its group g and its last started group l
 pub record IsView (v : RolloutView) (x : Rollout) (r g l : ℕ) (h : CommandList) : Type 0 where

@@ -1,7 +1,7 @@
 -- What a plan says of its groups: how many of the members that are left each takes, and its thresholds.
-use Rattle.std.specs.Prelude.{List}
+use Rattle.std.specs.Prelude.{List, None}
 pub use Rattle.rollout_model.specs.declared.group_rule.GroupRule.{GroupRule}
-pub use Rattle.rollout_model.specs.PlanRules.{even_rule, rule_at, success_at, error_at}
+pub use Rattle.rollout_model.specs.PlanRules.{rule_by, rule_at}
 use Rattle.rollout_machine.specs.Commands.{RolloutPlan}
 use Rattle.rollout_machine.specs.Ranges.{each_from}
 
@@ -11,4 +11,4 @@ rules_of plan = each_from (rule_at plan) 1 plan.groups.count
 
 -- those of a plan that says nothing of single groups
 abbrev pub even_rules : RolloutPlan → List GroupRule
-even_rules plan = each_from (λ i. even_rule plan) 1 plan.groups.count
+even_rules plan = each_from (λ i. rule_by None plan) 1 plan.groups.count

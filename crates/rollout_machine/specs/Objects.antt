@@ -7,7 +7,7 @@ use Rattle.rollout_machine.specs.Replies.{Module, Artifact, DistributionSet, Sho
 use Rattle.rollout_machine.specs.Replies.{Deployment, PageOf, Report}
 use Rattle.rollout_machine.specs.Reports.{Reported}
 use Rattle.rollout_machine.specs.Requests.{Page}
-use Rattle.rollout_machine.specs.Rollouts.{success_at, error_at}
+use Rattle.rollout_machine.specs.Rollouts.{rule_at}
 use Rattle.rollout_machine.specs.StateWords.{action_word, group_number_of, group_word, is_for, member_at, rollout_word, size_of_group, target_word}
 use Rattle.rollout_machine.specs.Targets.{Target}
 use Rattle.rollout_machine.specs.Verdicts.{is_named_by_set}
@@ -72,8 +72,8 @@ group_shown x g = record {
   ok = g.ok;
   bad = g.bad;
   gone = g.gone;
-  success = success_at x.plan g.number;
-  error = error_at x.plan g.number;
+  success = (rule_at x.plan g.number).success;
+  error = (rule_at x.plan g.number).error;
   word = group_word x g;
 }
 

@@ -12,7 +12,7 @@ use Rattle.target_filter.specs.Profile.{filter_of}
 use Rattle.rollout_machine.specs.Ranges.{each_from}
 use Rattle.rollout_machine.specs.Records.{artifact_from, Waiting, Denied, Given, GroupRecord, RolloutRecord, ActionRecord, Records}
 use Rattle.rollout_machine.specs.Reports.{is_again, reported_by}
-use Rattle.rollout_machine.specs.Rollouts.{success_at, error_at, bounds_at, chosen}
+use Rattle.rollout_machine.specs.Rollouts.{rule_at, bounds_at, chosen}
 use Rattle.rollout_machine.specs.StateWords.{size_of_group, group_numbered, group_number_of}
 use Rattle.rollout_machine.specs.Targets.{Target, with_attributes}
 use Rattle.rollout_machine.specs.declared.view.GroupView.{GroupView}
@@ -76,8 +76,15 @@ last_started [] = 0
 last_started (g ∷ gs) = cond (nat_eq (last_started gs) 0) (cond g.started g.number 0) (last_started gs)
 
 abbrev pub view_from_group : RolloutPlan → ℕ → Option GroupRecord → GroupView
-view_from_group plan i None = record { number = i; size = 0; ok = 0; bad = 0; success = success_at plan i; error = error_at plan i }
-view_from_group plan i (Some g) = record { number = i; size = size_of_group g; ok = g.ok; bad = g.bad; success = success_at plan i; error = error_at plan i }
+view_from_group plan i None = record { number = i; size = 0; ok = 0; bad = 0; success = (rule_at plan i).success; error = (rule_at plan i).error }
+view_from_group plan i (Some g) = record {
+  number = i;
+  size = size_of_group g;
+  ok = g.ok;
+  bad = g.bad;
+  success = (rule_at plan i).success;
+  error = (rule_at plan i).error;
+}
 
 abbrev pub group_view : RolloutRecord → ℕ → GroupView
 group_view x i = view_from_group x.plan i (group_numbered i x.groups)

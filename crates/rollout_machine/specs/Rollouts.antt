@@ -8,7 +8,7 @@ use Rattle.target_filter.specs.Profile.{filter_of}
 use Rattle.target_filter.specs.Grammar.{Tree}
 use Rattle.rollout_machine.specs.Groups.{size_of_bounds}
 use Rattle.rollout_machine.specs.Groupings.{bounds_by}
-pub use Rattle.rollout_machine.specs.GroupRules.{success_at, error_at}
+pub use Rattle.rollout_machine.specs.GroupRules.{rule_at}
 use Rattle.rollout_machine.specs.Targets.{Target, targets}
 use Rattle.rollout_machine.specs.declared.bounds.Bounds.{Bounds}
 

@@ -7,7 +7,7 @@ use Rattle.rollout_machine.specs.Commands.{Bytes, Good, Bad, Gone}
 use Rattle.rollout_machine.specs.Counts.{reaches}
 use Rattle.rollout_machine.specs.Groups.{size_of_bounds, holds_position}
 use Rattle.rollout_machine.specs.Records.{Approval, Waiting, Denied, Given, GroupRecord, RolloutRecord, ActionRecord, Records}
-use Rattle.rollout_machine.specs.Rollouts.{error_at}
+use Rattle.rollout_machine.specs.Rollouts.{rule_at}
 pub use Rattle.rollout_model.specs.declared.rollout_word.RolloutWord.{RolloutWord}
 pub use Rattle.rollout_model.specs.declared.rollout_word.RolloutWord.TheVariants.{ApprovalDenied, WaitingForApproval, Ready as ReadyRollout}
 pub use Rattle.rollout_model.specs.declared.rollout_word.RolloutWord.TheVariants.{Finished as FinishedRollout, Paused as PausedRollout}
@@ -43,7 +43,7 @@ rollout_word x = word_from x.approval x.started (is_finished x) x.paused
 abbrev pub group_word : RolloutRecord → GroupRecord → GroupWord
 group_word x g =
     cond (not x.started) ReadyGroup (cond (not g.started) ScheduledGroup
-    (cond (all_final g) FinishedGroup (cond (reaches g.bad (size_of_group g) (error_at x.plan g.number)) ErrorGroup RunningGroup)))
+    (cond (all_final g) FinishedGroup (cond (reaches g.bad (size_of_group g) (rule_at x.plan g.number).error) ErrorGroup RunningGroup)))
 
 abbrev pub group_numbered : ℕ → List GroupRecord → Option GroupRecord
 group_numbered i gs = find (λ (g : GroupRecord). nat_eq g.number i) gs

@@ -1,5 +1,5 @@
 -- How a rollout is cut into groups: evenly, or as each of them is defined.
-use Rattle.std.specs.Prelude.{ℕ, zero, suc, Bool, true, false, ◌&&◌, nat_eq, List, [], ◌∷◌, length, slice_get, Option, Some, None, if◌then◌else◌}
+use Rattle.std.specs.Prelude.{ℕ, Bool, true, false, ◌&&◌, nat_eq, List, [], ◌∷◌, length, Option, Some, None}
 use Rattle.std.specs.List.{list_all}
 use Rattle.rollout_model.specs.Limits.{limits}
 use Rattle.rollout_model.specs.Rules.{is_between, is_group_count, is_percentage}
@@ -23,9 +23,6 @@ ends_whole (d ∷ e ∷ more) = ends_whole (e ∷ more)
 abbrev pub are_definitions : List GroupDefinition → Bool
 are_definitions ds = is_between 1 limits.groups (length ds) && (list_all is_definition ds && ends_whole ds)
 
-abbrev pub definitions_of : List GroupDefinition → Option (List GroupDefinition)
-definitions_of ds = if are_definitions ds then Some ds else None
-
 -- none, or as many as there are groups
 abbrev pub define_each : List GroupDefinition → ℕ → Bool
 define_each [] count = true
@@ -44,8 +41,3 @@ defined ds = record { count = length ds; definitions = ds }
 abbrev pub given_definitions : Option (List GroupDefinition) → List GroupDefinition
 given_definitions None = []
 given_definitions (Some ds) = ds
-
--- the definition of group i, counted from 1, where there is one
-abbrev pub definition_numbered : List GroupDefinition → ℕ → Option GroupDefinition
-definition_numbered ds zero = None
-definition_numbered ds (suc i) = slice_get ds i

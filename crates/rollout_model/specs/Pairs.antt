@@ -1,5 +1,5 @@
 -- The rule of an attribute, when two are the same, and how many a device gives.
-use Rattle.std.specs.Prelude.{Bool, ◌&&◌, ℕ, List, [], ◌∷◌, length, nat_eq, nat_le, Option, Some, None, if◌then◌else◌}
+use Rattle.std.specs.Prelude.{Bool, ◌&&◌, ℕ, List, [], ◌∷◌, length, nat_eq, nat_le}
 use Rattle.std.specs.Cmp.Lexicographic.{pointwise}
 use Rattle.rollout_model.specs.Limits.{limits}
 use Rattle.rollout_model.specs.Rules.{is_value, is_word}
@@ -18,6 +18,3 @@ is_same_attribute a b = pointwise (pointwise nat_eq) (pair_of a) (pair_of b)
 -- the attributes that a device gives at once
 abbrev pub is_config_data : List Attribute → Bool
 is_config_data pairs = nat_le (length pairs) limits.attributes
-
-abbrev pub config_data_of : List Attribute → Option (List Attribute)
-config_data_of pairs = if is_config_data pairs then Some pairs else None

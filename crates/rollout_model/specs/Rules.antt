@@ -1,6 +1,7 @@
 -- The rules of the short texts and the numbers: which letters, how long, in which range.
 use Rattle.rollout_model.specs.Limits.{limits}
-use Rattle.std.specs.Prelude.{ℕ, Bool, true, ◌&&◌, ◌||◌, not, nat_eq, nat_le, List, [], ◌∷◌, length, codes, Option, Some, None, if◌then◌else◌}
+use Rattle.std.specs.Prelude.{ℕ, zero, suc, Bool, true, ◌&&◌, ◌||◌, not, nat_eq, nat_le, List, [], ◌∷◌, length, slice_get, codes, Option, Some, None}
+use Rattle.std.specs.Prelude.{if◌then◌else◌}
 use Rattle.std.specs.List.{list_any, list_all}
 use Rattle.std.specs.Cmp.Lexicographic.{pointwise}
 use Rattle.std.specs.Char.{is_ascii_alphanumeric}
@@ -93,49 +94,11 @@ are_distinct_words (w ∷ ws) = not (list_any (λ v. pointwise nat_eq v w) ws) &
 abbrev pub is_tag_list : List (List ℕ) → Bool
 is_tag_list ws = nat_le (length ws) limits.tags && (list_all is_word ws && are_distinct_words ws)
 
--- ---- what the readers answer
+-- what a reader answers: what it was given, where that passes the test
+abbrev pub kept_if : {A : Type 0} → (A → Bool) → A → Option A
+kept_if test a = if test a then Some a else None
 
-abbrev pub word_of : List ℕ → Option (List ℕ)
-word_of bs = if is_word bs then Some bs else None
-
-abbrev pub token_of : List ℕ → Option (List ℕ)
-token_of bs = if is_token bs then Some bs else None
-
-abbrev pub filename_of : List ℕ → Option (List ℕ)
-filename_of bs = if is_filename bs then Some bs else None
-
-abbrev pub text_of : List ℕ → Option (List ℕ)
-text_of bs = if is_text bs then Some bs else None
-
-abbrev pub value_of : List ℕ → Option (List ℕ)
-value_of bs = if is_value bs then Some bs else None
-
-abbrev pub number_of : ℕ → Option ℕ
-number_of n = if is_number n then Some n else None
-
-abbrev pub feedback_number_of : ℕ → Option ℕ
-feedback_number_of n = if is_feedback_number n then Some n else None
-
-abbrev pub sha256_digest_of : List ℕ → Option (List ℕ)
-sha256_digest_of bs = if is_digest bs then Some bs else None
-
-abbrev pub contents_of : List ℕ → Option (List ℕ)
-contents_of bs = if is_contents bs then Some bs else None
-
-abbrev pub tag_list_of : List (List ℕ) → Option (List (List ℕ))
-tag_list_of ws = if is_tag_list ws then Some ws else None
-
-abbrev pub module_list_of : List ℕ → Option (List ℕ)
-module_list_of ns = if is_module_list ns then Some ns else None
-
-abbrev pub detail_of : List ℕ → Option (List ℕ)
-detail_of bs = if is_detail bs then Some bs else None
-
-abbrev pub details_of : List (List ℕ) → Option (List (List ℕ))
-details_of lines = if are_details lines then Some lines else None
-
-abbrev pub percentage_of : ℕ → Option ℕ
-percentage_of p = if is_percentage p then Some p else None
-
-abbrev pub group_count_of : ℕ → Option ℕ
-group_count_of n = if is_group_count n then Some n else None
+-- the item of this number, counted from 1
+abbrev pub item_numbered : {X : Type 0} → List X → ℕ → Option X
+item_numbered xs zero = None
+item_numbered xs (suc k) = slice_get xs k

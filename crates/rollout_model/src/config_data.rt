@@ -4,7 +4,8 @@ ghost use Rattle.std.specs.Prelude.{◌≡◌, true, nat_eq, IfOk};
 ghost use Rattle.std.specs.Cmp.{on_equiv, on_per, partial_equiv_from_equiv};
 ghost use Rattle.std.specs.Cmp.Lexicographic.{pointwise, lists_equiv, nat_list_eq_equiv};
 ghost use Rattle.std.specs.List.{list_all};
-ghost use Rattle.rollout_model.specs.Pairs.{config_data_of, is_attribute, is_config_data, is_same_attribute, pair_of};
+ghost use Rattle.rollout_model.specs.Pairs.{is_attribute, is_config_data, is_same_attribute, pair_of};
+ghost use Rattle.rollout_model.specs.Rules.{kept_if};
 
 use crate::limits::ATTRIBUTE_LIMIT;
 use crate::target::{Attribute, Attributes};
@@ -32,7 +33,7 @@ impl Model for ConfigData {
 impl ConfigData {
     /// The attributes, where there are at most 32. Takes no memory.
     pub fn from_attributes(attributes: Attributes) -> Option<ConfigData>
-        ensures { result ≡ config_data_of attributes }
+        ensures { result ≡ kept_if is_config_data attributes }
     {
         if attributes.as_slice().len() > ATTRIBUTE_LIMIT {
             return None;

@@ -4,7 +4,7 @@ ghost use Rattle.std.specs.Prelude.{◌≡◌, ◌≤◌, length, true, nat_eq, 
 ghost use Rattle.std.specs.Cmp.{on_per, partial_equiv_from_equiv};
 ghost use Rattle.std.specs.Cmp.Lexicographic.{pointwise, nat_list_eq_equiv};
 ghost use Rattle.rollout_model.specs.Limits.{limits};
-ghost use Rattle.rollout_model.specs.Rules.{is_contents, contents_of};
+ghost use Rattle.rollout_model.specs.Rules.{is_contents, kept_if};
 
 use crate::limits::ARTIFACT_SIZE_LIMIT;
 use std::alloc::{AllocError, Global};
@@ -37,7 +37,7 @@ fn are_contents(bytes: &[u8]) -> bool
 impl Contents {
     /// The bytes, where they aren't too many. Takes no memory.
     pub fn from_bytes(bytes: Vec<u8>) -> Option<Contents>
-        ensures { result ≡ contents_of bytes.items }
+        ensures { result ≡ kept_if is_contents bytes.items }
     {
         if !are_contents(&bytes) {
             return None;

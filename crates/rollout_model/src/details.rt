@@ -4,7 +4,7 @@ ghost use Rattle.std.specs.Prelude.{◌≡◌, true, nat_eq, IfOk};
 ghost use Rattle.std.specs.Cmp.{on_per, partial_equiv_from_equiv};
 ghost use Rattle.std.specs.Cmp.Lexicographic.{pointwise, lists_equiv, nat_list_eq_equiv};
 ghost use Rattle.std.specs.List.{list_all};
-ghost use Rattle.rollout_model.specs.Rules.{are_details, details_of, is_detail};
+ghost use Rattle.rollout_model.specs.Rules.{are_details, kept_if, is_detail};
 
 use crate::detail::Detail;
 use crate::limits::{DETAIL_LENGTH_LIMIT, DETAIL_LIMIT};
@@ -40,7 +40,7 @@ fn keep_their_rule(lines: &[Detail]) -> bool
 impl Details {
     /// The lines, where there are at most 8 of them.
     pub fn from_lines(lines: Vec<Detail>) -> Option<Details>
-        ensures { result ≡ details_of lines.items }
+        ensures { result ≡ kept_if are_details lines.items }
     {
         let are_few = lines.len() <= DETAIL_LIMIT && keep_their_rule(&lines);
         if !are_few {

@@ -1,7 +1,7 @@
 //! SHA-256 digests.
 
 ghost use Rattle.std.specs.Prelude.{◌≡◌, true, length};
-ghost use Rattle.rollout_model.specs.Rules.{is_digest, sha256_digest_of};
+ghost use Rattle.rollout_model.specs.Rules.{is_digest, kept_if};
 
 use crate::limits::DIGEST_LENGTH;
 use std::marker::Model;
@@ -34,7 +34,7 @@ impl Digest {
 
     /// The bytes, where there are 32. Takes no memory.
     pub fn read(bytes: &[u8]) -> Option<Digest>
-        ensures { result ≡ sha256_digest_of bytes.now }
+        ensures { result ≡ kept_if is_digest bytes.now }
     {
         if bytes.len() != DIGEST_LENGTH {
             return None;

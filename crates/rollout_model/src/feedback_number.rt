@@ -2,7 +2,7 @@
 
 ghost use Rattle.std.specs.Prelude.{◌≡◌, ◌≤◌, true};
 ghost use Rattle.rollout_model.specs.Limits.{limits};
-ghost use Rattle.rollout_model.specs.Rules.{feedback_number_of, is_feedback_number};
+ghost use Rattle.rollout_model.specs.Rules.{kept_if, is_feedback_number};
 
 use std::marker::Model;
 
@@ -29,7 +29,7 @@ impl Model for FeedbackNumber {
 impl FeedbackNumber {
     /// The number, where it isn't 0.
     pub fn new(number: u32) -> Option<FeedbackNumber>
-        ensures { result ≡ feedback_number_of number }
+        ensures { result ≡ kept_if is_feedback_number number }
     {
         if number == 0 {
             return None;

@@ -1,7 +1,7 @@
 //! The names of artifacts.
 
 ghost use Rattle.std.specs.Prelude.{◌≡◌, true};
-ghost use Rattle.rollout_model.specs.Rules.{is_filename, filename_of};
+ghost use Rattle.rollout_model.specs.Rules.{is_filename, kept_if};
 
 use crate::inline_bytes::InlineBytes;
 use crate::letters;
@@ -31,7 +31,7 @@ impl Model for Filename {
 impl Filename {
     /// The text, where it is a filename. Takes no memory.
     pub fn read(text: &str) -> Option<Filename>
-        ensures { result ≡ filename_of text.now }
+        ensures { result ≡ kept_if is_filename text.now }
     {
         if !letters::is_word_spelled(text.as_bytes(), 1, FILENAME_LENGTH_LIMIT) {
             return None;

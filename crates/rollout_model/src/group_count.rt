@@ -2,7 +2,7 @@
 
 ghost use Rattle.std.specs.Prelude.{◌≡◌, ◌≤◌, true};
 ghost use Rattle.rollout_model.specs.Limits.{limits};
-ghost use Rattle.rollout_model.specs.Rules.{is_group_count, group_count_of};
+ghost use Rattle.rollout_model.specs.Rules.{is_group_count, kept_if};
 
 use crate::limits::GROUP_LIMIT;
 use std::marker::Model;
@@ -29,7 +29,7 @@ impl Model for GroupCount {
 impl GroupCount {
     /// The count, where it is from 1 to 50.
     pub fn new(count: u32) -> Option<GroupCount>
-        ensures { result ≡ group_count_of count }
+        ensures { result ≡ kept_if is_group_count count }
     {
         if 1 <= count && count <= GROUP_LIMIT {
             Some(GroupCount { count })

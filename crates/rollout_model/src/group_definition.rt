@@ -2,7 +2,8 @@
 
 ghost use Rattle.std.specs.Prelude.{◌≡◌, true, IfOk};
 ghost use Rattle.std.specs.List.{list_all};
-ghost use Rattle.rollout_model.specs.Groupings.{are_definitions, definitions_of, ends_whole, is_definition};
+ghost use Rattle.rollout_model.specs.Groupings.{are_definitions, ends_whole, is_definition};
+ghost use Rattle.rollout_model.specs.Rules.{kept_if};
 
 use crate::limits::GROUP_LIMIT;
 use crate::percentage::Percentage;
@@ -64,7 +65,7 @@ fn end_whole(definitions: &[GroupDefinition]) -> bool
 impl GroupDefinitions {
     /// The definitions, where there are 1 to 50 of them and the last is of 100 percent.
     pub fn from_vec(definitions: Vec<GroupDefinition>) -> Option<GroupDefinitions>
-        ensures { result ≡ definitions_of definitions.items }
+        ensures { result ≡ kept_if are_definitions definitions.items }
     {
         let count = definitions.len();
         let are_whole = 1 <= count

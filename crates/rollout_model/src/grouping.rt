@@ -1,8 +1,8 @@
 //! How a rollout is cut into groups.
 
 ghost use Rattle.std.specs.Prelude.{◌≡◌, true, IfOk};
-ghost use Rattle.rollout_model.specs.Groupings.{defined, define_each, definition_numbered, evenly};
-ghost use Rattle.rollout_model.specs.Rules.{is_group_count};
+ghost use Rattle.rollout_model.specs.Groupings.{defined, define_each, evenly};
+ghost use Rattle.rollout_model.specs.Rules.{is_group_count, item_numbered};
 
 use crate::group_count::GroupCount;
 use crate::group_definition::{GroupDefinition, GroupDefinitions};
@@ -72,7 +72,7 @@ impl Grouping {
 
     /// The definition of a group, counted from 1, where there is one.
     pub fn definition(&self, number: u32) -> Option<GroupDefinition>
-        ensures { result ≡ definition_numbered self.now.definitions number }
+        ensures { result ≡ item_numbered self.now.definitions number }
     {
         if number == 0 {
             return None;

@@ -4,7 +4,7 @@ ghost use Rattle.std.specs.Prelude.{◌≡◌, true, nat_eq, IfOk};
 ghost use Rattle.std.specs.Cmp.{on_per, partial_equiv_from_equiv};
 ghost use Rattle.std.specs.Cmp.Lexicographic.{pointwise, nat_list_eq_equiv};
 ghost use Rattle.std.specs.List.{list_all, list_any};
-ghost use Rattle.rollout_model.specs.Rules.{are_distinct_numbers, is_module_list, is_number, module_list_of};
+ghost use Rattle.rollout_model.specs.Rules.{are_distinct_numbers, is_module_list, is_number, kept_if};
 
 use crate::limits::SET_MODULE_LIMIT;
 use crate::number::ModuleNo;
@@ -48,7 +48,7 @@ fn are_distinct(numbers: &[ModuleNo]) -> bool
 impl ModuleList {
     /// The numbers, where there are 1 to 8 of them and none stands twice.
     pub fn from_numbers(numbers: Vec<ModuleNo>) -> Option<ModuleList>
-        ensures { result ≡ module_list_of numbers.items }
+        ensures { result ≡ kept_if is_module_list numbers.items }
     {
         let count = numbers.len();
         let is_list = 1 <= count

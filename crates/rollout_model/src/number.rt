@@ -2,7 +2,7 @@
 
 ghost use Rattle.std.specs.Prelude.{◌≡◌, ◌≤◌, true};
 ghost use Rattle.rollout_model.specs.Limits.{limits};
-ghost use Rattle.rollout_model.specs.Rules.{is_number, number_of};
+ghost use Rattle.rollout_model.specs.Rules.{is_number, kept_if};
 
 use crate::limits::NUMBER_LIMIT;
 use std::marker::{Model, PhantomData};
@@ -31,7 +31,7 @@ impl<Kind> Model for Number<Kind> {
 impl<Kind> Number<Kind> {
     /// The number, where it is in its range.
     pub fn new(number: u32) -> Option<Self>
-        ensures { result ≡ number_of number }
+        ensures { result ≡ kept_if is_number number }
     {
         if 1 <= number && number <= NUMBER_LIMIT {
             Some(Number {

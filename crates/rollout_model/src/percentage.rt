@@ -2,7 +2,7 @@
 
 ghost use Rattle.std.specs.Prelude.{◌≡◌, ◌≤◌, true};
 ghost use Rattle.rollout_model.specs.Limits.{limits};
-ghost use Rattle.rollout_model.specs.Rules.{is_percentage, percentage_of};
+ghost use Rattle.rollout_model.specs.Rules.{is_percentage, kept_if};
 
 use crate::limits::PERCENTAGE_LIMIT;
 use std::marker::Model;
@@ -29,7 +29,7 @@ impl Model for Percentage {
 impl Percentage {
     /// The percentage, where it is from 1 to 100.
     pub fn new(percent: u8) -> Option<Percentage>
-        ensures { result ≡ percentage_of percent }
+        ensures { result ≡ kept_if is_percentage percent }
     {
         if 1 <= percent && percent <= PERCENTAGE_LIMIT {
             Some(Percentage { percent })

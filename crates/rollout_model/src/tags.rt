@@ -4,7 +4,7 @@ ghost use Rattle.std.specs.Prelude.{◌≡◌, true, nat_eq, IfOk};
 ghost use Rattle.std.specs.Cmp.{on_per, partial_equiv_from_equiv};
 ghost use Rattle.std.specs.Cmp.Lexicographic.{pointwise, lists_equiv, nat_list_eq_equiv};
 ghost use Rattle.std.specs.List.{list_all};
-ghost use Rattle.rollout_model.specs.Rules.{are_distinct_words, is_tag_list, is_word, tag_list_of};
+ghost use Rattle.rollout_model.specs.Rules.{are_distinct_words, is_tag_list, is_word, kept_if};
 
 use crate::limits::TAG_LIMIT;
 use crate::word::Word;
@@ -48,7 +48,7 @@ fn are_distinct(words: &[Word]) -> bool
 impl Tags {
     /// The words, where there are at most 16 of them and none stands twice.
     pub fn from_words(words: Vec<Word>) -> Option<Tags>
-        ensures { result ≡ tag_list_of words.items }
+        ensures { result ≡ kept_if is_tag_list words.items }
     {
         let is_list = words.len() <= TAG_LIMIT && are_words(&words) && are_distinct(&words);
         if !is_list {

@@ -3,7 +3,7 @@
 ghost use Rattle.std.specs.Prelude.{◌≡◌, true, nat_eq, IfOk};
 ghost use Rattle.std.specs.Cmp.{on_per, partial_equiv_from_equiv};
 ghost use Rattle.std.specs.Cmp.Lexicographic.{pointwise, nat_list_eq_equiv};
-ghost use Rattle.rollout_model.specs.Rules.{is_text, text_of};
+ghost use Rattle.rollout_model.specs.Rules.{is_text, kept_if};
 
 use crate::letters;
 use crate::limits::TEXT_LENGTH_LIMIT;
@@ -30,7 +30,7 @@ impl Model for Text {
 impl Text {
     /// The text, where it keeps the rule.
     pub fn read(alloc: Global, text: &str) -> Result<Option<Text>, AllocError>
-        ensures { IfOk result (λ o. o ≡ text_of text.now) }
+        ensures { IfOk result (λ o. o ≡ kept_if is_text text.now) }
     {
         if !letters::is_text_spelled(text, 1, TEXT_LENGTH_LIMIT) {
             return Ok(None);

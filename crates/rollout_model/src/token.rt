@@ -1,7 +1,7 @@
 //! What devices are known by.
 
 ghost use Rattle.std.specs.Prelude.{◌≡◌, true};
-ghost use Rattle.rollout_model.specs.Rules.{is_token, token_of};
+ghost use Rattle.rollout_model.specs.Rules.{is_token, kept_if};
 
 use crate::inline_bytes::InlineBytes;
 use crate::letters;
@@ -30,7 +30,7 @@ impl Model for Token {
 impl Token {
     /// The text, where it is a token. Takes no memory.
     pub fn read(text: &str) -> Option<Token>
-        ensures { result ≡ token_of text.now }
+        ensures { result ≡ kept_if is_token text.now }
     {
         if !letters::is_word_spelled(text.as_bytes(), TOKEN_LENGTH_LEAST, TOKEN_LENGTH_LIMIT) {
             return None;

@@ -4,7 +4,7 @@ ghost use Rattle.std.specs.Prelude.{◌≡◌, true, refl, nat_eq, Some};
 ghost use Rattle.std.specs.Ordering.{nat_cmp};
 ghost use Rattle.std.specs.Cmp.{on_per, partial_equiv_from_equiv};
 ghost use Rattle.std.specs.Cmp.Lexicographic.{pointwise, slice_cmp, nat_list_eq_equiv, nat_list_cmp_total, texts_po, texts_ties};
-ghost use Rattle.rollout_model.specs.Rules.{is_word, word_of};
+ghost use Rattle.rollout_model.specs.Rules.{is_word, kept_if};
 
 use crate::inline_bytes::InlineBytes;
 use crate::letters;
@@ -47,7 +47,7 @@ impl<Kind> Model for Word<Kind> {
 impl<Kind> Word<Kind> {
     /// The text, where it is a word. Takes no memory.
     pub fn read(text: &str) -> Option<Self>
-        ensures { result ≡ word_of text.now }
+        ensures { result ≡ kept_if is_word text.now }
     {
         if !letters::is_word_spelled(text.as_bytes(), 1, WORD_LENGTH_LIMIT) {
             return None;

@@ -1,10 +1,10 @@
-use Rattle.desk_verify.proofs.Common.{◌≡◌, Err, None, sym, subst, ◌∙◌, Broken, known, number_of, missing_rollout, blamed, unread, IsUpTo}
+use Rattle.desk_verify.proofs.Common.{◌≡◌, Err, None, sym, subst, ◌∙◌, Broken, known, kept_if, is_number, missing_rollout, blamed, unread, IsUpTo}
 use Rattle.desk_verify.proofs.Causes.{past_limit, same_number}
 use Rattle.desk_verify.proofs.rollouts.rollout_of.Goals as goal
 
 pub returns-in_default-clause-blames : goal.returns-in_default-clause-blames
 returns-in_default-clause-blames g c =
-    let none : number_of c.args.number ≡ None = sym c.new.ensures ∙ c.in_default.is in
+    let none : kept_if is_number c.args.number ≡ None = sym c.new.ensures ∙ c.in_default.is in
     blamed {A = Unit {0}} {x = tt} {P = λ t u. Unit {0}} (known (λ t. tt)) (Err Broken) (λ reading is given. past_limit reading c.args.number none given)
 
 pub returns-in-None-clause-blames : goal.returns-in-None-clause-blames
