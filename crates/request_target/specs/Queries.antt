@@ -4,13 +4,9 @@ use Rattle.std.specs.List.{list_any}
 use Rattle.request_target.specs.Pairs.{Pair, query_pairs, has_replacement}
 use Rattle.request_target.specs.Numbers.{decimal_number}
 
--- the key is one that the call names
-abbrev pub is_among_keys : List (List ℕ) → List ℕ → Bool
-is_among_keys keys key = list_any (λ k. bytes_eq key k) keys
-
 -- a pair without U+FFFD, whose key the call names
 abbrev pub is_clean : List (List ℕ) → Pair → Bool
-is_clean keys p = not (has_replacement p.0) && not (has_replacement p.1) && is_among_keys keys p.0
+is_clean keys p = not (has_replacement p.0) && not (has_replacement p.1) && list_any (λ k. bytes_eq p.0 k) keys
 
 -- so are all, and no key is given twice
 abbrev pub are_clean : List (List ℕ) → List Pair → Bool
@@ -21,8 +17,8 @@ are_clean keys (p ∷ pairs) = is_clean keys p && not (list_any (λ q. bytes_eq 
 abbrev pub query_pairs_of : List (List ℕ) → List ℕ → Option (List Pair)
 query_pairs_of keys query = if are_clean keys (query_pairs query) then Some (query_pairs query) else None
 
--- the value of a key
-abbrev pub value_of : List ℕ → List Pair → Option (List ℕ)
+-- the value of a key, by a list of keys and values
+abbrev pub value_of : {T : Type 0} → List ℕ → List (List ℕ × T) → Option T
 value_of key [] = None
 value_of key (p ∷ pairs) = if bytes_eq p.0 key then Some p.1 else value_of key pairs
 

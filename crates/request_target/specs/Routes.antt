@@ -1,15 +1,10 @@
 -- Which route a path has. Paths are compared segment by segment, as they are written.
 use Rattle.std.specs.Prelude.{ℕ, List, [], ◌∷◌, length, Bool, true, false, ◌==◌, ◌&&◌, nat_lt, bytes_eq, Option, Some, None, if◌then◌else◌}
-
--- the byte is part of the first of these segments
-abbrev pub onto_first : ℕ → List (List ℕ) → List (List ℕ)
-onto_first b [] = (b ∷ []) ∷ []
-onto_first b (segment ∷ rest) = (b ∷ segment) ∷ rest
+use Rattle.std.specs.List.{slice_split}
 
 -- what stands before, between and after the slashes
 abbrev pub segments : List ℕ → List (List ℕ)
-segments [] = [] ∷ []
-segments (b ∷ path) = if b == 47 then [] ∷ segments path else onto_first b (segments path)
+segments path = slice_split (λ b. b == 47) path
 
 -- a route's segment that begins with `{` is a parameter
 abbrev pub is_parameter : List ℕ → Bool

@@ -3,14 +3,14 @@
 ghost use Rattle.std.specs.Prelude.{◌≡◌, map, option_map, bytes_eq, is_some, IfOk};
 ghost use Rattle.std.specs.List.{list_any};
 ghost use Rattle.request_target.specs.Pairs.{seen};
-ghost use Rattle.request_target.specs.Queries.{is_among_keys, are_clean, query_pairs_of, value_of, number_or};
+ghost use Rattle.request_target.specs.Queries.{are_clean, query_pairs_of, value_of, number_or};
 
 use crate::numbers::read_number;
 use crate::pairs::{has_replacement, read_pairs};
 use std::alloc::{AllocError, Global};
 
 fn is_named(keys: &[&str], key: &str) -> bool
-    ensures { result ≡ is_among_keys (map (λ k. k.now) keys.now) key.now }
+    ensures { result ≡ list_any (λ k. bytes_eq key.now k) (map (λ k. k.now) keys.now) }
 {
     match keys {
         [] => false,
