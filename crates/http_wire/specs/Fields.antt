@@ -1,14 +1,11 @@
 -- Fields by their names.
-use Rattle.std.specs.Prelude.{ℕ, Bool, List, [], ◌∷◌, map, filter, bytes_eq, Option, Some, None}
-use Rattle.std.specs.Char.{to_ascii_lowercase}
+use Rattle.std.specs.Prelude.{ℕ, Bool, List, [], ◌∷◌, filter, bytes_eq, Option, Some, None}
+use Rattle.std.specs.Str.{str_to_ascii_lowercase}
 use Rattle.http_wire.specs.Heads.{NameAndValue}
-
-abbrev pub lowercase : List ℕ → List ℕ
-lowercase text = map to_ascii_lowercase text
 
 -- the field has the name, whatever the case of ASCII letters
 abbrev pub is_named : List ℕ → NameAndValue → Bool
-is_named name f = bytes_eq (lowercase f.0) (lowercase name)
+is_named name f = bytes_eq (str_to_ascii_lowercase f.0) (str_to_ascii_lowercase name)
 
 -- the fields that have the name, in order
 abbrev pub fields_named : List ℕ → List NameAndValue → List NameAndValue

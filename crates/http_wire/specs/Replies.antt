@@ -19,18 +19,11 @@ content_type_text Csv = codes "text/csv; charset=utf-8"
 unfoldable pub reason : ℕ → List ℕ
 reason status = unwrap_or (reason_phrase status) []
 
--- the reply after which the connection ends says so
-abbrev pub close_line : Bool → List ℕ
-close_line ends = if ends then codes "Connection: close\r\n" else []
-
-abbrev pub status_line : ℕ → List ℕ
-status_line status = codes "HTTP/1.1 " ++ code_digits status ++ codes " " ++ reason status
-
--- the status line, the fields and the empty line
+-- the status line, the fields and the empty line; the reply after which the connection ends says so
 abbrev pub reply_head : ℕ → ContentType → Bool → ℕ → List ℕ
 reply_head status kind ends size =
-    status_line status ++ codes "\r\nContent-Type: " ++ content_type_text kind
-    ++ codes "\r\nContent-Length: " ++ decimal size ++ codes "\r\n" ++ close_line ends ++ codes "\r\n"
+    (codes "HTTP/1.1 " ++ code_digits status ++ codes " " ++ reason status) ++ codes "\r\nContent-Type: " ++ content_type_text kind
+    ++ codes "\r\nContent-Length: " ++ decimal size ++ codes "\r\n" ++ (if ends then codes "Connection: close\r\n" else []) ++ codes "\r\n"
 
 -- head and body
 abbrev pub reply_text : ℕ → ContentType → Bool → List ℕ → List ℕ

@@ -1,6 +1,7 @@
 //! The bytes of replies.
-ghost use Rattle.std.specs.Prelude.{◌≡◌, ◌≤◌, length, IfOk, IfErr};
-ghost use Rattle.http_wire.specs.Replies.{content_type_text, close_line, reason, status_line, reply_head, answer_text, refusal_body, refusal_text};
+ghost use Rattle.std.specs.Prelude.{◌≡◌, ◌≤◌, ◌++◌, [], codes, if◌then◌else◌, length, IfOk, IfErr};
+ghost use Rattle.http.specs.StatusCode.{code_digits};
+ghost use Rattle.http_wire.specs.Replies.{content_type_text, reason, reply_head, answer_text, refusal_body, refusal_text};
 ghost use Rattle.http_wire.specs.Replies.{TellsOf, Json};
 ghost use Rattle.rollout_model.specs.declared.Refusal.TheVariants.{NoMemory};
 ghost use Rattle.rollout_model.specs.Refusals.{refusal_row};
@@ -44,7 +45,7 @@ fn content_type_text(content_type: ContentType) -> &'static str
 }
 
 fn close_line(ends: bool) -> &'static str
-    ensures text { result.now ≡ close_line ends }
+    ensures text { result.now ≡ (if ends then codes "Connection: close\r\n" else []) }
     ensures short { length result.now ≤ 19 }
 {
     if ends { "Connection: close\r\n" } else { "" }
@@ -59,7 +60,7 @@ fn reason(status: StatusCode) -> &'static str
 
 #[tactic(auto, using(crate::proofs::ReplyLemmas::reason_short))]
 fn status_line(status: StatusCode) -> FixedText
-    ensures text { result ≡ status_line status }
+    ensures text { result ≡ codes "HTTP/1.1 " ++ code_digits status ++ codes " " ++ reason status }
     ensures short { length result ≤ 44 }
 {
     let mut line = FixedText::new();

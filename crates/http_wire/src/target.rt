@@ -1,9 +1,9 @@
 //! Path and query of a target.
-ghost use Rattle.std.specs.Prelude.{◌≡◌, position};
-ghost use Rattle.http_wire.specs.Targets.{is_question_mark, path_of, query_text};
+ghost use Rattle.std.specs.Prelude.{◌≡◌, ◌==◌, position};
+ghost use Rattle.http_wire.specs.Targets.{path_of, query_text};
 
 fn first_question_mark(target: &[u8]) -> Option<usize>
-    ensures { result ≡ position is_question_mark target.now }
+    ensures { result ≡ position (λ b. b == 63) target.now }
 {
     target.iter().position(|b| *b == b'?')
 }
