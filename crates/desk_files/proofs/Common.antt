@@ -17,5 +17,5 @@ pub use Rattle.rollout_model.specs.declared.target_row.TargetRow.{TargetRow}
 pub use Rattle.desk_files.specs.ImportSteps.{HasIds, Pushes, TakesRecord, has_id, if_new, row_behind}
 pub use Rattle.desk_files.specs.Imports.{distinct_rows, each_row, faulty_line, ids_of_rows, import_of, is_header, records_of, rows_of, targets_in_file}
 pub use Rattle.desk_files.specs.RecordReaders.{GivesRecords, GivesNext, known}
-pub use Rattle.desk_files.specs.TargetRecords.{Record, row_of, field_tags}
+pub use Rattle.desk_files.specs.TargetRecords.{Record, row_of, field_words}
 pub use Rattle.desk_files.specs.declared.imported_rows.ImportedRows.{ImportedRows}

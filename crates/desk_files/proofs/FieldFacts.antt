@@ -2,7 +2,7 @@
 use Rattle.desk_files.proofs.Common.{◌≡◌, ◌<◌, ◌≤◌, ◌==◌, ℕ, List, [], ◌∷◌, length, Bool, true, false, cond, Option, Some, None, refl, arith, nat_le, count_by}
 use Rattle.desk_files.proofs.Common.{Bor, get_or, map, take, ◌+◌, ◌++◌, list_all, slice_split, map-append, take_more, list_all-map, list_all_at}
 use Rattle.desk_files.proofs.Common.{is_spelled, is_text, is_text_letter, is_token, is_word, kept_if, is_tag_list, both}
-use Rattle.desk_files.proofs.Common.{spelled_is_utf8, field_tags}
+use Rattle.desk_files.proofs.Common.{spelled_is_utf8, field_words}
 use Rattle.std.proofs.lemmas.List.Splits.{length-slice_split}
 use Rattle.std.specs.Str.{IsUtf8, is_utf8}
 use Rattle.std.proofs.lemmas.Str.{IsUtf8-from_is_utf8}
@@ -38,7 +38,7 @@ pub is_tag_list-many : (ws : List (List ℕ)) → 16 < length ws → kept_if is_
 is_tag_list-many ws many = let few : nat_le (length ws) 16 ≡ false = grind arith in rw few refl
 
 -- a field with 16 spaces has more than 16 tags
-pub tags_of-many : (field : List ℕ) → 16 ≤ count_by (λ b. b == 32) field → field_tags field ≡ None
+pub tags_of-many : (field : List ℕ) → 16 ≤ count_by (λ b. b == 32) field → kept_if is_tag_list (field_words field) ≡ None
 tags_of-many [] many = absurd (omega arith)
 tags_of-many (b ∷ bs) many =
     let n = length-slice_split (λ c. c == 32) (b ∷ bs) in

@@ -5,7 +5,6 @@ use Rattle.rollout_model.specs.StateTexts.{group_text, rollout_text}
 use Rattle.rollout_model.specs.declared.rollout.Group.{Group}
 use Rattle.rollout_model.specs.declared.rollout.Rollout.{Rollout}
 use Rattle.rollout_model.specs.declared.rollout.RolloutReport.{RolloutReport}
-use Rattle.rollout_model.specs.declared.rollout_word.RolloutWord.{RolloutWord}
 use Rattle.desk_files.specs.Columns.{right}
 use Rattle.desk_files.specs.Counts.{counts_of, counts_text, total_counts}
 
@@ -17,11 +16,9 @@ heading r = codes "rollout " ++ decimal r.number ++ codes " " ++ r.name ++ codes
 abbrev pub group_line : Group → List ℕ
 group_line g = right 5 g.number ++ counts_text (counts_of g) ++ codes " " ++ group_text g.word ++ codes "\n"
 
-abbrev pub total_line : List Group → RolloutWord → List ℕ
-total_line gs word = codes "total" ++ counts_text (total_counts gs) ++ codes " " ++ rollout_text word ++ codes "\n"
-
 abbrev pub report_lines : Rollout → List Group → List ℕ
-report_lines r gs = heading r ++ flat_map group_line gs ++ total_line gs r.word
+report_lines r gs =
+    heading r ++ flat_map group_line gs ++ codes "total" ++ counts_text (total_counts gs) ++ codes " " ++ rollout_text r.word ++ codes "\n"
 
 abbrev pub report_text : RolloutReport → List ℕ
 report_text report = report_lines report.rollout report.groups.items

@@ -10,7 +10,6 @@ ghost use Rattle.desk_files.specs.ActionTables.{table_text};
 ghost use Rattle.desk_files.specs.Imports.{targets_in_file};
 ghost use Rattle.desk_files.specs.Laws.{TablesAreCsv, TagsAreJoined, worked_action, worked_group, worked_rollout};
 ghost use Rattle.desk_files.specs.Reports.{report_lines};
-ghost use Rattle.desk_files.specs.TargetRecords.{new_row};
 
 use rollout_model::limits::FILE_LENGTH_LIMIT;
 
@@ -33,9 +32,9 @@ pub fn files()
 pub fn worked_files()
     ensures import { targets_in_file
         (codes "controllerid,name,token,tags\ndev-01,Lab one,tok-dev-01,lab\ndev-02,Lab two,tok-dev-02,\ndev-03,Yard,tok-dev-03,lab outdoor\n")
-        ≡ Ok (new_row (codes "dev-01") (codes "Lab one") (digest_of (codes "tok-dev-01")) (codes "lab" ∷ [])
-        ∷ new_row (codes "dev-02") (codes "Lab two") (digest_of (codes "tok-dev-02")) []
-        ∷ new_row (codes "dev-03") (codes "Yard") (digest_of (codes "tok-dev-03")) (codes "lab" ∷ codes "outdoor" ∷ []) ∷ []) }
+        ≡ Ok (record { id = codes "dev-01"; name = codes "Lab one"; digest = digest_of (codes "tok-dev-01"); tags = codes "lab" ∷ [] }
+        ∷ record { id = codes "dev-02"; name = codes "Lab two"; digest = digest_of (codes "tok-dev-02"); tags = [] }
+        ∷ record { id = codes "dev-03"; name = codes "Yard"; digest = digest_of (codes "tok-dev-03"); tags = codes "lab" ∷ codes "outdoor" ∷ [] } ∷ []) }
     ensures fault { targets_in_file (codes "controllerid,name,token,tags\ndev-01,Lab one,tok-dev-01,lab\ndev-02,Lab two,tok-dev-02,\ndev-01,"
         ++ codes "Yard,tok-dev-03,lab outdoor\n") ≡ Err 4 }
     ensures cut { targets_in_file (codes "controllerid,name,token,tags\ndev-01,\"Lab") ≡ Err 0 }

@@ -1,9 +1,11 @@
 //! The report of a rollout.
 
-ghost use Rattle.std.specs.Prelude.{◌≡◌, ◌++◌, string_bytes, IfOk, IfErr, OnOk};
+ghost use Rattle.std.specs.Prelude.{◌≡◌, ◌++◌, codes, string_bytes, IfOk, IfErr, OnOk};
 ghost use Rattle.std.specs.List.{flat_map};
 ghost use Rattle.rollout_model.specs.declared.refusal.Refusal.TheVariants.{NoMemory};
-ghost use Rattle.desk_files.specs.Reports.{group_line, heading, report_text, total_line};
+ghost use Rattle.rollout_model.specs.StateTexts.{rollout_text};
+ghost use Rattle.desk_files.specs.Counts.{counts_text, total_counts};
+ghost use Rattle.desk_files.specs.Reports.{group_line, heading, report_text};
 
 use crate::columns::push_right;
 use crate::counts::{group_counts, push_counts, total_counts};
@@ -52,7 +54,8 @@ fn push_total(
     groups: &[Group],
     word: RolloutWord,
 ) -> Result<(), AllocError>
-    ensures { OnOk result (string_bytes text.new ≡ string_bytes text.old ++ total_line groups.now word) }
+    ensures { OnOk result (string_bytes text.new
+        ≡ string_bytes text.old ++ codes "total" ++ counts_text (total_counts groups.now) ++ codes " " ++ rollout_text word ++ codes "\n") }
 {
     text.push_str("total")?;
     push_counts(alloc, text, total_counts(groups))?;

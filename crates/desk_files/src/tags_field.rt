@@ -3,8 +3,8 @@
 ghost use Rattle.std.specs.Prelude.{◌≡◌, ◌==◌, false, map, count_by, IfOk};
 ghost use Rattle.std.specs.List.{list_all, slice_split};
 ghost use Rattle.std.specs.Option.{MatchOption};
-ghost use Rattle.rollout_model.specs.Rules.{is_word, kept_if};
-ghost use Rattle.desk_files.specs.TargetRecords.{field_tags};
+ghost use Rattle.rollout_model.specs.Rules.{is_tag_list, is_word, kept_if};
+ghost use Rattle.desk_files.specs.TargetRecords.{field_words};
 
 use rollout_model::{Tags, Word};
 use std::alloc::{AllocError, Global};
@@ -51,7 +51,7 @@ fn read_words(alloc: Global, parts: &[&[u8]]) -> Result<Option<Vec<Word>>, Alloc
 
 /// The tags: words with one space between two, or none.
 pub(crate) fn read_tags(alloc: Global, field: &[u8]) -> Result<Option<Tags>, AllocError>
-    ensures { IfOk result (λ tags. tags ≡ field_tags field.now) }
+    ensures { IfOk result (λ tags. tags ≡ kept_if is_tag_list (field_words field.now)) }
 {
     if field.is_empty() {
         return Ok(Tags::from_words(Vec::new(alloc)));

@@ -1,9 +1,10 @@
 //! A record of an import as the row of a target.
 
-ghost use Rattle.std.specs.Prelude.{◌≡◌, IfOk};
+ghost use Rattle.std.specs.Prelude.{◌≡◌, [], ◌∷◌, IfOk, option_map};
 ghost use Rattle.csv.specs.Records.{fields_of};
-ghost use Rattle.rollout_model.specs.Rules.{kept_if, is_text, is_word};
-ghost use Rattle.desk_files.specs.TargetRecords.{row_of, row_of_fields, token_digest_of};
+ghost use Rattle.rollout_model.specs.Rules.{kept_if, is_text, is_token, is_word};
+ghost use Rattle.desk_files.specs.TargetRecords.{row_of};
+ghost use Rattle.artifact_pieces.specs.Digests.{digest_of};
 
 use crate::fields::{Fields, four_fields};
 use crate::tags_field::read_tags;
@@ -33,7 +34,7 @@ fn read_name(alloc: Global, field: &[u8]) -> Result<Option<Text>, AllocError>
 
 /// The digest of a token. The token itself is kept nowhere.
 fn read_token_digest(field: &[u8]) -> Option<Digest>
-    ensures { result ≡ token_digest_of field.now }
+    ensures { result ≡ option_map digest_of (kept_if is_token field.now) }
 {
     let Ok(text) = str::from_utf8(field) else {
         return None;
@@ -44,7 +45,7 @@ fn read_token_digest(field: &[u8]) -> Option<Digest>
 }
 
 fn read_fields(alloc: Global, fields: &Fields<'_>) -> Result<Option<TargetRow>, AllocError>
-    ensures { IfOk result (λ row. row ≡ row_of_fields fields.now.id.now fields.now.name.now fields.now.token.now fields.now.tags.now) }
+    ensures { IfOk result (λ row. row ≡ row_of (fields.now.id.now ∷ fields.now.name.now ∷ fields.now.token.now ∷ fields.now.tags.now ∷ [])) }
 {
     let Some(id) = read_id(fields.id) else {
         return Ok(None);
