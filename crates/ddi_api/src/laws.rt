@@ -14,7 +14,6 @@ ghost use Rattle.rollout_machine.specs.Replies.{Deployment, PollShown, Refused};
 ghost use Rattle.rollout_machine.specs.Offers.{Offer};
 ghost use Rattle.rollout_machine.specs.Requests.{Ask, Asks, Poll, Rejected};
 ghost use Rattle.mgmt_objects.specs.Bodies.{body_data};
-ghost use Rattle.mgmt_objects.specs.ModuleBodies.{new_label};
 ghost use Rattle.ddi_api.specs.declared.call.DeviceCall.{DeviceCall};
 ghost use Rattle.ddi_api.specs.ConfigBodies.{config_body, new_attribute};
 ghost use Rattle.ddi_api.specs.Credentials.{credential_of, digest_of_value};
@@ -135,7 +134,7 @@ pub fn texts()
       action = 1;
       chunks = record {
         module_number = 1;
-        label = new_label (codes "app") (codes "os") (codes "1.0");
+        label = record { name = codes "app"; kind = codes "os"; version = codes "1.0" };
         artifacts = record { number = 1; filename = codes "abc.bin"; size = 3; digest = replicate 32 171 } ∷ [];
       } ∷ [];
     }))

@@ -6,7 +6,6 @@ ghost use Rattle.http_wire.specs.Messages.{WireMessage};
 ghost use Rattle.http_wire.specs.Replies.{refusal_text};
 ghost use Rattle.rollout_model.specs.declared.refusal.Refusal.{Refusal};
 ghost use Rattle.rollout_machine.specs.Replies.{ModuleAdded, Refused};
-ghost use Rattle.mgmt_objects.specs.ModuleBodies.{new_label};
 ghost use Rattle.mgmt_api.specs.Routes.{manage_table};
 ghost use Rattle.mgmt_api.specs.Replies.{parts_of, reply_text};
 
@@ -22,6 +21,7 @@ pub fn refused_text()
 
 /// A worked reply, letter by letter.
 pub fn worked_module_added()
-    ensures { (parts_of (ModuleAdded (record { number = 1; locked = false; label = new_label (codes "app") (codes "os") (codes "1.0") }))).body
+    ensures { (parts_of (ModuleAdded (record { number = 1; locked = false; label =
+        record { name = codes "app"; kind = codes "os"; version = codes "1.0" } }))).body
         ≡ codes "[{\"id\":1,\"locked\":false,\"name\":\"app\",\"type\":\"os\",\"version\":\"1.0\"}]" }
 {}

@@ -7,9 +7,7 @@ use Rattle.serde_json.specs.View.{items_of}
 use Rattle.rollout_model.specs.StateTexts.{action_text}
 use Rattle.rollout_model.specs.declared.feedback.NoteWord.{NoteWord}
 use Rattle.rollout_model.specs.declared.feedback.NoteWord.TheVariants as note
-use Rattle.rollout_model.specs.declared.feedback.DeploymentWord.{DeploymentWord}
 use Rattle.rollout_model.specs.declared.feedback.DeploymentWord.TheVariants as deployment
-use Rattle.rollout_model.specs.declared.feedback.CancelWord.{CancelWord}
 use Rattle.rollout_model.specs.declared.feedback.CancelWord.TheVariants as cancel
 use Rattle.rollout_model.specs.declared.feedback.HistoryEntry.{HistoryEntry}
 use Rattle.rollout_model.specs.declared.feedback.Said.{Said}
@@ -17,7 +15,6 @@ use Rattle.rollout_model.specs.declared.feedback.Said.TheVariants.{Deployment, C
 use Rattle.rollout_model.specs.declared.rollout.Action.{Action}
 use Rattle.rollout_model.specs.declared.rollout.NumberedEntry.{NumberedEntry}
 use Rattle.mgmt_objects.specs.Pages.{whole}
-use Rattle.mgmt_objects.specs.TargetObjects.{word_data}
 
 -- an action, its members in byte order
 abbrev pub action_data : Action → Data
@@ -38,54 +35,28 @@ note_text note.Proceeding = codes "proceeding"
 note_text note.Scheduled = codes "scheduled"
 note_text note.Resumed = codes "resumed"
 
-abbrev pub deployment_execution : DeploymentWord → List ℕ
-deployment_execution deployment.Succeeded = codes "closed"
-deployment_execution deployment.Failed = codes "closed"
-deployment_execution deployment.Rejected = codes "rejected"
-deployment_execution (deployment.Noted n) = note_text n
-
-abbrev pub deployment_finished : DeploymentWord → List ℕ
-deployment_finished deployment.Succeeded = codes "success"
-deployment_finished deployment.Failed = codes "failure"
-deployment_finished deployment.Rejected = codes "none"
-deployment_finished (deployment.Noted n) = codes "none"
-
-abbrev pub cancel_execution : CancelWord → List ℕ
-cancel_execution cancel.Closed = codes "closed"
-cancel_execution cancel.Canceled = codes "canceled"
-cancel_execution cancel.Rejected = codes "rejected"
-cancel_execution (cancel.Noted n) = note_text n
-
-abbrev pub cancel_finished : CancelWord → List ℕ
-cancel_finished cancel.Closed = codes "success"
-cancel_finished cancel.Canceled = codes "success"
-cancel_finished cancel.Rejected = codes "none"
-cancel_finished (cancel.Noted n) = codes "none"
+abbrev pub said_texts : Said → List ℕ × List ℕ
+said_texts (Deployment deployment.Succeeded) = (codes "closed", codes "success")
+said_texts (Deployment deployment.Failed) = (codes "closed", codes "failure")
+said_texts (Deployment deployment.Rejected) = (codes "rejected", codes "none")
+said_texts (Deployment (deployment.Noted note)) = (note_text note, codes "none")
+said_texts (Cancel cancel.Closed) = (codes "closed", codes "success")
+said_texts (Cancel cancel.Canceled) = (codes "canceled", codes "success")
+said_texts (Cancel cancel.Rejected) = (codes "rejected", codes "none")
+said_texts (Cancel (cancel.Noted note)) = (note_text note, codes "none")
 
 -- ---- entries
-
--- an entry by its parts, its members in byte order
-abbrev pub entry_object : List ℕ → List ℕ → List ℕ → ℕ → List (List ℕ) → Data
-entry_object kind execution finished number details =
-    object (member (codes "details") (array (items_of (map word_data details)))
-    (member (codes "execution") (string execution) (member (codes "finished") (string finished)
-    (member (codes "id") (whole number) (member (codes "kind") (string kind) no_members)))))
 
 abbrev pub kind_text : Said → List ℕ
 kind_text (Deployment word) = codes "deployment"
 kind_text (Cancel word) = codes "cancel"
 
-abbrev pub execution_text : Said → List ℕ
-execution_text (Deployment word) = deployment_execution word
-execution_text (Cancel word) = cancel_execution word
-
-abbrev pub finished_text : Said → List ℕ
-finished_text (Deployment word) = deployment_finished word
-finished_text (Cancel word) = cancel_finished word
-
--- an entry of this number in the history of its action
+-- an entry of this number in the history of its action, its members in byte order
 abbrev pub entry_members : ℕ → HistoryEntry → Data
-entry_members number e = entry_object (kind_text e.said) (execution_text e.said) (finished_text e.said) number e.details
+entry_members number e =
+    object (member (codes "details") (array (items_of (map string e.details)))
+    (member (codes "execution") (string (said_texts e.said).0) (member (codes "finished") (string (said_texts e.said).1)
+    (member (codes "id") (whole number) (member (codes "kind") (string (kind_text e.said)) no_members)))))
 
 -- an object, and the number that the device gave as one more member, if it gave one
 abbrev pub with_number_member : Option ℕ → Data → Data

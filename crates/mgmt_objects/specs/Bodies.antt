@@ -35,7 +35,7 @@ whole_of d = option_and_then as_u64 (as_number d)
 abbrev pub number_member : List ℕ → Data → Option ℕ
 number_member key d = option_and_then (kept_if is_number) (option_and_then whole_of (get key d))
 
--- what a member says that may be missing
-abbrev pub if_given : {A : Type 0} → (Data → Option A) → Option Data → Option (Option A)
+-- what is read of a part that may be missing
+abbrev pub if_given : {A B : Type 0} → (A → Option B) → Option A → Option (Option B)
 if_given reads None = Some None
-if_given reads (Some d) = option_map (λ a. Some a) (reads d)
+if_given reads (Some part) = option_map Some (reads part)

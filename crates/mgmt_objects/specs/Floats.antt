@@ -11,7 +11,7 @@ use Rattle.rollout_model.specs.declared.feedback.HistoryEntry.{HistoryEntry}
 use Rattle.rollout_model.specs.declared.rollout.NumberedEntry.{NumberedEntry}
 use Rattle.rollout_model.specs.declared.shown_target.ShownTarget.{ShownTarget}
 use Rattle.mgmt_objects.specs.ActionObjects.{entry_data, entry_members, with_number_member}
-use Rattle.mgmt_objects.specs.TargetObjects.{target_data, with_attribute_members, word_data}
+use Rattle.mgmt_objects.specs.TargetObjects.{target_data, with_attribute_members}
 
 pub items_have_float-map : {A : Type 0} (show : A → Data) → ((x : A) → has_float (show x) ≡ false) → (xs : List A)
     → items_have_float (items_of (map show xs)) ≡ false
@@ -42,11 +42,11 @@ members_have_float-with ms [] none = none
 members_have_float-with ms (a ∷ more) none = members_have_float-with (put a.key (string a.value) ms) more (members_have_float-put a.key a.value ms none)
 
 pub target_has_no_float : (t : ShownTarget) → has_float (target_data t) ≡ false
-target_has_no_float t = rw (members_have_float-with no_members t.attributes refl, items_have_float-map word_data (λ word. refl) t.tags) refl
+target_has_no_float t = rw (members_have_float-with no_members t.attributes refl, items_have_float-map string (λ word. refl) t.tags) refl
 
 numbered_has_no_float : (number : Option ℕ) (id : ℕ) (entry : HistoryEntry) → has_float (with_number_member number (entry_members id entry)) ≡ false
-numbered_has_no_float None id entry = rw (items_have_float-map word_data (λ line. refl) entry.details) refl
-numbered_has_no_float (Some n) id entry = rw (items_have_float-map word_data (λ line. refl) entry.details) refl
+numbered_has_no_float None id entry = rw (items_have_float-map string (λ line. refl) entry.details) refl
+numbered_has_no_float (Some n) id entry = rw (items_have_float-map string (λ line. refl) entry.details) refl
 
 pub entry_has_no_float : (e : NumberedEntry) → has_float (entry_data e) ≡ false
 entry_has_no_float e = numbered_has_no_float e.reported.number e.number e.reported.entry

@@ -4,13 +4,11 @@ use Rattle.serde_json.specs.Data.{Data}
 use Rattle.rollout_model.specs.declared.module.ModuleLabel.{ModuleLabel}
 use Rattle.mgmt_objects.specs.Bodies.{body_data, only, text_member}
 
-abbrev pub new_label : List ℕ → List ℕ → List ℕ → ModuleLabel
-new_label name kind version = record { name = name; kind = kind; version = version }
-
 -- an object's `name`, `type` and `version`
 abbrev pub label_of : Data → Option ModuleLabel
-label_of d = option_and_then (λ name. option_and_then (λ kind. option_map (λ version. new_label name kind version) (text_member (codes "version") d))
-    (text_member (codes "type") d)) (text_member (codes "name") d)
+label_of d =
+    option_and_then (λ name. option_and_then (λ kind. option_map (λ version. record { name = name; kind = kind; version = version })
+    (text_member (codes "version") d)) (text_member (codes "type") d)) (text_member (codes "name") d)
 
 -- an array of exactly one such object
 abbrev pub module_body : List ℕ → Option ModuleLabel

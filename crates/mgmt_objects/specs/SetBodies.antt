@@ -7,25 +7,19 @@ use Rattle.rollout_model.specs.declared.distribution_set.SetLabel.{SetLabel}
 use Rattle.mgmt_objects.specs.Bodies.{body_data, only, text_member, number_member}
 use Rattle.mgmt_objects.specs.Traverse.{list_of, traverse}
 
--- an object's `id`
-abbrev pub id_of : Data → Option ℕ
-id_of d = number_member (codes "id") d
-
--- the ids of the objects in a member that is an array
+-- the `id` of each object in a member that is an array
 abbrev pub ids_member : List ℕ → Data → Option (List ℕ)
-ids_member key d = option_and_then (λ items. traverse id_of (list_of items)) (option_and_then as_array (get key d))
+ids_member key d = option_and_then (λ items. traverse (number_member (codes "id")) (list_of items)) (option_and_then as_array (get key d))
 
 -- 1 to 8 modules, none twice
 abbrev pub modules_member : Data → Option (List ℕ)
 modules_member d = option_and_then (kept_if is_module_list) (ids_member (codes "modules") d)
 
-abbrev pub new_set_label : List ℕ → List ℕ → List ℕ → SetLabel
-new_set_label name version modules = record { name = name; version = version; modules = modules }
-
 -- an object's `name`, `version` and `modules`
 abbrev pub set_label_of : Data → Option SetLabel
-set_label_of d = option_and_then (λ name. option_and_then (λ version. option_map (λ modules. new_set_label name version modules) (modules_member d))
-    (text_member (codes "version") d)) (text_member (codes "name") d)
+set_label_of d =
+    option_and_then (λ name. option_and_then (λ version. option_map (λ modules. record { name = name; version = version; modules = modules })
+    (modules_member d)) (text_member (codes "version") d)) (text_member (codes "name") d)
 
 -- an array of exactly one such object
 abbrev pub set_body : List ℕ → Option SetLabel

@@ -13,18 +13,12 @@ abbrev pub with_attribute_members : Members → List Attribute → Members
 with_attribute_members members [] = members
 with_attribute_members members (a ∷ more) = with_attribute_members (put a.key (string a.value) members) more
 
-abbrev pub attributes_data : List Attribute → Data
-attributes_data attributes = object (with_attribute_members no_members attributes)
-
-abbrev pub word_data : List ℕ → Data
-word_data word = string word
-
 -- the object of a target by its parts, its members in byte order
 abbrev pub target_object : List ℕ → List ℕ → List (List ℕ) → List Attribute → TargetWord → Data
 target_object id name tags attributes word =
-    object (member (codes "attributes") (attributes_data attributes)
+    object (member (codes "attributes") (object (with_attribute_members no_members attributes))
     (member (codes "controllerId") (string id) (member (codes "name") (string name)
-    (member (codes "tags") (array (items_of (map word_data tags))) (member (codes "updateStatus") (string (target_text word)) no_members)))))
+    (member (codes "tags") (array (items_of (map string tags))) (member (codes "updateStatus") (string (target_text word)) no_members)))))
 
 abbrev pub target_data : ShownTarget → Data
 target_data t = target_object t.id t.name t.tags t.attributes t.word

@@ -1,17 +1,16 @@
 -- The conditions of a rollout's body, each with a threshold.
 use Rattle.std.specs.Prelude.{ℕ, ◌+◌, ◌-◌, ◌*◌, List, [], ◌∷◌, Bool, false, ◌&&◌, ◌==◌, nat_le, bytes_eq, codes, Option, Some, None, option_and_then}
 use Rattle.std.specs.Prelude.{if◌then◌else◌}
+use Rattle.std.specs.Char.{is_ascii_digit}
+use Rattle.std.specs.Option.{option_map_or}
 use Rattle.serde_json.specs.Data.{Data}
 use Rattle.rollout_model.specs.Rules.{kept_if, is_percentage}
 use Rattle.mgmt_objects.specs.Bodies.{string_member}
 
-abbrev pub is_digit : ℕ → Bool
-is_digit c = nat_le 48 c && nat_le c 57
-
 -- the number that the digits write after n, where it is at most 100
 abbrev pub percent_after : ℕ → List ℕ → Option ℕ
 percent_after n [] = Some n
-percent_after n (c ∷ cs) = if is_digit c && nat_le (10 * n + (c - 48)) 100 then percent_after (10 * n + (c - 48)) cs else None
+percent_after n (c ∷ cs) = if is_ascii_digit c && nat_le (10 * n + (c - 48)) 100 then percent_after (10 * n + (c - 48)) cs else None
 
 -- digits without a leading zero
 abbrev pub percent_written : List ℕ → Option ℕ
@@ -22,13 +21,9 @@ percent_written (c ∷ cs) = if c == 48 then None else percent_after 0 (c ∷ cs
 abbrev pub percentage_of_text : List ℕ → Option ℕ
 percentage_of_text text = option_and_then (kept_if is_percentage) (percent_written text)
 
-abbrev pub is_given_as : List ℕ → Option (List ℕ) → Bool
-is_given_as word None = false
-is_given_as word (Some text) = bytes_eq text word
-
 -- a member is this word
 abbrev pub says : List ℕ → List ℕ → Data → Bool
-says key word d = is_given_as word (string_member key d)
+says key word d = option_map_or (λ text. bytes_eq text word) (string_member key d) false
 
 -- an object with `condition`, which is `THRESHOLD`, and `expression`, a percentage
 abbrev pub threshold_of : Data → Option ℕ

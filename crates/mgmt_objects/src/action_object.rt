@@ -2,10 +2,10 @@
 
 ghost use Rattle.std.specs.Prelude.{◌≡◌, Some, IfOk, refl};
 ghost use Rattle.serde_json.specs.View.{view};
-ghost use Rattle.mgmt_objects.specs.ActionObjects.{action_data, cancel_execution, cancel_finished, deployment_execution, deployment_finished};
-ghost use Rattle.mgmt_objects.specs.ActionObjects.{entry_data, entry_members, execution_text, finished_text, kind_text, note_text, with_number_member};
+ghost use Rattle.mgmt_objects.specs.ActionObjects.{action_data, entry_data, entry_members, kind_text, note_text, said_texts, with_number_member};
 ghost use Rattle.mgmt_objects.specs.Floats.{entry_has_no_float};
-ghost use Rattle.mgmt_objects.specs.TargetObjects.{word_data};
+ghost use Rattle.rollout_model.specs.declared.feedback.Said.TheVariants as said;
+ghost use Rattle.serde_json.specs.Data.{string};
 
 use crate::shown::{Shown, values};
 use rollout_model::{
@@ -42,7 +42,7 @@ fn note_text(word: NoteWord) -> &'static str
 }
 
 fn deployment_execution(word: DeploymentWord) -> &'static str
-    ensures { result.now ≡ deployment_execution word }
+    ensures { result.now ≡ (said_texts (said.Deployment word)).0 }
 {
     match word {
         DeploymentWord::Succeeded => "closed",
@@ -53,7 +53,7 @@ fn deployment_execution(word: DeploymentWord) -> &'static str
 }
 
 fn deployment_finished(word: DeploymentWord) -> &'static str
-    ensures { result.now ≡ deployment_finished word }
+    ensures { result.now ≡ (said_texts (said.Deployment word)).1 }
 {
     match word {
         DeploymentWord::Succeeded => "success",
@@ -64,7 +64,7 @@ fn deployment_finished(word: DeploymentWord) -> &'static str
 }
 
 fn cancel_execution(word: CancelWord) -> &'static str
-    ensures { result.now ≡ cancel_execution word }
+    ensures { result.now ≡ (said_texts (said.Cancel word)).0 }
 {
     match word {
         CancelWord::Closed => "closed",
@@ -75,7 +75,7 @@ fn cancel_execution(word: CancelWord) -> &'static str
 }
 
 fn cancel_finished(word: CancelWord) -> &'static str
-    ensures { result.now ≡ cancel_finished word }
+    ensures { result.now ≡ (said_texts (said.Cancel word)).1 }
 {
     match word {
         CancelWord::Closed => "success",
@@ -87,7 +87,7 @@ fn cancel_finished(word: CancelWord) -> &'static str
 
 /// A line that a device added to its feedback.
 impl Shown for Detail {
-    ghost shows = { word_data };
+    ghost shows = { string };
 
     ghost has_no_float = { λ detail. refl };
 
@@ -106,7 +106,7 @@ fn kind_text(said: Said) -> &'static str
 }
 
 fn execution_text(said: Said) -> &'static str
-    ensures { result.now ≡ execution_text said }
+    ensures { result.now ≡ (said_texts said).0 }
 {
     match said {
         Said::Deployment(word) => deployment_execution(word),
@@ -115,7 +115,7 @@ fn execution_text(said: Said) -> &'static str
 }
 
 fn finished_text(said: Said) -> &'static str
-    ensures { result.now ≡ finished_text said }
+    ensures { result.now ≡ (said_texts said).1 }
 {
     match said {
         Said::Deployment(word) => deployment_finished(word),

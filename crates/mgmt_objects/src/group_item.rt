@@ -1,10 +1,13 @@
 //! What a rollout's body says of one group.
 
-ghost use Rattle.std.specs.Prelude.{◌≡◌};
+ghost use Rattle.std.specs.Prelude.{◌≡◌, option_and_then};
 ghost use Rattle.serde_json.specs.Find.{get};
 ghost use Rattle.serde_json.specs.View.{view};
-ghost use Rattle.mgmt_objects.specs.GroupBodies.{item_definition, group_item_of, own_threshold, percentage_member};
+ghost use Rattle.mgmt_objects.specs.Bodies.{if_given, whole_of};
+ghost use Rattle.rollout_model.specs.Rules.{is_percentage, kept_if};
+ghost use Rattle.mgmt_objects.specs.GroupBodies.{item_definition, group_item_of};
 ghost use Rattle.mgmt_objects.specs.Readings.{ReadsAs, ReadsExactly};
+ghost use Rattle.mgmt_objects.specs.Thresholds.{threshold_of};
 
 use crate::list::Item;
 use crate::member::read_whole;
@@ -35,7 +38,7 @@ impl GroupItem {
 }
 
 fn percentage_member(object: &Value, key: &str) -> Option<Percentage>
-    ensures { result ≡ percentage_member key.now (view object.now) }
+    ensures { result ≡ option_and_then (kept_if is_percentage) (option_and_then whole_of (get key.now (view object.now))) }
 {
     let percent = object.get(key).and_then(read_whole)?;
     match u8::try_from(percent) {
@@ -46,7 +49,7 @@ fn percentage_member(object: &Value, key: &str) -> Option<Percentage>
 
 /// A threshold of the group's own, and none where the member is missing.
 fn read_own_threshold(object: &Value, key: &str) -> Result<Option<Percentage>, Refusal>
-    ensures { ReadsExactly (own_threshold (get key.now (view object.now))) result }
+    ensures { ReadsExactly (if_given threshold_of (get key.now (view object.now))) result }
 {
     let Some(condition) = object.get(key) else {
         return Ok(None);

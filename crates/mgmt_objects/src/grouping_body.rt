@@ -1,9 +1,13 @@
 //! How a rollout's body cuts it into groups.
 
-ghost use Rattle.std.specs.Prelude.{◌≡◌, IfOk, map};
+ghost use Rattle.std.specs.Prelude.{◌≡◌, None, Some, IfOk, map, option_and_then, option_map};
 ghost use Rattle.serde_json.specs.View.{view};
-ghost use Rattle.mgmt_objects.specs.GroupBodies.{defined_groups, item_definition, item_definitions, even_count, even_groups, grouping_member};
+ghost use Rattle.rollout_model.specs.Groupings.{evenly};
+ghost use Rattle.rollout_model.specs.Rules.{is_group_count, kept_if};
+ghost use Rattle.mgmt_objects.specs.Bodies.{whole_of};
+ghost use Rattle.mgmt_objects.specs.GroupBodies.{group_item_of, grouping_by, grouping_member, item_definition};
 ghost use Rattle.mgmt_objects.specs.Readings.{ReadsAs, ReadsBy, ReadsExactly};
+ghost use Rattle.mgmt_objects.specs.Traverse.{array_of};
 
 use crate::group_item::GroupItem;
 use crate::list::read_array;
@@ -33,7 +37,7 @@ fn read_definitions(
     success: Percentage,
     error: Percentage,
 ) -> Result<Vec<GroupDefinition>, Refusal>
-    ensures { ReadsBy (λ v. v.items) (item_definitions success error (view groups.now)) result }
+    ensures { ReadsBy (λ v. v.items) (option_map (map (item_definition success error)) (array_of group_item_of (view groups.now))) result }
 {
     let items = read_array::<GroupItem>(alloc, groups)?;
     let definitions = definitions_by(alloc, &items, success, error)?;
@@ -47,7 +51,7 @@ fn read_defined(
     success: Percentage,
     error: Percentage,
 ) -> Result<Grouping, Refusal>
-    ensures { ReadsAs (defined_groups success error (view groups.now)) result }
+    ensures { ReadsAs (grouping_by success error None (Some (view groups.now))) result }
 {
     let definitions = read_definitions(alloc, groups, success, error)?;
     match GroupDefinitions::from_vec(definitions) {
@@ -57,7 +61,7 @@ fn read_defined(
 }
 
 fn even_count(amount: &Value) -> Option<GroupCount>
-    ensures { result ≡ even_count (view amount.now) }
+    ensures { result ≡ option_and_then (kept_if is_group_count) (whole_of (view amount.now)) }
 {
     let count = read_whole(amount)?;
     GroupCount::new(count)
@@ -65,7 +69,7 @@ fn even_count(amount: &Value) -> Option<GroupCount>
 
 /// So many even groups.
 fn read_even(amount: &Value) -> Result<Grouping, Refusal>
-    ensures { ReadsExactly (even_groups (view amount.now)) result }
+    ensures { ReadsExactly (option_map evenly (option_and_then (kept_if is_group_count) (whole_of (view amount.now)))) result }
 {
     match even_count(amount) {
         Some(count) => Ok(Grouping::evenly(count)),

@@ -15,19 +15,18 @@ ghost use Rattle.rollout_model.specs.declared.rollout.Group.{Group};
 ghost use Rattle.rollout_model.specs.declared.rollout.Rollout.{Rollout};
 ghost use Rattle.rollout_model.specs.declared.rollout_word.RolloutWord.TheVariants as rollout;
 ghost use Rattle.mgmt_objects.specs.ArtifactObjects.{artifact_data};
-ghost use Rattle.mgmt_objects.specs.GroupBodies.{new_definition};
-ghost use Rattle.mgmt_objects.specs.ModuleBodies.{module_body, new_label};
+ghost use Rattle.mgmt_objects.specs.ModuleBodies.{module_body};
 ghost use Rattle.mgmt_objects.specs.ModuleObjects.{module_data, module_letters};
 ghost use Rattle.mgmt_objects.specs.Pages.{single};
 ghost use Rattle.mgmt_objects.specs.ActionObjects.{action_data, action_letters, entry_data};
-ghost use Rattle.mgmt_objects.specs.RolloutBodies.{new_plan, rollout_body};
+ghost use Rattle.mgmt_objects.specs.RolloutBodies.{rollout_body};
 ghost use Rattle.mgmt_objects.specs.RolloutObjects.{group_data, group_letters, rollout_data, rollout_letters};
-ghost use Rattle.mgmt_objects.specs.SetBodies.{new_set_label, set_body};
+ghost use Rattle.mgmt_objects.specs.SetBodies.{set_body};
 ghost use Rattle.mgmt_objects.specs.SetObjects.{set_data};
 ghost use Rattle.artifact_pieces.specs.Digests.{digest_of};
 ghost use Rattle.rollout_model.specs.declared.target_word.TargetWord.TheVariants.{InSync};
 ghost use Rattle.mgmt_objects.specs.Thresholds.{percentage_of_text};
-ghost use Rattle.mgmt_objects.specs.TargetBodies.{new_row, targets_body};
+ghost use Rattle.mgmt_objects.specs.TargetBodies.{targets_body};
 ghost use Rattle.mgmt_objects.specs.TargetObjects.{accepted_data, target_data};
 
 /// What worked bodies say:
@@ -39,22 +38,29 @@ ghost use Rattle.mgmt_objects.specs.TargetObjects.{accepted_data, target_data};
 /// - `null_action`: a body whose action for an error is `null` plans nothing
 pub fn bodies()
     ensures module { module_body (codes "[{\"name\":\"app\",\"type\":\"os\",\"version\":\"1.0\"}]")
-        ≡ Some (new_label (codes "app") (codes "os") (codes "1.0")) }
+        ≡ Some (record { name = codes "app"; kind = codes "os"; version = codes "1.0" }) }
     ensures set { set_body (codes "[{\"name\":\"r1\",\"version\":\"1\",\"modules\":[{\"id\":2},{\"id\":1}]}]")
-        ≡ Some (new_set_label (codes "r1") (codes "1") (2 ∷ 1 ∷ [])) }
+        ≡ Some (record { name = codes "r1"; version = codes "1"; modules = 2 ∷ 1 ∷ [] }) }
     ensures targets { targets_body (codes "[{\"controllerId\":\"dev-01\",\"name\":\"press\",\"securityToken\":\"tok-dev-01\",\"tags\":[\"lab\"]}]")
-        ≡ Some (new_row (codes "dev-01") (codes "press") (digest_of (codes "tok-dev-01")) (codes "lab" ∷ []) ∷ []) }
+        ≡ Some (record { id = codes "dev-01"; name = codes "press"; digest = digest_of (codes "tok-dev-01"); tags = codes "lab" ∷ [] } ∷ []) }
     ensures rollout { rollout_body (codes "{\"amountGroups\":3,\"distributionSetId\":1,\"errorCondition\":{\"condition\":\"THRESHOLD\","
         ++ codes "\"expression\":\"100\"},\"name\":\"spring\",\"successAction\":{\"action\":\"NEXTGROUP\"},"
         ++ codes "\"successCondition\":{\"condition\":\"THRESHOLD\",\"expression\":\"50\"},\"targetFilterQuery\":\"name==*\"}")
-        ≡ Some (new_plan (codes "spring") 1 (codes "name==*") (evenly 3) 50 100) }
+        ≡ Some (record { name = codes "spring"; set_number = 1; filter_text = codes "name==*"; groups = evenly 3; success = 50; error = 100 }) }
     ensures groups { rollout_body (codes "{\"distributionSetId\":1,\"errorCondition\":{\"condition\":\"THRESHOLD\",\"expression\":\"100\"},"
         ++ codes "\"groups\":[{\"targetPercentage\":10},{\"errorCondition\":{\"condition\":\"THRESHOLD\",\"expression\":\"34\"},"
         ++ codes "\"successCondition\":{\"condition\":\"THRESHOLD\",\"expression\":\"40\"},\"targetPercentage\":50},"
         ++ codes "{\"targetPercentage\":100}],\"name\":\"spring\","
         ++ codes "\"successCondition\":{\"condition\":\"THRESHOLD\",\"expression\":\"100\"},\"targetFilterQuery\":\"name==*\"}")
-        ≡ Some (new_plan (codes "spring") 1 (codes "name==*") (defined (new_definition 10 100 100 ∷ new_definition 50 40 34
-        ∷ new_definition 100 100 100 ∷ [])) 100 100) }
+        ≡ Some (record {
+          name = codes "spring";
+          set_number = 1;
+          filter_text = codes "name==*";
+          groups = defined (record { percentage = 10; success = 100; error = 100 }
+              ∷ record { percentage = 50; success = 40; error = 34 } ∷ record { percentage = 100; success = 100; error = 100 } ∷ []);
+          success = 100;
+          error = 100;
+        }) }
     ensures null_action { rollout_body (codes "{\"amountGroups\":3,\"distributionSetId\":1,\"errorAction\":null,"
         ++ codes "\"errorCondition\":{\"condition\":\"THRESHOLD\",\"expression\":\"100\"},\"name\":\"spring\","
         ++ codes "\"successCondition\":{\"condition\":\"THRESHOLD\",\"expression\":\"50\"},\"targetFilterQuery\":\"name==*\"}") ≡ None }
@@ -93,9 +99,14 @@ pub fn letters()
 /// - `group`: the text of a worked group
 /// - `action`: the text of a worked action
 pub fn texts()
-    ensures module { compact_text (single (module_data (record { number = 1; locked = false; label = new_label (codes "app") (codes "os") (codes "1.0") })))
+    ensures module { compact_text (single (module_data (record {
+      number = 1;
+      locked = false;
+      label =
+          record { name = codes "app"; kind = codes "os"; version = codes "1.0" };
+    })))
         ≡ codes "[{\"id\":1,\"locked\":false,\"name\":\"app\",\"type\":\"os\",\"version\":\"1.0\"}]" }
-    ensures set { compact_text (set_data (record { number = 1; label = new_set_label (codes "r1") (codes "1") (1 ∷ []) }))
+    ensures set { compact_text (set_data (record { number = 1; label = record { name = codes "r1"; version = codes "1"; modules = 1 ∷ [] } }))
         ≡ codes "{\"id\":1,\"modules\":[{\"id\":1}],\"name\":\"r1\",\"version\":\"1\"}" }
     ensures artifact { compact_text (artifact_data (record { number = 1; filename = codes "abc.bin"; size = 3; digest = replicate 32 171 }))
         ≡ codes "{\"hashes\":{\"sha256\":\"abababababababababababababababababababababababababababababababab\"},"

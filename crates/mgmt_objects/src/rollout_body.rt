@@ -1,11 +1,12 @@
 //! The body that creates a rollout.
 
-ghost use Rattle.std.specs.Prelude.{◌≡◌, codes};
+ghost use Rattle.std.specs.Prelude.{◌≡◌, ◌&&◌, codes, option_and_then};
 ghost use Rattle.serde_json.specs.Find.{get};
 ghost use Rattle.serde_json.specs.View.{view};
 ghost use Rattle.mgmt_objects.specs.Bodies.{number_member, string_member};
 ghost use Rattle.mgmt_objects.specs.Readings.{ReadsAs};
-ghost use Rattle.mgmt_objects.specs.RolloutBodies.{allows, allows_actions, plan_members, plan_of, rollout_body, threshold_member};
+ghost use Rattle.mgmt_objects.specs.RolloutBodies.{allows, plan_members, plan_of, rollout_body};
+ghost use Rattle.mgmt_objects.specs.Thresholds.{threshold_of};
 
 use crate::body::read_value;
 use crate::grouping_body::read_grouping;
@@ -16,7 +17,7 @@ use serde_json::Value;
 use std::alloc::Global;
 
 fn threshold_member(object: &Value, key: &str) -> Option<Percentage>
-    ensures { result ≡ threshold_member key.now (view object.now) }
+    ensures { result ≡ option_and_then threshold_of (get key.now (view object.now)) }
 {
     let condition = object.get(key)?;
     threshold_of(condition)
@@ -34,7 +35,8 @@ fn allows(object: &Value, key: &str, word: &str) -> bool
 
 /// Whether the actions that are named, if any, are those that are always taken.
 fn allows_actions(object: &Value) -> bool
-    ensures { result ≡ allows_actions (view object.now) }
+    ensures { result ≡ (allows (codes "NEXTGROUP") (get (codes "successAction") (view object.now))
+        && allows (codes "PAUSE") (get (codes "errorAction") (view object.now))) }
 {
     allows(object, "successAction", "NEXTGROUP") && allows(object, "errorAction", "PAUSE")
 }

@@ -1,10 +1,11 @@
 //! The body that adds a distribution set.
 
-ghost use Rattle.std.specs.Prelude.{◌≡◌, option_and_then, option_map};
+ghost use Rattle.std.specs.Prelude.{◌≡◌, codes, option_and_then, option_map};
 ghost use Rattle.serde_json.specs.Find.{as_array, get};
 ghost use Rattle.serde_json.specs.View.{items_view, view};
+ghost use Rattle.mgmt_objects.specs.Bodies.{number_member};
 ghost use Rattle.mgmt_objects.specs.Readings.{ReadsAs, ReadsBy};
-ghost use Rattle.mgmt_objects.specs.SetBodies.{id_of, ids_member, modules_member, set_body, set_label_of};
+ghost use Rattle.mgmt_objects.specs.SetBodies.{ids_member, modules_member, set_body, set_label_of};
 
 use crate::body::{only_item, read_value};
 use crate::list::{Item, read_list};
@@ -15,7 +16,7 @@ use std::alloc::Global;
 
 /// A module that a set names: an object with its `id`.
 impl Item for ModuleNo {
-    ghost reads = { id_of };
+    ghost reads = { number_member (codes "id") };
 
     fn read(_alloc: Global, value: &Value) -> Result<Self, Refusal> {
         match read_number(value, "id") {

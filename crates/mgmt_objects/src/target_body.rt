@@ -1,10 +1,18 @@
 //! The body that puts targets.
 
-ghost use Rattle.std.specs.Prelude.{◌≡◌};
+ghost use Rattle.std.specs.Prelude.{◌≡◌, nat_eq, option_and_then, option_map};
+ghost use Rattle.serde_json.specs.Find.{get};
 ghost use Rattle.serde_json.specs.View.{view};
 ghost use Rattle.mgmt_objects.specs.Readings.{ReadsAs, ReadsBy};
-ghost use Rattle.mgmt_objects.specs.TargetBodies.{has_row_of, have_distinct_ids, posted_rows, tags_member, target_row_of, targets_body};
-ghost use Rattle.mgmt_objects.specs.TargetBodies.{token_digest_member, word_in, word_member, words_member};
+ghost use Rattle.mgmt_objects.specs.TargetBodies.{are_posted, have_distinct_ids, tags_member, target_row_of, targets_body};
+ghost use Rattle.mgmt_objects.specs.TargetBodies.{word_in};
+ghost use Rattle.artifact_pieces.specs.Digests.{digest_of};
+ghost use Rattle.mgmt_objects.specs.Bodies.{string_member};
+ghost use Rattle.mgmt_objects.specs.Traverse.{array_if_given};
+ghost use Rattle.rollout_model.specs.Rules.{is_token, kept_if};
+ghost use Rattle.rollout_model.specs.declared.target_row.TargetRow as target_row;
+ghost use Rattle.std.specs.Cmp.Lexicographic.{pointwise};
+ghost use Rattle.std.specs.List.{list_any};
 
 use crate::body::read_value;
 use crate::list::{Item, read_array};
@@ -35,7 +43,7 @@ impl Item for Word {
 }
 
 fn read_id(object: &Value, key: &str) -> Option<ControllerId>
-    ensures { result ≡ word_member key.now (view object.now) }
+    ensures { result ≡ option_and_then word_in (get key.now (view object.now)) }
 {
     let text = object.get(key).and_then(Value::as_str)?;
     ControllerId::read(text)
@@ -43,7 +51,7 @@ fn read_id(object: &Value, key: &str) -> Option<ControllerId>
 
 /// The digest of a member that is a token. The token itself is kept nowhere.
 fn read_token_digest(object: &Value, key: &str) -> Option<Digest>
-    ensures { result ≡ token_digest_member key.now (view object.now) }
+    ensures { result ≡ option_map digest_of (option_and_then (kept_if is_token) (string_member key.now (view object.now))) }
 {
     let text = object.get(key).and_then(Value::as_str)?;
     let token = Token::read(text)?;
@@ -53,7 +61,7 @@ fn read_token_digest(object: &Value, key: &str) -> Option<Digest>
 
 /// The words of a member that is an array, and none where it is missing.
 fn read_words(alloc: Global, object: &Value, key: &str) -> Result<Vec<Word>, Refusal>
-    ensures { ReadsBy (λ v. v.items) (words_member key.now (view object.now)) result }
+    ensures { ReadsBy (λ v. v.items) (array_if_given word_in (get key.now (view object.now))) result }
 {
     match object.get(key) {
         Some(list) => read_array::<Word>(alloc, list),
@@ -95,7 +103,7 @@ impl Item for TargetRow {
 
 /// Whether some row is one of the target of this id.
 fn has_row_of(rows: &[TargetRow], id: &ControllerId) -> bool
-    ensures { result ≡ has_row_of id.now rows.now }
+    ensures { result ≡ list_any (λ (row : target_row.TargetRow). pointwise nat_eq row.id id.now) rows.now }
 {
     rows.iter().any(|row| row.id == *id)
 }
@@ -111,7 +119,7 @@ fn have_distinct_ids(rows: &[TargetRow]) -> bool
 }
 
 fn posted(rows: Vec<TargetRow>) -> Option<TargetRows>
-    ensures { result ≡ posted_rows rows.items }
+    ensures { result ≡ kept_if are_posted rows.items }
 {
     let count = rows.len();
     let are_posted = 1 <= count && count <= POSTED_TARGET_LIMIT && have_distinct_ids(&rows);

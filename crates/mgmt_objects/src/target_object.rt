@@ -1,10 +1,11 @@
 //! Targets in replies, and what a put of targets answers.
 
 ghost use Rattle.std.specs.Prelude.{◌≡◌, codes, refl, IfOk, string_bytes};
+ghost use Rattle.serde_json.specs.Data.{no_members, object, string};
 ghost use Rattle.serde_json.specs.View.{view};
 ghost use Rattle.serde_json.specs.Written.{compact_text};
 ghost use Rattle.mgmt_objects.specs.Floats.{target_has_no_float};
-ghost use Rattle.mgmt_objects.specs.TargetObjects.{accepted_data, attributes_data, target_data, word_data};
+ghost use Rattle.mgmt_objects.specs.TargetObjects.{accepted_data, target_data, with_attribute_members};
 
 use crate::shown::{Shown, values};
 use rollout_model::{Attribute, ShownTarget, Word};
@@ -13,7 +14,7 @@ use std::alloc::{AllocError, Global};
 
 /// A tag as a target shows it.
 impl Shown for Word {
-    ghost shows = { word_data };
+    ghost shows = { string };
 
     ghost has_no_float = { λ word. refl };
 
@@ -23,7 +24,7 @@ impl Shown for Word {
 }
 
 fn attributes_value(alloc: Global, attributes: &[Attribute]) -> Result<Value, AllocError>
-    ensures { IfOk result (λ v. view v ≡ attributes_data attributes.now) }
+    ensures { IfOk result (λ v. view v ≡ object (with_attribute_members no_members attributes.now)) }
 {
     let mut members = Map::new(alloc);
     for attribute in attributes {
