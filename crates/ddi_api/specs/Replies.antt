@@ -2,8 +2,9 @@
 use Rattle.std.specs.Prelude.{ℕ, List, []}
 use Rattle.serde_json.specs.Written.{compact_text}
 use Rattle.http_wire.specs.Replies.{reply_text as wire_text}
+use Rattle.http_wire.specs.declared.reply.ContentType.TheVariants.{Octets}
 use Rattle.rollout_machine.specs.Replies.{Reply, Refused, Done, ContentsShown, PollShown, DeploymentShown, CancelShown}
-use Rattle.mgmt_api.specs.Replies.{ReplyParts, json_reply, octets_reply, parts_of as manage_parts_of}
+use Rattle.mgmt_api.specs.Replies.{ReplyParts, file_reply, json_reply, parts_of as manage_parts_of}
 use Rattle.ddi_api.specs.Objects.{cancel_data, deployment_data, poll_data}
 
 -- a refusal and a command that has nothing to show as the management interface has them; the kinds that no request of this
@@ -11,7 +12,7 @@ use Rattle.ddi_api.specs.Objects.{cancel_data, deployment_data, poll_data}
 abbrev pub parts_of : Reply → ReplyParts
 parts_of (Refused refusal) = manage_parts_of (Refused refusal)
 parts_of Done = manage_parts_of Done
-parts_of (ContentsShown contents) = octets_reply contents
+parts_of (ContentsShown contents) = file_reply Octets contents
 parts_of (PollShown target offer) = json_reply 200 (compact_text (poll_data target offer))
 parts_of (DeploymentShown d) = json_reply 200 (compact_text (deployment_data d))
 parts_of (CancelShown action) = json_reply 200 (compact_text (cancel_data action))

@@ -5,7 +5,7 @@ ghost use Rattle.rollout_model.specs.declared.refusal.Refusal.TheVariants.{NoMem
 ghost use Rattle.rollout_machine.specs.Replies.{Done, Refused};
 ghost use Rattle.rollout_machine.specs.Views.{reply_of};
 ghost use Rattle.http_wire.specs.Replies.{answer_text};
-ghost use Rattle.mgmt_api.specs.Replies.{Has, json_reply, octets_reply};
+ghost use Rattle.mgmt_api.specs.Replies.{Has, file_reply, json_reply};
 ghost use Rattle.ddi_api.specs.Replies.{parts_of, reply_text};
 
 use crate::object::{cancel_text, deployment_text, poll_text};
@@ -33,7 +33,7 @@ fn empty_answer(alloc: Global) -> Answer
 }
 
 fn octets_answer(alloc: Global, contents: &Contents) -> Result<Answer, AllocError>
-    ensures { IfOk result (Has (octets_reply contents.now)) }
+    ensures { IfOk result (Has (file_reply ContentType.Octets contents.now)) }
 {
     let body = Vec::from_slice(alloc, contents.as_slice())?;
     Ok(Answer {

@@ -15,7 +15,7 @@ use Rattle.rollout_machine.specs.Requests.{ShowSet, ShowTargets, ShowTarget, Sho
 use Rattle.rollout_machine.specs.Requests.{ShowGroups, ShowGroup, ShowGroupTargets, ShowReport, ShowActionsTable, Asked, Rejected, Asks}
 use Rattle.rollout_machine.specs.Views.{request_of}
 use Rattle.request_target.specs.Numbers.{decimal_number}
-use Rattle.request_target.specs.Queries.{query_pairs_of}
+use Rattle.request_target.specs.Queries.{query_pairs_of, value_of}
 use Rattle.request_target.specs.Routes.{segments}
 use Rattle.mgmt_objects.specs.ModuleBodies.{module_body}
 use Rattle.mgmt_objects.specs.RolloutBodies.{rollout_body}
@@ -23,7 +23,7 @@ use Rattle.mgmt_objects.specs.SetBodies.{set_body}
 use Rattle.mgmt_objects.specs.TargetBodies.{targets_body}
 use Rattle.desk_files.specs.Imports.{targets_in_file}
 use Rattle.mgmt_api.specs.Table.{manage_route}
-use Rattle.mgmt_api.specs.Calls.{call_of}
+use Rattle.mgmt_api.specs.Calls.{calls_of}
 use Rattle.mgmt_api.specs.CancelQueries.{force_asked}
 use Rattle.mgmt_api.specs.PageQueries.{page_asked}
 use Rattle.mgmt_api.specs.TargetQueries.{selection_asked}
@@ -60,13 +60,9 @@ without_query m asked = if has_no_query m then asked else Rejected BadRequest
 abbrev pub added_by : {A : Type 0} → Option A → (A → Command) → WireMessage → Asked
 added_by body command m = without_query m (or_rejected BadRequest (λ label. Asks (Do (command label))) body)
 
--- the number that the segment at this place of the path writes
-abbrev pub path_number : WireMessage → ℕ → Option ℕ
-path_number m place = option_and_then decimal_number (slice_get (segments (path_of m.target)) place)
-
--- the number of an item, from 1 to 2,147,483,647
+-- the number of an item, from 1 to 2,147,483,647, that the segment at this place of the path writes
 abbrev pub item_in : WireMessage → ℕ → Option ℕ
-item_in m place = option_and_then (kept_if is_number) (path_number m place)
+item_in m place = option_and_then (kept_if is_number) (option_and_then decimal_number (slice_get (segments (path_of m.target)) place))
 
 -- what is asked of the item whose number stands at this place of the path; what is no such number is not found
 abbrev pub of_item : ℕ → (ℕ → Asked) → WireMessage → Asked
@@ -75,10 +71,6 @@ of_item place asked m = or_rejected NotFound asked (item_in m place)
 -- an item, and no query
 abbrev pub shown_by : (ℕ → Query) → WireMessage → Asked
 shown_by query m = of_item 4 (λ number. without_query m (Asks (Ask (query number)))) m
-
--- an artifact of a module, and no query
-abbrev pub of_artifact : (ℕ → ℕ → Query) → WireMessage → Asked
-of_artifact query m = of_item 4 (λ number. of_item 6 (λ artifact. without_query m (Asks (Ask (query number artifact)))) m) m
 
 -- the word that the segment at this place of the path is
 abbrev pub path_word : WireMessage → ℕ → Option (List ℕ)
@@ -96,25 +88,13 @@ of_tag command m = of_word 4 (λ id. of_word 6 (λ tag. without_query m (Asks (D
 abbrev pub of_action : (List ℕ → ℕ → Asked) → WireMessage → Asked
 of_action asked m = of_word 4 (λ id. of_item 6 (λ action. asked id action) m) m
 
--- what is asked of a group of a rollout
-abbrev pub of_group : (ℕ → ℕ → Asked) → WireMessage → Asked
-of_group asked m = of_item 4 (λ number. of_item 6 (λ group. asked number group) m) m
-
--- the cancel of an action, forced or not
-abbrev pub canceled_by : List ℕ → ℕ → WireMessage → Asked
-canceled_by id action m = or_rejected BadRequest (λ force. Asks (Do (Cancel id action force))) (force_asked (query_text m.target))
+-- what is asked of an artifact of a module, or of a group of a rollout
+abbrev pub of_part : (ℕ → ℕ → Asked) → WireMessage → Asked
+of_part asked m = of_item 4 (λ number. of_item 6 (λ part. asked number part) m) m
 
 -- a page of a list
 abbrev pub listed_by : (Page → Query) → WireMessage → Asked
 listed_by query m = or_rejected BadRequest (λ page. Asks (Ask (query page))) (page_asked (query_text m.target))
-
--- a page of the targets that match a filter, or of all
-abbrev pub selected_by : WireMessage → Asked
-selected_by m = or_rejected BadRequest (λ selection. Asks (Ask (ShowTargets selection.filter_text selection.page))) (selection_asked (query_text m.target))
-
--- an artifact for a module
-abbrev pub uploaded_to : ℕ → WireMessage → Asked
-uploaded_to number m = or_rejected BadRequest (λ upload. Asks (Do (AddArtifact upload))) (upload_asked number (query_text m.target) m.body)
 
 -- a file of targets, or the line that it is refused by
 abbrev pub import_asked : Result (List TargetRow) ℕ → Asked
@@ -126,28 +106,31 @@ asked_by ShowModulesCall m = listed_by ShowModules m
 asked_by AddModuleCall m = added_by (module_body m.body) AddModule m
 asked_by ShowModuleCall m = shown_by ShowModule m
 asked_by ShowArtifactsCall m = of_item 4 (λ number. listed_by (ShowArtifacts number) m) m
-asked_by AddArtifactCall m = of_item 4 (λ number. uploaded_to number m) m
-asked_by ShowArtifactCall m = of_artifact ShowArtifact m
-asked_by ShowContentsCall m = of_artifact ShowContents m
+asked_by AddArtifactCall m =
+    of_item 4 (λ number. or_rejected BadRequest (λ upload. Asks (Do (AddArtifact upload))) (upload_asked number (query_text m.target) m.body)) m
+asked_by ShowArtifactCall m = of_part (λ number artifact. without_query m (Asks (Ask (ShowArtifact number artifact)))) m
+asked_by ShowContentsCall m = of_part (λ number artifact. without_query m (Asks (Ask (ShowContents number artifact)))) m
 asked_by ShowSetsCall m = listed_by ShowSets m
 asked_by AddSetCall m = added_by (set_body m.body) AddSet m
 asked_by ShowSetCall m = shown_by ShowSet m
-asked_by ShowTargetsCall m = selected_by m
+asked_by ShowTargetsCall m =
+    or_rejected BadRequest (λ selection. Asks (Ask (ShowTargets selection.filter_text selection.page))) (selection_asked (query_text m.target))
 asked_by PutTargetsCall m = added_by (targets_body m.body) PutTargets m
 asked_by ShowTargetCall m = of_word 4 (λ id. without_query m (Asks (Ask (ShowTarget id)))) m
 asked_by TagCall m = of_tag Tag m
 asked_by UntagCall m = of_tag Untag m
 asked_by ShowTargetActionsCall m = of_word 4 (λ id. listed_by (ShowTargetActions id) m) m
 asked_by ShowActionCall m = of_action (λ id action. without_query m (Asks (Ask (ShowAction id action)))) m
-asked_by CancelAction m = of_action (λ id action. canceled_by id action m) m
+asked_by CancelAction m =
+    of_action (λ id action. or_rejected BadRequest (λ force. Asks (Do (Cancel id action force))) (force_asked (query_text m.target))) m
 asked_by ShowHistoryCall m = of_action (λ id action. listed_by (ShowHistory id action) m) m
 asked_by ShowRolloutsCall m = listed_by ShowRollouts m
 asked_by CreateRolloutCall m = added_by (rollout_body m.body) CreateRollout m
 asked_by ShowRolloutCall m = shown_by ShowRollout m
 asked_by (TurnRollout turn) m = of_item 4 (λ number. without_query m (Asks (Do (turn_command turn number)))) m
 asked_by ShowGroupsCall m = of_item 4 (λ number. listed_by (ShowGroups number) m) m
-asked_by ShowGroupCall m = of_group (λ number group. without_query m (Asks (Ask (ShowGroup number group)))) m
-asked_by ShowGroupTargetsCall m = of_group (λ number group. listed_by (ShowGroupTargets number group) m) m
+asked_by ShowGroupCall m = of_part (λ number group. without_query m (Asks (Ask (ShowGroup number group)))) m
+asked_by ShowGroupTargetsCall m = of_part (λ number group. listed_by (ShowGroupTargets number group) m) m
 asked_by ShowReportCall m = shown_by ShowReport m
 asked_by ShowActionsTableCall m = shown_by ShowActionsTable m
 asked_by ImportCall m = without_query m (import_asked (targets_in_file m.body))
@@ -155,7 +138,7 @@ asked_by ImportCall m = without_query m (import_asked (targets_in_file m.body))
 -- the first refusal that applies: the route, the method, and then the call's own
 abbrev pub manage_reading : WireMessage → Asked
 manage_reading m =
-    or_rejected NotFound (λ route. or_rejected BadMethod (λ call. asked_by call m) (call_of route m.method))
+    or_rejected NotFound (λ route. or_rejected BadMethod (λ call. asked_by call m) (value_of m.method (calls_of route)))
     (manage_route (path_of m.target))
 
 -- what a reader refuses by, beside want of memory

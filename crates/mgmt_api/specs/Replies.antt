@@ -44,10 +44,6 @@ page_reply shows page = json_reply 200 (compact_text (page_data (map shows page.
 abbrev pub file_reply : ContentType → List ℕ → ReplyParts
 file_reply content_type body = record { status = 200; content_type = content_type; ends = false; body = body }
 
--- the bytes of contents as they are
-abbrev pub octets_reply : List ℕ → ReplyParts
-octets_reply contents = file_reply Octets contents
-
 -- how many rows of targets were put
 abbrev pub put_reply : ℕ → ℕ → ReplyParts
 put_reply status accepted = json_reply status (compact_text (accepted_data accepted))
@@ -70,7 +66,7 @@ parts_of (ModulesShown page) = page_reply module_data page
 parts_of (ArtifactAdded a) = json_reply 201 (compact_text (artifact_data a))
 parts_of (ArtifactShown a) = json_reply 200 (compact_text (artifact_data a))
 parts_of (ArtifactsShown page) = page_reply artifact_data page
-parts_of (ContentsShown contents) = octets_reply contents
+parts_of (ContentsShown contents) = file_reply Octets contents
 parts_of (SetAdded s) = json_reply 201 (compact_text (single (set_data s)))
 parts_of (SetShown s) = json_reply 200 (compact_text (set_data s))
 parts_of (SetsShown page) = page_reply set_data page
@@ -90,17 +86,9 @@ parts_of (ReportShown report) = file_reply Text (report_lines report.rollout rep
 parts_of (ActionsTableShown actions) = file_reply Csv (table_text actions)
 parts_of _ = json_reply 200 []
 
--- whether a message hands in a file of targets
-abbrev pub is_import : WireMessage → Bool
-is_import m = bytes_eq (path_of m.target) import_path
-
--- the status of targets that were put: 200 where they came as a file
-abbrev pub put_status : WireMessage → ℕ
-put_status m = if is_import m then 200 else 201
-
--- the reply to a message: its call says by which status targets are put, all else is the reply's own
+-- the reply to a message: targets that came as a file are put by the status 200, all else is the reply's own
 abbrev pub parts_to : WireMessage → Reply → ReplyParts
-parts_to m (TargetsPut accepted) = put_reply (put_status m) accepted
+parts_to m (TargetsPut accepted) = put_reply (if bytes_eq (path_of m.target) import_path then 200 else 201) accepted
 parts_to m reply = parts_of reply
 
 -- its whole text on the wire

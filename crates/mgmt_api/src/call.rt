@@ -1,7 +1,8 @@
 //! The calls: what a route is asked by a method.
 
-ghost use Rattle.std.specs.Prelude.{◌≡◌};
-ghost use Rattle.mgmt_api.specs.Calls.{call_of, of_action, of_list, of_tag, only_by};
+ghost use Rattle.std.specs.Prelude.{◌≡◌, [], ◌∷◌, codes};
+ghost use Rattle.mgmt_api.specs.Calls.{calls_of};
+ghost use Rattle.request_target.specs.Queries.{value_of};
 
 use crate::routes::ManageRoute;
 use crate::turn::RolloutTurn;
@@ -71,9 +72,9 @@ pub enum ManageCall {
 
 /// The call of a route that has one method.
 fn only_by(its_method: &[u8], call: ManageCall, method: &[u8]) -> Option<ManageCall>
-    ensures { result ≡ only_by its_method.now call method.now }
+    ensures { result ≡ value_of method.now ((its_method.now, call) ∷ []) }
 {
-    if method == its_method {
+    if its_method == method {
         Some(call)
     } else {
         None
@@ -82,9 +83,9 @@ fn only_by(its_method: &[u8], call: ManageCall, method: &[u8]) -> Option<ManageC
 
 /// The call of a list's route, which shows the list or adds to it.
 fn of_list(shown: ManageCall, added: ManageCall, method: &[u8]) -> Option<ManageCall>
-    ensures { result ≡ of_list shown added method.now }
+    ensures { result ≡ value_of method.now ((codes "GET", shown) ∷ (codes "POST", added) ∷ []) }
 {
-    if method == b"GET".as_slice() {
+    if b"GET".as_slice() == method {
         Some(shown)
     } else {
         only_by(b"POST", added, method)
@@ -93,9 +94,9 @@ fn of_list(shown: ManageCall, added: ManageCall, method: &[u8]) -> Option<Manage
 
 /// The call of a tag's route, which gives the tag or takes it.
 fn of_tag(method: &[u8]) -> Option<ManageCall>
-    ensures { result ≡ of_tag method.now }
+    ensures { result ≡ value_of method.now ((codes "POST", ManageCall.Tag) ∷ (codes "DELETE", ManageCall.Untag) ∷ []) }
 {
-    if method == b"POST".as_slice() {
+    if b"POST".as_slice() == method {
         Some(ManageCall::Tag)
     } else {
         only_by(b"DELETE", ManageCall::Untag, method)
@@ -104,9 +105,9 @@ fn of_tag(method: &[u8]) -> Option<ManageCall>
 
 /// The call of an action's route, which shows the action or cancels it.
 fn of_action(method: &[u8]) -> Option<ManageCall>
-    ensures { result ≡ of_action method.now }
+    ensures { result ≡ value_of method.now ((codes "GET", ManageCall.ShowAction) ∷ (codes "DELETE", ManageCall.CancelAction) ∷ []) }
 {
-    if method == b"GET".as_slice() {
+    if b"GET".as_slice() == method {
         Some(ManageCall::ShowAction)
     } else {
         only_by(b"DELETE", ManageCall::CancelAction, method)
@@ -115,7 +116,7 @@ fn of_action(method: &[u8]) -> Option<ManageCall>
 
 /// The call of a route by a method, if the route has the method.
 pub fn call_of(route: ManageRoute, method: &[u8]) -> Option<ManageCall>
-    ensures { result ≡ call_of route method.now }
+    ensures { result ≡ value_of method.now (calls_of route) }
 {
     match route {
         ManageRoute::Modules => of_list(ManageCall::ShowModules, ManageCall::AddModule, method),

@@ -1,9 +1,10 @@
 //! Whether a cancel is forced.
 
-ghost use Rattle.std.specs.Prelude.{◌≡◌, map, option_map};
+ghost use Rattle.std.specs.Prelude.{◌≡◌, codes, map, option_map};
 ghost use Rattle.request_target.specs.Pairs.{seen};
 ghost use Rattle.mgmt_objects.specs.Readings.{ReadsAs};
-ghost use Rattle.mgmt_api.specs.CancelQueries.{force_asked, force_of, truth_or_false};
+ghost use Rattle.mgmt_api.specs.CancelQueries.{force_asked, truth_or_false};
+ghost use Rattle.request_target.specs.Queries.{value_of};
 
 use request_target::{read_query, value_of};
 use rollout_model::Refusal;
@@ -22,7 +23,7 @@ fn truth_or_false(text: Option<&str>) -> Option<bool>
 }
 
 fn force_of(pairs: &[(String, String)]) -> Option<bool>
-    ensures { result ≡ force_of (map seen pairs.now) }
+    ensures { result ≡ truth_or_false (value_of (codes "force") (map seen pairs.now)) }
 {
     truth_or_false(value_of(pairs, "force"))
 }

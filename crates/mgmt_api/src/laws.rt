@@ -21,7 +21,11 @@ pub fn refused_text()
 
 /// A worked reply, letter by letter.
 pub fn worked_module_added()
-    ensures { (parts_of (ModuleAdded (record { number = 1; locked = false; label =
-        record { name = codes "app"; kind = codes "os"; version = codes "1.0" } }))).body
+    ensures { (parts_of (ModuleAdded (record {
+      number = 1;
+      locked = false;
+      label =
+          record { name = codes "app"; kind = codes "os"; version = codes "1.0" };
+    }))).body
         ≡ codes "[{\"id\":1,\"locked\":false,\"name\":\"app\",\"type\":\"os\",\"version\":\"1.0\"}]" }
 {}

@@ -1,9 +1,11 @@
 //! The page that a query asks for.
 
-ghost use Rattle.std.specs.Prelude.{◌≡◌, map};
+ghost use Rattle.std.specs.Prelude.{◌≡◌, codes, map};
 ghost use Rattle.request_target.specs.Pairs.{seen};
 ghost use Rattle.mgmt_objects.specs.Readings.{ReadsAs};
-ghost use Rattle.mgmt_api.specs.PageQueries.{limit_of, offset_of, page_asked, query_page};
+ghost use Rattle.mgmt_api.specs.PageQueries.{page_asked, query_page};
+ghost use Rattle.request_target.specs.Queries.{number_or, value_of};
+ghost use Rattle.rollout_model.specs.Limits.{limits};
 
 use request_target::{number_or, read_query, value_of};
 use rollout_model::limits::{NUMBER_LIMIT, PAGE_DEFAULT, PAGE_LIMIT};
@@ -11,13 +13,13 @@ use rollout_model::{Page, Refusal};
 use std::alloc::Global;
 
 fn offset_of(pairs: &[(String, String)]) -> Option<u32>
-    ensures { result ≡ offset_of (map seen pairs.now) }
+    ensures { result ≡ number_or 0 limits.number 0 (value_of (codes "offset") (map seen pairs.now)) }
 {
     number_or(0, NUMBER_LIMIT, 0, value_of(pairs, "offset"))
 }
 
 fn limit_of(pairs: &[(String, String)]) -> Option<u32>
-    ensures { result ≡ limit_of (map seen pairs.now) }
+    ensures { result ≡ number_or 1 limits.page limits.page_default (value_of (codes "limit") (map seen pairs.now)) }
 {
     number_or(1, PAGE_LIMIT, PAGE_DEFAULT, value_of(pairs, "limit"))
 }

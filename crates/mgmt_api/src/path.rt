@@ -1,9 +1,12 @@
 //! What stands in a path, and whether there is a query.
 
-ghost use Rattle.std.specs.Prelude.{◌≡◌, option_and_then, option_map};
+ghost use Rattle.std.specs.Prelude.{◌≡◌, slice_get, option_and_then, option_map};
 ghost use Rattle.rollout_model.specs.Rules.{kept_if, is_word};
 ghost use Rattle.http_wire.specs.Inbox.{message_of};
-ghost use Rattle.mgmt_api.specs.Reading.{TakesNoQuery, item_in, path_number, path_word};
+ghost use Rattle.mgmt_api.specs.Reading.{TakesNoQuery, item_in, path_word};
+ghost use Rattle.http_wire.specs.Targets.{path_of};
+ghost use Rattle.request_target.specs.Numbers.{decimal_number};
+ghost use Rattle.request_target.specs.Routes.{segments};
 
 use http_wire::Message;
 use request_target::{number_at, segment_at, takes_query};
@@ -24,7 +27,7 @@ pub(crate) fn take_no_query(alloc: Global, message: &Message<'_>) -> Result<(), 
 
 /// The number that the segment at a place writes, the empty one before the first slash at 0.
 fn read_path_number(message: &Message<'_>, place: usize) -> Option<u32>
-    ensures { result ≡ path_number (message_of message.now) place }
+    ensures { result ≡ option_and_then decimal_number (slice_get (segments (path_of (message_of message.now).target)) place) }
 {
     number_at(message.path(), place)
 }

@@ -1,6 +1,6 @@
 //! From a reply to its status, its content type and its body.
 
-ghost use Rattle.std.specs.Prelude.{◌≡◌, [], false, IfOk, IfErr, string_bytes};
+ghost use Rattle.std.specs.Prelude.{◌≡◌, [], bytes_eq, if◌then◌else◌, false, IfOk, IfErr, string_bytes};
 ghost use Rattle.serde_json.specs.Written.{compact_text};
 ghost use Rattle.rollout_model.specs.declared.refusal.Refusal.TheVariants.{NoMemory};
 ghost use Rattle.rollout_machine.specs.Replies.{ActionsTableShown, Done, Refused, ReportShown};
@@ -8,7 +8,9 @@ ghost use Rattle.rollout_machine.specs.Views.{listed, listed_targets, reply_of, 
 ghost use Rattle.http_wire.specs.Inbox.{message_of};
 ghost use Rattle.http_wire.specs.Replies.{answer_text};
 ghost use Rattle.mgmt_objects.specs.Pages.{single};
-ghost use Rattle.mgmt_api.specs.Replies.{GivesAnswer, Has, file_reply, is_import, parts_of, parts_to, put_status, reply_text, json_reply, octets_reply};
+ghost use Rattle.mgmt_api.specs.Replies.{GivesAnswer, Has, file_reply, parts_of, parts_to, reply_text, json_reply};
+ghost use Rattle.http_wire.specs.Targets.{path_of};
+ghost use Rattle.mgmt_api.specs.Routes.{import_path};
 ghost use Rattle.mgmt_api.specs.Replies.{page_reply, put_reply, shown_target_data};
 
 use desk_files::{actions_csv, rollout_report};
@@ -67,7 +69,7 @@ fn targets_answer(alloc: Global, page: &PageOf<ShownTarget>) -> Result<Answer, R
 }
 
 fn octets_answer(alloc: Global, contents: &Contents) -> Result<Answer, Refusal>
-    ensures { GivesAnswer (octets_reply contents.now) result }
+    ensures { GivesAnswer (file_reply ContentType.Octets contents.now) result }
 {
     let body = Vec::from_slice(alloc, contents.as_slice())?;
     Ok(file_answer(ContentType::Octets, body))
@@ -160,13 +162,13 @@ pub fn manage_reply(alloc: Global, reply: &Reply) -> Result<Answer, Refusal>
 
 /// Whether a message hands in a file of targets.
 fn is_import(message: &Message<'_>) -> bool
-    ensures { result ≡ is_import (message_of message.now) }
+    ensures { result ≡ bytes_eq (path_of (message_of message.now).target) import_path }
 {
     message.path() == b"/desk/v1/import".as_slice()
 }
 
 fn put_status(message: &Message<'_>) -> StatusCode
-    ensures { result ≡ put_status (message_of message.now) }
+    ensures { result ≡ (if bytes_eq (path_of (message_of message.now).target) import_path then 200 else 201) }
 {
     if is_import(message) {
         StatusCode::OK

@@ -1,9 +1,11 @@
 //! The targets that a query asks for.
 
-ghost use Rattle.std.specs.Prelude.{◌≡◌, IfOk, map};
+ghost use Rattle.std.specs.Prelude.{◌≡◌, codes, IfOk, map, option_map};
 ghost use Rattle.request_target.specs.Pairs.{seen};
 ghost use Rattle.mgmt_objects.specs.Readings.{ReadsAs};
-ghost use Rattle.mgmt_api.specs.TargetQueries.{filter_given, selection_asked, selection_of};
+ghost use Rattle.mgmt_api.specs.TargetQueries.{selection_asked};
+ghost use Rattle.mgmt_api.specs.PageQueries.{query_page};
+ghost use Rattle.request_target.specs.Queries.{value_of};
 
 use crate::page_query::page_of;
 use request_target::{read_query, value_of};
@@ -19,7 +21,7 @@ pub(crate) struct Selection {
 
 /// The text of `q`: any text, an empty one too.
 fn filter_given(alloc: Global, pairs: &[(String, String)]) -> Result<Option<FilterText>, AllocError>
-    ensures { IfOk result (λ given. given ≡ filter_given (map seen pairs.now)) }
+    ensures { IfOk result (λ given. given ≡ value_of (codes "q") (map seen pairs.now)) }
 {
     match value_of(pairs, "q") {
         None => Ok(None),
@@ -31,7 +33,8 @@ fn filter_given(alloc: Global, pairs: &[(String, String)]) -> Result<Option<Filt
 }
 
 fn selection_of(alloc: Global, pairs: &[(String, String)]) -> Result<Selection, Refusal>
-    ensures { ReadsAs (selection_of (map seen pairs.now)) result }
+    ensures { ReadsAs (option_map (λ page. record { filter_text = value_of (codes "q") (map seen pairs.now); page = page })
+        (query_page (map seen pairs.now))) result }
 {
     let Some(page) = page_of(pairs) else {
         return Err(Refusal::BadRequest);

@@ -1,10 +1,13 @@
 //! What a message uploads, by its query and its body.
 
-ghost use Rattle.std.specs.Prelude.{◌≡◌, map};
+ghost use Rattle.std.specs.Prelude.{◌≡◌, codes, map, option_and_then};
 ghost use Rattle.request_target.specs.Pairs.{seen};
 ghost use Rattle.mgmt_objects.specs.Readings.{ReadsAs};
-ghost use Rattle.rollout_model.specs.Rules.{kept_if, is_contents};
-ghost use Rattle.mgmt_api.specs.UploadQueries.{digest_expected, filename_given, upload_asked, upload_of};
+ghost use Rattle.rollout_model.specs.Rules.{kept_if, is_contents, is_filename};
+ghost use Rattle.mgmt_api.specs.UploadQueries.{upload_asked, upload_of};
+ghost use Rattle.artifact_pieces.specs.Digests.{digest_named};
+ghost use Rattle.mgmt_objects.specs.Bodies.{if_given};
+ghost use Rattle.request_target.specs.Queries.{value_of};
 
 use artifact_pieces::read_digest;
 use request_target::{read_query, value_of};
@@ -12,7 +15,7 @@ use rollout_model::{Contents, Digest, Filename, ModuleNo, Refusal, Upload};
 use std::alloc::Global;
 
 fn filename_given(pairs: &[(String, String)]) -> Option<Filename>
-    ensures { result ≡ filename_given (map seen pairs.now) }
+    ensures { result ≡ option_and_then (kept_if is_filename) (value_of (codes "filename") (map seen pairs.now)) }
 {
     let text = value_of(pairs, "filename")?;
     Filename::read(text)
@@ -20,7 +23,7 @@ fn filename_given(pairs: &[(String, String)]) -> Option<Filename>
 
 /// `Some(None)` where no digest is given, `None` where what is given is none.
 fn digest_expected(pairs: &[(String, String)]) -> Option<Option<Digest>>
-    ensures { result ≡ digest_expected (map seen pairs.now) }
+    ensures { result ≡ if_given digest_named (value_of (codes "sha256") (map seen pairs.now)) }
 {
     match value_of(pairs, "sha256") {
         None => Some(None),
