@@ -7,30 +7,26 @@ use Rattle.rollout_model.specs.Rules.{kept_if, is_value, is_word}
 use Rattle.rollout_model.specs.declared.target.Attribute.{Attribute}
 use Rattle.mgmt_objects.specs.Bodies.{body_data}
 
-abbrev pub new_attribute : List ℕ → List ℕ → Attribute
-new_attribute key value = record { key = key; value = value }
-
 -- a key that is a word, and a value of attributes
 abbrev pub attribute_of : List ℕ → Data → Option Attribute
-attribute_of key d = option_and_then (λ word. option_map (λ value. new_attribute word value) (option_and_then (kept_if is_value) (as_str d)))
-    (kept_if is_word key)
+attribute_of key d =
+    option_and_then (λ word. option_map (λ value. record { key = word; value = value }) (option_and_then (kept_if is_value) (as_str d))) (kept_if is_word key)
 
 -- the members of an object, which has each key once, by their keys in byte order
 abbrev pub member_attributes : Members → Option (List Attribute)
 member_attributes no_members = Some []
 member_attributes (member key d members) = option_and_then (λ attribute. option_map (λ more. attribute ∷ more) (member_attributes members)) (attribute_of key d)
 
--- at most 32 attributes
-abbrev pub data_member : Data → Option (List Attribute)
-data_member d = option_and_then (kept_if is_config_data) (option_and_then member_attributes (option_and_then as_object (get (codes "data") d)))
-
 abbrev pub is_merge : Option Data → Bool
 is_merge None = true
 is_merge (Some d) = unwrap_or (option_map (λ mode. bytes_eq mode (codes "merge")) (as_str d)) false
 
--- an object's `data`, where its `mode` is `merge` or missing
+-- an object's `data`, at most 32 attributes, where its `mode` is `merge` or missing
 abbrev pub config_of : Data → Option (List Attribute)
-config_of d = if is_merge (get (codes "mode") d) then data_member d else None
+config_of d =
+    if is_merge (get (codes "mode") d)
+    then option_and_then (kept_if is_config_data) (option_and_then member_attributes (option_and_then as_object (get (codes "data") d)))
+    else None
 
 abbrev pub config_body : List ℕ → Option (List Attribute)
 config_body bytes = option_and_then config_of (body_data bytes)

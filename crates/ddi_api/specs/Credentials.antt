@@ -14,17 +14,12 @@ scheme = codes "TargetToken "
 abbrev pub after_scheme : List ℕ → Option (List ℕ)
 after_scheme value = if bytes_eq (take (length scheme) value) scheme then Some (drop (length scheme) value) else None
 
--- the value of the field, where there is exactly one
-abbrev pub authorization_of : WireMessage → Option (List ℕ)
-authorization_of m = sole_value (codes "authorization") m.fields
-
 -- the digest of the token that such a value shows
 abbrev pub digest_of_value : List ℕ → Option (List ℕ)
 digest_of_value value = option_map digest_of (option_and_then (kept_if is_token) (after_scheme value))
 
-abbrev pub digest_shown : WireMessage → Option (List ℕ)
-digest_shown m = option_and_then digest_of_value (authorization_of m)
-
--- the id in the path, and the digest of the token
+-- the id in the path, and the digest of the token in the field, where there is exactly one
 abbrev pub credential_of : WireMessage → Option Credential
-credential_of m = option_and_then (λ id. option_map (λ digest. record { id = id; digest = digest }) (digest_shown m)) (path_word m 4)
+credential_of m =
+    option_and_then (λ id. option_map (λ digest. record { id = id; digest = digest })
+    (option_and_then digest_of_value (sole_value (codes "authorization") m.fields))) (path_word m 4)

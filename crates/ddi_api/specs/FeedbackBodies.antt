@@ -6,80 +6,52 @@ use Rattle.rollout_model.specs.Rules.{kept_if, is_detail, are_details, is_feedba
 use Rattle.rollout_model.specs.declared.feedback.DeviceFeedback.{DeviceFeedback}
 use Rattle.rollout_machine.specs.Commands.{Credential, Proceeding, Scheduled, Resumed, DeploymentWord, Succeeded, Failed, Rejected, Noted, CancelWord}
 use Rattle.rollout_machine.specs.Commands.{ClosedCancel, CanceledCancel, RejectedCancel, NotedCancel}
-use Rattle.mgmt_objects.specs.Bodies.{body_data, if_given, whole_of}
-use Rattle.mgmt_objects.specs.Traverse.{array_of}
+use Rattle.mgmt_objects.specs.Bodies.{body_data, if_given, string_member, whole_of}
+use Rattle.mgmt_objects.specs.Traverse.{array_if_given}
 
--- `execution` and `finished`, and the word that the two say
-abbrev pub Row : Type 0 → Type 0
-Row W = List ℕ × List ℕ × W
+-- the word of a pair of `execution` and `finished`, if it has a row
+abbrev pub word_by_rows : {W : Type 0} → List (List ℕ × List ℕ × W) → List ℕ → List ℕ → Option W
+word_by_rows [] execution finished = None
+word_by_rows (row ∷ rows) execution finished = if bytes_eq execution row.0 && bytes_eq finished row.1 then Some row.2 else word_by_rows rows execution finished
 
-abbrev pub deployment_rows : List (Row DeploymentWord)
-deployment_rows =
+abbrev pub deployment_word : List ℕ → List ℕ → Option DeploymentWord
+deployment_word execution finished = word_by_rows (
     (codes "closed", codes "success", Succeeded)
     ∷ (codes "closed", codes "failure", Failed)
     ∷ (codes "proceeding", codes "none", Noted Proceeding)
     ∷ (codes "scheduled", codes "none", Noted Scheduled)
     ∷ (codes "resumed", codes "none", Noted Resumed)
-    ∷ (codes "rejected", codes "none", Rejected) ∷ []
+    ∷ (codes "rejected", codes "none", Rejected) ∷ []) execution finished
 
-abbrev pub cancel_rows : List (Row CancelWord)
-cancel_rows =
+abbrev pub cancel_word : List ℕ → List ℕ → Option CancelWord
+cancel_word execution finished = word_by_rows (
     (codes "closed", codes "success", ClosedCancel)
     ∷ (codes "canceled", codes "success", CanceledCancel)
     ∷ (codes "rejected", codes "none", RejectedCancel)
     ∷ (codes "proceeding", codes "none", NotedCancel Proceeding)
     ∷ (codes "scheduled", codes "none", NotedCancel Scheduled)
-    ∷ (codes "resumed", codes "none", NotedCancel Resumed) ∷ []
+    ∷ (codes "resumed", codes "none", NotedCancel Resumed) ∷ []) execution finished
 
--- the word of a pair, if it has a row
-abbrev pub word_by_rows : {W : Type 0} → List (Row W) → List ℕ → List ℕ → Option W
-word_by_rows [] execution finished = None
-word_by_rows (row ∷ rows) execution finished = if bytes_eq execution row.0 && bytes_eq finished row.1 then Some row.2 else word_by_rows rows execution finished
-
-abbrev pub deployment_word : List ℕ → List ℕ → Option DeploymentWord
-deployment_word execution finished = word_by_rows deployment_rows execution finished
-
-abbrev pub cancel_word : List ℕ → List ℕ → Option CancelWord
-cancel_word execution finished = word_by_rows cancel_rows execution finished
-
--- a member that is a text
-abbrev pub string_member : List ℕ → Data → Option (List ℕ)
-string_member key d = option_and_then as_str (get key d)
-
--- `finished` stands in the object `result`
-abbrev pub finished_in : Data → Option (List ℕ)
-finished_in status = option_and_then (string_member (codes "finished")) (get (codes "result") status)
-
+-- `execution` stands in `status`, and `finished` in its object `result`
 abbrev pub status_word : {W : Type 0} → (List ℕ → List ℕ → Option W) → Data → Option W
-status_word words status = option_and_then (λ execution. option_and_then (words execution) (finished_in status)) (string_member (codes "execution") status)
+status_word words status =
+    option_and_then (λ execution. option_and_then (words execution)
+    (option_and_then (string_member (codes "finished")) (get (codes "result") status))) (string_member (codes "execution") status)
 
 -- a value that is a line
 abbrev pub detail_in : Data → Option (List ℕ)
 detail_in d = option_and_then (kept_if is_detail) (as_str d)
 
-abbrev pub lines_if : Option Data → Option (List (List ℕ))
-lines_if None = Some []
-lines_if (Some d) = array_of detail_in d
-
--- at most 8 lines, and none where `details` is missing
-abbrev pub details_member : Data → Option (List (List ℕ))
-details_member status = option_and_then (kept_if are_details) (lines_if (get (codes "details") status))
-
--- the number of a feedback
-abbrev pub json_feedback_number : Data → Option ℕ
-json_feedback_number d = option_and_then (kept_if is_feedback_number) (whole_of d)
-
 -- the number that the device gave, which stands beside `status`, and none where it is missing
 abbrev pub number_given : Data → Option (Option ℕ)
-number_given d = if_given json_feedback_number (get (codes "number") d)
+number_given d = if_given (λ d. option_and_then (kept_if is_feedback_number) (whole_of d)) (get (codes "number") d)
 
-abbrev pub new_feedback : {W : Type 0} → Credential → ℕ → W → List (List ℕ) → Option ℕ → DeviceFeedback W
-new_feedback device action word details number = record { credential = device; action = action; word = word; details = details; number = number }
-
--- what `status` says of an action, beside the number
+-- what `status` says of an action, beside the number: a word, and at most 8 lines
 abbrev pub feedback_of : {W : Type 0} → (List ℕ → List ℕ → Option W) → Credential → ℕ → Option ℕ → Data → Option (DeviceFeedback W)
-feedback_of words device action number status = option_and_then (λ word. option_map (λ details. new_feedback device action word details number)
-    (details_member status)) (status_word words status)
+feedback_of words device action number status =
+    option_and_then (λ word. option_map
+    (λ details. record { credential = device; action = action; word = word; details = details; number = number })
+    (option_and_then (kept_if are_details) (array_if_given detail_in (get (codes "details") status)))) (status_word words status)
 
 -- an object with `status`, and perhaps `number`
 abbrev pub feedback_in : {W : Type 0} → (List ℕ → List ℕ → Option W) → Credential → ℕ → Data → Option (DeviceFeedback W)

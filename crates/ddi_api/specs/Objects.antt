@@ -45,13 +45,10 @@ abbrev pub cancel_data : ℕ → Data
 cancel_data action = object (member (codes "cancelAction") (object (member (codes "stopId") (string (decimal action)) no_members))
     (member (codes "id") (string (decimal action)) no_members))
 
-abbrev pub download_data : List ℕ → ℕ → List ℕ → Data
-download_data id module_number filename = object (member (codes "download-http") (link_data (download_path id module_number filename)) no_members)
-
 -- an artifact of a module, as the device of this id downloads it
 abbrev pub device_artifact_data : List ℕ → ℕ → Artifact → Data
 device_artifact_data id module_number a =
-    object (member (codes "_links") (download_data id module_number a.filename)
+    object (member (codes "_links") (object (member (codes "download-http") (link_data (download_path id module_number a.filename)) no_members))
     (member (codes "filename") (string a.filename) (member (codes "hashes") (hashes_data a) (member (codes "size") (whole a.size) no_members))))
 
 abbrev pub chunk_data : List ℕ → Chunk → Data

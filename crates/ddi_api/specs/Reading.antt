@@ -1,5 +1,5 @@
 -- What a message of the device interface asks.
-use Rattle.std.specs.Prelude.{◌≡◌, ◌⊎◌, ℕ, List, bytes_eq, if◌then◌else◌, Option, Result, MatchResult, option_and_then, slice_get}
+use Rattle.std.specs.Prelude.{◌≡◌, ◌⊎◌, bytes_eq, if◌then◌else◌, Result, MatchResult, option_and_then, slice_get}
 use Rattle.http_wire.specs.Messages.{WireMessage}
 use Rattle.http_wire.specs.Targets.{path_of}
 use Rattle.rollout_model.specs.declared.refusal.Refusal.{Refusal}
@@ -20,17 +20,15 @@ use Rattle.ddi_api.specs.ConfigBodies.{config_body}
 use Rattle.ddi_api.specs.declared.call.DeviceCall.{DeviceCall}
 use Rattle.ddi_api.specs.declared.call.DeviceCall.TheVariants as call
 
--- the filename that the segment at this place of the path is
-abbrev pub filename_in : WireMessage → ℕ → Option (List ℕ)
-filename_in m place = option_and_then (kept_if is_filename) (slice_get (segments (path_of m.target)) place)
-
 -- no query
 abbrev pub shown_to_device : Query → WireMessage → Asked
 shown_to_device query m = without_query m (Asks (Ask query))
 
 -- an artifact of a module, by its filename, and no query
 abbrev pub downloaded_by : Credential → WireMessage → Asked
-downloaded_by device m = of_item 6 (λ number. or_rejected NotFound (λ filename. shown_to_device (Download device number filename) m) (filename_in m 8)) m
+downloaded_by device m =
+    of_item 6 (λ number. or_rejected NotFound (λ filename. shown_to_device (Download device number filename) m)
+    (option_and_then (kept_if is_filename) (slice_get (segments (path_of m.target)) 8))) m
 
 -- what a device asks once it has said who it is: an action or an artifact is found in the path, no query is taken, and the
 -- body is looked at last
@@ -43,13 +41,12 @@ asked_by_device call.CancelFeedback device m = of_item 6 (λ action. added_by (f
 asked_by_device call.PutAttributes device m = added_by (config_body m.body) (PutAttributes device) m
 asked_by_device call.Download device m = downloaded_by device m
 
--- who the device says it is, and then the call's own
-abbrev pub asked_by_one : DeviceCall → WireMessage → Asked
-asked_by_one called m = or_rejected Unauthorized (λ device. asked_by_device called device m) (credential_of m)
-
--- the call's one method comes first
+-- the call's one method comes first, then who the device says it is, and then the call's own
 abbrev pub asked_of : DeviceCall → WireMessage → Asked
-asked_of called m = if bytes_eq m.method (method_of called) then asked_by_one called m else Rejected BadMethod
+asked_of called m =
+    if bytes_eq m.method (method_of called)
+    then or_rejected Unauthorized (λ device. asked_by_device called device m) (credential_of m)
+    else Rejected BadMethod
 
 -- the first refusal that applies: the route, the method, who the device says it is, and then the call's own
 abbrev pub device_reading : WireMessage → Asked

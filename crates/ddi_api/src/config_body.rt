@@ -4,7 +4,9 @@ ghost use Rattle.std.specs.Prelude.{◌≡◌, codes, option_and_then, option_ma
 ghost use Rattle.serde_json.specs.Find.{as_object, get};
 ghost use Rattle.serde_json.specs.View.{members_view, view};
 ghost use Rattle.mgmt_objects.specs.Readings.{ReadsAs};
-ghost use Rattle.ddi_api.specs.ConfigBodies.{attribute_of, member_attributes, config_body, config_of, data_member, is_merge};
+ghost use Rattle.rollout_model.specs.Pairs.{is_config_data};
+ghost use Rattle.rollout_model.specs.Rules.{kept_if};
+ghost use Rattle.ddi_api.specs.ConfigBodies.{attribute_of, member_attributes, config_body, config_of, is_merge};
 
 use mgmt_objects::read_value;
 use rollout_model::{Attribute, Attributes, ConfigData, Refusal, Value as AttributeValue, Word};
@@ -48,7 +50,8 @@ fn object_member<'a>(object: &'a Value, key: &str) -> Option<&'a Map<String, Val
 }
 
 fn read_data(alloc: Global, object: &Value) -> Result<ConfigData, Refusal>
-    ensures { ReadsAs (data_member (view object.now)) result }
+    ensures { ReadsAs (option_and_then (kept_if is_config_data) (option_and_then member_attributes
+        (option_and_then as_object (get (codes "data") (view object.now))))) result }
 {
     let Some(members) = object_member(object, "data") else {
         return Err(Refusal::BadRequest);

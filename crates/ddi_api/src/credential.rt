@@ -1,9 +1,10 @@
 //! Who a message says that it is from.
 
-ghost use Rattle.std.specs.Prelude.{◌≡◌, option_map};
+ghost use Rattle.std.specs.Prelude.{◌≡◌, codes, option_and_then, option_map};
+ghost use Rattle.http_wire.specs.Fields.{sole_value};
 ghost use Rattle.http_wire.specs.Inbox.{message_of};
 ghost use Rattle.mgmt_api.specs.Reading.{path_word};
-ghost use Rattle.ddi_api.specs.Credentials.{after_scheme, authorization_of, credential_of, digest_shown, digest_of_value};
+ghost use Rattle.ddi_api.specs.Credentials.{after_scheme, credential_of, digest_of_value};
 
 use crate::spelled::{read_id, read_token};
 use artifact_pieces::describe;
@@ -20,7 +21,7 @@ fn after_scheme(value: &[u8]) -> Option<&[u8]>
 
 /// The value of the one field `authorization`; `None` where there is none, or more than one.
 fn authorization_of<'a>(message: &Message<'a>) -> Option<&'a [u8]>
-    ensures { option_map (λ s. s.now) result ≡ authorization_of (message_of message.now) }
+    ensures { option_map (λ s. s.now) result ≡ sole_value (codes "authorization") (message_of message.now).fields }
 {
     sole_value(message.fields(), b"authorization")
 }
@@ -36,7 +37,7 @@ fn digest_of_value(value: &[u8]) -> Option<Digest>
 }
 
 fn digest_shown(message: &Message<'_>) -> Option<Digest>
-    ensures { result ≡ digest_shown (message_of message.now) }
+    ensures { result ≡ option_and_then digest_of_value (sole_value (codes "authorization") (message_of message.now).fields) }
 {
     let value = authorization_of(message)?;
     digest_of_value(value)

@@ -1,12 +1,14 @@
 //! Feedback in a body.
 
-ghost use Rattle.std.specs.Prelude.{◌≡◌, ℕ, List, Option, codes, map, option_map};
+ghost use Rattle.std.specs.Prelude.{◌≡◌, ℕ, List, Option, codes, map, option_and_then, option_map};
 ghost use Rattle.serde_json.specs.Find.{get};
 ghost use Rattle.serde_json.specs.View.{view};
 ghost use Rattle.mgmt_objects.specs.Readings.{ReadsAs, ReadsBy, ReadsExactly};
-ghost use Rattle.mgmt_objects.specs.Traverse.{array_of, traverse};
-ghost use Rattle.ddi_api.specs.FeedbackBodies.{cancel_word, deployment_word, detail_in, details_member, finished_in, lines_if, feedback_body};
-ghost use Rattle.ddi_api.specs.FeedbackBodies.{feedback_in, json_feedback_number, feedback_of, number_given, string_member, status_word};
+ghost use Rattle.mgmt_objects.specs.Traverse.{array_if_given, array_of, traverse};
+ghost use Rattle.mgmt_objects.specs.Bodies.{string_member, whole_of};
+ghost use Rattle.rollout_model.specs.Rules.{are_details, is_feedback_number, kept_if};
+ghost use Rattle.ddi_api.specs.FeedbackBodies.{cancel_word, deployment_word, detail_in, feedback_body};
+ghost use Rattle.ddi_api.specs.FeedbackBodies.{feedback_in, feedback_of, number_given, status_word};
 
 use mgmt_objects::{read_value, read_whole};
 use rollout_model::{
@@ -127,7 +129,7 @@ fn string_member<'a>(object: &'a Value, key: &str) -> Option<&'a str>
 }
 
 fn finished_in(status: &Value) -> Option<&str>
-    ensures { option_map (λ s. s.now) result ≡ finished_in (view status.now) }
+    ensures { option_map (λ s. s.now) result ≡ option_and_then (string_member (codes "finished")) (get (codes "result") (view status.now)) }
 {
     let result = status.get("result")?;
     string_member(result, "finished")
@@ -143,7 +145,7 @@ fn word_in<W: FeedbackWord>(status: &Value) -> Option<W>
 
 /// The lines of `details`, and none where it is missing.
 fn read_lines(alloc: Global, status: &Value) -> Result<Vec<Detail>, Refusal>
-    ensures { ReadsBy (λ v. v.items) (lines_if (get (codes "details") (view status.now))) result }
+    ensures { ReadsBy (λ v. v.items) (array_if_given detail_in (get (codes "details") (view status.now))) result }
 {
     match status.get("details") {
         Some(list) => read_list(alloc, list),
@@ -152,7 +154,7 @@ fn read_lines(alloc: Global, status: &Value) -> Result<Vec<Detail>, Refusal>
 }
 
 fn read_details(alloc: Global, status: &Value) -> Result<Details, Refusal>
-    ensures { ReadsAs (details_member (view status.now)) result }
+    ensures { ReadsAs (option_and_then (kept_if are_details) (array_if_given detail_in (get (codes "details") (view status.now)))) result }
 {
     let lines = read_lines(alloc, status)?;
     match Details::from_lines(lines) {
@@ -162,7 +164,7 @@ fn read_details(alloc: Global, status: &Value) -> Result<Details, Refusal>
 }
 
 fn feedback_number_in(value: &Value) -> Option<FeedbackNumber>
-    ensures { result ≡ json_feedback_number (view value.now) }
+    ensures { result ≡ option_and_then (kept_if is_feedback_number) (whole_of (view value.now)) }
 {
     let number = read_whole(value)?;
     FeedbackNumber::new(number)

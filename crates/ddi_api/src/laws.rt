@@ -15,9 +15,9 @@ ghost use Rattle.rollout_machine.specs.Offers.{Offer};
 ghost use Rattle.rollout_machine.specs.Requests.{Ask, Asks, Poll, Rejected};
 ghost use Rattle.mgmt_objects.specs.Bodies.{body_data};
 ghost use Rattle.ddi_api.specs.declared.call.DeviceCall.{DeviceCall};
-ghost use Rattle.ddi_api.specs.ConfigBodies.{config_body, new_attribute};
+ghost use Rattle.ddi_api.specs.ConfigBodies.{config_body};
 ghost use Rattle.ddi_api.specs.Credentials.{credential_of, digest_of_value};
-ghost use Rattle.ddi_api.specs.FeedbackBodies.{cancel_word, deployment_word, new_feedback, number_given, feedback_body};
+ghost use Rattle.ddi_api.specs.FeedbackBodies.{cancel_word, deployment_word, number_given, feedback_body};
 ghost use Rattle.ddi_api.specs.Letters.{cancel_letters, deployment_letters, poll_letters};
 ghost use Rattle.ddi_api.specs.Objects.{cancel_data, deployment_data, poll_data};
 ghost use Rattle.ddi_api.specs.Reading.{device_reading};
@@ -75,12 +75,12 @@ pub fn authorizations()
 pub fn bodies()
     ensures feedback { feedback_body deployment_word (record { id = codes "dev-01"; digest = [] }) 4
         (codes "{\"status\":{\"execution\":\"closed\",\"result\":{\"finished\":\"success\"},\"details\":[\"done\"]}}")
-        ≡ Some (new_feedback (record { id = codes "dev-01"; digest = [] }) 4 Succeeded (codes "done" ∷ []) None) }
+        ≡ Some (record { credential = record { id = codes "dev-01"; digest = [] }; action = 4; word = Succeeded; details = codes "done" ∷ []; number = None }) }
     ensures cancel_feedback { feedback_body cancel_word (record { id = codes "dev-01"; digest = [] }) 4
         (codes "{\"number\":7,\"status\":{\"execution\":\"rejected\",\"result\":{\"finished\":\"none\"}}}")
-        ≡ Some (new_feedback (record { id = codes "dev-01"; digest = [] }) 4 RejectedCancel [] (Some 7)) }
+        ≡ Some (record { credential = record { id = codes "dev-01"; digest = [] }; action = 4; word = RejectedCancel; details = []; number = Some 7 }) }
     ensures config { config_body (codes "{\"mode\":\"merge\",\"data\":{\"os\":\"a\",\"hw\":\"2\",\"os\":\"b\"}}")
-        ≡ Some (new_attribute (codes "hw") (codes "2") ∷ new_attribute (codes "os") (codes "b") ∷ []) }
+        ≡ Some (record { key = codes "hw"; value = codes "2" } ∷ record { key = codes "os"; value = codes "b" } ∷ []) }
 {}
 
 /// Numbers of feedback that are given, and two that stand for none.

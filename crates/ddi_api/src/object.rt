@@ -1,14 +1,15 @@
 //! The objects that devices are shown.
 
-ghost use Rattle.std.specs.Prelude.{◌≡◌, ◌++◌, decimal, map, Some, IfOk, string_bytes};
+ghost use Rattle.std.specs.Prelude.{◌≡◌, ◌++◌, codes, decimal, map, Some, IfOk, string_bytes};
 ghost use Rattle.json.specs.Print.{quoted};
+ghost use Rattle.serde_json.specs.Data.{member, no_members, object};
 ghost use Rattle.serde_json.specs.View.{view};
 ghost use Rattle.serde_json.specs.Written.{compact_text};
 ghost use Rattle.mgmt_objects.specs.ArtifactObjects.{hashes_data};
 ghost use Rattle.rollout_machine.specs.Views.{chunk, deployment};
 ghost use Rattle.ddi_api.specs.Letters.{offer_letters};
 ghost use Rattle.ddi_api.specs.Objects.{action_path, device_artifact_data, cancel_data, chunk_data, chunks_data, deployment_data, deployment_object};
-ghost use Rattle.ddi_api.specs.Objects.{download_data, download_path, link_data, offer_kind, poll_data, shown_chunk};
+ghost use Rattle.ddi_api.specs.Objects.{download_path, link_data, offer_kind, poll_data, shown_chunk};
 
 use artifact_pieces::digest_text;
 use itoa::Buffer;
@@ -169,7 +170,7 @@ fn download_link(
     module_number: ModuleNo,
     filename: &Filename,
 ) -> Result<Value, AllocError>
-    ensures { IfOk result (λ v. view v ≡ download_data id.now module_number filename.now) }
+    ensures { IfOk result (λ v. view v ≡ object (member (codes "download-http") (link_data (download_path id.now module_number filename.now)) no_members)) }
 {
     let path = download_path(alloc, id, module_number, filename)?;
     let link = link_value(alloc, path.as_str())?;

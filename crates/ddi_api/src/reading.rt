@@ -1,13 +1,17 @@
 //! From a message to the request that it asks.
 
-ghost use Rattle.std.specs.Prelude.{◌≡◌, ◌≢◌, ◌⊎◌, IfOk, IfErr, bytes_eq};
+ghost use Rattle.std.specs.Prelude.{◌≡◌, ◌≢◌, ◌⊎◌, IfOk, IfErr, bytes_eq, option_and_then, slice_get};
 ghost use Rattle.ddi_api.specs.Routes.{method_of};
-ghost use Rattle.rollout_model.specs.declared.refusal.Refusal.TheVariants.{NoMemory, StoreFailed, Stopped};
+ghost use Rattle.rollout_model.specs.declared.refusal.Refusal.TheVariants.{NoMemory, StoreFailed, Stopped, Unauthorized};
 ghost use Rattle.rollout_machine.specs.Requests.{Asks, Rejected};
 ghost use Rattle.rollout_machine.specs.Views.{request_of};
 ghost use Rattle.http_wire.specs.Inbox.{message_of};
-ghost use Rattle.mgmt_api.specs.Reading.{TakesNoQuery, item_in};
-ghost use Rattle.ddi_api.specs.Reading.{ReadsRequest, asked_by_device, asked_by_one, asked_of, device_reading, filename_in};
+ghost use Rattle.mgmt_api.specs.Reading.{TakesNoQuery, item_in, or_rejected};
+ghost use Rattle.ddi_api.specs.Credentials.{credential_of};
+ghost use Rattle.ddi_api.specs.Reading.{ReadsRequest, asked_by_device, asked_of, device_reading};
+ghost use Rattle.http_wire.specs.Targets.{path_of};
+ghost use Rattle.request_target.specs.Routes.{segments};
+ghost use Rattle.rollout_model.specs.Rules.{is_filename, kept_if};
 
 use crate::call::{DeviceCall, method_of};
 use crate::config_body::read_config_body;
@@ -52,7 +56,7 @@ fn read_module_number(message: &Message<'_>) -> Option<ModuleNo>
 
 /// The filename that the ninth segment is.
 fn read_filename_in(message: &Message<'_>) -> Option<Filename>
-    ensures { result ≡ filename_in (message_of message.now) 8 }
+    ensures { result ≡ option_and_then (kept_if is_filename) (slice_get (segments (path_of (message_of message.now).target)) 8) }
 {
     let segment = segment_at(message.path(), 8)?;
     read_filename(segment)
@@ -173,7 +177,8 @@ fn read_call(
 
 /// Who the device says it is, and then what it asks.
 fn read_by_one(alloc: Global, call: DeviceCall, message: &Message<'_>) -> Result<Request, Refusal>
-    ensures { ReadsRequest (asked_by_one call (message_of message.now)) result }
+    ensures { ReadsRequest (or_rejected Unauthorized (λ device. asked_by_device call device (message_of message.now))
+        (credential_of (message_of message.now))) result }
 {
     let Some(device) = read_credential(message) else {
         return Err(Refusal::Unauthorized);
