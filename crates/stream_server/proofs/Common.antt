@@ -25,7 +25,7 @@ pub use Rattle.http_wire.specs.declared.stream.End.TheVariants.{Cut, Fault, Inpu
 pub use Rattle.mgmt_api.specs.Table.{manage_route}
 pub use Rattle.stream_server.specs.Headline.{AnswersEnd, CutsDownload, Exits, Headline, HoldsFirstPart, IsRefusedAsStopped, IsTold, StoppedThroughout, Stops}
 pub use Rattle.stream_server.specs.Headline.{Transcript}
-pub use Rattle.stream_server.specs.Interfaces.{end_text, is_for_devices, reading, reading_by, reply_text}
+pub use Rattle.stream_server.specs.Interfaces.{end_text, is_for_devices, reading, reply_text}
 pub use Rattle.stream_server.specs.Listening.{Keeps, KeepsOn, StopsAtStore}
 pub use Rattle.stream_server.specs.Parts.{Answers, BeginsDownload, Broken, ByStopped, Comes, Conduct, CutsReply, GivesReply, IsToldWhole}
 pub use Rattle.stream_server.specs.Parts.{SendsPart, Serves, ServesStream, Takes, Whole, running, stopped}

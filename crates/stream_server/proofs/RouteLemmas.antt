@@ -1,8 +1,10 @@
 -- The first word of a path says which interface's router can know it.
 use native.Mathlib.Omega.{arith}
 use Rattle.stream_server.proofs.Common.{◌≡◌, ℕ, List, [], ◌∷◌, Bool, true, false, not, ◌&&◌, nat_lt, length, cond, bytes_eq, codes, Option, Some, None, refl}
-use Rattle.stream_server.proofs.Common.{sym, ap, ◌∙◌, subst, slice_get, false≢true, WireMessage, manage_route, reading_by}
+use Rattle.stream_server.proofs.Common.{sym, ap, ◌∙◌, subst, slice_get, false≢true, WireMessage, manage_route}
 use Rattle.std.specs.List.{list_all}
+use Rattle.std.specs.Option.{is_some}
+use Rattle.std.specs.Prelude.{if◌then◌else◌}
 use Rattle.std.specs.Str.{is_utf8}
 use Rattle.std.proofs.lemmas.Slice.Eq.{bytes_eq-Decides}
 use Rattle.request_target.specs.Routes.{segments, is_parameter, stands_for, fits, route_in}
@@ -10,6 +12,7 @@ use Rattle.request_target.proofs.Longest.{both}
 use Rattle.http_wire.specs.Targets.{path_of}
 use Rattle.ddi_api.specs.declared.call.DeviceCall.{DeviceCall}
 use Rattle.ddi_api.specs.Reading.{device_reading}
+use Rattle.mgmt_api.specs.Reading.{manage_reading}
 use Rattle.ddi_api.specs.Routes.{device_table}
 use Rattle.ddi_api.specs.Table.{device_call}
 use Rattle.mgmt_api.specs.Routes.{manage_table}
@@ -94,9 +97,10 @@ without_word path at = leads_nowhere is_devices device_table path (is_utf8 path)
 -- ---- what is read
 
 -- a path that is none of management's is read as a device's: both readings reject what has no route
-pub as_of_device : (m : WireMessage) → manage_route (path_of m.target) ≡ None → reading_by (device_call (path_of m.target)) m ≡ device_reading m
+pub as_of_device : (m : WireMessage) → manage_route (path_of m.target) ≡ None
+    → (if is_some (device_call (path_of m.target)) then device_reading m else manage_reading m) ≡ device_reading m
 as_of_device m none = by (device_call (path_of m.target)) refl
   where
-    by : (o : Option DeviceCall) → device_call (path_of m.target) ≡ o → reading_by o m ≡ device_reading m
+    by : (o : Option DeviceCall) → device_call (path_of m.target) ≡ o → (if is_some o then device_reading m else manage_reading m) ≡ device_reading m
     by (Some call) is = refl
     by None is = rw (none, is) refl

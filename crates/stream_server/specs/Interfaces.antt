@@ -1,5 +1,6 @@
 -- What the messages of an interface ask, and the bytes of the replies.
-use Rattle.std.specs.Prelude.{ℕ, Bool, true, false, if◌then◌else◌, List, [], Option, Some, None}
+use Rattle.std.specs.Prelude.{ℕ, Bool, true, false, if◌then◌else◌, List, []}
+use Rattle.std.specs.Option.{is_some}
 use Rattle.http_wire.specs.declared.stream.End.{End}
 use Rattle.http_wire.specs.declared.stream.End.TheVariants.{Input, Cut, Fault}
 use Rattle.http_wire.specs.Faults.{refusal_of}
@@ -11,22 +12,16 @@ use Rattle.http_wire.specs.Targets.{path_of}
 use Rattle.ddi_api.specs.Reading.{device_reading}
 use Rattle.ddi_api.specs.Replies.{reply_text as device_text}
 use Rattle.ddi_api.specs.Table.{device_call}
-use Rattle.ddi_api.specs.declared.call.DeviceCall.{DeviceCall}
 use Rattle.mgmt_api.specs.Reading.{manage_reading}
 use Rattle.mgmt_api.specs.Replies.{reply_text as manage_text}
 use Rattle.stream_server.specs.declared.interface.Interface.{Interface}
 use Rattle.stream_server.specs.declared.interface.Interface.TheVariants.{Devices, Management, Both}
 
--- a device's call where the path is one's, and else a call of management
-abbrev pub reading_by : Option DeviceCall → WireMessage → Asked
-reading_by (Some call) message = device_reading message
-reading_by None message = manage_reading message
-
--- what a message asks, by the routes of the interface
+-- what a message asks, by the routes of the interface: of both interfaces a device's call where the path is one's
 unfoldable pub reading : Interface → WireMessage → Asked
 reading Devices message = device_reading message
 reading Management message = manage_reading message
-reading Both message = reading_by (device_call (path_of message.target)) message
+reading Both message = if is_some (device_call (path_of message.target)) then device_reading message else manage_reading message
 
 -- what devices alone are shown
 abbrev pub is_for_devices : Reply → Bool

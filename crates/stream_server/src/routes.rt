@@ -5,10 +5,9 @@ ghost use Rattle.http_wire.specs.Inbox.{message_of};
 ghost use Rattle.rollout_model.specs.declared.refusal.Refusal.TheVariants.{NoMemory, StoreFailed};
 ghost use Rattle.rollout_machine.specs.Requests.{Rejected, Asks};
 ghost use Rattle.rollout_machine.specs.Views.{request_of};
-ghost use Rattle.http_wire.specs.Targets.{path_of};
 ghost use Rattle.ddi_api.specs.Table.{device_call};
 ghost use Rattle.mgmt_api.specs.Table.{manage_route};
-ghost use Rattle.stream_server.specs.Interfaces.{reading, reading_by};
+ghost use Rattle.stream_server.specs.Interfaces.{reading};
 
 use crate::Interface;
 use ddi_api::{DeviceRoutes, read_device};
@@ -53,11 +52,11 @@ impl Routes {
     }
 
     /// What a message asks where both interfaces are served. Only the router of one is asked.
+    #[tactic(auto, unfolding(crate::specs::Interfaces::reading))]
     fn read_either(&self, message: &Message<'_>) -> Result<Request, Refusal>
-        ensures ok { IfOk result (λ request. reading_by (device_call (path_of (message_of message.now).target)) (message_of message.now)
-            ≡ Asks (request_of request)) }
+        ensures ok { IfOk result (λ request. reading Interface.Both (message_of message.now) ≡ Asks (request_of request)) }
         ensures err { IfErr result (λ refusal. (refusal ≡ NoMemory)
-            ⊎ (reading_by (device_call (path_of (message_of message.now).target)) (message_of message.now) ≡ Rejected refusal)) }
+            ⊎ (reading Interface.Both (message_of message.now) ≡ Rejected refusal)) }
         ensures no_store { IfErr result (λ refusal. refusal ≢ StoreFailed) }
     {
         if begins_as_devices(message.path()) {
