@@ -1,5 +1,5 @@
 -- Which of the two ways an open takes.
-use Rattle.desk_opening.proofs.Common.{Bool, codes, inl, Ok, Err, Result, arith, both_ways, Database, State, HasCleanDisk}
+use Rattle.desk_opening.proofs.Common.{Bool, codes, inl, Ok, Err, IfErr, Result, arith, both_ways, Database, State, HasCleanDisk}
 use Rattle.desk_opening.proofs.Common.{LeavesFree, Rests, still_holds, Records, desk_names, HoldsReadable, Version, has_desk}
 use Rattle.desk_opening.proofs.Common.{HoldsStage, Free, Makes, told, OpenFault, NotDesk, Adopts, HasDesk, HasRow, LacksPartOfDesk}
 use Rattle.desk_opening.proofs.Common.{IsFailure, TellsOfRow, FindsTo, OpensDesk, OpensTo, IsKnownOpen, HoldsOf, None, Option, Some}
@@ -36,10 +36,7 @@ module _ {A : Type 0} (old new : State) (approval : Bool) where
       go (Ok x) is_open = λ was clean. absurd (free_is_unused old is_open was (omega (arith, h.wears)) used)
       go (Err e) is_open = λ was clean db left. absurd (free_is_unused old is_open was (omega (arith, h.wears)) used)
 
-  -- a new one is made, which is told as another result
-  module _ {B E : Type 0} (free : LeavesFree old.now.schema desk_names) where
-    pub makes_new : (a : A) {b : B} → Makes {E = E} old new approval (Ok b) → OpensDesk old new approval (Ok a)
-    makes_new a h = grind (arith, held_is_used)
-
-    pub makes_none : (e : OpenFault) → IsFailure e → {f : E} → Makes {A = B} old new approval (Err f) → OpensDesk {A = A} old new approval (Err e)
-    makes_none e fails h = grind (arith, held_is_used)
+  pub makes_free : LeavesFree old.now.schema desk_names → (out : Result A OpenFault) → IfErr out IsFailure → Makes old new approval out
+      → OpensDesk old new approval out
+  makes_free free (Ok a) fails h = grind (arith, held_is_used)
+  makes_free free (Err e) fails h = grind (arith, held_is_used)

@@ -86,7 +86,6 @@ pub use Rattle.desk_opening.specs.Reopening.{UsesNoName}
 pub use Rattle.desk_opening.specs.declared.desk_table.DeskTable.{DeskTable}
 pub use Rattle.desk_opening.specs.declared.opening.OpenFault.{OpenFault}
 pub use Rattle.desk_opening.specs.declared.opening.OpenFault.TheVariants.{NewerVersion, NotDesk, Store}
-pub use Rattle.desk_opening.specs.declared.running.TheConstants.{BEGIN, COMMIT}
 pub use Rattle.std.proofs.Math.Bool.{and-true}
 pub use Rattle.sql_calls.proofs.Actions.{all_both}
 pub use Rattle.sql_front.proofs.Found.{same_some}

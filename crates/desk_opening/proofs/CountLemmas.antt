@@ -1,9 +1,12 @@
 -- A call that failed is counted.
-use Rattle.desk_opening.proofs.Common.{◌≡◌, ◌≤◌, ℕ, Result, IfErr, arith, OpenFault}
+use Rattle.desk_opening.proofs.Common.{◌≡◌, ◌≢◌, ◌≤◌, ℕ, Ok, Err, Result, IfErr, arith, Fault, OpenFault}
 use Rattle.std.specs.Prelude.{IsErrAnd}
+use Rattle.sql_calls.specs.Calls.{Grows, failures_of}
 use Rattle.sql_calls.specs.declared.calls.Calls.{Calls}
+use Rattle.sql_calls.specs.declared.fault.Fault.TheVariants.{Broken}
 use Rattle.desk_store.specs.Blaming.{HasFailed}
 use Rattle.desk_opening.specs.Counting.{CountsWhere}
+use Rattle.desk_opening.specs.Faults.{open_fault}
 
 -- more calls failed after an earlier count, and before a later one
 pub failed_within : {a b c d : ℕ} → a ≤ b → HasFailed b c → c ≤ d → HasFailed a d
@@ -18,3 +21,9 @@ module _ {Where : Type 0} {S : Type 0} where
   pub counts_within : {That A : Type 0} {a b c d : Calls S} (out : Result A OpenFault) → CountsWhere That b c out → a.failures ≤ b.failures
       → c.failures ≤ d.failures → (Where → That) → CountsWhere Where a d out
   counts_within out h first last so = grind (arith, failed_within)
+
+  -- .. of a call that failed
+  pub counts_call : {A : Type 0} {a b c : Calls S} (f : Fault) → Grows (failures_of f) b c → a.failures ≤ b.failures → (Where → f ≢ Broken)
+      → (out : Result A OpenFault) → IsErrAnd out (λ e. e ≡ open_fault f) → CountsWhere Where a c out
+  counts_call f h first sound (Ok x) is = absurd is
+  counts_call f h first sound (Err e) is = grind (arith, failed_within)

@@ -2,7 +2,7 @@
 use Rattle.desk_opening.proofs.Common.{◌≡◌, ℕ, ◌+◌, Bool, List, [], ◌∷◌, ◌++◌, ◌<◌, ◌≤◌, length, map, take, drop, get_or, pos, Ok, Err, Result, if◌then◌else◌}
 use Rattle.desk_opening.proofs.Common.{None, refl, sym, subst, arith, AllByRecursion, Int, IsAscending, CreateTable, Insert, Values, State, Writes}
 use Rattle.desk_opening.proofs.Common.{Fault, RunsText, drop_all, length-map, take_all, HoldsRecords, ledger_of, PUT_DESK, put_desk_is, desk_terms}
-use Rattle.desk_opening.proofs.Common.{Place, places, BEGIN, AreApart, Before, HoldsStage, Free, Nothing, Partly, Whole, first_records}
+use Rattle.desk_opening.proofs.Common.{Place, places, codes, AreApart, Before, HoldsStage, Free, Nothing, Partly, Whole, first_records}
 use Rattle.desk_opening.proofs.Common.{MakesTables, Makes, Sees, DeskTable, place_of, create_text_of, put_at}
 use Rattle.sql_calls.specs.Standing.{Advances}
 use Rattle.sql_calls.proofs.Stepping.{ran, steps_then}
@@ -56,7 +56,7 @@ module _ (ds : List DeskTable) (old a : State) (n : ℕ) (so_far : HasMade (map 
 
 -- ---- the whole
 
-pub began_new : {a b : State} → RunsText a b BEGIN.now [] (Ok tt) → Within HoldsStage Free a b (Partly Nothing [] places)
+pub began_new : {a b : State} → RunsText a b (codes "BEGIN") [] (Ok tt) → Within HoldsStage Free a b (Partly Nothing [] places)
 began_new first = within_as (λ db free. record { sound = free.0; kept = tt; stand = tt; free = free.1 }) (begun Free first)
 
 pub desk_put : (approval : Bool) {c d : State} (out : Result (Unit {0}) Fault)

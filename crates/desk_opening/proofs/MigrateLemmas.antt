@@ -1,7 +1,7 @@
 -- From the tables of a version to those of the newest, from BEGIN to COMMIT.
 use Rattle.desk_opening.proofs.Common.{inl, inr, [], Ok, Err, Result, refl, arith, Update, State, Fault, RunsText, Sees, commit_is, runs_plain}
 use Rattle.desk_opening.proofs.Common.{Commit, IsKnownOpen, Records, HoldsLedger, HoldsRecords, Rests, ledger_of, HoldsAt, Desk, later_than, SET_VERSION}
-use Rattle.desk_opening.proofs.Common.{Version, set_version_is, set_version_query, BEGIN, true, COMMIT, FillsLater, MakesLedger, Stays, bare_ledger, At}
+use Rattle.desk_opening.proofs.Common.{Version, set_version_is, set_version_query, codes, true, OpenFault, FillsLater, MakesLedger, Stays, bare_ledger, At}
 use Rattle.desk_opening.proofs.Common.{HoldsStage, MakesTables, Older, Partly, Whole, Migrates, changed_at, first_records}
 use Rattle.desk_records.proofs.HeldTables.{are_tables, rows_of}
 use Rattle.sql_calls.specs.Standing.{Advances}
@@ -17,11 +17,11 @@ version_set v r {c} {d} = ran HoldsStage SET_VERSION.now [] c d (Partly (Older v
   means = (changed_at set_version_is).at c.now.schema _ (spot_in v r c.now h Desk).tree (stands_in v r c.now h Desk);
 }) (λ holds. refl) (λ holds count w. (w, desk_renewed v r c d _ count holds w))
 
-module _ (v : Version) (r : Records) {a b : State} (first : RunsText a b BEGIN.now [] (Ok tt)) where
+module _ (v : Version) (r : Records) {a b : State} (first : RunsText a b (codes "BEGIN") [] (Ok tt)) where
   pub began : Within HoldsStage (At v r) a b (Partly (Older v r) [] (later_than v))
   began = within_as (λ db h. grind arith) (begun (At v r) first)
 
-  module _ {c : State} (second : MakesTables {A = Unit {0}} {E = Fault} (later_than v) b c (Ok tt)) where
+  module _ {c : State} (second : MakesTables {A = Unit {0}} {E = OpenFault} (later_than v) b c (Ok tt)) where
     pub made : Within HoldsStage (At v r) a c (Partly (Older v r) (later_than v) [])
     made = goes began (second (Older v r))
 
@@ -71,5 +71,5 @@ migrates_by {v = v} (Err e) h = record {
 }
 
 -- a commit leaves the connection open
-pub stays_open : (e z : State) → RunsText e z COMMIT.now [] (Ok tt) → IsKnownOpen z
-stays_open e z h clean = let done = h.runs clean in (runs_plain COMMIT.now Commit [] e z (commit_is e.now.schema) done.0 done.1).1.is_open
+pub stays_open : (e z : State) → RunsText e z (codes "COMMIT") [] (Ok tt) → IsKnownOpen z
+stays_open e z h clean = let done = h.runs clean in (runs_plain (codes "COMMIT") Commit [] e z (commit_is e.now.schema) done.0 done.1).1.is_open

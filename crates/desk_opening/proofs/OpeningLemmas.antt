@@ -1,5 +1,6 @@
 -- The row of `desk` is read in a change that is given up.
-use Rattle.desk_opening.proofs.Common.{inl, inr, [], codes, Option, Ok, Err, Result, subst, arith, Trees, Begin, Select, Database, State, HasCleanDisk, Fault}
+use Rattle.desk_opening.proofs.Common.{inl, inr, [], codes, Option, Ok, Err, IsErr, Result, subst, arith, Trees, Begin, Select, Database, State, HasCleanDisk}
+use Rattle.desk_opening.proofs.Common.{Fault}
 use Rattle.desk_opening.proofs.Common.{RunsText, TakesFirst, Wears, HoldIn, Rests, Spoiled, Knows, runs_plain, begin_is, rollback_is, begins, fails_to_begin}
 use Rattle.desk_opening.proofs.Common.{gives_up, Records, Desk, HoldsAt, HoldsPlace, Version, has_desk, None, Some, GET_DESK, desk_query, get_desk_is}
 use Rattle.desk_opening.proofs.Common.{OpenFault, Keeps, TakesDeskRow, TellsVersion, asked_at}
@@ -49,8 +50,9 @@ knows_of None db r (v, holds) = knows_at v db r holds
 knows_of (Some v) db r holds = knows_at v db r holds
 
 module _ (a b : State) where
-  pub not_begun : {A E : Type 0} (fault : Fault) (e : E) → RunsText a b (codes "BEGIN") [] (Err fault) → Keeps {A = A} a b (Err e)
-  not_begun fault e h = record {
+  pub not_begun : {A E : Type 0} {fault : Fault} → RunsText a b (codes "BEGIN") [] (Err fault) → (out : Result A E) → IsErr out → Keeps a b out
+  not_begun h (Ok x) bad = absurd cc
+  not_begun {fault = fault} h (Err e) bad = record {
     wears = h.survives.clean;
     keeps = λ o. begin_leaves (HoldsOf o) (knows_of o) a b fault h;
     opened = tt;

@@ -1,6 +1,6 @@
 -- From BEGIN to COMMIT: one change in which tables are made.
 use Rattle.desk_opening.proofs.Common.{◌≡◌, Ok, Err, arith, Trees, Database, State, HasCleanDisk, Opens, Fault, RunsText, HoldIn, IsAtRest, Rests, Sees, Stage}
-use Rattle.desk_opening.proofs.Common.{HoldsStage, BEGIN, COMMIT, [], Result, IsErr, ◌⊎◌, inl, begin_is, commit_is, IsTrue, false}
+use Rattle.desk_opening.proofs.Common.{HoldsStage, [], codes, Result, IsErr, ◌⊎◌, inl, begin_is, commit_is, IsTrue, false}
 use Rattle.sql_calls.proofs.FrameEnds as frame
 use Rattle.sql_calls.proofs.Leavings.{IsSettled}
 use Rattle.sql_calls.specs.Standing.{Advances, Wears}
@@ -58,9 +58,9 @@ module _ {R : Type 0} {Holds : Database → R → Type 0} {start : Stage} {now :
   goes h step = grind arith
 
 -- the change begins with what stands
-pub begun : {a b : State} (start : Stage) → RunsText a b BEGIN.now [] (Ok tt) → Within HoldsStage start a b start
+pub begun : {a b : State} (start : Stage) → RunsText a b (codes "BEGIN") [] (Ok tt) → Within HoldsStage start a b start
 begun {a} {b} start h =
-    let it = frame.begins HoldsStage BEGIN.now a b (begin_is a.now.schema) h in
+    let it = frame.begins HoldsStage (codes "BEGIN") a b (begin_is a.now.schema) h in
     record {
       wears = h.survives.clean;
       sees = λ was. it.sees start (frame.rest_shows HoldsStage a start was);
@@ -73,22 +73,23 @@ module _ {B F : Type 0} {start end : Stage} {a z : State} where
   turns_err wears turns (Ok x) bad = absurd cc
   turns_err wears turns (Err e) bad = record { wears = wears; turns = turns }
 
-  pub not_begun : {fault : Fault} → RunsText a z BEGIN.now [] (Err fault) → (out : Result B F) → IsErr out → Turns start end a z out
+  pub not_begun : {fault : Fault} → RunsText a z (codes "BEGIN") [] (Err fault) → (out : Result B F) → IsErr out → Turns start end a z out
   not_begun {fault} h = turns_err h.survives.clean (λ was clean db left.
-      inl (((frame.fails_to_begin HoldsStage BEGIN.now a z (begin_is a.now.schema) fault h).rests start was clean).held.crash db left))
+      inl (((frame.fails_to_begin HoldsStage (codes "BEGIN") a z (begin_is a.now.schema) fault h).rests start was clean).held.crash db left))
 
   pub breaks : {R A E : Type 0} {Holds : Database → R → Type 0} {now next : R} {b : State} {e : E} → Within Holds start a b now
       → Advances Holds {A = A} now next b z (Err e) → (out : Result B F) → IsErr out → Turns start end a z out
   breaks h step = turns_err (omega (arith, h.wears, step.wears)) (λ was clean db left.
       inl (h.crash was (omega (arith, step.wears, clean)) db (step.crash (h.sees was) clean db left)))
 
-  pub not_ended : {b : State} {fault : Fault} → Within HoldsStage start a b end → RunsText b z COMMIT.now [] (Err fault) → (out : Result B F) → IsErr out
+  pub not_ended : {b : State} {fault : Fault} → Within HoldsStage start a b end → RunsText b z (codes "COMMIT") [] (Err fault) → (out : Result B F) → IsErr out
       → Turns start end a z out
   not_ended {b} {fault} h last = turns_err (omega (arith, h.wears, last.survives.clean)) (λ was clean.
-      (frame.not_committed HoldsStage COMMIT.now b z (commit_is b.now.schema) end start (h.sees was) (h.crash was) fault last clean).crash)
+      (frame.not_committed HoldsStage (codes "COMMIT") b z (commit_is b.now.schema) end start (h.sees was) (h.crash was) fault last clean).crash)
 
-  pub ended : {b : State} → Within HoldsStage start a b end → RunsText b z COMMIT.now [] (Ok tt) → IsSettled z → (x : B) → Turns {E = F} start end a z (Ok x)
+  pub ended : {b : State} → Within HoldsStage start a b end → RunsText b z (codes "COMMIT") [] (Ok tt) → IsSettled z → (x : B)
+      → Turns {E = F} start end a z (Ok x)
   ended {b} h last settled x = record {
     wears = omega (arith, h.wears, last.survives.clean);
-    turns = λ was. frame.committed_rests HoldsStage COMMIT.now b z (commit_is b.now.schema) end (h.sees was) last settled;
+    turns = λ was. frame.committed_rests HoldsStage (codes "COMMIT") b z (commit_is b.now.schema) end (h.sees was) last settled;
   }

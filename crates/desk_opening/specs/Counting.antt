@@ -1,8 +1,7 @@
 -- What an opening counts: a failed store is a call that failed.
-use Rattle.std.specs.Prelude.{◌≡◌, ◌≢◌, ◌≤◌, ◌<◌, ◌^◌, ℕ, length, Some, None, Result, Ok, Err, IfErr}
+use Rattle.std.specs.Prelude.{◌≡◌, ◌≤◌, ◌<◌, ◌^◌, ℕ, length, Some, None, Result, IfErr}
 use Rattle.std.specs.List.{AllByRecursion}
 use Rattle.sqlite.specs.State.{State, HasCleanDisk}
-use Rattle.sql_calls.specs.Calls.{Grows, failures_in}
 use Rattle.sql_calls.specs.Standing.{Rests}
 use Rattle.rollout_machine.specs.ByteStrings.{item_numbered}
 use Rattle.rollout_machine.specs.Records.{Records}
@@ -15,38 +14,12 @@ use Rattle.desk_records.specs.Schema.{Rollouts}
 use Rattle.desk_records.specs.declared.version.Version.{Version}
 use Rattle.sql_calls.specs.declared.calls.Calls.{Calls}
 use Rattle.sql_calls.specs.declared.fault.Fault.{Fault}
-use Rattle.sql_calls.specs.declared.fault.Fault.TheVariants as fault
 use Rattle.desk_store.specs.Blaming.{HasFailed}
 use Rattle.desk_store.specs.Breaking.{TellsFirst}
 use Rattle.desk_store.specs.Failing.{nothing}
 use Rattle.desk_store.specs.Readable.{KeepsColumns}
 use Rattle.desk_opening.specs.declared.opening.OpenFault.{OpenFault}
-use Rattle.desk_opening.specs.declared.opening.OpenFault.TheVariants as refused
-
--- what an opening tells as a failed store
-abbrev pub TellsStore : Fault → Type 0
-TellsStore f = f ≢ fault.Memory
-
-abbrev pub IsStore : OpenFault → Type 0
-IsStore e = e ≡ refused.Store
-
--- ---- what only writes
-
--- no rows are told as broken
-pub record IsSound (f : Fault) : Type 0 where
-  pub sound : f ≢ fault.Broken
-
-abbrev pub SoundTo : {A : Type 0} → Result A Fault → Type 0
-SoundTo (Ok a) = Unit {0}
-SoundTo (Err f) = IsSound f
-
-pub record NeverBreaks {A : Type 0} (result : Result A Fault) : Type 0 where
-  pub to : SoundTo result
-
--- Each call that failed is counted, and a failed store is such a call, whatever is seen.
-pub record Counts {S A : Type 0} (old new : Calls S) (result : Result A Fault) : Type 0 where
-  pub grows : Grows (failures_in result) old new
-  pub sound : NeverBreaks result
+use Rattle.desk_opening.specs.declared.opening.OpenFault.TheVariants.{Store}
 
 -- ---- what a migration reads
 
@@ -69,20 +42,12 @@ pub record HasReadable (number : ℕ) (l : Ledger) : Type 0 where
 abbrev pub FailsGiven : (Ledger → Type 0) → {A : Type 0} → State → State → Result A Fault → Type 0
 FailsGiven Given old new result = TellsFirst HoldsLedger Given nothing old new result
 
-abbrev pub FailsAtTo : Version → {A : Type 0} → State → State → Result A Fault → Type 0
-FailsAtTo v old new (Ok a) = Unit {0}
-FailsAtTo v old new (Err f) = (r : Records) → Rests (HoldsAt v) old r → AreReadable r → HasCleanDisk new → IsSound f
-
--- where the tables of a version hold records that can be read, broken rows are never told
-pub record FailsAt (v : Version) {A : Type 0} (old new : State) (result : Result A Fault) : Type 0 where
-  pub to : FailsAtTo v old new result
-
 -- ---- what an opening tells
 
 -- No count falls, and where this is so, a failed store is a call that failed.
 pub record CountsWhere (Where : Type 0) {S A : Type 0} (old new : Calls S) (result : Result A OpenFault) : Type 0 where
   pub grows : old.failures ≤ new.failures
-  pub cause : IfErr result (λ e. Where → IsStore e → HasFailed old.failures new.failures)
+  pub cause : IfErr result (λ e. Where → e ≡ Store → HasFailed old.failures new.failures)
 
 -- whatever is seen
 abbrev pub CountsOpening : {S A : Type 0} → Calls S → Calls S → Result A OpenFault → Type 0

@@ -1,9 +1,9 @@
 //! What the tables of later versions hold of the records of an older one.
 
-ghost use Rattle.std.specs.Prelude.{◌≤◌};
+ghost use Rattle.std.specs.Prelude.{◌≢◌, ◌≤◌, IfErr};
 ghost use Rattle.sqlite.specs.Held.{state};
 ghost use Rattle.sql_calls.specs.Calls.{Grows, failures_in};
-ghost use Rattle.desk_opening.specs.Counting.{Counts, FailsGiven, HasReadable};
+ghost use Rattle.desk_opening.specs.Counting.{FailsGiven, HasReadable};
 ghost use Rattle.desk_opening.specs.Filling.{FillsLater, FillsRollout, GivenBare, GivenRules, MakesLedger, Stays, WritesCopies, WritesRules};
 
 use desk_records::Version;
@@ -71,7 +71,8 @@ fn write_copies<S: Alter>(
 ) -> Result<(), Fault>
     ensures stays { Stays (state S.Store calls.old.conn) (state S.Store calls.new.conn) result }
     ensures writes { MakesLedger (state S.Store calls.old.conn) (state S.Store calls.new.conn) result (WritesCopies number groups rule.now) }
-    ensures counts { Counts calls.old calls.new result }
+    ensures sound { IfErr result (λ fault. fault ≢ Fault.Broken) }
+    ensures grows { Grows (failures_in result) calls.old calls.new }
 {
     for i in 0..groups {
         write_rule(calls, number, i + 1, rule)?;

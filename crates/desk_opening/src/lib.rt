@@ -8,7 +8,6 @@ mod migrating;
 mod opening;
 mod path;
 mod reopening;
-mod running;
 mod version_tables;
 
 pub use crate::opening::{OpenFault, open_desk};

@@ -12,19 +12,18 @@ ghost use Rattle.sqlite_value.specs.Order.{column};
 ghost use Rattle.sqlite.specs.Compile.{table_defined_by};
 ghost use Rattle.sqlite.specs.Held.{state};
 ghost use Rattle.sqlite.specs.State.{HasCleanDisk};
-ghost use Rattle.desk_opening.specs.Faults.{fault_row};
+ghost use Rattle.desk_opening.specs.Faults.{fault_row, open_fault};
 ghost use Rattle.desk_opening.specs.Making.{told};
 ghost use Rattle.desk_records.specs.Versions.{newest};
 ghost use Rattle.desk_opening.specs.Opening.{Adopts, HasDeskTables, IsDeskRow, IsFailure, IsSettled, IsWholeAt, Keeps, LacksAt, OpensDesk, TakesDeskRow};
 ghost use Rattle.desk_opening.specs.Opening.{TellsOfRow, TellsVersion};
 ghost use Rattle.desk_opening.specs.Migrating.{Migrates};
-ghost use Rattle.desk_opening.specs.Counting.{CountsOpening, CountsWhere, IsReadableAt, IsStore, TellsStore};
+ghost use Rattle.desk_opening.specs.Counting.{CountsOpening, CountsWhere, IsReadableAt};
 ghost use Rattle.desk_opening.specs.Causes.{HadReadable, HasCause, WasHealthy};
 
 use crate::desk_table::{DeskTable, TABLES};
 use crate::making::fill;
 use crate::migrating::migrate;
-use crate::running::{BEGIN, ROLLBACK, first, run};
 use crate::version_tables::{tables_after, tables_at};
 use desk_records::{GET_DESK, Version};
 use sql_calls::{Calls, Fault, fault_of};
@@ -69,6 +68,17 @@ impl OpenFault {
             OpenFault::NewerVersion => "newer_version",
             OpenFault::Memory => "memory",
             OpenFault::Store => "store",
+        }
+    }
+}
+
+impl From<Fault> for OpenFault {
+    ghost from_gives = { λ fault e. e ≡ open_fault fault };
+
+    fn from(fault: Fault) -> OpenFault {
+        match fault {
+            Fault::Memory => OpenFault::Memory,
+            Fault::Store | Fault::Broken => OpenFault::Store,
         }
     }
 }
@@ -154,16 +164,6 @@ fn unread(error: Error) -> OpenFault
     }
 }
 
-pub(crate) fn open_fault(fault: Fault) -> OpenFault
-    ensures failed { IsFailure result }
-    ensures store { IsStore result → TellsStore fault }
-{
-    match fault {
-        Fault::Memory => OpenFault::Memory,
-        Fault::Store | Fault::Broken => OpenFault::Store,
-    }
-}
-
 /// The version that a desk's row names, if the program reads it and the schema has its tables.
 fn judge_whole(alloc: Global, schema: &Schema, row: &Row) -> Result<Version, OpenFault>
     ensures tells { TellsOfRow (IsWholeAt row.now schema.now) (λ Says. Says row.now) (LacksAt row.now schema.now) result }
@@ -183,10 +183,9 @@ fn see_version<S: Alter>(alloc: Global, calls: &mut Calls<S>) -> Result<Version,
     ensures counts { CountsOpening calls.old calls.new result }
     ensures tells { HasCleanDisk (state S.Store calls.new.conn) → TellsVersion (state S.Store calls.old.conn).now result }
 {
-    match first(calls, GET_DESK, &[]) {
-        Ok(Some(row)) => judge_whole(alloc, calls.schema(), &row),
-        Ok(None) => Err(OpenFault::NotDesk),
-        Err(fault) => Err(open_fault(fault)),
+    match calls.first(GET_DESK, &[])? {
+        Some(row) => judge_whole(alloc, calls.schema(), &row),
+        None => Err(OpenFault::NotDesk),
     }
 }
 
@@ -196,11 +195,9 @@ fn find_version<S: Alter>(alloc: Global, calls: &mut Calls<S>) -> Result<Version
     ensures counts { CountsOpening calls.old calls.new result }
     ensures tells { HasCleanDisk (state S.Store calls.new.conn) → TellsVersion (state S.Store calls.old.conn).now result }
 {
-    if let Err(fault) = run(calls, BEGIN, &[]) {
-        return Err(open_fault(fault));
-    }
+    calls.begin()?;
     let seen = see_version(alloc, calls);
-    match run(calls, ROLLBACK, &[]) {
+    match calls.roll_back() {
         Ok(()) => seen,
         Err(fault) => Err(first_fault(seen, fault)),
     }
@@ -209,12 +206,11 @@ fn find_version<S: Alter>(alloc: Global, calls: &mut Calls<S>) -> Result<Version
 /// The fault that is told where what was seen can't be rolled back. Want of memory comes first: a statement that it ends may have rolled
 /// back by itself, and then ROLLBACK finds no transaction.
 fn first_fault(seen: Result<Version, OpenFault>, fault: Fault) -> OpenFault
-    ensures failed { IsFailure result }
-    ensures store { IsStore result → TellsStore fault }
+    ensures { IsFailure result }
 {
     match seen {
         Err(OpenFault::Memory) => OpenFault::Memory,
-        _ => open_fault(fault),
+        _ => OpenFault::from(fault),
     }
 }
 
@@ -241,10 +237,8 @@ fn renew<S: Alter>(alloc: Global, calls: &mut Calls<S>, version: Version) -> Res
     if let Version::Three = version {
         return Ok(());
     }
-    match migrate(alloc, calls, version) {
-        Ok(()) => look_again(alloc, calls.schema()),
-        Err(fault) => Err(open_fault(fault)),
-    }
+    migrate(alloc, calls, version)?;
+    look_again(alloc, calls.schema())
 }
 
 /// Whether the schema has the tables of the newest version, which were just made.
@@ -307,8 +301,5 @@ fn enter<S: Alter>(
     if uses_desk_name(calls.schema()) {
         return take_over(alloc, calls);
     }
-    match fill(calls, approval_if_new) {
-        Ok(()) => Ok(()),
-        Err(fault) => Err(open_fault(fault)),
-    }
+    fill(calls, approval_if_new)
 }

@@ -7,7 +7,7 @@ ghost use Rattle.sqlite.specs.WalFiles.{image_at};
 ghost use Rattle.desk_opening.specs.Opening.{IsFailure};
 ghost use Rattle.desk_opening.specs.Reopening.{BeginsPlain, LeavesPath, LeavesUnharmed, Reopens};
 
-use crate::opening::{OpenFault, open_desk, open_fault};
+use crate::opening::{OpenFault, open_desk};
 use crate::path::{PathLeftover, open_at};
 use sql_calls::{Calls, fault_of};
 use sqlite::{Connection, Error, ErrorCode, FileFrom, FileStore, Files, Leftover, Options, Start};
@@ -74,6 +74,6 @@ pub(crate) fn refused_open(error: Error) -> OpenFault
 {
     match error {
         Error::SqliteFailure(ErrorCode::NotADatabase) => OpenFault::NotDesk,
-        error => open_fault(fault_of(error)),
+        error => OpenFault::from(fault_of(error)),
     }
 }

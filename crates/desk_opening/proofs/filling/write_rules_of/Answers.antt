@@ -13,4 +13,4 @@ returns-in-Some-clause-writes g c =
     (rw (c.get.ensures.value, c.evenly-rule.ensures) at c.write_copies.ensures.writes)
 
 pub returns-in-Some-clause-fails : goal.returns-in-Some-clause-fails
-returns-in-Some-clause-fails g c = let it = c.write_copies.ensures.counts.sound in grind arith
+returns-in-Some-clause-fails g c = let it = c.write_copies.ensures.sound in grind arith
