@@ -1,11 +1,11 @@
 -- Why an opening is a failed store: only by a call that failed, where what was there can be read.
 use Rattle.desk_opening.proofs.Common.{◌≡◌, refl, [], Ok, Err, Result, ap, subst, sym, State, state, still_holds, Schema}
-use Rattle.desk_opening.proofs.Common.{Fault, HoldsRecords, Version, ◌≤◌, newest, at_newest, Migrates, HasDeskTables, IsKnownOpen, OpenFault, Store}
-use Rattle.desk_opening.proofs.Common.{RunsText, MakesTables, codes, SET_VERSION, later_than, bare_ledger, ◌≢◌}
+use Rattle.desk_opening.proofs.Common.{Fault, HoldsLedger, HoldsRecords, Version, ◌≤◌, newest, at_newest, Migrates, HasDeskTables, IsKnownOpen, OpenFault}
+use Rattle.desk_opening.proofs.Common.{RunsText, MakesTables, codes, SET_VERSION, later_than, bare_ledger, ◌≢◌, Store, TellsFirst, nothing}
 use Rattle.sqlite.specs.Store.{Ghosts}
 use Rattle.sql_calls.specs.declared.calls.Calls.{Calls}
 use Rattle.sql_calls.specs.declared.fault.Fault.TheVariants.{Broken}
-use Rattle.desk_opening.specs.Counting.{CountsWhere, FailsGiven, IsReadableAt}
+use Rattle.desk_opening.specs.Counting.{CountsWhere, IsReadableAt}
 use Rattle.desk_opening.specs.Filling.{GivenBare}
 use Rattle.desk_opening.proofs.MigrateLemmas.{sees_bare, stood}
 use Rattle.desk_opening.proofs.HeldLemmas.{has_tables}
@@ -28,6 +28,6 @@ looked_fails g v {z = z} grows m opened schema here (Err e) missing = record {
 -- the later tables are filled
 pub fill_sound : (v : Version) {a b c d e : State} → RunsText a b (codes "BEGIN") [] (Ok tt)
     → MakesTables {A = Unit {0}} {E = OpenFault} (later_than v) b c (Ok tt) → RunsText c d SET_VERSION.now [] (Ok tt)
-    → (f : Fault) → FailsGiven (GivenBare v) {A = Unit {0}} d e (Err f) → IsReadableAt v a e → f ≢ Broken
+    → (f : Fault) → TellsFirst HoldsLedger (GivenBare v) nothing {A = Unit {0}} d e (Err f) → IsReadableAt v a e → f ≢ Broken
 fill_sound v first second third f h it broken = (h.to (bare_ledger v it.0) (sees_bare v it.0 first second third (stood v it.0 it.1))
     (record { records = it.0; bare = refl; readable = it.2 })).reason broken it.3

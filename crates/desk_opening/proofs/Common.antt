@@ -72,8 +72,10 @@ pub use Rattle.desk_records.specs.declared.rollout_texts.TheConstants.{GET_ROLLO
 pub use Rattle.desk_records.specs.declared.texts.TheConstants.{GET_DESK, PUT_DESK, SET_VERSION}
 pub use Rattle.desk_records.specs.declared.version.Version.{Version}
 pub use Rattle.desk_records.specs.declared.version.Version.TheVariants.{One}
-pub use Rattle.desk_opening.specs.Filling.{FillsLater, FillsRollout, MakesLedger, Stays, WritesCopies, WritesRules}
+pub use Rattle.desk_opening.specs.Filling.{FillsLater, FillsRollout, MakesLedger, WritesCopies, WritesRules}
 pub use Rattle.desk_opening.specs.Filling.{bare_ledger, no_rules}
+pub use Rattle.desk_store.specs.Breaking.{TellsFirst}
+pub use Rattle.desk_store.specs.Failing.{nothing}
 pub use Rattle.desk_opening.specs.Making.{AreApart, At, Before, Free, HoldsBefore, HoldsPartly, HoldsStage, IsEmptyTable, Makes, MakesTables}
 pub use Rattle.desk_opening.specs.Making.{Nothing, Older, Partly, Stage, Whole, first_records, told}
 pub use Rattle.desk_opening.specs.Migrating.{HoldsFrom, HoldsOf, LeftOf, Migrates, MovesTo}

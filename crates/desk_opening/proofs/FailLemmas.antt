@@ -2,7 +2,7 @@
 use Rattle.desk_opening.proofs.Common.{◌≡◌, ◌<◌, ◌≤◌, ◌+◌, ◌^◌, ℕ, suc, List, [], ◌∷◌, length, Ok, Err, Result, inl, inr, refl, sym, subst, ◌∙◌, arith, Row}
 use Rattle.desk_opening.proofs.Common.{State, Has}
 use Rattle.desk_opening.proofs.Common.{HasCleanDisk, Fault, Wears, AllByRecursion, RolloutRecord, Records, Version, One, HoldsLedger, Ledger, MakesLedger, Sees}
-use Rattle.desk_opening.proofs.Common.{bare_ledger}
+use Rattle.desk_opening.proofs.Common.{TellsFirst, bare_ledger, nothing}
 use Rattle.std.specs.Prelude.{IsErrAnd}
 use Rattle.std.proofs.lemmas.Bool.Decides.{nat_tests}
 use Rattle.sql_calls.specs.Keyed.{rows_from}
@@ -13,7 +13,7 @@ use Rattle.desk_records.specs.Schema.{Rollouts}
 use Rattle.desk_records.proofs.HeldCounts.{at_place}
 use Rattle.desk_store.specs.BrokenRows.{BreaksColumn}
 use Rattle.desk_store.specs.Readable.{KeepsColumns}
-use Rattle.desk_opening.specs.Counting.{AreReadable, FailsGiven, HasReadable, IsRolloutReadable}
+use Rattle.desk_opening.specs.Counting.{AreReadable, HasReadable, IsRolloutReadable}
 use Rattle.desk_opening.specs.Filling.{GivenBare, GivenRules}
 use Rattle.desk_opening.proofs.RuleLists.{WritesUpTo, rules_up_to}
 
@@ -33,8 +33,8 @@ bare_given : (v : Version) → v ≡ One → (l : Ledger) → GivenBare v l → 
 bare_given v is l given =
     record { none = grind arith; keep = subst (KeepsColumns Rollouts) (sym given.bare) (rollouts_keep v given.records given.readable) }
 
-pub bare_fails : {old new : State} (v : Version) → v ≡ One → (out : Result (Unit {0}) Fault) → FailsGiven GivenRules old new out
-    → FailsGiven (GivenBare v) old new out
+pub bare_fails : {old new : State} (v : Version) → v ≡ One → (out : Result (Unit {0}) Fault) → TellsFirst HoldsLedger GivenRules nothing old new out
+    → TellsFirst HoldsLedger (GivenBare v) nothing old new out
 bare_fails v is out h = grind (arith, bare_given v is)
 
 -- ---- all of them
@@ -43,8 +43,8 @@ bare_fails v is out h = grind (arith, bare_given v is)
 pub rules_fail : {a b m z : State} (k last n : ℕ) → k < last → n ≡ suc k
     → Finds HoldsLedger (λ (l : Ledger). l) {E = Fault} a b (Ok last) (λ l last. last ≡ length l.records.rollouts)
     → MakesLedger {A = Unit {0}} {E = Fault} b m (Ok tt) (WritesUpTo k) → Wears m z → (fault : Fault)
-    → FailsGiven (HasReadable n) {A = Unit {0}} m z (Err fault) → (out : Result (Unit {0}) Fault) → IsErrAnd out (λ e. e ≡ fault)
-    → FailsGiven GivenRules a z out
+    → TellsFirst HoldsLedger (HasReadable n) nothing {A = Unit {0}} m z (Err fault) → (out : Result (Unit {0}) Fault) → IsErrAnd out (λ e. e ≡ fault)
+    → TellsFirst HoldsLedger GivenRules nothing a z out
 rules_fail k last n low next read made wears fault h (Ok x) is = absurd is
 rules_fail {m = m} k last n low next read made wears fault h (Err e) is = record {
   to = λ l sees given. record {

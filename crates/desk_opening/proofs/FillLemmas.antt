@@ -1,7 +1,7 @@
 -- What a migration writes into the later tables.
 use Rattle.desk_opening.proofs.Common.{◌≡◌, ◌++◌, ℕ, zero, suc, ◌+◌, List, [], ◌∷◌, length, set, Option, Some, None, option_map, refl, sym, ap, subst}
 use Rattle.desk_opening.proofs.Common.{◌∙◌, arith, GroupRule, Ledger, Version, One, FillsLater, FillsRollout, WritesCopies, WritesRules}
-use Rattle.desk_opening.proofs.Common.{same_some}
+use Rattle.desk_opening.proofs.Common.{same_some, Fault, Ok, Result}
 use Rattle.rollout_machine.specs.ByteStrings.{item_numbered}
 use Rattle.rollout_machine.specs.Ranges.{each_from}
 use Rattle.rollout_machine.proofs.Lists.{each_from_more, length_each}
@@ -10,7 +10,20 @@ use Rattle.desk_records.specs.RolloutRow.{stored_rollout}
 use Rattle.desk_records.specs.declared.rollout_row.StoredRollout.{StoredRollout}
 use Rattle.desk_records.proofs.HeldCounts.{at_place}
 use Rattle.desk_opening.proofs.RuleLists.{WritesUpTo, rules_up_to, all_even, all_said, got_set, none_said, none_yet, one_more, set_same}
-use Rattle.std.proofs.Common.{set-set}
+use Rattle.std.proofs.Common.{set-set, rules}
+use Rattle.sqlite.specs.Store.{Ghosts}
+use Rattle.sql_calls.specs.declared.calls.Calls.{Calls}
+use Rattle.sql_calls.proofs.Stepping.{no_step, steps_then}
+use Rattle.desk_store.specs.Sharing.{Stays}
+
+-- ---- one call after the other
+
+module _ {S : Type 0} {g : Ghosts S} where
+  pub no_stay : (a : Calls S) → Stays g a a (Ok (tt {0}))
+  no_stay a = record { grows = search rules; frame = λ kept opens. opens; advances = no_step tt _ }
+
+  pub stays_then : {A B : Type 0} {a b c : Calls S} {x : A} → Stays g a b (Ok x) → (out : Result B Fault) → Stays g b c out → Stays g a c out
+  stays_then first out second = grind (arith, steps_then)
 
 -- ---- of one rollout
 

@@ -1,7 +1,7 @@
 -- From the tables of a version to those of the newest, from BEGIN to COMMIT.
 use Rattle.desk_opening.proofs.Common.{inl, inr, [], Ok, Err, Result, refl, arith, Update, State, Fault, RunsText, Sees, commit_is, runs_plain}
 use Rattle.desk_opening.proofs.Common.{Commit, IsKnownOpen, Records, HoldsLedger, HoldsRecords, Rests, ledger_of, HoldsAt, Desk, later_than, SET_VERSION}
-use Rattle.desk_opening.proofs.Common.{Version, set_version_is, set_version_query, codes, true, OpenFault, FillsLater, MakesLedger, Stays, bare_ledger, At}
+use Rattle.desk_opening.proofs.Common.{Version, set_version_is, set_version_query, codes, true, OpenFault, FillsLater, MakesLedger, bare_ledger, At}
 use Rattle.desk_opening.proofs.Common.{HoldsStage, MakesTables, Older, Partly, Whole, Migrates, changed_at, first_records}
 use Rattle.desk_records.proofs.HeldTables.{are_tables, rows_of}
 use Rattle.sql_calls.specs.Standing.{Advances}
@@ -36,7 +36,8 @@ module _ (v : Version) (r : Records) {a b : State} (first : RunsText a b (codes 
       pub sees_bare : Rests HoldsStage a (At v r) → Sees HoldsLedger d (bare_ledger v r)
       sees_bare = (within_as {Kept = HoldsLedger} (λ db h. h) named).sees
 
-      pub filled : {e : State} → Stays {A = Unit {0}} {E = Fault} d e (Ok tt) → MakesLedger {A = Unit {0}} {E = Fault} d e (Ok tt) (FillsLater v)
+      pub filled : {e : State} → Advances HasTables {A = Unit {0}} {E = Fault} tt tt d e (Ok tt)
+          → MakesLedger {A = Unit {0}} {E = Fault} d e (Ok tt) (FillsLater v)
           → Within HoldsStage (At v r) a e (Whole (ledger_of r))
       filled {e} fourth filling =
           let still = goes standing fourth in

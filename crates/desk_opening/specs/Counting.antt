@@ -6,17 +6,14 @@ use Rattle.sql_calls.specs.Standing.{Rests}
 use Rattle.rollout_machine.specs.ByteStrings.{item_numbered}
 use Rattle.rollout_machine.specs.Records.{Records}
 use Rattle.rollout_machine.specs.declared.records.RolloutRecord.{RolloutRecord}
-use Rattle.desk_records.specs.Holds.{HoldsLedger, Ledger}
+use Rattle.desk_records.specs.Holds.{Ledger}
 use Rattle.desk_records.specs.Readable.{HoldsAt}
 use Rattle.desk_records.specs.ReadRows.{broken_stored_rollout_column}
 use Rattle.desk_records.specs.Rollouts.{told_rollout}
 use Rattle.desk_records.specs.Schema.{Rollouts}
 use Rattle.desk_records.specs.declared.version.Version.{Version}
 use Rattle.sql_calls.specs.declared.calls.Calls.{Calls}
-use Rattle.sql_calls.specs.declared.fault.Fault.{Fault}
 use Rattle.desk_store.specs.Blaming.{HasFailed}
-use Rattle.desk_store.specs.Breaking.{TellsFirst}
-use Rattle.desk_store.specs.Failing.{nothing}
 use Rattle.desk_store.specs.Readable.{KeepsColumns}
 use Rattle.desk_opening.specs.declared.opening.OpenFault.{OpenFault}
 use Rattle.desk_opening.specs.declared.opening.OpenFault.TheVariants.{Store}
@@ -37,10 +34,6 @@ pub record HasReadable (number : ℕ) (l : Ledger) : Type 0 where
   pub keep : KeepsColumns Rollouts l
   pub rollout : RolloutRecord
   pub is_there : item_numbered l.records.rollouts number ≡ Some rollout
-
--- where the ledger is as given, broken rows are never told
-abbrev pub FailsGiven : (Ledger → Type 0) → {A : Type 0} → State → State → Result A Fault → Type 0
-FailsGiven Given old new result = TellsFirst HoldsLedger Given nothing old new result
 
 -- ---- what an opening tells
 

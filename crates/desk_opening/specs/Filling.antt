@@ -1,7 +1,7 @@
 -- A change that fills the tables of the newest version.
 use Rattle.std.specs.Prelude.{◌≡◌, ℕ, List, [], map, Some, Result}
 use Rattle.sqlite.specs.State.{State}
-use Rattle.sql_calls.specs.Standing.{Advances, Makes}
+use Rattle.sql_calls.specs.Standing.{Makes}
 use Rattle.rollout_model.specs.declared.group_rule.GroupRule.{GroupRule}
 use Rattle.rollout_machine.specs.ByteStrings.{item_numbered}
 use Rattle.rollout_machine.specs.GroupRules.{even_rules}
@@ -15,12 +15,7 @@ use Rattle.desk_records.specs.Versions.{IsTellable}
 use Rattle.desk_records.specs.declared.version.Version.{Version}
 use Rattle.desk_records.specs.declared.version.Version.TheVariants.{One, Two, Three}
 use Rattle.desk_store.specs.Readable.{KeepsColumns}
-use Rattle.desk_store.specs.Sharing.{HasTables}
 use Rattle.desk_opening.specs.Counting.{AreReadable}
-
--- the tables stay where they are, and a crash leaves what it could leave before
-abbrev pub Stays : {A E : Type 0} → State → State → Result A E → Type 0
-Stays old new result = Advances HasTables tt tt old new result
 
 -- the next ledger is made
 abbrev pub MakesLedger : {A E : Type 0} → State → State → Result A E → (Ledger → Ledger → Type 0) → Type 0

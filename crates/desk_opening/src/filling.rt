@@ -1,10 +1,12 @@
 //! What the tables of later versions hold of the records of an older one.
 
 ghost use Rattle.std.specs.Prelude.{◌≢◌, ◌≤◌, IfErr};
-ghost use Rattle.sqlite.specs.Held.{state};
-ghost use Rattle.sql_calls.specs.Calls.{Grows, failures_in};
-ghost use Rattle.desk_opening.specs.Counting.{FailsGiven, HasReadable};
-ghost use Rattle.desk_opening.specs.Filling.{FillsLater, FillsRollout, GivenBare, GivenRules, MakesLedger, Stays, WritesCopies, WritesRules};
+ghost use Rattle.desk_records.specs.Holds.{HoldsLedger};
+ghost use Rattle.desk_store.specs.Breaking.{TellsFirst};
+ghost use Rattle.desk_store.specs.Failing.{nothing};
+ghost use Rattle.desk_store.specs.Sharing.{Stays, seen_by};
+ghost use Rattle.desk_opening.specs.Counting.{HasReadable};
+ghost use Rattle.desk_opening.specs.Filling.{FillsLater, FillsRollout, GivenBare, GivenRules, MakesLedger, WritesCopies, WritesRules};
 
 use desk_records::Version;
 use desk_store::{read_last_rollout, read_rollout, write_rule};
@@ -19,10 +21,9 @@ pub(crate) fn fill_later<S: Alter>(
     calls: &mut Calls<S>,
     version: Version,
 ) -> Result<(), Fault>
-    ensures stays { Stays (state S.Store calls.old.conn) (state S.Store calls.new.conn) result }
-    ensures writes { MakesLedger (state S.Store calls.old.conn) (state S.Store calls.new.conn) result (FillsLater version) }
-    ensures fails { FailsGiven (GivenBare version) (state S.Store calls.old.conn) (state S.Store calls.new.conn) result }
-    ensures grows { Grows (failures_in result) calls.old calls.new }
+    ensures stays { Stays S.Store calls.old calls.new result }
+    ensures writes { MakesLedger (seen_by S.Store calls.old) (seen_by S.Store calls.new) result (FillsLater version) }
+    ensures fails { TellsFirst HoldsLedger (GivenBare version) nothing (seen_by S.Store calls.old) (seen_by S.Store calls.new) result }
 {
     match version {
         Version::One => write_rules(alloc, calls),
@@ -32,10 +33,9 @@ pub(crate) fn fill_later<S: Alter>(
 
 /// Says of each group of all rollouts what its rollout says of all its groups.
 fn write_rules<S: Alter>(alloc: Global, calls: &mut Calls<S>) -> Result<(), Fault>
-    ensures stays { Stays (state S.Store calls.old.conn) (state S.Store calls.new.conn) result }
-    ensures writes { MakesLedger (state S.Store calls.old.conn) (state S.Store calls.new.conn) result WritesRules }
-    ensures fails { FailsGiven GivenRules (state S.Store calls.old.conn) (state S.Store calls.new.conn) result }
-    ensures grows { Grows (failures_in result) calls.old calls.new }
+    ensures stays { Stays S.Store calls.old calls.new result }
+    ensures writes { MakesLedger (seen_by S.Store calls.old) (seen_by S.Store calls.new) result WritesRules }
+    ensures fails { TellsFirst HoldsLedger GivenRules nothing (seen_by S.Store calls.old) (seen_by S.Store calls.new) result }
 {
     let last = read_last_rollout(calls)?;
     for k in 0..last {
@@ -47,10 +47,9 @@ fn write_rules<S: Alter>(alloc: Global, calls: &mut Calls<S>) -> Result<(), Faul
 /// The same of one rollout.
 fn write_rules_of<S: Alter>(alloc: Global, calls: &mut Calls<S>, number: u32) -> Result<(), Fault>
     requires { 1 ≤ number }
-    ensures stays { Stays (state S.Store calls.old.conn) (state S.Store calls.new.conn) result }
-    ensures writes { MakesLedger (state S.Store calls.old.conn) (state S.Store calls.new.conn) result (FillsRollout number) }
-    ensures fails { FailsGiven (HasReadable number) (state S.Store calls.old.conn) (state S.Store calls.new.conn) result }
-    ensures grows { Grows (failures_in result) calls.old calls.new }
+    ensures stays { Stays S.Store calls.old calls.new result }
+    ensures writes { MakesLedger (seen_by S.Store calls.old) (seen_by S.Store calls.new) result (FillsRollout number) }
+    ensures fails { TellsFirst HoldsLedger (HasReadable number) nothing (seen_by S.Store calls.old) (seen_by S.Store calls.new) result }
 {
     match read_rollout(alloc, calls, number)? {
         Some(rollout) => {
@@ -69,10 +68,9 @@ fn write_copies<S: Alter>(
     groups: u32,
     rule: &GroupRule,
 ) -> Result<(), Fault>
-    ensures stays { Stays (state S.Store calls.old.conn) (state S.Store calls.new.conn) result }
-    ensures writes { MakesLedger (state S.Store calls.old.conn) (state S.Store calls.new.conn) result (WritesCopies number groups rule.now) }
+    ensures stays { Stays S.Store calls.old calls.new result }
+    ensures writes { MakesLedger (seen_by S.Store calls.old) (seen_by S.Store calls.new) result (WritesCopies number groups rule.now) }
     ensures sound { IfErr result (λ fault. fault ≢ Fault.Broken) }
-    ensures grows { Grows (failures_in result) calls.old calls.new }
 {
     for i in 0..groups {
         write_rule(calls, number, i + 1, rule)?;

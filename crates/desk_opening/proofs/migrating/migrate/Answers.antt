@@ -23,22 +23,22 @@ returns-in_err-run-clause-migrates g c = migrates_by _ (λ r. breaks (made c.arg
 
 pub returns-in_err-fill_later-clause-migrates : goal.returns-in_err-fill_later-clause-migrates
 returns-in_err-fill_later-clause-migrates g c = migrates_by _ (λ r. breaks (standing c.args.version r c.in_ok-begin.ensures.runs
-    (rw c.tables_after.ensures at c.in_ok-make_tables.ensures.makes) c.in_ok-run.ensures.runs) c.in_err-fill_later.ensures.stays _
+    (rw c.tables_after.ensures at c.in_ok-make_tables.ensures.makes) c.in_ok-run.ensures.runs) c.in_err-fill_later.ensures.stays.advances _
     c.from_residual-in_err-fill_later.ensures.0)
 
 pub returns-in_err-commit-clause-migrates : goal.returns-in_err-commit-clause-migrates
 returns-in_err-commit-clause-migrates g c = migrates_by _ (λ r. not_ended (filled c.args.version r c.in_ok-begin.ensures.runs
-    (rw c.tables_after.ensures at c.in_ok-make_tables.ensures.makes) c.in_ok-run.ensures.runs c.in_ok-fill_later.ensures.stays
+    (rw c.tables_after.ensures at c.in_ok-make_tables.ensures.makes) c.in_ok-run.ensures.runs c.in_ok-fill_later.ensures.stays.advances
     c.in_ok-fill_later.ensures.writes) c.in_err-commit.ensures.runs _ c.from_residual-in_err-commit.ensures.0)
 
 pub returns-in_err-fill_later-clause-fails : goal.returns-in_err-fill_later-clause-fails
-returns-in_err-fill_later-clause-fails g c = counts_call c.in_err-fill_later.field-0.0 c.in_err-fill_later.ensures.grows (omega arith)
+returns-in_err-fill_later-clause-fails g c = counts_call c.in_err-fill_later.field-0.0 c.in_err-fill_later.ensures.stays.grows (omega arith)
     (fill_sound c.args.version c.in_ok-begin.ensures.runs (rw c.tables_after.ensures at c.in_ok-make_tables.ensures.makes) c.in_ok-run.ensures.runs
     c.in_err-fill_later.field-0.0 c.in_err-fill_later.ensures.fails) c.from_residual-in_err-fill_later.result c.from_residual-in_err-fill_later.ensures.1
 
 pub returns-clause-migrates : goal.returns-clause-migrates
 returns-clause-migrates g c = migrates_by (Ok tt) (λ r. ended (filled c.args.version r c.in_ok-begin.ensures.runs
-    (rw c.tables_after.ensures at c.in_ok-make_tables.ensures.makes) c.in_ok-run.ensures.runs c.in_ok-fill_later.ensures.stays
+    (rw c.tables_after.ensures at c.in_ok-make_tables.ensures.makes) c.in_ok-run.ensures.runs c.in_ok-fill_later.ensures.stays.advances
     c.in_ok-fill_later.ensures.writes) c.in_ok-commit.ensures.runs (g.met.S.Store.settled c.commit.new.self.conn.store) tt)
 
 pub returns-clause-opened : goal.returns-clause-opened
