@@ -2,7 +2,8 @@
 use Rattle.desk_opening.proofs.Common.{Bool, codes, inl, Ok, Err, IfErr, Result, arith, both_ways, Database, State, HasCleanDisk}
 use Rattle.desk_opening.proofs.Common.{LeavesFree, Rests, still_holds, Records, desk_names, HoldsReadable, Version, has_desk}
 use Rattle.desk_opening.proofs.Common.{HoldsStage, Free, Makes, told, OpenFault, NotDesk, Adopts, HasDesk, HasRow, LacksPartOfDesk}
-use Rattle.desk_opening.proofs.Common.{IsFailure, TellsOfRow, FindsTo, OpensDesk, OpensTo, IsKnownOpen, HoldsOf, None, Option, Some}
+use Rattle.desk_opening.proofs.Common.{IsFailure, TellsOfRow, FindsTo, OpensDesk, IsKnownOpen, HoldsOf, None, Option, Some}
+use Rattle.desk_opening.specs.Making.{MakesTo}
 use Rattle.desk_opening.proofs.VersionLemmas.{used_at}
 
 some_version : (o : Option Version) (db : Database) (r : Records) → HoldsOf o db r → HoldsReadable db r
@@ -32,7 +33,7 @@ module _ {A : Type 0} (old new : State) (approval : Bool) where
       finds (Err NotDesk) told = record { used = used; other = told }
       finds (Err e) told = told
 
-      go : (result : Result A OpenFault) → IsKnownOpen old → OpensTo old new approval result
+      go : (result : Result A OpenFault) → IsKnownOpen old → MakesTo old new approval result
       go (Ok x) is_open = λ was clean. absurd (free_is_unused old is_open was (omega (arith, h.wears)) used)
       go (Err e) is_open = λ was clean db left. absurd (free_is_unused old is_open was (omega (arith, h.wears)) used)
 

@@ -81,7 +81,7 @@ pub use Rattle.desk_opening.specs.Making.{Nothing, Older, Partly, Stage, Whole, 
 pub use Rattle.desk_opening.specs.Migrating.{HoldsFrom, HoldsOf, LeftOf, Migrates, MovesTo}
 pub use Rattle.desk_opening.specs.Opening.{Adopts, FindsFault, FindsTo, HasDesk, HasDeskAt, HasDeskTables, HasNoDesk, HasNoRow, HasRow, IsDeskRow, IsFailure}
 pub use Rattle.desk_opening.specs.Opening.{IsKnownOpen, IsNewerRow, IsOtherRow, IsSettled, IsWholeAt, Keeps, LacksAt, LacksPartOfDesk, LacksTables, OpensDesk}
-pub use Rattle.desk_opening.specs.Opening.{OpensTo, TakesDeskRow, TellsOfRow, TellsVersion}
+pub use Rattle.desk_opening.specs.Opening.{TakesDeskRow, TellsOfRow, TellsVersion}
 pub use Rattle.desk_opening.specs.Places.{place_of}
 pub use Rattle.desk_opening.specs.Reopening.{BeginsPlain, EachAfter, HoldsDesk, HoldsDeskAt, HoldsNone, HoldsPlain, HoldsWhatWas, IsForeign, Reopens, Spares}
 pub use Rattle.desk_opening.specs.Reopening.{UsesNoName}

@@ -16,13 +16,12 @@ use Rattle.sql_calls.specs.Standing.{Wears, HoldIn, Rests}
 use Rattle.sql_calls.specs.declared.fault.Fault.{Fault}
 use Rattle.rollout_machine.specs.Records.{Records}
 use Rattle.desk_records.specs.Schema.{table_at, desk_table, name_of, desk_names}
-use Rattle.desk_records.specs.Holds.{HoldsRecords}
 use Rattle.desk_records.specs.Versions.{later_than, newest, version_number, places_at}
 use Rattle.desk_records.specs.declared.texts.TheConstants.{GET_DESK}
 use Rattle.desk_records.specs.declared.version.Version.{Version}
 use Rattle.desk_opening.specs.declared.opening.OpenFault.{OpenFault}
 use Rattle.desk_opening.specs.declared.opening.OpenFault.TheVariants.{NotDesk, NewerVersion, Memory, Store}
-use Rattle.desk_opening.specs.Making.{HoldsStage, Free, LeavesNoDesk, LeavesDeskWith, first_records}
+use Rattle.desk_opening.specs.Making.{MakesTo}
 use Rattle.desk_opening.specs.Migrating.{HoldsOf, MovesTo}
 
 -- each table of the version is there as the desk makes it, and the names of later ones are free
@@ -155,11 +154,6 @@ pub record HasNoDesk (db : Database) : Type 0 where
 abbrev pub IsKnownOpen : State → Type 0
 IsKnownOpen s = HasCleanDisk s → IsTrue s.is_open
 
-abbrev pub OpensTo : {A E : Type 0} → State → State → Bool → Result A E → Type 0
-OpensTo old new approval (Ok _) = Rests HoldsStage old Free → Rests HoldsRecords new (first_records approval)
-OpensTo old new approval (Err e) = Rests HoldsStage old Free → HasCleanDisk new → (db : Trees) → new.may_leave db → LeavesNoDesk db
-    ⊎ LeavesDeskWith db (first_records approval)
-
 -- What is opened is a desk, or uses no name of one. What is refused as no desk is none, and what is refused as a later one says so.
 abbrev pub FindsFault : Database → OpenFault → Type 0
 FindsFault db NotDesk = HasNoDesk db
@@ -176,7 +170,7 @@ pub record OpensDesk {A : Type 0} (old new : State) (approval : Bool) (result : 
   pub wears : Wears old new
   pub finds : HasCleanDisk new → FindsTo old.now result
   pub takes : IsKnownOpen old → (o : Option Version) → MovesTo o old new result
-  pub makes : IsKnownOpen old → OpensTo old new approval result
+  pub makes : IsKnownOpen old → MakesTo old new approval result
 
 -- A law of each store: while it is open, a crash leaves the last commit.
 abbrev pub IsSettled : State → Type 0
