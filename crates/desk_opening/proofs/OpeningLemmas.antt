@@ -1,22 +1,19 @@
 -- The row of `desk` is read in a change that is given up.
-use Rattle.desk_opening.proofs.Common.{inl, inr, [], codes, Option, Ok, Err, IsErr, Result, subst, arith, Trees, Begin, Select, Database, State, HasCleanDisk}
+use Rattle.desk_opening.proofs.Common.{inl, inr, [], codes, Option, Ok, Err, IsErr, Result, subst, arith, Begin, Select, Database, State, HasCleanDisk}
 use Rattle.desk_opening.proofs.Common.{Fault}
-use Rattle.desk_opening.proofs.Common.{RunsText, TakesFirst, Wears, HoldIn, Rests, Spoiled, Knows, runs_plain, begin_is, rollback_is, begins, fails_to_begin}
+use Rattle.desk_opening.proofs.Common.{RunsText, TakesFirst, Wears, Rests, Spoiled, Knows, runs_plain, begin_is, rollback_is, begins, fails_to_begin}
 use Rattle.desk_opening.proofs.Common.{gives_up, Records, Desk, HoldsAt, HoldsPlace, Version, has_desk, None, Some, GET_DESK, desk_query, get_desk_is}
 use Rattle.desk_opening.proofs.Common.{OpenFault, Keeps, TakesDeskRow, TellsVersion, asked_at}
 use Rattle.sqlite.specs.Order.{Row}
 use Rattle.desk_opening.specs.Migrating.{HoldsOf}
+use Rattle.desk_opening.specs.Opening.{KeepsTo}
 use Rattle.sql_calls.specs.Standing.{FrameTo}
 use Rattle.sql_calls.proofs.Framing.{first_frames}
-
--- every crash leaves what stood
-abbrev pub LeavesAll : (Database → Records → Type 0) → State → State → Type 0
-LeavesAll Holds a z = (r : Records) → Rests Holds a r → HasCleanDisk z → (db : Trees) → z.may_leave db → HoldIn Holds db r
 
 -- ---- of one relation
 
 module _ (Holds : Database → Records → Type 0) (knows : Knows Holds GET_DESK.now) (a b : State) where
-  begin_leaves : (fault : Fault) → RunsText a b (codes "BEGIN") [] (Err fault) → LeavesAll Holds a b
+  begin_leaves : (fault : Fault) → RunsText a b (codes "BEGIN") [] (Err fault) → KeepsTo {A = Unit {0}} Holds a b (Err fault)
   begin_leaves fault h r was clean db left = ((fails_to_begin Holds (codes "BEGIN") a b (begin_is a.now.schema) fault h).rests r was clean).held.crash db left
 
   module _ (first : RunsText a b (codes "BEGIN") [] (Ok tt)) (c : State) where
@@ -27,7 +24,7 @@ module _ (Holds : Database → Records → Type 0) (knows : Knows Holds GET_DESK
           elim took as (λ out. FrameTo Holds b c out → Spoiled Holds c r) [ Ok row ↦ λ frame. (frame r opens).spoiled | Err fault ↦ λ frame. frame r opens ]
           (first_frames Holds GET_DESK.now [] b c knows took second)
 
-      end_leaves : (fault : Fault) → RunsText c d (codes "ROLLBACK") [] (Err fault) → LeavesAll Holds a d
+      end_leaves : (fault : Fault) → RunsText c d (codes "ROLLBACK") [] (Err fault) → KeepsTo {A = Unit {0}} Holds a d (Err fault)
       end_leaves fault h r was clean db left =
           elim (((gives_up Holds (codes "ROLLBACK") c d (rollback_is c.now.schema) (Err fault) h).gives_up r (taken r was) clean).crash db left)
           [ inl one ↦ one | inr other ↦ other ]
