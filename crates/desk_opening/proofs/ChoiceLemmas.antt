@@ -39,5 +39,4 @@ module _ {A : Type 0} (old new : State) (approval : Bool) where
 
   pub makes_free : LeavesFree old.now.schema desk_names → (out : Result A OpenFault) → IfErr out IsFailure → Makes old new approval out
       → OpensDesk old new approval out
-  makes_free free (Ok a) fails h = grind (arith, held_is_used)
-  makes_free free (Err e) fails h = grind (arith, held_is_used)
+  makes_free free out fails h = grind (arith, held_is_used)

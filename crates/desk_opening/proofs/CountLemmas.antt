@@ -1,5 +1,5 @@
 -- A call that failed is counted.
-use Rattle.desk_opening.proofs.Common.{◌≡◌, ◌≢◌, ◌≤◌, ℕ, Ok, Err, Result, IfErr, arith, Fault, OpenFault}
+use Rattle.desk_opening.proofs.Common.{◌≡◌, ◌≢◌, ◌≤◌, ℕ, Result, IfErr, arith, Fault, OpenFault}
 use Rattle.std.specs.Prelude.{IsErrAnd}
 use Rattle.sql_calls.specs.Calls.{Grows, failures_of}
 use Rattle.sql_calls.specs.declared.calls.Calls.{Calls}
@@ -25,5 +25,4 @@ module _ {Where : Type 0} {S : Type 0} where
   -- .. of a call that failed
   pub counts_call : {A : Type 0} {a b c : Calls S} (f : Fault) → Grows (failures_of f) b c → a.failures ≤ b.failures → (Where → f ≢ Broken)
       → (out : Result A OpenFault) → IsErrAnd out (λ e. e ≡ open_fault f) → CountsWhere Where a c out
-  counts_call f h first sound (Ok x) is = absurd is
-  counts_call f h first sound (Err e) is = grind (arith, failed_within)
+  counts_call f h first sound out is = grind (arith, failed_within)
