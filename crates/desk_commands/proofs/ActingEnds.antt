@@ -7,7 +7,7 @@ use Rattle.desk_commands.proofs.Common.{ActionRecord, GroupRecord, RolloutRecord
 use Rattle.desk_commands.proofs.Common.{following, waits, ChangesAction, action_with, change_by, ended_by, moved_by, rollout_with, ActionChange}
 use Rattle.desk_commands.proofs.Common.{StaysOpen, Ends, Tally, tally_of, numbers_from, numbers_of, Ledger, ledger_of, set_numbered, with_groups}
 use Rattle.desk_commands.proofs.Common.{in_place_of, reoffered, subst, with_rollouts, next_offer, actor, offers_before_start, with_actor, Acts, FollowsChange}
-use Rattle.desk_commands.proofs.Common.{FollowsSo, StartsGroupOf, change_numbered, with_outcome, Reoffers, with_rollout, started, MayReoffer, action_view_seen}
+use Rattle.desk_commands.proofs.Common.{FollowsSo, StartsIf, change_numbered, with_outcome, Reoffers, with_rollout, started, MayReoffer, action_view_seen}
 use Rattle.desk_commands.proofs.Common.{CountsNumbers, TellsReports, entries_by, numbers_by, tally_by, with_reports, Told, SeenAction, Following}
 use Rattle.desk_commands.specs.ActionSteps.{with_changed_action}
 use Rattle.std.proofs.lemmas.List.Elements.{filter-append}
@@ -202,7 +202,7 @@ module _ (h : CommandList) (c : Command) (valid : IsValid h) (formed : IsWellFor
       where
         -- the group behind it
         starts : (next : Option GroupRecord) → item_numbered w.rollout.groups (w.own.number + 1) ≡ next → waits next ≡ true
-            → StartsGroupOf r next (with_rollout then_offered r x2) (ledger_of (step_records rs c))
+            → StartsIf r next (with_rollout then_offered r x2) (ledger_of (step_records rs c))
         starts None its waiting = cc
         starts (Some g) its waiting =
             let number = numbered (w.own.number + 1) g its in

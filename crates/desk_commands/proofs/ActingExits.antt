@@ -2,8 +2,8 @@
 use Rattle.desk_commands.proofs.Common.{◌≡◌, ◌≤◌, ◌<◌, ◌^◌, ℕ, ◌+◌, List, [], ◌∷◌, length, Option, Some, option_map, sym, ap, ◌∙◌, subst, arith, is_some}
 use Rattle.desk_commands.proofs.Common.{length-map, length-set, zip, item_numbered, CommandList, Reported, entries_in, is_note, notes_of, IsValid, Records}
 use Rattle.desk_commands.proofs.Common.{records, Outcome, Good, Bad, Gone, ActionRecord, GroupRecord, RolloutRecord, numbered_map, ActionChange, Tally}
-use Rattle.desk_commands.proofs.Common.{tally_of, numbers_from, numbers_of, Ledger, ledger_of, set_numbered, PlacedNumber, Acts, TellsAction, FollowsSo}
-use Rattle.desk_commands.proofs.Common.{outcomes_in, SeenAction, Told, Has, limits_hold, Following, CanEndBy, CanFollow, CanTell, Leads, TakesSteps}
+use Rattle.desk_commands.proofs.Common.{tally_of, numbers_from, numbers_of, Ledger, ledger_of, set_numbered, PlacedNumber, Acts, TellsAction}
+use Rattle.desk_commands.proofs.Common.{outcomes_in, SeenAction, Told, Has, limits_hold, Leads, TakesSteps, HasRoom}
 use Rattle.desk_commands.proofs.Common.{AreActionsNumbered}
 use Rattle.std.proofs.lemmas.List.Sums.{count_by-le-length, length-filter}
 use Rattle.std.proofs.lemmas.Option.{same_Some}
@@ -27,6 +27,19 @@ few_numbers sequence (r ∷ history) = grind (arith, few_numbers (sequence + 1) 
 few_notes : (a : ActionRecord) → notes_of a ≤ length a.history
 few_notes a = let size : length (entries_in a.history) ≡ length a.history = length-map a.history (λ (r : Reported). r.entry) in
     omega (arith, size, length-filter is_note (entries_in a.history), count_by-le-length is_note (entries_in a.history))
+
+-- ---- what follows
+
+few_outcomes : (h : CommandList) → IsValid h → (r : ℕ) (x : RolloutRecord) (i : ℕ) (g : GroupRecord) → item_numbered (records h).rollouts r ≡ Some x
+    → item_numbered x.groups i ≡ Some g → (o : Outcome) → outcomes_in o g ≤ 10000
+few_outcomes h valid r x i g at its o =
+    let limits = (limits_hold h valid).each r x at in
+    let counts = limits.counts i g its in
+    elim o as (λ o. outcomes_in o g ≤ 10000) [
+      | Good ↦ omega (arith, counts.ok, limits.members)
+      | Bad ↦ omega (arith, counts.bad, limits.members)
+      | Gone ↦ omega (arith, counts.gone, limits.members)
+    ]
 
 -- ---- what is told
 
@@ -62,8 +75,8 @@ module _ (seen : SeenAction) (after : ActionChange) (told : Option Told) (l : Le
   few : length its.a.history + 1 < 2 ^ 32
   few = w.takes.counted.few its.a (has_numbered l.records.actions seen.number its.a its.at)
 
-  pub can_tell : CanTell seen told
-  can_tell = grind (arith, few, few_notes, is_some, few_numbers)
+  pub has_room : HasRoom seen after told
+  has_room = grind (arith, few, few_notes, is_some, few_numbers, few_outcomes)
 
   -- the actions keep their numbers
   pub numbers_stay : AreActionsNumbered w.changes.acted
@@ -76,22 +89,3 @@ module _ (seen : SeenAction) (after : ActionChange) (told : Option Told) (l : Le
         tallied = same_length l.tallies seen.number _ ∙ of ∙ sym (same_length l.records.actions seen.number _);
         few = subst (λ n. n ≤ 2147483647) (sym (same_length l.records.actions seen.number _)) (omega (arith, limit));
       })
-
--- ---- what follows
-
-follows_there : (seen : SeenAction) (so : Following) (l next : Ledger) → FollowsSo seen so l next → CanFollow seen so
-follows_there seen so l next f = grind arith
-
-few_outcomes : (h : CommandList) → IsValid h → (r : ℕ) (x : RolloutRecord) (i : ℕ) (g : GroupRecord) → item_numbered (records h).rollouts r ≡ Some x
-    → item_numbered x.groups i ≡ Some g → (o : Outcome) → outcomes_in o g ≤ 10000
-few_outcomes h valid r x i g at its o =
-    let limits = (limits_hold h valid).each r x at in
-    let counts = limits.counts i g its in
-    elim o as (λ o. outcomes_in o g ≤ 10000) [
-      | Good ↦ omega (arith, counts.ok, limits.members)
-      | Bad ↦ omega (arith, counts.bad, limits.members)
-      | Gone ↦ omega (arith, counts.gone, limits.members)
-    ]
-
-pub can_end : (seen : SeenAction) (after : ActionChange) (told : Option Told) (l : Ledger) → Leads (Acts seen after told) l → CanEndBy seen after
-can_end seen after told l w = grind (arith, few, few_outcomes, follows_there)

@@ -104,14 +104,15 @@ pub use Rattle.desk_reads.specs.AtLists.{AreOfList, FailsAtListsIn, IsOfList}
 pub use Rattle.desk_reads.specs.Rollouts.{IsSeenOf}
 pub use Rattle.desk_reads.specs.Targets.{target_listed}
 pub use Rattle.desk_reads.specs.declared.rollouts.SeenRollout.{SeenRollout}
-pub use Rattle.desk_commands.specs.ActionSteps.{Acts, FollowsChange, TellsAction, WritesFeedback, canceling_by, outcome_by, stays_offered}
+pub use Rattle.desk_commands.specs.ActionSteps.{Acts, TellsAction, WritesFeedback, canceling_by, outcome_by, stays_offered}
 pub use Rattle.desk_commands.specs.Additions.{AddsArtifact, AddsContents, AddsModules, AddsWhole, LacksModule}
 pub use Rattle.desk_commands.specs.Attributes.{GivesAttribute, GivesAttributes, attributed_with, has_attribute, keys_after}
+pub use Rattle.desk_commands.specs.Counts.{HasRoom}
 pub use Rattle.desk_commands.specs.Creations.{CreatesRollout, IsChosen, IsWordOf, and_rollout, in_part, shown_new}
-pub use Rattle.desk_commands.specs.Endings.{CountsOutcome, FollowsSo, StartsGroupOf, outcomes_in, with_outcome, with_rollout}
-pub use Rattle.desk_commands.specs.Failures.{CanEndBy, CanFollow, CanStart, CanTell, CountsIf, FailsWriting, IsActionOf, IsLastOf, IsSeenFrom, IsSeenIn, Leads}
+pub use Rattle.desk_commands.specs.Endings.{FollowsChange, FollowsSo, outcomes_in, with_outcome, with_rollout}
+pub use Rattle.desk_commands.specs.Failures.{FailsWriting, IsActionOf, IsLastOf, IsSeenFrom, IsSeenIn, Leads}
 pub use Rattle.desk_commands.specs.Failures.{TakesRow, TakesRows, TakesSteps}
-pub use Rattle.desk_commands.specs.GroupStarts.{StartsAndOffers, started, with_group}
+pub use Rattle.desk_commands.specs.GroupStarts.{StartsAndOffers, StartsIf, started, with_group}
 pub use Rattle.desk_commands.specs.GroupViews.{EndsBeyond, view_by}
 pub use Rattle.desk_commands.specs.Imports.{AddsTags, DropsTags, HasCounted, IsTooMany, PutsAll, PutsOver, PutsRow, PutsRows, Renames, Retags, lacking}
 pub use Rattle.desk_commands.specs.Imports.{retagged, tagged_with, untagged_from, with_row, without_words}
@@ -119,7 +120,7 @@ pub use Rattle.desk_commands.specs.Offering.{MayReoffer, Reoffers}
 pub use Rattle.desk_commands.specs.SeenActions.{IsSeen, MaySee, SeesFeedback, SeesIn, SeesTarget, action_seen, action_view_seen, cancel_view_seen}
 pub use Rattle.desk_commands.specs.SeenActions.{device_action_seen, only_of, only_started, seen_if}
 pub use Rattle.desk_commands.specs.SeenReports.{StandsAgainst, StandsAmong, StandsAt, asked, more_reads, reads_for, with_number}
-pub use Rattle.desk_commands.specs.Standings.{GoesOn, IsSeenAt, StartsIf, WritesSaid, approval_after, gone_by, pause_left, paused_after, command_said}
+pub use Rattle.desk_commands.specs.Standings.{GoesOn, IsSeenAt, WritesSaid, approval_after, gone_by, pause_left, paused_after, command_said}
 pub use Rattle.desk_commands.specs.Standings.{starts_by}
 pub use Rattle.desk_commands.specs.Starts.{StartsWhole}
 pub use Rattle.desk_records.specs.LedgerSteps.{and_actions, new_for}

@@ -1,7 +1,7 @@
 -- When a command tells broken rows, by what was read before.
 use Rattle.desk_commands.proofs.Common.{◌≡◌, Option, Some, Ok, Err, Result, arith, IsErrAnd, ok_or, Sees, Wears, CommandList, IsValid}
 use Rattle.desk_commands.proofs.Common.{Records, records, HoldsLedger, Ledger, ledger_of, seen_in, Fault, Ghosts, FailsGiven, HasReason, ReadableAs}
-use Rattle.desk_commands.proofs.Common.{IsReadable, OpenChange, IsOfList, CountsIf, FailsWriting}
+use Rattle.desk_commands.proofs.Common.{IsReadable, OpenChange, IsOfList, FailsWriting}
 use Rattle.desk_commands.specs.Failures.{FailsWritingIn}
 use Rattle.sqlite.specs.State.{State}
 use Rattle.sql_calls.specs.Standing.{Finds}
@@ -70,19 +70,3 @@ module _ {A : Type 0} {Given : Ledger → Type 0} {was new : State} {x : A} {fau
   pub never_at : ((l : Ledger) → Given l → IsOfList l) → {P : Records → A → Type 0} → Finds HoldsLedger ledger_of {E = Fault} was new (Ok x) P
       → ((h : CommandList) → IsValid h → P (records h) x → Given (ledger_of (records h)) → ⊥) → Exits Given was new fault
   never_at listed read why = asked_at listed read {Asked = λ l. ⊥} (omega arith) why (never_given (λ l none. none))
-
--- ---- writes that ask for no ledger
-
--- where the broken rows are the function's own
-pub counts_never : {S B : Type 0} {g : Ghosts S} {If : Type 0} {old new : OpenChange S} → (If → ⊥) → (fault : Fault) (out : Result B Fault)
-    → IsErrAnd out (λ e. e ≡ fault) → CountsIf g If old new out
-counts_never why fault out is = grind arith
-
--- where they are those of a call
-pub writes_last : {S B : Type 0} {g : Ghosts S} {Given : Ledger → Type 0} {If : Type 0} {old mid new : OpenChange S} → ((l : Ledger) → Given l → If)
-    → (out : Result B Fault) → CountsIf g If mid new out → FailsWriting g Given old new out
-writes_last means out w = grind arith
-
-pub counted : {S A : Type 0} {g : Ghosts S} {If : Type 0} {old new : OpenChange S} {fault : Fault} → CountsIf g If {A = A} old new (Err fault) → {was : State}
-    → Exits (λ l. If) was (seen_in g new) fault
-counted w = λ l sees it. w.to it.given

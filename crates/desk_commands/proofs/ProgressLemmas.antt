@@ -2,11 +2,14 @@
 use Rattle.desk_commands.proofs.Common.{◌≡◌, ◌<◌, ℕ, suc, ◌+◌, Bool, false, cond, List, [], ◌∷◌, ◌++◌, map, length, get_or, Option, Some, None, refl, sym, ap}
 use Rattle.desk_commands.proofs.Common.{◌∙◌, subst, arith, nat_eq, take, ltb-true, take_more, item_numbered, IsValid, CommandList, RolloutPlan, GroupRule}
 use Rattle.desk_commands.proofs.Common.{rule_at, group_in, records, last_started, resumed, start_group, step_records, triggered, view_of, check, GroupRecord}
-use Rattle.desk_commands.proofs.Common.{RolloutRecord, length_each, Ledger, ledger_of, set_numbered, turned, with_groups, with_rollouts, told_plan, SeenRollout}
-use Rattle.desk_commands.proofs.Common.{StartsAndOffers, started, GoesOn, IsSeenAt, StartsIf, gone_by, pause_left, starts_by, view_by, at_place, and_parts}
+use Rattle.desk_commands.proofs.Common.{RolloutRecord, length_each, ledger_of, set_numbered, turned, with_groups, with_rollouts, told_plan, SeenRollout}
+use Rattle.desk_commands.proofs.Common.{started, GoesOn, IsSeenAt, StartsIf, Result, Ok, Err, Fault, ok_or, option_map, gone_by, pause_left, starts_by}
+use Rattle.desk_commands.proofs.Common.{view_by, at_place, and_parts}
 use Rattle.desk_commands.proofs.Common.{invariant_of, of_rollout}
 use Rattle.std.proofs.Math.Dec.{eqb-suc-zero}
-use Rattle.std.proofs.lemmas.Option.{same_Some}
+use Rattle.std.specs.Prelude.{IsOkAnd}
+use Rattle.sql_calls.specs.declared.fault.Fault.TheVariants.{Broken}
+use Rattle.desk_commands.specs.Standings.{group_if}
 use Rattle.rollout_machine.proofs.Ties.{last_is}
 use Rattle.rollout_machine.specs.Effects.{IsLast}
 use Rattle.rollout_machine.specs.declared.view.GroupView.{GroupView}
@@ -77,9 +80,12 @@ module _ (going : Going) (h : CommandList) (r : ℕ) (seen : SeenRollout) (found
       ≡ with_groups between (map (start_group starts) x.groups)
   gone_so starts is = grind (arith, gone_is)
 
-  ends : (starts : Option ℕ) → starts_by going (view_of x (last_started x.groups)) ≡ starts
-      → StartsIf r seen.groups.items starts (with_rollouts (ledger_of (records h)) (set_numbered (records h).rollouts r between))
-      (ledger_of (step_records (records h) (gone_by going r)))
+  -- that group is there
+  abbrev Starts : Result (Option GroupRecord) Fault → Type 0
+  Starts found = IsOkAnd found (λ g. StartsIf r g (with_rollouts (ledger_of (records h)) (set_numbered (records h).rollouts r between))
+      (ledger_of (step_records (records h) (gone_by going r))))
+
+  ends : (starts : Option ℕ) → starts_by going (view_of x (last_started x.groups)) ≡ starts → Starts (group_if seen.groups.items starts)
   ends None is = set_so (is_gone going) h r seen found accepted between (gone_so None is ∙ ap (with_groups between) (starts_none x.groups)) refl refl
   ends (Some i) is =
       let there = found.at.is_there in
@@ -92,27 +98,23 @@ module _ (going : Going) (h : CommandList) (r : ℕ) (seen : SeenRollout) (found
       let numbered = numbered_groups h r x there in
       let own : item_numbered x.groups it.0.number ≡ Some it.0 = ap (item_numbered x.groups) (numbered i it.0 its) ∙ its in
       let starts : map (start_group (Some i)) x.groups ≡ set_numbered x.groups it.0.number (started it.0) =
-      started_one i x.groups it.0 numbered its ∙ ap (λ n. set_numbered x.groups n (started it.0)) (sym (numbered i it.0 its)) in (
-        it.0,
-        ap (λ gs. item_numbered gs i) found.at.is_seen.groups ∙ its,
-        started_so (is_gone going) h r seen found accepted (then_started between it.0) (gone_so (Some i) is ∙ ap (with_groups between) starts) refl between it.0
-            own (waits_after h found.at.valid r x there i it.0 its (omega (arith, at))) own refl,
-      )
+      started_one i x.groups it.0 numbered its ∙ ap (λ n. set_numbered x.groups n (started it.0)) (sym (numbered i it.0 its)) in
+      subst (λ (o : Option GroupRecord). Starts (ok_or (option_map Some o) Broken)) (sym (ap (λ gs. item_numbered gs i) found.at.is_seen.groups ∙ its))
+      (started_so (is_gone going) h r seen found accepted (then_started between it.0) (gone_so (Some i) is ∙ ap (with_groups between) starts) refl between it.0
+      own (waits_after h found.at.valid r x there i it.0 its (omega (arith, at))) own refl)
 
-  pub went_on : (starts : Option ℕ) → starts_by going (view_of x (last_started x.groups)) ≡ starts
-      → GoesOn r seen (pause_left going seen.paused) starts (ledger_of (records h)) (ledger_of (step_records (records h) (gone_by going r)))
-  went_on starts is = record {
+  -- what is written of the group that was looked for
+  pub went_on : (starts : Option ℕ) → starts_by going (view_of x (last_started x.groups)) ≡ starts → (out : Result (Option GroupRecord) Fault)
+      → out ≡ group_if seen.groups.items starts
+      → IsOkAnd out (λ g. GoesOn r seen (pause_left going seen.paused) g (ledger_of (records h)) (ledger_of (step_records (records h) (gone_by going r))))
+  went_on starts is (Ok g) looked = record {
     between = with_rollouts (ledger_of (records h)) (set_numbered (records h).rollouts r between);
     sets = record { rollout = x; is_there = found.at.is_there; next_is = refl };
-    starts_if = ends starts is;
+    starts_if = subst Starts (sym looked) (ends starts is);
   }
+  went_on starts is (Err fault) looked = subst Starts (sym looked) (ends starts is)
 
 -- ---- the view
-
--- the group that starts is the one that was looked for
-pub the_group : (r : ℕ) (groups : List GroupRecord) (i : ℕ) (g : GroupRecord) (l next : Ledger) → item_numbered groups i ≡ Some g
-    → StartsIf r groups (Some i) l next → StartsAndOffers r g l next
-the_group r groups i g l next at h = subst (λ (it : GroupRecord). StartsAndOffers r it l next) (same_Some h.0 g (sym h.1 ∙ at)) h.2
 
 -- after one more group
 pub last_step : (gs : List GroupRecord) (d : GroupRecord) (i last next : ℕ) → i < length gs → last ≡ last_started (take i gs)
@@ -133,6 +135,8 @@ seen_view h r seen x at n groups rule found v last said is view count = grind (a
 -- what is written is the step
 pub gone_on : (going : Going) (h : CommandList) (r : ℕ) (seen : SeenRollout) (found : Found h r seen) → (v : RolloutView)
     → v ≡ view_of found.rollout (last_started found.rollout.groups) → (paused : Bool) → paused ≡ pause_left going seen.paused
-    → (starts : Option ℕ) → starts ≡ starts_by going v → check (records h) (gone_by going r) ≡ None
-    → GoesOn r seen paused starts (ledger_of (records h)) (ledger_of (step_records (records h) (gone_by going r)))
-gone_on going h r seen found v view paused left starts is accepted = grind (arith, went_on)
+    → (starts : Option ℕ) → starts ≡ starts_by going v → check (records h) (gone_by going r) ≡ None → (out : Result (Option GroupRecord) Fault)
+    → out ≡ group_if seen.groups.items starts
+    → IsOkAnd out (λ g. GoesOn r seen paused g (ledger_of (records h)) (ledger_of (step_records (records h) (gone_by going r))))
+gone_on going h r seen found v view paused left starts is accepted out looked =
+    rw left (went_on going h r seen found accepted starts (ap (starts_by going) (sym view) ∙ sym is) out looked)

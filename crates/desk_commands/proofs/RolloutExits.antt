@@ -1,8 +1,8 @@
 -- What a step on a rollout that is seen rests on is there.
-use Rattle.desk_commands.proofs.Common.{◌≡◌, ◌≤◌, ◌≢◌, ℕ, ◌+◌, Bool, Option, Some, length, slice_get, sym, ap, ◌∙◌, arith, zip}
+use Rattle.desk_commands.proofs.Common.{◌≡◌, ◌≤◌, ◌≢◌, ℕ, ◌+◌, Option, Some, length, slice_get, sym, ap, ◌∙◌, arith, zip}
 use Rattle.desk_commands.proofs.Common.{item_numbered, CommandList, IsValid, GroupRule, rule_at, records, last_started, GroupRecord, RolloutRecord}
-use Rattle.desk_commands.proofs.Common.{Ledger, ledger_of, SeenRollout, GoesOn, of_rollout, limits_hold, at_place}
-use Rattle.desk_commands.proofs.Common.{rule_numbered, rule_there, rules_there, CanStart, IsSeenFrom, IsSeenIn, EndsBeyond}
+use Rattle.desk_commands.proofs.Common.{Ledger, ledger_of, SeenRollout, of_rollout, limits_hold, at_place}
+use Rattle.desk_commands.proofs.Common.{rule_numbered, rule_there, rules_there, IsSeenFrom, IsSeenIn, EndsBeyond}
 use Rattle.desk_commands.proofs.ActionGroups.{group_ends}
 use Rattle.desk_commands.proofs.ProgressLemmas.{groups_count, last_at}
 use Rattle.desk_commands.proofs.StandingLemmas.{Found}
@@ -37,11 +37,6 @@ last_said r seen last l w some =
 pub ends_in : (r : ℕ) (seen : SeenRollout) (l : Ledger) → IsSeenIn r seen l → (i : ℕ) (o : Option GroupRecord) → o ≡ item_numbered seen.groups.items i
     → EndsBeyond o → ⊥
 ends_in r seen l w i o is beyond = grind (arith, group_ends, there_in)
-
--- the group that starts is there
-pub can_start : (r : ℕ) (seen : SeenRollout) (paused : Bool) (starts : Option ℕ) (l next : Ledger) → GoesOn r seen paused starts l next
-    → CanStart seen.groups.items starts
-can_start r seen paused starts l next w = grind arith
 
 -- ---- a start
 

@@ -13,7 +13,7 @@ use Rattle.desk_records.specs.Holds.{Ledger}
 use Rattle.desk_records.specs.LedgerSteps.{set_numbered, with_actions, with_numbers}
 use Rattle.desk_records.specs.NewEntries.{TellsEntry}
 use Rattle.desk_records.specs.RolloutRow.{stored_action}
-use Rattle.desk_commands.specs.Endings.{FollowsEnding}
+use Rattle.desk_commands.specs.Endings.{FollowsChange}
 use Rattle.desk_commands.specs.Offering.{MayReoffer}
 use Rattle.desk_commands.specs.Telling.{CountsNumbers, TellsReports, entries_by, numbers_by, tally_by, with_reports}
 use Rattle.desk_records.specs.declared.number_row.PlacedNumber.{PlacedNumber}
@@ -51,10 +51,6 @@ pub record TellsAction (seen : SeenAction) (after : ActionChange) (told : Option
   pub next_is : next ≡ with_changed_action seen after told reports action numbers l
 
 -- ---- all of it
-
-abbrev pub FollowsChange : SeenAction → ActionChange → Ledger → Ledger → Type 0
-FollowsChange seen (StaysOpen canceling) l next = next ≡ l
-FollowsChange seen (Ends e) l next = FollowsEnding seen e l next
 
 -- it stays open, and is canceling or not as it was
 abbrev pub stays_offered : Bool → ActionChange → Bool

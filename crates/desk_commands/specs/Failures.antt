@@ -1,6 +1,6 @@
 -- When a step of a command is a failed store: where the ledger that is seen can be read, only where a call of the database failed, which is
 -- counted.
-use Rattle.std.specs.Prelude.{◌≡◌, ◌<◌, ◌^◌, ℕ, ◌+◌, true, List, Option, Some, option_map, Result, Ok, Err}
+use Rattle.std.specs.Prelude.{◌≡◌, ℕ, true, List, Some, option_map, Result}
 use Rattle.std.specs.List.{list_all, zip}
 use Rattle.sqlite.specs.Store.{Ghosts}
 use Rattle.sql_calls.specs.declared.fault.Fault.{Fault}
@@ -9,14 +9,7 @@ use Rattle.rollout_model.specs.Rows.{is_target_row}
 use Rattle.rollout_machine.specs.Commands.{TargetRow}
 use Rattle.rollout_machine.specs.RecordSteps.{last_started}
 use Rattle.rollout_machine.specs.Verdicts.{target_of}
-use Rattle.rollout_machine.specs.declared.outcome.Outcome.{Outcome}
-use Rattle.rollout_machine.specs.declared.records.GroupRecord.{GroupRecord}
 use Rattle.rollout_machine.specs.declared.records.RolloutRecord.{RolloutRecord}
-use Rattle.campaign_core.specs.declared.own_group.Following.{Following}
-use Rattle.campaign_core.specs.declared.own_group.Following.TheVariants.{StartsNext}
-use Rattle.campaign_core.specs.declared.rollout_checks.actions.ActionChange.{ActionChange}
-use Rattle.campaign_core.specs.declared.rollout_checks.actions.ActionChange.TheVariants.{Ends}
-use Rattle.campaign_core.specs.declared.rollout_checks.actions.Ending.{Ending}
 use Rattle.desk_records.specs.FeedbackNumbers.{last_number, numbers_numbered}
 use Rattle.desk_records.specs.Holds.{HoldsLedger, Ledger}
 use Rattle.desk_records.specs.RolloutRow.{stored_action}
@@ -24,8 +17,7 @@ use Rattle.desk_records.specs.declared.rollout_row.StoredAction.{StoredAction}
 use Rattle.desk_records.specs.declared.number_row.PlacedNumber.{PlacedNumber}
 use Rattle.desk_records.specs.TargetRow.{stored_target}
 use Rattle.desk_records.specs.declared.target_row.StoredTarget.{StoredTarget}
-use Rattle.desk_store.specs.Breaking.{BreaksFirst, HasReason}
-use Rattle.desk_store.specs.Changing.{seen_in}
+use Rattle.desk_store.specs.Breaking.{BreaksFirst}
 use Rattle.desk_store.specs.Failing.{ReadableAs, nothing}
 use Rattle.desk_store.specs.Readable.{IsReadable}
 use Rattle.desk_store.specs.declared.change.OpenChange.{OpenChange}
@@ -33,10 +25,6 @@ use Rattle.desk_reads.specs.AtLists.{IsOfList}
 use Rattle.desk_reads.specs.Rollouts.{IsSeenOf}
 use Rattle.desk_reads.specs.declared.rollouts.SeenRollout.{SeenRollout}
 use Rattle.desk_reads.specs.Counted.{AreCounted}
-use Rattle.desk_commands.specs.Endings.{outcomes_in}
-use Rattle.desk_commands.specs.Telling.{entries_by, notes_by}
-use Rattle.desk_commands.specs.declared.seen_actions.SeenAction.{SeenAction}
-use Rattle.desk_commands.specs.declared.telling.Told.{Told}
 
 module _ {S : Type 0} (g : Ghosts S) where
   -- what reads and then writes: where the ledger before can be read, and is as given, broken rows are never told
@@ -46,15 +34,6 @@ module _ {S : Type 0} (g : Ghosts S) where
   -- .. whatever it is
   abbrev pub FailsWritingIn : {A : Type 0} → OpenChange S → OpenChange S → Result A Fault → Type 0
   FailsWritingIn = BreaksFirst g HoldsLedger IsReadable nothing
-
-  module _ (If : Type 0) where
-    abbrev pub CountsIfTo : {A : Type 0} → OpenChange S → Result A Fault → Type 0
-    CountsIfTo new (Ok a) = Unit {0}
-    CountsIfTo new (Err fault) = If → HasReason (seen_in g new) ⊥ fault
-
-    -- what writes: if this is so, broken rows are never told
-    pub record CountsIf {A : Type 0} (old new : OpenChange S) (result : Result A Fault) : Type 0 where
-      pub to : CountsIfTo new result
 
 -- ---- steps
 
@@ -87,26 +66,6 @@ pub record IsLastOf (k : ℕ) (last : PlacedNumber) (l : Ledger) : Type 0 where
   pub place : ℕ
   pub is_last : Some (record { place = place; it = last }) ≡ last_number (numbers_numbered l.numbers k)
 
--- its group counts one more of this outcome
-pub record CanCount (seen : SeenAction) (o : Outcome) : Type 0 where
-  pub room : outcomes_in o seen.own + 1 < 2 ^ 32
-
--- the group behind its own is there
-pub record HasNext (seen : SeenAction) : Type 0 where
-  pub next : GroupRecord
-  pub is_there : seen.next ≡ Some next
-
--- .. where it is to start
-pub record CanFollow (seen : SeenAction) (following : Following) : Type 0 where
-  pub next : following ≡ StartsNext → HasNext seen
-
-pub record CanEnd (seen : SeenAction) (e : Ending) : Type 0 where
-  pub counts : CanCount seen e.outcome
-  pub follows : CanFollow seen e.following
-
-pub record CanEndBy (seen : SeenAction) (after : ActionChange) : Type 0 where
-  pub ends : (e : Ending) → after ≡ Ends e → CanEnd seen e
-
 -- ---- the rollout that was seen
 
 -- the ledger is that of a list of accepted commands, and this is its rollout r
@@ -120,29 +79,6 @@ pub record IsSeenIn (r : ℕ) (seen : SeenRollout) (l : Ledger) : Type 0 where
 pub record IsSeenFrom (r : ℕ) (seen : SeenRollout) (last : ℕ) (l : Ledger) : Type 0 where
   pub sees : IsSeenIn r seen l
   pub last_is : last ≡ last_started seen.groups.items
-
-pub record HasItem (groups : List GroupRecord) (i : ℕ) : Type 0 where
-  pub group : GroupRecord
-  pub is_there : item_numbered groups i ≡ Some group
-
--- the group that is to start is there
-pub record CanStart (groups : List GroupRecord) (starts : Option ℕ) : Type 0 where
-  pub group : (i : ℕ) → starts ≡ Some i → HasItem groups i
-
--- ---- what is told
-
--- the numbers of the action are counted with the one that is told
-pub record CanNumber (told : Told) : Type 0 where
-  pub room : (number : ℕ) → told.entry.number ≡ Some number → told.numbers + 1 < 2 ^ 32
-
-pub record MayNumber (told : Option Told) : Type 0 where
-  pub numbers : (it : Told) → told ≡ Some it → CanNumber it
-
--- .. and so are the notes and the entries
-pub record CanTell (seen : SeenAction) (told : Option Told) : Type 0 where
-  pub notes : notes_by told seen.action.notes < 2 ^ 32
-  pub entries : entries_by told seen.action.entries < 2 ^ 32
-  pub numbers : MayNumber told
 
 -- ---- rows of targets
 

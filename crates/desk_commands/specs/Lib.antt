@@ -4,13 +4,13 @@ pub mod Changing
 pub mod Imports
 pub mod Attributes
 pub mod GroupStarts
-pub mod Counts
 pub mod Telling
 pub mod GroupViews
 pub mod SeenReports
 pub mod SeenActions
 pub mod Offering
 pub mod Endings
+pub mod Counts
 pub mod ActionSteps
 pub mod Standings
 pub mod Creations

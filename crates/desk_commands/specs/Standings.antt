@@ -1,5 +1,8 @@
 -- What is said of a rollout as a whole, and how it goes on.
-use Rattle.std.specs.Prelude.{◌≡◌, ℕ, Bool, true, false, nat_lt, List, Option, Some, None}
+use Rattle.std.specs.Prelude.{◌≡◌, ℕ, Bool, true, false, nat_lt, List, Option, Some, None, option_map, Result, Ok}
+use Rattle.std.specs.Option.{ok_or}
+use Rattle.sql_calls.specs.declared.fault.Fault.{Fault}
+use Rattle.sql_calls.specs.declared.fault.Fault.TheVariants.{Broken}
 use Rattle.rollout_machine.specs.ByteStrings.{item_numbered}
 use Rattle.rollout_machine.specs.CommandList.{CommandList}
 use Rattle.rollout_machine.specs.Commands.{Approve, Command, Deny, Pause, Resume, TriggerNext}
@@ -16,7 +19,7 @@ use Rattle.desk_records.specs.Holds.{Ledger}
 use Rattle.desk_records.specs.LedgerSteps.{SetsRollout}
 use Rattle.desk_reads.specs.Rollouts.{IsSeenOf}
 use Rattle.desk_reads.specs.declared.rollouts.SeenRollout.{SeenRollout}
-use Rattle.desk_commands.specs.GroupStarts.{StartsAndOffers}
+use Rattle.desk_commands.specs.GroupStarts.{StartsIf}
 use Rattle.desk_commands.specs.declared.standing.Said.{Said}
 use Rattle.desk_commands.specs.declared.standing.Said.TheVariants.{Approved, Denied as SaidDenied, Paused}
 use Rattle.desk_commands.specs.declared.progress.Going.{Going}
@@ -72,13 +75,13 @@ abbrev pub starts_by : Going → RolloutView → Option ℕ
 starts_by Resumed v = starts_next v false v.last.ok
 starts_by Triggered v = next_if (nat_lt v.last.number v.groups) v.last.number
 
--- the group of this number, if one, starts
-abbrev pub StartsIf : ℕ → List GroupRecord → Option ℕ → Ledger → Ledger → Type 0
-StartsIf r groups None l next = next ≡ l
-StartsIf r groups (Some i) l next = (g : GroupRecord) × (item_numbered groups i ≡ Some g) × StartsAndOffers r g l next
+-- the group of the number, if one starts: rows without it are broken
+abbrev pub group_if : List GroupRecord → Option ℕ → Result (Option GroupRecord) Fault
+group_if groups None = Ok None
+group_if groups (Some i) = ok_or (option_map Some (item_numbered groups i)) Broken
 
 -- the rollout that is seen is paused or not, and then the group starts
-pub record GoesOn (r : ℕ) (seen : SeenRollout) (paused : Bool) (starts : Option ℕ) (l next : Ledger) : Type 0 where
+pub record GoesOn (r : ℕ) (seen : SeenRollout) (paused : Bool) (group : Option GroupRecord) (l next : Ledger) : Type 0 where
   pub between : Ledger
   pub sets : SetsRollout r seen.approval seen.started paused l between
-  pub starts_if : StartsIf r seen.groups.items starts between next
+  pub starts_if : StartsIf r group between next

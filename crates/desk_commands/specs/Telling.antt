@@ -9,6 +9,7 @@ use Rattle.desk_records.specs.Holds.{Ledger}
 use Rattle.desk_records.specs.LedgerSteps.{set_numbered, with_actions, with_numbers}
 use Rattle.desk_records.specs.NewEntries.{TellsEntry}
 use Rattle.desk_records.specs.declared.number_row.PlacedNumber.{PlacedNumber}
+use Rattle.desk_commands.specs.declared.counts.Counts.{Counts}
 use Rattle.desk_commands.specs.declared.telling.Told.{Told}
 
 -- ---- what it says
@@ -46,6 +47,11 @@ abbrev pub if_numbered : Option ℕ → ℕ → ℕ
 if_numbered None n = 0
 if_numbered (Some number) n = n
 
+-- how many numbers there are once this was told
+abbrev pub numbers_told : Option Told → ℕ
+numbers_told None = 0
+numbers_told (Some told) = if_numbered told.entry.number (told.numbers + 1)
+
 -- ---- what is written
 
 abbrev pub with_reports : List Reported → ActionRecord → ActionRecord
@@ -57,21 +63,23 @@ numbers_by place None numbers = numbers
 numbers_by place (Some told) numbers = numbers ++ borne_at place told.entry.number
 
 -- the number of what was told is put behind those of action k
-pub record WritesNumber (k place : ℕ) (told : Told) (l next : Ledger) : Type 0 where
+pub record WritesNumber (k : ℕ) (counts : Counts) (told : Told) (l next : Ledger) : Type 0 where
   pub numbers : List PlacedNumber
   pub are_its : item_numbered l.numbers k ≡ Some numbers
   pub counted : CountsNumbers (Some told) numbers
-  pub next_is : next ≡ with_numbers l (set_numbered l.numbers k (numbers_by place (Some told) numbers))
+  pub numbers_are : counts.numbers ≡ numbers_told (Some told)
+  pub next_is : next ≡ with_numbers l (set_numbered l.numbers k (numbers_by counts.entries (Some told) numbers))
 
--- what was told is put behind the history of action k, at this place, and its number behind the numbers; the action's tally stays
-pub record WritesTold (k place : ℕ) (told : Option Told) (l next : Ledger) : Type 0 where
+-- what was told is put behind the history of action k, and its number behind the numbers; the action's tally stays
+pub record WritesTold (k : ℕ) (counts : Counts) (told : Option Told) (l next : Ledger) : Type 0 where
   pub reports : List Reported
   pub tells : TellsReports reports told
   pub action : ActionRecord
   pub is_there : item_numbered l.records.actions k ≡ Some action
-  pub place_is : place ≡ entries_by told (length action.history)
+  pub place_is : counts.entries ≡ entries_by told (length action.history)
   pub numbers : List PlacedNumber
   pub are_its : item_numbered l.numbers k ≡ Some numbers
   pub counted : CountsNumbers told numbers
+  pub numbers_are : counts.numbers ≡ numbers_told told
   pub next_is : next ≡ with_numbers (with_actions l (set_numbered l.records.actions k (with_reports reports action)) l.tallies)
-      (set_numbered l.numbers k (numbers_by place told numbers))
+      (set_numbered l.numbers k (numbers_by counts.entries told numbers))

@@ -4,21 +4,23 @@ ghost use Rattle.std.specs.Prelude.{◌≡◌, ◌+◌, cond, is_some};
 ghost use Rattle.rollout_machine.specs.CommandRules.{IsWellFormed};
 ghost use Rattle.rollout_machine.specs.Reports.{reported};
 ghost use Rattle.rollout_machine.specs.Commands.{Cancel as CancelCommand, CancelFeedback, Feedback};
-ghost use Rattle.desk_commands.specs.ActionSteps.{Acts, FollowsChange, TellsAction, WritesFeedback};
+ghost use Rattle.desk_commands.specs.ActionSteps.{Acts, TellsAction, WritesFeedback};
 ghost use Rattle.desk_commands.specs.ActionSteps.{canceling_by, outcome_by, stays_offered};
 ghost use Rattle.desk_commands.specs.Offering.{MayReoffer};
 ghost use Rattle.desk_commands.specs.Telling.{if_numbered, number_told};
-ghost use Rattle.desk_commands.specs.Failures.{CanEndBy, CanTell, CountsIf, FailsStepIn, FailsWriting, Leads};
+ghost use Rattle.desk_commands.specs.Failures.{FailsStepIn, FailsWriting, Leads};
 ghost use Rattle.desk_store.specs.Counting.{AddsIn};
 ghost use Rattle.desk_store.specs.Changing.{MakesLedger, StaysIn};
 ghost use Rattle.desk_commands.specs.Changing.{StepsIn};
-ghost use Rattle.desk_store.specs.Failing.{FailsSeeing, AreActionsNumbered};
+ghost use Rattle.desk_commands.specs.Counts.{counts_after};
+ghost use Rattle.desk_store.specs.Failing.{FailsSeeing, AreActionsNumbered, WritesIn};
 
-use crate::endings::follow_ending;
+use crate::counts::{Counts, counts_after};
+use crate::endings::follow;
 use crate::offering::offer_anew;
 use crate::seen_actions::{SeenAction, cancel_view, device_action, see_feedback, see_target};
 use crate::step::Step;
-use crate::telling::{Told, entries_with, notes_with, write_told};
+use crate::telling::{Told, write_told};
 use campaign_core::{ActionChange, cancel, cancel_feedback, feedback, own_action};
 use desk_store::{Fault, OpenChange, tell_entry};
 use rollout_machine::Outcome;
@@ -52,17 +54,22 @@ fn tell_action<S: Alter>(
     seen: &SeenAction,
     after: &ActionChange,
     told: &Option<Told>,
+    counts: &Counts,
 ) -> Result<(), Fault>
-    ensures stays { StaysIn S.Store change.old change.new result }
-    ensures writes { MakesLedger S.Store change.old change.new result (TellsAction seen.now after.now told.now) }
-    ensures counts { CountsIf S.Store (CanTell seen.now told.now) change.old change.new result }
+    ensures stays { WritesIn S.Store change.old change.new result }
+    ensures writes { counts.now ≡ counts_after seen.now after.now told.now
+        → MakesLedger S.Store change.old change.new result (TellsAction seen.now after.now told.now) }
     ensures work { AddsIn (2 + if_numbered (number_told told.now) 1) 0 change.old change.new }
 {
-    let notes = notes_with(seen.action.notes, told)?;
-    let entries = entries_with(seen.action.entries, told)?;
     let outcome = outcome_by(seen, after);
-    write_told(change, seen.number, entries, told)?;
-    change.change_action(seen.number, canceling_by(after), outcome, notes, entries)
+    write_told(change, seen.number, counts, told)?;
+    change.change_action(
+        seen.number,
+        canceling_by(after),
+        outcome,
+        counts.notes,
+        counts.entries,
+    )
 }
 
 /// Whether its target is offered the action as before.
@@ -99,25 +106,8 @@ fn offer_next<S: Alter>(
     offer_anew(change, &seen.action.target, seen.number)
 }
 
-/// Writes what follows from what became of an action.
-fn follow<S: Alter>(
-    change: &mut OpenChange<'_, S>,
-    seen: &SeenAction,
-    after: &ActionChange,
-) -> Result<(), Fault>
-    ensures stays { StaysIn S.Store change.old change.new result }
-    ensures writes { MakesLedger S.Store change.old change.new result (FollowsChange seen.now after.now) }
-    ensures counts { CountsIf S.Store (CanEndBy seen.now after.now) change.old change.new result }
-    ensures work { AddsIn 3 0 change.old change.new }
-{
-    match after {
-        ActionChange::StaysOpen { .. } => Ok(()),
-        ActionChange::Ends(ending) => follow_ending(change, seen, ending),
-    }
-}
-
 /// Writes what becomes of an action, and all that follows: its target's offer is looked up again once the action is written
-/// and before a group starts.
+/// and before a group starts. What is counted then has room before anything is written.
 fn act<S: Alter>(
     change: &mut OpenChange<'_, S>,
     seen: &SeenAction,
@@ -129,9 +119,10 @@ fn act<S: Alter>(
     ensures fails { FailsWriting S.Store (Leads (Acts seen.now after.now told.now)) change.old change.new result }
     ensures work { AddsIn (7 + if_numbered (number_told told.now) 1) 1 change.old change.new }
 {
-    tell_action(change, seen, after, told)?;
+    let counts = counts_after(seen, after, told)?;
+    tell_action(change, seen, after, told, &counts)?;
     offer_next(change, seen, after)?;
-    follow(change, seen, after)
+    follow(change, seen, after, &counts.own)
 }
 
 /// Writes what becomes of an action by accepted feedback, where something does. `numbers` is how many the action has before. The memory

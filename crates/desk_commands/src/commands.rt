@@ -14,9 +14,9 @@ use crate::artifacts::add_artifact;
 use crate::attributes::put_attributes;
 use crate::creation::create_rollout;
 use crate::modules::add_module;
-use crate::progress::{resume_rollout, trigger_next};
+use crate::progress::{Going, go_on};
 use crate::sets::add_set;
-use crate::standing::{approve_rollout, deny_rollout, pause_rollout};
+use crate::standing::{Said, say};
 use crate::starting::start_rollout;
 use crate::step::Step;
 use crate::tags::{tag_target, untag_target};
@@ -49,12 +49,12 @@ pub fn take_step<S: Alter>(
         Command::Untag(id, tag) => untag_target(change, id, tag),
         Command::PutAttributes(device, given) => put_attributes(change, device, given),
         Command::CreateRollout(plan) => create_rollout(alloc, change, plan),
-        Command::Approve(number) => approve_rollout(change, *number),
-        Command::Deny(number) => deny_rollout(change, *number),
+        Command::Approve(number) => say(change, *number, Said::Approved),
+        Command::Deny(number) => say(change, *number, Said::Denied),
         Command::Start(number) => start_rollout(change, *number),
-        Command::Pause(number) => pause_rollout(change, *number),
-        Command::Resume(number) => resume_rollout(change, *number),
-        Command::TriggerNext(number) => trigger_next(change, *number),
+        Command::Pause(number) => say(change, *number, Said::Paused),
+        Command::Resume(number) => go_on(change, *number, Going::Resumed),
+        Command::TriggerNext(number) => go_on(change, *number, Going::Triggered),
         Command::Cancel(asked) => cancel_action(change, asked),
         Command::Feedback(feedback) => take_feedback(alloc, change, feedback),
         Command::CancelFeedback(feedback) => take_cancel_feedback(alloc, change, feedback),

@@ -201,12 +201,8 @@ pub(crate) fn create_rollout<S: Alter>(
         Ok(created) => created,
         Err(refusal) => return Ok(Step::Refused(refusal)),
     };
-    let Ok(shown) = show_new(alloc, plan, &created, count) else {
-        return Err(Fault::Memory);
-    };
-    let Ok(cuts) = cut_grouping(alloc, count, &plan.groups) else {
-        return Err(Fault::Memory);
-    };
+    let shown = show_new(alloc, plan, &created, count)?;
+    let cuts = cut_grouping(alloc, count, &plan.groups)?;
     write_whole(change, plan, &created, &cuts, &chosen.members)?;
     Ok(Step::Accepted(Reply::RolloutAdded(shown)))
 }

@@ -3,15 +3,15 @@
 ghost use Rattle.std.specs.Prelude.{◌≡◌, ◌≤◌, ◌+◌, ◌^◌, MatchResult};
 ghost use Rattle.sql_calls.specs.declared.fault.Fault.TheVariants.{Broken};
 ghost use Rattle.rollout_machine.specs.RecordSteps.{counted};
-ghost use Rattle.desk_commands.specs.Endings.{CountsOutcome, FollowsEnding, FollowsSo, StartsGroupOf, outcomes_in};
-ghost use Rattle.desk_commands.specs.Failures.{CanCount, CanEnd, CanFollow, CountsIf, HasNext};
+ghost use Rattle.desk_commands.specs.Endings.{FollowsChange, FollowsSo, outcomes_after, outcomes_in, own_after};
 ghost use Rattle.desk_store.specs.Counting.{AddsIn};
-ghost use Rattle.desk_store.specs.Changing.{MakesLedger, StaysIn};
+ghost use Rattle.desk_store.specs.Changing.{MakesLedger};
+ghost use Rattle.desk_store.specs.Failing.{WritesIn};
 
-use crate::entries::one_more;
-use crate::groups::start_group;
+use crate::counts::one_more;
+use crate::groups::start_if;
 use crate::seen_actions::SeenAction;
-use campaign_core::{Ending, Following};
+use campaign_core::{ActionChange, Following};
 use desk_store::{Fault, OpenChange};
 use rollout_machine::{GroupRecord, Outcome};
 use sqlite::Alter;
@@ -23,63 +23,41 @@ fn counted(group: GroupRecord, outcome: Outcome) -> Result<GroupRecord, Fault>
         (λ e. (e ≡ Broken) × (2 ^ 32 ≤ outcomes_in outcome group + 1)) }
 {
     match outcome {
-        Outcome::Good => {
-            let ok = one_more(group.ok)?;
-            Ok(GroupRecord { ok, ..group })
-        }
-        Outcome::Bad => {
-            let bad = one_more(group.bad)?;
-            Ok(GroupRecord { bad, ..group })
-        }
-        Outcome::Gone => {
-            let gone = one_more(group.gone)?;
-            Ok(GroupRecord { gone, ..group })
-        }
+        Outcome::Good => Ok(GroupRecord {
+            ok: one_more(group.ok)?,
+            ..group
+        }),
+        Outcome::Bad => Ok(GroupRecord {
+            bad: one_more(group.bad)?,
+            ..group
+        }),
+        Outcome::Gone => Ok(GroupRecord {
+            gone: one_more(group.gone)?,
+            ..group
+        }),
     }
 }
 
-/// Counts the outcome of an action in its group.
-fn count_outcome<S: Alter>(
-    change: &mut OpenChange<'_, S>,
-    seen: &SeenAction,
-    outcome: Outcome,
-) -> Result<(), Fault>
-    ensures stays { StaysIn S.Store change.old change.new result }
-    ensures writes { MakesLedger S.Store change.old change.new result (CountsOutcome seen.now outcome) }
-    ensures counts { CountsIf S.Store (CanCount seen.now outcome) change.old change.new result }
-    ensures work { AddsIn 1 0 change.old change.new }
+/// The group of an action, with its outcome counted where it ends.
+pub(crate) fn own_after(seen: &SeenAction, after: &ActionChange) -> Result<GroupRecord, Fault>
+    ensures { MatchResult result
+        (λ own. own ≡ own_after seen.now after.now)
+        (λ e. (e ≡ Broken) × (2 ^ 32 ≤ outcomes_after seen.now after.now)) }
 {
-    let group = counted(seen.own, outcome)?;
-    change.change_group(
-        seen.action.rollout,
-        group.number,
-        group.started,
-        group.ok,
-        group.bad,
-        group.gone,
-    )
+    match after {
+        ActionChange::StaysOpen { .. } => Ok(seen.own),
+        ActionChange::Ends(ending) => counted(seen.own, ending.outcome),
+    }
 }
 
-/// Starts the group behind that of an action. Where it isn't there the store failed.
-fn start_next<S: Alter>(change: &mut OpenChange<'_, S>, seen: &SeenAction) -> Result<(), Fault>
-    ensures stays { StaysIn S.Store change.old change.new result }
-    ensures writes { MakesLedger S.Store change.old change.new result (StartsGroupOf seen.now.action.rollout seen.now.next) }
-    ensures counts { CountsIf S.Store (HasNext seen.now) change.old change.new result }
-    ensures work { AddsIn 2 0 change.old change.new }
-{
-    let group = seen.next.ok_or(Fault::Broken)?;
-    start_group(change, seen.action.rollout, &group)
-}
-
-/// Writes what follows an outcome beside its count: a pause of the rollout, or the start of its next group.
+/// Writes what follows an outcome beside its count: a pause of the rollout, or the start of its next group, which then waits.
 fn write_following<S: Alter>(
     change: &mut OpenChange<'_, S>,
     seen: &SeenAction,
     following: Following,
 ) -> Result<(), Fault>
-    ensures stays { StaysIn S.Store change.old change.new result }
+    ensures stays { WritesIn S.Store change.old change.new result }
     ensures writes { MakesLedger S.Store change.old change.new result (FollowsSo seen.now following) }
-    ensures counts { CountsIf S.Store (CanFollow seen.now following) change.old change.new result }
     ensures work { AddsIn 2 0 change.old change.new }
 {
     match following {
@@ -87,21 +65,28 @@ fn write_following<S: Alter>(
         Following::Pauses => {
             change.change_rollout(seen.action.rollout, seen.approval, seen.started, true)
         }
-        Following::StartsNext => start_next(change, seen),
+        Following::StartsNext => start_if(change, seen.action.rollout, &seen.next),
     }
 }
 
-/// Writes what follows from the end of an action.
-pub(crate) fn follow_ending<S: Alter>(
+/// Writes what follows from what became of an action, whose group counts so much then.
+pub(crate) fn follow<S: Alter>(
     change: &mut OpenChange<'_, S>,
     seen: &SeenAction,
-    ending: &Ending,
+    after: &ActionChange,
+    own: &GroupRecord,
 ) -> Result<(), Fault>
-    ensures stays { StaysIn S.Store change.old change.new result }
-    ensures writes { MakesLedger S.Store change.old change.new result (FollowsEnding seen.now ending.now) }
-    ensures counts { CountsIf S.Store (CanEnd seen.now ending.now) change.old change.new result }
+    ensures stays { WritesIn S.Store change.old change.new result }
+    ensures writes { own.now ≡ own_after seen.now after.now
+        → MakesLedger S.Store change.old change.new result (FollowsChange seen.now after.now) }
     ensures work { AddsIn 3 0 change.old change.new }
 {
-    count_outcome(change, seen, ending.outcome)?;
-    write_following(change, seen, ending.following)
+    match after {
+        ActionChange::StaysOpen { .. } => Ok(()),
+        ActionChange::Ends(ending) => {
+            let rollout = seen.action.rollout;
+            change.change_group(rollout, own.number, own.started, own.ok, own.bad, own.gone)?;
+            write_following(change, seen, ending.following)
+        }
+    }
 }

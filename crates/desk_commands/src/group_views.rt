@@ -5,7 +5,7 @@ ghost use Rattle.sql_calls.specs.declared.fault.Fault.TheVariants.{Broken};
 ghost use Rattle.rollout_machine.specs.StateWords.{size_of_group};
 ghost use Rattle.desk_commands.specs.GroupViews.{EndsBeyond, view_by};
 
-use crate::entries::one_more;
+use crate::counts::one_more;
 use desk_store::Fault;
 use rollout_machine::{GroupRecord, GroupView};
 use rollout_model::GroupRule;

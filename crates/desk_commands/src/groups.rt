@@ -1,7 +1,7 @@
 //! Groups of a rollout: starting one.
 
 ghost use Rattle.desk_store.specs.Counting.{AddsIn};
-ghost use Rattle.desk_commands.specs.GroupStarts.{StartsAndOffers};
+ghost use Rattle.desk_commands.specs.GroupStarts.{StartsAndOffers, StartsIf};
 ghost use Rattle.desk_store.specs.Changing.{MakesLedger};
 ghost use Rattle.desk_store.specs.Failing.{WritesIn};
 
@@ -22,4 +22,20 @@ pub(crate) fn start_group<S: Alter>(
 {
     change.change_group(number, group.number, true, group.ok, group.bad, group.gone)?;
     change.write_group_offers(number, group.bounds)
+}
+
+/// Starts a group, if one is to start.
+pub(crate) fn start_if<S: Alter>(
+    change: &mut OpenChange<'_, S>,
+    number: RolloutNo,
+    group: &Option<GroupRecord>,
+) -> Result<(), Fault>
+    ensures stays { WritesIn S.Store change.old change.new result }
+    ensures writes { MakesLedger S.Store change.old change.new result (StartsIf number group.now) }
+    ensures work { AddsIn 2 0 change.old change.new }
+{
+    match group {
+        Some(group) => start_group(change, number, group),
+        None => Ok(()),
+    }
 }

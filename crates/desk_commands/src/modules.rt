@@ -44,9 +44,7 @@ pub(crate) fn add_module<S: Alter>(
         Err(refusal) => return Ok(Step::Refused(refusal)),
     };
     let locked = change.read_module_is_locked(number)?;
-    let Ok(shown) = label.copy(alloc) else {
-        return Err(Fault::Memory);
-    };
+    let shown = label.copy(alloc)?;
     change.write_module(number, label)?;
     Ok(Step::Accepted(Reply::ModuleAdded(Module {
         number,

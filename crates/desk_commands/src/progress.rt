@@ -3,20 +3,19 @@
 ghost use Rattle.std.specs.Prelude.{◌≡◌, ◌∷◌, Some, [], cond, nat_eq, not};
 ghost use Rattle.std.specs.List.{list_any};
 ghost use Rattle.rollout_machine.specs.ByteStrings.{item_numbered};
-ghost use Rattle.rollout_machine.specs.Commands.{Resume, TriggerNext};
 ghost use Rattle.rollout_machine.specs.GroupRules.{rule_at};
 ghost use Rattle.rollout_machine.specs.RecordSteps.{last_started, view_of};
 ghost use Rattle.rollout_machine.specs.declared.records.RolloutRecord.{RolloutRecord};
 ghost use Rattle.desk_reads.specs.AtLists.{FindsAtListsIn};
 ghost use Rattle.desk_reads.specs.Rollouts.{IsSeenOf};
-ghost use Rattle.desk_commands.specs.Standings.{GoesOn, JudgesGoing, StartsIf, gone_by, pause_left, starts_by};
+ghost use Rattle.desk_commands.specs.Standings.{GoesOn, JudgesGoing, gone_by, group_if, pause_left, starts_by};
 ghost use Rattle.desk_store.specs.Changing.{FindsIn, MakesLedger, StaysIn};
 ghost use Rattle.desk_commands.specs.Changing.{StepsIn};
-ghost use Rattle.desk_store.specs.Failing.{FailsGiven};
-ghost use Rattle.desk_commands.specs.Failures.{CanStart, CountsIf, FailsStepIn, IsSeenFrom, IsSeenIn};
+ghost use Rattle.desk_store.specs.Failing.{FailsGiven, WritesIn};
+ghost use Rattle.desk_commands.specs.Failures.{FailsStepIn, IsSeenFrom, IsSeenIn};
 
 use crate::group_views::group_view;
-use crate::groups::start_group;
+use crate::groups::start_if;
 use crate::standing::refusal_in;
 use crate::step::Step;
 use campaign_core::{ResumeView, TriggerView, after_resume, after_trigger, resume, trigger};
@@ -28,8 +27,10 @@ use sqlite::Alter;
 
 /// What lets a rollout go on.
 #[derive(Clone, Copy)]
-enum Going {
+pub(crate) enum Going {
+    /// A paused one: where its last started group has success, the next one starts.
     Resumed,
+    /// A running one: its next group starts, whatever the success of the last one.
     Triggered,
 }
 
@@ -131,13 +132,26 @@ fn refusal_of(going: Going, seen: &SeenRollout, rollout: RolloutView) -> Option<
     }
 }
 
-/// The group that starts then.
+/// The number of the group that starts then.
 fn start_of(going: Going, rollout: &RolloutView) -> Option<u32>
     ensures { result ≡ starts_by going rollout.now }
 {
     match going {
         Going::Resumed => after_resume(rollout).starts,
         Going::Triggered => after_trigger(rollout).starts,
+    }
+}
+
+/// The group of the number, if one starts. Where it isn't there the store failed.
+fn group_if(groups: &[GroupRecord], starts: Option<u32>) -> Result<Option<GroupRecord>, Fault>
+    ensures { result ≡ group_if groups.now starts }
+{
+    match starts {
+        Some(number) => {
+            let group = group_at(groups, number).ok_or(Fault::Broken)?;
+            Ok(Some(group))
+        }
+        None => Ok(None),
     }
 }
 
@@ -151,42 +165,23 @@ fn pause_of(going: Going, paused: bool) -> bool
     }
 }
 
-/// Starts the group of a number, if there is one to start.
-fn start_next<S: Alter>(
-    change: &mut OpenChange<'_, S>,
-    number: RolloutNo,
-    groups: &[GroupRecord],
-    starts: Option<u32>,
-) -> Result<(), Fault>
-    ensures stays { StaysIn S.Store change.old change.new result }
-    ensures writes { MakesLedger S.Store change.old change.new result (StartsIf number groups.now starts) }
-    ensures counts { CountsIf S.Store (CanStart groups.now starts) change.old change.new result }
-{
-    let Some(next) = starts else {
-        return Ok(());
-    };
-    let group = group_at(groups, next).ok_or(Fault::Broken)?;
-    start_group(change, number, &group)
-}
-
-/// Writes whether a rollout is paused, and starts a group of it.
+/// Writes whether a rollout is paused, and starts a group of it, if one is to start.
 fn write_going<S: Alter>(
     change: &mut OpenChange<'_, S>,
     number: RolloutNo,
     seen: &SeenRollout,
     paused: bool,
-    starts: Option<u32>,
+    group: &Option<GroupRecord>,
 ) -> Result<(), Fault>
-    ensures stays { StaysIn S.Store change.old change.new result }
-    ensures writes { MakesLedger S.Store change.old change.new result (GoesOn number seen.now paused starts) }
-    ensures counts { CountsIf S.Store (CanStart seen.now.groups.items starts) change.old change.new result }
+    ensures stays { WritesIn S.Store change.old change.new result }
+    ensures writes { MakesLedger S.Store change.old change.new result (GoesOn number seen.now paused group.now) }
 {
     change.change_rollout(number, seen.approval, seen.started, paused)?;
-    start_next(change, number, &seen.groups, starts)
+    start_if(change, number, group)
 }
 
 /// Lets a rollout go on, where it can.
-fn go_on<S: Alter>(
+pub(crate) fn go_on<S: Alter>(
     change: &mut OpenChange<'_, S>,
     number: RolloutNo,
     going: Going,
@@ -204,31 +199,7 @@ fn go_on<S: Alter>(
         return Ok(Step::Refused(refusal));
     }
     let paused = pause_of(going, seen.paused);
-    let starts = start_of(going, &rollout);
-    write_going(change, number, &seen, paused, starts)?;
+    let group = group_if(&seen.groups, start_of(going, &rollout))?;
+    write_going(change, number, &seen, paused, &group)?;
     Ok(Step::Accepted(Reply::Done))
-}
-
-/// Lets a paused rollout go on: where its last started group has success, the next one starts.
-pub(crate) fn resume_rollout<S: Alter>(
-    change: &mut OpenChange<'_, S>,
-    number: RolloutNo,
-) -> Result<Step, Fault>
-    ensures stays { StaysIn S.Store change.old change.new result }
-    ensures steps { StepsIn S.Store change.old change.new (Resume number) result }
-    ensures fails { FailsStepIn S.Store change.old change.new result }
-{
-    go_on(change, number, Going::Resumed)
-}
-
-/// Starts a running rollout's next group, whatever the success of the last one.
-pub(crate) fn trigger_next<S: Alter>(
-    change: &mut OpenChange<'_, S>,
-    number: RolloutNo,
-) -> Result<Step, Fault>
-    ensures stays { StaysIn S.Store change.old change.new result }
-    ensures steps { StepsIn S.Store change.old change.new (TriggerNext number) result }
-    ensures fails { FailsStepIn S.Store change.old change.new result }
-{
-    go_on(change, number, Going::Triggered)
 }

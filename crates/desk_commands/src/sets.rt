@@ -104,9 +104,7 @@ pub(crate) fn add_set<S: Alter>(
         Ok(added) => added.number,
         Err(refusal) => return Ok(Step::Refused(refusal)),
     };
-    let Ok(shown) = label.copy(alloc) else {
-        return Err(Fault::Memory);
-    };
+    let shown = label.copy(alloc)?;
     write_whole(change, number, label)?;
     Ok(Step::Accepted(Reply::SetAdded(DistributionSet {
         number,

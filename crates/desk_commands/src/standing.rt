@@ -1,7 +1,6 @@
 //! What is said of a rollout as a whole: it is approved, denied or paused.
 
 ghost use Rattle.std.specs.Prelude.{◌≡◌, MatchResult, None, Some};
-ghost use Rattle.rollout_machine.specs.Commands.{Approve, Deny, Pause};
 ghost use Rattle.desk_commands.specs.Standings.{JudgesCommand, WritesSaid, command_said};
 ghost use Rattle.desk_store.specs.Changing.{MakesLedger, StaysIn};
 ghost use Rattle.desk_commands.specs.Changing.{StepsIn};
@@ -17,9 +16,12 @@ use sqlite::Alter;
 
 /// What is said of a rollout as a whole.
 #[derive(Clone, Copy)]
-enum Said {
+pub(crate) enum Said {
+    /// Of one that waits for approval.
     Approved,
+    /// Of one that waits for approval, for good.
     Denied,
+    /// Of a running one: no group starts by itself.
     Paused,
 }
 
@@ -69,7 +71,7 @@ fn write_said<S: Alter>(
 }
 
 /// Says it of a rollout, where it can be said.
-fn say<S: Alter>(
+pub(crate) fn say<S: Alter>(
     change: &mut OpenChange<'_, S>,
     number: RolloutNo,
     said: Said,
@@ -87,40 +89,4 @@ fn say<S: Alter>(
     }
     write_said(change, number, &seen, said)?;
     Ok(Step::Accepted(Reply::Done))
-}
-
-/// Approves a rollout that waits for approval.
-pub(crate) fn approve_rollout<S: Alter>(
-    change: &mut OpenChange<'_, S>,
-    number: RolloutNo,
-) -> Result<Step, Fault>
-    ensures stays { StaysIn S.Store change.old change.new result }
-    ensures steps { StepsIn S.Store change.old change.new (Approve number) result }
-    ensures fails { FailsStepIn S.Store change.old change.new result }
-{
-    say(change, number, Said::Approved)
-}
-
-/// Denies one that waits for approval, for good.
-pub(crate) fn deny_rollout<S: Alter>(
-    change: &mut OpenChange<'_, S>,
-    number: RolloutNo,
-) -> Result<Step, Fault>
-    ensures stays { StaysIn S.Store change.old change.new result }
-    ensures steps { StepsIn S.Store change.old change.new (Deny number) result }
-    ensures fails { FailsStepIn S.Store change.old change.new result }
-{
-    say(change, number, Said::Denied)
-}
-
-/// Pauses a running rollout: no group starts by itself.
-pub(crate) fn pause_rollout<S: Alter>(
-    change: &mut OpenChange<'_, S>,
-    number: RolloutNo,
-) -> Result<Step, Fault>
-    ensures stays { StaysIn S.Store change.old change.new result }
-    ensures steps { StepsIn S.Store change.old change.new (Pause number) result }
-    ensures fails { FailsStepIn S.Store change.old change.new result }
-{
-    say(change, number, Said::Paused)
 }

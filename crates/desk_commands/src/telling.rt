@@ -2,12 +2,12 @@
 
 ghost use Rattle.std.specs.Prelude.{◌+◌};
 ghost use Rattle.desk_commands.specs.Counts.{CountsTo};
-ghost use Rattle.desk_commands.specs.Telling.{WritesNumber, WritesTold, entries_by, if_numbered, notes_by, number_told};
-ghost use Rattle.desk_commands.specs.Failures.{CanNumber, CountsIf, MayNumber};
+ghost use Rattle.desk_commands.specs.Telling.{WritesNumber, WritesTold, entries_by, if_numbered, notes_by, number_told, numbers_told};
 ghost use Rattle.desk_store.specs.Counting.{AddsIn};
-ghost use Rattle.desk_store.specs.Changing.{MakesLedger, StaysIn};
+ghost use Rattle.desk_store.specs.Changing.{MakesLedger};
+ghost use Rattle.desk_store.specs.Failing.{WritesIn};
 
-use crate::entries::{more_if, one_more};
+use crate::counts::{Counts, more_if, one_more};
 use desk_store::{Fault, NewEntry, OpenChange, PlacedNumber};
 use rollout_model::ActionNo;
 use sqlite::Alter;
@@ -40,61 +40,58 @@ pub(crate) fn entries_with(entries: u32, told: &Option<Told>) -> Result<u32, Fau
     }
 }
 
-/// Adds the number of what was told to those of the action, where it bears one. Its entry is the one of this place.
+/// How many numbers there are with that of what was told, or 0 where it bears none.
+pub(crate) fn numbers_with(told: &Option<Told>) -> Result<u32, Fault>
+    ensures { CountsTo (numbers_told told.now) result }
+{
+    match told {
+        Some(told) => match told.entry.number {
+            Some(_) => one_more(told.numbers),
+            None => Ok(0),
+        },
+        None => Ok(0),
+    }
+}
+
+/// Adds the number of what was told to those of the action, where it bears one. Its entry is the last one.
 fn write_number<S: Alter>(
     change: &mut OpenChange<'_, S>,
     action: ActionNo,
-    place: u32,
+    counts: &Counts,
     told: &Told,
 ) -> Result<(), Fault>
-    ensures stays { StaysIn S.Store change.old change.new result }
-    ensures writes { MakesLedger S.Store change.old change.new result (WritesNumber action place told.now) }
-    ensures counts { CountsIf S.Store (CanNumber told.now) change.old change.new result }
+    ensures stays { WritesIn S.Store change.old change.new result }
+    ensures writes { MakesLedger S.Store change.old change.new result (WritesNumber action counts.now told.now) }
     ensures work { AddsIn (if_numbered told.now.entry.number 1) 0 change.old change.new }
 {
     match told.entry.number {
         Some(number) => {
-            let next = one_more(told.numbers)?;
             let it = PlacedNumber {
-                sequence: place,
+                sequence: counts.entries,
                 number,
             };
-            change.write_number(action, next, &it)
+            change.write_number(action, counts.numbers, &it)
         }
         None => Ok(()),
     }
 }
 
-/// Adds what was told to the history of an action, as its entry of this place, and its number to those of the action.
-fn write_report<S: Alter>(
-    change: &mut OpenChange<'_, S>,
-    action: ActionNo,
-    place: u32,
-    told: &Told,
-) -> Result<(), Fault>
-    ensures stays { StaysIn S.Store change.old change.new result }
-    ensures writes { MakesLedger S.Store change.old change.new result (WritesTold action place (Some told.now)) }
-    ensures counts { CountsIf S.Store (CanNumber told.now) change.old change.new result }
-    ensures work { AddsIn (1 + if_numbered told.now.entry.number 1) 0 change.old change.new }
-{
-    change.write_entry(action, place, &told.entry)?;
-    write_number(change, action, place, told)
-}
-
-/// Adds what was told to the history of an action, where something was, as its entry of this place.
+/// Adds what was told to the history of an action, where something was, as its last entry, and its number to those of the action.
 pub(crate) fn write_told<S: Alter>(
     change: &mut OpenChange<'_, S>,
     action: ActionNo,
-    place: u32,
+    counts: &Counts,
     told: &Option<Told>,
 ) -> Result<(), Fault>
-    ensures stays { StaysIn S.Store change.old change.new result }
-    ensures writes { MakesLedger S.Store change.old change.new result (WritesTold action place told.now) }
-    ensures counts { CountsIf S.Store (MayNumber told.now) change.old change.new result }
+    ensures stays { WritesIn S.Store change.old change.new result }
+    ensures writes { MakesLedger S.Store change.old change.new result (WritesTold action counts.now told.now) }
     ensures work { AddsIn (1 + if_numbered (number_told told.now) 1) 0 change.old change.new }
 {
     match told {
-        Some(told) => write_report(change, action, place, told),
+        Some(told) => {
+            change.write_entry(action, counts.entries, &told.entry)?;
+            write_number(change, action, counts, told)
+        }
         None => Ok(()),
     }
 }

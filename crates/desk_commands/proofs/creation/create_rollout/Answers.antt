@@ -15,4 +15,4 @@ returns-clause-steps g c =
     (ledger_made _ (rw c.deref-3.ensures.value at c.in_ok-write_whole.ensures.writes)) _
     (λ h valid is.
     let it = ready plan _ c.in_ok-chosen.chosen c.in_ok-view.view _ is.0 is.1 c.in-Ok.ensures.0 c.in-Ok.ensures.1 in
-    (it.accepted, shown_added plan _ _ _ it _ (c.in-Some.ensures ∙ ap length c.deref.ensures.value) c.in-Ok-show_new.shown c.in-Ok-show_new.ensures))
+    (it.accepted, shown_added plan _ _ _ it _ (c.in-Some.ensures ∙ ap length c.deref.ensures.value) c.in_ok-shown.shown c.in_ok-shown.ensures))

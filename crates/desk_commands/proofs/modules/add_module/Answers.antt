@@ -11,5 +11,5 @@ returns-clause-steps g c =
     _ (λ r is. (c.in-Ok.ensures.1 ∙ ap (λ n. n + 1) is.0.count, grind arith)) c.in_ok-write_module.ensures.writes
     _ (λ r is. (
       module_row r label _ is.0 ∙ c.in-Ok.ensures.0,
-      module_added r label _ _ _ (c.in-Ok.ensures.1 ∙ ap (λ n. n + 1) is.0.count) is.1 c.in-Ok-copy.ensures,
+      module_added r label _ _ _ (c.in-Ok.ensures.1 ∙ ap (λ n. n + 1) is.0.count) is.1 c.in_ok-shown.ensures,
     ))

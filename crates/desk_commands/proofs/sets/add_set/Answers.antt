@@ -11,5 +11,5 @@ returns-clause-steps g c =
     _ (λ r is. (c.in-Ok.ensures.1 ∙ ap (λ n. n + 1) is.count, grind arith)) c.in_ok-write_whole.ensures.writes
     _ (λ r is. (
       set_row r label _ is ∙ c.in-Ok.ensures.0,
-      set_added r label _ _ (c.in-Ok.ensures.1 ∙ ap (λ n. n + 1) is.count) c.in-Ok-copy.ensures,
+      set_added r label _ _ (c.in-Ok.ensures.1 ∙ ap (λ n. n + 1) is.count) c.in_ok-shown.ensures,
     ))
