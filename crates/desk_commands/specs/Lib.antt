@@ -1,6 +1,7 @@
 pub mod Steps
 pub mod Additions
 pub mod Changing
+pub mod Bounds
 pub mod Imports
 pub mod Attributes
 pub mod GroupStarts

@@ -1,6 +1,6 @@
 //! Feedback on actions, and the cancels of actions.
 
-ghost use Rattle.std.specs.Prelude.{◌≡◌, ◌+◌, cond, is_some};
+ghost use Rattle.std.specs.Prelude.{◌≡◌, ◌+◌, cond, is_some, ◌≤◌};
 ghost use Rattle.rollout_machine.specs.CommandRules.{IsWellFormed};
 ghost use Rattle.rollout_machine.specs.Reports.{reported};
 ghost use Rattle.rollout_machine.specs.Commands.{Cancel as CancelCommand, CancelFeedback, Feedback};
@@ -210,6 +210,7 @@ pub(crate) fn cancel_action<S: Alter>(
     ensures steps { IsWellFormed (CancelCommand asked.now.target asked.now.action asked.now.force)
         → StepsIn S.Store change.old change.new (CancelCommand asked.now.target asked.now.action asked.now.force) result }
     ensures fails { IsWellFormed (CancelCommand asked.now.target asked.now.action asked.now.force) → FailsStepIn S.Store change.old change.new result }
+    ensures work { change.new.store.now.calls.work.statements ≤ change.old.store.now.calls.work.statements + 12 }
 {
     let found = see_target(change, &asked.target, asked.action)?;
     let Some(seen) = found else {

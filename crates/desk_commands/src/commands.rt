@@ -1,11 +1,9 @@
 //! Commands, each a step inside a change.
 
-ghost use Rattle.std.specs.Prelude.{◌≡◌, true};
 ghost use Rattle.rollout_machine.specs.Views.{command_of};
-ghost use Rattle.rollout_machine.specs.Bounds.{is_feedback};
 ghost use Rattle.rollout_machine.specs.CommandRules.{IsWellFormed};
-ghost use Rattle.desk_store.specs.Counting.{AddsIn};
 ghost use Rattle.desk_store.specs.Changing.{StaysIn};
+ghost use Rattle.desk_commands.specs.Bounds.{AddsWithin};
 ghost use Rattle.desk_commands.specs.Changing.{StepsIn};
 ghost use Rattle.desk_commands.specs.Failures.{FailsStepIn};
 
@@ -36,7 +34,7 @@ pub fn take_step<S: Alter>(
     ensures stays { StaysIn S.Store change.old change.new result }
     ensures steps { StepsIn S.Store change.old change.new (command_of command.now) result }
     ensures fails { FailsStepIn S.Store change.old change.new result }
-    ensures work { is_feedback (command_of command.now) ≡ true → AddsIn 14 24 change.old change.new }
+    ensures work { AddsWithin (command_of command.now) change.old.store.now.calls.work change.new.store.now.calls.work }
     ensures formed { IsWellFormed (command_of command.now) }
 {
     command_is_well_formed(command);

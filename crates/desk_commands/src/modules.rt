@@ -1,5 +1,6 @@
 //! Software modules: adding one.
 
+ghost use Rattle.std.specs.Prelude.{◌≤◌, ◌+◌};
 ghost use Rattle.rollout_machine.specs.Commands.{AddModule};
 ghost use Rattle.campaign_core.specs.Checks.{IsModuleView};
 ghost use Rattle.desk_store.specs.Changing.{FindsIn, StaysIn};
@@ -22,6 +23,7 @@ fn read_view<S: Alter>(
     ensures stays { StaysIn S.Store change.old change.new result }
     ensures reads { FindsIn S.Store change.old change.new result (λ r view. IsModuleView view label.now r) }
     ensures fails { FailsAtListsIn S.Store change.old change.new result }
+    ensures work { change.new.store.now.calls.work.statements ≤ change.old.store.now.calls.work.statements + 2 }
 {
     let same = change.read_same_module(label)?;
     let count = change.read_last_module()?;
@@ -37,6 +39,7 @@ pub(crate) fn add_module<S: Alter>(
     ensures stays { StaysIn S.Store change.old change.new result }
     ensures steps { StepsIn S.Store change.old change.new (AddModule label.now) result }
     ensures fails { FailsStepIn S.Store change.old change.new result }
+    ensures work { change.new.store.now.calls.work.statements ≤ change.old.store.now.calls.work.statements + 4 }
 {
     let view = read_view(change, label)?;
     let number = match campaign_core::add_module(&view) {

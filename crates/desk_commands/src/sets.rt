@@ -35,6 +35,7 @@ fn lacks_a_module<S: Alter>(
     ensures stays { StaysIn S.Store change.old change.new result }
     ensures reads { FindsIn S.Store change.old change.new result (LacksModule modules.now) }
     ensures fails { FailsAtListsIn S.Store change.old change.new result }
+    ensures work { change.new.store.now.calls.work.statements ≤ change.old.store.now.calls.work.statements + 1 }
 {
     let last = change.read_last_module()?;
     Ok(any_past(modules, last))
@@ -45,6 +46,7 @@ fn read_view<S: Alter>(change: &mut OpenChange<'_, S>, label: &SetLabel) -> Resu
     ensures stays { StaysIn S.Store change.old change.new result }
     ensures reads { FindsIn S.Store change.old change.new result (λ r view. IsSetView view label.now r) }
     ensures fails { FailsAtListsIn S.Store change.old change.new result }
+    ensures work { change.new.store.now.calls.work.statements ≤ change.old.store.now.calls.work.statements + 3 }
 {
     let misses_module = lacks_a_module(change, &label.modules)?;
     let same = change.read_same_set(&label.name, &label.version)?;
@@ -66,6 +68,7 @@ fn write_modules<S: Alter>(
     requires { before + length modules.now ≤ 8 }
     ensures stays { WritesIn S.Store change.old change.new result }
     ensures writes { MakesIn S.Store change.old change.new result (AddsModules number before modules.now) }
+    ensures work { change.new.store.now.calls.work.statements ≤ change.old.store.now.calls.work.statements + length modules.now }
 {
     match modules {
         [] => Ok(()),
@@ -84,6 +87,7 @@ fn write_whole<S: Alter>(
 ) -> Result<(), Fault>
     ensures stays { WritesIn S.Store change.old change.new result }
     ensures writes { MakesIn S.Store change.old change.new result (AddsWhole number label.now) }
+    ensures work { change.new.store.now.calls.work.statements ≤ change.old.store.now.calls.work.statements + (1 + length label.now.modules) }
 {
     change.write_set(number, &label.name, &label.version)?;
     write_modules(change, number, 0, label.modules.as_slice())
@@ -98,6 +102,7 @@ pub(crate) fn add_set<S: Alter>(
     ensures stays { StaysIn S.Store change.old change.new result }
     ensures steps { StepsIn S.Store change.old change.new (AddSet label.now) result }
     ensures fails { FailsStepIn S.Store change.old change.new result }
+    ensures work { change.new.store.now.calls.work.statements ≤ change.old.store.now.calls.work.statements + (4 + length label.now.modules) }
 {
     let view = read_view(change, label)?;
     let number = match campaign_core::add_set(&view) {

@@ -1,6 +1,6 @@
 //! Tags: giving a target one, and taking it.
 
-ghost use Rattle.std.specs.Prelude.{◌≡◌, is_none};
+ghost use Rattle.std.specs.Prelude.{◌≡◌, is_none, ◌≤◌, ◌+◌};
 ghost use Rattle.rollout_machine.specs.Commands.{Tag, Untag};
 ghost use Rattle.rollout_machine.specs.Verdicts.{target_of};
 ghost use Rattle.campaign_core.specs.Checks.{IsTagView};
@@ -39,6 +39,7 @@ fn read_view<S: Alter>(
     ensures stays { StaysIn S.Store change.old change.new result }
     ensures reads { FindsIn S.Store change.old change.new result (λ r view. IsTagView view id.now tag.now r) }
     ensures fails { FailsAtListsIn S.Store change.old change.new result }
+    ensures work { change.new.store.now.calls.work.statements ≤ change.old.store.now.calls.work.statements + 2 }
 {
     let misses_target = lacks_target(change, id)?;
     let tags = change.read_target_tags(id)?;
@@ -58,6 +59,7 @@ pub(crate) fn tag_target<S: Alter>(
     ensures stays { StaysIn S.Store change.old change.new result }
     ensures steps { StepsIn S.Store change.old change.new (Tag id.now tag.now) result }
     ensures fails { FailsStepIn S.Store change.old change.new result }
+    ensures work { change.new.store.now.calls.work.statements ≤ change.old.store.now.calls.work.statements + 3 }
 {
     let view = read_view(change, id, tag)?;
     match campaign_core::tag(&view) {
@@ -80,6 +82,7 @@ pub(crate) fn untag_target<S: Alter>(
     ensures stays { StaysIn S.Store change.old change.new result }
     ensures steps { StepsIn S.Store change.old change.new (Untag id.now tag.now) result }
     ensures fails { FailsStepIn S.Store change.old change.new result }
+    ensures work { change.new.store.now.calls.work.statements ≤ change.old.store.now.calls.work.statements + 2 }
 {
     let misses_target = lacks_target(change, id)?;
     match campaign_core::untag(&UntagView { misses_target }) {

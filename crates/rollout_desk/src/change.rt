@@ -1,15 +1,14 @@
 //! One request as one change of the store.
 
-ghost use Rattle.std.specs.Prelude.{◌≡◌, true};
+ghost use Rattle.std.specs.Prelude.{◌≡◌};
 ghost use Rattle.sqlite.specs.Held.{state};
 ghost use Rattle.rollout_machine.specs.Requests.{Do, Ask};
 ghost use Rattle.rollout_machine.specs.StoreFailures.{is_failed_store};
 ghost use Rattle.rollout_machine.specs.Views.{command_of, query_of, reply_of};
 ghost use Rattle.rollout_desk.specs.Sizes.{AnswersIn, KeepsToTables, ReadsAnswer};
-ghost use Rattle.rollout_machine.specs.Bounds.{is_feedback};
 ghost use Rattle.rollout_desk.specs.Changes.{EndsChange, EndsByCommit, EndsByRollback, RunsRequest};
 ghost use Rattle.desk_reads.specs.AtLists.{FailsAtListsIn};
-ghost use Rattle.desk_store.specs.Counting.{Adds};
+ghost use Rattle.desk_commands.specs.Bounds.{AddsWithin};
 ghost use Rattle.desk_store.specs.Changing.{StaysIn};
 
 use crate::look::{Question, look};
@@ -98,7 +97,7 @@ pub(crate) fn run_command<S: Alter>(
     command: &Command,
 ) -> Reply
     ensures runs { RunsRequest S.Store store.old.calls store.new.calls (Do (command_of command.now)) (reply_of result) }
-    ensures work { is_feedback (command_of command.now) ≡ true → Adds 14 24 store.old.calls.work store.new.calls.work }
+    ensures work { AddsWithin (command_of command.now) store.old.calls.work store.new.calls.work }
 {
     let mut change = match store.begin() {
         Ok(change) => change,

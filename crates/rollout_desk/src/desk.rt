@@ -101,7 +101,7 @@ impl<S: Alter> Desk<S> {
     }
 
     /// The statements that the last `apply` ran, and the rows that they gave: from nothing at its entry, BEGIN, COMMIT and ROLLBACK
-    /// left out, each number at most 2^64 - 1. Of feedback at most 14 statements and 24 rows. Takes no memory.
+    /// left out, each number at most 2^64 - 1, and within the command's bound. Takes no memory.
     pub fn work(&self) -> Work
         ensures { result ≡ self.now.work }
     {
