@@ -7,6 +7,7 @@ margin = as_module(ROOT / "tools/proof/margin")
 SAID = """fn desk::is_full: proved
 fn desk::Desk::open: not proved: 2 goals are open
 fn desk::close: no proof
+fn desk::end: no proof: it calls `desk::close`, which is not proved
 note: src/desk.rt:3:1: it is not proved that what the function ensures holds when it returns (`returns`)
 logic=not-proved functions=3 proved=1
 """
@@ -15,6 +16,7 @@ logic=not-proved functions=3 proved=1
 def test_what_is_read_of_a_check():
     same(margin.open_in(SAID), {"desk::Desk::open", "desk::close"})
     same(margin.open_in("fn desk::is_full: proved\nlogic=proved functions=1 sum=1\n"), set())
+    same(margin.UNJUDGED.findall(SAID), ["desk::end"])
     same(margin.open_in("fn desk::is_full: proved\nrattle: out of memory\n"), None)
 
 
