@@ -11,7 +11,7 @@ RT_CI = as_module(ROOT / "tools/proof/rt-ci")
 ROOM = 100.0
 
 
-def run_lanes(below, works, lanes=4, memory=ROOM, needs=1.0, ended=lambda key, given: None):
+def run_lanes(below, works, lanes=4, memory=ROOM, needs=1.0, ended=lambda *told: None):
     """Runs a task for each name, behind those below it. Answers the names as they began, each with its processors, what
     was given, and the most processors that were taken at once."""
     begun, taken, most, lock = [], {}, [0], threading.Lock()
@@ -85,14 +85,22 @@ def test_what_failed_is_given_to_those_above():
     below = {"fails": [], "above": ["fails"]}
     told = []
     _, given, _ = run_lanes(
-        below, dict.fromkeys(below, 1), ended=lambda key, it: told.append((key, it))
+        below, dict.fromkeys(below, 1), ended=lambda key, it, *_: told.append((key, it))
     )
     same(given, {"fails": False, "above": True})
     same(told, [("fails", False), ("above", True)])
 
 
+def test_processors_and_seconds_are_told():
+    told = []
+    run_lanes({"low": []}, {"low": 1}, lanes=3, ended=lambda *it: told.append(it))
+    [(key, is_proved, took, jobs)] = told
+    same((key, is_proved, jobs), ("low", True, 3))
+    assert 0 <= took < 20
+
+
 def test_a_failure_of_what_is_told_is_raised():
-    def ended(key, given):
+    def ended(*told):
         raise OSError("the disk is full")
 
     try:
